@@ -1,0 +1,11 @@
+pub mod formers
+pub mod Tokens
+pub mod Grammar
+pub mod Reading
+pub mod Rules
+pub mod Lexemes
+pub mod Written
+pub mod Bytes
+pub mod Pieces
+pub mod Scanning
+pub mod Printing

@@ -1,0 +1,405 @@
+//! Tokens that several grammars share: numbers, quoted texts, lists of names, tokens in braces.
+
+ghost use Rattle.std.specs.Prelude.{◌≡◌, ◌<◌, ◌≤◌, None, MatchOption};
+ghost use Rattle.cx_text.specs.Grammar.{passes, head};
+ghost use Rattle.cx_text.specs.Reading.{Gives};
+ghost use Rattle.cx_text.specs.Rules.{token, loop, if_is, is_named, name_of, name_mark, unmarked};
+ghost use Rattle.cx_text.specs.Lexemes.{first_mark, same_name, among, once, counted_keyword, counted_name, new_name, word, is_sign_pair, sign_pair, decimal_from, is_number, number_of, number_mark, number_in, is_quoted, quoted_of, quoted, is_comma_or_word, comma, more_names, some_names, names, more_listed, listed, is_inside, inside, braces, finished};
+ghost use Rattle.cx_text.specs.declared.stop.Mark.TheVariants as marks;
+
+use crate::reader::MAX_NAME;
+use crate::{CclFault, Kind, List, Mark, Reader, Stop, Text, Token, Why};
+use std::alloc::Global;
+
+/// Whether two names are one, in any case.
+pub fn same_name(a: &[u8], b: &[u8]) -> bool
+    ensures { result ≡ same_name a.now b.now }
+{
+    a.eq_ignore_ascii_case(b)
+}
+
+/// Whether a name is among these, in any case.
+pub fn among(names: &[Text], name: &[u8]) -> bool
+    ensures { result ≡ among names.now name.now }
+{
+    for other in names {
+        if same_name(name, other.as_slice()) {
+            return true;
+        }
+    }
+    false
+}
+
+/// The number of a run of digits, where it is at most `high`.
+pub fn decimal(digits: &[u8], high: u64) -> Option<u64>
+    ensures { MatchOption result (high < decimal_from 0 digits.now) (λ n. (decimal_from 0 digits.now ≡ n) × (n ≤ high)) }
+{
+    let mut value: u64 = 0;
+    for byte in digits {
+        let digit = u64::from(byte.saturating_sub(b'0'));
+        if digit > high || value > (high - digit) / 10 {
+            return None;
+        }
+        value = value * 10 + digit;
+    }
+    Some(value)
+}
+
+impl<'a> Reader<'a> {
+    pub fn at_number(&self) -> bool
+        ensures { result ≡ passes is_number (head self.now.rest.now) }
+    {
+        match self.rest {
+            [token, ..] => matches!(token.kind, Kind::Number),
+            [] => false,
+        }
+    }
+
+    pub fn at_quoted(&self) -> bool
+        ensures { result ≡ passes is_quoted (head self.now.rest.now) }
+    {
+        match self.rest {
+            [token, ..] => matches!(token.kind, Kind::Quoted),
+            [] => false,
+        }
+    }
+
+    pub fn at_sign_pair(&self, a: u8, b: u8) -> bool
+        ensures { result ≡ passes (is_sign_pair a b) (head self.now.rest.now) }
+    {
+        match self.rest {
+            [token, ..] => token.is_sign_pair(a, b),
+            [] => false,
+        }
+    }
+
+    pub fn at_comma_or_word(&self) -> bool
+        ensures { result ≡ passes is_comma_or_word (head self.now.rest.now) }
+    {
+        match self.rest {
+            [token, ..] => token.is_sign(b',') || token.is_word(),
+            [] => false,
+        }
+    }
+
+    fn sign_pair_here(&mut self, a: u8, b: u8) -> Result<(), Stop>
+        ensures { Gives (λ x. x) result self.new.rest.now ((token (if_is (is_sign_pair a b)) unmarked).reads self.old.rest.now) }
+    {
+        match self.rest {
+            [token, rest @ ..] if token.is_sign_pair(a, b) => {
+                self.rest = rest;
+                Ok(())
+            }
+            _ => Err(Stop::Fault(Why::Unexpected)),
+        }
+    }
+
+    /// A sign of two bytes.
+    pub fn sign_pair(&mut self, a: u8, b: u8) -> Result<(), Stop>
+        ensures { Gives (λ x. x) result self.new.rest.now ((sign_pair a b).reads self.old.rest.now) }
+    {
+        self.sign_pair_here(a, b)?;
+        self.skip_line_ends();
+        Ok(())
+    }
+
+    fn once_here(&mut self, name: &[u8], seen: bool) -> Result<(), Stop>
+        ensures { Gives (λ x. x) result self.new.rest.now ((token (if_is (is_named name.now)) (λ t. first_mark seen marks.Repeated None)).reads self.old.rest.now) }
+    {
+        match self.rest {
+            [token, rest @ ..] if token.is_named(name) => {
+                if seen {
+                    return Err(Stop::Fault(Why::Marked(Mark::Repeated)));
+                }
+                self.rest = rest;
+                Ok(())
+            }
+            _ => Err(Stop::Fault(Why::Unexpected)),
+        }
+    }
+
+    /// A keyword that may stand once.
+    pub fn once(&mut self, name: &[u8], seen: bool) -> Result<(), Stop>
+        ensures { Gives (λ x. x) result self.new.rest.now ((once name.now seen).reads self.old.rest.now) }
+    {
+        self.once_here(name, seen)?;
+        self.skip_line_ends();
+        Ok(())
+    }
+
+    fn counted_keyword_here(&mut self, name: &[u8], full: bool) -> Result<(), Stop>
+        ensures { Gives (λ x. x) result self.new.rest.now ((token (if_is (is_named name.now)) (λ t. first_mark full marks.Limit None)).reads self.old.rest.now) }
+    {
+        match self.rest {
+            [token, rest @ ..] if token.is_named(name) => {
+                if full {
+                    return Err(Stop::Fault(Why::Marked(Mark::Limit)));
+                }
+                self.rest = rest;
+                Ok(())
+            }
+            _ => Err(Stop::Fault(Why::Unexpected)),
+        }
+    }
+
+    /// A keyword that begins what is counted, where it is `full` if as many as may stand are there already.
+    pub fn counted_keyword(&mut self, name: &[u8], full: bool) -> Result<(), Stop>
+        ensures { Gives (λ x. x) result self.new.rest.now ((counted_keyword name.now full).reads self.old.rest.now) }
+    {
+        self.counted_keyword_here(name, full)?;
+        self.skip_line_ends();
+        Ok(())
+    }
+
+    fn counted_name_here(&mut self, alloc: Global, full: bool) -> Result<Text, Stop>
+        ensures { Gives (λ x. x) result self.new.rest.now ((token name_of (λ t. first_mark full marks.Limit (name_mark t))).reads self.old.rest.now) }
+    {
+        match self.rest {
+            [token, rest @ ..] if token.is_word() => {
+                if full || token.text.len() > MAX_NAME {
+                    return Err(Stop::Fault(Why::Marked(Mark::Limit)));
+                }
+                let name = Text::from_slice(alloc, token.text.as_slice())?;
+                self.rest = rest;
+                Ok(name)
+            }
+            _ => Err(Stop::Fault(Why::Unexpected)),
+        }
+    }
+
+    /// A name that begins what is counted, where it is `full` if as many as may stand are there already.
+    pub fn counted_name(&mut self, alloc: Global, full: bool) -> Result<Text, Stop>
+        ensures { Gives (λ x. x) result self.new.rest.now ((counted_name full).reads self.old.rest.now) }
+    {
+        let name = self.counted_name_here(alloc, full)?;
+        self.skip_line_ends();
+        Ok(name)
+    }
+
+    fn new_name_here(&mut self, alloc: Global, names: &[Text]) -> Result<Text, Stop>
+        ensures { Gives (λ x. x) result self.new.rest.now ((token name_of (λ t. first_mark (among names.now t.text) marks.Repeated (name_mark t))).reads self.old.rest.now) }
+    {
+        match self.rest {
+            [token, rest @ ..] if token.is_word() => {
+                if among(names, token.text.as_slice()) {
+                    return Err(Stop::Fault(Why::Marked(Mark::Repeated)));
+                }
+                if token.text.len() > MAX_NAME {
+                    return Err(Stop::Fault(Why::Marked(Mark::Limit)));
+                }
+                let name = Text::from_slice(alloc, token.text.as_slice())?;
+                self.rest = rest;
+                Ok(name)
+            }
+            _ => Err(Stop::Fault(Why::Unexpected)),
+        }
+    }
+
+    /// A name that isn't yet among these.
+    pub fn new_name(&mut self, alloc: Global, names: &[Text]) -> Result<Text, Stop>
+        ensures { Gives (λ x. x) result self.new.rest.now ((new_name names.now).reads self.old.rest.now) }
+    {
+        let name = self.new_name_here(alloc, names)?;
+        self.skip_line_ends();
+        Ok(name)
+    }
+
+    fn word_here(&mut self, alloc: Global) -> Result<Text, Stop>
+        ensures { Gives (λ x. x) result self.new.rest.now ((token name_of unmarked).reads self.old.rest.now) }
+    {
+        match self.rest {
+            [token, rest @ ..] if token.is_word() => {
+                let text = Text::from_slice(alloc, token.text.as_slice())?;
+                self.rest = rest;
+                Ok(text)
+            }
+            _ => Err(Stop::Fault(Why::Unexpected)),
+        }
+    }
+
+    /// A word that is no name, so of any length.
+    pub fn word(&mut self, alloc: Global) -> Result<Text, Stop>
+        ensures { Gives (λ x. x) result self.new.rest.now (word.reads self.old.rest.now) }
+    {
+        let text = self.word_here(alloc)?;
+        self.skip_line_ends();
+        Ok(text)
+    }
+
+    fn number_here(&mut self, low: u64, high: u64) -> Result<u64, Stop>
+        ensures { Gives (λ n. n) result self.new.rest.now ((token number_of (number_mark low high)).reads self.old.rest.now) }
+    {
+        match self.rest {
+            [token, rest @ ..] if matches!(token.kind, Kind::Number) => {
+                match decimal(token.text.as_slice(), high) {
+                    Some(value) if value >= low => {
+                        self.rest = rest;
+                        Ok(value)
+                    }
+                    _ => Err(Stop::Fault(Why::Marked(Mark::BadNumber))),
+                }
+            }
+            _ => Err(Stop::Fault(Why::Unexpected)),
+        }
+    }
+
+    /// A number from `low` to `high`.
+    pub fn number_in(&mut self, low: u64, high: u64) -> Result<u64, Stop>
+        ensures { Gives (λ n. n) result self.new.rest.now ((number_in low high).reads self.old.rest.now) }
+    {
+        let value = self.number_here(low, high)?;
+        self.skip_line_ends();
+        Ok(value)
+    }
+
+    fn quoted_here(&mut self, alloc: Global) -> Result<Text, Stop>
+        ensures { Gives (λ x. x) result self.new.rest.now ((token quoted_of unmarked).reads self.old.rest.now) }
+    {
+        match self.rest {
+            [token, rest @ ..] if matches!(token.kind, Kind::Quoted) => {
+                let text = Text::from_slice(alloc, token.text.as_slice())?;
+                self.rest = rest;
+                Ok(text)
+            }
+            _ => Err(Stop::Fault(Why::Unexpected)),
+        }
+    }
+
+    /// A quoted text.
+    pub fn quoted(&mut self, alloc: Global) -> Result<Text, Stop>
+        ensures { Gives (λ x. x) result self.new.rest.now (quoted.reads self.old.rest.now) }
+    {
+        let text = self.quoted_here(alloc)?;
+        self.skip_line_ends();
+        Ok(text)
+    }
+
+    /// A comma, if one stands here.
+    pub fn comma(&mut self) -> Result<(), Stop>
+        ensures { Gives (λ x. x) result self.new.rest.now (comma.reads self.old.rest.now) }
+    {
+        if self.at_sign(b',') {
+            self.sign(b',')
+        } else {
+            Ok(())
+        }
+    }
+
+    fn more_names(&mut self, alloc: Global, names: &mut List<Text>) -> Result<(), Stop>
+        ensures { Gives (λ x. names.new) result self.new.rest.now ((more_names names.old).reads self.old.rest.now) }
+    {
+        self.comma()?;
+        let name = self.name_here(alloc)?;
+        names.push(name)?;
+        Ok(())
+    }
+
+    /// More names, if a comma or a word stands here.
+    fn names_after(&mut self, alloc: Global, names: &mut List<Text>) -> Result<(), Stop>
+        ensures { Gives (λ x. names.new) result self.new.rest.now ((loop is_comma_or_word more_names names.old).reads self.old.rest.now) }
+    {
+        'names: while self.at_comma_or_word() {
+            self.more_names(alloc, names)?;
+        }
+        Ok(())
+    }
+
+    /// One name or more, behind which a LineEnd may stand: they are added to the list.
+    pub fn some_names(&mut self, alloc: Global, list: &mut List<Text>) -> Result<(), Stop>
+        ensures { Gives (λ x. list.new) result self.new.rest.now ((some_names list.old).reads self.old.rest.now) }
+    {
+        let name = self.name_here(alloc)?;
+        list.push(name)?;
+        self.names_after(alloc, list)
+    }
+
+    /// Any number of names, behind which a LineEnd may stand: they are added to the list.
+    pub fn names(&mut self, alloc: Global, list: &mut List<Text>) -> Result<(), Stop>
+        ensures { Gives (λ x. list.new) result self.new.rest.now ((names list.old).reads self.old.rest.now) }
+    {
+        if self.at_word() {
+            self.some_names(alloc, list)
+        } else {
+            Ok(())
+        }
+    }
+
+    fn more_listed(&mut self, alloc: Global, names: &mut List<Text>) -> Result<(), Stop>
+        ensures { Gives (λ x. names.new) result self.new.rest.now ((more_listed names.old).reads self.old.rest.now) }
+    {
+        self.comma()?;
+        let name = self.name(alloc)?;
+        names.push(name)?;
+        Ok(())
+    }
+
+    fn listed_after(&mut self, alloc: Global, names: &mut List<Text>) -> Result<(), Stop>
+        ensures { Gives (λ x. names.new) result self.new.rest.now ((loop is_comma_or_word more_listed names.old).reads self.old.rest.now) }
+    {
+        'names: while self.at_comma_or_word() {
+            self.more_listed(alloc, names)?;
+        }
+        Ok(())
+    }
+
+    /// One name or more, where LineEnds are skipped: they are added to the list.
+    pub fn listed(&mut self, alloc: Global, list: &mut List<Text>) -> Result<(), Stop>
+        ensures { Gives (λ x. list.new) result self.new.rest.now ((listed list.old).reads self.old.rest.now) }
+    {
+        let name = self.name(alloc)?;
+        list.push(name)?;
+        self.listed_after(alloc, list)
+    }
+
+    fn at_inside(&self) -> bool
+        ensures { result ≡ passes is_inside (head self.now.rest.now) }
+    {
+        match self.rest {
+            [token, ..] => !token.is_sign(b'}'),
+            [] => false,
+        }
+    }
+
+    fn inside(&mut self) -> Result<(), Stop>
+        ensures { Gives (λ x. x) result self.new.rest.now ((inside tt).reads self.old.rest.now) }
+    {
+        match self.rest {
+            [token, rest @ ..] if !token.is_sign(b'}') => {
+                self.rest = rest;
+                Ok(())
+            }
+            _ => Err(Stop::Fault(Why::Unexpected)),
+        }
+    }
+
+    fn skip_inside(&mut self) -> Result<(), Stop>
+        ensures { Gives (λ x. x) result self.new.rest.now ((loop is_inside inside tt).reads self.old.rest.now) }
+    {
+        'skipped: while self.at_inside() {
+            self.inside()?;
+        }
+        Ok(())
+    }
+
+    /// Tokens in braces.
+    pub fn braces(&mut self) -> Result<(), Stop>
+        ensures { Gives (λ x. x) result self.new.rest.now (braces.reads self.old.rest.now) }
+    {
+        self.sign(b'{')?;
+        self.skip_inside()?;
+        self.sign(b'}')
+    }
+
+    /// What is answered for a list of which this is the rest: the value that was read, if nothing is left, or the fault.
+    pub fn finish<T: Drop>(&self, tokens: &[Token], answer: Result<T, Stop>) -> Result<T, CclFault>
+        ensures { result ≡ finished tokens.now self.now.rest.now answer }
+    {
+        match answer {
+            Err(stop) => Err(self.fault(tokens, stop)),
+            Ok(value) => match self.rest {
+                [token, ..] => Err(CclFault::Unexpected(token.line)),
+                [] => Ok(value),
+            },
+        }
+    }
+}

@@ -1,0 +1,53 @@
+//! Why a list of tokens could not be read.
+
+ghost use Rattle.std.specs.Prelude.{◌≡◌};
+ghost use Rattle.cx_text.specs.declared.stop.Stop.TheVariants as stops;
+
+use crate::Memory;
+use std::alloc::{AllocError, AllocFailed};
+
+/// What can be wrong with a token that may stand where it stands.
+#[derive(Clone, Copy, Debug, Drop, PartialEq, Eq)]
+pub enum Mark {
+    Repeated,
+    BadNumber,
+    Limit,
+}
+
+/// What is wrong with a token.
+#[derive(Clone, Copy, Debug, Drop, PartialEq, Eq)]
+pub enum Why {
+    Unexpected,
+    Marked(Mark),
+}
+
+/// Why a reader stopped. At a fault it stands at the faulty token.
+#[derive(Clone, Copy, Debug, Drop, PartialEq, Eq)]
+pub enum Stop {
+    Memory,
+    Fault(Why),
+}
+
+impl From<Memory> for Stop {
+    ghost from_gives = { λ _ e. e ≡ stops.Memory };
+
+    fn from(_: Memory) -> Self {
+        Stop::Memory
+    }
+}
+
+impl From<AllocError> for Stop {
+    ghost from_gives = { λ _ e. e ≡ stops.Memory };
+
+    fn from(_: AllocError) -> Self {
+        Stop::Memory
+    }
+}
+
+impl<T: Drop> From<AllocFailed<T>> for Stop {
+    ghost from_gives = { λ _ e. e ≡ stops.Memory };
+
+    fn from(_: AllocFailed<T>) -> Self {
+        Stop::Memory
+    }
+}

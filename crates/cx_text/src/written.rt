@@ -1,0 +1,98 @@
+//! Tokens as printers write them.
+
+ghost use Rattle.std.specs.Prelude.{◌≡◌, [], ◌∷◌, ◌++◌, IfOk, OnOk, OnErr};
+ghost use Rattle.cx_text.specs.Written.{word, quoted, sign, sign_pair, line_end};
+
+use crate::{Kind, List, Memory, Text, Token};
+use std::alloc::Global;
+
+impl Token {
+    /// A word that is on no line.
+    pub fn word(alloc: Global, text: &[u8]) -> Result<Token, Memory>
+        ensures { IfOk result (λ token. token ≡ word text.now) }
+    {
+        Ok(Token {
+            kind: Kind::Word,
+            text: Text::from_slice(alloc, text)?,
+            line: 0,
+        })
+    }
+
+    /// A quoted text that is on no line.
+    pub fn quoted(alloc: Global, text: &[u8]) -> Result<Token, Memory>
+        ensures { IfOk result (λ token. token ≡ quoted text.now) }
+    {
+        Ok(Token {
+            kind: Kind::Quoted,
+            text: Text::from_slice(alloc, text)?,
+            line: 0,
+        })
+    }
+
+    /// A sign of one byte that is on no line.
+    pub fn sign(alloc: Global, byte: u8) -> Result<Token, Memory>
+        ensures { IfOk result (λ token. token ≡ sign byte) }
+    {
+        Ok(Token {
+            kind: Kind::Sign,
+            text: Text::from_slice(alloc, &[byte])?,
+            line: 0,
+        })
+    }
+
+    /// A sign of two bytes that is on no line.
+    pub fn sign_pair(alloc: Global, first: u8, second: u8) -> Result<Token, Memory>
+        ensures { IfOk result (λ token. token ≡ sign_pair first second) }
+    {
+        Ok(Token {
+            kind: Kind::Sign,
+            text: Text::from_slice(alloc, &[first, second])?,
+            line: 0,
+        })
+    }
+
+    /// The end of a line that is none of a text.
+    pub fn line_end(alloc: Global) -> Result<Token, Memory>
+        ensures { IfOk result (λ token. token ≡ line_end) }
+    {
+        Ok(Token {
+            kind: Kind::LineEnd,
+            text: Text::new(Vec::new(alloc)),
+            line: 0,
+        })
+    }
+}
+
+impl List<Token> {
+    /// Adds a word at the end. Where memory is wanting, the list is as it was.
+    pub fn push_word(&mut self, alloc: Global, text: &[u8]) -> Result<(), Memory>
+        ensures ok { OnOk result (self.new ≡ self.old ++ word text.now ∷ []) }
+        ensures err { OnErr result (self.new ≡ self.old) }
+    {
+        self.push(Token::word(alloc, text)?)
+    }
+
+    /// Adds a quoted text at the end. Where memory is wanting, the list is as it was.
+    pub fn push_quoted(&mut self, alloc: Global, text: &[u8]) -> Result<(), Memory>
+        ensures ok { OnOk result (self.new ≡ self.old ++ quoted text.now ∷ []) }
+        ensures err { OnErr result (self.new ≡ self.old) }
+    {
+        self.push(Token::quoted(alloc, text)?)
+    }
+
+    /// Adds a sign at the end. Where memory is wanting, the list is as it was.
+    pub fn push_sign(&mut self, alloc: Global, byte: u8) -> Result<(), Memory>
+        ensures ok { OnOk result (self.new ≡ self.old ++ sign byte ∷ []) }
+        ensures err { OnErr result (self.new ≡ self.old) }
+    {
+        self.push(Token::sign(alloc, byte)?)
+    }
+
+    /// Adds the end of a line at the end. Where memory is wanting, the list is as it was.
+    pub fn push_line_end(&mut self, alloc: Global) -> Result<(), Memory>
+        ensures ok { OnOk result (self.new ≡ self.old ++ line_end ∷ []) }
+        ensures err { OnErr result (self.new ≡ self.old) }
+    {
+        self.push(Token::line_end(alloc)?)
+    }
+}
