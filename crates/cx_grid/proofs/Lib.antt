@@ -1,0 +1,5 @@
+pub mod Places
+pub mod Following
+pub mod Interior
+pub mod Reaching
+mod Examples

@@ -1,0 +1,4 @@
+pub mod Boxes
+pub mod Grid
+pub mod Windows
+pub mod Walk

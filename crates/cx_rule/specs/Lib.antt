@@ -1,0 +1,5 @@
+pub mod Meter
+pub mod Seen
+pub mod Routine
+pub mod Numbers
+pub mod Place
