@@ -1,0 +1,4 @@
+pub mod Files
+pub mod Memory
+pub mod Moments
+mod Rows

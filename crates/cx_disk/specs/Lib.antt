@@ -1,0 +1,6 @@
+pub mod Cause
+pub mod Disk
+pub mod Moments
+pub mod Memory
+pub mod Folder
+pub mod MemoryLaws

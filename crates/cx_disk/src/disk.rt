@@ -1,0 +1,152 @@
+//! What the calls of a disk do to its files, and to what a crash may leave of them.
+ghost use Rattle.std.specs.Prelude.{◌≡◌, ◌≤◌, ◌<◌, ◌+◌, ℕ, Bool, length, slice_range, IsTrue, OnOk, OnErr, IfOk, IfErr};
+ghost use Rattle.cx_disk.specs.Cause.{HasCause};
+ghost use Rattle.cx_disk.specs.Disk.{View, IsView, SameFiles, OthersSame, Changes, Holds, Torn, Front, CutShort, Passes, IsSettled};
+
+use cx_text::Text;
+use std::alloc::{AllocError, AllocFailed};
+
+/// Why a call of a disk gave nothing.
+#[derive(Clone, Copy, Debug, PartialEq, Eq)]
+pub enum DiskFault {
+    /// The device failed, and counted it.
+    Failed,
+    /// There was no memory left.
+    Memory,
+}
+
+impl From<AllocError> for DiskFault {
+    ghost use Rattle.std.specs.Prelude.{◌≡◌};
+    ghost use Rattle.cx_disk.specs.declared.disk.DiskFault.TheVariants.{Memory};
+
+    ghost from_gives = { λ _ e. e ≡ Memory };
+
+    fn from(_: AllocError) -> Self {
+        DiskFault::Memory
+    }
+}
+
+impl<T: Drop> From<AllocFailed<T>> for DiskFault {
+    ghost use Rattle.std.specs.Prelude.{◌≡◌};
+    ghost use Rattle.cx_disk.specs.declared.disk.DiskFault.TheVariants.{Memory};
+
+    ghost from_gives = { λ _ e. e ≡ Memory };
+
+    fn from(_: AllocFailed<T>) -> Self {
+        DiskFault::Memory
+    }
+}
+
+/// Files by number: 0 to 7 hold checkpoints, 8 the output. A file that was never written has length 0.
+///
+/// A disk counts its failures, and tells `Failed` only where that count rises. What a crash may leave is a set of
+/// images of all files. Between two syncs of a file each write may be left undone in part: the written range and
+/// what lies past the old end may hold any bytes, and the length may be any between the old and the new one. After a
+/// sync that answers Ok a crash leaves the file as it reads. A call that fails may have been stopped anywhere.
+pub trait Disk {
+    /// It tells what its files hold. Of one that doesn't, nothing is said of bytes and images.
+    ghost tells: { Type 0 };
+
+    /// Whether a `mount` has answered Ok.
+    ghost mounted: { Self → Bool };
+
+    /// Its files are those below this number.
+    ghost file_count: { Self → ℕ };
+
+    /// How its files read, and what a crash may leave of them.
+    ghost view: { Self → View };
+
+    /// How often it has failed, up to the last value of 64 bits.
+    ghost faults: { Self → ℕ };
+
+    /// Names the folders of the output and of the checkpoints (`IO::out_dir` and `IO::checkpoint_dir` of the Cactus 4
+    /// Users' Guide). It changes no file's bytes, and comes before every other call.
+    ///
+    /// `Failed`: the device failed, and is mounted if it was.
+    fn mount(&mut self, output: &Text, checkpoints: &Text) -> Result<(), DiskFault>
+        ensures mounted { OnOk result (IsTrue (mounted self.new)) }
+        ensures stays { IsTrue (mounted self.old) → IsTrue (mounted self.new) }
+        ensures count { file_count self.new ≡ 9 }
+        ensures same { tells → SameFiles (view self.old).seen (view self.new).seen }
+        ensures after { tells → Passes SameFiles (view self.old) (view self.new) }
+        ensures cause { HasCause DiskFault.Failed (faults self.old) (faults self.new) result };
+
+    /// The length of a file in bytes.
+    ///
+    /// `Failed`: the device failed.
+    fn length(&mut self, file: u32) -> Result<u64, DiskFault>
+        requires mounted { IsTrue (mounted self.old) }
+        requires file { file < file_count self.old }
+        ensures length { tells → IfOk result (λ count. count ≡ length ((view self.old).seen file)) }
+        ensures mounted { IsTrue (mounted self.new) }
+        ensures count { file_count self.new ≡ file_count self.old }
+        ensures same { tells → SameFiles (view self.old).seen (view self.new).seen }
+        ensures after { tells → Passes SameFiles (view self.old) (view self.new) }
+        ensures cause { HasCause DiskFault.Failed (faults self.old) (faults self.new) result }
+        ensures takes_no_memory { IfErr result (λ fault. fault ≡ DiskFault.Failed) };
+
+    /// Reads as many bytes as `into` holds, from the offset `at` on. The range lies within the file.
+    ///
+    /// `Failed`: the device failed, or it tells nothing and the range isn't there. What `into` holds is then left open.
+    fn read(&mut self, file: u32, at: u64, into: &mut [u8]) -> Result<(), DiskFault>
+        requires mounted { IsTrue (mounted self.old) }
+        requires file { file < file_count self.old }
+        requires range { tells → at + length into.old ≤ length ((view self.old).seen file) }
+        ensures read { tells → OnOk result (into.new ≡ slice_range ((view self.old).seen file) at (at + length into.old)) }
+        ensures mounted { IsTrue (mounted self.new) }
+        ensures count { file_count self.new ≡ file_count self.old }
+        ensures same { tells → SameFiles (view self.old).seen (view self.new).seen }
+        ensures after { tells → Passes SameFiles (view self.old) (view self.new) }
+        ensures cause { HasCause DiskFault.Failed (faults self.old) (faults self.new) result }
+        ensures takes_no_memory { IfErr result (λ fault. fault ≡ DiskFault.Failed) };
+
+    /// Writes bytes from the offset `at` on, over what is there and past the end. The offset isn't past the end. Until
+    /// the file is synced, a crash may leave the write undone in part.
+    ///
+    /// `Failed`: the device failed, or it tells nothing and the offset is past the end. The file then reads as the write
+    /// may be left, and the others as before. So it may after `Memory`.
+    fn write_at(&mut self, file: u32, at: u64, bytes: &[u8]) -> Result<(), DiskFault>
+        requires mounted { IsTrue (mounted self.old) }
+        requires file { file < file_count self.old }
+        requires start { tells → at ≤ length ((view self.old).seen file) }
+        ensures written { tells → OnOk result (Holds at bytes.now ((view self.old).seen file) ((view self.new).seen file)) }
+        ensures stopped { tells → OnErr result (Torn at (length bytes.now) ((view self.old).seen file) ((view self.new).seen file)) }
+        ensures others { tells → OthersSame file (view self.old).seen (view self.new).seen }
+        ensures mounted { IsTrue (mounted self.new) }
+        ensures count { file_count self.new ≡ file_count self.old }
+        ensures after { tells → Passes (Changes (Torn at (length bytes.now)) file) (view self.old) (view self.new) }
+        ensures cause { HasCause DiskFault.Failed (faults self.old) (faults self.new) result };
+
+    /// Cuts a file to its first `to` bytes, of which it has at least so many. Until it is synced, a crash may leave more
+    /// of them.
+    ///
+    /// `Failed`: the device failed, or it tells nothing and the file is shorter. The file then reads as the cut may be
+    /// left, and the others as before. So it may after `Memory`.
+    fn cut(&mut self, file: u32, to: u64) -> Result<(), DiskFault>
+        requires mounted { IsTrue (mounted self.old) }
+        requires file { file < file_count self.old }
+        requires within { tells → to ≤ length ((view self.old).seen file) }
+        ensures cut { tells → OnOk result (Front to ((view self.old).seen file) ((view self.new).seen file)) }
+        ensures stopped { tells → OnErr result (CutShort to ((view self.old).seen file) ((view self.new).seen file)) }
+        ensures others { tells → OthersSame file (view self.old).seen (view self.new).seen }
+        ensures mounted { IsTrue (mounted self.new) }
+        ensures count { file_count self.new ≡ file_count self.old }
+        ensures after { tells → Passes (Changes (CutShort to) file) (view self.old) (view self.new) }
+        ensures cause { HasCause DiskFault.Failed (faults self.old) (faults self.new) result };
+
+    /// Settles a file: from now on, until it is changed again, a crash leaves it as it reads.
+    ///
+    /// `Failed`: the device failed. Nothing is settled then, nor after `Memory`.
+    fn sync(&mut self, file: u32) -> Result<(), DiskFault>
+        requires mounted { IsTrue (mounted self.old) }
+        requires file { file < file_count self.old }
+        ensures settled { tells → OnOk result (IsSettled (view self.new) file) }
+        ensures mounted { IsTrue (mounted self.new) }
+        ensures count { file_count self.new ≡ file_count self.old }
+        ensures same { tells → SameFiles (view self.old).seen (view self.new).seen }
+        ensures after { tells → Passes SameFiles (view self.old) (view self.new) }
+        ensures cause { HasCause DiskFault.Failed (faults self.old) (faults self.new) result };
+
+    /// As it reads is one of the images that a crash may leave.
+    ghost sound: { (disk : Self) → tells → IsView (view disk) };
+}

@@ -1,0 +1,225 @@
+//! Two folders, as a disk that tells nothing of what its files hold.
+ghost use Rattle.std.specs.Prelude.{◌≡◌, ◌<◌, false, vec_len, IsTrue, IfOk, IfErr};
+ghost use Rattle.cx_disk.specs.Cause.{HasCause};
+ghost use Rattle.cx_disk.specs.Disk.{untold};
+ghost use Rattle.cx_disk.specs.Folder.{Adapter};
+
+use crate::{Disk, DiskFault};
+use cx_text::Text;
+use std::alloc::{AllocError, Global};
+use std::fs::{self, OpenFile, OpenOptions};
+use std::io::{self, ErrorKind, Read, Seek, SeekFrom, Write};
+use std::marker::Model;
+use std::rt::Files;
+
+const OUTPUT: u32 = 8;
+
+/// Two folders as a disk: file 8 is `output.asc` in the folder of the output, and the files 0 to 7 are
+/// `checkpoint.chkpt.0` to `checkpoint.chkpt.7` in the folder of the checkpoints. Contracts see whether it is mounted
+/// and how often it has failed.
+///
+/// `mount` makes folders that are missing. An empty name stands for the current folder, and one that isn't UTF-8 is a
+/// failure, as is a range that isn't there. Only `write_at` makes a file.
+#[derive(Drop)]
+pub struct FolderDisk<R> {
+    rt: R,
+    alloc: Global,
+    paths: Vec<String>,
+    mounted: bool,
+    faults: u64,
+}
+
+impl<R> Model for FolderDisk<R> {
+    ghost use Rattle.std.specs.Prelude.{◌≡◌, true, vec_len};
+    ghost use Rattle.cx_disk.specs.Folder.{Adapter};
+
+    ghost Value = { Adapter };
+
+    ghost view = { λ disk. record { mounted = disk.mounted; faults = disk.faults } };
+
+    ghost invariant = { λ disk. disk.mounted ≡ true → vec_len disk.paths ≡ 9 };
+}
+
+impl<R: Files + Drop> FolderDisk<R> {
+    /// The disk below the current folder, which isn't mounted and hasn't failed.
+    pub fn new(rt: R, alloc: Global) -> Self
+        ensures { result ≡ record { mounted = false; faults = 0 } }
+    {
+        FolderDisk {
+            rt,
+            alloc,
+            paths: Vec::new(alloc),
+            mounted: false,
+            faults: 0,
+        }
+    }
+}
+
+impl<R> FolderDisk<R> {
+    // The place of a file.
+    fn path(&self, file: u32) -> &str
+        requires mounted { IsTrue self.now.mounted }
+        requires file { file < 9 }
+    {
+        self.paths[file as usize].as_str()
+    }
+
+    // What a call gave, with a failure counted.
+    fn counted<T>(&mut self, done: io::Result<T>) -> Result<T, DiskFault>
+        ensures mounted { self.new.mounted ≡ self.old.mounted }
+        ensures cause { HasCause DiskFault.Failed self.old.faults self.new.faults result }
+        ensures takes_no_memory { IfErr result (λ fault. fault ≡ DiskFault.Failed) }
+    {
+        match done {
+            Ok(value) => Ok(value),
+            Err(_) => {
+                self.faults = self.faults.saturating_add(1);
+                Err(DiskFault::Failed)
+            }
+        }
+    }
+}
+
+// The places of the files, by number.
+fn paths(alloc: Global, output: &str, checkpoints: &str) -> Result<Vec<String>, AllocError>
+    ensures { IfOk result (λ paths. vec_len paths ≡ 9) }
+{
+    let mut paths = Vec::new(alloc);
+    'slots: for slot in 0..OUTPUT {
+        paths.push(format!(in alloc; "{checkpoints}/checkpoint.chkpt.{slot}")?)?;
+    }
+    paths.push(format!(in alloc; "{output}/output.asc")?)?;
+    Ok(paths)
+}
+
+// A folder by its name.
+fn folder(name: &Text) -> io::Result<&str> {
+    match str::from_utf8(name.as_slice()) {
+        Ok("") => Ok("."),
+        Ok(path) => Ok(path),
+        Err(_) => Err(ErrorKind::InvalidInput.into()),
+    }
+}
+
+// Opens a file if it is there.
+fn found<R: Files>(rt: &R, path: &str) -> io::Result<Option<R::File>> {
+    let mut how = OpenOptions::new();
+    how.read(true).write(true);
+    match how.open(rt, path) {
+        Ok(file) => Ok(Some(file)),
+        Err(error) if error.kind() == ErrorKind::NotFound => Ok(None),
+        Err(error) => Err(error),
+    }
+}
+
+// The length of a file. One that isn't there has none.
+fn length_at<R: Files>(rt: &R, path: &str) -> io::Result<u64> {
+    match found(rt, path)? {
+        Some(mut file) => file.seek(SeekFrom::End(0)),
+        None => Ok(0),
+    }
+}
+
+// Reads a range that lies within a file.
+fn read_range<R: Files>(rt: &R, path: &str, at: u64, into: &mut [u8]) -> io::Result<()> {
+    match found(rt, path)? {
+        Some(mut file) => {
+            if at > file.seek(SeekFrom::End(0))? {
+                return Err(ErrorKind::UnexpectedEof.into());
+            }
+            file.seek(SeekFrom::Start(at))?;
+            file.read_exact(into)
+        }
+        None if at == 0 && into.is_empty() => Ok(()),
+        None => Err(ErrorKind::UnexpectedEof.into()),
+    }
+}
+
+// Writes from a place within a file on, or at its end.
+fn write_range<R: Files>(rt: &R, path: &str, at: u64, bytes: &[u8]) -> io::Result<()> {
+    let mut how = OpenOptions::new();
+    how.write(true).create(true);
+    let mut file = how.open(rt, path)?;
+    if at > file.seek(SeekFrom::End(0))? {
+        return Err(ErrorKind::InvalidInput.into());
+    }
+    file.seek(SeekFrom::Start(at))?;
+    file.write_all(bytes)
+}
+
+// Cuts a file to a length that it has.
+fn cut_to<R: Files>(rt: &R, path: &str, to: u64) -> io::Result<()> {
+    match found(rt, path)? {
+        Some(mut file) => {
+            if to > file.seek(SeekFrom::End(0))? {
+                return Err(ErrorKind::InvalidInput.into());
+            }
+            file.set_len(to)
+        }
+        None if to == 0 => Ok(()),
+        None => Err(ErrorKind::InvalidInput.into()),
+    }
+}
+
+// Syncs a file. One that isn't there holds nothing to settle.
+fn sync_all<R: Files>(rt: &R, path: &str) -> io::Result<()> {
+    match found(rt, path)? {
+        Some(file) => file.sync_all(),
+        None => Ok(()),
+    }
+}
+
+// Makes both folders where they are missing.
+fn make_folders<R: Files>(rt: &R, output: &str, checkpoints: &str) -> io::Result<()> {
+    fs::create_dir_all(rt, output)?;
+    fs::create_dir_all(rt, checkpoints)
+}
+
+impl<R: Files + Drop> Disk for FolderDisk<R> {
+    ghost tells = { ⊥ };
+
+    ghost mounted = { λ disk. disk.mounted };
+
+    ghost file_count = { λ _. 9 };
+
+    ghost view = { λ _. untold };
+
+    ghost faults = { λ disk. disk.faults };
+
+    ghost sound = { λ _ tells. absurd tells };
+
+    fn mount(&mut self, output: &Text, checkpoints: &Text) -> Result<(), DiskFault> {
+        let output = self.counted(folder(output))?;
+        let checkpoints = self.counted(folder(checkpoints))?;
+        let made = make_folders(&self.rt, output, checkpoints);
+        self.counted(made)?;
+        self.paths = paths(self.alloc, output, checkpoints)?;
+        self.mounted = true;
+        Ok(())
+    }
+
+    fn length(&mut self, file: u32) -> Result<u64, DiskFault> {
+        let done = length_at(&self.rt, self.path(file));
+        self.counted(done)
+    }
+
+    fn read(&mut self, file: u32, at: u64, into: &mut [u8]) -> Result<(), DiskFault> {
+        let done = read_range(&self.rt, self.path(file), at, into);
+        self.counted(done)
+    }
+
+    fn write_at(&mut self, file: u32, at: u64, bytes: &[u8]) -> Result<(), DiskFault> {
+        let done = write_range(&self.rt, self.path(file), at, bytes);
+        self.counted(done)
+    }
+
+    fn cut(&mut self, file: u32, to: u64) -> Result<(), DiskFault> {
+        let done = cut_to(&self.rt, self.path(file), to);
+        self.counted(done)
+    }
+
+    fn sync(&mut self, file: u32) -> Result<(), DiskFault> {
+        let done = sync_all(&self.rt, self.path(file));
+        self.counted(done)
+    }
+}

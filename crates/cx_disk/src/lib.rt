@@ -1,0 +1,16 @@
+//! Files by number that a run keeps: what each call does to them, and what a crash may leave of them.
+#![tactic(auto)]
+
+mod disk;
+mod folder_disk;
+mod memory_disk;
+mod note;
+mod settle;
+#[cfg(test)]
+mod tests;
+
+pub use disk::{Disk, DiskFault};
+pub use folder_disk::FolderDisk;
+pub use memory_disk::MemoryDisk;
+pub use note::{Change, Note};
+pub use settle::{put, trim};

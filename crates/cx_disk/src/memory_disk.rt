@@ -1,0 +1,176 @@
+//! A disk in memory.
+ghost use Rattle.std.specs.Prelude.{◌≡◌, ◌≤◌, ◌<◌, ◌+◌, ◌++◌, ℕ, length, take, drop, vec_len, IsTrue, OnOk, OnErr, IfOk, false};
+ghost use Rattle.cx_disk.specs.Disk.{Files, SameFiles};
+ghost use Rattle.cx_disk.specs.Memory.{fresh, noted, file_of, changed, view_of};
+ghost use Rattle.cx_disk.specs.MemoryLaws.{sound_of};
+
+use crate::{Change, Disk, DiskFault, Note};
+use cx_text::{List, Text};
+use std::alloc::{AllocError, Global};
+use std::marker::Model;
+
+const FILES: usize = 9;
+
+/// A disk in memory. It tells what its files hold, never fails, and notes each change, so that what a crash at each
+/// moment may leave can be told. Contracts see whether it is mounted, its files at the beginning, and the notes.
+#[derive(Debug, Drop)]
+pub struct MemoryDisk {
+    alloc: Global,
+    first: List<Text>,
+    files: Vec<Text>,
+    notes: Vec<Note>,
+    mounted: bool,
+}
+
+impl Model for MemoryDisk {
+    ghost use Rattle.cx_disk.specs.Memory.{History, IsKept};
+
+    ghost Value = { History };
+
+    ghost view = { λ disk. record { mounted = disk.mounted; first = disk.first; notes = disk.notes.items } };
+
+    ghost invariant = { λ disk. IsKept disk.mounted disk.first disk.files.items disk.notes.items };
+}
+
+impl MemoryDisk {
+    /// A disk of these files, the first being file 0, which isn't mounted. A file that isn't given is empty. The files as
+    /// given are all that a crash may leave.
+    pub fn new(alloc: Global, files: List<Text>) -> Self
+        ensures unmounted { result ≡ fresh files }
+        ensures reads { SameFiles (file_of files) (view_of result).seen }
+        ensures only_image { (c : Files) → (view_of result).images c → SameFiles (file_of files) c }
+    {
+        MemoryDisk {
+            alloc,
+            first: files,
+            files: Vec::new(alloc),
+            notes: Vec::new(alloc),
+            mounted: false,
+        }
+    }
+
+    /// The bytes of a file, as it reads.
+    pub fn bytes(&self, file: usize) -> &[u8]
+        ensures { result.now ≡ (view_of self.now).seen file }
+    {
+        if self.mounted {
+            bytes_of(&self.files, file)
+        } else {
+            bytes_of(self.first.as_slice(), file)
+        }
+    }
+
+    // Notes a change, after which the file has these bytes.
+    fn change(&mut self, note: Note, next: Vec<u8>) -> Result<(), AllocError>
+        requires mounted { IsTrue self.old.mounted }
+        requires file { note.file < 9 }
+        requires bytes { next.items ≡ changed note.change ((view_of self.old).seen note.file) }
+        ensures ok { OnOk result (self.new ≡ noted self.old note) }
+        ensures err { OnErr result (self.new ≡ self.old) }
+    {
+        let file = note.file as usize;
+        self.notes.push(note)?;
+        self.files[file] = Text::new(next);
+        Ok(())
+    }
+}
+
+// The bytes of a file of a list.
+fn bytes_of(files: &[Text], file: usize) -> &[u8]
+    ensures { result.now ≡ file_of files.now file }
+{
+    match files.get(file) {
+        Some(text) => text.as_slice(),
+        None => &[],
+    }
+}
+
+// The same files.
+fn copied(alloc: Global, files: &[Text]) -> Result<Vec<Text>, AllocError>
+    ensures { IfOk result (λ copy. copy.items ≡ files.now) }
+{
+    let mut copy = Vec::new(alloc);
+    'texts: for text in files {
+        copy.push(Text::new(text.as_slice().to_vec(alloc)?))?;
+    }
+    Ok(copy)
+}
+
+// Adds empty files up to the last.
+#[tactic(auto, using(crate::proofs::Files::empty_file))]
+fn fill(alloc: Global, files: &mut Vec<Text>) -> Result<(), AllocError>
+    ensures all { OnOk result (9 ≤ vec_len files.new) }
+    ensures same { SameFiles (file_of files.old.items) (file_of files.new.items) }
+{
+    'grow: while files.len() < FILES {
+        files.push(Text::new(Vec::new(alloc)))?;
+    }
+    Ok(())
+}
+
+// The bytes with others written over what is there, and past the end.
+fn written_over(alloc: Global, bytes: &[u8], at: usize, new: &[u8]) -> Result<Vec<u8>, AllocError>
+    requires { at ≤ length bytes.now }
+    ensures { IfOk result (λ all. all.items ≡ take at bytes.now ++ new.now ++ drop (at + length new.now) bytes.now) }
+{
+    let mut all = bytes[..at].to_vec(alloc)?;
+    all.extend_from_slice(new)?;
+    if new.len() < bytes.len() - at {
+        all.extend_from_slice(&bytes[at + new.len()..])?;
+    }
+    Ok(all)
+}
+
+impl Disk for MemoryDisk {
+    ghost tells = { Unit {0} };
+
+    ghost mounted = { λ disk. disk.mounted };
+
+    ghost file_count = { λ _. 9 };
+
+    ghost view = { view_of };
+
+    ghost faults = { λ _. 0 };
+
+    ghost sound = { λ disk _. sound_of disk };
+
+    fn mount(&mut self, _output: &Text, _checkpoints: &Text) -> Result<(), DiskFault> {
+        if !self.mounted {
+            let mut files = copied(self.alloc, self.first.as_slice())?;
+            fill(self.alloc, &mut files)?;
+            self.files = files;
+            self.mounted = true;
+        }
+        Ok(())
+    }
+
+    fn length(&mut self, file: u32) -> Result<u64, DiskFault> {
+        Ok(self.bytes(file as usize).len() as u64)
+    }
+
+    fn read(&mut self, file: u32, at: u64, into: &mut [u8]) -> Result<(), DiskFault> {
+        let bytes = self.bytes(file as usize);
+        let at = at as usize;
+        into.copy_from_slice(&bytes[at..at + into.len()]);
+        Ok(())
+    }
+
+    fn write_at(&mut self, file: u32, at: u64, bytes: &[u8]) -> Result<(), DiskFault> {
+        let next = written_over(self.alloc, self.bytes(file as usize), at as usize, bytes)?;
+        let bytes = Text::new(bytes.to_vec(self.alloc)?);
+        let change = Change::Wrote { at, bytes };
+        Ok(self.change(Note { file, change }, next)?)
+    }
+
+    fn cut(&mut self, file: u32, to: u64) -> Result<(), DiskFault> {
+        let next = self.bytes(file as usize)[..to as usize].to_vec(self.alloc)?;
+        let change = Change::Cut { to };
+        Ok(self.change(Note { file, change }, next)?)
+    }
+
+    fn sync(&mut self, file: u32) -> Result<(), DiskFault> {
+        let next = self.bytes(file as usize).to_vec(self.alloc)?;
+        let change = Change::Synced;
+        Ok(self.change(Note { file, change }, next)?)
+    }
+}

@@ -1,0 +1,76 @@
+use crate::{Disk, DiskFault, FolderDisk, MemoryDisk, put, trim};
+use cx_text::{List, Text};
+use std::fs;
+use std::test::Fail;
+
+#[test]
+fn memory_disk_keeps_files(rt: HostRuntime) -> Result<(), Fail> {
+    let alloc = rt.alloc();
+    let mut given = List::empty(alloc);
+    given.push(Text::from_slice(alloc, b"given")?)?;
+    let mut disk = MemoryDisk::new(alloc, given);
+    let folder = Text::from_slice(alloc, b"out")?;
+    disk.mount(&folder, &folder)?;
+    put(&mut disk, 8, 0, b"0123456789")?;
+    assert_eq!(rt; disk.bytes(8), b"0123456789".as_slice());
+    assert!(rt; disk.length(8)? == 10);
+    disk.write_at(8, 8, b"abcd")?;
+    assert_eq!(rt; disk.bytes(8), b"01234567abcd".as_slice());
+    assert!(rt; disk.length(8)? == 12);
+    let mut into = [0; 3];
+    disk.read(8, 7, &mut into)?;
+    assert_eq!(rt; into, *b"7ab");
+    disk.cut(8, 9)?;
+    disk.sync(8)?;
+    assert!(rt; disk.length(0)? == 5);
+    trim(&mut disk, 0, 2)?;
+    assert_eq!(rt; disk.bytes(8), b"01234567a".as_slice());
+    assert_eq!(rt; disk.bytes(0), b"gi".as_slice());
+    assert_eq!(rt; disk.bytes(1), b"".as_slice());
+    Ok(())
+}
+
+#[test]
+fn folder_disk_keeps_files(rt: HostRuntime) -> Result<(), Fail> {
+    let alloc = rt.alloc();
+    let output = Text::from_slice(alloc, b"new/out")?;
+    let here = Text::from_slice(alloc, b"")?;
+    let mut disk = FolderDisk::new(rt, alloc);
+    disk.mount(&output, &here)?;
+    assert_eq!(rt; disk.length(8)?, 0);
+    disk.write_at(8, 0, b"0123456789")?;
+    disk.write_at(8, 8, b"abcd")?;
+    disk.write_at(7, 0, b"kept")?;
+    disk.cut(8, 9)?;
+    disk.sync(8)?;
+    assert_eq!(rt;
+        disk.write_at(8, 10, b"x"),
+        Err(DiskFault::Failed),
+        "past the end"
+    );
+    assert_eq!(rt;
+        disk.cut(8, 10),
+        Err(DiskFault::Failed),
+        "longer than the file"
+    );
+    let mut other = FolderDisk::new(rt, alloc);
+    other.mount(&output, &here)?;
+    assert_eq!(rt; other.length(8)?, 9);
+    let mut into = [0; 3];
+    other.read(8, 6, &mut into)?;
+    assert_eq!(rt; into, *b"67a");
+    assert_eq!(rt;
+        other.read(8, 7, &mut into),
+        Err(DiskFault::Failed),
+        "past the end"
+    );
+    assert_eq!(rt;
+        fs::read_to_string(&rt, "new/out/output.asc")?.as_str(),
+        "01234567a"
+    );
+    assert_eq!(rt;
+        fs::read_to_string(&rt, "checkpoint.chkpt.7")?.as_str(),
+        "kept"
+    );
+    Ok(())
+}
