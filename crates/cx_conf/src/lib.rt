@@ -1,0 +1,14 @@
+//! Configuration files and thorn lists: what a thorn provides and needs, and where thorns stand.
+#![tactic(auto)]
+
+mod configuration;
+#[cfg(test)]
+mod enumeration;
+mod printer;
+#[cfg(test)]
+mod tests;
+mod thorn_list;
+
+pub use configuration::{Configuration, read_configuration};
+pub use printer::print_configuration;
+pub use thorn_list::{ThornList, read_thornlist};

@@ -1,0 +1,124 @@
+//! The list of thorns, each in its arrangement.
+
+ghost use Rattle.std.specs.Prelude.{◌≡◌, Some, None, MatchOption, position};
+ghost use Rattle.std.specs.List.{list_any};
+ghost use Rattle.cx_text.specs.Tokens.{is_word};
+ghost use Rattle.cx_text.specs.Grammar.{Answers, AnswersOnly};
+ghost use Rattle.cx_text.specs.Reading.{Gives};
+ghost use Rattle.cx_text.specs.Rules.{token, loop};
+ghost use Rattle.cx_conf.specs.Thorns.{is_slash, place_in, place_of, place_mark, line, thorn_list};
+
+use cx_text::{CclFault, List, MAX_NAME, Mark, Reader, Stop, Text, Token, Why};
+use std::alloc::Global;
+
+/// The thorns that there are.
+#[derive(Debug, Drop)]
+pub struct ThornList {
+    /// Each thorn's arrangement and its name, in file order.
+    pub places: List<(Text, Text)>,
+}
+
+/// The most lines of a thorn list.
+const MAX_LINES: usize = 4096;
+
+/// The places of the lines so far, and how many lines may still stand.
+#[derive(Drop)]
+struct Places {
+    left: usize,
+    places: List<(Text, Text)>,
+}
+
+fn slash_at(text: &[u8]) -> Option<usize>
+    ensures { result ≡ position is_slash text.now }
+{
+    text.iter().position(|byte| *byte == b'/')
+}
+
+fn has_slash(text: &[u8]) -> bool
+    ensures { result ≡ list_any is_slash text.now }
+{
+    text.iter().any(|byte| *byte == b'/')
+}
+
+/// The two names round the one slash.
+fn place_in(text: &[u8]) -> Option<(&[u8], &[u8])>
+    ensures { MatchOption result (place_in text.now ≡ None) (λ p. place_in text.now ≡ Some (p.0.now, p.1.now)) }
+{
+    let slash = slash_at(text)?;
+    let (_, thorn) = text.split_at(slash + 1);
+    let (arrangement, _) = text.split_at(slash);
+    if arrangement.is_empty() || thorn.is_empty() || has_slash(thorn) {
+        None
+    } else {
+        Some((arrangement, thorn))
+    }
+}
+
+fn place(reader: &mut Reader, alloc: Global, left: usize) -> Result<(Text, Text), Stop>
+    ensures { Gives (λ p. p) result reader.new.rest.now ((token place_of (place_mark left)).reads reader.old.rest.now) }
+{
+    match reader.rest {
+        [token, rest @ ..] if token.is_word() => {
+            let Some((arrangement, thorn)) = place_in(token.text.as_slice()) else {
+                return Err(Stop::Fault(Why::Unexpected));
+            };
+            if left == 0 || arrangement.len() > MAX_NAME || thorn.len() > MAX_NAME {
+                return Err(Stop::Fault(Why::Marked(Mark::Limit)));
+            }
+            let arrangement = Text::from_slice(alloc, arrangement)?;
+            let thorn = Text::from_slice(alloc, thorn)?;
+            reader.rest = rest;
+            Ok((arrangement, thorn))
+        }
+        _ => Err(Stop::Fault(Why::Unexpected)),
+    }
+}
+
+fn line(reader: &mut Reader, alloc: Global, lines: &mut Places) -> Result<(), Stop>
+    ensures { Gives (λ x. lines.new) result reader.new.rest.now ((line lines.old).reads reader.old.rest.now) }
+{
+    let place = place(reader, alloc, lines.left)?;
+    reader.one_line_end()?;
+    lines.places.push(place)?;
+    lines.left = lines.left.saturating_sub(1);
+    Ok(())
+}
+
+fn lines(reader: &mut Reader, alloc: Global, read: &mut Places) -> Result<(), Stop>
+    ensures { Gives (λ x. read.new) result reader.new.rest.now ((loop is_word line read.old).reads reader.old.rest.now) }
+{
+    'lines: while reader.at_word() {
+        line(reader, alloc, read)?;
+    }
+    Ok(())
+}
+
+fn whole(reader: &mut Reader, alloc: Global) -> Result<ThornList, Stop>
+    ensures { Gives (λ x. x) result reader.new.rest.now (thorn_list.reads reader.old.rest.now) }
+{
+    let mut read = Places {
+        left: MAX_LINES,
+        places: List::empty(alloc),
+    };
+    lines(reader, alloc, &mut read)?;
+    Ok(ThornList {
+        places: read.places,
+    })
+}
+
+/// What the tokens of a thorn list spell: on each line an arrangement and the name of a thorn, with one `/` between.
+///
+/// # Errors
+/// `Unexpected` at the first token with which no thorn list goes on, `Limit` at an arrangement or a thorn of more
+/// than 64 bytes or the 4,097th line, whichever comes first; each with the token's line.
+pub fn read_thornlist(alloc: Global, tokens: &List<Token>) -> Result<ThornList, CclFault>
+    // The answer is what the tokens spell, or the first fault.
+    ensures answers { Answers thorn_list.derives (λ x. x) tokens.now result }
+    // What is spelled is answered, unless memory runs out.
+    ensures only { AnswersOnly thorn_list.derives (λ x. x) tokens.now result }
+{
+    let tokens = tokens.as_slice();
+    let mut reader = Reader::new(tokens);
+    let answer = whole(&mut reader, alloc);
+    reader.finish(tokens, answer)
+}

@@ -1,0 +1,7 @@
+pub mod ByteLaws
+pub mod NumberLaws
+pub mod NameLaws
+pub mod ParLaws
+pub mod FitLaws
+pub mod PrintLaws
+pub mod TextLaws

@@ -1,0 +1,252 @@
+//! A parameter file, read.
+
+ghost use Rattle.std.specs.Prelude.{◌≡◌};
+ghost use Rattle.cx_text.specs.Tokens.{is_word};
+ghost use Rattle.cx_text.specs.Grammar.{Answers, AnswersOnly};
+ghost use Rattle.cx_text.specs.Reading.{Gives};
+ghost use Rattle.cx_text.specs.Rules.{token, loop, unmarked, sign_here};
+ghost use Rattle.cx_parfile.specs.ParFile.{name_of, name_mark, is_long_name, is_long_owner, is_index, index_of, index_mark, value_of, thorns_mark, bracketed, index, active, setting, is_active, behind, line, parameter_file};
+
+use crate::value::{activate_thorns, has_digits, has_long_thorn, name_in, value_in};
+use crate::{Setting, Settings};
+use cx_text::{
+    CclFault, Kind, List, MAX_NAME, Mark, Reader, Stop, Text, Token, Why, decimal, same_name,
+};
+use std::alloc::Global;
+
+/// The most settings of a parameter file.
+const MAX_SETTINGS: usize = 4096;
+
+/// The last element of an array.
+const MAX_INDEX: u64 = 1023;
+
+/// A name, and the line that it stands on.
+#[derive(Drop)]
+pub struct Name {
+    pub owner: Option<Text>,
+    pub name: Text,
+    pub line: u32,
+}
+
+/// What is read so far, and how many settings may still stand.
+#[derive(Drop)]
+pub struct Read {
+    pub left: usize,
+    pub settings: Settings,
+}
+
+fn is_long_owner(owner: &Option<Text>) -> bool
+    ensures { result ≡ is_long_owner owner.now }
+{
+    match owner {
+        Some(owner) => owner.len() > MAX_NAME,
+        None => false,
+    }
+}
+
+fn name_here(reader: &mut Reader, alloc: Global, left: usize) -> Result<Name, Stop>
+    ensures { Gives (λ n. n) result reader.new.rest.now ((token name_of (name_mark left)).reads reader.old.rest.now) }
+{
+    match reader.rest {
+        [token, rest @ ..] if token.is_word() => {
+            let Some(name) = name_in(alloc, token.text.as_slice(), token.line)? else {
+                return Err(Stop::Fault(Why::Unexpected));
+            };
+            if left == 0 || is_long_owner(&name.owner) || name.name.len() > MAX_NAME {
+                return Err(Stop::Fault(Why::Marked(Mark::Limit)));
+            }
+            reader.rest = rest;
+            Ok(name)
+        }
+        _ => Err(Stop::Fault(Why::Unexpected)),
+    }
+}
+
+fn is_index(token: &Token) -> bool
+    ensures { result ≡ is_index token.now }
+{
+    token.is_word() && !token.text.is_empty() && has_digits(token.text.as_slice())
+}
+
+fn index_here(reader: &mut Reader) -> Result<u32, Stop>
+    ensures { Gives (λ i. i) result reader.new.rest.now ((token index_of index_mark).reads reader.old.rest.now) }
+{
+    match reader.rest {
+        [token, rest @ ..] if is_index(token) => {
+            match decimal(token.text.as_slice(), MAX_INDEX) {
+                Some(index) => {
+                    reader.rest = rest;
+                    Ok(index as u32)
+                }
+                None => Err(Stop::Fault(Why::Marked(Mark::BadNumber))),
+            }
+        }
+        _ => Err(Stop::Fault(Why::Unexpected)),
+    }
+}
+
+fn value_here(reader: &mut Reader, alloc: Global, base: &[u8]) -> Result<Text, Stop>
+    ensures { Gives (λ v. v) result reader.new.rest.now ((token (value_of base.now) unmarked).reads reader.old.rest.now) }
+{
+    match reader.rest {
+        [token, rest @ ..] if matches!(token.kind, Kind::Quoted | Kind::Word) => {
+            let value = Text::from_slice(alloc, value_in(base, token.text.as_slice()))?;
+            reader.rest = rest;
+            Ok(value)
+        }
+        _ => Err(Stop::Fault(Why::Unexpected)),
+    }
+}
+
+fn thorns_here(reader: &mut Reader, alloc: Global, base: &[u8]) -> Result<Text, Stop>
+    ensures { Gives (λ v. v) result reader.new.rest.now ((token (value_of base.now) (thorns_mark base.now)).reads reader.old.rest.now) }
+{
+    match reader.rest {
+        [token, rest @ ..] if matches!(token.kind, Kind::Quoted | Kind::Word) => {
+            let value = Text::from_slice(alloc, value_in(base, token.text.as_slice()))?;
+            if has_long_thorn(alloc, value.as_slice())? {
+                return Err(Stop::Fault(Why::Marked(Mark::Limit)));
+            }
+            reader.rest = rest;
+            Ok(value)
+        }
+        _ => Err(Stop::Fault(Why::Unexpected)),
+    }
+}
+
+fn bracketed(reader: &mut Reader) -> Result<Option<u32>, Stop>
+    ensures { Gives (λ i. i) result reader.new.rest.now (bracketed.reads reader.old.rest.now) }
+{
+    reader.sign_here(b'[')?;
+    let index = index_here(reader)?;
+    reader.sign_here(b']')?;
+    Ok(Some(index))
+}
+
+fn index(reader: &mut Reader) -> Result<Option<u32>, Stop>
+    ensures { Gives (λ i. i) result reader.new.rest.now (index.reads reader.old.rest.now) }
+{
+    if reader.at_sign(b'[') {
+        bracketed(reader)
+    } else {
+        Ok(None)
+    }
+}
+
+/// The `=` before a value.
+fn equals(reader: &mut Reader) -> Result<(), Stop>
+    ensures { Gives (λ u. u) result reader.new.rest.now ((sign_here 61).reads reader.old.rest.now) }
+{
+    reader.sign_here(b'=')
+}
+
+fn active(
+    reader: &mut Reader,
+    alloc: Global,
+    base: &[u8],
+    settings: &mut Settings,
+) -> Result<(), Stop>
+    ensures { Gives (λ x. settings.new) result reader.new.rest.now ((active base.now settings.old).reads reader.old.rest.now) }
+{
+    equals(reader)?;
+    let value = thorns_here(reader, alloc, base)?;
+    activate_thorns(alloc, &mut settings.active, value.as_slice())?;
+    Ok(())
+}
+
+fn setting(
+    reader: &mut Reader,
+    alloc: Global,
+    base: &[u8],
+    name: Name,
+    settings: &mut Settings,
+) -> Result<(), Stop>
+    ensures { Gives (λ x. settings.new) result reader.new.rest.now ((setting base.now name settings.old).reads reader.old.rest.now) }
+{
+    let index = index(reader)?;
+    equals(reader)?;
+    let value = value_here(reader, alloc, base)?;
+    settings.list.push(Setting {
+        owner: name.owner,
+        name: name.name,
+        index,
+        value,
+        line: name.line,
+    })?;
+    Ok(())
+}
+
+fn is_active(name: &Name) -> bool
+    ensures { result ≡ is_active name.now }
+{
+    name.owner.is_none() && same_name(name.name.as_slice(), b"ActiveThorns")
+}
+
+fn behind(
+    reader: &mut Reader,
+    alloc: Global,
+    base: &[u8],
+    name: Name,
+    settings: &mut Settings,
+) -> Result<(), Stop>
+    ensures { Gives (λ x. settings.new) result reader.new.rest.now ((behind base.now name settings.old).reads reader.old.rest.now) }
+{
+    if is_active(&name) && !reader.at_sign(b'[') {
+        active(reader, alloc, base, settings)
+    } else {
+        setting(reader, alloc, base, name, settings)
+    }
+}
+
+fn line(reader: &mut Reader, alloc: Global, base: &[u8], read: &mut Read) -> Result<(), Stop>
+    ensures { Gives (λ x. read.new) result reader.new.rest.now ((line base.now read.old).reads reader.old.rest.now) }
+{
+    let name = name_here(reader, alloc, read.left)?;
+    behind(reader, alloc, base, name, &mut read.settings)?;
+    reader.one_line_end()?;
+    read.left = read.left.saturating_sub(1);
+    Ok(())
+}
+
+fn lines(reader: &mut Reader, alloc: Global, base: &[u8], read: &mut Read) -> Result<(), Stop>
+    ensures { Gives (λ x. read.new) result reader.new.rest.now ((loop is_word (line base.now) read.old).reads reader.old.rest.now) }
+{
+    'lines: while reader.at_word() {
+        line(reader, alloc, base, read)?;
+    }
+    Ok(())
+}
+
+fn whole(reader: &mut Reader, alloc: Global, base: &[u8]) -> Result<Settings, Stop>
+    ensures { Gives (λ x. x) result reader.new.rest.now ((parameter_file base.now).reads reader.old.rest.now) }
+{
+    let mut read = Read {
+        left: MAX_SETTINGS,
+        settings: Settings {
+            active: List::empty(alloc),
+            list: List::empty(alloc),
+        },
+    };
+    lines(reader, alloc, base, &mut read)?;
+    Ok(read.settings)
+}
+
+/// What the tokens of a parameter file spell, in a file of this base name: a value that is wholly `$parfile` stands
+/// for it. The values of `ActiveThorns` are split at blanks, commas and line feeds, and a thorn that is named again,
+/// in any case, is ignored.
+///
+/// # Errors
+/// `Unexpected` at the first token with which no parameter file goes on, `BadNumber` at an index above 1,023, `Limit`
+/// at an owner or a name of more than 64 bytes, at a value of `ActiveThorns` that names such a thorn, or at the
+/// 4,097th setting, whichever comes first; each with the token's line.
+pub fn read_parfile(alloc: Global, tokens: &List<Token>, base: &Text) -> Result<Settings, CclFault>
+    // The answer is what the tokens spell, or the first fault.
+    ensures answers { Answers (parameter_file base.now).derives (λ x. x) tokens.now result }
+    // What is spelled is answered, unless memory runs out.
+    ensures only { AnswersOnly (parameter_file base.now).derives (λ x. x) tokens.now result }
+{
+    let tokens = tokens.as_slice();
+    let mut reader = Reader::new(tokens);
+    let answer = whole(&mut reader, alloc, base.as_slice());
+    reader.finish(tokens, answer)
+}
