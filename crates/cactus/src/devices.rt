@@ -1,0 +1,119 @@
+// Devices that fail in one call, and tell nothing.
+ghost use Rattle.std.specs.Prelude.{◌≡◌, IfErr};
+ghost use Rattle.cx_disk.specs.Cause.{HasCause};
+ghost use Rattle.cx_disk.specs.Disk.{untold};
+ghost use Rattle.cx_run.specs.Shelf.{nothing_held};
+
+use cx_disk::{Disk, DiskFault};
+use cx_run::{Shelf, ShelfFault};
+use cx_text::Text;
+use std::alloc::Global;
+
+/// A shelf that fails in its first call, and then gives these bytes for every name.
+#[derive(Drop)]
+pub struct LateShelf {
+    bytes: &'static [u8],
+    faults: u64,
+}
+
+impl LateShelf {
+    pub fn new(bytes: &'static [u8]) -> Self {
+        LateShelf { bytes, faults: 0 }
+    }
+}
+
+impl Shelf for LateShelf {
+    ghost tells = { ⊥ };
+
+    ghost held = { λ _. nothing_held };
+
+    ghost faults = { λ shelf. shelf.faults };
+
+    fn read(&mut self, alloc: Global, _name: &Text) -> Result<Option<Vec<u8>>, ShelfFault> {
+        if self.faults == 0 {
+            self.faults = 1;
+            return Err(ShelfFault::Failed);
+        }
+        Ok(Some(self.bytes.to_vec(alloc)?))
+    }
+}
+
+/// A disk that does nothing, and fails in the call of one number; the first call is number 0.
+#[derive(Drop)]
+pub struct HollowDisk {
+    calls: u64,
+    fail: u64,
+    mounted: bool,
+    faults: u64,
+}
+
+impl HollowDisk {
+    pub fn new(fail: u64) -> Self {
+        HollowDisk {
+            calls: 0,
+            fail,
+            mounted: false,
+            faults: 0,
+        }
+    }
+
+    /// How many calls there were.
+    pub fn calls(&self) -> u64 {
+        self.calls
+    }
+
+    fn counted(&mut self) -> Result<(), DiskFault>
+        ensures mounted { self.new.mounted ≡ self.old.mounted }
+        ensures cause { HasCause DiskFault.Failed self.old.faults self.new.faults result }
+        ensures failed { IfErr result (λ fault. fault ≡ DiskFault.Failed) }
+    {
+        let call = self.calls;
+        self.calls = call.saturating_add(1);
+        if call == self.fail {
+            self.faults = self.faults.saturating_add(1);
+            return Err(DiskFault::Failed);
+        }
+        Ok(())
+    }
+}
+
+impl Disk for HollowDisk {
+    ghost tells = { ⊥ };
+
+    ghost mounted = { λ disk. disk.mounted };
+
+    ghost file_count = { λ _. 9 };
+
+    ghost view = { λ _. untold };
+
+    ghost faults = { λ disk. disk.faults };
+
+    ghost sound = { λ _ tells. absurd tells };
+
+    fn mount(&mut self, _output: &Text, _checkpoints: &Text) -> Result<(), DiskFault> {
+        self.counted()?;
+        self.mounted = true;
+        Ok(())
+    }
+
+    fn length(&mut self, _file: u32) -> Result<u64, DiskFault> {
+        self.counted()?;
+        Ok(0)
+    }
+
+    fn read(&mut self, _file: u32, _at: u64, _into: &mut [u8]) -> Result<(), DiskFault> {
+        self.counted()
+    }
+
+    fn write_at(&mut self, _file: u32, _at: u64, _bytes: &[u8]) -> Result<(), DiskFault> {
+        self.counted()
+    }
+
+    fn cut(&mut self, _file: u32, _to: u64) -> Result<(), DiskFault> {
+        self.counted()
+    }
+
+    fn sync(&mut self, _file: u32) -> Result<(), DiskFault> {
+        self.counted()
+    }
+}
