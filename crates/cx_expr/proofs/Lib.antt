@@ -1,0 +1,9 @@
+pub mod Rows
+pub mod Equations
+pub mod ExprLaws
+pub mod AtMostLaws
+pub mod PartLaws
+pub mod WindowLaws
+pub mod OpenLaws
+pub mod OpenExprs
+pub mod NumberLaws

@@ -1,0 +1,177 @@
+//! The groups of variables.
+
+ghost use Rattle.std.specs.Prelude.{◌≡◌, ◌∷◌, []};
+ghost use Rattle.cx_text.specs.Reading.{Gives};
+ghost use Rattle.cx_text.specs.Rules.{token, loop, name_mark, choice, is_sign, nothing};
+ghost use Rattle.cx_text.specs.Lexemes.{first_mark, is_comma_or_word, is_quoted, quoted};
+ghost use Rattle.cx_text.specs.Tokens.{is_word};
+ghost use Rattle.cx_text.specs.declared.stop.Mark.TheVariants as marks;
+ghost use Rattle.cx_iface.specs.Groups.{group_name_of, group_name, copies, more_variables, variables, block, block_or_name, group};
+ghost use Rattle.cx_iface.specs.Attributes.{no_attributes, is_attribute, attribute};
+
+use crate::attributes::{Attributes, read_attributes, small};
+use crate::{Access, GType, Group};
+use cx_text::{CType, List, MAX_NAME, Mark, Reader, Stop, Text, Why};
+use std::alloc::Global;
+
+/// The variables of a group, and its description.
+#[derive(Drop)]
+struct Contents {
+    variables: List<Text>,
+    text: Text,
+}
+
+fn group_name_here(reader: &mut Reader, alloc: Global, full: bool) -> Result<Text, Stop>
+    ensures { Gives (λ n. n) result reader.new.rest.now ((token group_name_of (λ t. first_mark full marks.Limit (name_mark t))).reads reader.old.rest.now) }
+{
+    match reader.rest {
+        [token, rest @ ..] if token.is_word() && !token.is_named(b"FUNCTION") => {
+            if full || token.text.len() > MAX_NAME {
+                return Err(Stop::Fault(Why::Marked(Mark::Limit)));
+            }
+            let name = Text::from_slice(alloc, token.text.as_slice())?;
+            reader.rest = rest;
+            Ok(name)
+        }
+        _ => Err(Stop::Fault(Why::Unexpected)),
+    }
+}
+
+/// A group's name, which is past the limit where as many groups as may stand are there already.
+fn group_name(reader: &mut Reader, alloc: Global, full: bool) -> Result<Text, Stop>
+    ensures { Gives (λ n. n) result reader.new.rest.now ((group_name full).reads reader.old.rest.now) }
+{
+    let name = group_name_here(reader, alloc, full)?;
+    reader.skip_line_ends();
+    Ok(name)
+}
+
+/// The number of copies in brackets, if one stands here.
+fn copies(reader: &mut Reader) -> Result<Option<u32>, Stop>
+    ensures { Gives (λ k. k) result reader.new.rest.now ((choice (is_sign 91) copies (nothing None)).reads reader.old.rest.now) }
+{
+    if !reader.at_sign(b'[') {
+        return Ok(None);
+    }
+    reader.sign(b'[')?;
+    let copies = small(reader, 64)?;
+    reader.sign(b']')?;
+    Ok(Some(u32::from(copies)))
+}
+
+fn more_variables(
+    reader: &mut Reader,
+    alloc: Global,
+    variables: &mut List<Text>,
+) -> Result<(), Stop>
+    ensures { Gives (λ x. variables.new) result reader.new.rest.now ((more_variables variables.old).reads reader.old.rest.now) }
+{
+    reader.comma()?;
+    let variable = reader.new_name(alloc, variables.as_slice())?;
+    variables.push(variable)?;
+    Ok(())
+}
+
+fn variables_after(
+    reader: &mut Reader,
+    alloc: Global,
+    variables: &mut List<Text>,
+) -> Result<(), Stop>
+    ensures { Gives (λ x. variables.new) result reader.new.rest.now ((loop is_comma_or_word more_variables variables.old).reads reader.old.rest.now) }
+{
+    'variables: while reader.at_comma_or_word() {
+        more_variables(reader, alloc, variables)?;
+    }
+    Ok(())
+}
+
+/// The variables in a block.
+fn variables(reader: &mut Reader, alloc: Global) -> Result<List<Text>, Stop>
+    ensures { Gives (λ vs. vs) result reader.new.rest.now ((choice is_word variables (nothing [])).reads reader.old.rest.now) }
+{
+    let mut variables = List::empty(alloc);
+    if reader.at_word() {
+        let variable = reader.new_name(alloc, variables.as_slice())?;
+        variables.push(variable)?;
+        variables_after(reader, alloc, &mut variables)?;
+    }
+    Ok(variables)
+}
+
+/// A quoted text, if one stands here, else the text so far.
+fn text_after(reader: &mut Reader, alloc: Global, text: Text) -> Result<Text, Stop>
+    ensures { Gives (λ s. s) result reader.new.rest.now ((choice is_quoted quoted (nothing text)).reads reader.old.rest.now) }
+{
+    if reader.at_quoted() {
+        reader.quoted(alloc)
+    } else {
+        Ok(text)
+    }
+}
+
+fn block(reader: &mut Reader, alloc: Global, text: Text) -> Result<Contents, Stop>
+    ensures { Gives (λ c. c) result reader.new.rest.now ((block text).reads reader.old.rest.now) }
+{
+    reader.sign(b'{')?;
+    let variables = variables(reader, alloc)?;
+    reader.sign(b'}')?;
+    let text = text_after(reader, alloc, text)?;
+    Ok(Contents { variables, text })
+}
+
+/// The block of a group, or without one a variable of the group's own name.
+fn block_or_name(
+    reader: &mut Reader,
+    alloc: Global,
+    name: &Text,
+    text: Text,
+) -> Result<Contents, Stop>
+    ensures { Gives (λ c. c) result reader.new.rest.now ((block_or_name name.now text).reads reader.old.rest.now) }
+{
+    if reader.at_sign(b'{') {
+        return block(reader, alloc, text);
+    }
+    let mut variables = List::empty(alloc);
+    variables.push(Text::from_slice(alloc, name.as_slice())?)?;
+    Ok(Contents { variables, text })
+}
+
+/// A group behind its type.
+pub fn group(
+    reader: &mut Reader,
+    alloc: Global,
+    access: Access,
+    ctype: CType,
+    full: bool,
+) -> Result<Group, Stop>
+    ensures { Gives (λ g. g) result reader.new.rest.now ((group access ctype full).reads reader.old.rest.now) }
+{
+    reader.skip_line_ends();
+    let name = group_name(reader, alloc, full)?;
+    let copies = copies(reader)?;
+    let mut read = Attributes {
+        gtype: None,
+        dim: None,
+        levels: None,
+        distrib: false,
+        size: false,
+        ghostsize: false,
+        tags: false,
+        rest: List::empty(alloc),
+    };
+    read_attributes(reader, alloc, &mut read)?;
+    let text = text_after(reader, alloc, Text::new(Vec::new(alloc)))?;
+    let contents = block_or_name(reader, alloc, &name, text)?;
+    Ok(Group {
+        access,
+        ctype,
+        name,
+        copies,
+        gtype: read.gtype.unwrap_or(GType::Scalar),
+        dim: read.dim.unwrap_or(3),
+        levels: read.levels.unwrap_or(1),
+        rest: read.rest,
+        variables: contents.variables,
+        text: contents.text,
+    })
+}

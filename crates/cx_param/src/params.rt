@@ -1,0 +1,265 @@
+//! The param file.
+
+ghost use Rattle.std.specs.Prelude.{◌≡◌};
+ghost use Rattle.cx_text.specs.Grammar.{passes, head, Answers, AnswersOnly};
+ghost use Rattle.cx_text.specs.Reading.{Gives};
+ghost use Rattle.cx_text.specs.Rules.{loop};
+ghost use Rattle.cx_param.specs.Params.{decl, shared_scope, shared_block, shared_ranges, shared, declared, is_access, section, shares, access_line, is_entry, opening, declaring, entry, params};
+
+use crate::blocks::block;
+use crate::defaults::{default_of, unused_default};
+use crate::headings::{counted_ptype, is_ptype, ptype, read_heading};
+use crate::{PType, ParamDecl, Range, Scope};
+use cx_text::{CclFault, List, Reader, Stop, Text, Token};
+use std::alloc::Global;
+
+/// The most declarations of a file.
+const MAX_DECLS: usize = 4096;
+
+/// Behind which access line a declaration stands.
+#[derive(Drop)]
+enum Access {
+    Private,
+    Restricted,
+    Global,
+    Shares(Text),
+}
+
+/// What is read so far, and how many declarations may still stand.
+#[derive(Drop)]
+struct Read {
+    left: usize,
+    access: Access,
+    decls: List<ParamDecl>,
+}
+
+fn decl(reader: &mut Reader, alloc: Global, scope: Scope, full: bool) -> Result<ParamDecl, Stop>
+    ensures { Gives (λ x. x) result reader.new.rest.now ((decl scope full).reads reader.old.rest.now) }
+{
+    let ptype = counted_ptype(reader, full)?;
+    let heading = read_heading(reader, alloc)?;
+    let ranges = block(reader, alloc, ptype)?;
+    let default = default_of(reader, alloc, ptype)?;
+    Ok(ParamDecl {
+        scope,
+        ptype,
+        name: heading.name,
+        length: heading.length,
+        alias: heading.alias,
+        steer: heading.steer,
+        ranges,
+        default: Some(default),
+    })
+}
+
+fn shared_scope(
+    reader: &mut Reader,
+    alloc: Global,
+    implementation: &Text,
+    full: bool,
+) -> Result<Scope, Stop>
+    ensures { Gives (λ x. x) result reader.new.rest.now ((shared_scope implementation.now full).reads reader.old.rest.now) }
+{
+    if reader.at_keyword(b"USES") {
+        reader.counted_keyword(b"USES", full)?;
+        let name = Text::from_slice(alloc, implementation.as_slice())?;
+        Ok(Scope::Uses(name))
+    } else {
+        reader.counted_keyword(b"EXTENDS", full)?;
+        let name = Text::from_slice(alloc, implementation.as_slice())?;
+        Ok(Scope::Extends(name))
+    }
+}
+
+fn shared_block(reader: &mut Reader, alloc: Global, ptype: PType) -> Result<List<Range>, Stop>
+    ensures { Gives (λ x. x) result reader.new.rest.now ((shared_block ptype).reads reader.old.rest.now) }
+{
+    let ranges = block(reader, alloc, ptype)?;
+    unused_default(reader, alloc)?;
+    Ok(ranges)
+}
+
+fn shared_ranges(reader: &mut Reader, alloc: Global, ptype: PType) -> Result<List<Range>, Stop>
+    ensures { Gives (λ x. x) result reader.new.rest.now ((shared_ranges ptype).reads reader.old.rest.now) }
+{
+    if reader.at_sign(b'{') {
+        shared_block(reader, alloc, ptype)
+    } else {
+        Ok(List::empty(alloc))
+    }
+}
+
+fn shared(
+    reader: &mut Reader,
+    alloc: Global,
+    implementation: &Text,
+    full: bool,
+) -> Result<ParamDecl, Stop>
+    ensures { Gives (λ x. x) result reader.new.rest.now ((shared implementation.now full).reads reader.old.rest.now) }
+{
+    let scope = shared_scope(reader, alloc, implementation, full)?;
+    let ptype = ptype(reader)?;
+    let heading = read_heading(reader, alloc)?;
+    let ranges = shared_ranges(reader, alloc, ptype)?;
+    Ok(ParamDecl {
+        scope,
+        ptype,
+        name: heading.name,
+        length: heading.length,
+        alias: heading.alias,
+        steer: heading.steer,
+        ranges,
+        default: None,
+    })
+}
+
+fn declared(
+    reader: &mut Reader,
+    alloc: Global,
+    access: &Access,
+    full: bool,
+) -> Result<ParamDecl, Stop>
+    ensures { Gives (λ x. x) result reader.new.rest.now ((declared access.now full).reads reader.old.rest.now) }
+{
+    match access {
+        Access::Private => decl(reader, alloc, Scope::Private, full),
+        Access::Restricted => decl(reader, alloc, Scope::Restricted, full),
+        Access::Global => decl(reader, alloc, Scope::Global, full),
+        Access::Shares(implementation) => shared(reader, alloc, implementation, full),
+    }
+}
+
+fn is_access(token: &Token) -> bool
+    ensures { result ≡ is_access token.now }
+{
+    token.is_named(b"PRIVATE")
+        || token.is_named(b"RESTRICTED")
+        || token.is_named(b"GLOBAL")
+        || token.is_named(b"SHARES")
+}
+
+fn at_access(reader: &Reader) -> bool
+    ensures { result ≡ passes is_access (head reader.now.rest.now) }
+{
+    match reader.rest {
+        [token, ..] => is_access(token),
+        [] => false,
+    }
+}
+
+fn at_entry(reader: &Reader) -> bool
+    ensures { result ≡ passes is_entry (head reader.now.rest.now) }
+{
+    match reader.rest {
+        [token, ..] => {
+            is_access(token)
+                || is_ptype(token)
+                || token.is_named(b"USES")
+                || token.is_named(b"EXTENDS")
+        }
+        [] => false,
+    }
+}
+
+fn section(reader: &mut Reader, name: &[u8], access: Access) -> Result<Access, Stop>
+    ensures { Gives (λ x. x) result reader.new.rest.now ((section name.now access).reads reader.old.rest.now) }
+{
+    reader.keyword(name)?;
+    reader.sign(b':')?;
+    Ok(access)
+}
+
+fn shares(reader: &mut Reader, alloc: Global) -> Result<Access, Stop>
+    ensures { Gives (λ x. x) result reader.new.rest.now (shares.reads reader.old.rest.now) }
+{
+    reader.keyword(b"SHARES")?;
+    reader.sign(b':')?;
+    let name = reader.name(alloc)?;
+    Ok(Access::Shares(name))
+}
+
+fn access_line(reader: &mut Reader, alloc: Global) -> Result<Access, Stop>
+    ensures { Gives (λ x. x) result reader.new.rest.now (access_line.reads reader.old.rest.now) }
+{
+    if reader.at_keyword(b"PRIVATE") {
+        section(reader, b"PRIVATE", Access::Private)
+    } else if reader.at_keyword(b"RESTRICTED") {
+        section(reader, b"RESTRICTED", Access::Restricted)
+    } else if reader.at_keyword(b"GLOBAL") {
+        section(reader, b"GLOBAL", Access::Global)
+    } else {
+        shares(reader, alloc)
+    }
+}
+
+fn opening(reader: &mut Reader, alloc: Global, read: &mut Read) -> Result<(), Stop>
+    ensures { Gives (λ x. read.new) result reader.new.rest.now ((opening read.old).reads reader.old.rest.now) }
+{
+    read.access = access_line(reader, alloc)?;
+    Ok(())
+}
+
+fn declaring(reader: &mut Reader, alloc: Global, read: &mut Read) -> Result<(), Stop>
+    ensures { Gives (λ x. read.new) result reader.new.rest.now ((declaring read.old).reads reader.old.rest.now) }
+{
+    let decl = declared(reader, alloc, &read.access, read.left == 0)?;
+    read.decls.push(decl)?;
+    read.left = read.left.saturating_sub(1);
+    Ok(())
+}
+
+fn entry(reader: &mut Reader, alloc: Global, read: &mut Read) -> Result<(), Stop>
+    ensures { Gives (λ x. read.new) result reader.new.rest.now ((entry read.old).reads reader.old.rest.now) }
+{
+    if at_access(reader) {
+        opening(reader, alloc, read)
+    } else {
+        declaring(reader, alloc, read)
+    }
+}
+
+fn entries(reader: &mut Reader, alloc: Global, read: &mut Read) -> Result<(), Stop>
+    ensures { Gives (λ x. read.new) result reader.new.rest.now ((loop is_entry entry read.old).reads reader.old.rest.now) }
+{
+    'turns: while at_entry(reader) {
+        entry(reader, alloc, read)?;
+    }
+    Ok(())
+}
+
+fn whole(reader: &mut Reader, alloc: Global) -> Result<List<ParamDecl>, Stop>
+    ensures { Gives (λ x. x) result reader.new.rest.now (params.reads reader.old.rest.now) }
+{
+    let mut read = Read {
+        left: MAX_DECLS,
+        access: Access::Private,
+        decls: List::empty(alloc),
+    };
+    reader.skip_line_ends();
+    entries(reader, alloc, &mut read)?;
+    Ok(read.decls)
+}
+
+/// What the tokens of a param file spell: its declarations, uses and extensions, in file order.
+///
+/// A declaration stands behind `private:`, `restricted:` or `global:`, and is private before the first of these. Behind
+/// `shares: IMPLEMENTATION` uses and extensions stand, up to the next such line. Each text of a list with commas is a
+/// range of its own. An optional part that can stand is taken, so `0: 5` is one range; `0:5:-3` is two, since a step
+/// has no sign. See the Cactus 4 Users' Guide, appendix on param.ccl.
+///
+/// # Errors
+/// `Unexpected` at the first token with which no param file goes on. `BadNumber` at a number that 64 signed bits don't
+/// hold, at a step of 0, of more than 64 bits or without a low end, and at a length outside 1 to 1,024. `Limit` at a
+/// name of more than 64 bytes and at the first token of the 4,097th declaration, use or extension. Whichever comes
+/// first; each with the token's line.
+pub fn read_params(alloc: Global, tokens: &List<Token>) -> Result<List<ParamDecl>, CclFault>
+    // The answer is what the tokens spell, or the first fault.
+    ensures answers { Answers params.derives (λ x. x) tokens.now result }
+    // What is spelled is answered, unless memory runs out.
+    ensures only { AnswersOnly params.derives (λ x. x) tokens.now result }
+{
+    let tokens = tokens.as_slice();
+    let mut reader = Reader::new(tokens);
+    let answer = whole(&mut reader, alloc);
+    reader.finish(tokens, answer)
+}

@@ -1,0 +1,65 @@
+//! Tokens as text.
+
+ghost use Rattle.std.specs.Prelude.{◌≡◌, ◌++◌, IfOk};
+ghost use Rattle.cx_text.specs.Printing.{escaped, escaped_byte, spelling, gap, printed};
+
+use cx_text::{Kind, Memory, Text, Token};
+use std::alloc::Global;
+
+fn push_escaped_byte(text: &mut Text, byte: u8) -> Result<(), Memory>
+    ensures { IfOk result (λ x. text.new ≡ text.old ++ escaped_byte byte) }
+{
+    if byte == b'"' || byte == b'\\' {
+        text.push_slice(&[b'\\', byte])
+    } else {
+        text.push_slice(&[byte])
+    }
+}
+
+fn push_escaped(text: &mut Text, bytes: &[u8]) -> Result<(), Memory>
+    ensures { IfOk result (λ x. text.new ≡ text.old ++ escaped bytes.now) }
+{
+    for byte in bytes {
+        push_escaped_byte(text, *byte)?;
+    }
+    Ok(())
+}
+
+/// Adds a token as it is written.
+pub fn push_spelling(text: &mut Text, token: &Token) -> Result<(), Memory>
+    ensures { IfOk result (λ x. text.new ≡ text.old ++ spelling token.now.kind token.now.text) }
+{
+    match token.kind {
+        Kind::Word | Kind::Number | Kind::Sign => text.push_slice(token.text.as_slice()),
+        Kind::Quoted => {
+            text.push_slice(b"\"")?;
+            push_escaped(text, token.text.as_slice())?;
+            text.push_slice(b"\"")
+        }
+        Kind::LineEnd => text.push_slice(b"\n"),
+    }
+}
+
+/// Adds a token to a line, which is fresh where it has no token yet.
+fn push_token(text: &mut Text, fresh: bool, token: &Token) -> Result<(), Memory>
+    ensures { IfOk result (λ x. text.new ≡ text.old ++ (gap fresh token.now ++ spelling token.now.kind token.now.text)) }
+{
+    if fresh || token.is_line_end() {
+        return push_spelling(text, token);
+    }
+    text.push_slice(b" ")?;
+    push_spelling(text, token)
+}
+
+/// The text of these tokens: each as it is written, one blank between two tokens of a line, and a line feed for LineEnd.
+pub fn print_all(alloc: Global, tokens: &[Token]) -> Result<Text, Memory>
+    ensures { IfOk result (λ text. text ≡ printed tokens.now) }
+{
+    let mut text = Text::new(Vec::new(alloc));
+    let mut fresh = true;
+    for token in tokens {
+        push_token(&mut text, fresh, token)?;
+        fresh = token.is_line_end();
+    }
+    Ok(text)
+}
