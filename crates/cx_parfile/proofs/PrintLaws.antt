@@ -20,7 +20,8 @@ use Rattle.cx_parfile.specs.declared.reader.Read.{Read}
 use Rattle.cx_parfile.specs.Values.{named_in, is_empty, value_in, thorns_in, activate_all}
 use Rattle.cx_parfile.specs.ParFile.{ACTIVETHORNS, is_long, is_long_owner, name_of, name_mark, is_active, behind_word, behind, line, parameter_file}
 use Rattle.cx_parfile.specs.Printed.{joined, active_line, full_name, index_tokens, setting_line, settings_tokens, unlined_setting, unlined}
-use Rattle.cx_parfile.proofs.NumberLaws.{decimal_again, decimal_digits, decimal_full}
+use Rattle.cx_text.proofs.DecimalLaws.{decimal_again}
+use Rattle.cx_parfile.proofs.NumberLaws.{decimal_digits, decimal_full}
 use Rattle.cx_parfile.proofs.NameLaws.{named_again, IsThorn, thorns_again, none_long, joined_separated, separated_value}
 use Rattle.cx_parfile.proofs.ParLaws.{line_short}
 use Rattle.cx_parfile.proofs.FitLaws.{IndexFits, Indexed, SettingFits, lines_of, Fits}

@@ -3,8 +3,8 @@ use Rattle.std.proofs.Common.{◌≡◌, ℕ, zero, suc, Bool, true, false, cond
 use Rattle.cx_text.specs.declared.stop.Mark.{Mark}
 use Rattle.cx_text.specs.declared.token.Token.{Token}
 use Rattle.cx_text.specs.Grammar.{head, passes, Spells}
-use Rattle.cx_text.specs.Reading.{Answer, Read, unless_marked, found, go_on, read_up_to, read_many}
-use Rattle.cx_text.specs.Rules.{Rule, token, nothing, ◌>>=◌, choice, turns, last, loop, line_ends, lexeme}
+use Rattle.cx_text.specs.Reading.{Answer, Read, unless_marked, found, read_marked, go_on, read_up_to, read_many}
+use Rattle.cx_text.specs.Rules.{Rule, token, nothing, ◌>>=◌, lookahead, choice, turns, last, loop, line_ends, lexeme}
 use Rattle.cx_text.specs.Lexemes.{kept, comma, some_names, names, braces}
 use Rattle.cx_text.proofs.Laws.{ok_is}
 use Rattle.cx_text.proofs.RuleLaws.{Good}
@@ -84,6 +84,11 @@ up_to_seen {C} {D} e test other h p q each (suc n) c ts =
     let turn = ap (λ a. go_on a (λ y us. go_on (read_up_to other q (λ d z. z) n y us) (λ ys vs. Ok (y ∷ ys, vs)))) (each c ts) ∙ go_seen e (map e) (p c ts) (λ x us. go_on (read_up_to test p (λ d z. z) n x us) (λ xs vs. Ok (x ∷ xs, vs))) (λ y us. go_on (read_up_to other q (λ d z. z) n y us) (λ ys vs. Ok (y ∷ ys, vs))) more in
     rw (passes_seen test other h ts) (way_seen (map e) (passes test (head ts)) _ _ _ _ turn refl)
 
+marked_seen : {A B : Type 0} (e : A → B) (value : Token → Option A) (test : Token → Bool) (mark : Bool → Token → Option Mark) (value_ : Token → Option B) (test_ : Token → Bool) (mark_ : Bool → Token → Option Mark) → ((t : Token) → value_ (kept t) ≡ option_seen e (value t)) → ((t : Token) → test_ (kept t) ≡ test t) → ((b : Bool) (t : Token) → mark_ b (kept t) ≡ mark b t) → (ts : List Token)
+    → read_marked value_ test_ mark_ (unlined ts) ≡ seen e (read_marked value test mark ts)
+marked_seen e value test mark value_ test_ mark_ v h m [] = refl
+marked_seen e value test mark value_ test_ mark_ v h m (t ∷ ts) = rw (v t, passes_seen test test_ h ts, m (passes test (head ts)) t) (found_seen e (value t) (mark (passes test (head ts)) t) t ts)
+
 length_seen : (ts : List Token) → length (unlined ts) ≡ length ts
 length_seen [] = refl
 length_seen (t ∷ ts) = ap suc (length_seen ts)
@@ -131,6 +136,13 @@ same_lexeme v m = blind_lexeme (λ t. v t ∙ sym (option_same _)) m
 
 pub same_also : {A B : Type 0} {r : Rule A} {f : A → Rule B} → Blind (λ x. x) r r → ((x : A) → Blind (λ y. y) (f x) (f x)) → Blind (λ y. y) (r >>= f) (r >>= f)
 same_also first second = blind_also first (λ x y eq. rw eq (second x))
+
+pub same_lookahead : {A B : Type 0} {value : Token → Option A} {test : Token → Bool} {mark : Bool → Token → Option Mark} {f : A → Rule B} → ((t : Token) → value (kept t) ≡ value t) → ((t : Token) → test (kept t) ≡ test t) → ((b : Bool) (t : Token) → mark b (kept t) ≡ mark b t) → ((x : A) → Blind (λ y. y) (f x) (f x)) → Blind (λ y. y) (lookahead value test mark f) (lookahead value test mark f)
+same_lookahead {A} {B} {value} {test} {mark} {f} v h m second = record {
+  law = λ ts.
+      ap (λ a. go_on a (λ y. (f y).reads)) (marked_seen (λ x. x) value test mark value test mark (λ t. v t ∙ sym (option_same _)) h m ts)
+      ∙ go_seen (λ x. x) (λ x. x) (read_marked value test mark ts) (λ x. (f x).reads) (λ x. (f x).reads) (λ x us. (second x).law us);
+}
 
 pub same_choice : {A : Type 0} {test : Token → Bool} {r s : Rule A} → ((t : Token) → test (kept t) ≡ test t) → Blind (λ x. x) r r → Blind (λ x. x) s s → Blind (λ x. x) (choice test r s) (choice test r s)
 same_choice h first second = blind_choice h first second

@@ -12,7 +12,7 @@ use Rattle.cx_text.specs.declared.stop.Mark.{Mark}
 use Rattle.cx_text.specs.declared.token.Token.{Token}
 use Rattle.cx_text.specs.Grammar.{Item, Grammar, clean, next_of, passes, Spells}
 use Rattle.cx_text.specs.Grammar as grammar
-use Rattle.cx_text.specs.Rules.{Rule, token, nothing, ◌>>=◌, choice, last, loop, line_ends, lexeme}
+use Rattle.cx_text.specs.Rules.{Rule, token, nothing, ◌>>=◌, lookahead, choice, last, loop, line_ends, lexeme}
 
 -- no token has a mark, and T holds of each
 abbrev pub Unmarked : (Token → Type 0) → List Item → Type 0
@@ -82,6 +82,15 @@ holds_loop {C} {T} {test} {r} {c} P step p = record {
       let parts : ms ≡ d.1 ++ d.2 = d.3 in
       let us = subst (λ (is : List Item). Unmarked T is) parts u in
       subst (λ (y : C). P y) (sym d.5.0) (many_holds T test r P step c d.0 d.1 (next_of d.2 next) p d.4 (unmarked_front T d.1 d.2 us));
+}
+
+-- what holds behind each token that may stand
+pub holds_lookahead : {A B : Type 0} {T : Token → Type 0} {value : Token → Option A} {test : Token → Bool} {mark : Bool → Token → Option Mark} {f : A → Rule B} {P : Option Token → B → Type 0} → ((t : Token) (x : A) (b : Bool) → T t → value t ≡ Some x → mark b t ≡ None → Holds T (f x) (λ n y. passes test n ≡ b → P (Some t) y)) → Holds T (lookahead value test mark f) P
+holds_lookahead {A} {B} {T} {value} {test} {mark} {f} {P} h = record {
+  law = λ y ms next d u.
+      let us = subst (λ (is : List Item). Unmarked T is) d.4 u in
+      let q = (h d.1 d.0 (passes test (next_of d.2 next)) us.1 d.3 us.0).law y d.2 next d.5 us.2 refl in
+      subst (λ (is : List Item). P (next_of is next) y) (sym d.4) q;
 }
 
 -- anything holds no more than this
@@ -166,7 +175,7 @@ name_is_short t n e m =
     let w = name_is_word t n e in
     subst (λ (text : List ℕ). length text ≤ 64) w.1 (ltb-false 64 (length t.text) short)
 
-first_none : (b : Bool) (m : Mark) (other : Option Mark) → first_mark b m other ≡ None → (b ≡ false) × (other ≡ None)
+pub first_none : (b : Bool) (m : Mark) (other : Option Mark) → first_mark b m other ≡ None → (b ≡ false) × (other ≡ None)
 first_none true m other e = absurd cc
 first_none false m other e = (refl, e)
 

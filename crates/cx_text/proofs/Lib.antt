@@ -5,6 +5,8 @@ pub mod Loops
 pub mod Whole
 pub mod RuleLaws
 pub mod LexemeLaws
+pub mod Lookahead
+pub mod Never
 pub mod Finish
 pub mod Printing
 pub mod Holds
@@ -17,3 +19,4 @@ pub mod StepLaws
 pub mod ReadLaws
 pub mod PrintLaws
 pub mod WrittenLaws
+pub mod DecimalLaws

@@ -35,7 +35,7 @@ end_stops {A} x (t ∷ ts) w rest e =
     let h = err_is {A = A} Unexpected w (t ∷ ts) rest e in
     subst (λ (r : List Token). Stopped (read_end x) (ended x) (λ n. n ≡ None) (t ∷ ts) w r) h.1
     (subst (λ (v : Why). Stopped (read_end x) (ended x) (λ n. n ≡ None) (t ∷ ts) v (t ∷ ts)) h.0
-    (record { before = []; parts = refl; begins = λ next n. (x, [], (refl, refl, n), tt); same = λ other o. end_same x t other o }))
+    (record { before = []; parts = refl; begins = λ next n. (x, [], (refl, refl, n), tt); same = λ n other o. end_same x t other o }))
 
 reads_end : {A : Type 0} (x : A) → Reads (read_end x) (ended x) (λ n. n ≡ None)
 reads_end x = record {
@@ -99,7 +99,7 @@ whole_fault p S G r g Unexpected ts rest e =
       (
         (b.0, b.1, of_whole S b.0 (clean k.before ++ b.1) None b.2),
         λ x ms more s q h.
-            told_marks x ms [] more (sym ((reads_whole p S G r g).again x ms [] (to_whole S x ms s)) ∙ ap (read_whole p) (append-nil (tokens ms) ∙ q) ∙ k.same more h),
+            told_marks x ms [] more (sym ((reads_whole p S G r g).again x ms [] (to_whole S x ms s)) ∙ ap (read_whole p) (append-nil (tokens ms) ∙ q) ∙ k.same (λ q. absurd cc) more h),
       ),
     )
 whole_fault p S G r g (Marked m) ts rest e =

@@ -46,6 +46,10 @@ nothing x y ms next = (y ≡ x) × (ms ≡ [])
 abbrev pub also : {A B : Type 0} → Grammar A → (A → Grammar B) → Grammar B
 also S R y ms next = (x : _) × (front : List Item) × (back : List Item) × (ms ≡ front ++ back) × S x front (next_of back next) × R x y back next
 
+-- one token that means a value, with a mark that depends on whether the token behind it passes, and then a part
+abbrev pub lookahead : {A B : Type 0} → (Token → Option A) → (Token → Bool) → (Bool → Token → Option Mark) → (A → Grammar B) → Grammar B
+lookahead value test mark R y ms next = (x : _) × (t : Token) × (back : List Item) × (value t ≡ Some x) × (ms ≡ (t, mark (passes test (next_of back next)) t) ∷ back) × R x y back next
+
 -- the one where the next token passes, else the other
 abbrev pub choice : {A : Type 0} → (Token → Bool) → Grammar A → Grammar A → Grammar A
 choice test S R x ms next = MatchBool (passes test (next_of ms next)) (S x ms next) (R x ms next)

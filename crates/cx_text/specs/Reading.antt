@@ -39,6 +39,10 @@ go_on (Err e) f = Err e
 abbrev pub read_also : {A B : Type 0} → Read A → (A → Read B) → Read B
 read_also p f ts = go_on (p ts) f
 
+abbrev pub read_marked : {A : Type 0} → (Token → Option A) → (Token → Bool) → (Bool → Token → Option Mark) → Read A
+read_marked value test mark [] = Err (Unexpected, [])
+read_marked value test mark (t ∷ ts) = found (value t) (mark (passes test (head ts)) t) t ts
+
 abbrev pub read_choice : {A : Type 0} → (Token → Bool) → Read A → Read A → Read A
 read_choice test p q ts = cond (passes test (head ts)) (p ts) (q ts)
 

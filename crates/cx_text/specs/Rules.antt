@@ -10,7 +10,7 @@ use Rattle.cx_text.specs.declared.token.Token.{Token}
 use Rattle.cx_text.specs.Tokens.{is_word, is_line_end}
 use Rattle.cx_text.specs.Grammar.{Grammar}
 use Rattle.cx_text.specs.Grammar as grammar
-use Rattle.cx_text.specs.Reading.{Read, read_token, read_nothing, read_also, read_choice, read_many}
+use Rattle.cx_text.specs.Reading.{Read, read_token, read_nothing, read_also, read_marked, read_choice, read_many}
 
 pub record Rule (A : Type 0) : Type 1 where
   pub derives : Grammar A
@@ -25,6 +25,10 @@ nothing x = record { derives = grammar.nothing x; reads = read_nothing x }
 infixl 10 ◌>>=◌
 abbrev pub ◌>>=◌ : {A B : Type 0} → Rule A → (A → Rule B) → Rule B
 r >>= f = record { derives = grammar.also r.derives (λ x. (f x).derives); reads = read_also r.reads (λ x. (f x).reads) }
+
+-- a token whose mark depends on whether the one behind it passes, and then a rule
+abbrev pub lookahead : {A B : Type 0} → (Token → Option A) → (Token → Bool) → (Bool → Token → Option Mark) → (A → Rule B) → Rule B
+lookahead value test mark f = record { derives = grammar.lookahead value test mark (λ x. (f x).derives); reads = read_also (read_marked value test mark) (λ x. (f x).reads) }
 
 abbrev pub choice : {A : Type 0} → (Token → Bool) → Rule A → Rule A → Rule A
 choice test r s = record { derives = grammar.choice test r.derives s.derives; reads = read_choice test r.reads s.reads }
