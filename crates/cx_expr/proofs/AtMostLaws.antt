@@ -1,19 +1,19 @@
 -- A rule of which at most so many tokens may be taken keeps what the rule keeps.
-use Rattle.std.proofs.Common.{◌≡◌, ℕ, zero, suc, ◌+◌, ◌-◌, ◌<◌, ◌≤◌, Bool, true, false, cond, List, [], ◌∷◌, ◌++◌, length, Option, Some, None, Result, Ok, Err, refl, sym, ap, subst, ◌∙◌, inl, inr, append_assoc, arith}
-use Rattle.std.specs.Prelude.{nat_lt, ◌⊎◌, not, ◌&&◌, nat_eq}
+use Rattle.std.proofs.Common.{◌≡◌, ℕ, suc, ◌<◌, ◌≤◌, Bool, true, false, cond, List, [], ◌∷◌, ◌++◌, length, Option, Some, None, Ok, Err, refl, sym, ap, subst, ◌∙◌, inl, inr, append_assoc, arith}
+use Rattle.std.specs.Prelude.{nat_lt, ◌⊎◌}
 use Rattle.std.proofs.lemmas.List.{append-nil, length-append}
 use Rattle.cx_text.specs.declared.stop.Mark.{Mark}
-use Rattle.cx_text.specs.declared.stop.Mark.TheVariants.{Limit}
+use Rattle.cx_text.specs.declared.stop.Mark.TheVariants.{Limit, Repeated}
 use Rattle.cx_text.specs.declared.stop.Why.{Why}
 use Rattle.cx_text.specs.declared.stop.Why.TheVariants.{Unexpected, Marked}
 use Rattle.cx_text.specs.declared.token.Token.{Token}
-use Rattle.cx_text.specs.Tokens.{is_line_end}
 use Rattle.cx_text.specs.Grammar.{Item, Grammar, tokens, clean, head, next_of}
 use Rattle.cx_text.specs.Reading.{Answer, Read}
 use Rattle.cx_text.specs.Rules.{Rule}
-use Rattle.cx_text.proofs.Laws.{told, Shows, Taken, Stopped, Reads, ok_is, err_is, tokens-clean, clean-append, head-same, taken_same}
-use Rattle.cx_text.proofs.RuleLaws.{Good, Full, Ends, Part}
-use Rattle.cx_expr.specs.AtMost.{or_limit, left_behind, is_over, limit_mark, limited, derives_at_most, past, until, read_at_most, at_most}
+use Rattle.cx_text.proofs.Laws.{told, Shows, Taken, Stopped, Reads, err_is, clean-append, taken_same}
+use Rattle.cx_text.proofs.RuleLaws.{Good, Part}
+use Rattle.cx_text.proofs.Never.{Never}
+use Rattle.cx_expr.specs.AtMost.{left_behind, is_over, limit_mark, limited, derives_at_most, past, until, read_at_most, at_most}
 
 -- where an answer stands
 abbrev pub left_of : {A : Type 0} → Answer A → List Token
@@ -188,6 +188,10 @@ longer (f ∷ front) us (o ∷ other) rest e h =
     let l = longer front us other rest tail h in
     record { mid = l.mid; start = rw same (ap (λ (vs : List Token). o ∷ vs) l.start); end = l.end }
 
+-- reading never stops at a repeated word
+abbrev pub Unrepeated : {A : Type 0} → Read A → Type 0
+Unrepeated p = (ts rest : List Token) → p ts ≡ Err (Marked Repeated, rest) → ⊥
+
 head-behind : (mid : List Token) (t : Token) (us vs : List Token) → head (mid ++ t ∷ us) ≡ head (mid ++ t ∷ vs)
 head-behind [] t us vs = refl
 head-behind (m ∷ mid) t us vs = refl
@@ -197,8 +201,8 @@ record Local {A : Type 0} (p : Read A) (front : List Token) (t : Token) (us : Li
   place : left_of a ≡ mid ++ t ∷ us
   same : (vs : List Token) → p (front ++ t ∷ vs) ≡ moved a (mid ++ t ∷ vs)
 
-local : {A : Type 0} (p : Read A) (S : Grammar A) (G : Option Token → Type 0) → Reads p S G → (front : List Token) (t : Token) (us : List Token) (a : Answer A) → p (front ++ t ∷ us) ≡ a → length (t ∷ us) ≤ length (left_of a) → Local p front t us a
-local p S G r front t us (Ok x) e h =
+local : {A : Type 0} (p : Read A) (S : Grammar A) (G : Option Token → Type 0) → Reads p S G → Unrepeated p → (front : List Token) (t : Token) (us : List Token) (a : Answer A) → p (front ++ t ∷ us) ≡ a → length (t ∷ us) ≤ length (left_of a) → Local p front t us a
+local p S G r never front t us (Ok x) e h =
     let k = r.takes (front ++ t ∷ us) x.0 x.1 e in
     let l = longer front (t ∷ us) k.front x.1 k.parts h in
     record {
@@ -208,7 +212,7 @@ local p S G r front t us (Ok x) e h =
           ap p (ap (λ (ws : List Token). ws ++ t ∷ vs) l.start ∙ append_assoc k.front l.mid (t ∷ vs))
           ∙ taken_same p S G r (front ++ t ∷ us) x.0 x.1 k (l.mid ++ t ∷ vs) (head-behind l.mid t vs us ∙ sym (ap head l.end));
     }
-local p S G r front t us (Err d) e h =
+local p S G r never front t us (Err d) e h =
     let k = r.stops (front ++ t ∷ us) d.0 d.1 e in
     let l = longer front (t ∷ us) k.before d.1 k.parts h in
     record {
@@ -216,7 +220,7 @@ local p S G r front t us (Err d) e h =
       place = l.end;
       same = λ vs.
           ap p (ap (λ (ws : List Token). ws ++ t ∷ vs) l.start ∙ append_assoc k.before l.mid (t ∷ vs))
-          ∙ k.same (l.mid ++ t ∷ vs) (head-behind l.mid t vs us ∙ sym (ap head l.end));
+          ∙ k.same (λ q. never (front ++ t ∷ us) d.1 (e ∙ ap (λ (w : Why). Err (w, d.1)) q)) (l.mid ++ t ∷ vs) (head-behind l.mid t vs us ∙ sym (ap head l.end));
     }
 
 -- ---- where reading is stopped
@@ -259,29 +263,29 @@ left_of_moved (Ok x) rest = refl
 left_of_moved (Err e) rest = refl
 
 -- reading goes past a token whatever follows it
-past_same : {A : Type 0} (p : Read A) (S : Grammar A) (G : Option Token → Type 0) → Reads p S G → (front : List Token) (t : Token) (rest us : List Token) → length (left_of (p (front ++ t ∷ rest))) < length (t ∷ rest) → length (left_of (p (front ++ t ∷ us))) < length (t ∷ us)
-past_same p S G r front t rest us h =
+past_same : {A : Type 0} (p : Read A) (S : Grammar A) (G : Option Token → Type 0) → Reads p S G → Unrepeated p → (front : List Token) (t : Token) (rest us : List Token) → length (left_of (p (front ++ t ∷ rest))) < length (t ∷ rest) → length (left_of (p (front ++ t ∷ us))) < length (t ∷ us)
+past_same p S G r never front t rest us h =
     elim (cut_cases (t ∷ us) (p (front ++ t ∷ us))) [
       | inr g ↦ g
       | inl g ↦ absurd (
-          let l = local p S G r front t us (p (front ++ t ∷ us)) refl g in
+          let l = local p S G r never front t us (p (front ++ t ∷ us)) refl g in
           let e : left_of (p (front ++ t ∷ rest)) ≡ l.mid ++ t ∷ rest = ap left_of (l.same rest) ∙ left_of_moved (p (front ++ t ∷ us)) (l.mid ++ t ∷ rest) in
           let m : length (left_of (p (front ++ t ∷ rest))) ≡ length (l.mid ++ t ∷ rest) = ap length e in
           let n = length-append l.mid (t ∷ rest) in
           omega (arith, m, n, h))
     ]
 
-over_same : {A : Type 0} (n k : ℕ) (p : Read A) (S : Grammar A) (G : Option Token → Type 0) → Reads p S G → (front : List Token) (t : Token) (rest : List Token) → is_over k t ≡ true → ((other : List Token) → past n (front ++ other) ≡ past k other) → length (left_of (p (front ++ t ∷ rest))) < length (t ∷ rest)
+over_same : {A : Type 0} (n k : ℕ) (p : Read A) (S : Grammar A) (G : Option Token → Type 0) → Reads p S G → Unrepeated p → (front : List Token) (t : Token) (rest : List Token) → is_over k t ≡ true → ((other : List Token) → past n (front ++ other) ≡ past k other) → length (left_of (p (front ++ t ∷ rest))) < length (t ∷ rest)
     → (other : List Token) → head other ≡ Some t → read_at_most n p (front ++ other) ≡ Err (Marked Limit, other)
-over_same n k p S G r front t rest over places h [] e = absurd cc
-over_same n k p S G r front t rest over places h (u ∷ us) e =
+over_same n k p S G r never front t rest over places h [] e = absurd cc
+over_same n k p S G r never front t rest over places h (u ∷ us) e =
     let same : u ≡ t = cc in
     let place : past n (front ++ t ∷ us) ≡ t ∷ us = places (t ∷ us) ∙ rw over refl in
-    rw same (ap (λ (vs : List Token). until vs (p (front ++ t ∷ us))) place ∙ until_cut (t ∷ us) (p (front ++ t ∷ us)) (past_same p S G r front t rest us h))
+    rw same (ap (λ (vs : List Token). until vs (p (front ++ t ∷ us))) place ∙ until_cut (t ∷ us) (p (front ++ t ∷ us)) (past_same p S G r never front t rest us h))
 
 -- the limit is passed
-over_stops : {A : Type 0} (n : ℕ) (p : Read A) (S : Grammar A) (G : Option Token → Type 0) → Reads p S G → (ts : List Token) → length (left_of (p ts)) < length (past n ts) → Stopped (read_at_most n p) (derives_at_most n S) G ts (Marked Limit) (past n ts)
-over_stops n p S G r ts h =
+over_stops : {A : Type 0} (n : ℕ) (p : Read A) (S : Grammar A) (G : Option Token → Type 0) → Reads p S G → Unrepeated p → (ts : List Token) → length (left_of (p ts)) < length (past n ts) → Stopped (read_at_most n p) (derives_at_most n S) G ts (Marked Limit) (past n ts)
+over_stops n p S G r never ts h =
     let f = passed n ts (omega (arith, h)) in
     let less : length (left_of (p (f.front ++ f.t ∷ f.rest))) < length (f.t ∷ f.rest) = subst (λ (us : List Token). length (left_of (p (f.front ++ f.t ∷ f.rest))) < length us) f.place (subst (λ (us : List Token). length (left_of (p us)) < length (past n ts)) f.parts h) in
     subst (λ (us : List Token). Stopped (read_at_most n p) (derives_at_most n S) G ts (Marked Limit) us) (sym f.place)
@@ -289,7 +293,7 @@ over_stops n p S G r ts h =
       before = f.front;
       parts = f.parts;
       begins = λ next g. let b = goes_past p S G r f.front f.t f.rest (p (f.front ++ f.t ∷ f.rest)) refl less next g in over_begins n f.k S f.front f.t f.rest b.1 b.0 next f.over f.marks b.2;
-      same = over_same n f.k p S G r f.front f.t f.rest f.over f.places less;
+      same = λ q. over_same n f.k p S G r never f.front f.t f.rest f.over f.places less;
     })
 
 -- a fault that comes before
@@ -314,27 +318,27 @@ before_stops n p S G r ts w rest e h =
       before = k.before;
       parts = k.parts;
       begins = λ next g. let b = k.begins next g in (b.0, limited i.k b.1, (clean k.before ++ b.1, sym (i.marks b.1), b.2), shows_limited i.k w rest b.1 b.3);
-      same = λ other o.
+      same = λ q other o.
           let short : length (past n (k.before ++ other)) ≤ length other = subst (λ (us : List Token). length us ≤ length other) (sym (i.places other)) (past_short i.k other) in
-          ap (until (past n (k.before ++ other))) (k.same other o) ∙ until_kept (past n (k.before ++ other)) (Err (w, other)) short;
+          ap (until (past n (k.before ++ other))) (k.same q other o) ∙ until_kept (past n (k.before ++ other)) (Err (w, other)) short;
     }
 
-at_most_stops : {A : Type 0} (n : ℕ) (p : Read A) (S : Grammar A) (G : Option Token → Type 0) → Reads p S G → (ts : List Token) (w : Why) (rest : List Token) → read_at_most n p ts ≡ Err (w, rest) → Stopped (read_at_most n p) (derives_at_most n S) G ts w rest
-at_most_stops {A} n p S G r ts w rest e =
+at_most_stops : {A : Type 0} (n : ℕ) (p : Read A) (S : Grammar A) (G : Option Token → Type 0) → Reads p S G → Unrepeated p → (ts : List Token) (w : Why) (rest : List Token) → read_at_most n p ts ≡ Err (w, rest) → Stopped (read_at_most n p) (derives_at_most n S) G ts w rest
+at_most_stops {A} n p S G r never ts w rest e =
     elim (cut_cases (past n ts) (p ts)) [
       | inr h ↦
           let q = err_is {A = A} (Marked Limit) w (past n ts) rest (sym (until_cut (past n ts) (p ts) h) ∙ e) in
-          subst (λ (us : List Token). Stopped (read_at_most n p) (derives_at_most n S) G ts w us) q.1 (subst (λ (v : Why). Stopped (read_at_most n p) (derives_at_most n S) G ts v (past n ts)) q.0 (over_stops n p S G r ts h))
+          subst (λ (us : List Token). Stopped (read_at_most n p) (derives_at_most n S) G ts w us) q.1 (subst (λ (v : Why). Stopped (read_at_most n p) (derives_at_most n S) G ts v (past n ts)) q.0 (over_stops n p S G r never ts h))
       | inl h ↦
           let q : p ts ≡ Err (w, rest) = sym (until_kept (past n ts) (p ts) h) ∙ e in
           before_stops n p S G r ts w rest q (subst (λ (a : Answer A). length (past n ts) ≤ length (left_of a)) q h)
     ]
 
-pub reads_at_most : {A : Type 0} (n : ℕ) (p : Read A) (S : Grammar A) (G : Option Token → Type 0) → Reads p S G → Reads (read_at_most n p) (derives_at_most n S) G
-reads_at_most n p S G r = record {
+pub reads_at_most : {A : Type 0} (n : ℕ) (p : Read A) (S : Grammar A) (G : Option Token → Type 0) → Reads p S G → Unrepeated p → Reads (read_at_most n p) (derives_at_most n S) G
+reads_at_most n p S G r never = record {
   again = at_most_again n p S G r;
   takes = at_most_takes n p S G r;
-  stops = at_most_stops n p S G r;
+  stops = at_most_stops n p S G r never;
   moves = λ x ms next other s g. (s.0, s.1, r.moves x s.0 next other s.2 g);
 }
 
@@ -348,9 +352,9 @@ limited_empty : (n : ℕ) (ms : List Item) → [] ≡ limited n ms → ms ≡ []
 limited_empty n [] e = refl
 limited_empty n ((t, m) ∷ ms) e = absurd cc
 
-pub at_most_part : {A : Type 0} (n : ℕ) {r : Rule A} {F H : Option Token → Type 0} → Part r F H → Part (at_most n r) F H
-at_most_part {A} n {r} {F} {H} part = record {
-  good = record { law = reads_at_most n r.reads r.derives H part.good.law };
+pub at_most_part : {A : Type 0} (n : ℕ) {r : Rule A} {F H : Option Token → Type 0} → Part r F H → Never r → Part (at_most n r) F H
+at_most_part {A} n {r} {F} {H} part never = record {
+  good = record { law = reads_at_most n r.reads r.derives H part.good.law never.law };
   full = record { law = λ x next s. part.full.law x next (subst (λ (ms : List Item). r.derives x ms next) (limited_empty n s.0 s.1) s.2) };
   ends = λ next h.
       let e = (part.ends next h).law in
@@ -361,9 +365,9 @@ at_most_part {A} n {r} {F} {H} part = record {
 
 -- ---- a window on the tokens up to the first that is one too many
 
-pub window_kept : {A : Type 0} (n : ℕ) (r : Rule A) (G : Option Token → Type 0) → Good r G → (ts front : List Token) (t : Token) (us : List Token) (a : Answer A) → ts ≡ front ++ t ∷ us → past n ts ≡ t ∷ us → r.reads (front ++ t ∷ []) ≡ a → 0 < length (left_of a) → (at_most n r).reads ts ≡ moved a (left_of a ++ us)
-window_kept n r G good ts front t us a parts place e h =
-    let l = local r.reads r.derives G good.law front t [] a e (omega (arith, h)) in
+pub window_kept : {A : Type 0} (n : ℕ) (r : Rule A) (G : Option Token → Type 0) → Good r G → Never r → (ts front : List Token) (t : Token) (us : List Token) (a : Answer A) → ts ≡ front ++ t ∷ us → past n ts ≡ t ∷ us → r.reads (front ++ t ∷ []) ≡ a → 0 < length (left_of a) → (at_most n r).reads ts ≡ moved a (left_of a ++ us)
+window_kept n r G good never ts front t us a parts place e h =
+    let l = local r.reads r.derives G good.law never.law front t [] a e (omega (arith, h)) in
     let whole : l.mid ++ t ∷ us ≡ left_of a ++ us = sym (ap (λ (vs : List Token). vs ++ us) l.place ∙ append_assoc l.mid (t ∷ []) us) in
     let long = length-append l.mid (t ∷ us) in
     let stands : left_of (moved a (l.mid ++ t ∷ us)) ≡ l.mid ++ t ∷ us = left_of_moved a (l.mid ++ t ∷ us) in
@@ -372,10 +376,10 @@ window_kept n r G good ts front t us a parts place e h =
     ∙ until_kept (t ∷ us) (moved a (l.mid ++ t ∷ us)) (let m : length (left_of (moved a (l.mid ++ t ∷ us))) ≡ length (l.mid ++ t ∷ us) = ap length stands in omega (arith, m, long))
     ∙ ap (moved a) whole)
 
-pub window_passed : {A : Type 0} (n : ℕ) (r : Rule A) (G : Option Token → Type 0) → Good r G → (ts front : List Token) (t : Token) (us : List Token) (a : Answer A) → ts ≡ front ++ t ∷ us → past n ts ≡ t ∷ us → r.reads (front ++ t ∷ []) ≡ a → left_of a ≡ [] → (at_most n r).reads ts ≡ Err (Marked Limit, t ∷ us)
-window_passed n r G good ts front t us a parts place e h =
+pub window_passed : {A : Type 0} (n : ℕ) (r : Rule A) (G : Option Token → Type 0) → Good r G → Never r → (ts front : List Token) (t : Token) (us : List Token) (a : Answer A) → ts ≡ front ++ t ∷ us → past n ts ≡ t ∷ us → r.reads (front ++ t ∷ []) ≡ a → left_of a ≡ [] → (at_most n r).reads ts ≡ Err (Marked Limit, t ∷ us)
+window_passed n r G good never ts front t us a parts place e h =
     let less : length (left_of (r.reads (front ++ t ∷ []))) < length (t ∷ []) = rw (e, h) (omega arith) in
-    let more = past_same r.reads r.derives G good.law front t [] us less in
+    let more = past_same r.reads r.derives G good.law never.law front t [] us less in
     rw (parts) (ap (λ (vs : List Token). until vs (r.reads (front ++ t ∷ us))) (ap (past n) (sym parts) ∙ place) ∙ until_cut (t ∷ us) (r.reads (front ++ t ∷ us)) more)
 
 -- ---- looking for the first token that is one too many

@@ -1,23 +1,25 @@
 -- Expressions are read as their grammar derives them.
-use Rattle.std.proofs.Common.{◌≡◌, ◌≢◌, ◌≤◌, ℕ, zero, suc, ◌-◌, Bool, true, false, ◌||◌, List, [], ◌∷◌, Option, Some, None, Ok, Err, refl, sub-one, arith, ◌∙◌, ap}
+use Rattle.std.proofs.Common.{◌≡◌, ◌≢◌, ◌≤◌, ℕ, zero, suc, ◌-◌, Bool, true, false, ◌||◌, List, [], ◌∷◌, Option, Some, None, Ok, Err, refl, arith, ◌∙◌, ap}
 use Rattle.cx_text.specs.declared.token.Token.{Token}
 use Rattle.cx_text.specs.declared.stop.Mark.TheVariants.{Limit}
 use Rattle.cx_text.specs.declared.stop.Why.{Why}
 use Rattle.cx_text.specs.declared.stop.Why.TheVariants.{Marked}
 use Rattle.cx_text.specs.Grammar.{passes, head}
 use Rattle.cx_text.specs.Tokens.{is_line_end}
-use Rattle.cx_text.specs.Rules.{Rule, loop, choice, if_is, is_sign, sign}
+use Rattle.cx_text.specs.Rules.{Rule, loop, if_is, is_sign, sign}
 use Rattle.cx_text.specs.Lexemes.{beyond, is_number}
 use Rattle.cx_expr.specs.declared.tree.Sign.{Sign}
-use Rattle.cx_expr.specs.declared.tree.Sign.TheVariants.{Or, And, Equal, Differs, Below, AtMost, Above, AtLeast, Plus, Minus, Times, Over, Rest}
+use Rattle.cx_expr.specs.declared.tree.Sign.TheVariants.{Or, And, Below, Plus, Times}
 use Rattle.cx_expr.specs.declared.tree.Expr.{Expr}
 use Rattle.cx_expr.specs.declared.read.Level.{Level}
 use Rattle.cx_expr.specs.declared.read.Level.TheVariants as level
-use Rattle.cx_expr.specs.Exprs.{sign_among, is_among, operator, joined, chain, once_joined, products, sums, tests, ands, ors, number, index, equals, opens_equals, behind, named, parens, zero_, atom, is_unary, negation, negative, unary, product, sum_, comparison, conjunction, disjunction, operand, expr, signs_of, under}
+use Rattle.cx_expr.specs.Exprs.{sign_among, is_among, operator, joined, chain, once_joined, products, sums, tests, ands, ors, number, index, equals, opens_equals, behind, named, parens, zero_, atom, is_unary, negation, negative, unary, product, sum_, comparison, conjunction, disjunction, operand, expr, expression, signs_of, under}
 use Rattle.cx_text.proofs.Laws.{Means}
 use Rattle.cx_text.proofs.Loops.{Short}
 use Rattle.cx_text.proofs.RuleLaws.{Part, Tail, Any, Not, weaker_part, before_part, part_then, part_then_tail, part_choice, part_end, part_loop, short_part, tail_choice, tail_option, tail_end, lexeme_good, lexeme_full, lexeme_then, lexeme_last, lexeme_alone}
-use Rattle.cx_text.proofs.LexemeLaws.{Ended, a_word, a_sign, a_sign_pair, a_name, a_number, a_quoted, sign_is, and_right, beyond_part}
+use Rattle.cx_text.proofs.Never.{Never, never_nothing, never_also, never_choice, never_loop, never_lexeme, never_name, never_number, never_beyond}
+use Rattle.cx_expr.proofs.AtMostLaws.{at_most_part}
+use Rattle.cx_text.proofs.LexemeLaws.{Ended, a_sign, a_sign_pair, a_name, a_number, a_quoted, sign_is, and_right, beyond_part}
 
 abbrev pub times_is : Means (sign_among products)
 times_is = record { tok = a_sign 42; x = Times; is = refl }
@@ -149,6 +151,49 @@ operand_part (suc depth) signs = unary_part _ signs (λ s. before_part (parens_p
 pub expr_part : (depth signs : ℕ) → Part (expr depth signs) Ended AfterExpr
 expr_part depth signs = disjunction_part (operand depth signs) (operand_part depth signs)
 
+-- ---- no word is repeated
+
+index_never : (n : List ℕ) → Never (index n)
+index_never n = never_also (never_lexeme (λ t e. absurd cc)) (λ u. never_also (never_number _ _) (λ k. never_also (never_lexeme (λ t e. absurd cc)) (λ v. never_nothing)))
+
+equals_never : Never equals
+equals_never = never_also (never_lexeme (λ t e. absurd cc)) (λ u. never_also never_name (λ n. never_also (never_lexeme (λ t e. absurd cc)) (λ v. never_also (never_lexeme (λ t e. absurd cc)) (λ text. never_also (never_lexeme (λ t e. absurd cc)) (λ w. never_nothing)))))
+
+atom_never : (inner : Rule Expr) → Never inner → Never (atom inner)
+atom_never inner never = never_choice never (never_choice (never_also (never_number _ _) (λ n. never_nothing)) (never_also never_name (λ n. never_choice equals_never (never_choice (index_never n) never_nothing))))
+
+unary_never : (inner : ℕ → Rule Expr) (signs : ℕ) → ((s : ℕ) → Never (inner s)) → Never (unary inner signs)
+unfolding unary
+unary_never inner zero each = never_choice (never_beyond _ _) (atom_never (inner zero) (each zero))
+unary_never inner (suc signs) each =
+    never_choice (never_also (never_lexeme (λ t e. absurd cc)) (λ u. never_also (unary_never inner signs each) (λ x. never_nothing)))
+    (never_choice (never_also (never_lexeme (λ t e. absurd cc)) (λ u. never_also (unary_never inner signs each) (λ x. never_nothing))) (atom_never (inner (suc signs)) (each (suc signs))))
+
+joined_never : (signs : List Sign) (part : Rule Expr) → Never part → (left : Expr) → Never (joined signs part left)
+joined_never signs part never left = never_also (never_lexeme (λ t e. absurd cc)) (λ s. never_also never (λ right. never_nothing))
+
+chain_never : (signs : List Sign) (part : Rule Expr) → Never part → Never (chain signs part)
+unfolding chain
+chain_never signs part never = never_also never (λ e. never_loop (joined_never signs part never))
+
+once_joined_never : (signs : List Sign) (part : Rule Expr) → Never part → Never (once_joined signs part)
+unfolding once_joined
+once_joined_never signs part never = never_also never (λ e. never_choice (joined_never signs part never e) never_nothing)
+
+disjunction_never : (un : Rule Expr) → Never un → Never (disjunction un)
+disjunction_never un never = chain_never ors _ (chain_never ands _ (once_joined_never tests _ (chain_never sums _ (chain_never products un never))))
+
+operand_never : (depth signs : ℕ) → Never (operand depth signs)
+unfolding operand
+operand_never zero signs = unary_never _ signs (λ s. never_beyond _ _)
+operand_never (suc depth) signs = unary_never _ signs (λ s. never_also (never_lexeme (λ t e. absurd cc)) (λ u. never_also (disjunction_never (operand depth s) (operand_never depth s)) (λ e. never_also (never_lexeme (λ t e. absurd cc)) (λ v. never_nothing))))
+
+pub expr_never : (depth signs : ℕ) → Never (expr depth signs)
+expr_never depth signs = disjunction_never (operand depth signs) (operand_never depth signs)
+
+pub expression_part : Part expression Ended AfterExpr
+expression_part = at_most_part 1024 (expr_part 32 32) (expr_never 32 32)
+
 -- ---- what reading takes
 
 -- the levels, the one that binds most first
@@ -160,7 +205,7 @@ rank level.And = 6
 rank level.Or = 8
 
 -- what follows a level's part
-abbrev AfterUnder : Level → Option Token → Type 0
+abbrev pub AfterUnder : Level → Option Token → Type 0
 AfterUnder level.Product = AfterOperand
 AfterUnder level.Sum = AfterProduct
 AfterUnder level.Test = AfterSum
@@ -243,12 +288,12 @@ minus_limit depth zero [] e bare go = absurd cc
 minus_limit zero zero (t ∷ ts) e bare go = rw (bare, go) refl
 minus_limit (suc depth) zero (t ∷ ts) e bare go = rw (bare, go) refl
 
-not_behind : (depth k : ℕ) (ts : List Token) → passes (is_sign 33) (head ts) ≡ true → (operand depth (suc k)).reads ts ≡ (negation (operand depth k)).reads ts
+pub not_behind : (depth k : ℕ) (ts : List Token) → passes (is_sign 33) (head ts) ≡ true → (operand depth (suc k)).reads ts ≡ (negation (operand depth k)).reads ts
 unfolding operand unary
 not_behind zero k ts go = rw go refl
 not_behind (suc depth) k ts go = rw go refl
 
-minus_behind : (depth k : ℕ) (ts : List Token) → passes (is_sign 33) (head ts) ≡ false → passes (is_sign 45) (head ts) ≡ true → (operand depth (suc k)).reads ts ≡ (negative (operand depth k)).reads ts
+pub minus_behind : (depth k : ℕ) (ts : List Token) → passes (is_sign 33) (head ts) ≡ false → passes (is_sign 45) (head ts) ≡ true → (operand depth (suc k)).reads ts ≡ (negative (operand depth k)).reads ts
 unfolding operand unary
 minus_behind zero k ts bare go = rw (bare, go) refl
 minus_behind (suc depth) k ts bare go = rw (bare, go) refl

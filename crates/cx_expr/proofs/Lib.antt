@@ -7,3 +7,8 @@ pub mod WindowLaws
 pub mod OpenLaws
 pub mod OpenExprs
 pub mod NumberLaws
+pub mod Trees
+pub mod Again
+pub mod Costs
+pub mod ExprFits
+pub mod TextLaws

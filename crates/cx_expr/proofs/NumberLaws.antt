@@ -6,14 +6,14 @@ use Rattle.cx_text.specs.declared.token.Token.{Token}
 use Rattle.cx_text.specs.declared.stop.Mark.{Mark}
 use Rattle.cx_text.specs.declared.stop.Mark.TheVariants.{BadNumber}
 use Rattle.cx_text.specs.Grammar.{Item, clean}
-use Rattle.cx_text.specs.Reading.{read_token, read_also, read_nothing, Gives}
+use Rattle.cx_text.specs.Reading.{read_token, read_nothing, Gives}
 use Rattle.cx_text.specs.Rules.{◌>>=◌, nothing, line_ends}
 use Rattle.cx_text.specs.Lexemes.{first_mark, decimal_from, is_number, number_of, number_mark, number_in}
-use Rattle.cx_text.proofs.Laws.{Reads, ok_goes, ok_is, reads_token}
+use Rattle.cx_text.proofs.Laws.{ok_goes, ok_is, reads_token}
 use Rattle.cx_text.proofs.LexemeLaws.{a_number}
 use Rattle.cx_text.proofs.RuleLaws.{Any}
 
-unmarked_high : (a b : Bool) → first_mark (a || b) BadNumber None ≡ None → b ≡ false
+pub unmarked_high : (a b : Bool) → first_mark (a || b) BadNumber None ≡ None → b ≡ false
 unmarked_high true b e = absurd cc
 unmarked_high false true e = absurd cc
 unmarked_high false false e = refl

@@ -72,7 +72,7 @@ first_fault p S G r g Unexpected ts rest e =
       k.parts,
       (
         (b.0, b.1, b.2),
-        λ x ms more s q h. told_expected x ms more (sym (told_whole p S G r x ms s) ∙ ap p q ∙ k.same more h),
+        λ x ms more s q h. told_expected x ms more (sym (told_whole p S G r x ms s) ∙ ap p q ∙ k.same (λ q. absurd cc) more h),
       ),
     )
 first_fault p S G r g (Marked m) ts rest e =

@@ -11,6 +11,7 @@ use Rattle.cx_text.specs.declared.token.Token.{Token}
 use Rattle.cx_text.specs.Reading.{Answer, Gives}
 use Rattle.cx_text.specs.Rules.{Rule}
 use Rattle.cx_text.proofs.RuleLaws.{Good}
+use Rattle.cx_text.proofs.Never.{Never}
 use Rattle.cx_text.proofs.Laws.{Taken, Stopped}
 use Rattle.cx_expr.specs.AtMost.{past, at_most, until, cut_short}
 use Rattle.cx_expr.proofs.AtMostLaws.{left_of, moved, passed, window_kept, window_passed, until_kept}
@@ -47,8 +48,8 @@ behind_parts f rest us =
 regroup : (front : List Token) (t : Token) (us s rest : List Token) → front ++ t ∷ [] ≡ s ++ rest → front ++ t ∷ us ≡ s ++ (rest ++ us)
 regroup front t us s rest e = sym (append_assoc front (t ∷ []) us) ∙ ap (λ (vs : List Token). vs ++ us) e ∙ append_assoc s rest us
 
-pub window : {A : Type 0} (n : ℕ) (r : Rule A) (G : Option Token → Type 0) → Good r G → (ts : List Token) (k : ℕ) → 0 < length (past n ts) → k ≡ length ts - length (past n ts) + 1 → (answer : Result A Stop) (rest : List Token) → (answer ≡ Err stops.Memory → ⊥) → Gives (λ x. x) answer rest (r.reads (take k ts)) → Window n r ts k answer rest
-window {A} n r G good ts k some is answer rest memory given =
+pub window : {A : Type 0} (n : ℕ) (r : Rule A) (G : Option Token → Type 0) → Good r G → Never r → (ts : List Token) (k : ℕ) → 0 < length (past n ts) → k ≡ length ts - length (past n ts) + 1 → (answer : Result A Stop) (rest : List Token) → (answer ≡ Err stops.Memory → ⊥) → Gives (λ x. x) answer rest (r.reads (take k ts)) → Window n r ts k answer rest
+window {A} n r G good never ts k some is answer rest memory given =
     let f = passed n ts some in
     let a = length-append f.front (f.t ∷ f.rest) in
     let b : length ts ≡ length (f.front ++ f.t ∷ f.rest) = ap length f.parts in
@@ -68,10 +69,10 @@ window {A} n r G good ts k some is answer rest memory given =
     let there : drop (length ts - length (drop k ts) - length rest) ts ≡ rest ++ f.rest =
     ap (λ (us : List Token). drop (length ts - length us - length rest) ts) dropped ∙ ap (λ (us : List Token). drop (length us - length f.rest - length rest) us) whole_parts ∙ behind_parts s.0 rest f.rest in
     record {
-      whole = λ none. window_passed n r G good ts f.front f.t f.rest read f.parts f.place refl (told.stands ∙ none) ∙ ap (λ (us : List Token). Err (Marked Limit, us)) (sym f.place);
+      whole = λ none. window_passed n r G good never ts f.front f.t f.rest read f.parts f.place refl (told.stands ∙ none) ∙ ap (λ (us : List Token). Err (Marked Limit, us)) (sym f.place);
       fits = omega (arith, sized, d, e, g);
       part = λ more.
-          let kept = window_kept n r G good ts f.front f.t f.rest read f.parts f.place refl (rw told.stands more) in
+          let kept = window_kept n r G good never ts f.front f.t f.rest read f.parts f.place refl (rw told.stands more) in
           rw (there, kept, told.stands) (told.same (rest ++ f.rest));
     }
 
@@ -84,7 +85,7 @@ pub record Windowed {A : Type 0} (n : ℕ) (r : Rule A) (ts : List Token) (k : �
   pub whole : rest ≡ [] → Gives (λ x. x) (cut_short answer) (past n ts) ((at_most n r).reads ts)
   pub part : 0 < length rest → Gives (λ x. x) answer (drop (length ts - length (drop k ts) - length rest) ts) ((at_most n r).reads ts)
 
-pub windowed : {A : Type 0} (n : ℕ) (r : Rule A) (G : Option Token → Type 0) → Good r G → (ts : List Token) (k : ℕ) → 0 < length (past n ts) → k ≡ length ts - length (past n ts) + 1 → (answer : Result A Stop) (rest : List Token) → Gives (λ x. x) answer rest (r.reads (take k ts)) → Windowed n r ts k answer rest
-windowed n r G good ts k some is (Ok x) rest given = let w = window n r G good ts k some is (Ok x) rest (λ e. absurd cc) given in record { whole = w.whole; part = w.part }
-windowed n r G good ts k some is (Err (stops.Fault v)) rest given = let w = window n r G good ts k some is (Err (stops.Fault v)) rest (λ e. absurd cc) given in record { whole = w.whole; part = w.part }
-windowed n r G good ts k some is (Err stops.Memory) rest given = record { whole = λ e. tt; part = λ e. tt }
+pub windowed : {A : Type 0} (n : ℕ) (r : Rule A) (G : Option Token → Type 0) → Good r G → Never r → (ts : List Token) (k : ℕ) → 0 < length (past n ts) → k ≡ length ts - length (past n ts) + 1 → (answer : Result A Stop) (rest : List Token) → Gives (λ x. x) answer rest (r.reads (take k ts)) → Windowed n r ts k answer rest
+windowed n r G good never ts k some is (Ok x) rest given = let w = window n r G good never ts k some is (Ok x) rest (λ e. absurd cc) given in record { whole = w.whole; part = w.part }
+windowed n r G good never ts k some is (Err (stops.Fault v)) rest given = let w = window n r G good never ts k some is (Err (stops.Fault v)) rest (λ e. absurd cc) given in record { whole = w.whole; part = w.part }
+windowed n r G good never ts k some is (Err stops.Memory) rest given = record { whole = λ e. tt; part = λ e. tt }

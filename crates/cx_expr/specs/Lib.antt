@@ -5,3 +5,4 @@ pub mod Seen
 pub mod AtMost
 pub mod Exprs
 pub mod Parts
+pub mod Printed

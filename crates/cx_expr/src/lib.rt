@@ -1,8 +1,9 @@
-//! Expressions of schedule files over numbers of 64 bits: read from tokens, evaluated.
+//! Expressions of schedule files over numbers of 64 bits: read from tokens, evaluated and printed.
 #![tactic(auto)]
 
 mod evaluate;
 mod part;
+mod printer;
 mod read;
 #[cfg(test)]
 mod tests;
@@ -10,4 +11,5 @@ mod tree;
 
 pub use evaluate::{Found, Lookup, eval};
 pub use part::{expression, read_expr};
+pub use printer::{expr_tokens, print_expr};
 pub use tree::{Expr, ExprFault, Name, Operator, Sign};

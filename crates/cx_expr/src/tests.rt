@@ -1,10 +1,14 @@
-//! Expressions read and evaluated.
+//! Expressions read, evaluated and printed.
 
-ghost use Rattle.std.specs.Prelude.{pos, codes};
+ghost use Rattle.std.specs.Prelude.{pos, codes, IfOk};
+ghost use Rattle.cx_text.specs.declared.token.Style.TheVariants as styles;
+ghost use Rattle.cx_text.specs.Printing.{HasSpelling};
+ghost use Rattle.cx_expr.specs.Exprs.{expression};
 ghost use Rattle.cx_expr.specs.Known.{NumberOf, TextOf, Nothing};
 
-use crate::{Expr, ExprFault, Found, Lookup, eval, read_expr};
+use crate::{Expr, ExprFault, Found, Lookup, eval, print_expr, read_expr};
 use cx_text::{CclFault, Style, Text, tokens};
+use std::alloc::Global;
 use std::process::Abort;
 use std::test::Fail;
 
@@ -88,6 +92,67 @@ const RANGES: &[(&[u8], &[u8])] = &[
     (b"(-9223372036854775807 - 1) / -1", b"/"),
 ];
 
+/// Expressions in which each name stands for 5, their values, and how they are printed.
+const PRINTED: &[(&[u8], i64, &[u8])] = &[
+    (b"1 || 0 && 0", 1, b"1 || 0 && 0\n"),
+    (b"(1 || 0) && 0", 0, b"( 1 || 0 ) && 0\n"),
+    (b"1 || (0 && 0)", 1, b"1 || 0 && 0\n"),
+    (b"(0 || 0) || 7", 1, b"0 || 0 || 7\n"),
+    (b"0 || (0 || 7)", 1, b"0 || ( 0 || 7 )\n"),
+    (b"(2 && 3) && 0", 0, b"2 && 3 && 0\n"),
+    (b"2 && (3 && 0)", 0, b"2 && ( 3 && 0 )\n"),
+    (b"(1 < 2) < 3", 1, b"( 1 < 2 ) < 3\n"),
+    (b"1 < (2 < 3)", 0, b"1 < ( 2 < 3 )\n"),
+    (b"(1 + 2) == 3", 1, b"1 + 2 == 3\n"),
+    (b"1 + (2 == 3)", 1, b"1 + ( 2 == 3 )\n"),
+    (b"(2 - 3) - 4", -5, b"2 - 3 - 4\n"),
+    (b"2 - (3 - 4)", 3, b"2 - ( 3 - 4 )\n"),
+    (b"2 * (3 + 4)", 14, b"2 * ( 3 + 4 )\n"),
+    (b"(2 * 3) + 4", 10, b"2 * 3 + 4\n"),
+    (b"100 / (7 * 2)", 7, b"100 / ( 7 * 2 )\n"),
+    (b"100 / 7 * 2", 28, b"100 / 7 * 2\n"),
+    (b"-8 % 3", -2, b"- 8 % 3\n"),
+    (b"-(8 % 3)", -2, b"- ( 8 % 3 )\n"),
+    (b"!(1 - 1)", 1, b"! ( 1 - 1 )\n"),
+    (b"!1 - 1", -1, b"! 1 - 1\n"),
+    (b"!!n", 1, b"! ! n\n"),
+    (b"- -n", 5, b"- - n\n"),
+    (b"!-!3", 1, b"! - ! 3\n"),
+    (b"((n))\n", 5, b"n\n"),
+    (b"-(n)", -5, b"- n\n"),
+    (b"n[4294967295] * n", 25, b"n [ 4294967295 ] * n\n"),
+    (
+        b"((1 <= 2) != (3 >= 4)) + (5 > 6)",
+        1,
+        b"( ( 1 <= 2 ) != ( 3 >= 4 ) ) + ( 5 > 6 )\n",
+    ),
+    (
+        b"9223372036854775807 - 007",
+        9_223_372_036_854_775_800,
+        b"9223372036854775807 - 7\n",
+    ),
+    (b"cctk_equals + 1", 6, b"cctk_equals + 1\n"),
+];
+
+/// Expressions in which each name stands for the text `point`, their values, and how they are printed.
+const TEXTS: &[(&[u8], i64, &[u8])] = &[
+    (
+        b"CCTK_Equals(pattern, \"POINT\")",
+        1,
+        b"CCTK_Equals ( pattern , \"POINT\" )\n",
+    ),
+    (
+        b"cctk_EQUALS(a, 'x\"y') || 0",
+        0,
+        b"CCTK_Equals ( a , \"x\\\"y\" ) || 0\n",
+    ),
+    (
+        b"!(CCTK_equals(pattern, \"line\"))",
+        1,
+        b"! CCTK_Equals ( pattern , \"line\" )\n",
+    ),
+];
+
 /// Texts, the place of an expression, and the place behind it or the first fault.
 const PLACES: &[(&[u8], usize, Result<usize, CclFault>)] = &[
     (b"1 < 2 < 3", 0, Ok(3)),
@@ -160,6 +225,57 @@ fn expressions_end_at_these_places(rt: HostRuntime) -> Result<(), Fail> {
             (Err(fault), Err(first)) => assert_eq!(rt; fault, *first, "{text:?}"),
             _ => return Err(Fail::new("another answer")),
         }
+    }
+    Ok(())
+}
+
+/// The expression that a whole text spells.
+fn whole(alloc: Global, text: &[u8]) -> Result<Expr, Fail>
+    ensures { IfOk result (λ e. HasSpelling styles.Ccl expression.derives e) }
+{
+    let list = tokens(alloc, text, Style::Ccl)?;
+    let (e, place) = read_expr(alloc, &list, 0)?;
+    if place == list.len() {
+        Ok(e)
+    } else {
+        Err(Fail::new("more tokens"))
+    }
+}
+
+/// How an expression is printed.
+fn printed(alloc: Global, text: &[u8]) -> Result<Text, Fail> {
+    let e = whole(alloc, text)?;
+    Ok(print_expr(alloc, &e)?)
+}
+
+/// The value of an expression.
+fn value<L: Lookup>(alloc: Global, text: &[u8], names: &L) -> Result<Option<i64>, Fail> {
+    let e = whole(alloc, text)?;
+    Ok(eval(&e, names).ok())
+}
+
+/// An expression is printed so, and what is printed says the same.
+fn assert_printed<L: Lookup>(
+    rt: &impl Abort,
+    alloc: Global,
+    row: &(&[u8], i64, &[u8]),
+    names: &L,
+) -> Result<(), Fail> {
+    let (text, want, line) = row;
+    assert_eq!(rt; printed(alloc, text)?.as_slice(), *line);
+    assert_eq!(rt; printed(alloc, line)?.as_slice(), *line);
+    assert_eq!(rt; value(alloc, text, names)?, Some(*want));
+    assert_eq!(rt; value(alloc, line, names)?, Some(*want));
+    Ok(())
+}
+
+#[test]
+fn expressions_are_printed_and_read_again(rt: HostRuntime) -> Result<(), Fail> {
+    for row in PRINTED {
+        assert_printed(&rt, rt.alloc(), row, &Five)?;
+    }
+    for row in TEXTS {
+        assert_printed(&rt, rt.alloc(), row, &Point)?;
     }
     Ok(())
 }

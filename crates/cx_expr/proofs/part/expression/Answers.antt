@@ -1,14 +1,12 @@
-use Rattle.std.proofs.Common.{◌≡◌, ◌<◌, ◌≤◌, ◌+◌, ◌-◌, length, List, [], take, drop, refl, sym, ap, subst, ◌∙◌, arith, rules, Result, nat_eq, true, false, ◌∷◌, ℕ, Bool}
+use Rattle.std.proofs.Common.{◌≡◌, ◌<◌, ◌+◌, ◌-◌, length, List, [], take, drop, refl, sym, ap, ◌∙◌, arith, true, false, ◌∷◌, Bool}
 use Rattle.std.specs.Bool.{◌==◌}
-use Rattle.cx_text.specs.declared.stop.Stop.{Stop}
 use Rattle.cx_text.specs.declared.token.Token.{Token}
 use Rattle.cx_text.specs.Reading.{Gives}
-use Rattle.cx_expr.specs.Exprs.{expr, expression}
-use Rattle.cx_expr.proofs.ExprLaws.{AfterExpr, expr_part, after_expr}
-use Rattle.cx_text.proofs.RuleLaws.{Good}
-use Rattle.cx_expr.specs.AtMost.{past, at_most, cut_short}
+use Rattle.cx_expr.specs.Exprs.{expr}
+use Rattle.cx_expr.proofs.ExprLaws.{AfterExpr, expr_part, expr_never}
+use Rattle.cx_expr.specs.AtMost.{past}
 use Rattle.cx_expr.proofs.AtMostLaws.{past_short}
-use Rattle.cx_expr.proofs.WindowLaws.{Windowed, windowed, no_window}
+use Rattle.cx_expr.proofs.WindowLaws.{windowed}
 use Rattle.cx_expr.proofs.part.expression.Goals as goal
 
 pub overflow_sub-tokens : goal.overflow_sub-tokens
@@ -27,7 +25,7 @@ returns-then-is_empty-2 c =
     let k = length ts - length c.past-over.result.now + 1 in
     let given : Gives (λ x. x) c.chained-answer.result c.chained-answer.new.reader.rest.now ((expr 32 32).reads (take k ts)) = rw (← c.split_at.ensures.front) c.chained-answer.ensures in
     let some : 0 < length (past 1024 ts) = rw (← c.past-over.ensures) (some_of c.past-over.result.now c.is_empty.result c.is_empty.ensures c.if-is_empty.false) in
-    let w = windowed 1024 (expr 32 32) AfterExpr (expr_part 32 32).good ts k some (rw c.past-over.ensures refl) c.chained-answer.result c.chained-answer.new.reader.rest.now given in
+    let w = windowed 1024 (expr 32 32) AfterExpr (expr_part 32 32).good (expr_never 32 32) ts k some (rw c.past-over.ensures refl) c.chained-answer.result c.chained-answer.new.reader.rest.now given in
     rw (c.cut_short.ensures, c.past-over.ensures) (w.whole (none_of c.chained-answer.new.reader.rest.now c.is_empty-2.result c.is_empty-2.ensures c.if-is_empty-2.true))
 
 pub returns : goal.returns
@@ -36,7 +34,7 @@ returns c =
     let k = length ts - length c.past-over.result.now + 1 in
     let given : Gives (λ x. x) c.chained-answer.result c.chained-answer.new.reader.rest.now ((expr 32 32).reads (take k ts)) = rw (← c.split_at.ensures.front) c.chained-answer.ensures in
     let some : 0 < length (past 1024 ts) = rw (← c.past-over.ensures) (some_of c.past-over.result.now c.is_empty.result c.is_empty.ensures c.if-is_empty.false) in
-    let w = windowed 1024 (expr 32 32) AfterExpr (expr_part 32 32).good ts k some (rw c.past-over.ensures refl) c.chained-answer.result c.chained-answer.new.reader.rest.now given in
+    let w = windowed 1024 (expr 32 32) AfterExpr (expr_part 32 32).good (expr_never 32 32) ts k some (rw c.past-over.ensures refl) c.chained-answer.result c.chained-answer.new.reader.rest.now given in
     let place : c.saturating_sub.result ≡ length ts - length (drop k ts) - length c.chained-answer.new.reader.rest.now =
     c.saturating_sub.ensures ∙ ap (λ n. n - length c.chained-answer.new.reader.rest.now) (c.saturating_sub-read.ensures ∙ ap (λ (us : List Token). length ts - length us) c.split_at.ensures.back) in
     rw (c.split_at-2.ensures.back, place) (w.part (some_of c.chained-answer.new.reader.rest.now c.is_empty-2.result c.is_empty-2.ensures c.if-is_empty-2.false))

@@ -1,10 +1,8 @@
-use Rattle.std.proofs.Common.{◌≡◌, ◌≤◌, ◌+◌, ◌-◌, length, List, drop, refl, sym, subst, ◌∙◌, arith, ap, Ok, Err}
+use Rattle.std.proofs.Common.{◌≤◌, ◌-◌, length, drop, arith, Ok, Err}
 use Rattle.cx_text.specs.Reading.{Gives}
-use Rattle.cx_expr.specs.Exprs.{expr, expression}
-use Rattle.cx_expr.proofs.ExprLaws.{AfterExpr, expr_part, after_expr}
+use Rattle.cx_expr.specs.Exprs.{expression}
+use Rattle.cx_expr.proofs.ExprLaws.{AfterExpr, expression_part, after_expr}
 use Rattle.cx_text.proofs.RuleLaws.{Good}
-use Rattle.cx_expr.specs.AtMost.{at_most}
-use Rattle.cx_expr.proofs.AtMostLaws.{reads_at_most}
 use Rattle.cx_expr.proofs.PartLaws.{answers_from, answers_from_only, spelled_only, left_fits, given_ok, given_err}
 use Rattle.cx_expr.proofs.OpenLaws.{Open, at_most_open}
 use Rattle.cx_expr.proofs.OpenExprs.{expr_open}
@@ -14,7 +12,7 @@ opened : Open expression
 opened = at_most_open 1024 (expr_open 32 32)
 
 good : Good expression AfterExpr
-good = record { law = reads_at_most 1024 (expr 32 32).reads (expr 32 32).derives AfterExpr (expr_part 32 32).good.law }
+good = expression_part.good
 
 pub overflow_sub-result : goal.overflow_sub-result
 overflow_sub-result c =

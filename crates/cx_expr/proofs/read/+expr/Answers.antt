@@ -1,4 +1,4 @@
-use Rattle.std.proofs.Common.{◌≡◌, ◌<◌, ◌≤◌, length, refl, sym, subst, ◌∙◌, arith}
+use Rattle.std.proofs.Common.{◌<◌, ◌≤◌, length, refl, sym, subst, ◌∙◌, arith}
 use Rattle.cx_text.specs.Reading.{Gives, Answer}
 use Rattle.cx_text.proofs.Loops.{begun, turned, fewer, stopped, ended_at}
 use Rattle.cx_expr.specs.declared.tree.Expr.{Expr}

@@ -1,4 +1,4 @@
-use Rattle.std.proofs.Common.{ℕ, ◌≡◌, ◌≤◌, ◌+◌, ◌*◌, length}
+use Rattle.std.proofs.Common.{◌≤◌, ◌+◌, ◌*◌, length}
 use Rattle.cx_text.specs.Rules.{loop}
 use Rattle.cx_text.proofs.Loops.{SoFar}
 use Rattle.cx_expr.specs.Exprs.{is_among, joined, operand, signs_of, under}
