@@ -68,7 +68,7 @@ sign_stays kinds.Quoted h = refl
 sign_stays kinds.Sign h = refl
 sign_stays kinds.LineEnd h = absurd cc
 
-sign_ended : (b : ℕ) (t : Token) → is_sign b t ≡ true → is_line_end t ≡ false
+pub sign_ended : (b : ℕ) (t : Token) → is_sign b t ≡ true → is_line_end t ≡ false
 sign_ended b t h = sign_stays t.kind (both (is_sign_kind t.kind) (bytes_eq t.text (b ∷ [])) h).0
 
 named_follows : (name : List ℕ) (t : Token) (us : List Token) → is_named name t ≡ true → Follows (kept t ∷ us)
@@ -98,7 +98,7 @@ pub record KeptToken (test : Token → Bool) (mark : Token → Option Mark) (n :
   pub passes : test tok ≡ true
   pub unmarked : mark tok ≡ None
 
-kept_at : (b : Bool) (t x : Token) → cond b (Some t) None ≡ Some x → (b ≡ true) × (t ≡ x)
+pub kept_at : (b : Bool) (t x : Token) → cond b (Some t) None ≡ Some x → (b ≡ true) × (t ≡ x)
 kept_at true t x e = (refl, cc)
 kept_at false t x e = absurd cc
 
@@ -145,7 +145,7 @@ size_stays kinds.Quoted h = refl
 size_stays kinds.Sign h = refl
 size_stays kinds.LineEnd h = absurd cc
 
-size_ended : (t : Token) → is_size t ≡ true → is_line_end t ≡ false
+pub size_ended : (t : Token) → is_size t ≡ true → is_line_end t ≡ false
 size_ended t h = size_stays t.kind h
 
 one_more : (base us : List Token) (c s : Token) → MoreSizes base us → is_sign 44 c ≡ true → is_size s ≡ true → MoreSizes base ((us ++ kept c ∷ []) ++ kept s ∷ [])
@@ -246,7 +246,7 @@ three ts us vs ws k e v p q r = r ∙ rw (q, p) (simp append_assoc)
 two_and : (ts us vs ws new : List Token) (k e : Token) → us ≡ ts ++ k ∷ [] → vs ≡ us ++ e ∷ [] → ws ≡ vs ++ new → ws ≡ ts ++ k ∷ e ∷ new
 two_and ts us vs ws new k e p q r = r ∙ rw (q, p) (simp append_assoc)
 
-distribution_ended : (t : Token) → is_distribution t ≡ true → is_line_end t ≡ false
+pub distribution_ended : (t : Token) → is_distribution t ≡ true → is_line_end t ≡ false
 distribution_ended t h = ends_no_line t.kind (of_distribution (is_word t) (bytes_eq (map to_ascii_lowercase t.text) (map to_ascii_lowercase (codes "DEFAULT"))) (bytes_eq (map to_ascii_lowercase t.text) (map to_ascii_lowercase (codes "CONSTANT"))) h)
 
 quoted_stays : (k : Kind) → is_quoted_kind k ≡ true → is_line_end_kind k ≡ false
@@ -256,7 +256,7 @@ quoted_stays kinds.Quoted h = refl
 quoted_stays kinds.Sign h = refl
 quoted_stays kinds.LineEnd h = absurd cc
 
-quoted_ended : (t : Token) → is_quoted t ≡ true → is_line_end t ≡ false
+pub quoted_ended : (t : Token) → is_quoted t ≡ true → is_line_end t ≡ false
 quoted_ended t h = quoted_stays t.kind h
 
 abbrev pub InRange : ℕ → ℕ → Option ℕ → Type 0

@@ -5,17 +5,17 @@ use Rattle.std.proofs.lemmas.Bool.{le-ltb, ne_eqb}
 use Rattle.std.proofs.lemmas.List.{append-nil}
 use Rattle.cx_text.specs.declared.ctype.CType.{CType}
 use Rattle.cx_text.specs.declared.ctype.CType.TheVariants.{Char, Byte, Int, Int2, Int4, Int8, Real, Complex}
-use Rattle.cx_text.specs.declared.stop.Mark.TheVariants.{Repeated}
+use Rattle.cx_text.specs.declared.stop.Mark.{Mark}
 use Rattle.cx_text.specs.declared.token.Kind.{Kind}
 use Rattle.cx_text.specs.declared.token.Kind.TheVariants as kinds
 use Rattle.cx_text.specs.declared.token.Token.{Token}
 use Rattle.cx_text.specs.Tokens.{is_word, is_line_end, is_word_kind, is_line_end_kind}
-use Rattle.cx_text.specs.Grammar.{head, passes, Spells}
+use Rattle.cx_text.specs.Grammar.{head, passes}
 use Rattle.cx_text.specs.Reading.{Answer, go_on, found}
 use Rattle.cx_text.specs.Rules.{loop, is_named}
-use Rattle.cx_text.specs.Lexemes.{first_mark, names, kept, more_kept}
+use Rattle.cx_text.specs.Lexemes.{names, kept, more_kept}
 use Rattle.cx_text.specs.Written.{word, words, quoted, sign, line_end}
-use Rattle.cx_text.proofs.Printing.{spelled, loop_step, loop_stop, no_skip, one_skip, IsShortName, some_names_again}
+use Rattle.cx_text.proofs.Printing.{loop_step, loop_stop, no_skip, one_skip, IsShortName, some_names_again}
 use Rattle.cx_iface.specs.declared.tree.Access.{Access}
 use Rattle.cx_iface.specs.declared.tree.Access.TheVariants.{Public, Protected, Private}
 use Rattle.cx_iface.specs.declared.tree.Group.{Group}
@@ -27,10 +27,10 @@ use Rattle.cx_iface.specs.declared.attributes.Attributes.{Attributes}
 use Rattle.cx_iface.specs.Words.{IMPLEMENTS, INHERITS, FRIEND, FUNCTION, TYPE, DIM, TIMELEVELS, is_line_word, begins_with}
 use Rattle.cx_iface.specs.Attributes.{no_attributes, is_attribute, attribute}
 use Rattle.cx_iface.specs.Groups.{group, block_or_name}
-use Rattle.cx_iface.specs.File.{nobody, in_line, line, kept_line, worded, is_again, function, part, item, grouped, file, interface}
+use Rattle.cx_iface.specs.File.{nobody, in_line, line, kept_line, worded, again_mark, function, part, item, grouped, file}
 use Rattle.cx_iface.specs.Printed as printed
 use Rattle.cx_iface.proofs.AttributeLaws.{attribute_short}
-use Rattle.cx_iface.proofs.FileLaws.{item_short, more_kept_in_line_short, file_good}
+use Rattle.cx_iface.proofs.FileLaws.{item_short, more_kept_in_line_short}
 use Rattle.cx_iface.proofs.PrintLaws.{CopiesFit, FitsEffects, RestAgain, Distinct, Follows, given, idle_of, copies_again, effects_again, variables_again, starts_words}
 
 -- ---- groups
@@ -57,22 +57,28 @@ access_again Public old g l tree rest e = rw (no_skip (sign 58 ∷ rest) refl, n
 access_again Protected old g l tree rest e = rw (no_skip (sign 58 ∷ rest) refl, no_skip rest e) refl
 access_again Private old g l tree rest e = rw (no_skip (sign 58 ∷ rest) refl, no_skip rest e) refl
 
+-- a word that begins no line of six, behind which FUNCTION stands or doesn't, and which isn't repeated
+worded_step : (t : Token) (s : Read) (us : List Token) (declares : Bool) → is_line_word t ≡ false → is_word t ≡ true → passes (is_named FUNCTION) (head us) ≡ declares → again_mark s declares t ≡ None → (item s).reads (t ∷ us) ≡ (part (begins_with (kept t)) (kept t) s).reads us
+worded_step t s us declares w v next unmarked =
+    let go : Bool → Option Mark → Answer Read = λ b m. go_on (found (cond b (Some (kept t)) None) m t us) (λ x ts. (part (begins_with x) x s).reads ts) in
+    ap (λ b. cond b ((kept_line s).reads (t ∷ us)) ((worded s).reads (t ∷ us))) w ∙ ap (λ b. go b (again_mark s (passes (is_named FUNCTION) (head us)) t)) v ∙ ap (go true) (ap (λ b. again_mark s b t) next ∙ unmarked)
+
 typed_again : (c : CType) (a : Access) (g l : ℕ) (tree : Interface) (rest : List Token) → passes (is_named FUNCTION) (head rest) ≡ false → (item (behind a g l tree)).reads (word (printed.ctype_word c) ∷ rest) ≡ (grouped c (behind a g l tree)).reads rest
-typed_again Char a g l tree rest e = rw e refl
-typed_again Byte a g l tree rest e = rw e refl
-typed_again Int a g l tree rest e = rw e refl
-typed_again Int2 a g l tree rest e = rw e refl
-typed_again Int4 a g l tree rest e = rw e refl
-typed_again Int8 a g l tree rest e = rw e refl
-typed_again Real a g l tree rest e = rw e refl
-typed_again Complex a g l tree rest e = rw e refl
+typed_again Char a g l tree rest e = worded_step (word (printed.ctype_word Char)) (behind a g l tree) rest false refl refl e refl ∙ rw e refl
+typed_again Byte a g l tree rest e = worded_step (word (printed.ctype_word Byte)) (behind a g l tree) rest false refl refl e refl ∙ rw e refl
+typed_again Int a g l tree rest e = worded_step (word (printed.ctype_word Int)) (behind a g l tree) rest false refl refl e refl ∙ rw e refl
+typed_again Int2 a g l tree rest e = worded_step (word (printed.ctype_word Int2)) (behind a g l tree) rest false refl refl e refl ∙ rw e refl
+typed_again Int4 a g l tree rest e = worded_step (word (printed.ctype_word Int4)) (behind a g l tree) rest false refl refl e refl ∙ rw e refl
+typed_again Int8 a g l tree rest e = worded_step (word (printed.ctype_word Int8)) (behind a g l tree) rest false refl refl e refl ∙ rw e refl
+typed_again Real a g l tree rest e = worded_step (word (printed.ctype_word Real)) (behind a g l tree) rest false refl refl e refl ∙ rw e refl
+typed_again Complex a g l tree rest e = worded_step (word (printed.ctype_word Complex)) (behind a g l tree) rest false refl refl e refl ∙ rw e refl
 
 starts_copies : (k : Option ℕ) (t : List ℕ) (rest : List Token) → passes is_line_end (head (printed.copies k ++ word t ∷ rest)) ≡ false
 starts_copies None t rest = refl
 starts_copies (Some k) t rest = refl
 
 -- the attributes without effect, and then a block
-abbrev idle_then : Group → List Token → List Token
+abbrev pub idle_then : Group → List Token → List Token
 idle_then g rest = map kept g.rest ++ (printed.block g ++ rest)
 
 rest_again : (g : Group) (f : FitsGroup g) (rest : List Token) → Follows (idle_then g rest) × ((loop is_attribute attribute (given g.gtype g.dim g.levels)).reads (idle_then g rest) ≡ Ok (idle_of f.a g.gtype g.dim g.levels, printed.block g ++ rest))
@@ -84,7 +90,7 @@ rest_again g f rest =
 attributes_again : (g : Group) (f : FitsGroup g) (rest : List Token) → (loop is_attribute attribute no_attributes).reads (printed.effects g ++ idle_then g rest) ≡ Ok (idle_of f.a g.gtype g.dim g.levels, printed.block g ++ rest)
 attributes_again g f rest = let h = rest_again g f rest in effects_again g (idle_then g rest) f.effects h.0.0 ∙ h.1
 
-block_tail : (g : Group) (rest : List Token) → printed.block g ++ rest ≡ sign 123 ∷ (words g.variables ++ sign 125 ∷ quoted g.text ∷ line_end ∷ rest)
+pub block_tail : (g : Group) (rest : List Token) → printed.block g ++ rest ≡ sign 123 ∷ (words g.variables ++ sign 125 ∷ quoted g.text ∷ line_end ∷ rest)
 block_tail g rest = ap (λ (ts : List Token). sign 123 ∷ ts) (append_assoc (words g.variables) (sign 125 ∷ quoted g.text ∷ line_end ∷ []) rest)
 
 block_again : (name : List ℕ) (g : Group) (f : FitsGroup g) (rest : List Token) → passes is_line_end (head rest) ≡ false → (block_or_name name []).reads (printed.block g ++ rest) ≡ Ok (record { variables = g.variables; text = g.text }, rest)
@@ -94,7 +100,7 @@ block_again name g f rest e =
     ∙ rw (no_skip (words g.variables ++ sign 125 ∷ quoted g.text ∷ line_end ∷ rest) (starts_words g.variables 125 (quoted g.text ∷ line_end ∷ rest)), v, no_skip (quoted g.text ∷ line_end ∷ rest) refl, one_skip rest e) refl
 
 -- what stands behind the name
-abbrev behind_name : Group → List Token → List Token
+abbrev pub behind_name : Group → List Token → List Token
 behind_name g rest = printed.copies g.copies ++ (printed.effects g ++ idle_then g rest)
 
 group_again : (g : Group) (f : FitsGroup g) (rest : List Token) → passes is_line_end (head rest) ≡ false → (group g.access g.ctype false).reads (word g.name ∷ behind_name g rest) ≡ Ok (g, rest)
@@ -106,7 +112,7 @@ group_again g f rest e =
     let b = block_again g.name g f rest e in
     rw (no_skip (word g.name ∷ behind_name g rest) refl, f.named, short, no_skip (behind_name g rest) (starts_copies g.copies TYPE tail), k, a, b) (ap (λ (ts : List Token). Ok (record g { rest = ts }, rest)) f.rest)
 
-group_tokens : (g : Group) (rest : List Token) → printed.group g ++ rest ≡ word (printed.access_word g.access) ∷ sign 58 ∷ word (printed.ctype_word g.ctype) ∷ word g.name ∷ behind_name g rest
+pub group_tokens : (g : Group) (rest : List Token) → printed.group g ++ rest ≡ word (printed.access_word g.access) ∷ sign 58 ∷ word (printed.ctype_word g.ctype) ∷ word g.name ∷ behind_name g rest
 group_tokens g rest =
     ap (λ (ts : List Token). word (printed.access_word g.access) ∷ sign 58 ∷ word (printed.ctype_word g.ctype) ∷ word g.name ∷ ts)
     (append_assoc (printed.copies g.copies) (printed.effects g ++ (map kept g.rest ++ printed.block g)) rest
@@ -180,7 +186,7 @@ stays kinds.Quoted h = refl
 stays kinds.Sign h = refl
 stays kinds.LineEnd h = absurd cc
 
-word_stays : (t : Token) → is_word t ≡ true → is_line_end t ≡ false
+pub word_stays : (t : Token) → is_word t ≡ true → is_line_end t ≡ false
 word_stays t h = stays t.kind h
 
 part_function : (k : First) (w : Token) (s : Read) (ts : List Token) → passes (is_named FUNCTION) (head ts) ≡ true → (part k w s).reads ts ≡ (function w s).reads ts
@@ -195,7 +201,7 @@ part_function firsts.Other w s ts e = refl
 abbrev pub ahead : ℕ → List (List Token) → Read
 ahead l os = record nobody { lines = l; tree = record nobody.tree { others = os } }
 
-line_tokens : (t : Token) (ts rest : List Token) → printed.line (t ∷ ts) ++ rest ≡ kept t ∷ (map kept ts ++ line_end ∷ rest)
+pub line_tokens : (t : Token) (ts rest : List Token) → printed.line (t ∷ ts) ++ rest ≡ kept t ∷ (map kept ts ++ line_end ∷ rest)
 line_tokens t ts rest = ap (λ (us : List Token). kept t ∷ us) (append_assoc (map kept ts) (line_end ∷ []) rest)
 
 -- it begins with one of six words
@@ -206,11 +212,6 @@ worded_line t ts l os rest o same h w e =
     let m = line_again (kept t ∷ []) ts (ahead l os) rest h e in
     rw (w, full, m) (ap (λ (x : Token). Ok (ahead (l - 1) (os ++ (x ∷ ts) ∷ []), rest)) same)
 
-worded_step : (t : Token) (s : Read) (us : List Token) → is_line_word t ≡ false → is_word t ≡ true → is_again s t ≡ false → (item s).reads (t ∷ us) ≡ (part (begins_with (kept t)) (kept t) s).reads us
-worded_step t s us w v again =
-    let go : Bool → Bool → Answer Read = λ b c. go_on (found (cond b (Some (kept t)) None) (first_mark c Repeated None) t us) (λ x ts. (part (begins_with x) x s).reads ts) in
-    ap (λ b. cond b ((kept_line s).reads (t ∷ us)) ((worded s).reads (t ∷ us))) w ∙ ap (λ b. go b (is_again s t)) v ∙ ap (go true) again
-
 -- its second word is FUNCTION
 function_line : (t f : Token) (ts : List Token) (l : ℕ) (os : List (List Token)) (rest : List Token) → 0 < l → is_word t ≡ true → is_line_word t ≡ false → kept t ≡ t → kept f ≡ f → AllByRecursion InLine ts → is_named FUNCTION f ≡ true → passes is_line_end (head rest) ≡ false
     → (item (ahead l os)).reads (kept t ∷ kept f ∷ (map kept ts ++ line_end ∷ rest)) ≡ Ok (ahead (l - 1) (os ++ (t ∷ f ∷ ts) ∷ []), rest)
@@ -218,7 +219,7 @@ function_line t f ts l os rest o v w same second h n e =
     let full = not_full l o in
     let us : List Token = map kept ts ++ line_end ∷ rest in
     let m = line_again (kept t ∷ kept f ∷ []) ts (ahead l os) rest h e in
-    let first : (item (ahead l os)).reads (kept t ∷ kept f ∷ us) ≡ (part (begins_with (kept t)) (kept t) (ahead l os)).reads (kept f ∷ us) = worded_step (kept t) (ahead l os) (kept f ∷ us) w v refl in
+    let first : (item (ahead l os)).reads (kept t ∷ kept f ∷ us) ≡ (part (begins_with (kept t)) (kept t) (ahead l os)).reads (kept f ∷ us) = worded_step (kept t) (ahead l os) (kept f ∷ us) true w v n refl in
     let declared : (function (kept t) (ahead l os)).reads (kept f ∷ us) ≡ Ok (ahead (l - 1) (os ++ (kept t ∷ kept f ∷ ts) ∷ []), rest) = rw (n, full, m) refl in
     first ∙ part_function (begins_with (kept t)) (kept t) (ahead l os) (kept f ∷ us) n ∙ declared
     ∙ ap (λ (x : Token). Ok (ahead (l - 1) (os ++ (x ∷ kept f ∷ ts) ∷ []), rest)) same
@@ -288,7 +289,7 @@ friends_again ns l tree rest h e =
     ap (λ (ts : List Token). (item (behind_inherits l tree)).reads (word FRIEND ∷ sign 58 ∷ ts)) (append_assoc (words ns) (line_end ∷ []) rest)
     ∙ rw (no_skip (sign 58 ∷ (words ns ++ line_end ∷ rest)) refl, all, no_skip rest e) refl
 
-headers_tail : (v : Interface) (rest : List Token) → printed.headers v ++ rest ≡ printed.header IMPLEMENTS (v.implements ∷ []) ++ (printed.header INHERITS v.inherits ++ (printed.header FRIEND v.friends ++ rest))
+pub headers_tail : (v : Interface) (rest : List Token) → printed.headers v ++ rest ≡ printed.header IMPLEMENTS (v.implements ∷ []) ++ (printed.header INHERITS v.inherits ++ (printed.header FRIEND v.friends ++ rest))
 headers_tail v rest =
     append_assoc (printed.header IMPLEMENTS (v.implements ∷ [])) (printed.header INHERITS v.inherits ++ printed.header FRIEND v.friends) rest
     ∙ ap (λ (ts : List Token). printed.header IMPLEMENTS (v.implements ∷ []) ++ ts) (append_assoc (printed.header INHERITS v.inherits) (printed.header FRIEND v.friends) rest)
@@ -318,7 +319,7 @@ pub record Fits (v : Interface) : Type 0 where
 
 pub record ReadAgain (v : Interface) : Type 0 where
   pub s : Read
-  pub reads : file.reads (printed.printed v) ≡ Ok (s, [])
+  pub reads : file.reads (printed.interface_tokens v) ≡ Ok (s, [])
   pub implements : s.implements ≡ true
   pub tree : s.tree ≡ v
 
@@ -331,13 +332,7 @@ printed_again v f =
     let three = groups_again v.groups f.groups Private 4096 one.0 (record v { groups = [] }) f.group_count in
     record {
       s = behind three.0 three.1 one.0 v;
-      reads = rw (no_skip (printed.printed v) (starts_lines v.others rest f.lines refl)) (one.1 ∙ two ∙ three.2);
+      reads = rw (no_skip (printed.interface_tokens v) (starts_lines v.others rest f.lines refl)) (one.1 ∙ two ∙ three.2);
       implements = refl;
       tree = refl;
     }
-
--- A tree that is printed is spelled again.
-pub printed_spelled : (v : Interface) → Fits v → Spells interface (printed.printed v) v
-printed_spelled v f =
-    let r = printed_again v f in
-    (r.s, spelled file_good (printed.printed v) r.s r.reads, r.implements, sym r.tree)

@@ -1,9 +1,14 @@
 -- The interface file is read as it derives.
-use Rattle.std.proofs.Common.{◌≡◌, ℕ, true, false, nat_eq, List, [], ◌∷◌, Option, None, refl}
+use Rattle.std.proofs.Common.{◌≡◌, ℕ, Bool, true, false, cond, ◌&&◌, ◌||◌, nat_eq, List, [], ◌∷◌, Option, Some, None, refl, sym, ap, ◌∙◌}
+use Rattle.cx_text.specs.declared.stop.Mark.{Mark}
+use Rattle.cx_text.specs.declared.stop.Mark.TheVariants.{Repeated}
 use Rattle.cx_text.specs.declared.token.Token.{Token}
+use Rattle.cx_text.specs.Grammar.{Item, next_of, passes}
 use Rattle.cx_text.specs.Tokens.{is_word, is_line_end}
 use Rattle.cx_text.specs.Rules.{Rule, nothing, ◌>>=◌, is_named, line_ends, sign_here, line_end}
-use Rattle.cx_text.specs.Lexemes.{names, kept_if, kept, more_kept}
+use Rattle.cx_text.specs.Lexemes.{first_mark, names, kept_if, kept, more_kept}
+use Rattle.cx_text.proofs.Choice.{at_test, at_other}
+use Rattle.cx_text.proofs.Lookahead.{Goes, lookahead_part}
 use Rattle.cx_text.proofs.Laws.{Means}
 use Rattle.cx_text.proofs.Loops.{Short}
 use Rattle.cx_text.proofs.RuleLaws.{Good, Part, Tail, Any, Not, short_part, weaker_part, before_part, token_then, lexeme_then, lexeme_last, part_choice, part_end, empty_then, line_ends_good, line_ends_empty, loop_good, loop_empty, a_line_end, tail_loop, tail_then}
@@ -12,8 +17,8 @@ use Rattle.cx_iface.specs.declared.tree.Access.{Access}
 use Rattle.cx_iface.specs.declared.interface.Read.{Read}
 use Rattle.cx_iface.specs.declared.words.First.{First}
 use Rattle.cx_iface.specs.declared.words.First.TheVariants as firsts
-use Rattle.cx_iface.specs.Words.{FUNCTION, is_line_word, begins_with}
-use Rattle.cx_iface.specs.File.{implements, access, grouped, in_line, line, kept_line, function, or_function, part, worded, item, file}
+use Rattle.cx_iface.specs.Words.{FUNCTION, IMPLEMENTS, INHERITS, FRIEND, is_line_word, begins_with}
+use Rattle.cx_iface.specs.File.{implements, access, grouped, in_line, line, kept_line, function, or_function, part, is_again, again_mark, worded, item, file}
 use Rattle.cx_iface.proofs.AttributeLaws.{Is}
 use Rattle.cx_iface.proofs.GroupLaws.{AfterGroup, at_end, group_part}
 use Rattle.cx_text.specs.declared.ctype.CType.{CType}
@@ -52,8 +57,8 @@ kept_line_part s = token_then a_line_word tt (λ w. line_part (w ∷ []) s)
 abbrev a_function : Means (kept_if (is_named FUNCTION))
 a_function = record { tok = a_word FUNCTION; x = a_word FUNCTION; is = refl }
 
-function_part : (w : Token) (s : Read) → Part (function w s) Any Ended
-function_part w s = token_then a_function tt (λ f. line_part (w ∷ f ∷ []) s)
+function_part : (w : Token) (s : Read) → Part (function w s) (Is a_function.tok) Ended
+function_part w s = token_then a_function refl (λ f. line_part (w ∷ f ∷ []) s)
 
 -- what follows an item
 or_function_part : (w : Token) (s : Read) {r : Rule Read} (t : Token) → is_named FUNCTION t ≡ false → Part r (Is t) AfterGroup → Part (or_function w s r) Any AfterGroup
@@ -65,13 +70,81 @@ part_part firsts.Inherits w s = or_function_part w s (a_sign 58) refl (before_pa
 part_part firsts.Friend w s = or_function_part w s (a_sign 58) refl (before_part (names_line_part (λ ns. record s { friend = true; tree = record s.tree { friends = ns } })) (λ n h. h.ended))
 part_part (firsts.Access a) w s = or_function_part w s (a_sign 58) refl (before_part (access_part a s) (λ n h. h.ended))
 part_part (firsts.Group c) w s = or_function_part w s a_name.tok refl (grouped_part c s)
-part_part firsts.Other w s = before_part (function_part w s) (λ n h. h.ended)
+part_part firsts.Other w s = weaker_part {F = Is a_function.tok} (before_part (function_part w s) (λ n h. h.ended)) (λ n h. tt)
 
 abbrev a_first : Means (kept_if is_word)
 a_first = record { tok = a_name.tok; x = a_name.tok; is = refl }
 
+-- what a word begins that FUNCTION or another token follows
+record Begins (k : First) (w : Token) (s : Read) (next : Option Token) (declares : Bool) : Type 0 where
+  y : Read
+  ms : List Item
+  derived : (part k w s).derives y ms next
+  first : passes (is_named FUNCTION) (next_of ms next) ≡ declares
+
+function_begins : (k : First) (w : Token) (s : Read) (next : Option Token) → AfterGroup next → ((y : Read) (ms : List Item) → passes (is_named FUNCTION) (next_of ms next) ≡ true → (function w s).derives y ms next → (part k w s).derives y ms next) → Begins k w s next true
+function_begins k w s next h derives =
+    let e = ((function_part w s).ends next h.ended).law in
+    let first : passes (is_named FUNCTION) (next_of e.1 next) ≡ true = rw e.3 refl in
+    record { y = e.0; ms = e.1; derived = derives e.0 e.1 first e.2; first = first }
+
+with_function : (k : First) (w : Token) (s : Read) (next : Option Token) → AfterGroup next → Begins k w s next true
+with_function firsts.Implements w s next h = function_begins firsts.Implements w s next h (λ y ms e d. at_test _ _ _ e d)
+with_function firsts.Inherits w s next h = function_begins firsts.Inherits w s next h (λ y ms e d. at_test _ _ _ e d)
+with_function firsts.Friend w s next h = function_begins firsts.Friend w s next h (λ y ms e d. at_test _ _ _ e d)
+with_function (firsts.Access a) w s next h = function_begins (firsts.Access a) w s next h (λ y ms e d. at_test _ _ _ e d)
+with_function (firsts.Group c) w s next h = function_begins (firsts.Group c) w s next h (λ y ms e d. at_test _ _ _ e d)
+with_function firsts.Other w s next h = function_begins firsts.Other w s next h (λ y ms e d. d)
+
+other_begins : (k : First) (w : Token) (s : Read) {r : Rule Read} {G : Option Token → Type 0} (t : Token) → is_named FUNCTION t ≡ false → Part r (Is t) G → (next : Option Token) → G next → ((y : Read) (ms : List Item) → passes (is_named FUNCTION) (next_of ms next) ≡ false → r.derives y ms next → (part k w s).derives y ms next) → Begins k w s next false
+other_begins k w s t e part next h derives =
+    let k = (part.ends next h).law in
+    let first : passes (is_named FUNCTION) (next_of k.1 next) ≡ false = rw k.3 e in
+    record { y = k.0; ms = k.1; derived = derives k.0 k.1 first k.2; first = first }
+
+none_begins : (a b c : Bool) (other : First) → cond a firsts.Implements (cond b firsts.Inherits (cond c firsts.Friend other)) ≡ firsts.Other → (a ≡ false) × (b ≡ false) × (c ≡ false)
+none_begins true b c other e = absurd cc
+none_begins false true c other e = absurd cc
+none_begins false false true other e = absurd cc
+none_begins false false false other e = (refl, refl, refl)
+
+nothing_of : (p : Bool) → (p && false) ≡ false
+nothing_of true = refl
+nothing_of false = refl
+
+no_header : (p q r a b c : Bool) → a ≡ false → b ≡ false → c ≡ false → ((p && a) || (q && b) || (r && c)) ≡ false
+no_header p q r a b c d e f = rw (d, e, f, nothing_of p, nothing_of q, nothing_of r) refl
+
+-- whatever stands behind the word, it begins something before which it has the same mark
+same_mark : (s : Read) (t : Token) (k : First) → begins_with t ≡ k → (b : Bool) (w : Token) (next : Option Token) → AfterGroup next → (y : Read) × (ms : List Item) × (part k w s).derives y ms next × (again_mark s (passes (is_named FUNCTION) (next_of ms next)) t ≡ again_mark s b t)
+same_mark s t k e true w next h = let f = with_function k w s next h in (f.y, f.ms, f.derived, ap (λ c. again_mark s c t) f.first)
+same_mark s t firsts.Implements e false w next h = let f = other_begins firsts.Implements w s (a_sign 58) refl (implements_part s) next h.ended (λ y ms n d. at_other _ _ _ n d) in (f.y, f.ms, f.derived, ap (λ c. again_mark s c t) f.first)
+same_mark s t firsts.Inherits e false w next h = let f = other_begins firsts.Inherits w s (a_sign 58) refl (names_line_part (λ ns. record s { inherits = true; tree = record s.tree { inherits = ns } })) next h.ended (λ y ms n d. at_other _ _ _ n d) in (f.y, f.ms, f.derived, ap (λ c. again_mark s c t) f.first)
+same_mark s t firsts.Friend e false w next h = let f = other_begins firsts.Friend w s (a_sign 58) refl (names_line_part (λ ns. record s { friend = true; tree = record s.tree { friends = ns } })) next h.ended (λ y ms n d. at_other _ _ _ n d) in (f.y, f.ms, f.derived, ap (λ c. again_mark s c t) f.first)
+same_mark s t (firsts.Access a) e false w next h = let f = other_begins (firsts.Access a) w s (a_sign 58) refl (access_part a s) next h.ended (λ y ms n d. at_other _ _ _ n d) in (f.y, f.ms, f.derived, ap (λ c. again_mark s c t) f.first)
+same_mark s t (firsts.Group c) e false w next h = let f = other_begins (firsts.Group c) w s a_name.tok refl (grouped_part c s) next h (λ y ms n d. at_other _ _ _ n d) in (f.y, f.ms, f.derived, ap (λ b. again_mark s b t) f.first)
+same_mark s t firsts.Other e false w next h =
+    let f = with_function firsts.Other w s next h in
+    let n = none_begins (is_named IMPLEMENTS t) (is_named INHERITS t) (is_named FRIEND t) _ e in
+    let again : is_again s t ≡ false = no_header s.implements s.inherits s.friend _ _ _ n.0 n.1 n.2 in
+    (f.y, f.ms, f.derived, ap (λ c. again_mark s c t) f.first ∙ sym (ap (λ c. first_mark c Repeated None) again))
+
+kept_is_word : (b : Bool) (t x : Token) → cond b (Some t) None ≡ Some x → x ≡ t
+kept_is_word true t x e = cc
+kept_is_word false t x e = absurd cc
+
+word_goes : (s : Read) → Goes (kept_if is_word) (is_named FUNCTION) (again_mark s) (λ w. part (begins_with w) w s) AfterGroup
+word_goes s = record { law = λ t x b next v h. same_mark s t (begins_with x) (sym (ap begins_with (kept_is_word (is_word t) (kept t) x v))) b x next h }
+
+only_repeated : (s : Read) (b : Bool) (t : Token) (m : Mark) → again_mark s b t ≡ Some m → m ≡ Repeated
+only_repeated s true t m e = absurd cc
+only_repeated s false t m e = first_repeated (is_again s t) m e where
+  first_repeated : (b : Bool) (m : Mark) → first_mark b Repeated None ≡ Some m → m ≡ Repeated
+  first_repeated true m e = cc
+  first_repeated false m e = absurd cc
+
 worded_part : (s : Read) → Part (worded s) (Is a_name.tok) AfterGroup
-worded_part s = token_then a_first refl (λ w. part_part (begins_with w) w s)
+worded_part s = lookahead_part (kept_if is_word) (is_named FUNCTION) (again_mark s) (λ w. part (begins_with w) w s) AfterGroup a_first (λ w. part_part (begins_with w) w s) (word_goes s) (only_repeated s) refl
 
 pub item_part : (s : Read) → Part (item s) (Is a_name.tok) AfterGroup
 item_part s = part_choice (before_part (kept_line_part s) (λ n h. h.ended)) (worded_part s) (λ n h. rw h refl)

@@ -17,29 +17,24 @@ use Rattle.cx_text.specs.Lexemes.{first_mark, among, new_name, comma, is_comma_o
 use Rattle.cx_text.specs.Lexemes as lexemes
 use Rattle.cx_text.specs.Written.{word}
 use Rattle.cx_text.proofs.Printing.{IsShortName}
-use Rattle.cx_text.proofs.Holds.{Holds, NamesAre, unmarked_clean, holds_any, holds_also, holds_nothing, holds_token, holds_choice, holds_loop, holds_lexeme, weaker_holds, names_hold, name_is_word, name_is_short, each-append, spelled_holds}
+use Rattle.cx_text.proofs.Holds.{first_none, Holds, NamesAre, unmarked_clean, holds_any, holds_also, holds_nothing, holds_token, holds_lookahead, holds_choice, holds_loop, holds_lexeme, weaker_holds, names_hold, name_is_word, name_is_short, each-append, spelled_holds}
 use Rattle.cx_iface.specs.declared.tree.Access.{Access}
 use Rattle.cx_iface.specs.declared.tree.Interface.{Interface}
 use Rattle.cx_iface.specs.declared.interface.Read.{Read}
 use Rattle.cx_iface.specs.declared.words.First.{First}
 use Rattle.cx_iface.specs.declared.words.First.TheVariants as firsts
 use Rattle.cx_iface.specs.Words.{FUNCTION, is_line_word, begins_with}
-use Rattle.cx_iface.specs.Groups.{group_name, copies, variables, block_or_name, group}
-use Rattle.cx_iface.specs.File.{implements, inherits, friends, access, grouped, in_line, line, kept_line, function, part, is_again, worded, item, file, interface}
+use Rattle.cx_iface.specs.Groups.{group_name_of, group_name, copies, variables, block_or_name, group}
+use Rattle.cx_iface.specs.File.{implements, inherits, friends, access, grouped, in_line, line, kept_line, function, part, again_mark, worded, item, file, interface}
 use Rattle.cx_iface.proofs.PrintLaws.{CopiesFit, Distinct}
-use Rattle.cx_iface.specs.Printed as printed
-use Rattle.cx_iface.proofs.FileAgain.{FitsGroup, FitsLine, InLine, Fits, printed_spelled}
+use Rattle.cx_iface.proofs.FileAgain.{FitsGroup, FitsLine, InLine, Fits}
 use Rattle.cx_iface.proofs.AttributesFit.{Every, both, named_is, ends_no_line, KeptToken, is_kept, InRange, FitsAttributes, number_fits, attribute_fits, none_fit}
-
-first_none : (b : Bool) (m : Mark) (other : Option Mark) → first_mark b m other ≡ None → (b ≡ false) × (other ≡ None)
-first_none true m other e = absurd cc
-first_none false m other e = (refl, e)
 
 text_at : (b : Bool) (text n : List ℕ) → cond b (Some text) None ≡ Some n → (b ≡ true) × (text ≡ n)
 text_at true text n e = (refl, cc)
 text_at false text n e = absurd cc
 
-not_true : (b : Bool) → not b ≡ true → b ≡ false
+pub not_true : (b : Bool) → not b ≡ true → b ≡ false
 not_true true e = absurd cc
 not_true false e = refl
 
@@ -53,14 +48,19 @@ record NameFits (full : Bool) (n : List ℕ) : Type 0 where
   named : is_named FUNCTION (word n) ≡ false
   room : full ≡ false
 
+pub group_name_is : (t : Token) (n : List ℕ) → group_name_of t ≡ Some n → name_of t ≡ Some n
+group_name_is t n v =
+    let k = text_at (is_word t && not (is_named FUNCTION t)) t.text n v in
+    let p = both (is_word t) (not (is_named FUNCTION t)) k.0 in
+    ap (λ (b : Bool). cond b (Some t.text) None) p.0 ∙ ap (λ (text : List ℕ). Some text) k.1
+
 name_fits : (full : Bool) → Holds Every (group_name full) (λ k n. NameFits full n)
 name_fits full = holds_lexeme (λ t n h v m.
     let k = text_at (is_word t && not (is_named FUNCTION t)) t.text n v in
     let p = both (is_word t) (not (is_named FUNCTION t)) k.0 in
     let f = first_none full Limit (name_mark t) m in
-    let named : name_of t ≡ Some n = ap (λ (b : Bool). cond b (Some t.text) None) p.0 ∙ ap (λ (text : List ℕ). Some text) k.1 in
     let other : bytes_eq (map to_ascii_lowercase t.text) (map to_ascii_lowercase FUNCTION) ≡ false = sym (ap (λ (w : Bool). w && bytes_eq (map to_ascii_lowercase t.text) (map to_ascii_lowercase FUNCTION)) p.0) ∙ not_true (is_named FUNCTION t) p.1 in
-    record { name = name_is_short t n named f.1; named = subst (λ (text : List ℕ). is_named FUNCTION (word text) ≡ false) k.1 other; room = f.0 })
+    record { name = name_is_short t n (group_name_is t n v) f.1; named = subst (λ (text : List ℕ). is_named FUNCTION (word text) ≡ false) k.1 other; room = f.0 })
 
 copies_fit : Holds Every (choice (is_sign 91) copies (nothing None)) (λ n k. CopiesFit k)
 copies_fit = holds_choice
@@ -170,7 +170,7 @@ six : (w a b c d e f : Bool) → ((w && a) || (w && b) || (w && c) || (w && d) |
 six true a b c d e f h = refl
 six false a b c d e f h = absurd cc
 
-line_word_is_word : (t : Token) → is_line_word t ≡ true → is_word t ≡ true
+pub line_word_is_word : (t : Token) → is_line_word t ≡ true → is_word t ≡ true
 line_word_is_word t h =
     let is : List ℕ → Bool = λ name. bytes_eq (map to_ascii_lowercase t.text) (map to_ascii_lowercase name) in
     six (is_word t) (is (codes "USES")) (is (codes "INCLUDE")) (is (codes "INCLUDES")) (is (codes "PROVIDES")) (is (codes "REQUIRES")) (is (codes "SUBROUTINE")) h
@@ -249,11 +249,11 @@ part_fits firsts.Other w s f v same other = function_fits w s f v same other
 
 worded_fits : (s : Read) → FitsRead s → Holds Every (worded s) (λ n r. passes is_line_word n ≡ false → FitsRead r)
 worded_fits s f =
-    let mark : Token → Option Mark = λ t. first_mark (is_again s t) Repeated None in
-    holds_also (holds_token {P = KeptToken is_word mark} (λ t x h v m. is_kept is_word mark t x v m)) (λ n w k.
-    under (λ h.
-    let other : is_line_word w ≡ false = ap is_line_word k.is ∙ ap (passes is_line_word) (sym k.begins) ∙ h in
-    part_fits (begins_with w) w s f (ap is_word k.is ∙ k.passes) (ap kept k.is ∙ sym k.is) other))
+    holds_lookahead (λ t w b h v m.
+    let k = is_kept is_word (again_mark s b) t w v m in
+    weaker_holds (under (λ plain.
+    let other : is_line_word w ≡ false = ap is_line_word k.is ∙ ap (passes is_line_word) (sym k.begins) ∙ plain in
+    part_fits (begins_with w) w s f (ap is_word k.is ∙ k.passes) (ap kept k.is ∙ sym k.is) other)) (λ n r q e. q))
 
 item_fits : (s : Read) → FitsRead s → Holds Every (item s) (λ n r. FitsRead r)
 item_fits s f = holds_choice (weaker_holds (kept_line_fits s f) (λ n r q e. q)) (worded_fits s f)
@@ -277,7 +277,3 @@ fits ts v (s, d, h, e) =
       line_count = let k = f.line_count in omega (arith, k);
     } in
     subst Fits (sym e) whole
-
--- What some tokens spell is spelled again by the tokens that are printed.
-pub again : (ts : List Token) (v : Interface) → Spells interface ts v → Spells interface (printed.printed v) v
-again ts v s = printed_spelled v (fits ts v s)

@@ -24,7 +24,7 @@ use Rattle.cx_text.proofs.LexemeLaws.{Ended, a_word}
 use Rattle.cx_iface.specs.declared.tree.Interface.{Interface}
 use Rattle.cx_iface.specs.declared.interface.Read.{Read}
 use Rattle.cx_iface.specs.Words.{IMPLEMENTS, FUNCTION}
-use Rattle.cx_iface.specs.File.{nobody, implements, function, item, file, interface, implemented, is_again}
+use Rattle.cx_iface.specs.File.{nobody, implements, function, item, file, interface, implemented, again_mark}
 use Rattle.cx_iface.proofs.GroupLaws.{AfterGroup, at_end}
 use Rattle.cx_iface.proofs.FileLaws.{implements_part, item_part, file_good}
 
@@ -46,12 +46,12 @@ record Heads (s : Read) : Type 0 where
 heads : (s : Read) → Heads s
 heads s =
     let e = ((implements_part s).ends None refl).law in
-    let mark : Option Mark = first_mark (is_again s a_header) marks.Repeated None in
+    let mark : Option Mark = again_mark s (passes (is_named FUNCTION) (next_of e.1 None)) a_header in
     let at_colon : passes (is_named FUNCTION) (next_of e.1 None) ≡ false = rw e.3 refl in
     record {
       y = e.0;
       more = (a_header, mark) ∷ e.1;
-      derived = (a_header, (a_header, mark) ∷ [], e.1, refl, (a_header, refl, refl), at_other (passes (is_named FUNCTION) (next_of e.1 None)) ((function a_header s).derives e.0 e.1 None) ((implements s).derives e.0 e.1 None) at_colon e.2);
+      derived = (a_header, a_header, e.1, refl, refl, at_other (passes (is_named FUNCTION) (next_of e.1 None)) ((function a_header s).derives e.0 e.1 None) ((implements s).derives e.0 e.1 None) at_colon e.2);
       says = header_says s e.0 e.1 None e.2;
       first = refl;
     }

@@ -6,3 +6,6 @@ pub mod PrintLaws
 pub mod FileAgain
 pub mod AttributesFit
 pub mod FitLaws
+pub mod ShownLaws
+pub mod BlindLaws
+pub mod TextLaws

@@ -1,15 +1,15 @@
 -- An interface file that is printed is read again.
-use Rattle.std.proofs.Common.{◌≡◌, ◌≤◌, ◌<◌, ◌+◌, ◌-◌, ◌*◌, ◌/◌, ◌%◌, ◌^◌, ℕ, ltb, false, List, [], ◌∷◌, ◌++◌, length, map, Option, Some, None, Ok, refl, ap, ◌∙◌, append_assoc, arith}
+use Rattle.std.proofs.Common.{◌≡◌, ◌≤◌, ℕ, ltb, false, List, [], ◌∷◌, ◌++◌, length, map, Option, Some, None, Ok, refl, ap, ◌∙◌, append_assoc, arith}
 use Rattle.std.specs.Fmt.{decimal}
 use Rattle.std.proofs.lemmas.Bool.{le-ltb}
-use Rattle.std.proofs.lemmas.Fmt.{decimal_by_steps}
 use Rattle.std.proofs.lemmas.List.{append-nil}
 use Rattle.cx_text.specs.declared.token.Token.{Token}
 use Rattle.cx_text.specs.Tokens.{is_word, is_line_end}
 use Rattle.cx_text.specs.Grammar.{head, passes}
 use Rattle.cx_text.specs.Rules.{loop, choice, nothing, is_sign}
-use Rattle.cx_text.specs.Lexemes.{among, decimal_from, number_in, is_comma_or_word, kept}
+use Rattle.cx_text.specs.Lexemes.{among, is_comma_or_word, kept}
 use Rattle.cx_text.specs.Written.{word, words, number, sign}
+use Rattle.cx_text.proofs.DecimalLaws.{number_again}
 use Rattle.cx_text.proofs.Printing.{loop_step, loop_stop, no_skip, IsShortName}
 use Rattle.cx_iface.specs.declared.tree.GType.{GType}
 use Rattle.cx_iface.specs.declared.tree.GType.TheVariants.{Gf, Array, Scalar}
@@ -21,24 +21,6 @@ use Rattle.cx_iface.specs.Groups.{copies, more_variables, variables}
 use Rattle.cx_iface.specs.Printed as printed
 use Rattle.cx_iface.proofs.AttributeLaws.{attribute_short}
 use Rattle.cx_iface.proofs.GroupLaws.{more_variables_short}
-
--- ---- numbers
-
-decimal_from-push : (m : ℕ) (ds : List ℕ) (d : ℕ) → decimal_from m (ds ++ d ∷ []) ≡ decimal_from m ds * 10 + (d - 48)
-decimal_from-push m [] d = refl
-decimal_from-push m (e ∷ ds) d = decimal_from-push (m * 10 + (e - 48)) ds d
-
-pub decimal_again : (n : ℕ) → n < 2 ^ 64 → decimal_from 0 (decimal n) ≡ n
-decimal_again n h =
-    decimal_by_steps (λ k ds. decimal_from 0 ds ≡ k) (λ k s. omega arith)
-    (λ k ds l e. let p = decimal_from-push 0 ds (48 + k % 10) in let q : decimal_from 0 ds ≡ k / 10 = e in rw (p, q) (omega arith)) n h
-
-number_again : (low high n : ℕ) (rest : List Token) → low ≤ n → n ≤ high → n < 2 ^ 64 → passes is_line_end (head rest) ≡ false → (number_in low high).reads (number (decimal n) ∷ rest) ≡ Ok (n, rest)
-number_again low high n rest l h b e =
-    let value = decimal_again n b in
-    let above : ltb n low ≡ false = le-ltb _ _ l in
-    let below : ltb high n ≡ false = le-ltb _ _ h in
-    rw (value, above, below, no_skip rest e) refl
 
 -- ---- copies
 

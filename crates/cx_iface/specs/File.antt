@@ -1,13 +1,14 @@
 -- The interface file of a thorn.
-use Rattle.std.specs.Prelude.{◌≡◌, ℕ, ◌-◌, Bool, true, false, not, ◌||◌, ◌&&◌, nat_eq, List, [], ◌∷◌, ◌++◌, None, cond, Result, Ok, Err}
+use Rattle.std.specs.Prelude.{◌≡◌, ℕ, ◌-◌, Bool, true, false, not, ◌||◌, ◌&&◌, nat_eq, List, [], ◌∷◌, ◌++◌, Option, None, cond, Result, Ok, Err}
 use Rattle.cx_text.specs.declared.ctype.CType.{CType}
+use Rattle.cx_text.specs.declared.stop.Mark.{Mark}
 use Rattle.cx_text.specs.declared.stop.Mark.TheVariants.{Repeated, Limit}
 use Rattle.cx_text.specs.declared.fault.CclFault.{CclFault}
 use Rattle.cx_text.specs.declared.fault.CclFault.TheVariants as faults
 use Rattle.cx_text.specs.declared.token.Token.{Token}
 use Rattle.cx_text.specs.Tokens.{is_word, is_line_end}
 use Rattle.cx_text.specs.Grammar.{Grammar}
-use Rattle.cx_text.specs.Rules.{Rule, token, nothing, ◌>>=◌, choice, loop, is_named, line_ends, sign, name_here, sign_here, line_end}
+use Rattle.cx_text.specs.Rules.{Rule, token, nothing, ◌>>=◌, lookahead, choice, loop, is_named, line_ends, sign, name_here, sign_here, line_end}
 use Rattle.cx_text.specs.Lexemes.{first_mark, names, kept_if, more_kept}
 use Rattle.cx_iface.specs.declared.tree.Access.{Access}
 use Rattle.cx_iface.specs.declared.tree.Access.TheVariants.{Private}
@@ -108,10 +109,13 @@ part firsts.Other w s = function w s
 abbrev pub is_again : Read → Token → Bool
 is_again s t = (s.implements && is_named IMPLEMENTS t) || (s.inherits && is_named INHERITS t) || (s.friend && is_named FRIEND t)
 
+-- It is repeated, unless FUNCTION stands behind it.
+abbrev pub again_mark : Read → Bool → Token → Option Mark
+again_mark s true t = None
+again_mark s false t = first_mark (is_again s t) Repeated None
+
 abbrev pub worded : Read → Rule Read
-worded s = do
-  w ← token (kept_if is_word) (λ t. first_mark (is_again s t) Repeated None)
-  part (begins_with w) w s
+worded s = lookahead (kept_if is_word) (is_named FUNCTION) (again_mark s) (λ w. part (begins_with w) w s)
 
 -- header | access | group | other
 abbrev pub item : Read → Rule Read

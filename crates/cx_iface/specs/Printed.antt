@@ -6,7 +6,6 @@ use Rattle.std.specs.Fmt.{decimal}
 use Rattle.cx_text.specs.declared.ctype.CType.{CType}
 use Rattle.cx_text.specs.declared.ctype.CType.TheVariants.{Char, Byte, Int, Int2, Int4, Int8, Real, Complex}
 use Rattle.cx_text.specs.declared.token.Token.{Token}
-use Rattle.cx_text.specs.Grammar.{Spells}
 use Rattle.cx_text.specs.Lexemes.{kept}
 use Rattle.cx_text.specs.Written.{word, words, number, quoted, sign, line_end}
 use Rattle.cx_iface.specs.declared.tree.Access.{Access}
@@ -15,7 +14,6 @@ use Rattle.cx_iface.specs.declared.tree.GType.{GType}
 use Rattle.cx_iface.specs.declared.tree.GType.TheVariants.{Gf, Array, Scalar}
 use Rattle.cx_iface.specs.declared.tree.Group.{Group}
 use Rattle.cx_iface.specs.declared.tree.Interface.{Interface}
-use Rattle.cx_iface.specs.File.{interface}
 use Rattle.cx_iface.specs.Words.{IMPLEMENTS, INHERITS, FRIEND, TYPE, DIM, TIMELEVELS}
 
 -- ---- words
@@ -85,9 +83,5 @@ group g = opening g ++ (copies g.copies ++ (effects g ++ (map kept g.rest ++ blo
 abbrev pub line : List Token → List Token
 line ts = map kept ts ++ line_end ∷ []
 
-abbrev pub printed : Interface → List Token
-printed v = flat_map line v.others ++ (headers v ++ flat_map group v.groups)
-
--- what some tokens spell, these spell
-abbrev pub SpellsAgain : List Token → Interface → Type 0
-SpellsAgain tokens v = (ts : List Token) → Spells interface ts v → Spells interface tokens v
+abbrev pub interface_tokens : Interface → List Token
+interface_tokens v = flat_map line v.others ++ (headers v ++ flat_map group v.groups)

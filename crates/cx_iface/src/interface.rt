@@ -2,13 +2,13 @@
 
 ghost use Rattle.std.specs.Prelude.{◌≡◌, ◌∷◌, [], nat_eq, None};
 ghost use Rattle.cx_text.specs.Grammar.{passes, head, line_at, Answers, AnswersOnly};
-ghost use Rattle.cx_text.specs.Reading.{Gives};
+ghost use Rattle.cx_text.specs.Reading.{Gives, read_marked};
 ghost use Rattle.cx_text.specs.Rules.{token, loop, is_named};
 ghost use Rattle.cx_text.specs.Tokens.{is_word};
 ghost use Rattle.cx_text.specs.Lexemes.{first_mark, kept_if, more_kept};
 ghost use Rattle.cx_text.specs.declared.stop.Mark.TheVariants as marks;
 ghost use Rattle.cx_iface.specs.Words.{FUNCTION, is_line_word, begins_with};
-ghost use Rattle.cx_iface.specs.File.{nobody, implements, inherits, friends, access, grouped, in_line, line, kept_line, function, part, is_again, worded, item, file, interface, implemented};
+ghost use Rattle.cx_iface.specs.File.{nobody, implements, inherits, friends, access, grouped, in_line, line, kept_line, function, part, is_again, again_mark, worded, item, file, interface, implemented};
 
 use crate::group::group;
 use crate::words::{First, begins_with, is_line_word};
@@ -216,12 +216,28 @@ fn is_again(read: &Read, token: &Token) -> bool
         || (read.friend && token.is_named(b"FRIEND"))
 }
 
+fn is_function(rest: &[Token]) -> bool
+    ensures { result ≡ passes (is_named FUNCTION) (head rest.now) }
+{
+    match rest {
+        [token, ..] => token.is_named(b"FUNCTION"),
+        [] => false,
+    }
+}
+
+/// Whether a word before these tokens is the first one of a header of which one stands already.
+fn is_repeated(read: &Read, token: &Token, rest: &[Token]) -> bool
+    ensures { again_mark read.now (passes (is_named FUNCTION) (head rest.now)) token.now ≡ first_mark result marks.Repeated None }
+{
+    !is_function(rest) && is_again(read, token)
+}
+
 fn first_word(reader: &mut Reader, alloc: Global, read: &Read) -> Result<Token, Stop>
-    ensures { Gives (λ w. w) result reader.new.rest.now ((token (kept_if is_word) (λ t. first_mark (is_again read.now t) marks.Repeated None)).reads reader.old.rest.now) }
+    ensures { Gives (λ w. w) result reader.new.rest.now (read_marked (kept_if is_word) (is_named FUNCTION) (again_mark read.now) reader.old.rest.now) }
 {
     match reader.rest {
         [token, rest @ ..] if token.is_word() => {
-            if is_again(read, token) {
+            if is_repeated(read, token, rest) {
                 return Err(Stop::Fault(Why::Marked(Mark::Repeated)));
             }
             let kept = token.kept(alloc)?;
@@ -317,7 +333,8 @@ fn implemented(
 /// The first of these, each with its token's line:
 /// - `Unexpected`: a token with which no interface file goes on, or the end of one that is cut off or names no
 ///   implementation, with the line of the last token;
-/// - `Repeated`: a second header or attribute of one kind, a variable that its group has already;
+/// - `Repeated`: the first word of a second header of one kind, unless the word FUNCTION stands behind it, a second
+///   attribute of one kind, a variable that its group has already;
 /// - `BadNumber`: DIM outside 1 to 3, TIMELEVELS outside 1 to 8, copies outside 1 to 64;
 /// - `Limit`: a name of more than 64 bytes, the name of the 4,097th group, the first word of the 4,097th line that
 ///   is kept, or the word FUNCTION in it.

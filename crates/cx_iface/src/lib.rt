@@ -2,6 +2,8 @@
 #![tactic(auto)]
 
 mod attributes;
+#[cfg(test)]
+mod enumeration;
 mod group;
 mod interface;
 mod printer;
@@ -12,5 +14,5 @@ mod words;
 
 pub use cx_text::CType;
 pub use interface::read_interface;
-pub use printer::interface_tokens;
+pub use printer::print_interface;
 pub use tree::{Access, GType, Group, Interface};

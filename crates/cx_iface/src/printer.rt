@@ -1,14 +1,17 @@
-//! Interface files as tokens.
+//! Interface files as text.
 
 ghost use Rattle.std.specs.Prelude.{◌≡◌, ◌++◌, ◌∷◌, [], IfOk, OnOk, map};
 ghost use Rattle.std.specs.List.{flat_map};
 ghost use Rattle.std.specs.Fmt.{decimal};
+ghost use Rattle.cx_text.specs.declared.token.Style.TheVariants as styles;
 ghost use Rattle.cx_text.specs.Lexemes.{kept};
+ghost use Rattle.cx_text.specs.Printing.{printed, HasSpelling, TextSpells};
 ghost use Rattle.cx_text.specs.Written.{word, words, number};
-ghost use Rattle.cx_iface.specs.Printed.{access_word, ctype_word, gtype_word, header, name_line, headers, opening, copies as copies_of, numbered, effects, block, group as group_of, line, printed, SpellsAgain};
+ghost use Rattle.cx_iface.specs.File.{interface};
+ghost use Rattle.cx_iface.specs.Printed.{access_word, ctype_word, gtype_word, header, name_line, headers, opening, copies as copies_of, numbered, effects, block, group as group_of, line, interface_tokens};
 
 use crate::{Access, GType, Group, Interface};
-use cx_text::{CType, Kind, List, Memory, Text, Token};
+use cx_text::{CType, Kind, List, Memory, Text, Token, write_tokens};
 use std::alloc::Global;
 
 fn push_number(alloc: Global, tokens: &mut List<Token>, value: u32) -> Result<(), Memory>
@@ -205,8 +208,8 @@ fn lines(alloc: Global, tokens: &mut List<Token>, others: &[List<Token>]) -> Res
     Ok(())
 }
 
-fn printed(alloc: Global, tree: &Interface) -> Result<List<Token>, Memory>
-    ensures { IfOk result (λ tokens. tokens ≡ printed tree.now) }
+fn tokens_of(alloc: Global, tree: &Interface) -> Result<List<Token>, Memory>
+    ensures { IfOk result (λ tokens. tokens ≡ interface_tokens tree.now) }
 {
     let mut tokens = List::empty(alloc);
     lines(alloc, &mut tokens, tree.others.as_slice())?;
@@ -215,13 +218,15 @@ fn printed(alloc: Global, tree: &Interface) -> Result<List<Token>, Memory>
     Ok(tokens)
 }
 
-/// The tokens of an interface file: the lines that are kept, the headers, and a line for each group with its access.
-/// Each is on no line. Where the tree was read from tokens, these are read as the same tree.
-pub fn interface_tokens(alloc: Global, tree: &Interface) -> Result<List<Token>, Memory>
-    ensures tokens { IfOk result (λ tokens. tokens ≡ printed tree.now) }
-    // What some tokens spell, these spell.
-    ensures again { IfOk result (λ tokens. SpellsAgain tokens tree.now) }
+/// A text that spells an interface, which is one that some text spells: the lines that are kept, a line for each header,
+/// and a line for each group, with its access before it and its variables in braces. Read again, where it has at most
+/// 1,048,576 bytes, it spells the same interface.
+pub fn print_interface(alloc: Global, tree: &Interface) -> Result<Text, Memory>
+    requires { HasSpelling styles.Ccl interface tree.now }
+    ensures printed { IfOk result (λ text. text ≡ printed (interface_tokens tree.now)) }
+    ensures again { IfOk result (λ text. TextSpells styles.Ccl interface text tree.now) }
 {
-    let tokens = printed(alloc, tree)?;
-    Ok(tokens)
+    let tokens = tokens_of(alloc, tree)?;
+    let text = write_tokens(alloc, &tokens)?;
+    Ok(text)
 }

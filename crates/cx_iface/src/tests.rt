@@ -1,7 +1,12 @@
 //! Interface files, and what they say.
 
-use crate::{Access, GType, Group, Interface, interface_tokens, read_interface};
-use cx_text::{CType, CclFault, Style, Token, tokens};
+ghost use Rattle.std.specs.Prelude.{IfOk};
+ghost use Rattle.cx_text.specs.declared.token.Style.TheVariants as styles;
+ghost use Rattle.cx_text.specs.Printing.{HasSpelling};
+ghost use Rattle.cx_iface.specs.File.{interface};
+
+use crate::{Access, GType, Group, Interface, print_interface, read_interface};
+use cx_text::{CType, CclFault, Style, tokens};
 use std::alloc::Global;
 use std::process::Abort;
 use std::test::Fail;
@@ -29,17 +34,21 @@ const FAULTS: &[(&[u8], CclFault)] = &[
         CclFault::BadNumber(2),
     ),
     (
+        b"implements: ca\nimplements FUNCTION f(INT x)\nimplements x\n",
+        CclFault::Repeated(3),
+    ),
+    (
         b"implements: ca\n\npublic:\n\nINT abcdefghijklmnopqrstuvwxyz_abcdefghijklmnopqrstuvwxyz_abcdefghijk\n",
         CclFault::Limit(5),
     ),
 ];
 
 /// The interface files of the sample thorns.
-const SAMPLES: &[&[u8]] = &[
+pub const SAMPLES: &[&[u8]] = &[
     b"implements: ca\npublic:\nCCTK_BYTE cells TYPE=GF DIM=1 { cell } \"cells\"\nCCTK_INT counts TYPE=SCALAR { live } \"live cells\"\n",
     b"implements: life\npublic:\nCCTK_BYTE cells TYPE=GF DIM=2 { cell } \"cells\"\nCCTK_INT counts TYPE=SCALAR { live } \"live cells\"\n",
     b"implements: wave\npublic:\nCCTK_INT evolved TYPE=GF DIM=1 TIMELEVELS=3 { phi } \"field\"\nCCTK_INT sums TYPE=SCALAR { total } \"sum\"\n",
-    b"implements: diff\npublic:\nCCTK_INT evolved TYPE=GF DIM=1 { u } \"field\"\nCCTK_INT sums TYPE=SCALAR { total } \"sum\"\n",
+    b"implements: diff\npublic:\nCCTK_INT evolved TYPE=GF DIM=1 TIMELEVELS=1 { u } \"field\"\nCCTK_INT sums TYPE=SCALAR { total } \"sum\"\n",
     b"implements: control\npublic:\nCCTK_INT counter TYPE=SCALAR { count } \"turns left\"\n",
     FORMS,
 ];
@@ -64,7 +73,15 @@ public:
 int2 third[3] type=array dim=2 size=4,n distrib=default ghostsize=1,1 \"only\" { }
 private:
 cctk_complex fourth dim=1 { x,y,z }
+public:
 ";
+
+/// A file, and its text as it is printed.
+const PLAIN: &[u8] =
+    b"Inherits: a b,\n c\nimplements: x\nINT g[2] type=gf tags='p=\"1\"' \"t\"\n{\n u, v w\n}\nuses function f\n";
+
+const PRINTED: &[u8] =
+    b"uses function f\nIMPLEMENTS : x\nINHERITS : a b c\nFRIEND :\nPRIVATE : CCTK_INT g [ 2 ] TYPE = GF DIM = 3 TIMELEVELS = 1 tags = \"p=\\\"1\\\"\" { u v w } \"t\"\n";
 
 type Form<'a> = (
     (Access, CType, &'a [u8], Option<u32>),
@@ -102,9 +119,18 @@ const GROUPS: &[Form] = &[
     ),
 ];
 
-fn read(alloc: Global, text: &[u8]) -> Result<Result<Interface, CclFault>, Fail> {
+fn fault(alloc: Global, text: &[u8]) -> Result<Option<CclFault>, Fail> {
     let list = tokens(alloc, text, Style::Ccl)?;
-    Ok(read_interface(alloc, &list))
+    Ok(read_interface(alloc, &list).err())
+}
+
+/// Reads an interface file.
+fn interface(alloc: Global, text: &[u8]) -> Result<Interface, Fail>
+    ensures { IfOk result (λ tree. HasSpelling styles.Ccl interface tree) }
+{
+    let list = tokens(alloc, text, Style::Ccl)?;
+    let tree = read_interface(alloc, &list)?;
+    Ok(tree)
 }
 
 fn assert_group(rt: &impl Abort, group: &Group, want: &Form) {
@@ -126,14 +152,14 @@ fn assert_group(rt: &impl Abort, group: &Group, want: &Form) {
 #[test]
 fn faults_stand_on_these_lines(rt: HostRuntime) -> Result<(), Fail> {
     for (text, want) in FAULTS {
-        assert_eq!(rt; read(rt.alloc(), text)?.err(), Some(*want));
+        assert_eq!(rt; fault(rt.alloc(), text)?, Some(*want));
     }
     Ok(())
 }
 
 #[test]
 fn each_form_is_read(rt: HostRuntime) -> Result<(), Fail> {
-    let tree = read(rt.alloc(), FORMS)??;
+    let tree = interface(rt.alloc(), FORMS)?;
     assert_eq!(rt; tree.implements.as_slice(), b"all".as_slice());
     assert_eq!(rt;
         (tree.inherits.len(), tree.friends.len(), tree.others.len()),
@@ -146,46 +172,31 @@ fn each_form_is_read(rt: HostRuntime) -> Result<(), Fail> {
     Ok(())
 }
 
+/// A file is printed as a text that says the same.
+fn assert_again(rt: &impl Abort, alloc: Global, text: &[u8]) -> Result<(), Fail> {
+    let tree = interface(alloc, text)?;
+    let printed = print_interface(alloc, &tree)?;
+    let again = interface(alloc, printed.as_slice())?;
+    let (one, other) = (
+        format!(in alloc; "{tree:?}")?,
+        format!(in alloc; "{again:?}")?,
+    );
+    assert_eq!(rt; one, other);
+    Ok(())
+}
+
 #[test]
 fn files_are_printed_and_read_again(rt: HostRuntime) -> Result<(), Fail> {
     for text in SAMPLES {
-        let tree = read(rt.alloc(), text)??;
-        let list = interface_tokens(rt.alloc(), &tree)?;
-        let again = read_interface(rt.alloc(), &list)?;
-        let (one, other) = (
-            format!(in rt.alloc(); "{tree:?}")?,
-            format!(in rt.alloc(); "{again:?}")?,
-        );
-        assert_eq!(rt; one, other);
-    }
-    Ok(())
-}
-
-/// The line of the last token, or 1 where there is none.
-fn last_line(list: &[Token]) -> u32 {
-    let mut line = 1;
-    for token in list {
-        line = token.line;
-    }
-    line
-}
-
-/// A file that is cut anywhere is read, or is unexpected at its end.
-fn assert_cut(rt: &impl Abort, alloc: Global, text: &[u8]) -> Result<(), Fail> {
-    if let Ok(list) = tokens(alloc, text, Style::Ccl) {
-        if let Err(fault) = read_interface(alloc, &list) {
-            assert_eq!(rt; fault, CclFault::Unexpected(last_line(list.as_slice())));
-        }
+        assert_again(&rt, rt.alloc(), text)?;
     }
     Ok(())
 }
 
 #[test]
-fn cut_files_end_too_early(rt: HostRuntime) -> Result<(), Fail> {
-    for text in SAMPLES {
-        for end in 0..text.len() {
-            assert_cut(&rt, rt.alloc(), &text[..end])?;
-        }
-    }
+fn a_file_is_printed(rt: HostRuntime) -> Result<(), Fail> {
+    let tree = interface(rt.alloc(), PLAIN)?;
+    let printed = print_interface(rt.alloc(), &tree)?;
+    assert_eq!(rt; printed.as_slice(), PRINTED);
     Ok(())
 }
