@@ -3,3 +3,14 @@ pub mod BlockLaws
 pub mod HeadingLaws
 pub mod DefaultLaws
 pub mod ParamLaws
+pub mod NumberAgain
+pub mod RangeAgain
+pub mod TokenLaws
+pub mod BlockAgain
+pub mod HeadingAgain
+pub mod DefaultAgain
+pub mod DeclAgain
+pub mod Fair
+pub mod FitLaws
+pub mod TextLaws
+pub mod BlindLaws

@@ -1,15 +1,16 @@
 //! The defaults of parameters.
 
-ghost use Rattle.std.specs.Prelude.{◌≡◌};
+ghost use Rattle.std.specs.Prelude.{◌≡◌, IfOk};
 ghost use Rattle.cx_text.specs.Grammar.{passes, head};
 ghost use Rattle.cx_text.specs.Reading.{Gives};
 ghost use Rattle.cx_text.specs.Rules.{loop};
+ghost use Rattle.cx_text.specs.Printing.{spelling};
 ghost use Rattle.cx_param.specs.Defaults.{plain_default, is_printed, printed, more_printed, real_default, default_of, unused_default};
 
 use crate::PType;
 use crate::numbers::{at_number, number, number_text};
-use crate::printing::push_spelling;
-use cx_text::{Reader, Stop, Text, Why};
+use crate::printer::push_copy;
+use cx_text::{List, Memory, Reader, Stop, Text, Token, Why, write_tokens};
 use std::alloc::Global;
 
 fn plain_default(reader: &mut Reader, alloc: Global) -> Result<Text, Stop>
@@ -33,13 +34,21 @@ fn at_printed(reader: &Reader) -> bool
     }
 }
 
+/// A token as it is written.
+fn spelled(alloc: Global, token: &Token) -> Result<Text, Memory>
+    ensures { IfOk result (λ text. text ≡ spelling token.now.kind token.now.text) }
+{
+    let mut tokens = List::empty(alloc);
+    push_copy(&mut tokens, alloc, token)?;
+    write_tokens(alloc, &tokens)
+}
+
 fn printed(reader: &mut Reader, alloc: Global) -> Result<Text, Stop>
     ensures { Gives (λ x. x) result reader.new.rest.now (printed.reads reader.old.rest.now) }
 {
     match reader.rest {
         [token, rest @ ..] if !token.is_line_end() => {
-            let mut text = Text::new(Vec::new(alloc));
-            push_spelling(&mut text, token)?;
+            let text = spelled(alloc, token)?;
             reader.rest = rest;
             Ok(text)
         }

@@ -4,11 +4,12 @@
 mod blocks;
 mod declarations;
 mod defaults;
+#[cfg(test)]
+mod enumeration;
 mod headings;
 mod numbers;
 mod params;
 mod printer;
-mod printing;
 mod ranges;
 #[cfg(test)]
 mod tests;

@@ -2,13 +2,14 @@
 
 ghost use Rattle.std.specs.Prelude.{◌≡◌, [], ◌∷◌, ◌++◌, IfOk};
 ghost use Rattle.cx_text.specs.Written.{word, sign, line_end};
-ghost use Rattle.cx_text.specs.Printing.{printed};
+ghost use Rattle.cx_text.specs.declared.token.Style.TheVariants as styles;
+ghost use Rattle.cx_text.specs.Printing.{printed, HasSpelling, TextSpells};
 ghost use Rattle.cx_param.specs.declared.declarations.Scope.TheVariants.{Uses, Extends};
+ghost use Rattle.cx_param.specs.Params.{params};
 ghost use Rattle.cx_param.specs.Printed.{number, signed, bound, step, opening, closing, range, each_range, block, shared_block, type_name, length, alias, steer_name, steering, heading, access, default, body, decl, decls as decl_tokens};
 
-use crate::printing::print_all;
 use crate::{PType, ParamDecl, Range, Scope, Steer};
-use cx_text::{Kind, List, Memory, Text, Token};
+use cx_text::{Kind, List, Memory, Text, Token, write_tokens};
 use std::alloc::Global;
 
 fn push_number(tokens: &mut List<Token>, alloc: Global, n: u64) -> Result<(), Memory>
@@ -81,7 +82,8 @@ fn push_tokens(tokens: &mut List<Token>, alloc: Global, others: &[Token]) -> Res
     Ok(())
 }
 
-fn push_copy(tokens: &mut List<Token>, alloc: Global, token: &Token) -> Result<(), Memory>
+/// Adds the same token.
+pub fn push_copy(tokens: &mut List<Token>, alloc: Global, token: &Token) -> Result<(), Memory>
     ensures { IfOk result (λ x. tokens.new ≡ tokens.old ++ token.now ∷ []) }
 {
     let copy = Token {
@@ -316,17 +318,27 @@ fn push_decls(tokens: &mut List<Token>, alloc: Global, items: &[ParamDecl]) -> R
     Ok(())
 }
 
-/// The text of a param file with these declarations: each behind its access line, on a line of its own, with both ends
-/// of each range of numbers in brackets, and with its default in quotes. Descriptions are lost, and the default of a
-/// `REAL` stands as it is.
+fn tokens_of(alloc: Global, items: &[ParamDecl]) -> Result<List<Token>, Memory>
+    ensures { IfOk result (λ tokens. tokens ≡ decl_tokens items.now) }
+{
+    let mut tokens = List::empty(alloc);
+    push_decls(&mut tokens, alloc, items)?;
+    Ok(tokens)
+}
+
+/// A text that spells declarations, which are such as some text spells: each behind its access line, on a line of its
+/// own, with both ends of each range of numbers in brackets, and with its default in quotes, but that of a `REAL` as it
+/// stands. Descriptions are lost. Read again, where it has at most 1,048,576 bytes, it spells the same declarations.
 ///
 /// # Errors
 /// Want of memory alone.
 pub fn print_params(alloc: Global, decls: &List<ParamDecl>) -> Result<Text, Memory>
+    requires { HasSpelling styles.Ccl params.derives decls.now }
     // The text is what printing gives of their tokens.
-    ensures { IfOk result (λ text. text ≡ printed (decl_tokens decls.now)) }
+    ensures printed { IfOk result (λ text. text ≡ printed (decl_tokens decls.now)) }
+    ensures again { IfOk result (λ text. TextSpells styles.Ccl params.derives text decls.now) }
 {
-    let mut tokens = List::empty(alloc);
-    push_decls(&mut tokens, alloc, decls.as_slice())?;
-    print_all(alloc, tokens.as_slice())
+    let tokens = tokens_of(alloc, decls.as_slice())?;
+    let text = write_tokens(alloc, &tokens)?;
+    Ok(text)
 }
