@@ -1,0 +1,5 @@
+pub mod Parts
+pub mod RefLaws
+pub mod LineLaws
+pub mod BlockLaws
+pub mod NodeLaws

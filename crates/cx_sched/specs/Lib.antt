@@ -1,0 +1,5 @@
+pub mod Words
+pub mod Refs
+pub mod Lines
+pub mod Blocks
+pub mod Nodes

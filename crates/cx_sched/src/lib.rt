@@ -1,0 +1,15 @@
+//! Schedule files: when the routines of a thorn run, and what they read and write.
+#![tactic(auto)]
+
+mod block;
+#[cfg(test)]
+mod enumeration;
+mod lines;
+mod node;
+mod reference;
+#[cfg(test)]
+mod tests;
+mod tree;
+
+pub use node::read_schedule;
+pub use tree::{Block, Node, Ref, ScheduleFile, Spot};
