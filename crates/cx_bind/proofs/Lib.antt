@@ -1,0 +1,10 @@
+pub mod SelectionLaws
+pub mod VariableLaws
+pub mod ParameterLaws
+pub mod TableLaws
+pub mod SetLaws
+pub mod BindLaws
+pub mod Samples
+pub mod PlaceLaws
+pub mod RangeLaws
+mod Rows

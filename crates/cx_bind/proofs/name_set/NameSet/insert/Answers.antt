@@ -1,0 +1,8 @@
+use Rattle.std.proofs.Common.{◌∙◌, ap, sym, not}
+use Rattle.cx_bind.proofs.SetLaws.{has_name}
+use Rattle.cx_bind.proofs.name_set.NameSet.insert.Goals as goal
+
+pub returns-clause-new : goal.returns-clause-new
+returns-clause-new c =
+    c.in_ok-new.ensures.added
+    ∙ ap (λ b. not b) (has_name c.in_ok-folded.field-0 c.self.inside.names.keys (λ v. v.items) c.args.name.now c.args.self.now c.in_ok-folded.ensures (sym c.self.view_is))

@@ -1,0 +1,7 @@
+use Rattle.std.proofs.Common.{◌≡◌, ◌++◌, take, map, Some}
+use Rattle.std.specs.List.{flat_map}
+use Rattle.cx_bind.specs.Parameters.{extension_as, extensions_in, extensions, added_by, added, extended, declared_as, thorn_parameters}
+use Rattle.cx_bind.proofs.parameters.push_all_parameters.Given as goal
+
+abbrev pub invariant-thorns : goal.invariant-thorns
+invariant-thorns l = l.params ≡ l.fn.params ++ thorn_parameters l.extensions (take l.number l.thorns)

@@ -1,0 +1,7 @@
+use Rattle.std.proofs.Common.{◌≡◌, ◌++◌, take, map, Some}
+use Rattle.std.specs.List.{flat_map}
+use Rattle.cx_bind.specs.Parameters.{extension_as, extensions_in, extensions, added_by, added, extended, declared_as, thorn_parameters}
+use Rattle.cx_bind.proofs.parameters.push_parameters_of.Given as goal
+
+abbrev pub invariant-decls : goal.invariant-decls
+invariant-decls l = l.params ≡ l.fn.params ++ flat_map (λ d. map (extended l.extensions) (declared_as l.number l.thorn d)) (take l.decl-index l.decls)

@@ -1,0 +1,6 @@
+use Rattle.std.proofs.Common.{◌≡◌, ◌++◌, take, map, Some}
+use Rattle.cx_bind.proofs.VariableLaws.{infos}
+use Rattle.cx_bind.proofs.variables.variable_infos.Given as goal
+
+abbrev pub invariant-thorns : goal.invariant-thorns
+invariant-thorns l = l.infos ≡ infos (take l.thorn-index l.thorns)

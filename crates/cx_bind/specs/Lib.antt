@@ -1,0 +1,9 @@
+pub mod BuiltIn
+pub mod Selecting
+pub mod Variables
+pub mod Parameters
+pub mod Faults
+pub mod Binding
+pub mod NameSets
+pub mod NamePlaces
+pub mod NameRanges

@@ -1,0 +1,17 @@
+-- Ranges by names in small letters.
+use Rattle.std.specs.Prelude.{◌≡◌, ℕ, List, []}
+use Rattle.std.specs.Map.{lookup}
+use Rattle.std.specs.Option.{unwrap_or}
+use Rattle.std.specs.Str.{bytes_eq}
+use Rattle.cx_param.specs.declared.ranges.Range.{Range}
+use Rattle.cx_bind.specs.declared.parameters.Extension.{Extension}
+use Rattle.cx_bind.specs.NameSets.{folded}
+use Rattle.cx_bind.specs.Parameters.{added}
+
+-- the ranges of a name, if it has any
+abbrev pub ranges_of : List ℕ → List (List ℕ × List Range) → List Range
+ranges_of name named = unwrap_or (lookup (bytes_eq name) named) []
+
+-- Each name's ranges are what extensions add to the parameter of the name.
+abbrev pub AreAdded : List Extension → List (List ℕ × List Range) → Type 0
+AreAdded es named = (full : List ℕ) → ranges_of (folded full) named ≡ added es full

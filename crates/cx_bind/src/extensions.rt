@@ -1,0 +1,83 @@
+//! What thorns add to the ranges of parameters, by their full names.
+
+ghost use Rattle.std.specs.Prelude.{◌≡◌, ◌++◌, ℕ, List, [], if◌then◌else◌, IfOk, OnOk};
+ghost use Rattle.std.specs.Str.{bytes_eq};
+ghost use Rattle.cx_bind.specs.NameSets.{folded};
+ghost use Rattle.cx_bind.specs.NameRanges.{ranges_of, AreAdded};
+ghost use Rattle.cx_bind.specs.Parameters.{added};
+
+use crate::copies::push_ranges;
+use crate::name_ranges::NameRanges;
+use crate::parameters::Extension;
+use cx_param::Range;
+use cx_text::{List, Memory};
+use std::alloc::Global;
+use std::marker::Model;
+
+/// Extensions, with their ranges by full names. Contracts see the extensions.
+#[derive(Drop)]
+pub(crate) struct ExtensionTable {
+    extensions: List<Extension>,
+    ranges: NameRanges,
+}
+
+impl Model for ExtensionTable {
+    ghost use Rattle.std.specs.Prelude.{List};
+    ghost use Rattle.cx_bind.specs.declared.parameters.Extension.{Extension};
+    ghost use Rattle.cx_bind.specs.NameRanges.{AreAdded};
+
+    ghost Value = { List Extension };
+
+    ghost view = { λ t. t.extensions };
+
+    ghost invariant = { λ t. AreAdded t.extensions t.ranges };
+}
+
+fn add_extension(
+    alloc: Global,
+    ranges: &mut NameRanges,
+    extension: &Extension,
+) -> Result<(), Memory>
+    ensures { OnOk result ((other : List ℕ) → ranges_of other ranges.new ≡ ranges_of other ranges.old ++ (if bytes_eq other (folded extension.now.full) then extension.now.ranges else [])) }
+{
+    ranges.add(
+        alloc,
+        extension.full.as_slice(),
+        extension.ranges.as_slice(),
+    )
+}
+
+fn ranges_by_names(alloc: Global, extensions: &[Extension]) -> Result<NameRanges, Memory>
+    ensures { IfOk result (λ ranges. AreAdded extensions.now ranges) }
+{
+    let mut ranges = NameRanges::new(alloc);
+    'extensions: for extension in extensions {
+        add_extension(alloc, &mut ranges, extension)?;
+    }
+    Ok(ranges)
+}
+
+impl ExtensionTable {
+    /// The table of these extensions.
+    pub(crate) fn new(alloc: Global, extensions: List<Extension>) -> Result<Self, Memory>
+        ensures { IfOk result (λ table. table ≡ extensions) }
+    {
+        let ranges = ranges_by_names(alloc, extensions.as_slice())?;
+        Ok(ExtensionTable { extensions, ranges })
+    }
+
+    /// Adds what extensions add to the parameter of a full name.
+    pub(crate) fn push_added(
+        &self,
+        alloc: Global,
+        ranges: &mut List<Range>,
+        full: &[u8],
+    ) -> Result<(), Memory>
+        ensures { OnOk result (ranges.new ≡ ranges.old ++ added self.now full.now) }
+    {
+        match self.ranges.get(alloc, full)? {
+            Some(more) => push_ranges(alloc, ranges, more.as_slice()),
+            None => Ok(()),
+        }
+    }
+}

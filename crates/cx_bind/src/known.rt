@@ -1,0 +1,168 @@
+//! What thorns can know of each other's parameters.
+
+ghost use Rattle.std.specs.Prelude.{◌≡◌, ◌++◌, ◌∷◌, [], ◌||◌, map, IfOk, OnOk};
+ghost use Rattle.std.specs.List.{flat_map};
+ghost use Rattle.cx_text.specs.Lexemes.{among};
+ghost use Rattle.cx_bind.specs.BuiltIn.{starred_of_driver, starred_of_io, starred};
+ghost use Rattle.cx_bind.specs.Parameters.{is_declaration, is_restricted, is_global, owner_by, declared_as, known_by, known};
+
+use crate::copies::copy_text;
+use crate::names::full_name;
+use crate::table::table;
+use crate::{Param, Thorn};
+use cx_param::{PType, ParamDecl, Scope};
+use cx_text::{List, Memory, Text, same_name};
+use std::alloc::Global;
+
+/// A parameter, as other thorns can name it.
+#[derive(Debug, Drop)]
+pub(crate) struct Known {
+    pub(crate) full: Text,
+    pub(crate) name: Text,
+    pub(crate) restricted: bool,
+    pub(crate) global: bool,
+    pub(crate) ptype: PType,
+}
+
+/// Whether a line of a param file declares a parameter.
+pub(crate) fn is_declaration(scope: &Scope) -> bool
+    ensures { result ≡ is_declaration scope.now }
+{
+    match scope {
+        Scope::Private | Scope::Restricted | Scope::Global => true,
+        Scope::Uses(_) | Scope::Extends(_) => false,
+    }
+}
+
+fn is_restricted(scope: &Scope) -> bool
+    ensures { result ≡ is_restricted scope.now }
+{
+    match scope {
+        Scope::Restricted => true,
+        Scope::Private | Scope::Global | Scope::Uses(_) | Scope::Extends(_) => false,
+    }
+}
+
+fn is_global(scope: &Scope) -> bool
+    ensures { result ≡ is_global scope.now }
+{
+    match scope {
+        Scope::Global => true,
+        Scope::Private | Scope::Restricted | Scope::Uses(_) | Scope::Extends(_) => false,
+    }
+}
+
+/// What stands before the `::` of a parameter's full name.
+pub(crate) fn owner_by<'a>(scope: &Scope, thorn: &'a Thorn) -> &'a [u8]
+    ensures { result.now ≡ owner_by scope.now thorn.now }
+{
+    match scope {
+        Scope::Private => thorn.name.as_slice(),
+        Scope::Restricted | Scope::Global | Scope::Uses(_) | Scope::Extends(_) => {
+            thorn.interface.implements.as_slice()
+        }
+    }
+}
+
+fn push_known(
+    alloc: Global,
+    knowns: &mut List<Known>,
+    thorn: &Thorn,
+    decl: &ParamDecl,
+) -> Result<(), Memory>
+    ensures { OnOk result (knowns.new ≡ knowns.old ++ map known_by (declared_as 0 thorn.now decl.now)) }
+{
+    if !is_declaration(&decl.scope) {
+        return Ok(());
+    }
+    knowns.push(Known {
+        full: full_name(alloc, owner_by(&decl.scope, thorn), decl.name.as_slice())?,
+        name: copy_text(alloc, &decl.name)?,
+        restricted: is_restricted(&decl.scope),
+        global: is_global(&decl.scope),
+        ptype: decl.ptype,
+    })
+}
+
+fn push_lines(
+    alloc: Global,
+    knowns: &mut List<Known>,
+    thorn: &Thorn,
+    decls: &[ParamDecl],
+) -> Result<(), Memory>
+    ensures { OnOk result (knowns.new ≡ knowns.old ++ flat_map (λ d. map known_by (declared_as 0 thorn.now d)) decls.now) }
+{
+    'decls: for decl in decls {
+        push_known(alloc, knowns, thorn, decl)?;
+    }
+    Ok(())
+}
+
+fn push_param(alloc: Global, knowns: &mut List<Known>, param: &Param) -> Result<(), Memory>
+    ensures { OnOk result (knowns.new ≡ knowns.old ++ known_by param.now ∷ []) }
+{
+    knowns.push(Known {
+        full: copy_text(alloc, &param.full)?,
+        name: copy_text(alloc, &param.decl.name)?,
+        restricted: is_restricted(&param.decl.scope),
+        global: is_global(&param.decl.scope),
+        ptype: param.decl.ptype,
+    })
+}
+
+fn known_params(alloc: Global, params: &[Param]) -> Result<List<Known>, Memory>
+    ensures { IfOk result (λ knowns. knowns ≡ map known_by params.now) }
+{
+    let mut knowns = List::empty(alloc);
+    'params: for param in params {
+        push_param(alloc, &mut knowns, param)?;
+    }
+    Ok(knowns)
+}
+
+fn push_thorns(alloc: Global, knowns: &mut List<Known>, thorns: &[Thorn]) -> Result<(), Memory>
+    ensures { OnOk result (knowns.new ≡ knowns.old ++ flat_map (λ t. flat_map (λ d. map known_by (declared_as 0 t d)) t.params) thorns.now) }
+{
+    'thorns: for thorn in thorns {
+        push_lines(alloc, knowns, thorn, thorn.params.as_slice())?;
+    }
+    Ok(())
+}
+
+/// All parameters: the built-in ones, and then the thorns'.
+pub(crate) fn all_known(alloc: Global, thorns: &[Thorn]) -> Result<List<Known>, Memory>
+    ensures { IfOk result (λ knowns. knowns ≡ known thorns.now) }
+{
+    let params = table(alloc, 0)?;
+    let mut knowns = known_params(alloc, params.as_slice())?;
+    push_thorns(alloc, &mut knowns, thorns)?;
+    Ok(knowns)
+}
+
+fn is_starred_of_driver(full: &[u8]) -> bool
+    ensures { result ≡ among starred_of_driver full.now }
+{
+    same_name(full, b"driver::parts_x")
+        || same_name(full, b"driver::parts_y")
+        || same_name(full, b"driver::parts_z")
+        || same_name(full, b"driver::widths_x")
+        || same_name(full, b"driver::widths_y")
+        || same_name(full, b"driver::widths_z")
+        || same_name(full, b"driver::lead")
+}
+
+fn is_starred_of_io(full: &[u8]) -> bool
+    ensures { result ≡ among starred_of_io full.now }
+{
+    same_name(full, b"IO::out_dir")
+        || same_name(full, b"IO::checkpoint_dir")
+        || same_name(full, b"IO::recover_dir")
+        || same_name(full, b"IO::recover")
+}
+
+/// Whether a parameter only says how and where a run is done.
+pub(crate) fn is_starred(full: &[u8]) -> bool
+    ensures { result ≡ among starred full.now }
+{
+    is_starred_of_driver(full) || is_starred_of_io(full)
+}

@@ -1,0 +1,28 @@
+//! Binding: thorns whose implementations, capabilities, names, types and parameters fit each other.
+#![tactic(auto)]
+
+mod bound;
+mod clashes;
+mod copies;
+mod extensions;
+mod known;
+mod name_places;
+mod name_ranges;
+mod name_set;
+mod names;
+mod needs;
+mod parameters;
+mod providers;
+mod selection;
+mod shared;
+mod table;
+#[cfg(test)]
+mod tests;
+mod thorns;
+mod unsupported;
+mod uses;
+mod variables;
+
+pub use bound::{Bound, bind};
+pub use selection::select;
+pub use thorns::{BindFault, Param, Thorn};

@@ -1,0 +1,187 @@
+//! What is read, and no run serves; and limits.
+
+ghost use Rattle.std.specs.Prelude.{◌≡◌, ◌&&◌, not, ◌==◌, find, Some, None, Option};
+ghost use Rattle.std.specs.List.{list_any};
+ghost use Rattle.std.specs.Option.{option_copied, option_map};
+ghost use Rattle.cx_bind.specs.Faults.{is_unsupported_type, is_unsupported_kind, is_unsupported_group, is_word, is_unsupported_parameter, unsupported_of, unsupported, is_grid, is_grid_but, first_group, lent, two_dims, over};
+ghost use Rattle.cx_bind.specs.Binding.{Tells};
+ghost use Rattle.cx_bind.specs.declared.thorns.BindFault.TheVariants as faults;
+
+use crate::copies::copy_text;
+use crate::variables::group_full;
+use crate::{BindFault, Thorn};
+use cx_iface::{GType, Group};
+use cx_param::{PType, ParamDecl, Range};
+use cx_text::{CType, Text};
+use std::alloc::Global;
+
+fn is_unsupported_type(ctype: CType) -> bool
+    ensures { result ≡ is_unsupported_type ctype }
+{
+    match ctype {
+        CType::Char | CType::Real | CType::Complex => true,
+        CType::Byte | CType::Int | CType::Int2 | CType::Int4 | CType::Int8 => false,
+    }
+}
+
+fn is_unsupported_kind(gtype: GType, levels: u8) -> bool
+    ensures { result ≡ is_unsupported_kind gtype levels }
+{
+    match gtype {
+        GType::Array => true,
+        GType::Scalar => levels > 1,
+        GType::Gf => false,
+    }
+}
+
+fn is_unsupported_group(group: &Group) -> bool
+    ensures { result ≡ is_unsupported_group group.now }
+{
+    is_unsupported_type(group.ctype) || is_unsupported_kind(group.gtype, group.levels)
+}
+
+fn first_unsupported_group(groups: &[Group]) -> Option<&Group>
+    ensures { option_copied result ≡ find is_unsupported_group groups.now }
+{
+    groups.iter().find(|group| is_unsupported_group(group))
+}
+
+fn is_word(range: &Range) -> bool
+    ensures { result ≡ is_word range.now }
+{
+    match range {
+        Range::Word(_) => true,
+        Range::Ints { .. } | Range::AnyText | Range::SomeText | Range::Other(_) => false,
+    }
+}
+
+fn has_word(ranges: &[Range]) -> bool
+    ensures { result ≡ list_any is_word ranges.now }
+{
+    ranges.iter().any(|range| is_word(range))
+}
+
+fn is_unsupported_parameter(decl: &ParamDecl) -> bool
+    ensures { result ≡ is_unsupported_parameter decl.now.ptype decl.now.ranges }
+{
+    match decl.ptype {
+        PType::Real => true,
+        PType::String => has_word(decl.ranges.as_slice()),
+        PType::Boolean | PType::Int | PType::Keyword => false,
+    }
+}
+
+fn first_unsupported_parameter(decls: &[ParamDecl]) -> Option<&ParamDecl>
+    ensures { option_copied result ≡ find (λ d. is_unsupported_parameter d.ptype d.ranges) decls.now }
+{
+    decls.iter().find(|decl| is_unsupported_parameter(decl))
+}
+
+fn unsupported(alloc: Global, thorn: &Thorn, name: &Text) -> Result<(), BindFault>
+    ensures { Tells (Some (faults.Unsupported thorn.now.name name.now)) result }
+{
+    Err(BindFault::Unsupported(copy_text(alloc, &thorn.name)?, copy_text(alloc, name)?))
+}
+
+fn check_groups_of(alloc: Global, thorn: &Thorn) -> Result<(), BindFault>
+    ensures { Tells (option_map (λ g. faults.Unsupported thorn.now.name g.name) (find is_unsupported_group thorn.now.interface.groups)) result }
+{
+    match first_unsupported_group(thorn.interface.groups.as_slice()) {
+        None => Ok(()),
+        Some(group) => unsupported(alloc, thorn, &group.name),
+    }
+}
+
+fn check_parameters_of(alloc: Global, thorn: &Thorn) -> Result<(), BindFault>
+    ensures { Tells (option_map (λ d. faults.Unsupported thorn.now.name d.name) (find (λ d. is_unsupported_parameter d.ptype d.ranges) thorn.now.params)) result }
+{
+    match first_unsupported_parameter(thorn.params.as_slice()) {
+        None => Ok(()),
+        Some(decl) => unsupported(alloc, thorn, &decl.name),
+    }
+}
+
+fn check_supported_of(alloc: Global, thorn: &Thorn) -> Result<(), BindFault>
+    ensures { Tells (unsupported_of thorn.now) result }
+{
+    check_groups_of(alloc, thorn)?;
+    check_parameters_of(alloc, thorn)
+}
+
+/// Tests that runs serve each group and each parameter.
+pub(crate) fn check_supported(alloc: Global, thorns: &[Thorn]) -> Result<(), BindFault>
+    ensures { Tells (unsupported thorns.now) result }
+{
+    for thorn in thorns {
+        check_supported_of(alloc, thorn)?;
+    }
+    Ok(())
+}
+
+fn is_grid(gtype: GType) -> bool
+    ensures { result ≡ is_grid gtype }
+{
+    match gtype {
+        GType::Gf => true,
+        GType::Array | GType::Scalar => false,
+    }
+}
+
+/// Whether a group is of grid functions, and where a number is given, of another number of directions.
+fn is_grid_but(dim: Option<u8>, group: &Group) -> bool
+    ensures { result ≡ is_grid_but dim group.now }
+{
+    match dim {
+        None => is_grid(group.gtype),
+        Some(dim) => is_grid(group.gtype) && group.dim != dim,
+    }
+}
+
+fn first_grid(dim: Option<u8>, groups: &[Group]) -> Option<&Group>
+    ensures { option_copied result ≡ find (is_grid_but dim) groups.now }
+{
+    groups.iter().find(|group| is_grid_but(dim, group))
+}
+
+fn first_grid_of_all(dim: Option<u8>, thorns: &[Thorn]) -> Option<(&Thorn, &Group)>
+    ensures { lent result ≡ first_group (is_grid_but dim) thorns.now }
+{
+    for thorn in thorns {
+        match first_grid(dim, thorn.interface.groups.as_slice()) {
+            Some(group) => return Some((thorn, group)),
+            None => {}
+        }
+    }
+    None
+}
+
+/// Tests that all groups of grid functions have one number of directions.
+pub(crate) fn check_dims(alloc: Global, thorns: &[Thorn]) -> Result<(), BindFault>
+    ensures { Tells (two_dims thorns.now) result }
+{
+    let Some((thorn, group)) = first_grid_of_all(None, thorns) else {
+        return Ok(());
+    };
+    let Some((other_thorn, other)) = first_grid_of_all(Some(group.dim), thorns) else {
+        return Ok(());
+    };
+    Err(BindFault::TwoDims(
+        group_full(alloc, thorn, group)?,
+        group_full(alloc, other_thorn, other)?,
+    ))
+}
+
+/// Tests that a number isn't above a limit.
+pub(crate) fn check_limit(
+    alloc: Global,
+    what: &[u8],
+    number: usize,
+    limit: usize,
+) -> Result<(), BindFault>
+    ensures { Tells (over what.now number limit) result }
+{
+    if number > limit {
+        return Err(BindFault::Limit(Text::from_slice(alloc, what)?, number as u64));
+    }
+    Ok(())
+}

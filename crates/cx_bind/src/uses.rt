@@ -1,0 +1,156 @@
+//! What thorns use and extend: parameters of the implementations that they share.
+
+ghost use Rattle.std.specs.Prelude.{◌≡◌, Some};
+ghost use Rattle.cx_plan.specs.Names.{full_name};
+ghost use Rattle.cx_plan.specs.Lists.{first_of_each};
+ghost use Rattle.cx_bind.specs.Parameters.{shared_by, shared_parameter};
+ghost use Rattle.cx_bind.specs.Faults.{no_parameter_by, no_parameter, is_same_type, wrong_type_at, wrong_type_by, wrong_type};
+ghost use Rattle.cx_bind.specs.Binding.{Tells};
+ghost use Rattle.cx_bind.specs.declared.thorns.BindFault.TheVariants as faults;
+
+use crate::copies::copy_text;
+use crate::known::Known;
+use crate::names::full_name;
+use crate::needs::shared_by;
+use crate::shared::KnownTable;
+use crate::{BindFault, Thorn};
+use cx_param::{PType, ParamDecl};
+use cx_text::Text;
+use std::alloc::Global;
+
+fn missing_parameter(
+    alloc: Global,
+    thorn: &Thorn,
+    implementation: &Text,
+    decl: &ParamDecl,
+) -> Result<(), BindFault>
+    ensures { Tells (Some (faults.NoParameter thorn.now.name implementation.now decl.now.name)) result }
+{
+    Err(BindFault::NoParameter(
+        copy_text(alloc, &thorn.name)?,
+        copy_text(alloc, implementation)?,
+        copy_text(alloc, &decl.name)?,
+    ))
+}
+
+fn check_use(
+    alloc: Global,
+    table: &KnownTable,
+    thorn: &Thorn,
+    decl: &ParamDecl,
+) -> Result<(), BindFault>
+    ensures { Tells (no_parameter_by table.now thorn.now decl.now (shared_by decl.now.scope)) result }
+{
+    let Some(implementation) = shared_by(&decl.scope) else {
+        return Ok(());
+    };
+    let full = full_name(alloc, implementation.as_slice(), decl.name.as_slice())?;
+    match table.shared_parameter(alloc, full.as_slice())? {
+        Some(_) => Ok(()),
+        None => missing_parameter(alloc, thorn, implementation, decl),
+    }
+}
+
+fn check_uses_of(
+    alloc: Global,
+    table: &KnownTable,
+    thorn: &Thorn,
+    decls: &[ParamDecl],
+) -> Result<(), BindFault>
+    ensures { Tells (first_of_each (λ d. no_parameter_by table.now thorn.now d (shared_by d.scope)) decls.now) result }
+{
+    for decl in decls {
+        check_use(alloc, table, thorn, decl)?;
+    }
+    Ok(())
+}
+
+/// Tests that each use and each extension names a parameter that thorns can use.
+pub(crate) fn check_uses(
+    alloc: Global,
+    table: &KnownTable,
+    thorns: &[Thorn],
+) -> Result<(), BindFault>
+    ensures { Tells (no_parameter table.now thorns.now) result }
+{
+    for thorn in thorns {
+        check_uses_of(alloc, table, thorn, thorn.params.as_slice())?;
+    }
+    Ok(())
+}
+
+fn is_same_type(a: PType, b: PType) -> bool
+    ensures { result ≡ is_same_type a b }
+{
+    match (a, b) {
+        (PType::Boolean, PType::Boolean)
+        | (PType::Int, PType::Int)
+        | (PType::Keyword, PType::Keyword)
+        | (PType::String, PType::String)
+        | (PType::Real, PType::Real) => true,
+        _ => false,
+    }
+}
+
+fn check_type_against(
+    alloc: Global,
+    thorn: &Thorn,
+    decl: &ParamDecl,
+    known: &Known,
+) -> Result<(), BindFault>
+    ensures { Tells (wrong_type_at thorn.now decl.now (Some known.now)) result }
+{
+    if is_same_type(decl.ptype, known.ptype) {
+        return Ok(());
+    }
+    Err(BindFault::WrongType(
+        copy_text(alloc, &thorn.name)?,
+        copy_text(alloc, &decl.name)?,
+    ))
+}
+
+fn check_type(
+    alloc: Global,
+    table: &KnownTable,
+    thorn: &Thorn,
+    decl: &ParamDecl,
+) -> Result<(), BindFault>
+    ensures { Tells (wrong_type_by table.now thorn.now decl.now (shared_by decl.now.scope)) result }
+{
+    let Some(implementation) = shared_by(&decl.scope) else {
+        return Ok(());
+    };
+    let full = full_name(alloc, implementation.as_slice(), decl.name.as_slice())?;
+    match table.shared_parameter(alloc, full.as_slice())? {
+        None => Ok(()),
+        Some(known) => check_type_against(alloc, thorn, decl, known),
+    }
+}
+
+fn check_types_of(
+    alloc: Global,
+    table: &KnownTable,
+    thorn: &Thorn,
+    decls: &[ParamDecl],
+) -> Result<(), BindFault>
+    ensures { Tells (first_of_each (λ d. wrong_type_by table.now thorn.now d (shared_by d.scope)) decls.now) result }
+{
+    for decl in decls {
+        check_type(alloc, table, thorn, decl)?;
+    }
+    Ok(())
+}
+
+/// Tests that each use and each extension has the declared type.
+pub(crate) fn check_types(
+    alloc: Global,
+    table: &KnownTable,
+    thorns: &[Thorn],
+) -> Result<(), BindFault>
+    ensures { Tells (wrong_type table.now thorns.now) result }
+{
+    for thorn in thorns {
+        check_types_of(alloc, table, thorn, thorn.params.as_slice())?;
+    }
+    Ok(())
+}
