@@ -1,7 +1,7 @@
 -- A routine that writes one number.
 use Rattle.std.proofs.Common.{◌≡◌, ℤ, List, [], ◌∷◌, length, slice_set, arith, refl, Some, ap, ◌∙◌, sym}
 
-only_one : (xs : List ℤ) (v : ℤ) → length xs ≡ 1 → slice_set xs 0 v ≡ v ∷ []
+pub only_one : (xs : List ℤ) (v : ℤ) → length xs ≡ 1 → slice_set xs 0 v ≡ v ∷ []
 only_one [] v h = absurd (omega arith)
 only_one (x ∷ []) v h = refl
 only_one (x ∷ y ∷ xs) v h = absurd (omega arith)

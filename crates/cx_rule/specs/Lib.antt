@@ -3,3 +3,4 @@ pub mod Seen
 pub mod Routine
 pub mod Numbers
 pub mod Place
+pub mod Single

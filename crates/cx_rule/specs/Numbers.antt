@@ -16,3 +16,7 @@ mix seed index =
 -- a bit of a number's 64 bits in two's complement
 abbrev pub bit_of : ℤ → ℕ → ℕ
 bit_of number k = cast_unsigned w64 number / 2 ^ k % 2
+
+-- a number of 64 bits from a seed of 64 bits with its sign, and a place
+abbrev pub mix_from : ℤ → ℕ → ℕ
+mix_from seed index = mix (cast_unsigned w64 seed) index

@@ -1,5 +1,5 @@
 -- The place of a point in global order.
-use Rattle.std.specs.Prelude.{ℕ, ℤ, pos, slice_index_or}
+use Rattle.std.specs.Prelude.{ℕ, ℤ, pos, negsuc, Bool, false, nat_eq, slice_index_or}
 use Rattle.cx_grid.specs.Boxes.{index_in}
 use Rattle.cx_grid.specs.Grid.{whole}
 use Rattle.cx_rule.specs.declared.place.Place.{Place}
@@ -11,3 +11,8 @@ global_index at = index_in (whole at.shape) at.at
 -- the number of a parameter
 abbrev pub param_of : Place → ℕ → ℤ
 param_of at k = slice_index_or at.params k (pos 0)
+
+-- whether a number is this place
+abbrev pub is_place : ℤ → ℕ → Bool
+is_place (pos n) index = nat_eq n index
+is_place (negsuc n) index = false

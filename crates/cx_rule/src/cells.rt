@@ -1,5 +1,7 @@
-ghost use Rattle.std.specs.Prelude.{◌≡◌, ◌<◌, length, slice_set, slice_index_or, pos, IfOk, replicate};
+ghost use Rattle.std.specs.Prelude.{◌≡◌, ◌<◌, length, slice_set, slice_index_or, pos, IfOk, replicate, ◌∷◌, [], OnOk, OnErr, Some, None};
+ghost use Rattle.cx_rule.specs.Single.{one_number};
 
+use crate::Overflow;
 use cx_text::Memory;
 use std::alloc::Global;
 use std::marker::Model;
@@ -33,6 +35,35 @@ impl Cells {
         ensures { self.new ≡ slice_set self.old k value }
     {
         self.values[k] = value;
+    }
+
+    /// Sets the number of the one write that there is.
+    #[tactic(auto, using(crate::proofs::Single::only_one))]
+    pub fn set_only(&mut self, value: i64)
+        requires { length self.old ≡ 1 }
+        ensures { self.new ≡ value ∷ [] }
+    {
+        self.set(0, value);
+    }
+
+    /// Sets the number of the one write that there is, if there is such a number.
+    ///
+    /// # Errors
+    ///
+    /// `Overflow` exactly where there is none; the cells are then as they were.
+    pub fn set_if(&mut self, value: Option<i64>) -> Result<(), Overflow>
+        requires { length self.old ≡ 1 }
+        ensures numbers { OnOk result (one_number value ≡ Some self.new) }
+        ensures overflow { OnErr result (one_number value ≡ None) }
+        ensures room { length self.new ≡ length self.old }
+    {
+        match value {
+            Some(number) => {
+                self.set_only(number);
+                Ok(())
+            }
+            None => Err(Overflow),
+        }
     }
 
     /// The number of a write.

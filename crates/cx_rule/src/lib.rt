@@ -11,7 +11,7 @@ mod window;
 
 pub use cells::Cells;
 pub use meter::Meter;
-pub use numbers::{bit, mix};
+pub use numbers::{bit, mix, mix_from};
 pub use place::{Params, Place};
 pub use routine::{Overflow, Routine, apply, object};
 pub use spec::{Spec, Want};

@@ -1,5 +1,9 @@
+ghost use Rattle.std.specs.Prelude.{◌≡◌, ◌++◌, ◌∷◌, [], IfOk, OnOk};
+ghost use Rattle.cx_rule.specs.Single.{want_of};
+
 use cx_plan::{ItemKind, Region};
-use cx_text::{List, Text};
+use cx_text::{List, Memory, Text};
+use std::alloc::Global;
 
 /// A variable that a routine reads or writes.
 #[derive(Debug, Drop)]
@@ -27,4 +31,60 @@ pub struct Spec {
     pub writes: List<Want>,
     /// The full names of the parameters that its rule takes, in the order of the place's numbers.
     pub params: List<Text>,
+}
+
+impl Want {
+    /// A variable by its full name, in a region and with a reach.
+    pub fn new(alloc: Global, name: &[u8], region: Region, reach: u8) -> Result<Self, Memory>
+        ensures { IfOk result (λ want. want ≡ want_of name.now region reach) }
+    {
+        Ok(Want {
+            name: Text::from_slice(alloc, name)?,
+            region,
+            reach,
+        })
+    }
+}
+
+impl Spec {
+    /// A routine of a thorn that reads, writes and takes nothing.
+    pub fn new(alloc: Global, thorn: &[u8], name: &[u8], kind: ItemKind) -> Result<Self, Memory>
+        ensures { IfOk result (λ spec. spec ≡ record { thorn = thorn.now; name = name.now; kind = kind; reads = []; writes = []; params = [] }) }
+    {
+        Ok(Spec {
+            thorn: Text::from_slice(alloc, thorn)?,
+            name: Text::from_slice(alloc, name)?,
+            kind,
+            reads: List::empty(alloc),
+            writes: List::empty(alloc),
+            params: List::empty(alloc),
+        })
+    }
+
+    /// Adds a read behind the others.
+    pub fn add_read(
+        &mut self,
+        alloc: Global,
+        name: &[u8],
+        region: Region,
+        reach: u8,
+    ) -> Result<(), Memory>
+        ensures { OnOk result (self.new ≡ record self.old { reads = self.old.reads ++ want_of name.now region reach ∷ [] }) }
+    {
+        self.reads.push(Want::new(alloc, name, region, reach)?)
+    }
+
+    /// Adds a write behind the others.
+    pub fn add_write(&mut self, alloc: Global, name: &[u8], region: Region) -> Result<(), Memory>
+        ensures { OnOk result (self.new ≡ record self.old { writes = self.old.writes ++ want_of name.now region 0 ∷ [] }) }
+    {
+        self.writes.push(Want::new(alloc, name, region, 0)?)
+    }
+
+    /// Adds a parameter behind the others.
+    pub fn add_param(&mut self, alloc: Global, name: &[u8]) -> Result<(), Memory>
+        ensures { OnOk result (self.new ≡ record self.old { params = self.old.params ++ name.now ∷ [] }) }
+    {
+        self.params.push(Text::from_slice(alloc, name)?)
+    }
 }

@@ -3,6 +3,7 @@ ghost use Rattle.std.specs.Prelude.{◌≡◌, ◌≤◌, ◌<◌, ◌+◌, ◌+
 ghost use Rattle.cx_grid.specs.Boxes.{IsIn, point_count, index_in};
 ghost use Rattle.cx_grid.specs.Windows.{reach_box};
 ghost use Rattle.cx_rule.specs.Seen.{volume_of, volumes, HasRoom, value_of, place_of, place_among, IsOffset};
+ghost use Rattle.cx_rule.specs.Single.{here};
 
 use cx_grid::{Point, count, index_of, reach_box};
 use cx_text::Memory;
@@ -77,6 +78,14 @@ impl Window {
     {
         let place = place_of(self.dims, &self.reaches, read, offset);
         self.values[place]
+    }
+
+    /// The value of a read at the point itself.
+    pub fn here(&self, read: usize) -> i64
+        requires { read < length self.now.seen.reaches }
+        ensures { result ≡ value_of self.now.seen read here }
+    {
+        self.value(read, Point { x: 0, y: 0, z: 0 })
     }
 
     /// Sets the value of a read at an offset of at most its reach in each direction.

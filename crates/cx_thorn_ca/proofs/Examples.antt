@@ -1,4 +1,4 @@
--- Wolfram's rules on a ring of eight cells.
+-- Wolfram's rules on a ring of eight cells, and Conway's on nine cells.
 use Rattle.std.proofs.Common.{◌≡◌, ℤ, pos, negsuc, List, [], ◌∷◌, map, Option, Some, true, false, refl}
 use Rattle.cx_grid.specs.declared.boxes.Point.{Point}
 use Rattle.cx_grid.specs.declared.shapes.Shape.{Shape}
@@ -6,8 +6,8 @@ use Rattle.cx_grid.specs.Boxes.{points_in}
 use Rattle.cx_grid.specs.Grid.{whole}
 use Rattle.cx_grid.specs.Windows.{window}
 use Rattle.cx_rule.specs.Seen.{Seen}
-use Rattle.cx_rule.specs.declared.place.Place.{Place}
 use Rattle.cx_thorn_ca.specs.Automaton.{ca_init_rule, ca_step_rule}
+use Rattle.cx_thorn_ca.specs.Life.{life_step_rule}
 
 abbrev ring : Shape
 ring = record { dims = 1; n = record { x = pos 8; y = pos 1; z = pos 1 }; ghost_ = record { x = pos 1; y = pos 0; z = pos 0 }; periodic = true ∷ false ∷ false ∷ [] }
@@ -35,3 +35,20 @@ first = refl
 around : stepped (pos 2) (pos 1 ∷ pos 0 ∷ pos 0 ∷ pos 0 ∷ pos 0 ∷ pos 0 ∷ pos 0 ∷ pos 0 ∷ [])
     ≡ some_of (pos 0 ∷ pos 0 ∷ pos 0 ∷ pos 0 ∷ pos 0 ∷ pos 0 ∷ pos 0 ∷ pos 1 ∷ [])
 around = refl
+
+-- the next of the middle one of nine cells, with births at 3 and survivals at 2 and 3
+abbrev next_life : List ℤ → Option (List ℤ)
+next_life cells =
+    life_step_rule (record { dims = 2; reaches = 1 ∷ []; values = cells }) (record { at = record { x = pos 0; y = pos 0; z = pos 0 }; shape = ring; iteration = 1; params = pos 12 ∷ pos 8 ∷ [] })
+
+born : next_life (pos 1 ∷ pos 1 ∷ pos 1 ∷ pos 0 ∷ pos 0 ∷ pos 0 ∷ pos 0 ∷ pos 0 ∷ pos 0 ∷ []) ≡ Some (pos 1 ∷ [])
+born = refl
+
+survives : next_life (pos 0 ∷ pos 0 ∷ pos 0 ∷ pos 1 ∷ pos 1 ∷ pos 1 ∷ pos 0 ∷ pos 0 ∷ pos 0 ∷ []) ≡ Some (pos 1 ∷ [])
+survives = refl
+
+crowded : next_life (pos 1 ∷ pos 1 ∷ pos 1 ∷ pos 1 ∷ pos 1 ∷ pos 0 ∷ pos 0 ∷ pos 0 ∷ pos 0 ∷ []) ≡ Some (pos 0 ∷ [])
+crowded = refl
+
+not_born_of_two : next_life (pos 1 ∷ pos 0 ∷ pos 0 ∷ pos 0 ∷ pos 0 ∷ pos 0 ∷ pos 0 ∷ pos 0 ∷ pos 1 ∷ []) ≡ Some (pos 0 ∷ [])
+not_born_of_two = refl

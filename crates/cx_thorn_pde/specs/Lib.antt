@@ -1,0 +1,6 @@
+pub mod Exact
+pub mod Around
+pub mod Start
+pub mod Wave
+pub mod Heat
+pub mod Control

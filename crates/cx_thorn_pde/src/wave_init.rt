@@ -1,0 +1,111 @@
+//! How a wave starts.
+ghost use Rattle.std.specs.Prelude.{◌≡◌, length, OnOk, OnErr, Some, None};
+ghost use Rattle.cx_thorn_pde.specs.Wave.{wave_init_spec, wave_init_rule, wave_init1_spec, wave_init1_rule, number_twice};
+
+use crate::start::start_at;
+use cx_plan::{ItemKind, Region};
+use cx_rule::{Cells, Meter, Overflow, Place, Routine, Spec, Window};
+use cx_text::Memory;
+use std::alloc::Global;
+
+/// The routine `wave_init`: `wave::phi` and the level before it become the start, by `wave::pattern`, `wave::amount`,
+/// `wave::start` and `wave::seed`.
+#[derive(Debug, Drop)]
+pub struct WaveInit {
+    spec: Spec,
+    ghost is: { spec ≡ wave_init_spec },
+}
+
+impl WaveInit {
+    /// The routine as an object.
+    pub fn new(alloc: Global) -> Result<Self, Memory> {
+        let mut spec = Spec::new(alloc, b"WaveInt", b"wave_init", ItemKind::Cell)?;
+        spec.add_write(alloc, b"wave::phi", Region::Everywhere)?;
+        spec.add_write(alloc, b"wave::phi_p", Region::Everywhere)?;
+        spec.add_param(alloc, b"wave::pattern")?;
+        spec.add_param(alloc, b"wave::amount")?;
+        spec.add_param(alloc, b"wave::start")?;
+        spec.add_param(alloc, b"wave::seed")?;
+        Ok(WaveInit { spec })
+    }
+}
+
+impl Routine for WaveInit {
+    ghost spec_of = { λ _. wave_init_spec };
+
+    ghost rule = { λ _. wave_init_rule };
+
+    fn spec(&self) -> &Spec {
+        &self.spec
+    }
+
+    fn point(
+        &self,
+        _w: &Window,
+        at: &Place,
+        out: &mut Cells,
+        meter: &mut Meter,
+    ) -> Result<(), Overflow> {
+        meter.add(1);
+        set_both(out, start_at(at))
+    }
+}
+
+/// The routine `wave_init1`: `wave::phi` alone becomes the start.
+#[derive(Debug, Drop)]
+pub struct WaveInit1 {
+    spec: Spec,
+    ghost is: { spec ≡ wave_init1_spec },
+}
+
+impl WaveInit1 {
+    /// The routine as an object.
+    pub fn new(alloc: Global) -> Result<Self, Memory> {
+        let mut spec = Spec::new(alloc, b"WaveInt", b"wave_init1", ItemKind::Cell)?;
+        spec.add_write(alloc, b"wave::phi", Region::Everywhere)?;
+        spec.add_param(alloc, b"wave::pattern")?;
+        spec.add_param(alloc, b"wave::amount")?;
+        spec.add_param(alloc, b"wave::start")?;
+        spec.add_param(alloc, b"wave::seed")?;
+        Ok(WaveInit1 { spec })
+    }
+}
+
+impl Routine for WaveInit1 {
+    ghost spec_of = { λ _. wave_init1_spec };
+
+    ghost rule = { λ _. wave_init1_rule };
+
+    fn spec(&self) -> &Spec {
+        &self.spec
+    }
+
+    fn point(
+        &self,
+        _w: &Window,
+        at: &Place,
+        out: &mut Cells,
+        meter: &mut Meter,
+    ) -> Result<(), Overflow> {
+        meter.add(1);
+        out.set_if(start_at(at))
+    }
+}
+
+/// Sets the numbers of both writes that there are, if there is a number.
+#[tactic(auto, using(crate::proofs::Pairs::only_two))]
+fn set_both(out: &mut Cells, value: Option<i64>) -> Result<(), Overflow>
+    requires { length out.old ≡ 2 }
+    ensures numbers { OnOk result (number_twice value ≡ Some out.new) }
+    ensures overflow { OnErr result (number_twice value ≡ None) }
+    ensures room { length out.new ≡ length out.old }
+{
+    match value {
+        Some(number) => {
+            out.set(0, number);
+            out.set(1, number);
+            Ok(())
+        }
+        None => Err(Overflow),
+    }
+}

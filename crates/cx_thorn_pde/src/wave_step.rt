@@ -1,0 +1,81 @@
+//! One step of a wave.
+ghost use Rattle.std.specs.Prelude.{◌≡◌, ◌≤◌, ◌≤ℤ◌, ◌∷◌, [], ◌^◌, ◌+ℤ◌, ◌-ℤ◌, ◌*ℤ◌, pos, negsuc};
+ghost use Rattle.cx_rule.specs.Seen.{value_of};
+ghost use Rattle.cx_rule.specs.Single.{here};
+ghost use Rattle.cx_thorn_pde.specs.Around.{lap};
+ghost use Rattle.cx_thorn_pde.specs.Exact.{in_64_bits, scaled};
+ghost use Rattle.cx_thorn_pde.specs.Wave.{wave_step_spec, wave_step_rule};
+
+use crate::around::lap;
+use crate::exact::plus_scaled;
+use cx_plan::{ItemKind, Region};
+use cx_rule::{Cells, Meter, Overflow, Place, Routine, Spec, Window};
+use cx_text::Memory;
+use std::alloc::Global;
+
+/// The routine `wave_step`: each point of the interior becomes twice its last value, minus the one before it, and
+/// `wave::factor` 256ths of its bend, rounded down.
+#[derive(Debug, Drop)]
+pub struct WaveStep {
+    spec: Spec,
+    ghost is: { spec ≡ wave_step_spec },
+}
+
+impl WaveStep {
+    /// The routine as an object.
+    pub fn new(alloc: Global) -> Result<Self, Memory> {
+        let mut spec = Spec::new(alloc, b"WaveInt", b"wave_step", ItemKind::Cell)?;
+        spec.add_read(alloc, b"wave::phi_p", Region::Everywhere, 1)?;
+        spec.add_read(alloc, b"wave::phi_p_p", Region::Interior, 0)?;
+        spec.add_write(alloc, b"wave::phi", Region::Interior)?;
+        spec.add_param(alloc, b"wave::factor")?;
+        Ok(WaveStep { spec })
+    }
+}
+
+impl Routine for WaveStep {
+    ghost spec_of = { λ _. wave_step_spec };
+
+    ghost rule = { λ _. wave_step_rule };
+
+    fn spec(&self) -> &Spec {
+        &self.spec
+    }
+
+    fn point(
+        &self,
+        w: &Window,
+        at: &Place,
+        out: &mut Cells,
+        meter: &mut Meter,
+    ) -> Result<(), Overflow> {
+        meter.add(1);
+        out.set_if(next(w, at.shape.dims, at.param(0)))
+    }
+}
+
+/// The next value at the point, if it has 64 bits.
+fn next(w: &Window, dims: u8, factor: i64) -> Option<i64>
+    requires directions { w.now.seen.dims ≡ dims }
+    requires some { 1 ≤ dims }
+    requires most { dims ≤ 3 }
+    requires reads { w.now.seen.reaches ≡ 1 ∷ 0 ∷ [] }
+    ensures { result ≡ in_64_bits (pos 2 *ℤ value_of w.now.seen 0 here -ℤ value_of w.now.seen 1 here +ℤ scaled factor (lap w.now.seen)) }
+{
+    let bend = lap(w, dims);
+    stepped(w.here(0), w.here(1), factor, bend)
+}
+
+fn stepped(last: i64, before: i64, factor: i64, bend: i128) -> Option<i64>
+    ensures { result ≡ in_64_bits (pos 2 *ℤ last -ℤ before +ℤ scaled factor bend) }
+{
+    plus_scaled(twice_minus(last, before), factor, bend)
+}
+
+fn twice_minus(last: i64, before: i64) -> i128
+    ensures value { result ≡ pos 2 *ℤ last -ℤ before }
+    ensures low { negsuc (2 ^ 66) ≤ℤ result }
+    ensures high { result ≤ℤ pos (2 ^ 66) }
+{
+    2 * last as i128 - before as i128
+}
