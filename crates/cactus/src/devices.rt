@@ -1,5 +1,5 @@
 // Devices that fail in one call, and tell nothing.
-ghost use Rattle.std.specs.Prelude.{◌≡◌, IfErr};
+ghost use Rattle.std.specs.Prelude.{◌≡◌, IfErr, false};
 ghost use Rattle.cx_disk.specs.Cause.{HasCause};
 ghost use Rattle.cx_disk.specs.Disk.{untold};
 ghost use Rattle.cx_run.specs.Shelf.{nothing_held};
@@ -17,7 +17,10 @@ pub struct LateShelf {
 }
 
 impl LateShelf {
-    pub fn new(bytes: &'static [u8]) -> Self {
+    pub fn new(bytes: &'static [u8]) -> Self
+        ensures given { result.bytes.now ≡ bytes.now }
+        ensures faults { result.faults ≡ 0 }
+    {
         LateShelf { bytes, faults: 0 }
     }
 }
@@ -48,7 +51,9 @@ pub struct HollowDisk {
 }
 
 impl HollowDisk {
-    pub fn new(fail: u64) -> Self {
+    pub fn new(fail: u64) -> Self
+        ensures { result ≡ record { calls = 0; fail = fail; mounted = false; faults = 0 } }
+    {
         HollowDisk {
             calls: 0,
             fail,
@@ -58,7 +63,9 @@ impl HollowDisk {
     }
 
     /// How many calls there were.
-    pub fn calls(&self) -> u64 {
+    pub fn calls(&self) -> u64
+        ensures { result ≡ self.now.calls }
+    {
         self.calls
     }
 

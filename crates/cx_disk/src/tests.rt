@@ -43,6 +43,31 @@ fn folder_disk_keeps_files(rt: HostRuntime) -> Result<(), Fail> {
     disk.write_at(7, 0, b"kept")?;
     disk.cut(8, 9)?;
     disk.sync(8)?;
+    let mut other = FolderDisk::new(rt, alloc);
+    other.mount(&output, &here)?;
+    assert_eq!(rt; other.length(8)?, 9);
+    let mut into = [0; 3];
+    other.read(8, 6, &mut into)?;
+    assert_eq!(rt; into, *b"67a");
+    assert_eq!(rt;
+        fs::read_to_string(&rt, "new/out/output.asc")?.as_str(),
+        "01234567a"
+    );
+    assert_eq!(rt;
+        fs::read_to_string(&rt, "checkpoint.chkpt.7")?.as_str(),
+        "kept"
+    );
+    Ok(())
+}
+
+#[test]
+fn folder_disk_fails_outside_its_files(rt: HostRuntime) -> Result<(), Fail> {
+    let alloc = rt.alloc();
+    let output = Text::from_slice(alloc, b"other/out")?;
+    let here = Text::from_slice(alloc, b"other")?;
+    let mut disk = FolderDisk::new(rt, alloc);
+    disk.mount(&output, &here)?;
+    disk.write_at(8, 0, b"012345678")?;
     assert_eq!(rt;
         disk.write_at(8, 10, b"x"),
         Err(DiskFault::Failed),
@@ -53,24 +78,11 @@ fn folder_disk_keeps_files(rt: HostRuntime) -> Result<(), Fail> {
         Err(DiskFault::Failed),
         "longer than the file"
     );
-    let mut other = FolderDisk::new(rt, alloc);
-    other.mount(&output, &here)?;
-    assert_eq!(rt; other.length(8)?, 9);
     let mut into = [0; 3];
-    other.read(8, 6, &mut into)?;
-    assert_eq!(rt; into, *b"67a");
     assert_eq!(rt;
-        other.read(8, 7, &mut into),
+        disk.read(8, 7, &mut into),
         Err(DiskFault::Failed),
         "past the end"
-    );
-    assert_eq!(rt;
-        fs::read_to_string(&rt, "new/out/output.asc")?.as_str(),
-        "01234567a"
-    );
-    assert_eq!(rt;
-        fs::read_to_string(&rt, "checkpoint.chkpt.7")?.as_str(),
-        "kept"
     );
     Ok(())
 }

@@ -94,7 +94,6 @@ pub record IsMissing (c : Call) (file : List ℕ) : Type 0 where
   pub meter : c.meter_after ≡ c.meter_before
 
 -- the bytes under the name are those of no job, and no file and no point was touched
--- the file asks for no job
 pub record IsNoJob (c : Call) (file bytes : List ℕ) : Type 0 where
   pub words : IsRun c.words file
   pub held : c.held file (Some bytes)
@@ -102,16 +101,19 @@ pub record IsNoJob (c : Call) (file bytes : List ℕ) : Type 0 where
   pub disk : c.same_disk
   pub meter : c.meter_after ≡ c.meter_before
 
+-- that, since this is the first fault of the text
 pub record IsNoText (c : Call) (file : List ℕ) (fault : TextFault) : Type 0 where
   pub bytes : List ℕ
   pub no_job : IsNoJob c file bytes
   pub cause : HasTextFault bytes fault
 
+-- that, since this is the first fault of the text's tokens
 pub record IsNoTree (c : Call) (file : List ℕ) (fault : CclFault) : Type 0 where
   pub bytes : List ℕ
   pub no_job : IsNoJob c file bytes
   pub cause : HasTreeFault file bytes fault
 
+-- that, since its settings ask for no job
 pub record IsNotBuilt (c : Call) (file : List ℕ) : Type 0 where
   pub bytes : List ℕ
   pub no_job : IsNoJob c file bytes
