@@ -3,3 +3,4 @@ pub mod Refs
 pub mod Lines
 pub mod Blocks
 pub mod Nodes
+pub mod Printed

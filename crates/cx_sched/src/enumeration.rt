@@ -1,6 +1,7 @@
 //! The grammar as a table of rules, and what they derive, found by trying every rule. The reader is compared with it.
 
 use crate::read_schedule;
+use crate::tests::{FORMS, SAMPLES};
 use cx_text::{CclFault, Kind, List, Memory, Style, Text, Token, tokens};
 use std::alloc::Global;
 use std::process::Abort;
@@ -334,21 +335,11 @@ fn assert_cut(rt: &impl Abort, alloc: Global, text: &[u8]) -> Result<(), Fail> {
     Ok(())
 }
 
-/// A file with each part of the grammar.
-const FILE: &[u8] = br#"STORAGE: a::b[1], c
-if (x == 1)
-  STORAGE: d
-else
-{
-  schedule GROUP g IN e AS f BEFORE (b, c) WHILE w
-  {
-    LANG: C "x" SYNC: u
-    READS: v[0](interior)
-  } "t"
-}
-"#;
-
 #[test]
-fn a_file_cut_short_is_read_as_it_is_derived(rt: HostRuntime) -> Result<(), Fail> {
-    assert_cut(&rt, rt.alloc(), FILE)
+fn files_cut_short_are_read_as_they_are_derived(rt: HostRuntime) -> Result<(), Fail> {
+    assert_cut(&rt, rt.alloc(), FORMS)?;
+    for (text, _, _) in SAMPLES {
+        assert_cut(&rt, rt.alloc(), text)?;
+    }
+    Ok(())
 }

@@ -6,10 +6,12 @@ mod block;
 mod enumeration;
 mod lines;
 mod node;
+mod printer;
 mod reference;
 #[cfg(test)]
 mod tests;
 mod tree;
 
 pub use node::read_schedule;
+pub use printer::print_schedule;
 pub use tree::{Block, Node, Ref, ScheduleFile, Spot};

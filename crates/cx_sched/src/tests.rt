@@ -1,6 +1,11 @@
-//! Schedule files, and what they say.
+//! Schedule files, what they say, and their texts.
 
-use crate::{Block, Node, Ref, ScheduleFile, Spot, read_schedule};
+ghost use Rattle.std.specs.Prelude.{IfOk};
+ghost use Rattle.cx_text.specs.declared.token.Style.TheVariants as styles;
+ghost use Rattle.cx_text.specs.Printing.{HasSpelling};
+ghost use Rattle.cx_sched.specs.Nodes.{schedule};
+
+use crate::{Block, Node, Ref, ScheduleFile, Spot, print_schedule, read_schedule};
 use cx_plan::Region;
 use cx_text::{CclFault, List, Style, Text, tokens};
 use std::alloc::Global;
@@ -8,7 +13,7 @@ use std::process::Abort;
 use std::test::Fail;
 
 /// A file with every node, clause and line.
-const FORMS: &[u8] = br#"# forms
+pub(crate) const FORMS: &[u8] = br#"# forms
 STORAGE: ca::cells[1], counts
 SCHEDULE GROUP steps AT CCTK_EVOL AFTER early { }
 if (x == 1)
@@ -36,7 +41,7 @@ const STEP: &[u8] =
     b"GROUP in steps as first if w::on while turns before b c d e after f storage s[3] t sync u v::u again reads v::u_p[0](interior) READS(everywhere) w(boundary) x(everywhere) writes u(everywhere) SYNC(everywhere) rest LANG : C OPTIONS : 2 : x TRIGGERS : u text one step";
 
 /// The files of the sample thorns, and how many nodes and blocks they have at the top.
-const SAMPLES: &[(&[u8], usize, usize)] = &[
+pub(crate) const SAMPLES: &[(&[u8], usize, usize)] = &[
     (
         br#"STORAGE: cells[1] counts[1]
 schedule ca_init AT INITIAL { LANG: C WRITES: ca::cell(everywhere) } "start"
@@ -83,6 +88,90 @@ schedule control_spin AT EVOL WHILE control::count
 "#,
         3,
         2,
+    ),
+    (
+        br#"STORAGE: cells[1] counts[1]
+schedule life_init AT INITIAL { LANG: C WRITES: life::cell(everywhere) } "start"
+schedule life_step AT EVOL
+{
+  LANG: C
+  SYNC: cells
+  READS: life::cell(everywhere)
+  WRITES: life::cell(interior)
+} "one step"
+schedule life_zero AT EVOL AFTER life_step { LANG: C WRITES: life::cell(boundary) } "edge"
+schedule life_count AT POSTSTEP { LANG: C READS: life::cell(everywhere) WRITES: life::live } "count"
+"#,
+        5,
+        4,
+    ),
+    (
+        br#"STORAGE: evolved[1] sums[1]
+schedule diff_init AT INITIAL
+{ LANG: C WRITES: diff::u(everywhere) } "start"
+schedule diff_step AT EVOL
+{
+  LANG: C
+  SYNC: evolved
+  READS: diff::u(everywhere)
+  WRITES: diff::u(interior)
+} "one step"
+schedule diff_flat AT EVOL AFTER diff_step
+{ LANG: C READS: diff::u(interior) WRITES: diff::u(boundary) } "flat edge"
+if (sum)
+{
+  schedule diff_sum AT ANALYSIS
+  { LANG: C READS: diff::u(everywhere) WRITES: diff::total } "sum"
+}
+"#,
+        5,
+        3,
+    ),
+];
+
+/// Files, and what is printed of them.
+const PRINTED: &[(&[u8], &[u8])] = &[
+    (
+        FORMS,
+        br#"STORAGE : ca :: cells [ 1 ] counts
+schedule GROUP steps AT CCTK_EVOL AFTER ( early ) { }
+if ( x == 1 ) {
+if ( y ) {
+STORAGE : evens [ 2 ]
+}
+else {
+schedule GROUP IN steps AS first IF w :: on WHILE turns BEFORE ( b c d e ) AFTER ( f ) { LANG : C OPTIONS : 2 : "x" TRIGGERS : u STORAGE : s [ 3 ] t SYNC : u v :: u again READS : v :: u_p [ 0 ] ( interior ) READS ( everywhere ) w ( boundary ) x ( everywhere ) WRITES : u ( everywhere ) SYNC ( everywhere ) } "one step"
+}
+}
+"#,
+    ),
+    (
+        b"schedule GROUP
+AT in { }",
+        b"schedule GROUP AT in { }
+",
+    ),
+    (
+        b"schedule group GROUP IN at AS x { }",
+        b"schedule GROUP GROUP IN at AS x { }
+",
+    ),
+    (
+        b"if (a && !(b || c)) if (d) { } else STORAGE: e[1],
+else { }",
+        b"if ( a && ! ( b || c ) ) {
+if ( d ) {
+}
+else {
+STORAGE : e [ 1 ]
+}
+}
+",
+    ),
+    (
+        br#"schedule x AT y { READS: a, b(interior) LANG: C READS READS: c[0] } "\"""#,
+        br#"schedule x AT y { LANG : C READS READS : a ( everywhere ) b ( interior ) c [ 0 ] ( everywhere ) } "\""
+"#,
     ),
 ];
 
@@ -140,6 +229,24 @@ const FAULTS: &[(&[u8], CclFault)] = &[
 fn read(alloc: Global, text: &[u8]) -> Result<Result<ScheduleFile, CclFault>, Fail> {
     let list = tokens(alloc, text, Style::Ccl)?;
     Ok(read_schedule(alloc, &list))
+}
+
+/// What a text spells that has no fault.
+fn file_of(alloc: Global, text: &[u8]) -> Result<ScheduleFile, Fail>
+    ensures { IfOk result (λ file. HasSpelling styles.Ccl schedule.derives file) }
+{
+    let list = tokens(alloc, text, Style::Ccl)?;
+    let file = read_schedule(alloc, &list)?;
+    Ok(file)
+}
+
+/// Whether what is printed of a file is printed again of what it is read as.
+fn is_printed_again(alloc: Global, text: &[u8]) -> Result<bool, Fail> {
+    let file = file_of(alloc, text)?;
+    let first = print_schedule(alloc, &file)?;
+    let again = file_of(alloc, first.as_slice())?;
+    let second = print_schedule(alloc, &again)?;
+    Ok(first.as_slice() == second.as_slice())
 }
 
 fn push(out: &mut Vec<u8>, text: &[u8]) -> Result<(), Fail> {
@@ -311,8 +418,18 @@ fn each_form_is_read(rt: HostRuntime) -> Result<(), Fail> {
 }
 
 #[test]
+fn files_are_printed(rt: HostRuntime) -> Result<(), Fail> {
+    for (text, want) in PRINTED {
+        let file = file_of(rt.alloc(), text)?;
+        assert_eq!(rt; print_schedule(rt.alloc(), &file)?.as_slice(), *want);
+    }
+    Ok(())
+}
+
+#[test]
 fn sample_files_are_read(rt: HostRuntime) -> Result<(), Fail> {
     for (text, nodes, blocks) in SAMPLES {
+        assert!(rt; is_printed_again(rt.alloc(), text)?);
         let file = read(rt.alloc(), text)??;
         assert_eq!(rt; file.items.len(), *nodes);
         let mut count: usize = 0;
