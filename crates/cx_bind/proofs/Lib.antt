@@ -7,4 +7,6 @@ pub mod BindLaws
 pub mod Samples
 pub mod PlaceLaws
 pub mod RangeLaws
+pub mod HasLaws
+pub mod NamedLaws
 mod Rows

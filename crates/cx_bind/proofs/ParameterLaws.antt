@@ -8,7 +8,7 @@ use Rattle.cx_bind.specs.declared.thorns.Param.{Param}
 use Rattle.cx_bind.specs.declared.known.Known.{Known}
 use Rattle.cx_bind.specs.declared.parameters.Extension.{Extension}
 use Rattle.cx_bind.specs.BuiltIn.{table}
-use Rattle.cx_bind.specs.Parameters.{is_declaration, parameter_of, declared_as, declared_by, declared, known_by, known, extended, thorn_parameters}
+use Rattle.cx_bind.specs.Parameters.{is_declaration, parameter_of, declared_as, declared_by, known_by, known, extended, thorn_parameters}
 use Rattle.cx_bind.proofs.VariableLaws.{flat_map-append, map-flat_map}
 
 -- ---- what is known doesn't depend on the number of the thorn

@@ -1,5 +1,5 @@
 -- What maps from names find.
-use Rattle.std.proofs.Common.{◌≡◌, refl, sym, ◌∙◌, ap, ℕ, ◌+◌, ◌<◌, Bool, true, false, cond, ◌&&◌, List, [], ◌∷◌, ◌++◌, map, find, length, take, drop, get_or, slice_get, Option, Some, None, true≢false, if◌then◌else◌, arith}
+use Rattle.std.proofs.Common.{◌≡◌, refl, sym, ◌∙◌, ap, ℕ, ◌+◌, ◌<◌, Bool, true, false, cond, ◌&&◌, List, [], ◌∷◌, map, find, length, drop, get_or, slice_get, Option, Some, true≢false, if◌then◌else◌}
 use Rattle.std.proofs.lemmas.List.{drop_more}
 use Rattle.std.proofs.lemmas.Option.{slice_get_read}
 use Rattle.std.proofs.lemmas.Slice.Eq.{bytes_eq-Decides}
@@ -9,10 +9,8 @@ use Rattle.std.specs.Option.{option_and_then}
 use Rattle.std.specs.Str.{bytes_eq}
 use Rattle.indexmap.specs.IndexMap.{insert_entry}
 use Rattle.cx_text.specs.Lexemes.{same_name}
-use Rattle.cx_bind.specs.declared.known.Known.{Known}
 use Rattle.cx_bind.specs.NameSets.{folded}
-use Rattle.cx_bind.specs.NamePlaces.{LeadToFirst, with_shared}
-use Rattle.cx_bind.specs.Parameters.{is_shared_as}
+use Rattle.cx_bind.specs.NamePlaces.{at_name, LeadToFirst}
 
 -- ---- a map whose keys hold names
 
@@ -81,26 +79,30 @@ module _ {X : Type 0} where
   lookup_inserted n k x [] = refl
   lookup_inserted n k x (e ∷ es) = put_in n k x e es (insert_entry bytes_eq es k x) (bytes_eq k e.0) refl (lookup_inserted n k x es)
 
--- ---- places of parameters
+-- ---- places in a list
 
-picked : (all : List Known) (i : ℕ) (k : Known) (o : Option ℕ) (p : Option Known) (b : Bool) → slice_get all i ≡ Some k → option_and_then (slice_get all) o ≡ p → option_and_then (slice_get all) (cond b (Some i) o) ≡ cond b (Some k) p
-picked all i k o p true at before = at
-picked all i k o p false at before = before
+module _ {X : Type 0} (test : List ℕ → X → Bool) (all : List X) where
+  picked : (i : ℕ) (x : X) (o : Option ℕ) (p : Option X) (b : Bool) → slice_get all i ≡ Some x → option_and_then (slice_get all) o ≡ p → option_and_then (slice_get all) (cond b (Some i) o) ≡ cond b (Some x) p
+  picked i x o p true at before = at
+  picked i x o p false at before = before
 
-pub one_noted : (all : List Known) (places : List (List ℕ × ℕ)) (k : Known) (i : ℕ) (part : List Known) (full : List ℕ) (r : Bool) → slice_get all i ≡ Some k → LeadToFirst all places part
-    → option_and_then (slice_get all) (lookup (bytes_eq (folded full)) (if r then insert_entry bytes_eq places (folded k.full) i else places)) ≡ cond (r && same_name k.full full) (Some k) (find (is_shared_as full) part)
-one_noted all places k i part full false at before = before full
-one_noted all places k i part full true at before =
-    ap (λ o. option_and_then (slice_get all) o) (lookup_inserted (folded full) (folded k.full) i places)
-    ∙ picked all i k (lookup (bytes_eq (folded full)) places) (find (is_shared_as full) part) (bytes_eq (folded full) (folded k.full)) at (before full)
-    ∙ ap (λ b. cond b (Some k) (find (is_shared_as full) part)) (bytes_eq_sym (folded full) (folded k.full))
+  one_noted : (places : List (List ℕ × ℕ)) (x : X) (i : ℕ) (part : List X) (n : List ℕ) (o : List ℕ) (r : Bool) → slice_get all i ≡ Some x → LeadToFirst test all places part
+      → at_name all (if r then insert_entry bytes_eq places (folded n) i else places) o ≡ cond (r && same_name n o) (Some x) (find (test o) part)
+  one_noted places x i part n o false at before = before o
+  one_noted places x i part n o true at before =
+      ap (λ found. option_and_then (slice_get all) found) (lookup_inserted (folded o) (folded n) i places)
+      ∙ picked i x (lookup (bytes_eq (folded o)) places) (find (test o) part) (bytes_eq (folded o) (folded n)) at (before o)
+      ∙ ap (λ b. cond b (Some x) (find (test o) part)) (bytes_eq_sym (folded o) (folded n))
 
-got : {X : Type 0} (xs : List X) (i : ℕ) (x : X) → i < length xs → x ≡ get_or xs i x → slice_get xs i ≡ Some x
-got xs i x within at = slice_get_read xs (length xs) i x refl within at
+  got : (i : ℕ) (x : X) → i < length all → x ≡ get_or all i x → slice_get all i ≡ Some x
+  got i x within at = slice_get_read all (length all) i x refl within at
 
-pub place_noted : (all : List Known) (places places2 : List (List ℕ × ℕ)) (k : Known) (i j : ℕ) → i < length all → j ≡ i + 1 → k ≡ get_or all i k → LeadToFirst all places (drop j all) → places2 ≡ with_shared k i places → LeadToFirst all places2 (drop i all)
-place_noted all places places2 k i j within next at before after full =
-    ap (λ ps. option_and_then (slice_get all) (lookup (bytes_eq (folded full)) ps)) after
-    ∙ one_noted all places k i (drop j all) full k.restricted (got all i k within at) before
-    ∙ ap (λ n. find (is_shared_as full) (k ∷ drop n all)) next
-    ∙ ap (λ ks. find (is_shared_as full) ks) (sym (drop_more all i k within ∙ ap (λ u. u ∷ drop (i + 1) all) (sym at)))
+  -- the place of an element that may be noted by a name
+  pub place_noted : (places places2 : List (List ℕ × ℕ)) (x : X) (i j : ℕ) (n : List ℕ) (r : Bool) → ((o : List ℕ) → test o x ≡ (r && same_name n o)) → i < length all → j ≡ i + 1 → x ≡ get_or all i x → LeadToFirst test all places (drop j all)
+      → places2 ≡ (if r then insert_entry bytes_eq places (folded n) i else places) → LeadToFirst test all places2 (drop i all)
+  place_noted places places2 x i j n r is within next at before after o =
+      ap (λ ps. at_name all ps o) after
+      ∙ one_noted places x i (drop j all) n o r (got i x within at) before
+      ∙ ap (λ b. cond b (Some x) (find (test o) (drop j all))) (sym (is o))
+      ∙ ap (λ k. find (test o) (x ∷ drop k all)) next
+      ∙ ap (λ xs. find (test o) xs) (sym (drop_more all i x within ∙ ap (λ u. u ∷ drop (i + 1) all) (sym at)))

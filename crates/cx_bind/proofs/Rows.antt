@@ -1,15 +1,15 @@
 -- Worked rows: what the definitions say of some thorns.
-use Rattle.std.specs.Prelude.{◌≡◌, refl, ℕ, true, pos, List, [], ◌∷◌, codes, map, drop, length, Some, None, Ok, Err}
+use Rattle.std.specs.Prelude.{◌≡◌, refl, ℕ, pos, List, [], ◌∷◌, codes, map, drop, length, Some, None, Ok, Err}
 use Rattle.cx_text.specs.declared.ctype.CType.TheVariants.{Real}
 use Rattle.cx_iface.specs.declared.tree.Access.TheVariants.{Public, Private}
-use Rattle.cx_param.specs.declared.ranges.Range.TheVariants.{Ints, Word}
+use Rattle.cx_param.specs.declared.ranges.Range.TheVariants.{Word}
 use Rattle.cx_param.specs.declared.declarations.PType.TheVariants.{Keyword, Int, Boolean}
 use Rattle.cx_param.specs.declared.declarations.Scope.TheVariants as scopes
 use Rattle.cx_conf.specs.declared.thorn_list.ThornList.{ThornList}
 use Rattle.cx_bind.specs.declared.thorns.Thorn.{Thorn}
 use Rattle.cx_bind.specs.declared.thorns.Param.{Param}
 use Rattle.cx_bind.specs.declared.thorns.BindFault.TheVariants.{UnknownThorn, TwoThorns, TwoProviders, MissingImplementation, MissingThorn, NoParameter, WrongType, TwoVariables, TwoParameters, Unsupported, TwoDims}
-use Rattle.cx_bind.specs.BuiltIn.{table, starred, from_to}
+use Rattle.cx_bind.specs.BuiltIn.{table, from_to}
 use Rattle.cx_bind.specs.Variables.{Variable, variables, variable_infos, level_full}
 use Rattle.cx_bind.specs.Parameters.{parameters}
 use Rattle.cx_bind.specs.Selecting.{select}

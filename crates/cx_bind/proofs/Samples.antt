@@ -5,9 +5,8 @@ use Rattle.cx_iface.specs.declared.tree.Access.{Access}
 use Rattle.cx_iface.specs.declared.tree.Access.TheVariants.{Public}
 use Rattle.cx_iface.specs.declared.tree.GType.TheVariants.{Gf, Scalar}
 use Rattle.cx_iface.specs.declared.tree.Group.{Group}
-use Rattle.cx_iface.specs.declared.tree.Interface.{Interface}
 use Rattle.cx_param.specs.declared.ranges.Range.{Range}
-use Rattle.cx_param.specs.declared.ranges.Range.TheVariants.{Ints, Word}
+use Rattle.cx_param.specs.declared.ranges.Range.TheVariants.{Ints}
 use Rattle.cx_param.specs.declared.declarations.PType.{PType}
 use Rattle.cx_param.specs.declared.declarations.PType.TheVariants as ptypes
 use Rattle.cx_param.specs.declared.declarations.Scope.{Scope}

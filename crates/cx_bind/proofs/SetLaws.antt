@@ -6,10 +6,8 @@ use Rattle.std.specs.Option.{option_map}
 use Rattle.std.specs.Str.{bytes_eq}
 use Rattle.cx_text.specs.Lexemes.{same_name}
 use Rattle.cx_plan.specs.declared.variable.VarInfo.{VarInfo}
-use Rattle.cx_plan.specs.Lists.{first_again_behind, first_again}
+use Rattle.cx_plan.specs.Lists.{first_again_behind}
 use Rattle.cx_bind.specs.declared.known.Known.{Known}
-use Rattle.cx_bind.specs.declared.thorns.BindFault.{BindFault}
-use Rattle.cx_bind.specs.declared.thorns.BindFault.TheVariants.{TwoVariables, TwoParameters}
 use Rattle.cx_bind.specs.NameSets.{folded}
 use Rattle.cx_bind.specs.Faults.{is_same_variable, clash}
 

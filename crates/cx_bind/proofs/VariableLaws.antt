@@ -6,7 +6,7 @@ use Rattle.std.specs.List.{flat_map, enumerate_from, range_with_len}
 use Rattle.cx_plan.specs.declared.variable.VarInfo.{VarInfo}
 use Rattle.cx_iface.specs.declared.tree.Group.{Group}
 use Rattle.cx_bind.specs.declared.thorns.Thorn.{Thorn}
-use Rattle.cx_bind.specs.Variables.{Variable, OwnedGroup, groups_of, owned_groups, copies, variables_in, variables, info_of, variable_info, variable_infos}
+use Rattle.cx_bind.specs.Variables.{Variable, OwnedGroup, groups_of, copies, variables_in, info_of, variable_info, variable_infos}
 
 pub map-map : {X Y Z : Type 0} (f : Y → Z) (g : X → Y) (xs : List X) → map f (map g xs) ≡ map (λ x. f (g x)) xs
 map-map f g [] = refl

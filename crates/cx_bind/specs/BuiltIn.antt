@@ -4,7 +4,6 @@ use Rattle.cx_param.specs.declared.declarations.PType.{PType}
 use Rattle.cx_param.specs.declared.declarations.PType.TheVariants.{Boolean, Int, Keyword, String}
 use Rattle.cx_param.specs.declared.declarations.Scope.TheVariants.{Restricted}
 use Rattle.cx_param.specs.declared.declarations.Steer.TheVariants.{Never}
-use Rattle.cx_param.specs.declared.declarations.ParamDecl.{ParamDecl}
 use Rattle.cx_param.specs.declared.ranges.Range.{Range}
 use Rattle.cx_param.specs.declared.ranges.Range.TheVariants.{Ints, Word, AnyText}
 use Rattle.cx_plan.specs.Names.{full_name}

@@ -1,6 +1,6 @@
 -- Why thorns can't be bound. Within a kind of fault, the first thorn in the order of activation counts.
-use Rattle.std.specs.Prelude.{ℕ, ◌==◌, Bool, true, false, not, ◌&&◌, ◌||◌, nat_lt, List, [], ◌∷◌, ◌++◌, map, filter, find, length, codes, Option, Some, None, if◌then◌else◌}
-use Rattle.std.specs.List.{list_any, flat_map}
+use Rattle.std.specs.Prelude.{ℕ, ◌==◌, Bool, true, false, not, ◌&&◌, ◌||◌, nat_lt, List, [], ◌∷◌, ◌++◌, map, find, Option, Some, None, if◌then◌else◌}
+use Rattle.std.specs.List.{list_any}
 use Rattle.std.specs.Option.{option_map}
 use Rattle.std.specs.Borrow.{Bor}
 use Rattle.cx_text.specs.Lexemes.{same_name, among}
@@ -54,6 +54,11 @@ repeated a (Some b) = Some (TwoProviders a.implementation a.thorn b.thorn)
 abbrev pub two_providers : List Provider → Option BindFault
 two_providers [] = None
 two_providers (a ∷ ps) = or_else (repeated a (find (implements a.implementation) ps)) (two_providers ps)
+
+-- a pair that is lent, as the fault that it is
+abbrev pub told_by : Option (Bor Provider × Bor Provider) → Option BindFault
+told_by None = None
+told_by (Some pair) = repeated pair.0.now (Some pair.1.now)
 
 abbrev pub missing : (List ℕ → BindFault) → (List ℕ → Bool) → List (List ℕ) → Option BindFault
 missing fault there names = option_map fault (find (λ name. not (there name)) names)

@@ -1,6 +1,20 @@
--- Names in small letters.
-use Rattle.std.specs.Prelude.{ℕ, List, map}
+-- Names in small letters, and sets of them.
+use Rattle.std.specs.Prelude.{◌≡◌, ℕ, Bool, ◌||◌, List, map}
 use Rattle.std.specs.Char.{to_ascii_lowercase}
+use Rattle.std.specs.List.{list_any}
+use Rattle.std.specs.Str.{bytes_eq}
 
 abbrev pub folded : List ℕ → List ℕ
 folded name = map to_ascii_lowercase name
+
+-- whether a name is there, in any case
+abbrev pub has : List (List ℕ) → List ℕ → Bool
+has set name = list_any (bytes_eq (folded name)) set
+
+-- A set has exactly the names that a test holds of.
+abbrev pub HasThose : (List ℕ → Bool) → List (List ℕ) → Type 0
+HasThose test set = (name : List ℕ) → has set name ≡ test name
+
+-- A set has the names of another, and those that a test holds of.
+abbrev pub Adds : List (List ℕ) → (List ℕ → Bool) → List (List ℕ) → Type 0
+Adds old test new = (name : List ℕ) → has new name ≡ (has old name || test name)

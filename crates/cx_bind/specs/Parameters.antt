@@ -1,5 +1,5 @@
 -- The parameters of thorns: the built-in ones first, then the thorns' in the order of activation and of the files.
-use Rattle.std.specs.Prelude.{ℕ, ◌==◌, Bool, true, false, ◌&&◌, List, [], ◌∷◌, ◌++◌, map, length, find, Option, Some, None, if◌then◌else◌}
+use Rattle.std.specs.Prelude.{ℕ, Bool, true, false, ◌&&◌, List, [], ◌∷◌, ◌++◌, map, length, find, Option, Some, None, if◌then◌else◌}
 use Rattle.std.specs.List.{flat_map, enumerate_from}
 use Rattle.cx_text.specs.Lexemes.{same_name, among}
 use Rattle.cx_param.specs.declared.declarations.Scope.{Scope}

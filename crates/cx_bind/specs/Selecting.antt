@@ -1,5 +1,5 @@
 -- Which thorns are selected: the places of the active ones in the list of thorns.
-use Rattle.std.specs.Prelude.{◌≡◌, ◌⊎◌, ℕ, Bool, not, nat_lt, List, [], ◌∷◌, map, filter, find, count_by, Option, Some, None, Result, Ok, Err, if◌then◌else◌}
+use Rattle.std.specs.Prelude.{◌≡◌, ◌⊎◌, ℕ, Bool, not, nat_lt, List, map, filter, find, count_by, Option, Some, None, Result, Ok, Err, if◌then◌else◌}
 use Rattle.cx_text.specs.Lexemes.{same_name, among}
 use Rattle.cx_plan.specs.Lists.{once, all_ok}
 use Rattle.cx_conf.specs.declared.thorn_list.ThornList.{ThornList}

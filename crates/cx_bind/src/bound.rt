@@ -5,11 +5,12 @@ ghost use Rattle.cx_bind.specs.Binding.{Tells, Binds, needs_fault, names_fault, 
 ghost use Rattle.cx_bind.specs.Parameters.{parameters as parameters_of};
 ghost use Rattle.cx_bind.specs.Variables.{variable_infos as infos_of};
 
+use crate::active::Active;
 use crate::clashes::{check_parameters, check_variables};
 use crate::known::all_known;
 use crate::needs::{check_capabilities, check_implementations, check_thorns};
 use crate::parameters::all_parameters;
-use crate::providers::{check_providers, providers};
+use crate::providers::check_providers;
 use crate::shared::KnownTable;
 use crate::unsupported::{check_dims, check_limit, check_supported};
 use crate::uses::{check_types, check_uses};
@@ -76,11 +77,11 @@ impl Bound {
 fn check_needs(alloc: Global, thorns: &[Thorn]) -> Result<(), BindFault>
     ensures { Tells (needs_fault thorns.now) result }
 {
-    let active = providers(alloc, thorns)?;
-    check_providers(alloc, active.as_slice())?;
-    check_implementations(alloc, active.as_slice(), thorns)?;
-    check_capabilities(alloc, thorns, thorns)?;
-    check_thorns(alloc, active.as_slice(), thorns)
+    let active = Active::new(alloc, thorns)?;
+    check_providers(alloc, active.providers())?;
+    check_implementations(alloc, &active, thorns)?;
+    check_capabilities(alloc, thorns)?;
+    check_thorns(alloc, &active, thorns)
 }
 
 fn check_names(

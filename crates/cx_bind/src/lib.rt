@@ -1,6 +1,7 @@
 //! Binding: thorns whose implementations, capabilities, names, types and parameters fit each other.
 #![tactic(auto)]
 
+mod active;
 mod bound;
 mod clashes;
 mod copies;
@@ -12,6 +13,7 @@ mod name_set;
 mod names;
 mod needs;
 mod parameters;
+mod places;
 mod providers;
 mod selection;
 mod shared;
@@ -24,5 +26,7 @@ mod uses;
 mod variables;
 
 pub use bound::{Bound, bind};
+pub use name_places::NamePlaces;
+pub use names::full_name;
 pub use selection::select;
 pub use thorns::{BindFault, Param, Thorn};

@@ -1,10 +1,12 @@
 //! Where names stand, in any case.
 
-ghost use Rattle.std.specs.Prelude.{◌≡◌, [], IfOk, OnOk};
-ghost use Rattle.std.specs.Map.{lookup};
+ghost use Rattle.std.specs.Prelude.{◌≡◌, ℕ, List, [], Some, if◌then◌else◌, IfOk, OnOk};
+ghost use Rattle.std.specs.Option.{option_copied};
 ghost use Rattle.std.specs.Str.{bytes_eq};
 ghost use Rattle.indexmap.specs.IndexMap.{insert_entry};
+ghost use Rattle.cx_text.specs.Lexemes.{same_name};
 ghost use Rattle.cx_bind.specs.NameSets.{folded};
+ghost use Rattle.cx_bind.specs.NamePlaces.{place_of, at_name};
 
 use crate::name_set::folded;
 use cx_text::Memory;
@@ -14,7 +16,7 @@ use std::marker::Model;
 
 /// A place for each of different names. Contracts see the names in small letters, in the order in which they came.
 #[derive(Drop)]
-pub(crate) struct NamePlaces {
+pub struct NamePlaces {
     places: IndexMap<Vec<u8>, usize>,
 }
 
@@ -28,7 +30,7 @@ impl Model for NamePlaces {
 
 impl NamePlaces {
     /// No names.
-    pub(crate) fn new(alloc: Global) -> Self
+    pub fn new(alloc: Global) -> Self
         ensures { result ≡ [] }
     {
         NamePlaces {
@@ -37,18 +39,34 @@ impl NamePlaces {
     }
 
     /// Gives a name a place, in place of the one that it had.
-    pub(crate) fn insert(&mut self, alloc: Global, name: &[u8], place: usize) -> Result<(), Memory>
-        ensures { OnOk result (self.new ≡ insert_entry bytes_eq self.old (folded name.now) place) }
+    pub fn insert(&mut self, alloc: Global, name: &[u8], place: usize) -> Result<(), Memory>
+        ensures put { OnOk result (self.new ≡ insert_entry bytes_eq self.old (folded name.now) place) }
+        ensures places { OnOk result ((other : List ℕ) → place_of self.new other ≡ (if same_name other name.now then Some place else place_of self.old other)) }
     {
         self.places.insert(folded(alloc, name)?, place)?;
         Ok(())
     }
 
     /// The place of a name that has one.
-    pub(crate) fn get(&self, alloc: Global, name: &[u8]) -> Result<Option<usize>, Memory>
-        ensures { IfOk result (λ place. place ≡ lookup (bytes_eq (folded name.now)) self.now) }
+    pub fn get(&self, alloc: Global, name: &[u8]) -> Result<Option<usize>, Memory>
+        ensures { IfOk result (λ place. place ≡ place_of self.now name.now) }
     {
         let key = folded(alloc, name)?;
         Ok(self.places.get(&key).copied())
+    }
+
+    /// What stands in a list at the place of a name.
+    pub(crate) fn at_name<'a, T>(
+        &self,
+        alloc: Global,
+        all: &'a [T],
+        name: &[u8],
+    ) -> Result<Option<&'a T>, Memory>
+        ensures { IfOk result (λ found. option_copied found ≡ at_name all.now self.now name.now) }
+    {
+        match self.get(alloc, name)? {
+            Some(place) => Ok(all.get(place)),
+            None => Ok(None),
+        }
     }
 }

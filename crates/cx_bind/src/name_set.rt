@@ -1,11 +1,13 @@
 //! Sets of names, in any case.
 
-ghost use Rattle.std.specs.Prelude.{◌≡◌, ◌++◌, ◌∷◌, [], not, IsTrue, IfOk};
+ghost use Rattle.std.specs.Prelude.{◌≡◌, ◌++◌, ◌∷◌, [], not, false, find, IsTrue, IfOk, OnOk};
 ghost use Rattle.std.specs.List.{list_any};
+ghost use Rattle.std.specs.Option.{option_copied};
 ghost use Rattle.std.specs.Str.{bytes_eq};
-ghost use Rattle.cx_bind.specs.NameSets.{folded};
+ghost use Rattle.cx_text.specs.Lexemes.{same_name, among};
+ghost use Rattle.cx_bind.specs.NameSets.{folded, has, Adds};
 
-use cx_text::Memory;
+use cx_text::{Memory, Text};
 use indexmap::IndexSet;
 use std::alloc::Global;
 use std::marker::Model;
@@ -49,8 +51,44 @@ impl NameSet {
     pub(crate) fn insert(&mut self, alloc: Global, name: &[u8]) -> Result<bool, Memory>
         ensures new { IfOk result (λ new. new ≡ not (list_any (bytes_eq (folded name.now)) self.old)) }
         ensures added { IfOk result (λ new. IsTrue new → self.new ≡ self.old ++ folded name.now ∷ []) }
+        ensures kept { IfOk result (λ new. new ≡ false → self.new ≡ self.old) }
+        ensures names { OnOk result (Adds self.old (same_name name.now) self.new) }
     {
         let new = self.names.insert(folded(alloc, name)?)?;
         Ok(new)
+    }
+
+    /// Adds those of these names that aren't there.
+    pub(crate) fn insert_all(&mut self, alloc: Global, names: &[Text]) -> Result<(), Memory>
+        ensures { OnOk result (Adds self.old (among names.now) self.new) }
+    {
+        'names: for name in names {
+            self.insert(alloc, name.as_slice())?;
+        }
+        Ok(())
+    }
+
+    /// Whether a name is there.
+    pub(crate) fn has(&self, alloc: Global, name: &[u8]) -> Result<bool, Memory>
+        ensures { IfOk result (λ there. there ≡ has self.now name.now) }
+    {
+        let key = folded(alloc, name)?;
+        Ok(self.names.contains(&key))
+    }
+
+    /// The first of these names that isn't there.
+    pub(crate) fn first_missing<'a>(
+        &self,
+        alloc: Global,
+        names: &'a [Text],
+    ) -> Result<Option<&'a Text>, Memory>
+        ensures { IfOk result (λ first. option_copied first ≡ find (λ name. not (has self.now name)) names.now) }
+    {
+        'names: for name in names {
+            if !self.has(alloc, name.as_slice())? {
+                return Ok(Some(name));
+            }
+        }
+        Ok(None)
     }
 }

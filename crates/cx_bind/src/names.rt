@@ -7,7 +7,7 @@ use cx_text::{Memory, Text};
 use std::alloc::Global;
 
 /// The text `owner::name`.
-pub(crate) fn full_name(alloc: Global, owner: &[u8], name: &[u8]) -> Result<Text, Memory>
+pub fn full_name(alloc: Global, owner: &[u8], name: &[u8]) -> Result<Text, Memory>
     ensures { IfOk result (λ full. full ≡ full_name owner.now name.now) }
 {
     let mut full = Text::from_slice(alloc, owner)?;

@@ -1,17 +1,19 @@
 //! What thorns need: implementations, capabilities and thorns.
 
-ghost use Rattle.std.specs.Prelude.{◌≡◌, not, find};
+ghost use Rattle.std.specs.Prelude.{◌≡◌, IfOk, Some};
 ghost use Rattle.std.specs.Option.{option_copied};
 ghost use Rattle.cx_plan.specs.Lists.{first_of_each};
+ghost use Rattle.cx_bind.specs.NameSets.{has, HasThose};
 ghost use Rattle.cx_bind.specs.Parameters.{shared_by};
 ghost use Rattle.cx_bind.specs.Faults.{is_implemented, is_active, is_provided, missing, missing_shared, missing_implementation_of, missing_implementation, missing_capability, missing_thorn};
 ghost use Rattle.cx_bind.specs.Binding.{Tells};
 ghost use Rattle.cx_bind.specs.declared.thorns.BindFault.TheVariants as faults;
 
-use crate::providers::{Provider, is_active, is_implemented};
+use crate::active::Active;
+use crate::name_set::NameSet;
 use crate::{BindFault, Thorn};
 use cx_param::{ParamDecl, Scope};
-use cx_text::{Text, among};
+use cx_text::{Memory, Text};
 use std::alloc::Global;
 
 /// The implementation that a use or an extension names.
@@ -22,14 +24,6 @@ pub(crate) fn shared_by(scope: &Scope) -> Option<&Text>
         Scope::Uses(implementation) | Scope::Extends(implementation) => Some(implementation),
         Scope::Private | Scope::Restricted | Scope::Global => None,
     }
-}
-
-fn first_unimplemented<'a>(active: &[Provider], names: &'a [Text]) -> Option<&'a Text>
-    ensures { option_copied result ≡ find (λ name. not (is_implemented active.now name)) names.now }
-{
-    names
-        .iter()
-        .find(|name| !is_implemented(active, name.as_slice()))
 }
 
 fn missing_implementation(
@@ -45,10 +39,10 @@ fn missing_implementation(
     ))
 }
 
-fn check_inherited(alloc: Global, active: &[Provider], thorn: &Thorn) -> Result<(), BindFault>
+fn check_inherited(alloc: Global, active: &Active, thorn: &Thorn) -> Result<(), BindFault>
     ensures { Tells (missing (λ i. faults.MissingImplementation thorn.now.name i) (is_implemented active.now) thorn.now.interface.inherits) result }
 {
-    match first_unimplemented(active, thorn.interface.inherits.as_slice()) {
+    match active.first_unimplemented(alloc, thorn.interface.inherits.as_slice())? {
         None => Ok(()),
         Some(implementation) => missing_implementation(alloc, thorn, implementation),
     }
@@ -56,7 +50,7 @@ fn check_inherited(alloc: Global, active: &[Provider], thorn: &Thorn) -> Result<
 
 fn check_line(
     alloc: Global,
-    active: &[Provider],
+    active: &Active,
     thorn: &Thorn,
     decl: &ParamDecl,
 ) -> Result<(), BindFault>
@@ -65,7 +59,7 @@ fn check_line(
     let Some(implementation) = shared_by(&decl.scope) else {
         return Ok(());
     };
-    if is_implemented(active, implementation.as_slice()) {
+    if active.is_implemented(alloc, implementation.as_slice())? {
         return Ok(());
     }
     missing_implementation(alloc, thorn, implementation)
@@ -73,7 +67,7 @@ fn check_line(
 
 fn check_lines(
     alloc: Global,
-    active: &[Provider],
+    active: &Active,
     thorn: &Thorn,
     decls: &[ParamDecl],
 ) -> Result<(), BindFault>
@@ -85,11 +79,7 @@ fn check_lines(
     Ok(())
 }
 
-fn check_implementations_of(
-    alloc: Global,
-    active: &[Provider],
-    thorn: &Thorn,
-) -> Result<(), BindFault>
+fn check_implementations_of(alloc: Global, active: &Active, thorn: &Thorn) -> Result<(), BindFault>
     ensures { Tells (missing_implementation_of active.now thorn.now) result }
 {
     check_inherited(alloc, active, thorn)?;
@@ -99,7 +89,7 @@ fn check_implementations_of(
 /// Tests that each implementation that a thorn inherits or shares is active.
 pub(crate) fn check_implementations(
     alloc: Global,
-    active: &[Provider],
+    active: &Active,
     thorns: &[Thorn],
 ) -> Result<(), BindFault>
     ensures { Tells (missing_implementation active.now thorns.now) result }
@@ -110,17 +100,15 @@ pub(crate) fn check_implementations(
     Ok(())
 }
 
-fn is_provided(all: &[Thorn], capability: &[u8]) -> bool
-    ensures { result ≡ is_provided all.now capability.now }
+/// The capabilities that thorns provide.
+fn capabilities(alloc: Global, thorns: &[Thorn]) -> Result<NameSet, Memory>
+    ensures { IfOk result (λ names. HasThose (is_provided thorns.now) names) }
 {
-    all.iter()
-        .any(|thorn| among(thorn.conf.provides.as_slice(), capability))
-}
-
-fn first_unprovided<'a>(all: &[Thorn], names: &'a [Text]) -> Option<&'a Text>
-    ensures { option_copied result ≡ find (λ name. not (is_provided all.now name)) names.now }
-{
-    names.iter().find(|name| !is_provided(all, name.as_slice()))
+    let mut names = NameSet::new(alloc);
+    'thorns: for thorn in thorns {
+        names.insert_all(alloc, thorn.conf.provides.as_slice())?;
+    }
+    Ok(names)
 }
 
 fn missing_capability(alloc: Global, thorn: &Thorn, capability: &Text) -> Result<(), BindFault>
@@ -132,35 +120,30 @@ fn missing_capability(alloc: Global, thorn: &Thorn, capability: &Text) -> Result
     ))
 }
 
-fn check_capabilities_of(alloc: Global, all: &[Thorn], thorn: &Thorn) -> Result<(), BindFault>
-    ensures { Tells (missing (λ c. faults.MissingCapability thorn.now.name c) (is_provided all.now) thorn.now.conf.requires_) result }
+fn check_capabilities_of(alloc: Global, provided: &NameSet, thorn: &Thorn) -> Result<(), BindFault>
+    ensures { Tells (missing (λ c. faults.MissingCapability thorn.now.name c) (has provided.now) thorn.now.conf.requires_) result }
 {
-    match first_unprovided(all, thorn.conf.requires_.as_slice()) {
+    match provided.first_missing(alloc, thorn.conf.requires_.as_slice())? {
         None => Ok(()),
         Some(capability) => missing_capability(alloc, thorn, capability),
     }
 }
 
-/// Tests that each capability that one of `thorns` requires is provided by one of `all`.
-pub(crate) fn check_capabilities(
-    alloc: Global,
-    all: &[Thorn],
-    thorns: &[Thorn],
-) -> Result<(), BindFault>
-    ensures { Tells (missing_capability all.now thorns.now) result }
+fn check_provided(alloc: Global, provided: &NameSet, thorns: &[Thorn]) -> Result<(), BindFault>
+    ensures { Tells (first_of_each (λ t. missing (λ c. faults.MissingCapability t.name c) (has provided.now) t.conf.requires_) thorns.now) result }
 {
     for thorn in thorns {
-        check_capabilities_of(alloc, all, thorn)?;
+        check_capabilities_of(alloc, provided, thorn)?;
     }
     Ok(())
 }
 
-fn first_inactive<'a>(active: &[Provider], names: &'a [Text]) -> Option<&'a Text>
-    ensures { option_copied result ≡ find (λ name. not (is_active active.now name)) names.now }
+/// Tests that each capability that a thorn requires is provided by a thorn.
+pub(crate) fn check_capabilities(alloc: Global, thorns: &[Thorn]) -> Result<(), BindFault>
+    ensures { Tells (missing_capability thorns.now thorns.now) result }
 {
-    names
-        .iter()
-        .find(|name| !is_active(active, name.as_slice()))
+    let provided = capabilities(alloc, thorns)?;
+    check_provided(alloc, &provided, thorns)
 }
 
 fn missing_thorn(alloc: Global, thorn: &Thorn, other: &Text) -> Result<(), BindFault>
@@ -172,10 +155,10 @@ fn missing_thorn(alloc: Global, thorn: &Thorn, other: &Text) -> Result<(), BindF
     ))
 }
 
-fn check_thorns_of(alloc: Global, active: &[Provider], thorn: &Thorn) -> Result<(), BindFault>
+fn check_thorns_of(alloc: Global, active: &Active, thorn: &Thorn) -> Result<(), BindFault>
     ensures { Tells (missing (λ other. faults.MissingThorn thorn.now.name other) (is_active active.now) thorn.now.conf.thorns) result }
 {
-    match first_inactive(active, thorn.conf.thorns.as_slice()) {
+    match active.first_inactive(alloc, thorn.conf.thorns.as_slice())? {
         None => Ok(()),
         Some(other) => missing_thorn(alloc, thorn, other),
     }
@@ -184,7 +167,7 @@ fn check_thorns_of(alloc: Global, active: &[Provider], thorn: &Thorn) -> Result<
 /// Tests that each thorn that a thorn requires is active.
 pub(crate) fn check_thorns(
     alloc: Global,
-    active: &[Provider],
+    active: &Active,
     thorns: &[Thorn],
 ) -> Result<(), BindFault>
     ensures { Tells (missing_thorn active.now thorns.now) result }

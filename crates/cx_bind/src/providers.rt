@@ -1,13 +1,15 @@
-//! What is active: thorns, and what they implement.
+//! Active thorns, and what they implement.
 
-ghost use Rattle.std.specs.Prelude.{◌≡◌, ◌++◌, ◌∷◌, [], find, IfOk, OnOk};
+ghost use Rattle.std.specs.Prelude.{◌≡◌, ◌++◌, ◌∷◌, [], Some, IfOk, OnOk};
 ghost use Rattle.std.specs.Option.{option_copied};
+ghost use Rattle.cx_plan.specs.Lists.{or_else};
 ghost use Rattle.cx_bind.specs.BuiltIn.{provider};
-ghost use Rattle.cx_bind.specs.Faults.{providers, implements, is_implemented, is_active, repeated, two_providers};
+ghost use Rattle.cx_bind.specs.Faults.{providers, repeated, told_by, two_providers};
 ghost use Rattle.cx_bind.specs.Binding.{Tells};
 
+use crate::name_places::NamePlaces;
 use crate::{BindFault, Thorn};
-use cx_text::{List, Memory, Text, same_name};
+use cx_text::{List, Memory, Text};
 use std::alloc::Global;
 
 /// A thorn and what it implements.
@@ -50,57 +52,57 @@ pub(crate) fn providers(alloc: Global, thorns: &[Thorn]) -> Result<List<Provider
     Ok(active)
 }
 
-fn implements(implementation: &[u8], provider: &Provider) -> bool
-    ensures { result ≡ implements implementation.now provider.now }
+fn two_providers(alloc: Global, provider: &Provider, other: &Provider) -> Result<(), BindFault>
+    ensures { Tells (repeated provider.now (Some other.now)) result }
 {
-    same_name(provider.implementation.as_slice(), implementation)
+    Err(BindFault::TwoProviders(
+        Text::from_slice(alloc, provider.implementation.as_slice())?,
+        Text::from_slice(alloc, provider.thorn.as_slice())?,
+        Text::from_slice(alloc, other.thorn.as_slice())?,
+    ))
 }
 
-/// Whether an implementation is active.
-pub(crate) fn is_implemented(active: &[Provider], implementation: &[u8]) -> bool
-    ensures { result ≡ is_implemented active.now implementation.now }
+/// A provider with one that repeats it, else the pair that is there.
+fn or_pair<'a>(
+    provider: &'a Provider,
+    other: Option<&'a Provider>,
+    pair: Option<(&'a Provider, &'a Provider)>,
+) -> Option<(&'a Provider, &'a Provider)>
+    ensures { told_by result ≡ or_else (repeated provider.now (option_copied other.entry)) (told_by pair.entry) }
 {
-    active
-        .iter()
-        .any(|provider| implements(implementation, provider))
-}
-
-/// Whether a thorn is active.
-pub(crate) fn is_active(active: &[Provider], thorn: &[u8]) -> bool
-    ensures { result ≡ is_active active.now thorn.now }
-{
-    active
-        .iter()
-        .any(|provider| same_name(provider.thorn.as_slice(), thorn))
-}
-
-fn first_other<'a>(later: &'a [Provider], implementation: &[u8]) -> Option<&'a Provider>
-    ensures { option_copied result ≡ find (implements implementation.now) later.now }
-{
-    later
-        .iter()
-        .find(|provider| implements(implementation, provider))
-}
-
-fn check_later(alloc: Global, provider: &Provider, later: &[Provider]) -> Result<(), BindFault>
-    ensures { Tells (repeated provider.now (find (implements provider.now.implementation) later.now)) result }
-{
-    match first_other(later, provider.implementation.as_slice()) {
-        None => Ok(()),
-        Some(other) => Err(BindFault::TwoProviders(
-            Text::from_slice(alloc, provider.implementation.as_slice())?,
-            Text::from_slice(alloc, provider.thorn.as_slice())?,
-            Text::from_slice(alloc, other.thorn.as_slice())?,
-        )),
+    match other {
+        Some(other) => Some((provider, other)),
+        None => pair,
     }
+}
+
+/// The first provider that a later one repeats, and the first that does.
+fn first_repeated(
+    alloc: Global,
+    active: &[Provider],
+) -> Result<Option<(&Provider, &Provider)>, Memory>
+    ensures { IfOk result (λ pair. told_by pair ≡ two_providers active.now) }
+{
+    let mut places = NamePlaces::new(alloc);
+    let mut pair = None;
+    let mut place = active.len();
+    'places: while place > 0 {
+        place -= 1;
+        let provider = &active[place];
+        let implementation = provider.implementation.as_slice();
+        let other = places.at_name(alloc, active, implementation)?;
+        pair = or_pair(provider, other, pair);
+        places.insert(alloc, implementation, place)?;
+    }
+    Ok(pair)
 }
 
 /// Tests that no two active thorns provide one implementation.
 pub(crate) fn check_providers(alloc: Global, active: &[Provider]) -> Result<(), BindFault>
     ensures { Tells (two_providers active.now) result }
 {
-    'active: for (place, provider) in active.iter().enumerate() {
-        check_later(alloc, provider, &active[place + 1..])?;
+    match first_repeated(alloc, active)? {
+        None => Ok(()),
+        Some((provider, other)) => two_providers(alloc, provider, other),
     }
-    Ok(())
 }

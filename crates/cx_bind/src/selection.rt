@@ -1,15 +1,18 @@
 //! The thorns that are selected.
 
-ghost use Rattle.std.specs.Prelude.{◌≡◌, ◌++◌, ◌∷◌, [], not, filter, find, count_by, nat_lt, map, IfOk, OnOk};
-ghost use Rattle.std.specs.Option.{option_copied};
-ghost use Rattle.cx_text.specs.Lexemes.{same_name, among};
+ghost use Rattle.std.specs.Prelude.{◌≡◌, ◌++◌, ◌∷◌, [], ◌&&◌, not, false, map, IsTrue, IfOk};
+ghost use Rattle.cx_text.specs.Lexemes.{among};
 ghost use Rattle.cx_plan.specs.Lists.{all_ok};
 ghost use Rattle.cx_bind.specs.BuiltIn.{built_in_thorns};
-ghost use Rattle.cx_bind.specs.Selecting.{is_place_of, place_of, chosen, select, Answers};
+ghost use Rattle.cx_bind.specs.NameSets.{folded, has};
+ghost use Rattle.cx_bind.specs.NamePlaces.{AreNamed};
+ghost use Rattle.cx_bind.specs.Selecting.{place_of, chosen, select, Answers};
 
 use crate::BindFault;
+use crate::name_set::NameSet;
+use crate::places::NamedPlaces;
 use cx_conf::ThornList;
-use cx_text::{List, Memory, Text, among, same_name};
+use cx_text::{List, Memory, Text, same_name};
 use std::alloc::Global;
 
 /// Whether a thorn is built in.
@@ -19,34 +22,45 @@ fn is_built_in(name: &[u8]) -> bool
     same_name(name, b"Cactus") || same_name(name, b"PUGH") || same_name(name, b"IOUtil")
 }
 
-fn is_place_of(name: &[u8], place: &(Text, Text)) -> bool
-    ensures { result ≡ is_place_of name.now place.now }
+/// Whether an active thorn isn't built in, and isn't there yet. Its name is added then.
+fn is_new(alloc: Global, there: &mut NameSet, name: &[u8]) -> Result<bool, Memory>
+    ensures new { IfOk result (λ new. new ≡ (not (among built_in_thorns name.now) && not (has there.old name.now))) }
+    ensures added { IfOk result (λ new. IsTrue new → there.new ≡ there.old ++ folded name.now ∷ []) }
+    ensures kept { IfOk result (λ new. new ≡ false → there.new ≡ there.old) }
 {
-    same_name(place.1.as_slice(), name)
+    if is_built_in(name) {
+        return Ok(false);
+    }
+    there.insert(alloc, name)
 }
 
-fn first_place<'a>(places: &'a [(Text, Text)], name: &[u8]) -> Option<&'a (Text, Text)>
-    ensures { option_copied result ≡ find (is_place_of name.now) places.now }
+/// The active thorns but the built-in ones, each once.
+fn chosen(alloc: Global, active: &[Text]) -> Result<List<Text>, Memory>
+    ensures { IfOk result (λ names. names ≡ chosen active.now) }
 {
-    places.iter().find(|place| is_place_of(name, place))
+    let mut names = List::empty(alloc);
+    let mut there = NameSet::new(alloc);
+    'active: for name in active {
+        if is_new(alloc, &mut there, name.as_slice())? {
+            names.push(Text::from_slice(alloc, name.as_slice())?)?;
+        }
+    }
+    Ok(names)
 }
 
-fn count_places(places: &[(Text, Text)], name: &[u8]) -> usize
-    ensures { result ≡ count_by (is_place_of name.now) places.now }
-{
-    places
-        .iter()
-        .filter(|place| is_place_of(name, place))
-        .count()
-}
-
-fn place_of(alloc: Global, places: &[(Text, Text)], name: &[u8]) -> Result<(Text, Text), BindFault>
+fn place_of(
+    alloc: Global,
+    places: &[(Text, Text)],
+    named: &NamedPlaces,
+    name: &[u8],
+) -> Result<(Text, Text), BindFault>
+    requires { AreNamed places.now named.now.firsts named.now.several places.now }
     ensures { Answers (place_of places.now name.now) result }
 {
-    let Some(place) = first_place(places, name) else {
+    let Some(place) = named.first(alloc, places, name)? else {
         return Err(BindFault::UnknownThorn(Text::from_slice(alloc, name)?));
     };
-    if count_places(places, name) > 1 {
+    if named.has_several(alloc, places, name)? {
         return Err(BindFault::TwoThorns(Text::from_slice(alloc, name)?));
     }
     Ok((
@@ -55,17 +69,20 @@ fn place_of(alloc: Global, places: &[(Text, Text)], name: &[u8]) -> Result<(Text
     ))
 }
 
-/// The active thorns but the built-in ones, each once.
-fn chosen(alloc: Global, active: &[Text]) -> Result<List<Text>, Memory>
-    ensures { IfOk result (λ names. names ≡ chosen active.now) }
+fn named_places_of(
+    alloc: Global,
+    places: &[(Text, Text)],
+    named: &NamedPlaces,
+    names: &[Text],
+) -> Result<List<(Text, Text)>, BindFault>
+    requires { AreNamed places.now named.now.firsts named.now.several places.now }
+    ensures { Answers (all_ok (map (place_of places.now) names.now)) result }
 {
-    let mut names = List::empty(alloc);
-    'active: for name in active {
-        if !is_built_in(name.as_slice()) && !among(names.as_slice(), name.as_slice()) {
-            names.push(Text::from_slice(alloc, name.as_slice())?)?;
-        }
+    let mut found = List::empty(alloc);
+    'names: for name in names {
+        found.push(place_of(alloc, places, named, name.as_slice())?)?;
     }
-    Ok(names)
+    Ok(found)
 }
 
 fn places_of(
@@ -75,11 +92,8 @@ fn places_of(
 ) -> Result<List<(Text, Text)>, BindFault>
     ensures { Answers (all_ok (map (place_of places.now) names.now)) result }
 {
-    let mut found = List::empty(alloc);
-    'names: for name in names {
-        found.push(place_of(alloc, places, name.as_slice())?)?;
-    }
-    Ok(found)
+    let named = NamedPlaces::new(alloc, places)?;
+    named_places_of(alloc, places, &named, names)
 }
 
 /// The places of the active thorns but the built-in ones, each once and in the order of activation, as the list of

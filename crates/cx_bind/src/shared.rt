@@ -22,12 +22,13 @@ impl Model for KnownTable {
     ghost use Rattle.std.specs.Prelude.{List};
     ghost use Rattle.cx_bind.specs.declared.known.Known.{Known};
     ghost use Rattle.cx_bind.specs.NamePlaces.{LeadToFirst};
+    ghost use Rattle.cx_bind.specs.Parameters.{is_shared_as};
 
     ghost Value = { List Known };
 
     ghost view = { λ t. t.knowns };
 
-    ghost invariant = { λ t. LeadToFirst t.knowns t.shared t.knowns };
+    ghost invariant = { λ t. LeadToFirst is_shared_as t.knowns t.shared t.knowns };
 }
 
 /// Notes the place of a restricted parameter.
@@ -47,7 +48,7 @@ fn note_shared(
 
 /// The places of the first restricted parameters of each name.
 fn shared_places(alloc: Global, knowns: &[Known]) -> Result<NamePlaces, Memory>
-    ensures { IfOk result (λ shared. LeadToFirst knowns.now shared knowns.now) }
+    ensures { IfOk result (λ shared. LeadToFirst is_shared_as knowns.now shared knowns.now) }
 {
     let mut shared = NamePlaces::new(alloc);
     let mut place = knowns.len();
@@ -77,10 +78,7 @@ impl KnownTable {
     fn first_shared(&self, alloc: Global, full: &[u8]) -> Result<Option<&Known>, Memory>
         ensures { IfOk result (λ known. option_copied known ≡ find (is_shared_as full.now) self.now) }
     {
-        match self.shared.get(alloc, full)? {
-            Some(place) => Ok(self.knowns.as_slice().get(place)),
-            None => Ok(None),
-        }
+        self.shared.at_name(alloc, self.knowns.as_slice(), full)
     }
 
     /// The parameter of a full name that thorns can use.

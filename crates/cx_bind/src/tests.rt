@@ -26,6 +26,17 @@ INT seed "random start" { -1 :: "one cell" 0:* :: "mixed" } -1
     b"",
 );
 
+/// The parameters of a field of whole numbers.
+const FIELD: &[u8] = br#"restricted:
+INT factor "in 256ths" { 0:* :: "" } 64
+KEYWORD pattern "start" { "point" "uniform" "alternate" "random" } "point"
+INT amount "height" { *:* :: "" } 8
+INT start "place" { 0:* :: "" } 0
+INT seed "mixing" { 0:* :: "" } 0
+INT edge "boundary value" { *:* :: "" } 0
+BOOLEAN sum "print the sum" { } "no"
+"#;
+
 const WAVE: Files = (
     b"WaveInt",
     br#"implements: wave
@@ -33,10 +44,33 @@ public:
 CCTK_INT evolved TYPE=GF DIM=1 TIMELEVELS=3 { phi } "field"
 CCTK_INT sums TYPE=SCALAR { total } "sum"
 "#,
+    FIELD,
+    b"",
+);
+
+const HEAT: Files = (
+    b"DiffInt",
+    br#"implements: diff
+public:
+CCTK_INT evolved TYPE=GF DIM=1 { u } "field"
+CCTK_INT sums TYPE=SCALAR { total } "sum"
+"#,
+    FIELD,
+    b"",
+);
+
+const LIFE: Files = (
+    b"Life2D",
+    br#"implements: life
+public:
+CCTK_BYTE cells TYPE=GF DIM=2 { cell } "cells"
+CCTK_INT counts TYPE=SCALAR { live } "live cells"
+"#,
     br#"restricted:
-INT factor "in 256ths" { 0:* :: "" } 64
-KEYWORD pattern "start" { "point" "uniform" "alternate" "random" } "point"
-BOOLEAN sum "print the sum" { } "no"
+INT born { 0:511 } 8
+INT survive { 0:511 } 12
+KEYWORD pattern { "glider" "random" } "glider"
+INT seed { 0:* } 0
 "#,
     b"",
 );
@@ -72,7 +106,9 @@ fn thorns(alloc: Global, all: &[Files]) -> Result<List<Thorn>, Fail> {
 
 /// Thorns, and the words of their fault, or nothing where they are bound.
 const BINDINGS: &[(&[Files], &str)] = &[
-    (&[ELEMCA, WAVE, CONTROL], ""),
+    (&[ELEMCA, WAVE, HEAT, CONTROL], ""),
+    (&[LIFE, CONTROL], ""),
+    (&[ELEMCA, LIFE], "TwoDims ca::cells life::cells"),
     // a public variable through an ancestor's ancestor
     (
         &[
@@ -285,25 +321,28 @@ fn sample_thorns_have_their_variables_and_parameters(rt: HostRuntime) -> Result<
         b"shares: ca\nEXTENDS INT rule { 300 }\nprivate:\nBOOLEAN own { } \"yes\"\n",
         b"",
     );
-    let bound = bind(alloc, thorns(alloc, &[ELEMCA, WAVE, CONTROL, extension])?)?;
+    let bound = bind(
+        alloc,
+        thorns(alloc, &[ELEMCA, WAVE, HEAT, CONTROL, extension])?,
+    )?;
     let mut names = text(alloc, b"")?;
     for info in bound.variables().as_slice() {
         push(&mut names, &info.full)?;
     }
     assert_eq!(rt;
         names.as_slice(),
-        b" ca::cell ca::live wave::phi wave::total control::count".as_slice()
+        b" ca::cell ca::live wave::phi wave::total diff::u diff::total control::count".as_slice()
     );
     let parameters = bound.parameters().as_slice();
-    assert_eq!(rt; parameters.len(), 42);
+    assert_eq!(rt; parameters.len(), 53);
     assert_eq!(rt;
         parameters[0].full.as_slice(),
         b"Cactus::cctk_itlast".as_slice()
     );
-    assert_eq!(rt; parameters[0].thorn, 4);
+    assert_eq!(rt; parameters[0].thorn, 5);
     assert_eq!(rt; parameters[33].full.as_slice(), b"ca::rule".as_slice());
     assert_eq!(rt; parameters[33].ranges.len(), 2);
-    assert_eq!(rt; parameters[41].full.as_slice(), b"E::own".as_slice());
-    assert_eq!(rt; parameters[41].thorn, 3);
+    assert_eq!(rt; parameters[52].full.as_slice(), b"E::own".as_slice());
+    assert_eq!(rt; parameters[52].thorn, 4);
     Ok(())
 }

@@ -4,9 +4,9 @@ use Rattle.std.specs.List.{list_any}
 use Rattle.std.specs.Str.{bytes_eq}
 use Rattle.std.proofs.Common.{take}
 use Rattle.cx_bind.specs.NameSets.{folded}
-use Rattle.cx_bind.specs.declared.thorns.BindFault.TheVariants.{TwoVariables, TwoParameters, Memory}
-use Rattle.cx_bind.specs.Faults.{is_same_variable, clash}
-use Rattle.cx_bind.proofs.SetLaws.{variable_name, parameter_name, variable_found, parameter_found, one_name_more, one_global_more, again_on, again_told}
+use Rattle.cx_bind.specs.declared.thorns.BindFault.TheVariants.{TwoParameters, Memory}
+use Rattle.cx_bind.specs.Faults.{clash}
+use Rattle.cx_bind.proofs.SetLaws.{parameter_name, parameter_found, one_name_more, one_global_more, again_on, again_told}
 use Rattle.cx_bind.proofs.clashes.check_parameters.Goals as goal
 
 pub returns-in_err-check_parameter : goal.returns-in_err-check_parameter

@@ -1,9 +1,9 @@
 use Rattle.std.proofs.Common.{◌≡◌, take, drop, map}
 use Rattle.std.specs.Option.{option_map}
 use Rattle.cx_plan.specs.Lists.{first_again_behind}
-use Rattle.cx_bind.specs.declared.thorns.BindFault.TheVariants.{TwoVariables, TwoParameters}
-use Rattle.cx_bind.specs.Faults.{is_same_variable, clash, two_variables, two_parameters}
-use Rattle.cx_bind.proofs.SetLaws.{variable_name, parameter_name, global_names}
+use Rattle.cx_bind.specs.declared.thorns.BindFault.TheVariants.{TwoParameters}
+use Rattle.cx_bind.specs.Faults.{clash, two_parameters}
+use Rattle.cx_bind.proofs.SetLaws.{parameter_name, global_names}
 use Rattle.cx_bind.proofs.clashes.check_parameters.Given as goal
 
 abbrev pub invariant-knowns : goal.invariant-knowns

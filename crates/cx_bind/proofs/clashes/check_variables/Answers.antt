@@ -1,12 +1,11 @@
-use Rattle.std.proofs.Common.{◌||◌, ◌&&◌}
 use Rattle.std.proofs.lemmas.Result.{err_from_is_err_and}
 use Rattle.std.specs.List.{list_any}
 use Rattle.std.specs.Str.{bytes_eq}
 use Rattle.std.proofs.Common.{take}
 use Rattle.cx_bind.specs.NameSets.{folded}
-use Rattle.cx_bind.specs.declared.thorns.BindFault.TheVariants.{TwoVariables, TwoParameters, Memory}
-use Rattle.cx_bind.specs.Faults.{is_same_variable, clash}
-use Rattle.cx_bind.proofs.SetLaws.{variable_name, parameter_name, variable_found, parameter_found, one_name_more, one_global_more, again_on, again_told}
+use Rattle.cx_bind.specs.declared.thorns.BindFault.TheVariants.{TwoVariables, Memory}
+use Rattle.cx_bind.specs.Faults.{is_same_variable}
+use Rattle.cx_bind.proofs.SetLaws.{variable_name, variable_found, one_name_more, again_on, again_told}
 use Rattle.cx_bind.proofs.clashes.check_variables.Goals as goal
 
 pub returns-in_err-check_variable : goal.returns-in_err-check_variable

@@ -1,4 +1,4 @@
-use Rattle.std.proofs.Common.{◌≡◌, ◌++◌, take, map, Some}
+use Rattle.std.proofs.Common.{◌≡◌, ◌++◌, take}
 use Rattle.cx_bind.proofs.copies.push_ranges.Given as goal
 
 abbrev pub invariant-others : goal.invariant-others

@@ -1,4 +1,4 @@
-use Rattle.std.proofs.Common.{◌≡◌, ◌++◌, take, map, Some}
+use Rattle.std.proofs.Common.{◌≡◌, ◌++◌, take, map}
 use Rattle.std.specs.List.{flat_map}
 use Rattle.cx_bind.specs.Parameters.{declared_as, known_by}
 use Rattle.cx_bind.proofs.known.push_thorns.Given as goal

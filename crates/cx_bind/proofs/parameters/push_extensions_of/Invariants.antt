@@ -1,6 +1,6 @@
-use Rattle.std.proofs.Common.{◌≡◌, ◌++◌, take, map, Some}
+use Rattle.std.proofs.Common.{◌≡◌, ◌++◌, take}
 use Rattle.std.specs.List.{flat_map}
-use Rattle.cx_bind.specs.Parameters.{extension_as, extensions_in, extensions, added_by, added, extended, declared_as, thorn_parameters}
+use Rattle.cx_bind.specs.Parameters.{extension_as}
 use Rattle.cx_bind.proofs.parameters.push_extensions_of.Given as goal
 
 abbrev pub invariant-decls : goal.invariant-decls

@@ -1,7 +1,7 @@
 use Rattle.std.proofs.Common.{◌≡◌, drop}
 use Rattle.cx_plan.specs.Lists.{first_of_each}
 use Rattle.cx_bind.specs.Parameters.{shared_by}
-use Rattle.cx_bind.specs.Faults.{no_parameter_by, wrong_type_by}
+use Rattle.cx_bind.specs.Faults.{wrong_type_by}
 use Rattle.cx_bind.proofs.uses.check_types_of.Given as goal
 
 abbrev pub invariant-loop-decl : goal.invariant-loop-decl

@@ -1,5 +1,5 @@
-use Rattle.std.proofs.Common.{◌≡◌, ◌++◌, take, map, Some}
-use Rattle.std.specs.List.{flat_map, range_with_len}
+use Rattle.std.proofs.Common.{◌≡◌, ◌++◌, take, map}
+use Rattle.std.specs.List.{flat_map}
 use Rattle.cx_bind.specs.Variables.{copies, info_of}
 use Rattle.cx_bind.proofs.variables.push_names.Given as goal
 

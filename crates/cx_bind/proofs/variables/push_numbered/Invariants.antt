@@ -1,6 +1,6 @@
-use Rattle.std.proofs.Common.{◌≡◌, ◌++◌, take, map, Some}
-use Rattle.std.specs.List.{flat_map, range_with_len}
-use Rattle.cx_bind.specs.Variables.{copies, info_of}
+use Rattle.std.proofs.Common.{◌≡◌, ◌++◌, map, Some}
+use Rattle.std.specs.List.{range_with_len}
+use Rattle.cx_bind.specs.Variables.{info_of}
 use Rattle.cx_bind.proofs.variables.push_numbered.Given as goal
 
 abbrev pub invariant-copies : goal.invariant-copies

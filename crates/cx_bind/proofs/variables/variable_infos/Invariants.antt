@@ -1,4 +1,4 @@
-use Rattle.std.proofs.Common.{◌≡◌, ◌++◌, take, map, Some}
+use Rattle.std.proofs.Common.{◌≡◌, take}
 use Rattle.cx_bind.proofs.VariableLaws.{infos}
 use Rattle.cx_bind.proofs.variables.variable_infos.Given as goal
 
