@@ -1,0 +1,5 @@
+pub mod Spelling
+pub mod Naming
+pub mod Special
+pub mod Faults
+pub mod Assigned

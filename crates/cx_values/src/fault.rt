@@ -1,0 +1,50 @@
+//! Why parameters can't have values.
+
+ghost use Rattle.std.specs.Prelude.{◌≡◌};
+ghost use Rattle.cx_values.specs.declared.fault.ValueFault.TheVariants as faults;
+
+use cx_text::{Memory, Text};
+use std::alloc::{AllocError, AllocFailed};
+
+/// Why parameters can't have values. The numbers are lines of the parameter file.
+#[derive(Debug, Drop)]
+pub enum ValueFault {
+    /// The default of the parameter of this full name is no value, or lies outside the ranges of its own declaration.
+    BadDefault(Text),
+    /// A setting names no parameter.
+    UnknownParam(u32),
+    /// A setting names an array without an index, another parameter with one, or no element of an array.
+    Index(u32),
+    /// A setting's text spells no value of the parameter's type.
+    BadSpelling(u32),
+    /// A setting's value lies in no range of the parameter.
+    OutOfRange(u32),
+    /// A setting sets an element that an earlier one sets.
+    Twice(u32),
+    /// Memory is wanting.
+    Memory,
+}
+
+impl From<Memory> for ValueFault {
+    ghost from_gives = { λ _ e. e ≡ faults.Memory };
+
+    fn from(_: Memory) -> Self {
+        ValueFault::Memory
+    }
+}
+
+impl From<AllocError> for ValueFault {
+    ghost from_gives = { λ _ e. e ≡ faults.Memory };
+
+    fn from(_: AllocError) -> Self {
+        ValueFault::Memory
+    }
+}
+
+impl<T: Drop> From<AllocFailed<T>> for ValueFault {
+    ghost from_gives = { λ _ e. e ≡ faults.Memory };
+
+    fn from(_: AllocFailed<T>) -> Self {
+        ValueFault::Memory
+    }
+}

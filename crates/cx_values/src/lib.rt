@@ -1,0 +1,21 @@
+//! The values of parameters: by their settings, else by their defaults.
+#![tactic(auto)]
+
+mod assignment;
+mod fault;
+mod given;
+mod lookups;
+mod naming;
+mod settings;
+mod slots;
+mod special;
+mod spelling;
+#[cfg(test)]
+mod tests;
+mod uses;
+mod values;
+
+pub use assignment::assign;
+pub use fault::ValueFault;
+pub use lookups::ThornView;
+pub use values::{Given, Held, Slot, Use, Values};

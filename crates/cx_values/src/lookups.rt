@@ -1,0 +1,170 @@
+//! What is told of values.
+
+ghost use Rattle.std.specs.Prelude.{◌≡◌, ◌++◌, Some, find, position};
+ghost use Rattle.std.specs.Option.{option_copied};
+ghost use Rattle.cx_text.specs.Lexemes.{same_name};
+ghost use Rattle.cx_plan.specs.Lists.{or_else};
+ghost use Rattle.cx_expr.specs.Known.{known};
+ghost use Rattle.cx_values.specs.Naming.{element as element_by};
+ghost use Rattle.cx_values.specs.Assigned.{is_given, held_in as told_in, held_at as told_at, holds, held_named as told_named, get as told, number as number_told, known_value, known_held, used_as as place_used, finds_in, thorn_finds};
+
+use crate::values::{Given, Held, Slot, Use, Values};
+use cx_expr::{Found, Lookup};
+use cx_param::Value;
+use cx_text::{Text, same_name};
+
+/// The element that an index names.
+pub(crate) fn element(length: Option<u32>, index: Option<u32>) -> Option<u32>
+    ensures { result ≡ element_by length index }
+{
+    match (length, index) {
+        (None, None) => Some(0),
+        (Some(length), Some(index)) if index < length => Some(index),
+        _ => None,
+    }
+}
+
+fn given_to(given: &[Given], parameter: usize, element: u32) -> Option<&Given>
+    ensures { option_copied result ≡ find (is_given parameter element) given.now }
+{
+    given
+        .iter()
+        .find(|one| one.parameter == parameter && one.element == element)
+}
+
+fn held_in<'a>(given: &'a [Given], parameter: usize, slot: &'a Slot, element: u32) -> &'a Held
+    ensures { result.now ≡ told_in given.now parameter slot.now element }
+{
+    match given_to(given, parameter, element) {
+        Some(one) => &one.held,
+        None => &slot.default,
+    }
+}
+
+fn place_named(slots: &[Slot], full: &[u8]) -> Option<usize>
+    ensures { result ≡ position (λ s. same_name s.full full.now) slots.now }
+{
+    slots
+        .iter()
+        .position(|slot| same_name(slot.full.as_slice(), full))
+}
+
+fn use_named<'a>(uses: &'a [Use], name: &[u8]) -> Option<&'a Use>
+    ensures { option_copied result ≡ find (λ u. same_name u.name name.now) uses.now }
+{
+    uses.iter().find(|one| same_name(one.name.as_slice(), name))
+}
+
+fn used_as(uses: &[Use], name: &[u8]) -> Option<usize>
+    ensures { result ≡ place_used name.now uses.now }
+{
+    match use_named(uses, name) {
+        Some(one) => Some(one.parameter),
+        None => None,
+    }
+}
+
+/// The parameter that a name names among a thorn's own uses, else among those of all thorns.
+fn used_by_any(uses: &[Use], globals: &[Use], name: &[u8]) -> Option<usize>
+    ensures { result ≡ or_else (place_used name.now uses.now) (place_used name.now globals.now) }
+{
+    match used_as(uses, name) {
+        Some(parameter) => Some(parameter),
+        None => used_as(globals, name),
+    }
+}
+
+impl Values {
+    fn held(&self, index: Option<u32>, parameter: usize) -> Option<&Held>
+        ensures { option_copied result ≡ holds self.now index parameter }
+    {
+        let slot = self.slots.as_slice().get(parameter)?;
+        let element = element(slot.length, index)?;
+        Some(held_in(self.given.as_slice(), parameter, slot, element))
+    }
+
+    fn held_named(&self, full: &Text, index: Option<u32>) -> Option<&Held>
+        ensures { option_copied result ≡ told_named self.now full.now index }
+    {
+        let parameter = place_named(self.slots.as_slice(), full.as_slice())?;
+        self.held(index, parameter)
+    }
+
+    /// The value of a parameter by its full name, or with an index that of an element of an array.
+    ///
+    /// None where no parameter has this full name, where an array is asked for without an index or another parameter
+    /// with one, and where the index isn't below the array's length.
+    pub fn get(&self, full: &Text, index: Option<u32>) -> Option<&Value>
+        ensures { option_copied result ≡ told self.now full.now index }
+    {
+        match self.held_named(full, index) {
+            Some(held) => Some(&held.value),
+            None => None,
+        }
+    }
+
+    /// The number of a parameter's value: an `INT`'s own, 0 or 1 of a `BOOLEAN`, and of a `KEYWORD` its place among the
+    /// words of the declaration and of all extensions.
+    ///
+    /// None where `get` answers None, and for a `STRING`.
+    pub fn number(&self, full: &Text, index: Option<u32>) -> Option<i64>
+        ensures { result ≡ number_told self.now full.now index }
+    {
+        match self.held_named(full, index) {
+            Some(held) => held.number,
+            None => None,
+        }
+    }
+
+    /// The values as the expressions of a thorn see them, by the thorn's number in the order of activation: its own
+    /// parameters, then those that it uses or extends, by the alias where one is given, then global ones.
+    pub fn lookup(&self, thorn: u32) -> ThornView<'_>
+        ensures values { result.values.now ≡ self.now }
+        ensures thorn { result.thorn ≡ thorn }
+    {
+        ThornView {
+            values: self,
+            thorn,
+        }
+    }
+}
+
+/// The values as the expressions of one thorn see them.
+#[derive(Clone, Copy, Debug)]
+pub struct ThornView<'a> {
+    pub values: &'a Values,
+    /// The thorn's number in the order of activation.
+    pub thorn: u32,
+}
+
+fn found(held: &Held) -> Found<'_>
+    ensures { known result ≡ known_value held.now.value }
+{
+    match &held.value {
+        Value::Number(n) => Found::Number(*n),
+        Value::Flag(b) => Found::Number(i64::from(*b)),
+        Value::Text(text) => Found::Text(text.as_slice()),
+    }
+}
+
+impl ThornView<'_> {
+    fn held(&self, name: &Text, index: Option<u32>) -> Option<&Held>
+        ensures { known_held (option_copied result) ≡ thorn_finds self.now.values.now self.now.thorn name.now index }
+    {
+        let uses = self.values.uses.as_slice().get(self.thorn as usize)?;
+        let globals = self.values.globals.as_slice();
+        let parameter = used_by_any(uses.as_slice(), globals, name.as_slice())?;
+        self.values.held(index, parameter)
+    }
+}
+
+impl Lookup for ThornView<'_> {
+    ghost finds = { λ v name index. thorn_finds v.values.now v.thorn name index };
+
+    fn find(&self, name: &Text, index: Option<u32>) -> Found<'_> {
+        match self.held(name, index) {
+            Some(held) => found(held),
+            None => Found::Missing,
+        }
+    }
+}
