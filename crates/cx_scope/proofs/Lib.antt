@@ -1,0 +1,7 @@
+pub mod ReachLaws
+pub mod EdgeLaws
+pub mod ClosureLaws
+pub mod NameLaws
+pub mod SuffixLaws
+pub mod StoredLaws
+mod Rows

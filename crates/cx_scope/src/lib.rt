@@ -1,0 +1,16 @@
+//! Which variables and groups a thorn sees, and what names mean to it.
+#![tactic(auto)]
+
+mod edges;
+mod fault;
+mod names;
+mod reach;
+mod scope;
+mod sought;
+mod stored;
+mod tables;
+#[cfg(test)]
+mod tests;
+
+pub use fault::ScopeFault;
+pub use scope::{Scope, group_of, resolve};

@@ -1,0 +1,68 @@
+//! What is reached along edges.
+
+ghost use Rattle.std.specs.Prelude.{◌≡◌, ◌↔◌, ◌<◌, ℕ, true, false, length, replicate, IfOk, find, option_map};
+ghost use Rattle.std.specs.Option.{option_copied};
+ghost use Rattle.cx_scope.specs.Reach.{Reach, is_marked as marked, is_new as new_edge, ends_below};
+
+use std::alloc::{AllocError, Global};
+
+fn is_marked(marks: &[bool], k: usize) -> bool
+    ensures { result ≡ marked marks.now k }
+{
+    match marks.get(k) {
+        Some(mark) => *mark,
+        None => false,
+    }
+}
+
+fn is_new(from: usize, marks: &[bool], edge: (usize, usize)) -> bool
+    ensures { result ≡ new_edge from marks.now edge }
+{
+    (edge.0 == from || is_marked(marks, edge.0)) && !is_marked(marks, edge.1)
+}
+
+/// An edge that leads to a number which is not marked.
+fn next_edge<'a>(
+    edges: &'a [(usize, usize)],
+    from: usize,
+    marks: &[bool],
+) -> Option<&'a (usize, usize)>
+    ensures { option_copied result ≡ find (new_edge from marks.now) edges.now }
+{
+    edges.iter().find(|edge| is_new(from, marks, **edge))
+}
+
+/// The end of such an edge.
+fn next_end(edges: &[(usize, usize)], from: usize, marks: &[bool]) -> Option<usize>
+    ensures { result ≡ option_map (λ e. e.1) (find (new_edge from marks.now) edges.now) }
+{
+    match next_edge(edges, from, marks) {
+        Some(edge) => Some(edge.1),
+        None => None,
+    }
+}
+
+fn no_marks(alloc: Global, count: usize) -> Result<Vec<bool>, AllocError>
+    ensures { IfOk result (λ v. v.items ≡ replicate count false) }
+{
+    vec![in alloc; false; count]
+}
+
+/// Marks what is reached from a number along edges.
+pub(crate) fn reached(
+    alloc: Global,
+    count: usize,
+    edges: &[(usize, usize)],
+    from: usize,
+) -> Result<Vec<bool>, AllocError>
+    requires { ends_below count edges.now ≡ true }
+    ensures { IfOk result (λ marks. (b : ℕ) → (marked marks.items b ≡ true) ↔ Reach edges.now from b) }
+{
+    let mut marks = no_marks(alloc, count)?;
+    'rounds: loop {
+        match next_end(edges, from, marks.as_slice()) {
+            None => return Ok(marks),
+            Some(end) => marks[end] = true,
+        }
+    }
+}

@@ -1,0 +1,183 @@
+//! The variables and groups that names mean.
+
+ghost use Rattle.std.specs.Prelude.{◌≡◌, ◌&&◌, ◌^◌, ◌<◌, length, IfOk};
+ghost use Rattle.std.specs.List.{position_from};
+ghost use Rattle.std.specs.Option.{option_copied};
+ghost use Rattle.cx_scope.specs.Closures.{sight_of};
+ghost use Rattle.cx_scope.specs.Sight.{is_in};
+ghost use Rattle.cx_scope.specs.Naming.{fits_owner, is_same_copy, names_level, names_group, without_suffix, variable_at, variable_named, group_named, is_same_group, members_from};
+
+use crate::names::{NamedGroup, NamedVariable, Tier};
+use crate::tables::Tables;
+use cx_sched::Ref;
+use cx_text::{List, Memory, Text, same_name};
+use std::alloc::Global;
+
+fn fits_owner(owner: &Option<Text>, group: &NamedGroup) -> bool
+    ensures { result ≡ fits_owner owner.now group.now }
+{
+    match owner {
+        Some(owner) => same_name(owner.as_slice(), group.owner.as_slice()),
+        None => true,
+    }
+}
+
+fn is_same_copy(a: Option<u32>, b: Option<u32>) -> bool
+    ensures { result ≡ is_same_copy a b }
+{
+    match (a, b) {
+        (None, None) => true,
+        (Some(j), Some(k)) => j == k,
+        (None, Some(_)) | (Some(_), None) => false,
+    }
+}
+
+/// Whether a variable has the name with this text in place of its own.
+fn names_variable(name: &Ref, base: &[u8], variable: &NamedVariable) -> bool
+    ensures { result ≡ names_level (record name.now { name = base.now }) 0 variable.now }
+{
+    fits_owner(&name.owner, &variable.group)
+        && same_name(base, variable.name.as_slice())
+        && is_same_copy(name.copy, variable.copy)
+}
+
+fn names_group(name: &Ref, group: &NamedGroup) -> bool
+    ensures { result ≡ names_group name.now group.now }
+{
+    fits_owner(&name.owner, group)
+        && same_name(name.name.as_slice(), group.name.as_slice())
+        && name.copy.is_none()
+}
+
+/// A name without the `_p` at its end.
+fn without_suffix(name: &[u8]) -> Option<&[u8]>
+    ensures { option_copied result ≡ without_suffix name.now }
+{
+    if name.len() < 2 {
+        return None;
+    }
+    let end = name.len() - 2;
+    if same_name(&name[end..], b"_p") {
+        Some(&name[..end])
+    } else {
+        None
+    }
+}
+
+fn is_this_variable(
+    tables: &Tables,
+    thorn: usize,
+    tier: Tier,
+    name: &Ref,
+    base: &[u8],
+    variable: &NamedVariable,
+) -> bool
+    ensures { result ≡ (is_in (sight_of tables.now) thorn tier variable.now.group && names_level (record name.now { name = base.now }) 0 variable.now) }
+{
+    tables.is_in(thorn, tier, &variable.group) && names_variable(name, base, variable)
+}
+
+fn variable_in(tables: &Tables, thorn: usize, tier: Tier, name: &Ref, base: &[u8]) -> Option<usize>
+    ensures { result ≡ position_from (λ v. is_in (sight_of tables.now) thorn tier v.group && names_level (record name.now { name = base.now }) 0 v) 0 tables.now.variables }
+{
+    tables.variables.as_slice().iter().position(|variable| is_this_variable(
+        tables, thorn, tier, name, base, variable,
+    ))
+}
+
+fn variable_at(
+    tables: &Tables,
+    thorn: usize,
+    tiers: &[Tier],
+    name: &Ref,
+    base: &[u8],
+) -> Option<usize>
+    ensures { result ≡ variable_at (sight_of tables.now) thorn tiers.now tables.now.variables (record name.now { name = base.now }) 0 }
+{
+    'tiers: for tier in tiers {
+        if let Some(place) = variable_in(tables, thorn, *tier, name, base) {
+            return Some(place);
+        }
+    }
+    None
+}
+
+/// The variable and the level that a name means.
+pub(crate) fn variable_named(
+    tables: &Tables,
+    thorn: usize,
+    tiers: &[Tier],
+    name: &Ref,
+) -> Option<(usize, usize)>
+    ensures { result ≡ variable_named (sight_of tables.now) thorn tiers.now tables.now.variables name.now }
+{
+    let mut base = name.name.as_slice();
+    let mut level = 0;
+    'levels: loop {
+        if let Some(place) = variable_at(tables, thorn, tiers, name, base) {
+            return Some((place, level));
+        }
+        match without_suffix(base) {
+            Some(shorter) => base = shorter,
+            None => return None,
+        }
+        level += 1;
+    }
+}
+
+fn is_this_group(tables: &Tables, thorn: usize, tier: Tier, name: &Ref, group: &NamedGroup) -> bool
+    ensures { result ≡ (is_in (sight_of tables.now) thorn tier group.now && names_group name.now group.now) }
+{
+    tables.is_in(thorn, tier, group) && names_group(name, group)
+}
+
+fn group_in(tables: &Tables, thorn: usize, tier: Tier, name: &Ref) -> Option<usize>
+    ensures { result ≡ position_from (λ g. is_in (sight_of tables.now) thorn tier g && names_group name.now g) 0 tables.now.groups }
+{
+    tables
+        .groups
+        .as_slice()
+        .iter()
+        .position(|group| is_this_group(tables, thorn, tier, name, group))
+}
+
+/// The place of the group that a name means.
+pub(crate) fn group_named(
+    tables: &Tables,
+    thorn: usize,
+    tiers: &[Tier],
+    name: &Ref,
+) -> Option<usize>
+    ensures { result ≡ group_named (sight_of tables.now) thorn tiers.now tables.now.groups name.now }
+{
+    'tiers: for tier in tiers {
+        if let Some(place) = group_in(tables, thorn, *tier, name) {
+            return Some(place);
+        }
+    }
+    None
+}
+
+fn is_same_group(a: &NamedGroup, b: &NamedGroup) -> bool
+    ensures { result ≡ is_same_group a.now b.now }
+{
+    a.thorn == b.thorn && a.place == b.place
+}
+
+/// The numbers of a group's variables.
+pub(crate) fn members(
+    alloc: Global,
+    variables: &[NamedVariable],
+    group: &NamedGroup,
+) -> Result<List<u32>, Memory>
+    requires { length variables.now < 2 ^ 32 }
+    ensures { IfOk result (λ places. places ≡ members_from group.now 0 variables.now) }
+{
+    let mut places = List::empty(alloc);
+    'variables: for (place, variable) in variables.iter().enumerate() {
+        if is_same_group(&variable.group, group) {
+            places.push(place as u32)?;
+        }
+    }
+    Ok(places)
+}
