@@ -1,0 +1,13 @@
+pub mod Counts
+pub mod LeastOrders
+pub mod Rest
+pub mod Steps
+pub mod CycleWalks
+pub mod WalkSteps
+pub mod LinkLaws
+pub mod CandidateLaws
+pub mod GraphLaws
+pub mod CountedLaws
+pub mod BinLaws
+pub mod KeyLaws
+pub mod NameLaws

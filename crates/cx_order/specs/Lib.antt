@@ -1,0 +1,9 @@
+pub mod Orders
+pub mod Links
+pub mod Sorting
+pub mod Counted
+pub mod Seen
+pub mod Bins
+pub mod Entries
+pub mod Blocks
+pub mod Keys

@@ -1,0 +1,51 @@
+//! Why a schedule has no plan.
+
+ghost use Rattle.std.specs.Prelude.{◌≡◌};
+ghost use Rattle.cx_order.specs.declared.fault.OrderFault.TheVariants as faults;
+
+use cx_expr::ExprFault;
+use cx_text::{List, Memory, Text};
+use std::alloc::{AllocError, AllocFailed};
+
+/// Why a schedule has no plan.
+#[derive(Debug, Drop)]
+pub enum OrderFault {
+    /// An `if` of this thorn has no value.
+    Expr(Text, ExprFault),
+    /// A block stands in a bin that isn't there.
+    UnknownBin(Text),
+    /// Two entries of one bin or group have one name: the bin's or group's, `/` and theirs.
+    TwoNames(Text),
+    /// Groups, each of which contains the next, and the last the first.
+    GroupCycle(List<Text>),
+    /// Entries of one bin or group, each of which must come before the next, and the last before the first.
+    Cycle(List<Text>),
+    /// More of these than may be.
+    Limit(Text, u64),
+    /// Memory is wanting.
+    Memory,
+}
+
+impl From<Memory> for OrderFault {
+    ghost from_gives = { λ _ e. e ≡ faults.Memory };
+
+    fn from(_: Memory) -> Self {
+        OrderFault::Memory
+    }
+}
+
+impl From<AllocError> for OrderFault {
+    ghost from_gives = { λ _ e. e ≡ faults.Memory };
+
+    fn from(_: AllocError) -> Self {
+        OrderFault::Memory
+    }
+}
+
+impl<T: Drop> From<AllocFailed<T>> for OrderFault {
+    ghost from_gives = { λ _ e. e ≡ faults.Memory };
+
+    fn from(_: AllocFailed<T>) -> Self {
+        OrderFault::Memory
+    }
+}

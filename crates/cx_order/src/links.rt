@@ -1,0 +1,60 @@
+//! Lists of numbers, one per number.
+
+ghost use Rattle.std.specs.Prelude.{◌≡◌, ℕ, ◌+◌, ◌-◌, ◌<◌, ◌∷◌, [], ◌++◌, length, take, replicate, slice_get, slice_set, option_copied, IfOk, OnOk};
+ghost use Rattle.cx_order.specs.Links.{row};
+
+use cx_text::Memory;
+use std::alloc::Global;
+use std::marker::Model;
+
+/// A list of numbers per number.
+#[derive(Drop)]
+pub(crate) struct Links {
+    rows: Vec<Vec<usize>>,
+}
+
+impl Model for Links {
+    ghost use Rattle.std.specs.Prelude.{List, ℕ, map};
+
+    ghost Value = { List (List ℕ) };
+
+    ghost view = { λ links. map (λ numbers. numbers.items) links.rows.items };
+}
+
+impl Links {
+    /// So many empty lists.
+    pub(crate) fn new(alloc: Global, count: usize) -> Result<Self, Memory>
+        ensures { IfOk result (λ links. links ≡ replicate count []) }
+    {
+        let mut rows = Vec::new(alloc);
+        'rows: for _ in 0..count {
+            rows.push(Vec::new(alloc))?;
+        }
+        Ok(Links { rows })
+    }
+
+    /// A number's list.
+    pub(crate) fn row(&self, at: usize) -> &[usize]
+        requires { at < length self.now }
+        ensures { result.now ≡ row self.now at }
+    {
+        &self.rows[at]
+    }
+
+    /// Adds a number at the end of a number's list.
+    pub(crate) fn push(&mut self, at: usize, number: usize) -> Result<(), Memory>
+        requires { at < length self.old }
+        ensures { OnOk result (self.new ≡ slice_set self.old at (row self.old at ++ number ∷ [])) }
+    {
+        self.rows[at].push(number)?;
+        Ok(())
+    }
+
+    /// Takes the last number of a number's list off.
+    pub(crate) fn pop(&mut self, at: usize)
+        requires { at < length self.old }
+        ensures { self.new ≡ slice_set self.old at (take (length (row self.old at) - 1) (row self.old at)) }
+    {
+        let _ = self.rows[at].pop();
+    }
+}
