@@ -1,6 +1,9 @@
 //! The program: a thorn's automaton, from a parameter file in the current folder to the output file.
 #![tactic(auto)]
 
+ghost use Rattle.std.specs.Prelude.{map};
+ghost use Rattle.cx_run.specs.Automaton.{IsAutomaton};
+
 #[cfg(test)]
 mod devices;
 #[cfg(test)]
@@ -9,8 +12,12 @@ mod tests;
 use cx_disk::FolderDisk;
 use cx_rule::{Meter, Routine};
 use cx_run::{FolderShelf, StdoutSink, cactus};
-use cx_text::Text;
-use cx_thorn_ca::{CaInit, CaStep};
+use cx_text::{Memory, Text};
+use cx_thorn_ca::{CaCount, CaInit, CaStep, CaZero, LifeCount, LifeInit, LifeStep, LifeZero};
+use cx_thorn_pde::{
+    ControlSet, ControlSpin, DiffFlat, DiffInit, DiffScalar, DiffStep, DiffSum, WaveCopy, WaveFlat,
+    WaveInit, WaveInit1, WaveScalar, WaveStep, WaveSum,
+};
 use std::env;
 use std::io::{self, ErrorKind};
 use std::process::ExitCode;
@@ -27,20 +34,65 @@ fn main(rt: HostRuntime) -> ExitCode {
 
 /// Does what the words ask, over the current folder and standard output. It fails where memory is wanting.
 fn run(rt: &HostRuntime) -> io::Result<u8> {
-    let alloc = rt.alloc();
     let words = words(rt)?;
-    let (Ok(init), Ok(step)) = (CaInit::new(alloc), CaStep::new(alloc)) else {
-        return Err(io::Error::from(ErrorKind::OutOfMemory));
-    };
+    match answered(rt, &words) {
+        Ok(status) => Ok(status),
+        Err(Memory) => Err(io::Error::from(ErrorKind::OutOfMemory)),
+    }
+}
+
+/// What the top call answers, with the routines of all sample thorns.
+fn answered(rt: &HostRuntime, words: &[Text]) -> Result<u8, Memory> {
+    let alloc = rt.alloc();
     let mut routines: Vec<Box<dyn Routine>> = Vec::new(alloc);
-    routines.push(Box::new(alloc, init)?)?;
-    routines.push(Box::new(alloc, step)?)?;
+    routines.push(Box::new(alloc, CaInit::new(alloc)?)?)?;
+    routines.push(Box::new(alloc, CaStep::new(alloc)?)?)?;
+    begins_with_automaton(&routines);
+    routines.push(Box::new(alloc, CaZero::new(alloc)?)?)?;
+    routines.push(Box::new(alloc, CaCount::new(alloc)?)?)?;
+    routines.push(Box::new(alloc, LifeInit::new(alloc)?)?)?;
+    routines.push(Box::new(alloc, LifeStep::new(alloc)?)?)?;
+    routines.push(Box::new(alloc, LifeZero::new(alloc)?)?)?;
+    routines.push(Box::new(alloc, LifeCount::new(alloc)?)?)?;
+    routines.push(Box::new(alloc, WaveInit::new(alloc)?)?)?;
+    routines.push(Box::new(alloc, WaveInit1::new(alloc)?)?)?;
+    routines.push(Box::new(alloc, WaveStep::new(alloc)?)?)?;
+    routines.push(Box::new(alloc, WaveCopy::new(alloc)?)?)?;
+    routines.push(Box::new(alloc, WaveFlat::new(alloc)?)?)?;
+    routines.push(Box::new(alloc, WaveScalar::new(alloc)?)?)?;
+    routines.push(Box::new(alloc, WaveSum::new(alloc)?)?)?;
+    routines.push(Box::new(alloc, DiffInit::new(alloc)?)?)?;
+    routines.push(Box::new(alloc, DiffStep::new(alloc)?)?)?;
+    routines.push(Box::new(alloc, DiffFlat::new(alloc)?)?)?;
+    routines.push(Box::new(alloc, DiffScalar::new(alloc)?)?)?;
+    routines.push(Box::new(alloc, DiffSum::new(alloc)?)?)?;
+    routines.push(Box::new(alloc, ControlSet::new(alloc)?)?)?;
+    routines.push(Box::new(alloc, ControlSpin::new(alloc)?)?)?;
+    called(rt, words, &routines)
+}
+
+/// The two routines that the top call looks for stand first.
+fn begins_with_automaton(routines: &[Box<dyn Routine>])
+    requires { IsAutomaton (map rule routines.now) (map spec_of routines.now) }
+    ensures { IsAutomaton (map rule routines.now) (map spec_of routines.now) }
+{}
+
+/// The top call, over the current folder and standard output.
+fn called(rt: &HostRuntime, words: &[Text], routines: &[Box<dyn Routine>]) -> Result<u8, Memory>
+    requires { IsAutomaton (map rule routines.now) (map spec_of routines.now) }
+{
     let mut shelf = FolderShelf::new(rt.clone()?);
-    let mut disk = FolderDisk::new(rt.clone()?, alloc);
+    let mut disk = FolderDisk::new(rt.clone()?, rt.alloc());
     let mut out = StdoutSink::new(rt.clone()?);
     let mut meter = Meter::new(rt);
     Ok(cactus(
-        alloc, &words, &mut shelf, &mut disk, &mut out, &routines, &mut meter,
+        rt.alloc(),
+        words,
+        &mut shelf,
+        &mut disk,
+        &mut out,
+        routines,
+        &mut meter,
     ))
 }
 

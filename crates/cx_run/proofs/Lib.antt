@@ -4,6 +4,7 @@ pub mod OneRow
 pub mod Filled
 pub mod TurnSteps
 pub mod GoesOn
+pub mod FirstTwo
 pub mod OutMore
 pub mod Near
 pub mod SettingLaws
