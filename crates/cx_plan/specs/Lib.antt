@@ -1,3 +1,10 @@
 pub mod Types
 pub mod Names
 pub mod Lists
+pub mod Setups
+pub mod Dues
+pub mod Lookups
+pub mod Regions
+pub mod Paths
+pub mod Sizes
+pub mod Whole
