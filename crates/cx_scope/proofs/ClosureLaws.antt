@@ -26,7 +26,7 @@ use Rattle.cx_plan.specs.declared.variable.VarId.{VarId}
 use Rattle.cx_scope.specs.declared.fault.ScopeFault.{ScopeFault}
 use Rattle.cx_scope.specs.Names.{named_groups, named_variables}
 use Rattle.cx_scope.specs.Naming.{variable_named, group_named}
-use Rattle.cx_scope.specs.Resolving.{levels, group_members, resolve, group_of, Answers, BySight, ResolveAnswers, GroupAnswers}
+use Rattle.cx_scope.specs.Resolving.{levels, group_members, resolve, group_of, Answers, BySight}
 use Rattle.cx_scope.proofs.NameLaws.{few}
 use Rattle.cx_scope.proofs.ReachLaws.{some-injective, or-left, or-right, or-cases}
 
@@ -216,27 +216,24 @@ are_of thorns tables fit groups variables inherits friends =
 
 -- ---- answers by what the tables tell
 
-by_sight : {X : Type 0} (thorns : List Thorn) (told : Sight → Result X ScopeFault) (sight : Sight) (result : Result X ScopeFault) → Tells thorns sight → Answers (told sight) result → BySight thorns told result
+pub by_sight : {X : Type 0} (thorns : List Thorn) (told : Sight → Result X ScopeFault) (sight : Sight) (result : Result X ScopeFault) → Tells thorns sight → Answers (told sight) result → BySight thorns told result
 by_sight thorns told sight (Ok x) tells is = inr (sight, (tells, is))
 by_sight thorns told sight (Err e) tells (inl memory) = inl (ap (λ e. Err e) memory)
 by_sight thorns told sight (Err e) tells (inr is) = inr (sight, (tells, is))
 
-module _ (thorns seen_thorns : List Thorn) (tables : Tables) (are : AreOf seen_thorns tables) (same : seen_thorns ≡ thorns) where
-  all_of : AreOf thorns tables
-  all_of = (let A : List Thorn → Type 0 = λ ts. AreOf ts tables in subst A same are)
-
-  pub resolved : (storage : List ℕ) (t : ℕ) (r : Ref) (result : Result (List (VarId × ℕ)) ScopeFault) → Answers (levels tables.variables tables.groups (sight_of tables) t r storage (variable_named (sight_of tables) t seen tables.variables r)) result → ResolveAnswers thorns storage t r result
+module _ (thorns : List Thorn) (tables : Tables) (are : AreOf thorns tables) where
+  pub resolved : (storage : List ℕ) (t : ℕ) (r : Ref) (result : Result (List (VarId × ℕ)) ScopeFault) → Answers (levels tables.variables tables.groups (sight_of tables) t r storage (variable_named (sight_of tables) t seen tables.variables r)) result → Answers (resolve thorns (sight_of tables) storage t r) result
   resolved storage t r result told =
       let by : levels tables.variables tables.groups (sight_of tables) t r storage (variable_named (sight_of tables) t seen tables.variables r) ≡ resolve thorns (sight_of tables) storage t r =
-      ap (λ vs. levels vs tables.groups (sight_of tables) t r storage (variable_named (sight_of tables) t seen vs r)) all_of.variables
-      ∙ ap (λ gs. levels (named_variables thorns) gs (sight_of tables) t r storage (variable_named (sight_of tables) t seen (named_variables thorns) r)) all_of.groups in
+      ap (λ vs. levels vs tables.groups (sight_of tables) t r storage (variable_named (sight_of tables) t seen vs r)) are.variables
+      ∙ ap (λ gs. levels (named_variables thorns) gs (sight_of tables) t r storage (variable_named (sight_of tables) t seen (named_variables thorns) r)) are.groups in
       let A : Result (List (VarId × ℕ)) ScopeFault → Type 0 = λ answer. Answers answer result in
-      by_sight thorns (λ sight. resolve thorns sight storage t r) (sight_of tables) result all_of.tells (subst A by told)
+      subst A by told
 
-  pub grouped : (t : ℕ) (r : Ref) (result : Result (List VarId) ScopeFault) → Answers (group_members tables.variables tables.groups (sight_of tables) t r (group_named (sight_of tables) t seen tables.groups r)) result → GroupAnswers thorns t r result
+  pub grouped : (t : ℕ) (r : Ref) (result : Result (List VarId) ScopeFault) → Answers (group_members tables.variables tables.groups (sight_of tables) t r (group_named (sight_of tables) t seen tables.groups r)) result → Answers (group_of thorns (sight_of tables) t r) result
   grouped t r result told =
       let by : group_members tables.variables tables.groups (sight_of tables) t r (group_named (sight_of tables) t seen tables.groups r) ≡ group_of thorns (sight_of tables) t r =
-      ap (λ vs. group_members vs tables.groups (sight_of tables) t r (group_named (sight_of tables) t seen tables.groups r)) all_of.variables
-      ∙ ap (λ gs. group_members (named_variables thorns) gs (sight_of tables) t r (group_named (sight_of tables) t seen gs r)) all_of.groups in
+      ap (λ vs. group_members vs tables.groups (sight_of tables) t r (group_named (sight_of tables) t seen tables.groups r)) are.variables
+      ∙ ap (λ gs. group_members (named_variables thorns) gs (sight_of tables) t r (group_named (sight_of tables) t seen gs r)) are.groups in
       let A : Result (List VarId) ScopeFault → Type 0 = λ answer. Answers answer result in
-      by_sight thorns (λ sight. group_of thorns sight t r) (sight_of tables) result all_of.tells (subst A by told)
+      subst A by told

@@ -47,3 +47,13 @@ pub record AreOf (thorns : List Thorn) (tables : Tables) : Type 0 where
   pub variables : tables.variables ≡ named_variables thorns
   pub tells : Tells thorns (sight_of tables)
   pub few : length tables.variables < 2 ^ 32
+
+-- What a scope is to those who ask it: the thorns, and per thorn which ones provide its ancestors and which provide its friends.
+abbrev pub View : Type 0
+View = List Thorn × (List (List Bool) × List (List Bool))
+
+abbrev pub thorns_in : View → List Thorn
+thorns_in view = view.0
+
+abbrev pub sight_in : View → Sight
+sight_in view = record { is_ancestor = λ t u. is_marked (row_of view.1.0 t) u; is_friend = λ t u. is_marked (row_of view.1.1 t) u }

@@ -2,8 +2,9 @@
 
 ghost use Rattle.std.specs.Prelude.{◌≡◌, ◌<◌, None, length, IfOk};
 ghost use Rattle.cx_bind.specs.Binding.{bind_fault};
-ghost use Rattle.cx_scope.specs.Closures.{AreOf};
-ghost use Rattle.cx_scope.specs.Resolving.{ResolveAnswers, GroupAnswers};
+ghost use Rattle.cx_scope.specs.Closures.{AreOf, thorns_in, sight_in};
+ghost use Rattle.cx_scope.specs.Sight.{Tells};
+ghost use Rattle.cx_scope.specs.Resolving.{resolve as told, group_of as told_group, Answers, ResolveAnswers, GroupAnswers};
 
 use crate::ScopeFault;
 use crate::edges::{Tie, links};
@@ -16,7 +17,7 @@ use cx_text::{List, Memory};
 use std::alloc::Global;
 use std::marker::Model;
 
-/// What the thorns of a bound configuration see. Contracts see the thorns.
+/// What the thorns of a bound configuration see. Contracts see the thorns, and who provides ancestors and friends of whom.
 #[derive(Drop)]
 pub struct Scope<'a> {
     bound: &'a Bound,
@@ -24,13 +25,13 @@ pub struct Scope<'a> {
 }
 
 impl<'a> Model for Scope<'a> {
-    ghost use Rattle.std.specs.Prelude.{List};
+    ghost use Rattle.std.specs.Prelude.{List, Bool};
     ghost use Rattle.cx_bind.specs.declared.thorns.Thorn.{Thorn};
     ghost use Rattle.cx_scope.specs.Closures.{AreOf};
 
-    ghost Value = { List Thorn };
+    ghost Value = { List Thorn × (List (List Bool) × List (List Bool)) };
 
-    ghost view = { λ s. s.bound.now };
+    ghost view = { λ s. (s.bound.now, (s.tables.ancestors, s.tables.friends)) };
 
     ghost invariant = { λ s. AreOf s.bound.now s.tables };
 }
@@ -55,7 +56,8 @@ fn tables(alloc: Global, thorns: &[Thorn]) -> Result<Tables, Memory>
 impl<'a> Scope<'a> {
     /// Works out who sees what, once for all names.
     pub fn new(alloc: Global, bound: &'a Bound) -> Result<Self, Memory>
-        ensures { IfOk result (λ scope. scope ≡ bound.now) }
+        ensures thorns { IfOk result (λ scope. thorns_in scope ≡ bound.now) }
+        ensures tells { IfOk result (λ scope. Tells bound.now (sight_in scope)) }
     {
         let tables = tables(alloc, bound.thorns().as_slice())?;
         Ok(Scope { bound, tables })
@@ -78,8 +80,8 @@ impl<'a> Scope<'a> {
         thorn: u32,
         name: &Ref,
     ) -> Result<List<(VarId, u8)>, ScopeFault>
-        requires { thorn < length self.now }
-        ensures { ResolveAnswers self.now storage.now thorn name.now result }
+        requires { thorn < length (thorns_in self.now) }
+        ensures { Answers (told (thorns_in self.now) (sight_in self.now) storage.now thorn name.now) result }
     {
         self.tables
             .levels(alloc, storage.as_slice(), thorn as usize, name)
@@ -89,8 +91,8 @@ impl<'a> Scope<'a> {
     ///
     /// NotFound: no active thorn has a group of the name. Hidden: one has it, and this one doesn't see it.
     pub fn group_of(&self, alloc: Global, thorn: u32, name: &Ref) -> Result<List<VarId>, ScopeFault>
-        requires { thorn < length self.now }
-        ensures { GroupAnswers self.now thorn name.now result }
+        requires { thorn < length (thorns_in self.now) }
+        ensures { Answers (told_group (thorns_in self.now) (sight_in self.now) thorn name.now) result }
     {
         self.tables.group_members(alloc, thorn as usize, name)
     }
