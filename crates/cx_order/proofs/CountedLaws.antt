@@ -35,7 +35,7 @@ cond_counted thorn names test first second =
 
 -- ---- joining
 
-and_then-nothing : (a : Counted) → and_then a nothing ≡ a
+pub and_then-nothing : (a : Counted) → and_then a nothing ≡ a
 and_then-nothing a = ap (λ l. record { lines = l; entries = a.entries ++ [] }) (append-nil a.lines) ∙ ap (λ l. record { lines = a.lines; entries = l }) (append-nil a.entries)
 
 and_then-assoc : (a b c : Counted) → and_then (and_then a b) c ≡ and_then a (and_then b c)

@@ -16,3 +16,8 @@ by_thorn name (Err e) = Err (Expr name e)
 abbrev pub AddsOr : Result Counted OrderFault → LentCounted → LentCounted → Result (Unit {0}) OrderFault → Type 0
 AddsOr told old new (Ok u) = joined (Ok (seen old)) told ≡ Ok (seen new)
 AddsOr told old new (Err e) = (e ≡ Memory) ⊎ (told ≡ Err e)
+
+-- An answer is what is told, unless memory is wanting.
+abbrev pub CountsOr : Result Counted OrderFault → Result LentCounted OrderFault → Type 0
+CountsOr told (Ok counted) = told ≡ Ok (seen counted)
+CountsOr told (Err e) = (e ≡ Memory) ⊎ (told ≡ Err e)

@@ -1,5 +1,5 @@
 -- What is lent, as what is lent.
-use Rattle.std.specs.Prelude.{◌≡◌, map, Result, Ok, Err}
+use Rattle.std.specs.Prelude.{◌≡◌, List, map, Result, Ok, Err}
 use Rattle.cx_expr.specs.declared.tree.ExprFault.{ExprFault}
 use Rattle.cx_text.specs.declared.memory.Memory as declared
 use Rattle.cx_order.specs.declared.counted.Line.{Line as LentLine}
@@ -15,8 +15,12 @@ seen_line l = record { thorn = l.thorn; group = l.group.now; levels = l.levels }
 abbrev pub seen_entry : LentEntry → Entry
 seen_entry e = record { thorn = e.thorn; block = e.block.now }
 
+-- lines and entries together
+abbrev pub seen_as : List LentLine → List LentEntry → Counted
+seen_as lines entries = record { lines = map seen_line lines; entries = map seen_entry entries }
+
 abbrev pub seen : LentCounted → Counted
-seen c = record { lines = map seen_line c.lines.items; entries = map seen_entry c.entries.items }
+seen c = seen_as c.lines.items c.entries.items
 
 abbrev pub unless_memory : Result (Unit {0}) declared.Memory → Result (Unit {0}) Uncounted
 unless_memory (Ok u) = Ok u

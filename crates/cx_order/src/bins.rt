@@ -15,6 +15,9 @@ use std::alloc::Global;
 /// How many bins there are.
 pub(crate) const BINS: usize = 17;
 
+/// The first so many are run.
+pub(crate) const RUN_BINS: usize = 13;
+
 /// The name of a bin by its number.
 pub(crate) fn bin_name(bin: usize) -> &'static [u8]
     ensures { result.now ≡ slice_index_or bin_names bin [] }

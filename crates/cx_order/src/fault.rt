@@ -4,6 +4,7 @@ ghost use Rattle.std.specs.Prelude.{◌≡◌};
 ghost use Rattle.cx_order.specs.declared.fault.OrderFault.TheVariants as faults;
 
 use cx_expr::ExprFault;
+use cx_scope::ScopeFault;
 use cx_text::{List, Memory, Text};
 use std::alloc::{AllocError, AllocFailed};
 
@@ -20,6 +21,8 @@ pub enum OrderFault {
     GroupCycle(List<Text>),
     /// Entries of one bin or group, each of which must come before the next, and the last before the first.
     Cycle(List<Text>),
+    /// A name of a STORAGE line of this thorn, or of the entry of this path.
+    Scope(Text, ScopeFault),
     /// More of these than may be.
     Limit(Text, u64),
     /// Memory is wanting.

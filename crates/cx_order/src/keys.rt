@@ -15,7 +15,7 @@ use indexmap::IndexSet;
 use std::alloc::Global;
 use std::marker::Model;
 
-/// A name in small letters, behind a byte.
+/// Adds a name in small letters.
 fn push_folded(bytes: &mut Vec<u8>, name: &[u8]) -> Result<(), Memory>
     ensures { OnOk result (bytes.new.items ≡ bytes.old.items ++ folded name.now) }
 {
@@ -25,7 +25,8 @@ fn push_folded(bytes: &mut Vec<u8>, name: &[u8]) -> Result<(), Memory>
     Ok(())
 }
 
-fn folded(alloc: Global, name: &[u8]) -> Result<Vec<u8>, Memory>
+/// A name in small letters.
+pub(crate) fn folded(alloc: Global, name: &[u8]) -> Result<Vec<u8>, Memory>
     ensures { IfOk result (λ bytes. bytes.items ≡ folded name.now) }
 {
     let mut bytes = Vec::new(alloc);

@@ -33,6 +33,21 @@ impl Links {
         Ok(Links { rows })
     }
 
+    /// How many lists there are.
+    pub(crate) fn len(&self) -> usize
+        ensures { result ≡ length self.now }
+    {
+        self.rows.len()
+    }
+
+    /// Adds a list.
+    pub(crate) fn push_row(&mut self, row: Vec<usize>) -> Result<(), Memory>
+        ensures { OnOk result (self.new ≡ self.old ++ row.items ∷ []) }
+    {
+        self.rows.push(row)?;
+        Ok(())
+    }
+
     /// A number's list.
     pub(crate) fn row(&self, at: usize) -> &[usize]
         requires { at < length self.now }

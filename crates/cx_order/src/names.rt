@@ -54,7 +54,7 @@ fn spot_text<'a>(entries: &[Entry<'a>], spot: &'a Spot) -> &'a [u8]
 }
 
 /// Two names with `/` between.
-fn joined(alloc: Global, place: &[u8], name: &[u8]) -> Result<Text, Memory>
+pub(crate) fn joined(alloc: Global, place: &[u8], name: &[u8]) -> Result<Text, Memory>
     ensures { IfOk result (λ text. text ≡ place.now ++ codes "/" ++ name.now) }
 {
     let mut text = Text::from_slice(alloc, place)?;

@@ -1,0 +1,106 @@
+-- What ordering answers.
+use Rattle.std.specs.Prelude.{◌≡◌, ◌⊎◌, ℕ, List, Option, Some, None, Result, Ok, Err}
+use Rattle.std.specs.List.{flat_map}
+use Rattle.cx_plan.specs.Lists.{or_else}
+use Rattle.cx_scope.specs.Sight.{Sight, Tells}
+use Rattle.cx_order.specs.declared.ordered.Ordered.{Ordered}
+use Rattle.cx_order.specs.declared.fault.OrderFault.{OrderFault}
+use Rattle.cx_order.specs.declared.fault.OrderFault.TheVariants.{GroupCycle, Cycle, Memory}
+use Rattle.cx_order.specs.Counted.{Counted}
+use Rattle.cx_order.specs.Files.{Input, all_counted}
+use Rattle.cx_order.specs.Entries.{bin_fault, names_fault}
+use Rattle.cx_order.specs.Places.{Orders, AreLeast}
+use Rattle.cx_order.specs.Cycles.{IsGroupCycle, NoGroupCycle, IsEntryCycle}
+use Rattle.cx_order.specs.Storage.{storage, storage_fault}
+use Rattle.cx_order.specs.Meanings.{World}
+use Rattle.cx_order.specs.Plans.{forests, forest_items, entry_fault, bin_trees, limit_fault}
+use Rattle.cx_order.specs.Texts.{schedule_text}
+
+-- what the thorns see, and what is stored
+abbrev pub world : Input → Counted → Sight → World
+world input c sight = record { thorns = input.thorns; sight = sight; storage = storage input.thorns sight c.lines }
+
+-- the plan by these orders
+abbrev pub planned : Input → Counted → Sight → Orders → Ordered
+planned input c sight orders =
+    record {
+      plan = record { bins = bin_trees (world input c sight) 0 (forests c.entries orders) };
+      items = flat_map (forest_items (world input c sight)) (forests c.entries orders);
+      storage = storage input.thorns sight c.lines;
+      text = schedule_text (world input c sight) (forests c.entries orders);
+    }
+
+-- first the STORAGE lines, then the entries in the order of the trees
+abbrev pub scope_fault : Input → Counted → Sight → Orders → Option OrderFault
+scope_fault input c sight orders = or_else (storage_fault input.thorns sight c.lines) (entry_fault (world input c sight) (forests c.entries orders))
+
+-- what counts, without a fault of bins and names
+pub record AreEntries (input : Input) (c : Counted) : Type 0 where
+  pub counted : all_counted input ≡ Ok c
+  pub bins : bin_fault c.entries ≡ None
+  pub names : names_fault c.entries ≡ None
+
+-- no group contains itself, there are least orders, and the sight is that of the least sets
+pub record AreOrders (input : Input) (c : Counted) (sight : Sight) (orders : Orders) : Type 0 where
+  pub are_entries : AreEntries input c
+  pub groups : NoGroupCycle c.entries
+  pub least : AreLeast c.entries orders
+  pub told : Tells input.thorns sight
+
+pub record IsPlan (input : Input) (ordered : Ordered) : Type 0 where
+  pub c : Counted
+  pub sight : Sight
+  pub orders : Orders
+  pub are_orders : AreOrders input c sight orders
+  pub scope : scope_fault input c sight orders ≡ None
+  pub limits : limit_fault (planned input c sight orders).plan.bins ≡ None
+  pub is_planned : ordered ≡ planned input c sight orders
+
+-- a fault of bins, or else of names
+pub record IsEntryFault (input : Input) (fault : OrderFault) : Type 0 where
+  pub c : Counted
+  pub counted : all_counted input ≡ Ok c
+  pub first : or_else (bin_fault c.entries) (names_fault c.entries) ≡ Some fault
+
+pub record IsOfGroups (input : Input) (fault : OrderFault) : Type 0 where
+  pub c : Counted
+  pub are_entries : AreEntries input c
+  pub names : List (List ℕ)
+  pub cycle : IsGroupCycle c.entries names
+  pub told : fault ≡ GroupCycle names
+
+pub record IsOfEntries (input : Input) (fault : OrderFault) : Type 0 where
+  pub c : Counted
+  pub are_entries : AreEntries input c
+  pub groups : NoGroupCycle c.entries
+  pub names : List (List ℕ)
+  pub cycle : IsEntryCycle c.entries names
+  pub told : fault ≡ Cycle names
+
+pub record IsScopeFault (input : Input) (fault : OrderFault) : Type 0 where
+  pub c : Counted
+  pub sight : Sight
+  pub orders : Orders
+  pub are_orders : AreOrders input c sight orders
+  pub scope : scope_fault input c sight orders ≡ Some fault
+
+pub record IsLimitFault (input : Input) (fault : OrderFault) : Type 0 where
+  pub c : Counted
+  pub sight : Sight
+  pub orders : Orders
+  pub are_orders : AreOrders input c sight orders
+  pub scope : scope_fault input c sight orders ≡ None
+  pub limits : limit_fault (planned input c sight orders).plan.bins ≡ Some fault
+
+-- the first fault, in the order of its kinds: each kind asks that there is none of those before it
+pub data IsFault (input : Input) (fault : OrderFault) : Type 0 where
+  of_expression : all_counted input ≡ Err fault → IsFault input fault
+  of_entry : IsEntryFault input fault → IsFault input fault
+  of_groups : IsOfGroups input fault → IsFault input fault
+  of_entries : IsOfEntries input fault → IsFault input fault
+  of_scope : IsScopeFault input fault → IsFault input fault
+  of_limit : IsLimitFault input fault → IsFault input fault
+
+abbrev pub OrderAnswers : Input → Result Ordered OrderFault → Type 0
+OrderAnswers input (Ok ordered) = IsPlan input ordered
+OrderAnswers input (Err fault) = (fault ≡ Memory) ⊎ IsFault input fault

@@ -1,0 +1,214 @@
+//! The text of an entry.
+
+ghost use Rattle.std.specs.Prelude.{◌≡◌, ◌≤◌, ◌<◌, ◌++◌, ◌==◌, length, codes, position, IfSome, OnOk};
+ghost use Rattle.std.specs.List.{flat_map};
+ghost use Rattle.cx_plan.specs.Names.{full_name};
+ghost use Rattle.cx_order.specs.Files.{thorn_name};
+ghost use Rattle.cx_order.specs.Seen.{seen_entry};
+ghost use Rattle.cx_order.specs.Texts.{region_text, past, bracket_of, level_text, level_name, touch_text, touches_text, name_text, test_text, sync_text, head_text, text_by};
+ghost use Rattle.cx_order.specs.Worlds.{world_of};
+
+use crate::context::Context;
+use crate::counted::Entry;
+use crate::meaning::Meaning;
+use cx_plan::{Region, Touch, VarId};
+use cx_text::{Memory, Text};
+
+/// A region's word in schedule texts.
+pub fn region_text(region: Region) -> &'static [u8]
+    ensures { result.now ≡ region_text region }
+{
+    match region {
+        Region::Interior => b"interior",
+        Region::Boundary => b"boundary",
+        Region::Everywhere => b"everywhere",
+    }
+}
+
+/// Adds `_p` once for each past level.
+fn push_past(text: &mut Text, level: u8) -> Result<(), Memory>
+    ensures { OnOk result (text.new ≡ text.old ++ past level) }
+{
+    'levels: for _ in 0..level {
+        text.push_slice(b"_p")?;
+    }
+    Ok(())
+}
+
+fn first_bracket(full: &[u8]) -> Option<usize>
+    ensures place { result ≡ position (λ c. c == 91) full.now }
+    ensures within { IfSome result (λ place. place < length full.now) }
+{
+    full.iter().position(|byte| *byte == b'[')
+}
+
+/// Where the bracket of a copy begins, or the end.
+fn bracket_of(full: &[u8]) -> usize
+    ensures bracket { result ≡ bracket_of full.now }
+    ensures within { result ≤ length full.now }
+{
+    first_bracket(full).unwrap_or(full.len())
+}
+
+/// Adds a variable's full name with a level's `_p`, which stand before the bracket of a copy, as schedule texts have it.
+pub fn push_level(text: &mut Text, full: &[u8], level: u8) -> Result<(), Memory>
+    ensures { OnOk result (text.new ≡ text.old ++ level_text full.now level) }
+{
+    let bracket = bracket_of(full);
+    text.push_slice(&full[..bracket])?;
+    push_past(text, level)?;
+    text.push_slice(&full[bracket..])
+}
+
+fn push_level_name(
+    text: &mut Text,
+    context: &Context<'_>,
+    variable: VarId,
+    level: u8,
+) -> Result<(), Memory>
+    ensures { OnOk result (text.new ≡ text.old ++ level_name (world_of context.now) variable level) }
+{
+    match context.variable(variable) {
+        Some(info) => push_level(text, info.full.as_slice(), level),
+        None => Ok(()),
+    }
+}
+
+fn push_touch(text: &mut Text, context: &Context<'_>, touch: &Touch) -> Result<(), Memory>
+    ensures { OnOk result (text.new ≡ text.old ++ touch_text (world_of context.now) touch.now) }
+{
+    text.push_slice(b" ")?;
+    push_level_name(text, context, touch.var, touch.level)?;
+    text.push_slice(b"(")?;
+    text.push_slice(region_text(touch.region))?;
+    text.push_slice(b")")
+}
+
+fn push_each_touch(text: &mut Text, context: &Context<'_>, touches: &[Touch]) -> Result<(), Memory>
+    ensures { OnOk result (text.new ≡ text.old ++ flat_map (touch_text (world_of context.now)) touches.now) }
+{
+    'touches: for touch in touches {
+        push_touch(text, context, touch)?;
+    }
+    Ok(())
+}
+
+/// Adds what is read or written behind a word, unless it is nothing.
+fn push_touches(
+    text: &mut Text,
+    context: &Context<'_>,
+    word: &[u8],
+    touches: &[Touch],
+) -> Result<(), Memory>
+    ensures { OnOk result (text.new ≡ text.old ++ touches_text word.now (world_of context.now) touches.now) }
+{
+    if touches.is_empty() {
+        return Ok(());
+    }
+    text.push_slice(word)?;
+    push_each_touch(text, context, touches)
+}
+
+fn push_name(text: &mut Text, word: &[u8], name: &Option<Text>) -> Result<(), Memory>
+    ensures { OnOk result (text.new ≡ text.old ++ name_text word.now name.now) }
+{
+    match name {
+        Some(name) => {
+            text.push_slice(word)?;
+            text.push_slice(name.as_slice())
+        }
+        None => Ok(()),
+    }
+}
+
+/// Adds the scalar of IF or WHILE behind the word, if there is one.
+fn push_test(
+    text: &mut Text,
+    context: &Context<'_>,
+    word: &[u8],
+    scalar: Option<VarId>,
+) -> Result<(), Memory>
+    ensures { OnOk result (text.new ≡ text.old ++ test_text word.now (world_of context.now) scalar) }
+{
+    match scalar {
+        Some(variable) => {
+            text.push_slice(word)?;
+            push_level_name(text, context, variable, 0)
+        }
+        None => Ok(()),
+    }
+}
+
+fn push_variable(text: &mut Text, context: &Context<'_>, variable: VarId) -> Result<(), Memory>
+    ensures { OnOk result (text.new ≡ text.old ++ (codes " " ++ level_name (world_of context.now) variable 0)) }
+{
+    text.push_slice(b" ")?;
+    push_level_name(text, context, variable, 0)
+}
+
+fn push_variables(text: &mut Text, context: &Context<'_>, variables: &[VarId]) -> Result<(), Memory>
+    ensures { OnOk result (text.new ≡ text.old ++ flat_map (λ v. codes " " ++ level_name (world_of context.now) v 0) variables.now) }
+{
+    'variables: for variable in variables {
+        push_variable(text, context, *variable)?;
+    }
+    Ok(())
+}
+
+fn push_sync(text: &mut Text, context: &Context<'_>, variables: &[VarId]) -> Result<(), Memory>
+    ensures { OnOk result (text.new ≡ text.old ++ sync_text (world_of context.now) variables.now) }
+{
+    if variables.is_empty() {
+        return Ok(());
+    }
+    text.push_slice(b" sync")?;
+    push_variables(text, context, variables)
+}
+
+fn push_thorn_name(text: &mut Text, context: &Context<'_>, thorn: u32) -> Result<(), Memory>
+    ensures { OnOk result (text.new ≡ text.old ++ thorn_name context.now.bound.now thorn) }
+{
+    match context.bound.thorns().as_slice().get(thorn as usize) {
+        Some(thorn) => text.push_slice(thorn.name.as_slice()),
+        None => Ok(()),
+    }
+}
+
+/// Adds a call's routine, behind its thorn.
+fn push_call(text: &mut Text, context: &Context<'_>, entry: &Entry<'_>) -> Result<(), Memory>
+    ensures { OnOk result (text.new ≡ text.old ++ (codes "call " ++ full_name (thorn_name context.now.bound.now entry.now.thorn) entry.now.block.now.name)) }
+{
+    text.push_slice(b"call ")?;
+    push_thorn_name(text, context, entry.thorn)?;
+    text.push_slice(b"::")?;
+    text.push_slice(entry.block.name.as_slice())
+}
+
+/// Adds what an entry is, and its own name.
+fn push_head(text: &mut Text, context: &Context<'_>, entry: &Entry<'_>) -> Result<(), Memory>
+    ensures { OnOk result (text.new ≡ text.old ++ head_text (world_of context.now) (seen_entry entry.now)) }
+{
+    if !entry.block.group {
+        return push_call(text, context, entry);
+    }
+    text.push_slice(b"group ")?;
+    text.push_slice(entry.block.name.as_slice())
+}
+
+/// Adds an entry as the text of a schedule has it, by what its names stand for.
+pub(crate) fn push_entry_text(
+    text: &mut Text,
+    context: &Context<'_>,
+    entry: &Entry<'_>,
+    meaning: &Meaning,
+) -> Result<(), Memory>
+    ensures { OnOk result (text.new ≡ text.old ++ text_by (world_of context.now) (seen_entry entry.now) meaning.now) }
+{
+    push_head(text, context, entry)?;
+    push_name(text, b" as ", &entry.block.alias)?;
+    push_test(text, context, b" if ", meaning.test)?;
+    push_test(text, context, b" while ", meaning.turn)?;
+    push_touches(text, context, b" reads", meaning.reads.as_slice())?;
+    push_touches(text, context, b" writes", meaning.writes.as_slice())?;
+    push_sync(text, context, meaning.sync.as_slice())
+}

@@ -1,0 +1,62 @@
+//! Items of entries.
+
+ghost use Rattle.std.specs.Prelude.{◌≡◌, IfOk};
+ghost use Rattle.cx_order.specs.Files.{thorn_name};
+ghost use Rattle.cx_order.specs.Meanings.{names_of};
+ghost use Rattle.cx_order.specs.Plans.{item_of};
+ghost use Rattle.cx_order.specs.Seen.{seen_entry};
+ghost use Rattle.cx_order.specs.Worlds.{world_of};
+
+use crate::context::Context;
+use crate::copies::copy_text;
+use crate::counted::Entry;
+use crate::meaning::Meaning;
+use cx_bind::Thorn;
+use cx_plan::{Item, ItemKind, Touch};
+use cx_text::{List, Memory, Text};
+use std::alloc::Global;
+
+fn copy_touches(alloc: Global, touches: &List<Touch>) -> Result<List<Touch>, Memory>
+    ensures { IfOk result (λ copy. copy ≡ touches.now) }
+{
+    let copy = Vec::from_slice(alloc, touches.as_slice())?;
+    Ok(List::new(copy))
+}
+
+/// A copy of a thorn's name.
+fn copy_thorn(alloc: Global, thorns: &List<Thorn>, number: u32) -> Result<Text, Memory>
+    ensures { IfOk result (λ name. name ≡ thorn_name thorns.now number) }
+{
+    match thorns.as_slice().get(number as usize) {
+        Some(thorn) => copy_text(alloc, &thorn.name),
+        None => Ok(Text::new(Vec::new(alloc))),
+    }
+}
+
+/// The item of a routine's entry.
+pub(crate) fn item_of(
+    alloc: Global,
+    context: &Context<'_>,
+    entry: &Entry<'_>,
+    meaning: &Meaning,
+    path: &Text,
+) -> Result<Item, Memory>
+    requires { meaning.now ≡ names_of (world_of context.now) (seen_entry entry.now) }
+    ensures { IfOk result (λ item. item ≡ item_of (world_of context.now) (seen_entry entry.now) path.now) }
+{
+    let thorn = copy_thorn(alloc, context.bound.thorns(), entry.thorn)?;
+    let name = copy_text(alloc, &entry.block.name)?;
+    let path = copy_text(alloc, path)?;
+    let reads = copy_touches(alloc, &meaning.reads)?;
+    let writes = copy_touches(alloc, &meaning.writes)?;
+    Ok(Item {
+        thorn,
+        name,
+        path,
+        kind: ItemKind::Cell,
+        routine: 0,
+        reads,
+        writes,
+        params: List::empty(alloc),
+    })
+}

@@ -1,0 +1,144 @@
+//! Ordering: from the schedule files of bound thorns to a plan.
+
+ghost use Rattle.std.specs.Prelude.{◌≡◌, ◌⊎◌, ◌<◌, List, length, map, None, Some, All, IfOk, IfErr};
+ghost use Rattle.cx_plan.specs.Lists.{or_else};
+ghost use Rattle.cx_sched.specs.declared.tree.ScheduleFile.{ScheduleFile};
+ghost use Rattle.cx_values.specs.declared.values.Values.{Values};
+ghost use Rattle.cx_order.specs.declared.fault.OrderFault.TheVariants as faults;
+ghost use Rattle.cx_order.specs.Entries.{names_fault};
+ghost use Rattle.cx_order.specs.Files.{input_of};
+ghost use Rattle.cx_order.specs.Meanings.{names_of};
+ghost use Rattle.cx_order.specs.Ordering.{AreEntries, IsPlan, IsFault, OrderAnswers};
+ghost use Rattle.cx_order.specs.Placed.{IsPlaced};
+ghost use Rattle.cx_order.specs.Planning.{forests_in};
+ghost use Rattle.cx_order.specs.Plans.{entry_fault, limit_fault, bin_trees};
+ghost use Rattle.cx_order.specs.Seen.{seen, seen_as, seen_entry};
+ghost use Rattle.cx_order.specs.Worlds.{world_of, IsOfBound, HasThorn};
+
+use crate::Ordered;
+use crate::all_files::count_all;
+use crate::bins::check_bins;
+use crate::checks::check_plan;
+use crate::context::Context;
+use crate::counted::{Counted, Entry, Line};
+use crate::fault::OrderFault;
+use crate::meaning::Meaning;
+use crate::meanings::{meanings, without_faults};
+use crate::names::check_names;
+use crate::placed::{Placed, place_entries};
+use crate::planning::{Planned, Source, plan};
+use crate::storage::stored_levels;
+use cx_bind::Bound;
+use cx_sched::ScheduleFile;
+use cx_scope::Scope;
+use cx_text::List;
+use cx_values::Values;
+use std::alloc::Global;
+
+/// What counts of the files, where no bin is unknown and no name stands twice in a bin or group.
+fn counted_entries<'a>(
+    alloc: Global,
+    bound: &Bound,
+    files: &'a [ScheduleFile],
+    values: &Values,
+) -> Result<Counted<'a>, OrderFault>
+    requires { length files.now ≡ length bound.now }
+    ensures fits { IfOk result (λ counted. AreEntries (input_of bound.now files.now values.now) (seen counted)) }
+    ensures fault { IfErr result (λ e. (e ≡ faults.Memory) ⊎ IsFault (input_of bound.now files.now values.now) e) }
+    ensures lines { IfOk result (λ counted. All (λ line. line.thorn < length bound.now) counted.lines.items) }
+    ensures entries { IfOk result (λ counted. All (λ entry. entry.thorn < length bound.now) counted.entries.items) }
+{
+    let counted = count_all(alloc, bound, files, values)?;
+    check_bins(alloc, &counted.entries)?;
+    check_names(alloc, &counted.entries)?;
+    Ok(counted)
+}
+
+/// What entries' names stand for, where none of a placed entry has a fault and the trees aren't too large.
+fn checked_meanings(
+    alloc: Global,
+    context: &Context<'_>,
+    entries: &[Entry<'_>],
+    placed: &Placed,
+) -> Result<Vec<Meaning>, OrderFault>
+    requires scope { IsOfBound context.now }
+    requires thorns { All (HasThorn context.now) entries.now }
+    requires placed { IsPlaced (map seen_entry entries.now) placed.now }
+    ensures names { IfOk result (λ _. entry_fault (world_of context.now) (forests_in (map seen_entry entries.now) placed.now) ≡ None) }
+    ensures limits { IfOk result (λ _. limit_fault (bin_trees (world_of context.now) 0 (forests_in (map seen_entry entries.now) placed.now)) ≡ None) }
+    ensures meanings { IfOk result (λ meanings. meanings.items ≡ map (names_of (world_of context.now)) (map seen_entry entries.now)) }
+    ensures fault { IfErr result (λ e. (e ≡ faults.Memory) ⊎ (or_else (entry_fault (world_of context.now) (forests_in (map seen_entry entries.now) placed.now)) (limit_fault (bin_trees (world_of context.now) 0 (forests_in (map seen_entry entries.now) placed.now))) ≡ Some e)) }
+{
+    let meanings = meanings(alloc, context, entries)?;
+    check_plan(alloc, entries, placed, &meanings)?;
+    Ok(without_faults(alloc, meanings)?)
+}
+
+/// The plan of what counts: some STORAGE lines and entries.
+fn planned(
+    alloc: Global,
+    bound: &Bound,
+    lines: &[Line<'_>],
+    entries: &[Entry<'_>],
+) -> Result<Ordered, OrderFault>
+    requires names { names_fault (map seen_entry entries.now) ≡ None }
+    requires lines { All (λ line. line.thorn < length bound.now) lines.now }
+    requires entries { All (λ entry. entry.thorn < length bound.now) entries.now }
+    ensures plan { IfOk result (λ ordered. (files : List ScheduleFile) (values : Values) → AreEntries (input_of bound.now files values) (seen_as lines.now entries.now) → IsPlan (input_of bound.now files values) ordered) }
+    ensures fault { IfErr result (λ e. (e ≡ faults.Memory) ⊎ ((files : List ScheduleFile) (values : Values) → AreEntries (input_of bound.now files values) (seen_as lines.now entries.now) → IsFault (input_of bound.now files values) e)) }
+{
+    let placed = place_entries(alloc, entries)?;
+    let scope = Scope::new(alloc, bound)?;
+    let storage = stored_levels(alloc, &scope, bound, lines)?;
+    let context = Context {
+        bound,
+        scope: &scope,
+        storage: &storage,
+    };
+    let meanings = checked_meanings(alloc, &context, entries, &placed)?;
+    let source = Source {
+        context: &context,
+        entries,
+        placed: &placed,
+        meanings: &meanings,
+    };
+    let Planned { plan, items, text } = plan(alloc, &source)?;
+    Ok(Ordered {
+        plan,
+        items,
+        storage,
+        text,
+    })
+}
+
+/// The plan of the schedule files of bound thorns, one file for each in the order of activation, by the values of parameters.
+///
+/// Blocks and STORAGE lines count where each `if` around them holds; what stands in a branch that isn't taken is neither
+/// evaluated nor tested. The entries of a bin or group are numbered by their thorns and then by their places in the files. They
+/// run in the least order, compared number by number, in which each stands behind those that must come before it. A group runs
+/// its contents at each place where it stands; WHILE stands around an entry's work and its SYNC, and IF outside. A STORAGE line
+/// gives its group so many levels for the whole run, all declared ones where no number stands, and the greatest number counts.
+/// (Cactus 4 Users' Guide, schedule.ccl; the least order, and storage for the whole run, are this project's own.)
+///
+/// Expr: an `if` has no value. UnknownBin: a bin isn't there. TwoNames: two entries of one bin or group have one name.
+/// GroupCycle: a group contains itself, also through others. Cycle: entries of one bin or group must each come before the next,
+/// and the last before the first. Scope: a name of a STORAGE line, and then one of an entry that is placed, in the order of
+/// the trees, stands for nothing, an IF or WHILE isn't for one scalar, or a SYNC is for a scalar. Limit: trees are more than 32
+/// `depth` or have more than 4,096 `nodes`. The first of the first kind counts.
+pub fn order(
+    alloc: Global,
+    bound: &Bound,
+    files: &List<ScheduleFile>,
+    values: &Values,
+) -> Result<Ordered, OrderFault>
+    requires { length files.now ≡ length bound.now }
+    ensures { OrderAnswers (input_of bound.now files.now values.now) result }
+{
+    let counted = counted_entries(alloc, bound, files.as_slice(), values)?;
+    planned(
+        alloc,
+        bound,
+        counted.lines.as_slice(),
+        counted.entries.as_slice(),
+    )
+}
