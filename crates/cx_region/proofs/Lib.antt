@@ -1,0 +1,13 @@
+pub mod AgreeLaws
+pub mod BoundaryLaws
+pub mod CalledLaws
+pub mod FlowLaws
+pub mod JobLaws
+pub mod MeetLaws
+pub mod PathLaws
+pub mod RangeLaws
+pub mod ShapeLaws
+pub mod SureLaws
+pub mod TableLaws
+pub mod UnmetLaws
+pub mod WholeLaws

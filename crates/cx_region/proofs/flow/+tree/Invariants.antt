@@ -1,0 +1,13 @@
+-- where the trees that are left lead, all lead; and flags have only fallen
+use Rattle.std.proofs.Common.{drop}
+use Rattle.std.specs.List.{All}
+use Rattle.cx_plan.specs.Whole.{IsTree}
+use Rattle.cx_region.specs.Flows.{IsBelow}
+use Rattle.cx_region.proofs.PathLaws.{Passing}
+use Rattle.cx_region.proofs.flow.+tree.Given as goal
+
+abbrev pub invariant-walk_trees-trees : goal.invariant-walk_trees-trees
+invariant-walk_trees-trees l = All (IsTree l.job) l.trees → Passing l.job l.trees (drop l.tree-index l.trees) l.fn.table l.table
+
+abbrev pub invariant-walk_while-turns : goal.invariant-walk_while-turns
+invariant-walk_while-turns l = IsBelow l.table l.fn.table

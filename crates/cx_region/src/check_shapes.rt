@@ -1,0 +1,75 @@
+//! Whether each item that is run has a shape of the table.
+
+ghost use Rattle.std.specs.Prelude.{◌≡◌, ℕ, ◌<◌, ◌&&◌, not, length, option_map, IfOk};
+ghost use Rattle.std.specs.Option.{option_copied};
+ghost use Rattle.cx_plan.specs.Setups.{setup_of};
+ghost use Rattle.cx_plan.specs.Lookups.{variable, item};
+ghost use Rattle.cx_plan.specs.Regions.{run_items, has_shape};
+ghost use Rattle.cx_region.specs.Marks.{is_marked, is_among_items};
+ghost use Rattle.cx_region.specs.Shapes.{lacks_shape, first_shapeless, first_written, no_shape, shape_fault, Tells};
+
+use crate::RegionFault;
+use crate::called::called_items;
+use crate::shapes::has_shape;
+use crate::variables::full_name;
+use cx_plan::{Item, Job, Touch};
+use cx_text::{Memory, Text};
+use std::alloc::Global;
+
+fn is_marked(marks: &[bool], number: usize) -> bool
+    ensures { result ≡ is_marked marks.now number }
+{
+    match marks.get(number) {
+        Some(mark) => *mark,
+        None => false,
+    }
+}
+
+fn lacks_shape(job: &Job, is_called: bool, item: &Item) -> bool
+    ensures { result ≡ (is_called && not (has_shape (setup_of job.now) item.now)) }
+{
+    is_called && !has_shape(job, item)
+}
+
+/// The first item that is run and has no shape.
+fn first_shapeless<'a>(job: &'a Job, called: &[bool]) -> Option<&'a Item>
+    requires { (k : ℕ) → k < length job.now.items → is_marked called.now k ≡ is_among_items (run_items (setup_of job.now)) k }
+    ensures { option_copied result ≡ option_map (item (setup_of job.now)) (first_shapeless (setup_of job.now)) }
+{
+    'items: for (number, item) in job.items.as_slice().iter().enumerate() {
+        if lacks_shape(job, is_marked(called, number), item) {
+            return Some(item);
+        }
+    }
+    None
+}
+
+/// The full name of the first write.
+fn first_written<'a>(job: &'a Job, writes: &[Touch]) -> &'a [u8]
+    ensures { result.now ≡ first_written (setup_of job.now) writes.now }
+{
+    match writes.first() {
+        Some(write) => full_name(job, write.var),
+        None => &[],
+    }
+}
+
+fn no_shape(alloc: Global, job: &Job, item: &Item) -> Result<RegionFault, Memory>
+    ensures { IfOk result (λ fault. fault ≡ no_shape (setup_of job.now) item.now) }
+{
+    Ok(RegionFault::Shape(
+        Text::from_slice(alloc, item.path.as_slice())?,
+        Text::from_slice(alloc, first_written(job, item.writes.as_slice()))?,
+    ))
+}
+
+/// Tests that each item that is run has a shape, in the order of items.
+pub(crate) fn check_shapes(alloc: Global, job: &Job) -> Result<(), RegionFault>
+    ensures { Tells (shape_fault (setup_of job.now)) result }
+{
+    let called = called_items(alloc, job)?;
+    match first_shapeless(job, called.as_slice()) {
+        Some(item) => Err(no_shape(alloc, job, item)?),
+        None => Ok(()),
+    }
+}
