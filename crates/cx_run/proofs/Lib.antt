@@ -1,4 +1,3 @@
-pub mod Named
 pub mod Fronts
 pub mod OneRow
 pub mod Filled

@@ -1,4 +1,3 @@
-pub mod Shelf
 pub mod Sink
 pub mod MemorySink
 pub mod Words

@@ -3,7 +3,6 @@
 
 mod call;
 mod driver;
-mod folder;
 mod job;
 mod levels;
 mod numeral;
@@ -11,7 +10,6 @@ mod output;
 mod parameter_file;
 mod reply;
 mod settings;
-mod shelf;
 mod sink;
 mod stdout;
 mod turns;
@@ -19,9 +17,8 @@ mod undivided;
 mod words;
 
 pub use call::cactus;
-pub use folder::FolderShelf;
+pub use cx_job::{FolderShelf, MemoryShelf, Shelf, ShelfFault};
 pub use job::Job;
 pub use reply::Answer;
-pub use shelf::{MemoryShelf, Shelf, ShelfFault};
 pub use sink::{MemorySink, Sink, SinkFault};
 pub use stdout::StdoutSink;

@@ -1,0 +1,267 @@
+-- One stage of reading behind another.
+use Rattle.std.proofs.Common.{◌≡◌, ◌≢◌, ◌∙◌, sym, ap, subst, refl, ◌≤◌, ◌⊎◌, inl, inr, ℕ, List, Option, Some, None, Result, Ok, Err, MatchResult, arith}
+use Rattle.cx_text.specs.declared.token.Token.{Token}
+use Rattle.cx_text.specs.declared.token.Style.{Style}
+use Rattle.cx_text.specs.declared.fault.TextFault.{TextFault}
+use Rattle.cx_text.specs.declared.fault.TextFault.TheVariants as texts
+use Rattle.cx_text.specs.declared.fault.CclFault.{CclFault}
+use Rattle.cx_text.specs.declared.fault.CclFault.TheVariants as trees
+use Rattle.cx_text.specs.Pieces.{IsCause, Reads, OnlyTokens}
+use Rattle.cx_text.specs.Grammar.{Grammar, IsFault, Answers, AnswersOnly}
+use Rattle.cx_disk.specs.Cause.{HasCause, Rose}
+use Rattle.cx_job.specs.declared.fault.JobFault.{JobFault}
+use Rattle.cx_job.specs.declared.fault.JobFault.TheVariants as faults
+use Rattle.cx_job.specs.Shelf.{Held}
+use Rattle.cx_job.specs.Reading.{Stage, Then, TextTokens, Tree, Tokens, TokensIfAny, TreeIfAny, File, FileOr, Comes, Follows, IsTree}
+
+-- ---- answers without a value
+
+abbrev err : (A : Type 0) → JobFault → Result A JobFault
+err A e = Err e
+
+err_memory : (A : Type 0) (e : JobFault) (P : Type 0) → (e ≡ faults.Memory) ⊎ P → (err A e ≡ err A faults.Memory) ⊎ P
+err_memory A e P (inl m) = inl (ap (err A) m)
+err_memory A e P (inr s) = inr s
+
+err_free : (A : Type 0) (e : JobFault) (P : Type 0) → (e ≡ faults.Memory) ⊎ (e ≡ faults.Shelf) ⊎ P → (err A e ≡ err A faults.Memory) ⊎ (err A e ≡ err A faults.Shelf) ⊎ P
+err_free A e P (inl m) = inl (ap (err A) m)
+err_free A e P (inr (inl m)) = inr (inl (ap (err A) m))
+err_free A e P (inr (inr s)) = inr (inr s)
+
+from_err : (A : Type 0) (e : JobFault) (P : Type 0) → (err A e ≡ err A faults.Memory) ⊎ (err A e ≡ err A faults.Shelf) ⊎ P → (e ≡ faults.Memory) ⊎ (e ≡ faults.Shelf) ⊎ P
+from_err A e P (inl m) = inl cc
+from_err A e P (inr (inl m)) = inr (inl cc)
+from_err A e P (inr (inr s)) = inr (inr s)
+
+from_ok : (A : Type 0) (x : A) (r : Result A JobFault) (P : Type 0) → r ≡ Ok x → (r ≡ err A faults.Memory) ⊎ (r ≡ err A faults.Shelf) ⊎ P → P
+from_ok A x r P e (inl m) = absurd cc
+from_ok A x r P e (inr (inl m)) = absurd cc
+from_ok A x r P e (inr (inr s)) = s
+
+-- ---- causes
+
+moved : (A B : Type 0) (e f : JobFault) → err B e ≡ err B f → err A e ≡ err A f
+moved A B e f h = let same : e ≡ f = cc in ap (err A) same
+
+halted_cause : (A B : Type 0) (e : JobFault) (f0 f1 : ℕ) → HasCause faults.Shelf f0 f1 (err A e) → HasCause faults.Shelf f0 f1 (err B e)
+halted_cause A B e f0 f1 c = record { later = c.later; failed = λ h. c.failed (moved A B e faults.Shelf h) }
+
+rose_since : (f0 f1 f2 : ℕ) → f0 ≤ f1 → Rose f1 f2 → Rose f0 f2
+rose_since f0 f1 f2 h r = omega arith
+
+later_still : (f0 f1 f2 : ℕ) → f0 ≤ f1 → f1 ≤ f2 → f0 ≤ f2
+later_still f0 f1 f2 h k = omega arith
+
+two_causes : (A B : Type 0) (f0 f1 f2 : ℕ) (a : Result A JobFault) (r : Result B JobFault) → HasCause faults.Shelf f0 f1 a → HasCause faults.Shelf f1 f2 r → HasCause faults.Shelf f0 f2 r
+two_causes A B f0 f1 f2 a r first second = record { later = later_still f0 f1 f2 first.later second.later; failed = λ h. rose_since f0 f1 f2 first.later (second.failed h) }
+
+no_cause : (B : Type 0) (f : ℕ) (r : Result B JobFault) → r ≢ err B faults.Shelf → HasCause faults.Shelf f f r
+no_cause B f (Ok v) other = record { later = omega arith; failed = λ h. absurd cc }
+no_cause B f (Err e) other = record { later = omega arith; failed = λ h. absurd (other h) }
+
+-- ---- faults and values of a stage
+
+-- where a stage gave a fault, it had none but this
+pub free : {A : Type 0} (tells : Type 0) (stage : Held → Stage A) (h0 h1 : Held) (f0 f1 : ℕ) (e : JobFault) → Follows tells stage h0 h1 f0 f1 (err A e) → tells → (e ≡ faults.Memory) ⊎ (e ≡ faults.Shelf) ⊎ stage h0 (err A e)
+free {A} tells stage h0 h1 f0 f1 e a t = from_err A e (stage h0 (err A e)) (a.answers t)
+
+-- a value that a stage gave is what it comes to
+pub given : {A : Type 0} (tells : Type 0) (stage : Held → Stage A) (h0 h1 : Held) (f0 f1 : ℕ) (x : A) → Follows tells stage h0 h1 f0 f1 (Ok x) → tells → stage h0 (Ok x)
+given {A} tells stage h0 h1 f0 f1 x a t = from_ok A x (Ok x) (stage h0 (Ok x)) refl (a.answers t)
+
+-- ---- two stages
+
+halt_answers : (A B : Type 0) (p : Stage A) (q : A → Stage B) (e : JobFault) → (e ≡ faults.Memory) ⊎ (e ≡ faults.Shelf) ⊎ p (err A e) → (err B e ≡ err B faults.Memory) ⊎ (err B e ≡ err B faults.Shelf) ⊎ Then p q (err B e)
+halt_answers A B p q e (inl m) = inl (ap (err B) m)
+halt_answers A B p q e (inr (inl m)) = inr (inl (ap (err B) m))
+halt_answers A B p q e (inr (inr s)) = inr (inr (inl (e, s, refl)))
+
+halt_only : (A B : Type 0) (p : Stage A) (q : A → Stage B) (e : JobFault) (y : B) → ((x : A) → p (Ok x) → (e ≡ faults.Memory) ⊎ (e ≡ faults.Shelf)) → Then p q (Ok y) → (e ≡ faults.Memory) ⊎ (e ≡ faults.Shelf)
+halt_only A B p q e y only (inl (f, g, z)) = absurd cc
+halt_only A B p q e y only (inr (x, s, t)) = only x s
+
+pub halted : {A B : Type 0} (tells : Type 0) (p : Held → Stage A) (q : Held → A → Stage B) (h0 h1 : Held) (f0 f1 : ℕ) (e : JobFault) → Follows tells p h0 h1 f0 f1 (err A e) → Follows tells (λ h. Then (p h) (q h)) h0 h1 f0 f1 (err B e)
+halted {A} {B} tells p q h0 h1 f0 f1 e a = record {
+  answers = λ t. halt_answers A B (p h0) (q h0) e (free tells p h0 h1 f0 f1 e a t);
+  only = λ t y. halt_only A B (p h0) (q h0) e y (a.only t);
+  same = a.same;
+  cause = halted_cause A B e f0 f1 a.cause;
+}
+
+pass_answers : (A B : Type 0) (p : Stage A) (q : A → Stage B) (x : A) (r : Result B JobFault) → p (Ok x) → (r ≡ err B faults.Memory) ⊎ (r ≡ err B faults.Shelf) ⊎ q x r → (r ≡ err B faults.Memory) ⊎ (r ≡ err B faults.Shelf) ⊎ Then p q r
+pass_answers A B p q x r s (inl m) = inl m
+pass_answers A B p q x r s (inr (inl m)) = inr (inl m)
+pass_answers A B p q x r s (inr (inr t)) = inr (inr (inr (x, s, t)))
+
+pass_only : (A B : Type 0) (p : Stage A) (q : A → Stage B) (x : A) (y : B) (P : Type 0) → ((v : A) → p (Ok v) → x ≡ v) → (q x (Ok y) → P) → Then p q (Ok y) → P
+pass_only A B p q x y P only last (inl (f, g, z)) = absurd cc
+pass_only A B p q x y P only last (inr (v, s, t)) = last (subst (λ (w : A). q w (Ok y)) (sym (only v s)) t)
+
+pub passed : {A B : Type 0} (tells : Type 0) (p : Held → Stage A) (q : Held → A → Stage B) (h0 h1 h2 : Held) (f0 f1 f2 : ℕ) (x : A) (r : Result B JobFault) → Follows tells p h0 h1 f0 f1 (Ok x) → Follows tells (λ h. q h x) h1 h2 f1 f2 r → Follows tells (λ h. Then (p h) (q h)) h0 h2 f0 f2 r
+passed {A} {B} tells p q h0 h1 h2 f0 f1 f2 x r a b = record {
+  answers = λ t. pass_answers A B (p h0) (q h0) x r (given tells p h0 h1 f0 f1 x a t) (subst (λ (h : Held). (r ≡ err B faults.Memory) ⊎ (r ≡ err B faults.Shelf) ⊎ q h x r) (a.same t) (b.answers t));
+  only = λ t y. pass_only A B (p h0) (q h0) x y (MatchResult r (λ v. v ≡ y) (λ e. (e ≡ faults.Memory) ⊎ (e ≡ faults.Shelf))) (a.only t) (subst (λ (h : Held). q h x (Ok y) → MatchResult r (λ v. v ≡ y) (λ e. (e ≡ faults.Memory) ⊎ (e ≡ faults.Shelf))) (a.same t) (b.only t y));
+  same = λ t. b.same t ∙ a.same t;
+  cause = two_causes A B f0 f1 f2 (Ok x) r a.cause b.cause;
+}
+
+-- ---- what is made of a value with no more reading
+
+come_answers : (B : Type 0) (P : Type 0) (r : Result B JobFault) → (r ≡ err B faults.Memory) ⊎ P → (r ≡ err B faults.Memory) ⊎ (r ≡ err B faults.Shelf) ⊎ P
+come_answers B P r (inl m) = inl m
+come_answers B P r (inr s) = inr (inr s)
+
+come_only : (B : Type 0) (y : B) (r : Result B JobFault) → MatchResult r (λ v. v ≡ y) (λ e. e ≡ faults.Memory) → MatchResult r (λ v. v ≡ y) (λ e. (e ≡ faults.Memory) ⊎ (e ≡ faults.Shelf))
+come_only B y (Ok v) s = s
+come_only B y (Err e) s = inl s
+
+pub came : {B : Type 0} (tells : Type 0) (q : Stage B) (h : Held) (f : ℕ) (r : Result B JobFault) → Comes q r → Follows tells (λ _. q) h h f f r
+came {B} tells q h f r c = record {
+  answers = λ t. come_answers B (q r) r c.answers;
+  only = λ t y s. come_only B y r (c.only y s);
+  same = λ t. refl;
+  cause = no_cause B f r c.no_shelf;
+}
+
+-- ---- tokens and trees
+
+pub text_ok : (style : Style) (name bytes : List ℕ) (ts : List Token) → Reads bytes style (Ok ts) → OnlyTokens bytes style (Ok ts) → Comes (TextTokens style name bytes) (Ok ts)
+text_ok style name bytes ts reads only = record {
+  answers = inr reads;
+  only = λ us s. only us s.0 s.1;
+  no_shelf = λ z. absurd cc;
+}
+
+abbrev NamedText : List ℕ → TextFault → JobFault → Type 0
+NamedText name fault e = (e ≡ faults.Memory) ⊎ ((e ≡ faults.Text name fault) × (fault ≢ texts.Memory))
+
+text_sort : (style : Style) (name bytes : List ℕ) (fault : TextFault) (e : JobFault) → IsCause bytes style fault → NamedText name fault e → (err (List Token) e ≡ err (List Token) faults.Memory) ⊎ TextTokens style name bytes (Err e)
+text_sort style name bytes fault e reads (inl m) = inl (ap (err (List Token)) m)
+text_sort style name bytes fault e reads (inr s) = inr (fault, s.0, s.1, reads)
+
+text_other : (name : List ℕ) (fault : TextFault) (e : JobFault) → NamedText name fault e → err (List Token) e ≡ err (List Token) faults.Shelf → ⊥
+text_other name fault e (inl m) z = absurd cc
+text_other name fault e (inr (m, s)) z = absurd cc
+
+pub text_err : (style : Style) (name bytes : List ℕ) (fault : TextFault) (e : JobFault) → Reads bytes style (Err fault) → OnlyTokens bytes style (Err fault) → NamedText name fault e → (fault ≡ texts.Memory → e ≡ faults.Memory) → Comes (TextTokens style name bytes) (Err e)
+text_err style name bytes fault e reads only found memory = record {
+  answers = text_sort style name bytes fault e reads found;
+  only = λ us s. memory (only us s.0 s.1);
+  no_shelf = text_other name fault e found;
+}
+
+abbrev NamedTree : List ℕ → CclFault → JobFault → Type 0
+NamedTree name fault e = (e ≡ faults.Memory) ⊎ ((e ≡ faults.Ccl name fault) × (fault ≢ trees.Memory))
+
+tree_sort : {A : Type 0} (S : Grammar A) (name : List ℕ) (ts : List Token) (fault : CclFault) (e : JobFault) → IsFault S ts fault → NamedTree name fault e → (err A e ≡ err A faults.Memory) ⊎ Tree S name ts (Err e)
+tree_sort {A} S name ts fault e is (inl m) = inl (ap (err A) m)
+tree_sort {A} S name ts fault e is (inr s) = inr (fault, s.0, s.1, is)
+
+tree_other : (A : Type 0) (name : List ℕ) (fault : CclFault) (e : JobFault) → NamedTree name fault e → err A e ≡ err A faults.Shelf → ⊥
+tree_other A name fault e (inl m) z = absurd cc
+tree_other A name fault e (inr (m, s)) z = absurd cc
+
+pub tree_comes : {A : Type 0} (S : Grammar A) (name : List ℕ) (ts : List Token) (read : Result A CclFault) (r : Result A JobFault) → Answers S (λ x. x) ts read → AnswersOnly S (λ x. x) ts read → IsTree name read r → Comes (Tree S name ts) r
+tree_comes {A} S name ts (Ok x) r answers only is = subst (λ (z : Result A JobFault). Comes (Tree S name ts) z) (sym is) (record {
+  answers = inr answers;
+  only = only;
+  no_shelf = λ z. absurd cc;
+})
+tree_comes {A} S name ts (Err fault) r answers only (e, is, found) = subst (λ (z : Result A JobFault). Comes (Tree S name ts) z) (sym is) (record {
+  answers = tree_sort S name ts fault e answers found.0;
+  only = λ x s. found.1 (only x s);
+  no_shelf = tree_other A name fault e found.0;
+})
+
+-- ---- the file under a name
+
+pub named_halted : {B : Type 0} (tells : Type 0) (name : List ℕ) (q : Option (List ℕ) → Stage B) (h0 h1 : Held) (f0 f1 : ℕ) (e : JobFault) → Follows tells (λ files found. found ≡ Ok (files name)) h0 h1 f0 f1 (err (Option (List ℕ)) e) → Follows tells (λ files. q (files name)) h0 h1 f0 f1 (err B e)
+named_halted {B} tells name q h0 h1 f0 f1 e a = record {
+  answers = λ t. by_read B e name h0 (q (h0 name)) (free tells (λ files found. found ≡ Ok (files name)) h0 h1 f0 f1 e a t);
+  only = λ t y s. unread e (h0 name) (free tells (λ files found. found ≡ Ok (files name)) h0 h1 f0 f1 e a t);
+  same = a.same;
+  cause = halted_cause (Option (List ℕ)) B e f0 f1 a.cause;
+}
+  where
+    unread : (e : JobFault) (o : Option (List ℕ)) → (e ≡ faults.Memory) ⊎ (e ≡ faults.Shelf) ⊎ (err (Option (List ℕ)) e ≡ Ok o) → (e ≡ faults.Memory) ⊎ (e ≡ faults.Shelf)
+    unread e o (inl m) = inl m
+    unread e o (inr (inl m)) = inr m
+    unread e o (inr (inr s)) = absurd cc
+
+    by_read : (B : Type 0) (e : JobFault) (name : List ℕ) (files : Held) (q : Stage B) → (e ≡ faults.Memory) ⊎ (e ≡ faults.Shelf) ⊎ (err (Option (List ℕ)) e ≡ Ok (files name)) → (err B e ≡ err B faults.Memory) ⊎ (err B e ≡ err B faults.Shelf) ⊎ q (err B e)
+    by_read B e name files q (inl m) = inl (ap (err B) m)
+    by_read B e name files q (inr (inl m)) = inr (inl (ap (err B) m))
+    by_read B e name files q (inr (inr s)) = absurd cc
+
+pub named_passed : {B : Type 0} (tells : Type 0) (name : List ℕ) (q : Option (List ℕ) → Stage B) (h0 h1 : Held) (f0 f1 : ℕ) (o : Option (List ℕ)) (r : Result B JobFault) → Follows tells (λ files found. found ≡ Ok (files name)) h0 h1 f0 f1 (Ok o) → Comes (q o) r → Follows tells (λ files. q (files name)) h0 h1 f0 f1 r
+named_passed {B} tells name q h0 h1 f0 f1 o r a c = record {
+  answers = λ t. come_answers B (q (h0 name) r) r (subst (λ (p : Option (List ℕ)). (r ≡ err B faults.Memory) ⊎ q p r) (held t) c.answers);
+  only = λ t y s. come_only B y r (c.only y (subst (λ (p : Option (List ℕ)). q p (Ok y)) (sym (held t)) s));
+  same = a.same;
+  cause = two_causes (Option (List ℕ)) B f0 f1 f1 (Ok o) r a.cause (no_cause B f1 r c.no_shelf);
+}
+  where
+    held : tells → o ≡ h0 name
+    held t = a.only t (h0 name) refl
+
+pub no_file : (style : Style) (name : List ℕ) (e : JobFault) → (e ≡ faults.Memory) ⊎ (e ≡ faults.NoFile name) → Comes (Tokens style name None) (Err e)
+no_file style name e (inl m) = record { answers = inl (ap (err (List Token)) m); only = λ x s. absurd cc; no_shelf = λ z. absurd cc }
+no_file style name e (inr s) = record { answers = inr (ap (err (List Token)) s); only = λ x t. absurd cc; no_shelf = λ z. absurd cc }
+
+pub none_there : (style : Style) (name : List ℕ) → Comes (TokensIfAny style name None) (Ok None)
+none_there style name = record { answers = inr refl; only = λ x s. cc; no_shelf = λ z. absurd cc }
+
+pub some_there : (style : Style) (name bytes : List ℕ) (ts : List Token) → Comes (TextTokens style name bytes) (Ok ts) → Comes (TokensIfAny style name (Some bytes)) (Ok (Some ts))
+some_there style name bytes ts c = record {
+  answers = inr (inr (ts, there c.answers, refl));
+  only = only;
+  no_shelf = λ z. absurd cc;
+}
+  where
+    there : (Ok ts ≡ err (List Token) faults.Memory) ⊎ TextTokens style name bytes (Ok ts) → TextTokens style name bytes (Ok ts)
+    there (inl m) = absurd cc
+    there (inr s) = s
+
+    only : (x : Option (List Token)) → TokensIfAny style name (Some bytes) (Ok x) → Some ts ≡ x
+    only x (inl (f, g, z)) = absurd cc
+    only x (inr (us, s, z)) = let same = c.only us s in cc
+
+pub halted_there : (style : Style) (name bytes : List ℕ) (e : JobFault) → Comes (TextTokens style name bytes) (Err e) → Comes (TokensIfAny style name (Some bytes)) (Err e)
+halted_there style name bytes e c = record {
+  answers = answers c.answers;
+  only = only;
+  no_shelf = λ z. c.no_shelf (moved (List Token) (Option (List Token)) e faults.Shelf z);
+}
+  where
+    answers : (err (List Token) e ≡ err (List Token) faults.Memory) ⊎ TextTokens style name bytes (Err e) → (err (Option (List Token)) e ≡ err (Option (List Token)) faults.Memory) ⊎ TokensIfAny style name (Some bytes) (Err e)
+    answers (inl m) = inl (moved (Option (List Token)) (List Token) e faults.Memory m)
+    answers (inr s) = inr (inl (e, s, refl))
+
+    only : (x : Option (List Token)) → TokensIfAny style name (Some bytes) (Ok x) → e ≡ faults.Memory
+    only x (inl (f, g, z)) = absurd cc
+    only x (inr (us, s, z)) = c.only us s
+
+-- ---- a file
+
+pub file_passed : {A : Type 0} (tells : Type 0) (style : Style) (S : Grammar A) (name : List ℕ) (h0 h1 : Held) (f0 f1 : ℕ) (ts : List Token) (read : Result A CclFault) (r : Result A JobFault)
+    → Follows tells (λ files. Tokens style name (files name)) h0 h1 f0 f1 (Ok ts) → Answers S (λ x. x) ts read → AnswersOnly S (λ x. x) ts read → IsTree name read r → Follows tells (File style S name) h0 h1 f0 f1 r
+file_passed tells style S name h0 h1 f0 f1 ts read r a answers only is =
+    passed tells (λ files. Tokens style name (files name)) (λ _. Tree S name) h0 h1 h1 f0 f1 f1 ts r a (came tells (Tree S name ts) h1 f1 r (tree_comes S name ts read r answers only is))
+
+pub file_halted : {A : Type 0} (tells : Type 0) (style : Style) (S : Grammar A) (name : List ℕ) (h0 h1 : Held) (f0 f1 : ℕ) (e : JobFault)
+    → Follows tells (λ files. Tokens style name (files name)) h0 h1 f0 f1 (err (List Token) e) → Follows tells (File style S name) h0 h1 f0 f1 (err A e)
+file_halted tells style S name h0 h1 f0 f1 e a = halted tells (λ files. Tokens style name (files name)) (λ _. Tree S name) h0 h1 f0 f1 e a
+
+pub or_passed : {A : Type 0} (tells : Type 0) (absent : A) (style : Style) (S : Grammar A) (name : List ℕ) (h0 h1 : Held) (f0 f1 : ℕ) (ts : List Token) (read : Result A CclFault) (r : Result A JobFault)
+    → Follows tells (λ files. TokensIfAny style name (files name)) h0 h1 f0 f1 (Ok (Some ts)) → Answers S (λ x. x) ts read → AnswersOnly S (λ x. x) ts read → IsTree name read r → Follows tells (FileOr absent style S name) h0 h1 f0 f1 r
+or_passed tells absent style S name h0 h1 f0 f1 ts read r a answers only is =
+    passed tells (λ files. TokensIfAny style name (files name)) (λ _. TreeIfAny absent S name) h0 h1 h1 f0 f1 f1 (Some ts) r a (came tells (TreeIfAny absent S name (Some ts)) h1 f1 r (tree_comes S name ts read r answers only is))
+
+-- ---- the last step
+
+pub done : {B : Type 0} (y : B) (r : Result B JobFault) → r ≡ Ok y → Comes (λ found. found ≡ Ok y) r
+done {B} y r e = subst (λ (z : Result B JobFault). Comes (λ found. found ≡ Ok y) z) (sym e) (record {
+  answers = inr refl;
+  only = λ x s. let same : x ≡ y = cc in sym same;
+  no_shelf = λ z. absurd cc;
+})

@@ -1,0 +1,7 @@
+use Rattle.std.proofs.Common.{◌≡◌, ◌++◌, Some}
+use Rattle.std.specs.List.{flat_map}
+use Rattle.cx_job.specs.Keys.{parameter_line, indices}
+use Rattle.cx_job.proofs.keys.push_elements.Given as goal
+
+abbrev pub invariant-elements : goal.invariant-elements
+invariant-elements l = l.text ≡ l.fn.text ++ flat_map (parameter_line l.values l.param) (indices (Some l.k))

@@ -1,0 +1,4 @@
+use Rattle.cx_job.proofs.reading.thorn_files.Goals as goal
+
+pub returns : goal.returns
+returns g c = rw c.in_ok-names.ensures at c.thorn_says.ensures

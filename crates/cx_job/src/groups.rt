@@ -1,0 +1,159 @@
+//! The groups of thorns by their full names, and the group of each variable.
+
+ghost use Rattle.std.specs.Prelude.{◌≡◌, ◌++◌, map, IfOk, OnOk};
+ghost use Rattle.std.specs.List.{flat_map, enumerate_from, range_with_len};
+ghost use Rattle.cx_bind.specs.Variables.{owner_by as owner_of};
+ghost use Rattle.cx_job.specs.Outputs.{full_group as full_group_of, full_groups as all_full_groups, places_of_copies, places_in, places_of, group_places as all_places};
+
+use cx_bind::{Thorn, full_name};
+use cx_iface::{Access, Group};
+use cx_text::{List, Memory, Text};
+use std::alloc::Global;
+
+/// A group, by its thorn's number and its place in the thorn's file.
+#[derive(Clone, Copy, Debug, Drop, PartialEq, Eq)]
+pub(crate) struct GroupPlace {
+    pub(crate) thorn: usize,
+    pub(crate) place: usize,
+}
+
+/// A group with its full name.
+#[derive(Debug, Drop)]
+pub(crate) struct FullGroup {
+    pub(crate) at: GroupPlace,
+    pub(crate) full: Text,
+}
+
+/// What stands before the `::` of a group's full name.
+fn owner_by<'a>(access: Access, thorn: &'a Thorn) -> &'a [u8]
+    ensures { result.now ≡ owner_of access thorn.now }
+{
+    match access {
+        Access::Private => thorn.name.as_slice(),
+        Access::Public | Access::Protected => thorn.interface.implements.as_slice(),
+    }
+}
+
+fn full_group(
+    alloc: Global,
+    number: usize,
+    thorn: &Thorn,
+    place: usize,
+    group: &Group,
+) -> Result<FullGroup, Memory>
+    ensures { IfOk result (λ full. full ≡ full_group_of (number, thorn.now) (place, group.now)) }
+{
+    let owner = owner_by(group.access, thorn);
+    Ok(FullGroup {
+        at: GroupPlace {
+            thorn: number,
+            place,
+        },
+        full: full_name(alloc, owner, group.name.as_slice())?,
+    })
+}
+
+fn push_groups(
+    alloc: Global,
+    full: &mut List<FullGroup>,
+    number: usize,
+    thorn: &Thorn,
+    groups: &[Group],
+) -> Result<(), Memory>
+    ensures { OnOk result (full.new ≡ full.old ++ map (full_group_of (number, thorn.now)) (enumerate_from 0 groups.now)) }
+{
+    'groups: for (place, group) in groups.iter().enumerate() {
+        full.push(full_group(alloc, number, thorn, place, group)?)?;
+    }
+    Ok(())
+}
+
+/// All groups, in the order of activation and of the files.
+pub(crate) fn full_groups(alloc: Global, thorns: &[Thorn]) -> Result<List<FullGroup>, Memory>
+    ensures { IfOk result (λ full. full ≡ all_full_groups thorns.now) }
+{
+    let mut full = List::empty(alloc);
+    'thorns: for (number, thorn) in thorns.iter().enumerate() {
+        let groups = thorn.interface.groups.as_slice();
+        push_groups(alloc, &mut full, number, thorn, groups)?;
+    }
+    Ok(full)
+}
+
+fn push_numbered(places: &mut List<GroupPlace>, at: GroupPlace, count: u32) -> Result<(), Memory>
+    ensures { OnOk result (places.new ≡ places.old ++ map (λ k. at) (range_with_len 0 count)) }
+{
+    'copies: for _ in 0..count {
+        places.push(at)?;
+    }
+    Ok(())
+}
+
+fn push_copies(
+    places: &mut List<GroupPlace>,
+    at: GroupPlace,
+    copies: Option<u32>,
+) -> Result<(), Memory>
+    ensures { OnOk result (places.new ≡ places.old ++ places_of_copies at copies) }
+{
+    match copies {
+        None => places.push(at),
+        Some(count) => push_numbered(places, at, count),
+    }
+}
+
+fn push_names(
+    places: &mut List<GroupPlace>,
+    at: GroupPlace,
+    copies: Option<u32>,
+    names: &[Text],
+) -> Result<(), Memory>
+    ensures { OnOk result (places.new ≡ places.old ++ flat_map (λ name. places_of_copies at copies) names.now) }
+{
+    'names: for _ in names {
+        push_copies(places, at, copies)?;
+    }
+    Ok(())
+}
+
+fn push_places_in(
+    places: &mut List<GroupPlace>,
+    number: usize,
+    thorn: &Thorn,
+    place: usize,
+    group: &Group,
+) -> Result<(), Memory>
+    ensures { OnOk result (places.new ≡ places.old ++ places_in (number, thorn.now) (place, group.now)) }
+{
+    let at = GroupPlace {
+        thorn: number,
+        place,
+    };
+    push_names(places, at, group.copies, group.variables.as_slice())
+}
+
+fn push_places(
+    places: &mut List<GroupPlace>,
+    number: usize,
+    thorn: &Thorn,
+    groups: &[Group],
+) -> Result<(), Memory>
+    ensures { OnOk result (places.new ≡ places.old ++ flat_map (places_in (number, thorn.now)) (enumerate_from 0 groups.now)) }
+{
+    'groups: for (place, group) in groups.iter().enumerate() {
+        push_places_in(places, number, thorn, place, group)?;
+    }
+    Ok(())
+}
+
+/// The group of each variable, in the order of the variables' numbers.
+pub(crate) fn group_places(alloc: Global, thorns: &[Thorn]) -> Result<List<GroupPlace>, Memory>
+    ensures { IfOk result (λ places. places ≡ all_places thorns.now) }
+{
+    let mut places = List::empty(alloc);
+    'thorns: for (number, thorn) in thorns.iter().enumerate() {
+        let groups = thorn.interface.groups.as_slice();
+        push_places(&mut places, number, thorn, groups)?;
+    }
+    Ok(places)
+}

@@ -1,0 +1,172 @@
+//! The job, from its parts.
+
+ghost use Rattle.std.specs.Prelude.{◌≡◌, ◌≤◌, ◌^◌, IfOk};
+ghost use Rattle.cx_grid.specs.Boxes.{point_count};
+ghost use Rattle.cx_grid.specs.Grid.{IsShape, whole};
+ghost use Rattle.cx_job.specs.Grids.{shape_of as shape_told};
+ghost use Rattle.cx_job.specs.Jobs.{run_of as run_told, layout_of as layout_told, texts_of as texts_told, parts_of as parts_told, job_with as job_told_with, job_of as job_told};
+
+use crate::cuts::cuts_of;
+use crate::grids::shape_of;
+use crate::keys::{key, starred_lines};
+use crate::run_numbers::{
+    checkpoint_dir, checkpoint_every, itlast, keep, lead, on_end, out_dir, out_every, recover_of,
+    while_limit,
+};
+use crate::stored::stored_infos;
+use cx_bind::Bound;
+use cx_grid::Shape;
+use cx_order::Ordered;
+use cx_plan::{Cuts, Item, Job, Recover, VarId, VarInfo};
+use cx_text::{List, Memory, Text};
+use cx_values::Values;
+use std::alloc::Global;
+
+/// The numbers, the flags and the texts of a run.
+#[derive(Debug, Drop)]
+pub(crate) struct Run {
+    pub(crate) itlast: u64,
+    pub(crate) while_limit: u64,
+    pub(crate) lead: u64,
+    pub(crate) out_every: i64,
+    pub(crate) checkpoint_every: i64,
+    pub(crate) keep: u32,
+    pub(crate) on_end: bool,
+    pub(crate) recover: Recover,
+    pub(crate) out_dir: Text,
+    pub(crate) checkpoint_dir: Text,
+}
+
+fn run_of(alloc: Global, values: &Values) -> Result<Run, Memory>
+    ensures { IfOk result (λ run. run ≡ run_told values.now) }
+{
+    Ok(Run {
+        itlast: itlast(alloc, values)?,
+        while_limit: while_limit(alloc, values)?,
+        lead: lead(alloc, values)?,
+        out_every: out_every(alloc, values)?,
+        checkpoint_every: checkpoint_every(alloc, values)?,
+        keep: keep(alloc, values)?,
+        on_end: on_end(alloc, values)?,
+        recover: recover_of(alloc, values)?,
+        out_dir: out_dir(alloc, values)?,
+        checkpoint_dir: checkpoint_dir(alloc, values)?,
+    })
+}
+
+/// The grid, how it is cut, and the variables.
+#[derive(Debug, Drop)]
+pub(crate) struct Layout {
+    pub(crate) shape: Shape,
+    pub(crate) cut: Cuts,
+    pub(crate) vars: List<VarInfo>,
+}
+
+fn layout_of(
+    alloc: Global,
+    bound: &Bound,
+    values: &Values,
+    storage: &List<u8>,
+) -> Result<Layout, Memory>
+    ensures { IfOk result (λ layout. layout ≡ layout_told bound.now values.now storage.now) }
+{
+    Ok(Layout {
+        shape: shape_of(alloc, bound, values)?,
+        cut: cuts_of(alloc, bound, values)?,
+        vars: stored_infos(alloc, bound, storage)?,
+    })
+}
+
+/// The key, and the lines that aren't in it.
+#[derive(Debug, Drop)]
+pub(crate) struct Texts {
+    pub(crate) key: Text,
+    pub(crate) starred: Text,
+}
+
+fn texts_of(
+    alloc: Global,
+    bound: &Bound,
+    values: &Values,
+    layout: &Layout,
+    plan_text: &Text,
+) -> Result<Texts, Memory>
+    requires { IsShape layout.now.shape }
+    ensures { IfOk result (λ texts. texts ≡ texts_told bound.now values.now layout.now plan_text.now) }
+{
+    Ok(Texts {
+        key: key(alloc, bound, values, &layout.shape, &layout.vars, plan_text)?,
+        starred: starred_lines(alloc, bound, values)?,
+    })
+}
+
+/// What parameters and storage say of a job.
+#[derive(Debug, Drop)]
+pub(crate) struct Parts {
+    pub(crate) run: Run,
+    pub(crate) layout: Layout,
+    pub(crate) texts: Texts,
+}
+
+fn parts_of(
+    alloc: Global,
+    bound: &Bound,
+    values: &Values,
+    storage: &List<u8>,
+    plan_text: &Text,
+) -> Result<Parts, Memory>
+    requires { point_count (whole (shape_told bound.now values.now)) ≤ 2 ^ 24 }
+    ensures { IfOk result (λ parts. parts ≡ parts_told bound.now values.now storage.now plan_text.now) }
+{
+    let layout = layout_of(alloc, bound, values, storage)?;
+    let texts = texts_of(alloc, bound, values, &layout, plan_text)?;
+    Ok(Parts {
+        run: run_of(alloc, values)?,
+        layout,
+        texts,
+    })
+}
+
+/// The job that these parts make.
+fn job_with(parts: Parts, ordered: Ordered, items: List<Item>, out_vars: List<VarId>) -> Job
+    ensures { result ≡ job_told_with parts ordered items out_vars }
+{
+    let Parts { run, layout, texts } = parts;
+    Job {
+        shape: layout.shape,
+        vars: layout.vars,
+        items,
+        plan: ordered.plan,
+        cut: layout.cut,
+        itlast: run.itlast,
+        while_limit: run.while_limit,
+        lead: run.lead,
+        out_every: run.out_every,
+        out_vars,
+        chk_every: run.checkpoint_every,
+        keep: run.keep,
+        on_end: run.on_end,
+        recover: run.recover,
+        out_dir: run.out_dir,
+        chk_dir: run.checkpoint_dir,
+        key: texts.key,
+        plan_text: ordered.text,
+        starred: texts.starred,
+    }
+}
+
+/// The job of a bound configuration, by the values of its parameters, its plan, its items and the variables that are written.
+pub(crate) fn job_of(
+    alloc: Global,
+    bound: &Bound,
+    values: &Values,
+    ordered: Ordered,
+    items: List<Item>,
+    out_vars: List<VarId>,
+) -> Result<Job, Memory>
+    requires { point_count (whole (shape_told bound.now values.now)) ≤ 2 ^ 24 }
+    ensures { IfOk result (λ job. job ≡ job_told bound.now values.now ordered items out_vars) }
+{
+    let parts = parts_of(alloc, bound, values, &ordered.storage, &ordered.text)?;
+    Ok(job_with(parts, ordered, items, out_vars))
+}

@@ -1,0 +1,29 @@
+//! Jobs from the files of a configuration.
+#![tactic(auto)]
+
+mod built_in;
+mod cuts;
+mod direction;
+mod fault;
+mod folder;
+mod grids;
+mod groups;
+mod job;
+mod keys;
+mod limits;
+mod lines;
+mod lookup;
+mod matching;
+mod mismatch;
+mod outputs;
+mod reading;
+mod refs;
+mod run_numbers;
+mod shelf;
+mod starred;
+mod stored;
+
+pub(crate) use direction::Direction;
+pub use fault::JobFault;
+pub use folder::FolderShelf;
+pub use shelf::{MemoryShelf, Shelf, ShelfFault};

@@ -1,0 +1,210 @@
+//! The lines of keys.
+
+ghost use Rattle.std.specs.Prelude.{◌≡◌, ◌<◌, ◌++◌, IfOk, OnOk};
+ghost use Rattle.std.specs.Option.{option_copied};
+ghost use Rattle.std.specs.Fmt.{decimal, signed_decimal};
+ghost use Rattle.cx_grid.specs.Boxes.{along};
+ghost use Rattle.cx_grid.specs.Grid.{is_periodic};
+ghost use Rattle.cx_job.specs.Keys.{thorn_line as line_of_thorn, letter as letter_of, side_text as side_of, direction_line as line_of_direction, type_name as name_of_type, kind_text as kind_of, variable_line as line_of_variable, escaped_byte, escaped, value_text, place_text, element_name, parameter_line as line_of_parameter};
+
+use cx_bind::{Param, Thorn};
+use cx_grid::{Point, Shape};
+use cx_param::{PType, Value};
+use cx_plan::VarInfo;
+use cx_text::{CType, Memory, Text};
+use cx_values::Values;
+use std::alloc::Global;
+
+fn push_number(alloc: Global, text: &mut Text, n: i64) -> Result<(), Memory>
+    ensures { OnOk result (text.new ≡ text.old ++ signed_decimal n) }
+{
+    text.push_slice(n.to_string(alloc)?.as_bytes())
+}
+
+fn push_count(alloc: Global, text: &mut Text, n: usize) -> Result<(), Memory>
+    ensures { OnOk result (text.new ≡ text.old ++ decimal n) }
+{
+    text.push_slice(n.to_string(alloc)?.as_bytes())
+}
+
+/// The line of an active thorn.
+pub(crate) fn thorn_line(alloc: Global, thorn: &Thorn) -> Result<Text, Memory>
+    ensures { IfOk result (λ line. line ≡ line_of_thorn thorn.now) }
+{
+    let mut line = Text::from_slice(alloc, b"thorn ")?;
+    line.push_slice(thorn.arrangement.as_slice())?;
+    line.push_slice(b"/")?;
+    line.push_slice(thorn.name.as_slice())?;
+    line.push_slice(b" ")?;
+    line.push_slice(thorn.interface.implements.as_slice())?;
+    line.push_slice(b"\n")?;
+    Ok(line)
+}
+
+fn letter(direction: u8) -> &'static [u8]
+    ensures { result.now ≡ letter_of direction }
+{
+    match direction {
+        0 => b"x",
+        1 => b"y",
+        _ => b"z",
+    }
+}
+
+fn coordinate(point: &Point, direction: u8) -> i64
+    ensures { result ≡ along point.now direction }
+{
+    match direction {
+        0 => i64::from(point.x),
+        1 => i64::from(point.y),
+        _ => i64::from(point.z),
+    }
+}
+
+fn side(periodic: bool) -> &'static [u8]
+    ensures { result.now ≡ side_of periodic }
+{
+    if periodic { b" periodic" } else { b" boundary" }
+}
+
+/// The line of a direction of the grid.
+pub(crate) fn direction_line(alloc: Global, shape: &Shape, direction: u8) -> Result<Text, Memory>
+    requires { direction < 3 }
+    ensures { IfOk result (λ line. line ≡ line_of_direction shape.now direction) }
+{
+    let mut line = Text::from_slice(alloc, b"direction ")?;
+    line.push_slice(letter(direction))?;
+    line.push_slice(b" points ")?;
+    push_number(alloc, &mut line, coordinate(&shape.n, direction))?;
+    line.push_slice(b" ghost ")?;
+    push_number(alloc, &mut line, coordinate(&shape.ghost_, direction))?;
+    line.push_slice(side(shape.periodic[direction as usize]))?;
+    line.push_slice(b"\n")?;
+    Ok(line)
+}
+
+fn type_name(ctype: CType) -> &'static [u8]
+    ensures { result.now ≡ name_of_type ctype }
+{
+    match ctype {
+        CType::Char => b"CHAR",
+        CType::Byte => b"BYTE",
+        CType::Int => b"INT",
+        CType::Int2 => b"INT2",
+        CType::Int4 => b"INT4",
+        CType::Int8 => b"INT8",
+        CType::Real => b"REAL",
+        CType::Complex => b"COMPLEX",
+    }
+}
+
+fn kind(scalar: bool) -> &'static [u8]
+    ensures { result.now ≡ kind_of scalar }
+{
+    if scalar { b" SCALAR" } else { b" GF" }
+}
+
+/// The line of the variable of this number.
+pub(crate) fn variable_line(alloc: Global, number: usize, info: &VarInfo) -> Result<Text, Memory>
+    ensures { IfOk result (λ line. line ≡ line_of_variable (number, info.now)) }
+{
+    let mut line = Text::from_slice(alloc, b"variable ")?;
+    push_count(alloc, &mut line, number)?;
+    line.push_slice(b" ")?;
+    line.push_slice(info.full.as_slice())?;
+    line.push_slice(b" ")?;
+    line.push_slice(type_name(info.ctype))?;
+    line.push_slice(kind(info.scalar))?;
+    line.push_slice(b" levels ")?;
+    push_count(alloc, &mut line, usize::from(info.levels))?;
+    line.push_slice(b"\n")?;
+    Ok(line)
+}
+
+fn push_escaped_byte(text: &mut Text, byte: u8) -> Result<(), Memory>
+    ensures { OnOk result (text.new ≡ text.old ++ escaped_byte byte) }
+{
+    match byte {
+        b'"' => text.push_slice(b"\\\""),
+        b'\\' => text.push_slice(b"\\\\"),
+        b'\n' => text.push_slice(b"\\n"),
+        _ => text.push_slice(&[byte]),
+    }
+}
+
+fn push_escaped(text: &mut Text, bytes: &[u8]) -> Result<(), Memory>
+    ensures { OnOk result (text.new ≡ text.old ++ escaped bytes.now) }
+{
+    'bytes: for byte in bytes {
+        push_escaped_byte(text, *byte)?;
+    }
+    Ok(())
+}
+
+fn push_value(alloc: Global, text: &mut Text, value: Option<&Value>) -> Result<(), Memory>
+    ensures { OnOk result (text.new ≡ text.old ++ value_text (option_copied value.entry)) }
+{
+    match value {
+        None => Ok(()),
+        Some(Value::Number(n)) => push_number(alloc, text, *n),
+        Some(Value::Flag(true)) => text.push_slice(b"yes"),
+        Some(Value::Flag(false)) => text.push_slice(b"no"),
+        Some(Value::Text(bytes)) => push_escaped(text, bytes.as_slice()),
+    }
+}
+
+fn push_place(
+    alloc: Global,
+    text: &mut Text,
+    ptype: PType,
+    place: Option<i64>,
+) -> Result<(), Memory>
+    ensures { OnOk result (text.new ≡ text.old ++ place_text ptype place) }
+{
+    let (PType::Keyword, Some(place)) = (ptype, place) else {
+        return Ok(());
+    };
+    text.push_slice(b" ")?;
+    push_number(alloc, text, place)
+}
+
+fn push_element_name(
+    alloc: Global,
+    text: &mut Text,
+    full: &[u8],
+    index: Option<u32>,
+) -> Result<(), Memory>
+    ensures { OnOk result (text.new ≡ text.old ++ element_name full.now index) }
+{
+    text.push_slice(full)?;
+    let Some(index) = index else {
+        return Ok(());
+    };
+    text.push_slice(b"[")?;
+    push_number(alloc, text, i64::from(index))?;
+    text.push_slice(b"]")
+}
+
+/// The line of a parameter, or with an index that of an element of an array.
+pub(crate) fn parameter_line(
+    alloc: Global,
+    values: &Values,
+    param: &Param,
+    index: Option<u32>,
+) -> Result<Text, Memory>
+    ensures { IfOk result (λ line. line ≡ line_of_parameter values.now param.now index) }
+{
+    let mut line = Text::from_slice(alloc, b"parameter ")?;
+    push_element_name(alloc, &mut line, param.full.as_slice(), index)?;
+    line.push_slice(b" = \"")?;
+    push_value(alloc, &mut line, values.get(&param.full, index))?;
+    line.push_slice(b"\"")?;
+    push_place(
+        alloc,
+        &mut line,
+        param.decl.ptype,
+        values.number(&param.full, index),
+    )?;
+    line.push_slice(b"\n")?;
+    Ok(line)
+}

@@ -1,0 +1,301 @@
+//! Items matched with routines.
+
+ghost use Rattle.std.specs.Prelude.{◌≡◌, ◌≤◌, ◌<◌, map, length, position, IfOk, IfSome};
+ghost use Rattle.std.specs.List.{list_any, list_all};
+ghost use Rattle.cx_scope.specs.Closures.{thorns_in, sight_in};
+ghost use Rattle.cx_job.specs.Matching.{thorn_number as number_of_thorn, same_region as is_one_region, same_touch as is_one_touch, all_among as are_among, same_touches as are_same, offer_by as offer_of, offer as offer_told, fits as is_fitting, completed as completed_by, matched_with as told_with, is_for as is_its, routine_number as number_of_routine, matched as told, matched_if_run as told_if_run, all_matched as all_told, Answers};
+ghost use Rattle.cx_job.specs.Lookups.{world_of, world_in, IsOfBound, IsBound, HasThorn};
+
+use crate::JobFault;
+use crate::lookup::{Lookup, numbers_of};
+use crate::mismatch::mismatch;
+use cx_bind::{Bound, Thorn};
+use cx_plan::{Item, ItemKind, Region, Touch};
+use cx_rule::Spec;
+use cx_scope::Scope;
+use cx_text::{List, Memory, same_name};
+use cx_values::Values;
+use std::alloc::Global;
+
+/// What a routine reads and writes, and the numbers of its parameters.
+#[derive(Debug, Drop)]
+pub(crate) struct Offer {
+    pub reads: List<Touch>,
+    pub writes: List<Touch>,
+    pub params: List<i64>,
+}
+
+/// What items are matched with, and what the names of routines are looked up in.
+#[derive(Drop)]
+pub(crate) struct Routines<'a> {
+    pub bound: &'a Bound,
+    /// What the bound thorns see.
+    pub scope: &'a Scope<'a>,
+    /// How many levels each variable stores.
+    pub storage: &'a List<u8>,
+    /// The values of parameters.
+    pub values: &'a Values,
+    /// What each routine says of itself.
+    pub specs: &'a [&'a Spec],
+}
+
+fn same_region(a: Region, b: Region) -> bool
+    ensures { result ≡ is_one_region a b }
+{
+    match (a, b) {
+        (Region::Interior, Region::Interior)
+        | (Region::Boundary, Region::Boundary)
+        | (Region::Everywhere, Region::Everywhere) => true,
+        (Region::Interior, Region::Boundary | Region::Everywhere)
+        | (Region::Boundary, Region::Interior | Region::Everywhere)
+        | (Region::Everywhere, Region::Interior | Region::Boundary) => false,
+    }
+}
+
+/// Whether two are of one variable, level and region, whatever the reach.
+fn same_touch(a: &Touch, b: &Touch) -> bool
+    ensures { result ≡ is_one_touch a.now b.now }
+{
+    a.var.0 == b.var.0 && a.level == b.level && same_region(a.region, b.region)
+}
+
+fn is_among(touches: &[Touch], touch: &Touch) -> bool
+    ensures { result ≡ list_any (is_one_touch touch.now) touches.now }
+{
+    touches.iter().any(|other| same_touch(touch, other))
+}
+
+fn all_among(some: &[Touch], touches: &[Touch]) -> bool
+    ensures { result ≡ are_among some.now touches.now }
+{
+    some.iter().all(|touch| is_among(touches, touch))
+}
+
+/// Whether two lists are one set.
+fn same_touches(a: &[Touch], b: &[Touch]) -> bool
+    ensures { result ≡ are_same a.now b.now }
+{
+    all_among(a, b) && all_among(b, a)
+}
+
+/// Whether an item reads and writes what a routine does.
+fn fits(item: &Item, offer: &Offer) -> bool
+    ensures { result ≡ is_fitting item.now offer.now }
+{
+    same_touches(offer.reads.as_slice(), item.reads.as_slice())
+        && same_touches(offer.writes.as_slice(), item.writes.as_slice())
+}
+
+fn offer_by(
+    reads: Option<List<Touch>>,
+    writes: Option<List<Touch>>,
+    params: Option<List<i64>>,
+) -> Option<Offer>
+    ensures { result ≡ offer_of reads writes params }
+{
+    Some(Offer {
+        reads: reads?,
+        writes: writes?,
+        params: params?,
+    })
+}
+
+/// What a routine offers, if each of its names has a meaning.
+fn offered(
+    alloc: Global,
+    lookup: &Lookup<'_>,
+    values: &Values,
+    spec: &Spec,
+) -> Result<Option<Offer>, Memory>
+    requires scope { IsOfBound lookup.now }
+    requires thorn { HasThorn lookup.now }
+    ensures { IfOk result (λ offer. offer ≡ offer_told (world_of lookup.now) values.now lookup.now.thorn spec.now) }
+{
+    let reads = lookup.touches_of(alloc, spec.reads.as_slice())?;
+    let writes = lookup.touches_of(alloc, spec.writes.as_slice())?;
+    let params = numbers_of(alloc, values, spec.params.as_slice())?;
+    Ok(offer_by(reads, writes, params))
+}
+
+fn completed(item: Item, routine: u32, kind: ItemKind, offer: Offer) -> Item
+    ensures { result ≡ completed_by item routine kind offer }
+{
+    Item {
+        thorn: item.thorn,
+        name: item.name,
+        path: item.path,
+        kind,
+        routine,
+        reads: offer.reads,
+        writes: offer.writes,
+        params: offer.params,
+    }
+}
+
+/// An item with the routine of this number.
+fn matched_with(
+    alloc: Global,
+    lookup: &Lookup<'_>,
+    values: &Values,
+    item: Item,
+    routine: u32,
+    spec: &Spec,
+) -> Result<Item, JobFault>
+    requires scope { IsOfBound lookup.now }
+    requires thorn { HasThorn lookup.now }
+    ensures { Answers (told_with (world_of lookup.now) values.now lookup.now.thorn item routine spec.now) result }
+{
+    match offered(alloc, lookup, values, spec)? {
+        Some(offer) => {
+            if fits(&item, &offer) {
+                Ok(completed(item, routine, spec.kind, offer))
+            } else {
+                Err(mismatch(alloc, lookup, values, item, spec)?)
+            }
+        }
+        None => Err(mismatch(alloc, lookup, values, item, spec)?),
+    }
+}
+
+/// The thorns, of which there are few.
+fn few_thorns(bound: &Bound) -> &[Thorn]
+    ensures thorns { result.now ≡ bound.now }
+    ensures few { length result.now ≤ 64 }
+{
+    bound.thorns().as_slice()
+}
+
+fn place_of(thorns: &[Thorn], name: &[u8]) -> Option<usize>
+    ensures place { result ≡ number_of_thorn thorns.now name.now }
+    ensures within { IfSome result (λ place. place < length thorns.now) }
+{
+    thorns
+        .iter()
+        .position(|thorn| same_name(thorn.name.as_slice(), name))
+}
+
+/// The number of the bound thorn of a name.
+fn thorn_number(bound: &Bound, name: &[u8]) -> Option<u32>
+    ensures number { result ≡ number_of_thorn bound.now name.now }
+    ensures within { IfSome result (λ number. number < length bound.now) }
+{
+    match place_of(few_thorns(bound), name) {
+        Some(place) => Some(place as u32),
+        None => None,
+    }
+}
+
+fn is_for(item: &Item, spec: &Spec) -> bool
+    ensures { result ≡ is_its item.now spec.now }
+{
+    same_name(spec.thorn.as_slice(), item.thorn.as_slice())
+        && same_name(spec.name.as_slice(), item.name.as_slice())
+}
+
+fn place_for(specs: &[&Spec], item: &Item) -> Option<usize>
+    ensures place { result ≡ position (λ s. is_its item.now s.now) specs.now }
+    ensures within { IfSome result (λ place. place < length specs.now) }
+{
+    specs.iter().position(|spec| is_for(item, spec))
+}
+
+/// The first of the routines that is that of an item.
+fn routine_number(specs: &[&Spec], item: &Item) -> Option<usize>
+    ensures number { result ≡ number_of_routine (map (λ s. s.now) specs.now) item.now }
+    ensures within { IfSome result (λ number. number < length specs.now) }
+{
+    place_for(specs, item)
+}
+
+/// A number of 32 bits; one that is greater counts as want of memory.
+fn number_of(place: usize) -> Result<u32, Memory>
+    ensures { IfOk result (λ number. number ≡ place) }
+{
+    match u32::try_from(place) {
+        Ok(number) => Ok(number),
+        Err(_) => Err(Memory),
+    }
+}
+
+impl<'a> Routines<'a> {
+    /// What the names of an item's routine are looked up in.
+    fn lookup(&self, item: &Item) -> Lookup<'a>
+        requires { IsBound self.now }
+        ensures scope { IsOfBound result }
+        ensures thorn { HasThorn result }
+        ensures world { world_of result ≡ world_in self.now }
+        ensures number { result.thorn ≡ number_of_thorn self.now.bound.now item.now.thorn }
+    {
+        Lookup {
+            bound: self.bound,
+            scope: self.scope,
+            storage: self.storage,
+            thorn: thorn_number(self.bound, item.thorn.as_slice()),
+        }
+    }
+
+    /// An item with the first routine of its thorn and name.
+    fn matched(&self, alloc: Global, item: Item) -> Result<Item, JobFault>
+        requires { IsBound self.now }
+        ensures { Answers (told (world_in self.now) self.now.values.now (map (λ s. s.now) self.now.specs.now) item) result }
+    {
+        match routine_number(self.specs, &item) {
+            Some(place) => {
+                let routine = number_of(place)?;
+                let lookup = self.lookup(&item);
+                matched_with(
+                    alloc,
+                    &lookup,
+                    self.values,
+                    item,
+                    routine,
+                    self.specs[place],
+                )
+            }
+            None => Err(JobFault::UnknownRoutine(item.path)),
+        }
+    }
+
+    /// An item by its number, where the first `run` items are called in bins that are run.
+    fn matched_if_run(
+        &self,
+        alloc: Global,
+        run: usize,
+        number: usize,
+        item: Item,
+    ) -> Result<Item, JobFault>
+        requires { IsBound self.now }
+        ensures { Answers (told_if_run (world_in self.now) self.now.values.now (map (λ s. s.now) self.now.specs.now) run (number, item)) result }
+    {
+        if number < run {
+            self.matched(alloc, item)
+        } else {
+            Ok(item)
+        }
+    }
+
+    /// Items matched with their routines: the first `run` of them, which the bins that are run call. The others stay as they are.
+    ///
+    /// An item gets the number and the kind of the first routine that has its thorn and its name, in any case, what that reads
+    /// and writes, and the numbers of its parameters, in the routine's order.
+    ///
+    /// The first fault in the items' order counts. UnknownRoutine: no routine has an item's thorn and name. RoutineMismatch:
+    /// its reads or its writes are other sets of variables, levels and regions, one of its names doesn't mean exactly one level
+    /// to the item's thorn, or one of its parameters is starred or has no number.
+    pub(crate) fn all_matched(
+        &self,
+        alloc: Global,
+        run: usize,
+        items: List<Item>,
+    ) -> Result<List<Item>, JobFault>
+        requires { IsBound self.now }
+        ensures { Answers (all_told (world_in self.now) self.now.values.now (map (λ s. s.now) self.now.specs.now) run items) result }
+    {
+        let mut matched = List::empty(alloc);
+        'items: for item in items.into_vec() {
+            let number = matched.len();
+            matched.push(self.matched_if_run(alloc, run, number, item)?)?;
+        }
+        Ok(matched)
+    }
+}
