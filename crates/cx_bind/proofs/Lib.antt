@@ -9,4 +9,5 @@ pub mod PlaceLaws
 pub mod RangeLaws
 pub mod HasLaws
 pub mod NamedLaws
+pub mod FewLaws
 mod Rows

@@ -52,7 +52,8 @@ impl Model for Bound {
 impl Bound {
     /// The variables, in the order of their numbers.
     pub fn variables(&self) -> &List<VarInfo>
-        ensures { result.now ≡ infos_of self.now }
+        ensures variables { result.now ≡ infos_of self.now }
+        ensures few { length (infos_of self.now) ≤ 256 }
     {
         &self.variables
     }
@@ -62,6 +63,7 @@ impl Bound {
         ensures thorns { result.now ≡ self.now }
         // The thorns fit each other.
         ensures fit { bind_fault self.now ≡ None }
+        ensures few { length self.now ≤ 64 }
     {
         &self.thorns
     }

@@ -9,7 +9,8 @@ use Rattle.cx_plan.specs.declared.item.Item.{Item}
 use Rattle.cx_plan.specs.declared.job.Job.{Job}
 use Rattle.cx_plan.specs.declared.tree.Tree.{Tree, Seq', Call, Sync, If', While', Row_of-Tree, end_of-Tree, more_of-Tree}
 use Rattle.cx_plan.specs.Setups.{setup_of}
-use Rattle.cx_plan.specs.Lookups.{is_scalar, levels_of}
+use Rattle.cx_plan.specs.Lookups.{is_scalar, levels_of, item}
+use Rattle.cx_plan.specs.Regions.{run_items}
 use Rattle.cx_plan.specs.Sizes.{all_nodes, greatest_depth}
 
 -- a variable of the job
@@ -45,9 +46,12 @@ IsTouch job t = IsStored job t.var t.level
 pub record IsItem (job : Job) (x : Item) : Type 0 where
   pub reads : All (IsTouch job) x.reads
   pub writes : All (IsTouch job) x.writes
-  pub reads_limit : length x.reads ≤ 32
-  pub writes_limit : length x.writes ≤ 16
-  pub params_limit : length x.params ≤ 32
+
+-- the limits of an item that is run
+pub record IsSmall (x : Item) : Type 0 where
+  pub reads : length x.reads ≤ 32
+  pub writes : length x.writes ≤ 16
+  pub params : length x.params ≤ 32
 
 -- a name that the output may hold: one or more bytes from 33 to 126
 abbrev pub IsName : List ℕ → Type 0
@@ -64,6 +68,7 @@ pub record IsWhole (job : Job) : Type 0 where
   pub one_level : All (λ (v : VarInfo). v.scalar ≡ true → v.levels ≤ 1) job.vars
   pub levels_limit : All (λ (v : VarInfo). v.levels ≤ 8) job.vars
   pub items : All (IsItem job) job.items
+  pub run_items : All (λ k. IsSmall (item (setup_of job) k)) (run_items (setup_of job))
   pub bins : length job.plan.bins ≡ 17
   pub trees : All (IsTree job) job.plan.bins
   pub nodes_limit : all_nodes job.plan.bins ≤ 4096
