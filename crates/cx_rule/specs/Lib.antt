@@ -4,3 +4,4 @@ pub mod Routine
 pub mod Numbers
 pub mod Place
 pub mod Single
+pub mod Jobs
