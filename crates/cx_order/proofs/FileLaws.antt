@@ -1,26 +1,17 @@
 -- What counts of the files of thorns, one after another.
-use Rattle.std.proofs.Common.{◌≡◌, ◌⊎◌, inl, inr, refl, sym, ◌∙◌, ap, subst, ℕ, ◌+◌, ◌<◌, ◌≤◌, ℤ, Bool, true, false, List, [], ◌∷◌, map, length, drop, get_or, Option, Some, None, Result, Ok, Err, arith, if◌then◌else◌}
-use Rattle.std.specs.Prelude.{nat_lt, codes}
+use Rattle.std.proofs.Common.{◌≡◌, ◌⊎◌, inl, inr, refl, sym, ◌∙◌, ap, subst, ℕ, ◌+◌, ◌<◌, ◌≤◌, ℤ, Bool, true, false, List, [], ◌∷◌, map, length, drop, get_or, Option, Result, Ok, Err, arith, if◌then◌else◌}
 use Rattle.std.specs.List.{All}
-use Rattle.std.proofs.lemmas.Bool.Decides.{Decides-ltb, not_from_Decides}
 use Rattle.std.proofs.Math.ListN.{drop_of_length-le}
 use Rattle.std.proofs.lemmas.List.{drop_more}
 use Rattle.std.proofs.lemmas.List.Elements.{All-nil, All-cons, All-append, All-map, All-head, All-tail}
 use Rattle.cx_expr.specs.declared.tree.ExprFault.{ExprFault}
 use Rattle.cx_expr.specs.Known.{Names}
 use Rattle.cx_expr.specs.Evaluation.{eval, is_true}
-use Rattle.cx_plan.specs.Lists.{or_else, first_some}
 use Rattle.cx_sched.specs.declared.tree.Ref.{Ref}
 use Rattle.cx_sched.specs.declared.tree.Node.{Node, Storage, Cond', Row_of-Node, end_of-Node, more_of-Node}
 use Rattle.cx_sched.specs.declared.tree.Node as node
 use Rattle.cx_sched.specs.declared.tree.ScheduleFile.{ScheduleFile}
 use Rattle.cx_bind.specs.declared.thorns.Thorn.{Thorn}
-use Rattle.cx_bind.specs.declared.thorns.BindFault.{BindFault}
-use Rattle.cx_bind.specs.declared.thorns.BindFault.TheVariants.{Limit}
-use Rattle.cx_bind.specs.Variables.{variable_infos}
-use Rattle.cx_bind.specs.Parameters.{known}
-use Rattle.cx_bind.specs.Faults.{over, unsupported, two_dims}
-use Rattle.cx_bind.specs.Binding.{needs_fault, names_fault, kinds_fault, bind_fault}
 use Rattle.cx_order.specs.declared.fault.OrderFault.{OrderFault}
 use Rattle.cx_order.specs.declared.counted.Line.{Line as LentLine}
 use Rattle.cx_order.specs.declared.counted.Entry.{Entry as LentEntry}
@@ -34,34 +25,6 @@ use Rattle.cx_order.proofs.CountedLaws.{and_then-nothing, joined-assoc}
 unmapped : {X Y : Type 0} (P : Y → Type 0) (f : X → Y) (xs : List X) → All P (map f xs) → All (λ x. P (f x)) xs
 unmapped P f [] h = All-nil (λ x. P (f x))
 unmapped P f (x ∷ xs) h = All-cons (λ x. P (f x)) x xs (All-head P (f x) (map f xs) h) (unmapped P f xs (All-tail P (f x) (map f xs) h))
-
--- ---- bound thorns are few
-
-first_none : {X : Type 0} (a b : Option X) → or_else a b ≡ None → a ≡ None
-first_none None b h = refl
-first_none (Some x) b h = cc h
-
-later_none : {X : Type 0} (a b : Option X) → or_else a b ≡ None → b ≡ None
-later_none None b h = h
-later_none (Some x) b h = cc h
-
-not_over : (what : List ℕ) (n most : ℕ) → over what n most ≡ None → n ≤ most
-not_over what n most h = at (nat_lt most n) refl h
-  where
-    at : (b : Bool) → nat_lt most n ≡ b → over what n most ≡ None → n ≤ most
-    at true e h = (let no : Some (Limit what n) ≡ None = ap (λ b. if b then Some (Limit what n) else None) (sym e) ∙ h in cc no)
-    at false e h = (let not_below = not_from_Decides (nat_lt most n) (Decides-ltb most n) e in omega (arith, not_below))
-
-pub few : (thorns : List Thorn) → bind_fault thorns ≡ None → length thorns ≤ 64
-unfolding bind_fault
-few thorns fit =
-    let infos = variable_infos thorns in
-    let last : List (Option BindFault) = over (codes "variables") (length infos) 256 ∷ [] in
-    let limit : Option BindFault = over (codes "thorns") (length thorns) 64 in
-    let kinds : first_some (kinds_fault infos thorns ∷ []) ≡ None = later_none (names_fault (known thorns) infos thorns) (first_some (kinds_fault infos thorns ∷ [])) (later_none (needs_fault thorns) (first_some (names_fault (known thorns) infos thorns ∷ kinds_fault infos thorns ∷ [])) fit) in
-    let each_kind : kinds_fault infos thorns ≡ None = first_none (kinds_fault infos thorns) None kinds in
-    let limits : first_some (limit ∷ last) ≡ None = later_none (two_dims thorns) (first_some (limit ∷ last)) (later_none (unsupported thorns) (first_some (two_dims thorns ∷ limit ∷ last)) each_kind) in
-    not_over (codes "thorns") (length thorns) 64 (first_none limit (first_some last) limits)
 
 -- ---- the state of the loop over thorns: what is there, with that of the rest, is what counts of all
 
@@ -173,11 +136,14 @@ below-are names most n (t ∷ ts) (f ∷ fs) h =
     (by-thorn-are (λ k. k < most) n here (names n) t.name (counted_of n (names n) f.items) (nodes-are (λ k. k < most) n here (names n) f.items))
     (below-are names most (n + 1) ts fs later)
 
+pub counted-below : (names : ℕ → Names) (thorns : List Thorn) (files : List ScheduleFile) (c : Counted) → counted_from names 0 thorns files ≡ Ok c → All (λ (l : Line). l.thorn < length thorns) c.lines × All (λ (e : Entry). e.thorn < length thorns) c.entries
+counted-below names thorns files c is =
+    let A : Result Counted OrderFault → Type 0 = λ r. AreOf OrderFault (λ k. k < length thorns) r in
+    subst A is (below-are names (length thorns) 0 thorns files (omega arith))
+
 module _ (names : ℕ → Names) (thorns : List Thorn) (files : List ScheduleFile) (c : LentCounted) (is : counted_from names 0 thorns files ≡ Ok (seen c)) where
   all-below : AreOf OrderFault (λ k. k < length thorns) (Ok (seen c))
-  all-below =
-      let A : Result Counted OrderFault → Type 0 = λ r. AreOf OrderFault (λ k. k < length thorns) r in
-      subst A is (below-are names (length thorns) 0 thorns files (omega arith))
+  all-below = counted-below names thorns files (seen c) is
 
   pub lines-below : All (λ (l : LentLine). l.thorn < length thorns) c.lines.items
   lines-below = unmapped (λ (l : Line). l.thorn < length thorns) seen_line c.lines.items all-below.0

@@ -43,7 +43,7 @@ and_no false b = refl
 
 -- ---- numbers in order
 
-counted : (a n k : ℕ) → a ≤ k → k < a + n → 0 < count k (numbers_from a n)
+pub counted : (a n k : ℕ) → a ≤ k → k < a + n → 0 < count k (numbers_from a n)
 counted a zero k low high = absurd (let no : ⊥ = omega (arith, low, high) in no)
 counted a (suc n) k low high = by (ltb a k) refl (counted (a + 1) n k)
   where

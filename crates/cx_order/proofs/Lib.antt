@@ -38,3 +38,7 @@ pub mod FirstGroups
 pub mod PlacedLaws
 pub mod OrderingLaws
 pub mod PlacedForms
+pub mod OnlyOrders
+pub mod OnlySights
+pub mod OnlyMeanings
+pub mod OnlyPlan

@@ -41,7 +41,7 @@ placed-fault thorns c (TwoNames name) h = absurd h
 placed-fault thorns c (Scope path e) h = absurd h
 placed-fault thorns c (Limit what number) h = absurd h
 
-same-ordered : (a b : Ordered) → a.plan.bins ≡ b.plan.bins → a.items ≡ b.items → a.storage ≡ b.storage → a.text ≡ b.text → a ≡ b
+pub same-ordered : (a b : Ordered) → a.plan.bins ≡ b.plan.bins → a.items ≡ b.items → a.storage ≡ b.storage → a.text ≡ b.text → a ≡ b
 same-ordered a b bins items stored text =
     let F : List Tree → Ordered = λ x. record { plan = record { bins = x }; items = a.items; storage = a.storage; text = a.text } in
     let G : List Item → Ordered = λ x. record { plan = b.plan; items = x; storage = a.storage; text = a.text } in

@@ -1,6 +1,6 @@
 //! The text of an entry.
 
-ghost use Rattle.std.specs.Prelude.{◌≡◌, ◌≤◌, ◌<◌, ◌++◌, ◌==◌, length, codes, position, IfSome, OnOk};
+ghost use Rattle.std.specs.Prelude.{◌≡◌, ◌≤◌, ◌<◌, ◌++◌, ◌==◌, length, codes, position, IfOk, IfSome, OnOk};
 ghost use Rattle.std.specs.List.{flat_map};
 ghost use Rattle.cx_plan.specs.Names.{full_name};
 ghost use Rattle.cx_order.specs.Files.{thorn_name};
@@ -13,6 +13,7 @@ use crate::counted::Entry;
 use crate::meaning::Meaning;
 use cx_plan::{Region, Touch, VarId};
 use cx_text::{Memory, Text};
+use std::alloc::Global;
 
 /// A region's word in schedule texts.
 pub fn region_text(region: Region) -> &'static [u8]
@@ -50,14 +51,24 @@ fn bracket_of(full: &[u8]) -> usize
     first_bracket(full).unwrap_or(full.len())
 }
 
-/// Adds a variable's full name with a level's `_p`, which stand before the bracket of a copy, as schedule texts have it.
-pub fn push_level(text: &mut Text, full: &[u8], level: u8) -> Result<(), Memory>
+/// Adds a variable's full name with a level's `_p`.
+fn push_level(text: &mut Text, full: &[u8], level: u8) -> Result<(), Memory>
     ensures { OnOk result (text.new ≡ text.old ++ level_text full.now level) }
 {
     let bracket = bracket_of(full);
     text.push_slice(&full[..bracket])?;
     push_past(text, level)?;
     text.push_slice(&full[bracket..])
+}
+
+/// A variable's full name with `_p` once for each past level, before the bracket of a copy, as schedule texts have it: `wave::phi_p`
+/// is `wave::phi` one level back.
+pub fn level_text(alloc: Global, full: &[u8], level: u8) -> Result<Text, Memory>
+    ensures { IfOk result (λ text. text ≡ level_text full.now level) }
+{
+    let mut text = Text::new(Vec::new(alloc));
+    push_level(&mut text, full, level)?;
+    Ok(text)
 }
 
 fn push_level_name(

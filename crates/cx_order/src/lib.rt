@@ -38,7 +38,7 @@ mod summaries;
 mod summary;
 mod tree_parts;
 
-pub use entry_text::{push_level, region_text};
+pub use entry_text::{level_text, region_text};
 pub use fault::OrderFault;
 pub use ordered::Ordered;
 pub use ordering::order;

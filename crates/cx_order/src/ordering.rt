@@ -1,9 +1,10 @@
 //! Ordering: from the schedule files of bound thorns to a plan.
 
-ghost use Rattle.std.specs.Prelude.{◌≡◌, ◌⊎◌, ◌<◌, List, length, map, None, Some, All, IfOk, IfErr};
+ghost use Rattle.std.specs.Prelude.{◌≡◌, ◌⊎◌, ◌<◌, List, length, map, None, Some, All, IfOk, IfErr, MatchResult};
 ghost use Rattle.cx_plan.specs.Lists.{or_else};
 ghost use Rattle.cx_sched.specs.declared.tree.ScheduleFile.{ScheduleFile};
 ghost use Rattle.cx_values.specs.declared.values.Values.{Values};
+ghost use Rattle.cx_order.specs.declared.ordered.Ordered.{Ordered};
 ghost use Rattle.cx_order.specs.declared.fault.OrderFault.TheVariants as faults;
 ghost use Rattle.cx_order.specs.Entries.{names_fault};
 ghost use Rattle.cx_order.specs.Files.{input_of};
@@ -124,7 +125,9 @@ fn planned(
 /// GroupCycle: a group contains itself, also through others. Cycle: entries of one bin or group must each come before the next,
 /// and the last before the first. Scope: a name of a STORAGE line, and then one of an entry that is placed, in the order of
 /// the trees, stands for nothing, an IF or WHILE isn't for one scalar, or a SYNC is for a scalar. Limit: trees are more than 32
-/// `depth` or have more than 4,096 `nodes`. The first of the first kind counts.
+/// `depth` or have more than 4,096 `nodes`. The first of the first kind counts. Memory: memory is wanting.
+///
+/// Files and values have one plan or a fault, and never both: where there is a plan, it is the answer, unless memory is wanting.
 pub fn order(
     alloc: Global,
     bound: &Bound,
@@ -132,7 +135,8 @@ pub fn order(
     values: &Values,
 ) -> Result<Ordered, OrderFault>
     requires { length files.now ≡ length bound.now }
-    ensures { OrderAnswers (input_of bound.now files.now values.now) result }
+    ensures answers { OrderAnswers (input_of bound.now files.now values.now) result }
+    ensures only { (plan : Ordered) → IsPlan (input_of bound.now files.now values.now) plan → MatchResult result (λ found. found ≡ plan) (λ e. e ≡ faults.Memory) }
 {
     let counted = counted_entries(alloc, bound, files.as_slice(), values)?;
     planned(

@@ -18,7 +18,7 @@ returns-in-Ok c =
           λ v. c.raise_group.ensures.levels v
           ∙ ap (λ n. max (get_or c.args.stored.now v 0) n)
           (line-levels c.args.bound.now (sight_in c.args.scope.now) (seen_line c.args.line.now) c.as_slice-variables.result.now c.as_slice.result.now c.in-Ok.group
-          (c.as_slice-variables.ensures ∙ c.variables.ensures) c.as_slice.ensures told v);
+          (c.as_slice-variables.ensures ∙ c.variables.ensures.variables) c.as_slice.ensures told v);
     }
 
 pub returns-in-Err-clause-told : goal.returns-in-Err-clause-told
