@@ -2,6 +2,10 @@ pub mod Agreeing
 pub mod Cells
 pub mod Faces
 pub mod Flows
+pub mod Follows
 pub mod Marks
+pub mod Samples
 pub mod Shapes
 pub mod Unmet
+pub mod Ways
+pub mod Checks

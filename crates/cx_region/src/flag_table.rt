@@ -8,7 +8,7 @@ ghost use Rattle.cx_plan.specs.Regions.{written, all_written, exchanged, rotated
 ghost use Rattle.cx_region.specs.Cells.{none_set, cell, place, flags_in, Holds, cell_after};
 ghost use Rattle.cx_region.specs.Flows.{is_within, Meet};
 
-use crate::flags::{LevelFlags, NONE_SET, after, after_exchange, both, is_set, is_within};
+use crate::flags::{ALL_SET, LevelFlags, NONE_SET, after, after_exchange, both, is_set, is_within};
 use cx_plan::{Flag, Job, Touch, VarId};
 use cx_text::Memory;
 use std::alloc::Global;
@@ -150,6 +150,14 @@ impl FlagTable {
         ensures { IfOk result (λ table. table ≡ self.now) }
     {
         let cells = Vec::from_slice(alloc, self.cells.as_slice())?;
+        Ok(FlagTable { cells })
+    }
+
+    /// As many cells, with each flag set.
+    pub(crate) fn all_set(&self, alloc: Global) -> Result<Self, Memory>
+        ensures { IfOk result (λ table. table ≡ replicate (length self.now) ALL_SET) }
+    {
+        let cells = vec![in alloc; ALL_SET; self.cells.len()]?;
         Ok(FlagTable { cells })
     }
 

@@ -28,6 +28,14 @@ pub(crate) const NONE_SET: LevelFlags = LevelFlags {
     scalar: false,
 };
 
+/// Each flag is set.
+pub(crate) const ALL_SET: LevelFlags = LevelFlags {
+    interior: true,
+    boundary: true,
+    ghosts: true,
+    scalar: true,
+};
+
 /// Whether a flag is set.
 pub(crate) fn is_set(flags: LevelFlags, flag: Flag) -> bool
     ensures { result ≡ flag_of flags flag }

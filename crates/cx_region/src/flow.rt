@@ -7,12 +7,10 @@ ghost use Rattle.cx_plan.specs.Whole.{IsWhole, IsTree, IsStoredScalar};
 ghost use Rattle.cx_region.specs.Flows.{Leads, Branch, Turning, PathOfTrees};
 
 use crate::flag_table::FlagTable;
+use crate::left::left_of_all;
 use crate::walk::{Stop, exchange, test, turn};
 use cx_plan::{Job, Tree, VarId};
 use std::alloc::Global;
-
-/// Flags fall at most this often: there are 256 variables with eight levels of four flags.
-pub(crate) const MOST_FALLS: u32 = 8192;
 
 /// Walks a tree. The table goes from flags that are set before it on every way to those that are set behind it.
 #[cycle(tree)]
@@ -88,7 +86,8 @@ fn walk_if<'a>(
     Ok(())
 }
 
-/// Turns until no flag falls.
+/// Turns until no flag falls. The flags that a turn leaves cleared fall at once, so that the first turn is the last one, also where
+/// WHILEs stand in one another.
 #[cycle(tree)]
 fn walk_while<'a>(
     alloc: Global,
@@ -101,7 +100,9 @@ fn walk_while<'a>(
     requires { IsWhole job.now }
     ensures { IsStoredScalar job.now variable → IsTree job.now work.now → OnOk result (Leads job.now (Turning (Tests variable path.now) (Then (Path work.now) (Just []))) table.old table.new) }
 {
-    'turns: for _ in 0..=MOST_FALLS {
+    let left = left_of_all(alloc, job, table, work)?;
+    table.meet(&left);
+    'turns: loop {
         test(job, table, variable, path)?;
         let behind = flags_behind(alloc, job, table, work)?;
         if table.is_below(&behind) {
@@ -109,5 +110,4 @@ fn walk_while<'a>(
         }
         table.meet(&behind);
     }
-    Err(Stop::Unsettled)
 }

@@ -1,32 +1,34 @@
 //! The flags that are set on every way through a job.
 
-ghost use Rattle.std.specs.Prelude.{◌≡◌, ◌∷◌, [], OnOk, map, pos, int_lt};
+ghost use Rattle.std.specs.Prelude.{◌≡◌, ◌∷◌, [], OnOk, map, pos, int_lt, length};
 ghost use Rattle.cx_plan.specs.Setups.{setup_of};
 ghost use Rattle.cx_plan.specs.Lookups.{bin};
 ghost use Rattle.cx_plan.specs.Paths.{Path, Just, PathOfBins, PathOfAnalysis, PathOfCheckpoint, PathOfStart, PathOfIteration, Sound};
 ghost use Rattle.cx_plan.specs.Whole.{IsWhole};
-ghost use Rattle.cx_region.specs.Flows.{Leads, PathOfAllIterations, outputs_if};
+ghost use Rattle.cx_region.specs.Flows.{IsBelow, Leads, PathOfAllIterations, outputs_if};
 
 use crate::flag_table::FlagTable;
-use crate::flow::{MOST_FALLS, walk_tree};
+use crate::flow::walk_tree;
+use crate::left::{leave, leave_if_taken};
 use crate::walk::{Stop, output, rotate};
 use cx_plan::Job;
+use cx_text::Memory;
 use std::alloc::Global;
 
 const POSTSTEP: usize = 8;
 
-const CHECKPOINT: usize = 9;
+pub(crate) const CHECKPOINT: usize = 9;
 
-const ANALYSIS: usize = 10;
+pub(crate) const ANALYSIS: usize = 10;
 
 /// STARTUP, WRAGH, PARAMCHECK, BASEGRID, INITIAL, POSTINITIAL and POSTSTEP.
-const START_BINS: &[usize] = &[0, 1, 2, 3, 4, 5, POSTSTEP];
+pub(crate) const START_BINS: &[usize] = &[0, 1, 2, 3, 4, 5, POSTSTEP];
 
 /// PRESTEP, EVOL and POSTSTEP.
-const STEP_BINS: &[usize] = &[6, 7, POSTSTEP];
+pub(crate) const STEP_BINS: &[usize] = &[6, 7, POSTSTEP];
 
 /// TERMINATE and SHUTDOWN.
-const END_BINS: &[usize] = &[11, 12];
+pub(crate) const END_BINS: &[usize] = &[11, 12];
 
 fn walk_bin<'a>(
     alloc: Global,
@@ -106,12 +108,71 @@ fn walk_iteration<'a>(alloc: Global, job: &'a Job, table: &mut FlagTable) -> Res
     walk_analysis(alloc, job, table)
 }
 
-/// Iterations until no flag falls.
+fn leave_bin(alloc: Global, job: &Job, table: &mut FlagTable, number: usize) -> Result<(), Memory>
+    ensures { length table.new ≡ length table.old }
+{
+    match job.plan.bins.as_slice().get(number) {
+        Some(tree) => leave(alloc, job, table, tree),
+        None => Ok(()),
+    }
+}
+
+/// What these bins leave of flags, whatever they need.
+fn leave_bins(
+    alloc: Global,
+    job: &Job,
+    table: &mut FlagTable,
+    numbers: &[usize],
+) -> Result<(), Memory>
+    ensures { length table.new ≡ length table.old }
+{
+    'numbers: for number in numbers {
+        leave_bin(alloc, job, table, *number)?;
+    }
+    Ok(())
+}
+
+fn leave_checkpoint(alloc: Global, job: &Job, table: &mut FlagTable) -> Result<(), Memory>
+    ensures { length table.new ≡ length table.old }
+{
+    match job.plan.bins.as_slice().get(CHECKPOINT) {
+        Some(tree) => leave_if_taken(alloc, job, table, tree),
+        None => Ok(()),
+    }
+}
+
+/// What an iteration leaves of flags.
+fn leave_iteration(alloc: Global, job: &Job, table: &mut FlagTable) -> Result<(), Memory>
+    ensures { length table.new ≡ length table.old }
+{
+    table.rotate(job);
+    leave_bins(alloc, job, table, STEP_BINS)?;
+    leave_checkpoint(alloc, job, table)?;
+    leave_bin(alloc, job, table, ANALYSIS)
+}
+
+/// Clears the flags that any number of iterations may clear, whatever they need. Flags move through eight levels, so this takes
+/// about nine turns.
+fn settle(alloc: Global, job: &Job, table: &mut FlagTable) -> Result<(), Memory>
+    ensures { IsBelow table.new table.old }
+{
+    'turns: loop {
+        let mut behind = table.copy(alloc)?;
+        leave_iteration(alloc, job, &mut behind)?;
+        if table.is_below(&behind) {
+            return Ok(());
+        }
+        table.meet(&behind);
+    }
+}
+
+/// Iterations until no flag falls. The first one is the last one, since the flags have settled before it.
 fn walk_iterations<'a>(alloc: Global, job: &'a Job, table: &mut FlagTable) -> Result<(), Stop<'a>>
     requires { IsWhole job.now }
     ensures { OnOk result (Leads job.now (PathOfAllIterations (setup_of job.now)) table.old table.new) }
 {
-    'iterations: for _ in 0..=MOST_FALLS {
+    settle(alloc, job, table)?;
+    'iterations: loop {
         let mut behind = table.copy(alloc)?;
         walk_iteration(alloc, job, &mut behind)?;
         if table.is_below(&behind) {
@@ -119,7 +180,6 @@ fn walk_iterations<'a>(alloc: Global, job: &'a Job, table: &mut FlagTable) -> Re
         }
         table.meet(&behind);
     }
-    Err(Stop::Unsettled)
 }
 
 /// Walks all ways through a job. Where no need is unmet, on no path one is.

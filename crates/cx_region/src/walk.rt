@@ -8,6 +8,7 @@ ghost use Rattle.cx_plan.specs.Whole.{IsWhole, IsStoredScalar, IsStoredGrid};
 ghost use Rattle.cx_region.specs.Cells.{flags_in, Holds};
 ghost use Rattle.cx_region.specs.Flows.{Leads};
 ghost use Rattle.cx_region.specs.Unmet.{seen};
+ghost use Rattle.cx_region.specs.declared.walk.Stop.TheVariants as stops;
 
 use crate::flag_table::FlagTable;
 use crate::unmet::{Unmet, unmet_of_item, unmet_of_output, unmet_of_sync, unmet_of_test};
@@ -19,13 +20,13 @@ use cx_text::Memory;
 pub(crate) enum Stop<'a> {
     /// This need isn't met.
     Unmet(Unmet<'a>),
-    /// Flags still fall after as many turns as there are flags, which doesn't happen.
-    Unsettled,
     /// Memory is wanting.
     Memory,
 }
 
 impl<'a> From<Memory> for Stop<'a> {
+    ghost from_gives = { λ _ stop. stop ≡ stops.Memory };
+
     fn from(_: Memory) -> Self {
         Stop::Memory
     }
@@ -42,8 +43,8 @@ fn unless_unmet(unmet: Option<Unmet<'_>>) -> Result<(), Stop<'_>>
 }
 
 /// Notes the writes of an item.
-fn write_item(job: &Job, table: &mut FlagTable, number: u32)
-    ensures { number < length job.now.items → Holds table.old table.new (leaves (setup_of job.now) (Turns number) (flags_in table.old)) }
+pub(crate) fn write_item(job: &Job, table: &mut FlagTable, number: u32)
+    ensures { Holds table.old table.new (leaves (setup_of job.now) (Turns number) (flags_in table.old)) }
 {
     if let Some(item) = job.items.as_slice().get(number as usize) {
         table.write_all(job, item.writes.as_slice());

@@ -3,6 +3,7 @@ use Rattle.std.specs.List.{All}
 use Rattle.cx_plan.specs.Regions.{Tests}
 use Rattle.cx_plan.specs.Paths.{Path, Then, Just}
 use Rattle.cx_plan.specs.Whole.{IsTree, IsStoredGrid}
+use Rattle.cx_region.proofs.FallLaws.{falls}
 use Rattle.cx_region.proofs.MeetLaws.{below-from-test}
 use Rattle.cx_region.proofs.FlowLaws.{on_ok, leads-branch, leads-turning}
 use Rattle.cx_region.proofs.PathLaws.{in-seq, in-if, in-while, in-call, in-sync, tree-at, leads-seq, leads-call, leads-sync, leads-if, leads-while, leads-alone, passing-next, passing-all}
@@ -64,3 +65,7 @@ walk_while-returns-then-is_below t c = λ stored is.
     leads-turning job (Tests c.args.variable c.args.path.now) (Then (Path c.args.work.now) (Just [])) c.args.table.now c.turns.table behind c.turns.invariant
     (below-from-test c.turns.table behind (sym body.same_length) (sym c.is_below.ensures ∙ c.if-is_below.true))
     (c.in_ok-test.ensures stored) (leads-alone job (Path c.args.work.now) c.turns.table behind body)
+
+pub walk_while-turns-smaller : goal.walk_while-turns-smaller
+walk_while-turns-smaller t c =
+    falls c.turns.table c.in_ok-behind.behind c.meet-in-turns.new.self c.meet-in-turns.ensures (sym c.is_below.ensures ∙ c.if-is_below.false)

@@ -3,6 +3,7 @@ use Rattle.std.proofs.Common.{drop}
 use Rattle.std.specs.List.{All}
 use Rattle.cx_plan.specs.Whole.{IsTree}
 use Rattle.cx_region.specs.Flows.{IsBelow}
+use Rattle.cx_region.proofs.FallLaws.{set_count}
 use Rattle.cx_region.proofs.PathLaws.{Passing}
 use Rattle.cx_region.proofs.flow.+tree.Given as goal
 
@@ -11,3 +12,6 @@ invariant-walk_trees-trees l = All (IsTree l.job) l.trees → Passing l.job l.tr
 
 abbrev pub invariant-walk_while-turns : goal.invariant-walk_while-turns
 invariant-walk_while-turns l = IsBelow l.table l.fn.table
+
+abbrev pub decreases-walk_while-turns : goal.decreases-walk_while-turns
+decreases-walk_while-turns l = set_count l.table

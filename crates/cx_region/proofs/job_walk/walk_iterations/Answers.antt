@@ -3,6 +3,7 @@ use Rattle.cx_plan.specs.Setups.{setup_of}
 use Rattle.cx_plan.specs.Paths.{PathOfIteration}
 use Rattle.cx_region.specs.declared.flags.LevelFlags.{LevelFlags}
 use Rattle.cx_region.specs.Flows.{Leads}
+use Rattle.cx_region.proofs.FallLaws.{falls}
 use Rattle.cx_region.proofs.MeetLaws.{below-from-test}
 use Rattle.cx_region.proofs.JobLaws.{leads-iterations}
 use Rattle.cx_region.proofs.job_walk.walk_iterations.Goals as goal
@@ -15,3 +16,7 @@ returns-then-is_below c =
     let body = subst (λ (cells : List LevelFlags). Leads job (PathOfIteration (setup_of job)) cells behind) c.in_ok-behind.ensures c.in_ok-walk_iteration.ensures in
     leads-iterations job c.args.table.now old behind c.iterations.invariant
     (below-from-test old behind (sym body.same_length) (sym c.is_below.ensures ∙ c.if-is_below.true)) body
+
+pub iterations-smaller : goal.iterations-smaller
+iterations-smaller c =
+    falls c.iterations.table c.walk_iteration.new.table c.meet.new.self c.meet.ensures (sym c.is_below.ensures ∙ c.if-is_below.false)
