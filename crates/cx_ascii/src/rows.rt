@@ -1,0 +1,111 @@
+//! The sizes of a grid, and its rows.
+
+ghost use Rattle.std.specs.Prelude.{◌≡◌, ◌*◌, ◌++◌, [], ◌∷◌, OnOk, unsigned_abs, min, length, take, drop};
+ghost use Rattle.std.specs.List.{flat_map, range_with_len};
+ghost use Rattle.std.specs.Fmt.{decimal};
+ghost use Rattle.cx_grid.specs.Boxes.{along, extent};
+ghost use Rattle.cx_grid.specs.Grid.{IsShape, whole};
+ghost use Rattle.cx_ascii.specs.Output.{size_of, row_of, row_in, values_of, after_blank};
+
+use crate::numbers::{push_count, push_value};
+use cx_grid::Shape;
+use cx_text::{Memory, Text};
+use std::alloc::Global;
+
+/// The number of points of a direction.
+pub(crate) fn size(shape: &Shape, direction: u8) -> u32
+    ensures { result ≡ unsigned_abs (along shape.now.n direction) }
+{
+    match direction {
+        0 => shape.n.x.unsigned_abs(),
+        1 => shape.n.y.unsigned_abs(),
+        _ => shape.n.z.unsigned_abs(),
+    }
+}
+
+/// The sizes of the grid's directions, a blank before each.
+#[tactic(auto, using(crate::proofs::MoreRows::grown))]
+pub(crate) fn push_sizes(alloc: Global, text: &mut Text, shape: &Shape) -> Result<(), Memory>
+    ensures { OnOk result (text.new ≡ text.old ++ flat_map (size_of shape.now) (range_with_len 0 shape.now.dims)) }
+{
+    'sizes: for direction in 0..shape.dims {
+        push_size(alloc, text, size(shape, direction))?;
+    }
+    Ok(())
+}
+
+fn push_size(alloc: Global, text: &mut Text, size: u32) -> Result<(), Memory>
+    ensures { OnOk result (text.new ≡ text.old ++ (32 ∷ decimal size)) }
+{
+    text.push_slice(b" ")?;
+    push_count(alloc, text, u64::from(size))
+}
+
+/// The values in decimal, one blank between, and the end of the line.
+fn push_row(alloc: Global, text: &mut Text, values: &[i64]) -> Result<(), Memory>
+    ensures { OnOk result (text.new ≡ text.old ++ (values_of values.now ++ 10 ∷ [])) }
+{
+    push_values(alloc, text, values)?;
+    text.push_slice(b"\n")
+}
+
+fn push_values(alloc: Global, text: &mut Text, values: &[i64]) -> Result<(), Memory>
+    ensures { OnOk result (text.new ≡ text.old ++ values_of values.now) }
+{
+    let Some((first, others)) = values.split_first() else {
+        return Ok(());
+    };
+    push_value(alloc, text, *first)?;
+    'values: for value in others {
+        push_next(alloc, text, *value)?;
+    }
+    Ok(())
+}
+
+fn push_next(alloc: Global, text: &mut Text, value: i64) -> Result<(), Memory>
+    ensures { OnOk result (text.new ≡ text.old ++ after_blank value) }
+{
+    text.push_slice(b" ")?;
+    push_value(alloc, text, value)
+}
+
+/// So many rows of so many values, from the first value on.
+#[tactic(auto, using(crate::proofs::MoreRows::row_grown, crate::proofs::MoreRows::rest_next, crate::proofs::MoreRows::none_dropped))]
+fn push_rows(
+    alloc: Global,
+    text: &mut Text,
+    width: usize,
+    count: u64,
+    values: &[i64],
+) -> Result<(), Memory>
+    ensures { OnOk result (text.new ≡ text.old ++ flat_map (row_in width values.now) (range_with_len 0 count)) }
+{
+    let mut rest = values;
+    'rows: for _ in 0..count {
+        let (row, others) = rest.split_at(width.min(rest.len()));
+        push_row(alloc, text, row)?;
+        rest = others;
+    }
+    Ok(())
+}
+
+/// The values of a level, in rows along x.
+pub(crate) fn push_level(
+    alloc: Global,
+    text: &mut Text,
+    shape: &Shape,
+    values: &[i64],
+) -> Result<(), Memory>
+    requires { IsShape shape.now }
+    ensures { OnOk result (text.new ≡ text.old ++ flat_map (row_of shape.now values.now) (range_with_len 0 (extent (whole shape.now) 1 * extent (whole shape.now) 2))) }
+{
+    let width = size(shape, 0) as usize;
+    let count = row_count(size(shape, 1), size(shape, 2));
+    push_rows(alloc, text, width, count, values)
+}
+
+fn row_count(y: u32, z: u32) -> u64
+    ensures { result ≡ y * z }
+{
+    u64::from(y) * u64::from(z)
+}

@@ -1,0 +1,5 @@
+mod Samples
+mod Rows
+mod Guides
+mod TreeGuides
+mod RunGuides

@@ -1,0 +1,7 @@
+pub mod States
+pub mod Turns
+pub mod Traces
+pub mod Trees
+pub mod Stages
+pub mod Runs
+pub mod Uses
