@@ -7,6 +7,7 @@ pub mod InRange
 pub mod LimitLaws
 pub mod DimLaws
 mod GridRows
+pub mod OnlyMade
 pub mod OutputLaws
 pub mod CellLaws
 mod OutputRows
@@ -14,7 +15,11 @@ pub mod WrittenLaws
 pub mod StoredLaws
 pub mod SupportedLaws
 pub mod PlanFacts
+pub mod RunLaws
+pub mod MatchedLaws
+pub mod TouchLaws
 pub mod WholeJobs
+pub mod FitLaws
 pub mod MatchLaws
 mod MatchRows
 pub mod TreeLaws
@@ -22,3 +27,9 @@ pub mod MeantLaws
 pub mod Named
 pub mod ReadingLaws
 pub mod NamesLaws
+pub mod ConfiguringLaws
+pub mod MakingLaws
+pub mod ReadyLaws
+pub mod CountLaws
+pub mod WordLaws
+pub mod ReadNames

@@ -30,7 +30,7 @@ level_kept storage r l none = by (slice_index_or storage l.0 0 == 0) (nat_le (sl
     by false true e none = some_none none
     by false false e none = grind (arith, e)
 
-all_none : {X Y : Type 0} (f : X → Option Y) (xs : List X) → first_of_each f xs ≡ None → All (λ x. f x ≡ None) xs
+pub all_none : {X Y : Type 0} (f : X → Option Y) (xs : List X) → first_of_each f xs ≡ None → All (λ x. f x ≡ None) xs
 all_none f [] none = none_in (λ x. f x ≡ None)
 all_none f (x ∷ xs) none = All-cons (λ x. f x ≡ None) x xs (first_none (f x) (first_of_each f xs) none) (all_none f xs (second_none (f x) (first_of_each f xs) none))
 

@@ -1,4 +1,4 @@
--- The names of entries stand for variables of the job whose level 0 is stored.
+-- The names of entries stand for variables of the job whose levels are stored.
 use Rattle.std.proofs.Common.{◌≡◌, ◌≢◌, refl, ap, sym, subst, ◌∙◌, ℕ, zero, suc, ◌≤◌, ◌<◌, nat_lt, ltb-true, ltb-false, Bool, true, false, List, [], ◌∷◌, ◌++◌, map, length, get_or, slice_get, Option, Some, None, Result, Ok, Err, if◌then◌else◌, arith}
 use Rattle.std.specs.Prelude.{◌||◌, ◌==◌, All, AllPairs, slice_index_or}
 use Rattle.std.specs.List.{list_any}
@@ -7,7 +7,8 @@ use Rattle.std.proofs.lemmas.List.Folds.{list_any-append}
 use Rattle.std.proofs.lemmas.List.Kept.{AllPairs-cons}
 use Rattle.cx_plan.specs.Lists.{with_next, all_ok, once_behind}
 use Rattle.cx_plan.specs.Lookups.{no_variable}
-use Rattle.cx_plan.specs.Whole.{IsStored, IsStoredGrid}
+use Rattle.cx_plan.specs.Whole.{IsStored, IsStoredGrid, IsTouch}
+use Rattle.cx_plan.specs.declared.item.Region.{Region}
 use Rattle.cx_plan.specs.declared.item.Touch.{Touch}
 use Rattle.cx_plan.specs.declared.job.Job.{Job}
 use Rattle.cx_plan.specs.declared.variable.VarId.{VarId}
@@ -18,7 +19,7 @@ use Rattle.cx_scope.specs.declared.fault.ScopeFault.{ScopeFault}
 use Rattle.cx_scope.specs.declared.fault.ScopeFault.TheVariants.{NotScalar, NotGrid}
 use Rattle.cx_scope.specs.Resolving.{ref_text}
 use Rattle.cx_order.specs.Counted.{Entry}
-use Rattle.cx_order.specs.Meanings.{World, Levels, scalar_in, is_scalar, meant, one_scalar, tested, all_grid, all_joined, same_variable, once_each, synced, touches, and_then, meaning_or_none, unless_group}
+use Rattle.cx_order.specs.Meanings.{World, Levels, scalar_in, is_scalar, meant, one_scalar, tested, all_grid, all_joined, same_variable, once_each, synced, touch, touches_of, touches, and_then, meaning_or_none, unless_group}
 use Rattle.cx_job.specs.Stored.{stored_infos}
 use Rattle.cx_job.proofs.SupportedLaws.{none_in, first_of, others_of, in_all}
 use Rattle.cx_job.proofs.StoredLaws.{as_many_stored, stored_at}
@@ -192,25 +193,44 @@ module _ (job : Job) (w : World) (vars : job.vars ≡ stored_infos w.thorns w.st
           (λ yss are. each_ok (λ zs. All (IsStoredGrid job) zs) (λ r. all_grid w r (meant w thorn r)) (λ r zs ok. grid_of thorn r (meant w thorn r) refl zs ok) refs yss are) is in
           subst IsSync (ok_same told) (once_kept (IsStoredGrid job) [] us each, once_apart [] us)
 
+  name_stored : (thorn : ℕ) (region : Region) (r : Ref) (ls : Result Levels ScopeFault) → meant w thorn r ≡ ls → (zs : List Touch) → touches_of region ls ≡ Ok zs → All (IsTouch job) zs
+  name_stored thorn region r (Err e) is zs told = err_ok told
+  name_stored thorn region r (Ok ls) is zs told =
+      subst (λ us. All (IsTouch job) us) (ok_same told)
+      (All-map (IsTouch job) (touch region) ls
+      (λ k d within. kept_stored (get_or ls k d).0 (get_or ls k d).1 (resolved_kept w.thorns w.sight w.storage thorn r ls is k d within)))
+
+  touches_stored : (thorn : ℕ) (refs : List (Ref × Region)) (zs : List Touch) → touches w thorn refs ≡ Ok zs → All (IsTouch job) zs
+  touches_stored thorn refs zs told =
+      each_joined (IsTouch job) (all_ok (map (λ r. touches_of r.1 (meant w thorn r.0)) refs)) zs
+      (λ zss are. each_ok (λ us. All (IsTouch job) us) (λ r. touches_of r.1 (meant w thorn r.0)) (λ r us ok. name_stored thorn r.1 r.0 (meant w thorn r.0) refl us ok) refs zss are)
+      told
+
+  abbrev IsTouched : List Touch → Type 0
+  IsTouched zs = All (IsTouch job) zs
+
   abbrev Are : Result (Option VarId) ScopeFault → Result (Option VarId) ScopeFault → Result (List VarId) ScopeFault → Result (List Touch) ScopeFault → Result (List Touch) ScopeFault → Type 0
   Are a b c r u =
       let m = meaning_or_none (and_then a (λ test. and_then b (λ turn. and_then c (λ sync. and_then r (λ reads. and_then u (λ writes. Ok (record { test = test; turn = turn; sync = sync; reads = reads; writes = writes }))))))) in
-      IsTurn job m.test × (IsTurn job m.turn × IsSync m.sync)
+      IsTurn job m.test × (IsTurn job m.turn × (IsSync m.sync × (IsTouched m.reads × IsTouched m.writes)))
 
-  nothing_named : IsTurn job None × (IsTurn job None × IsSync [])
-  nothing_named = (tt, (tt, (none_in (IsStoredGrid job), no_pairs (λ (a b : VarId). a.0 ≢ b.0))))
+  nothing_named : IsTurn job None × (IsTurn job None × (IsSync [] × (IsTouched [] × IsTouched [])))
+  nothing_named = (tt, (tt, ((none_in (IsStoredGrid job), no_pairs (λ (a b : VarId). a.0 ≢ b.0)), (none_in (IsTouch job), none_in (IsTouch job)))))
 
-  by_parts : (a b : Result (Option VarId) ScopeFault) (c : Result (List VarId) ScopeFault) (r u : Result (List Touch) ScopeFault) → ((t : Option VarId) → a ≡ Ok t → IsTurn job t) → ((t : Option VarId) → b ≡ Ok t → IsTurn job t) → ((vs : List VarId) → c ≡ Ok vs → IsSync vs) → Are a b c r u
-  by_parts (Err e) b c r u ha hb hc = nothing_named
-  by_parts (Ok t) (Err e) c r u ha hb hc = nothing_named
-  by_parts (Ok t) (Ok s) (Err e) r u ha hb hc = nothing_named
-  by_parts (Ok t) (Ok s) (Ok vs) (Err e) u ha hb hc = nothing_named
-  by_parts (Ok t) (Ok s) (Ok vs) (Ok rs) (Err e) ha hb hc = nothing_named
-  by_parts (Ok t) (Ok s) (Ok vs) (Ok rs) (Ok us) ha hb hc = (ha t refl, (hb s refl, hc vs refl))
+  by_parts : (a b : Result (Option VarId) ScopeFault) (c : Result (List VarId) ScopeFault) (r u : Result (List Touch) ScopeFault) → ((t : Option VarId) → a ≡ Ok t → IsTurn job t) → ((t : Option VarId) → b ≡ Ok t → IsTurn job t) → ((vs : List VarId) → c ≡ Ok vs → IsSync vs)
+      → ((zs : List Touch) → r ≡ Ok zs → IsTouched zs) → ((zs : List Touch) → u ≡ Ok zs → IsTouched zs) → Are a b c r u
+  by_parts (Err e) b c r u ha hb hc hr hu = nothing_named
+  by_parts (Ok t) (Err e) c r u ha hb hc hr hu = nothing_named
+  by_parts (Ok t) (Ok s) (Err e) r u ha hb hc hr hu = nothing_named
+  by_parts (Ok t) (Ok s) (Ok vs) (Err e) u ha hb hc hr hu = nothing_named
+  by_parts (Ok t) (Ok s) (Ok vs) (Ok rs) (Err e) ha hb hc hr hu = nothing_named
+  by_parts (Ok t) (Ok s) (Ok vs) (Ok rs) (Ok us) ha hb hc hr hu = (ha t refl, (hb s refl, (hc vs refl, (hr rs refl, hu us refl))))
 
   pub are_names : (e : Entry) → AreNames job w e
   are_names e =
-      let all : Are (tested w e.thorn e.block.test) (tested w e.thorn e.block.turn) (synced w e.thorn e.block.sync) (touches w e.thorn (unless_group e.block e.block.reads)) (touches w e.thorn (unless_group e.block e.block.writes)) =
-      by_parts (tested w e.thorn e.block.test) (tested w e.thorn e.block.turn) (synced w e.thorn e.block.sync) (touches w e.thorn (unless_group e.block e.block.reads)) (touches w e.thorn (unless_group e.block e.block.writes))
-      (turn_whole e.thorn e.block.test) (turn_whole e.thorn e.block.turn) (sync_whole e.thorn e.block.sync) in
-      record { test = all.0; turn = all.1.0; sync = all.1.1.0; once = all.1.1.1 }
+      let reads : List (Ref × Region) = unless_group e.block e.block.reads in
+      let writes : List (Ref × Region) = unless_group e.block e.block.writes in
+      let all : Are (tested w e.thorn e.block.test) (tested w e.thorn e.block.turn) (synced w e.thorn e.block.sync) (touches w e.thorn reads) (touches w e.thorn writes) =
+      by_parts (tested w e.thorn e.block.test) (tested w e.thorn e.block.turn) (synced w e.thorn e.block.sync) (touches w e.thorn reads) (touches w e.thorn writes)
+      (turn_whole e.thorn e.block.test) (turn_whole e.thorn e.block.turn) (sync_whole e.thorn e.block.sync) (touches_stored e.thorn reads) (touches_stored e.thorn writes) in
+      record { test = all.0; turn = all.1.0; sync = all.1.1.0.0; once = all.1.1.0.1; reads = all.1.1.1.0; writes = all.1.1.1.1 }

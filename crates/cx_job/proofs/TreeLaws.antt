@@ -3,7 +3,7 @@ use Rattle.std.proofs.Common.{◌≡◌, ◌≢◌, refl, ap, sym, subst, ◌∙
 use Rattle.std.specs.Prelude.{All, AllPairs}
 use Rattle.std.specs.List.{flat_map}
 use Rattle.std.proofs.lemmas.List.Elements.{All-cons, All-append}
-use Rattle.cx_plan.specs.Whole.{IsTree, IsRow, IsStoredScalar, IsStoredGrid}
+use Rattle.cx_plan.specs.Whole.{IsTree, IsRow, IsStoredScalar, IsStoredGrid, IsTouch}
 use Rattle.cx_plan.specs.declared.variable.VarId.{VarId}
 use Rattle.cx_plan.specs.declared.job.Job.{Job}
 use Rattle.cx_plan.specs.declared.tree.Tree.{Tree, Seq, Seq', Call, Sync, If, While, Row_of-Tree, end_of-Tree, more_of-Tree, items-the_row-Tree, items_hidden-the_row-Tree-0}
@@ -18,12 +18,15 @@ abbrev pub IsTurn : Job → Option VarId → Type 0
 IsTurn job None = Unit {0}
 IsTurn job (Some v) = IsStoredScalar job v
 
--- an entry's names stand for variables whose level 0 is stored: scalars in tests, and grid functions, each once, in a SYNC
+-- An entry's names stand for variables whose level 0 is stored, scalars in tests, and grid functions, each once, in a SYNC; and for levels
+-- that are stored in reads and writes.
 pub record AreNames (job : Job) (w : World) (e : Entry) : Type 0 where
   pub test : IsTurn job (names_of w e).test
   pub turn : IsTurn job (names_of w e).turn
   pub sync : All (IsStoredGrid job) (names_of w e).sync
   pub once : AllPairs (λ (a b : VarId). a.0 ≢ b.0) (names_of w e).sync
+  pub reads : All (IsTouch job) (names_of w e).reads
+  pub writes : All (IsTouch job) (names_of w e).writes
 
 abbrev row_in : Tree → (n : Count) × Row_of-Tree n
 row_in (Seq' shape row) = (_, row)
@@ -46,6 +49,17 @@ if_whole job v path tree scalar is = (scalar, (is, tt))
 while_whole : (job : Job) (v : VarId) (path : List ℕ) (tree : Tree) → IsStoredScalar job v → IsTree job tree → IsTree job (While v path tree)
 unfolding Rattle.cx_plan.specs.declared.tree.Tree.TheBlock.hidden-the_row-Tree-1 denote.Hole.Carrier.hidden
 while_whole job v path tree scalar is = (scalar, (is, tt))
+
+pub count_items : (w : World) (f : Forest) → length (forest_items w f) ≡ calls f
+count_items w Done = refl
+count_items w (Then e path inside rest) =
+    length-append (if e.block.group then forest_items w inside else item_of w e path ∷ []) (forest_items w rest)
+    ∙ ap (λ n. n + length (forest_items w rest)) (by e.block.group (count_items w inside))
+    ∙ ap (λ n. (if e.block.group then calls inside else 1) + n) (count_items w rest)
+  where
+    by : (b : Bool) → length (forest_items w inside) ≡ calls inside → length (if b then forest_items w inside else item_of w e path ∷ []) ≡ (if b then calls inside else 1)
+    by true h = h
+    by false h = refl
 
 module _ (job : Job) where
   under_while : (path : List ℕ) (turn : Option VarId) (work : Tree) → IsTurn job turn → IsTree job work → IsTree job (with_while path turn work)
@@ -88,17 +102,6 @@ module _ (job : Job) where
 
       next_room : (k c r n : ℕ) → k + (c + r) ≤ n → (k + c) + r ≤ n
       next_room k c r n h = omega (arith, h)
-
-  count_items : (w : World) (f : Forest) → length (forest_items w f) ≡ calls f
-  count_items w Done = refl
-  count_items w (Then e path inside rest) =
-      length-append (if e.block.group then forest_items w inside else item_of w e path ∷ []) (forest_items w rest)
-      ∙ ap (λ n. n + length (forest_items w rest)) (by e.block.group (count_items w inside))
-      ∙ ap (λ n. (if e.block.group then calls inside else 1) + n) (count_items w rest)
-    where
-      by : (b : Bool) → length (forest_items w inside) ≡ calls inside → length (if b then forest_items w inside else item_of w e path ∷ []) ≡ (if b then calls inside else 1)
-      by true h = h
-      by false h = refl
 
   -- each call has its item, and each name its variable
   pub bins_whole : (w : World) → ((e : Entry) → AreNames job w e) → (k : ℕ) (fs : List Forest) → k + length (flat_map (forest_items w) fs) ≤ length job.items → All (IsTree job) (bin_trees w k fs)

@@ -1,12 +1,16 @@
 -- A job is whole where the stages before it have found no fault.
-use Rattle.std.proofs.Common.{◌≡◌, ◌≢◌, refl, ap, sym, subst, ℕ, ◌*◌, ◌-◌, ◌^◌, ◌≤◌, ◌<◌, Bool, true, false, nat_lt, ltb-false, pos, negsuc, List, length, get_or, Some, None, Ok, if◌then◌else◌, codes, arith, ◌+◌}
+use Rattle.std.proofs.Common.{◌≡◌, ◌≢◌, ◌⊎◌, inl, inr, refl, ap, sym, subst, ◌∙◌, ℕ, ◌*◌, ◌-◌, ◌^◌, ◌≤◌, ◌<◌, Bool, true, false, nat_lt, ltb-false, pos, negsuc, List, length, get_or, take, Some, None, Ok, if◌then◌else◌, codes, arith, ◌+◌}
 use Rattle.std.proofs.lemmas.Int.{ints}
+use Rattle.std.proofs.lemmas.List.{get_or-take, length-take}
 use Rattle.std.specs.List.{flat_map}
 use Rattle.std.specs.Prelude.{All, AllPairs, slice_index_or}
 use Rattle.cx_grid.specs.Boxes.{point_count}
 use Rattle.cx_grid.specs.Grid.{IsShape, whole}
-use Rattle.cx_plan.specs.Lists.{or_else}
-use Rattle.cx_plan.specs.Whole.{IsName, IsStored, IsItem, IsTree, IsWhole, grid_levels}
+use Rattle.cx_plan.specs.Lists.{or_else, first_of_each}
+use Rattle.cx_plan.specs.Whole.{IsName, IsStored, IsItem, IsSmall, IsTree, IsWhole, grid_levels}
+use Rattle.cx_plan.specs.Setups.{setup_of}
+use Rattle.cx_plan.specs.Lookups.{item, no_item}
+use Rattle.cx_plan.specs.Regions.{run_items}
 use Rattle.cx_plan.specs.declared.variable.VarId.{VarId}
 use Rattle.cx_plan.specs.declared.variable.VarInfo.{VarInfo}
 use Rattle.cx_plan.specs.declared.item.Item.{Item}
@@ -21,12 +25,15 @@ use Rattle.cx_order.specs.Files.{input_of}
 use Rattle.cx_order.specs.Ordering.{IsPlan, world}
 use Rattle.cx_order.specs.Meanings.{World}
 use Rattle.cx_order.specs.Plans.{Forest, forests, forest_items, bin_trees}
+use Rattle.cx_rule.specs.declared.spec.Spec.{Spec}
 use Rattle.cx_job.specs.declared.fault.JobFault.TheVariants.{Limit}
-use Rattle.cx_job.specs.JobLimits.{over, item_limits, points_fault, cells_fault, grid_limits, key_limit, limit_fault}
+use Rattle.cx_job.specs.JobLimits.{over, writes_fault, reads_fault, parameters_fault, item_limits, points_fault, cells_fault, grid_limits, key_limit, limit_fault}
 use Rattle.cx_job.specs.Jobs.{job_of}
+use Rattle.cx_job.specs.Read.{AreRead}
 use Rattle.cx_job.specs.Outputs.{output_variables}
 use Rattle.cx_job.specs.Stored.{in_64_bits, stored_infos}
 use Rattle.cx_job.specs.Grids.{number_at}
+use Rattle.cx_job.specs.Making.{run_count, Matches}
 use Rattle.cx_job.proofs.NoneLaws.{some_none, first_none, second_none}
 use Rattle.cx_job.proofs.LimitLaws.{lies_within, natural_lies_within, has_shape}
 use Rattle.cx_job.proofs.WrittenLaws.{outputs_stored, outputs_rise}
@@ -34,6 +41,10 @@ use Rattle.cx_job.proofs.StoredLaws.{as_many_stored, each_stored, names_kept, st
 use Rattle.cx_job.proofs.SupportedLaws.{no_two_variables, one_level, few_variables as few_declared}
 use Rattle.cx_job.proofs.TreeLaws.{bins_whole}
 use Rattle.cx_job.proofs.NamesLaws.{are_names}
+use Rattle.cx_job.proofs.MeantLaws.{all_none}
+use Rattle.cx_job.proofs.MatchedLaws.{IsMatched, as_many_matched, matched_or_kept}
+use Rattle.cx_job.proofs.TouchLaws.{matched_whole, planned_whole}
+use Rattle.cx_job.proofs.RunLaws.{called_of_plan}
 use Rattle.cx_job.proofs.PlanFacts.{each_variable, each_bin, not_deep, not_large, no_more_levels}
 
 -- ---- limits
@@ -52,11 +63,6 @@ pub record IsSound (thorns : List Thorn) (files : List ScheduleFile) (values : V
   pub few : (let job = job_of thorns values ordered items out_vars in limit_fault run job.items job.shape job.vars job.key) ≡ None
   pub written : output_variables thorns values ordered.storage ≡ Ok out_vars
 
--- what readers have made sure of
-pub record AreRead (infos : List VarInfo) : Type 0 where
-  pub names : All (λ (v : VarInfo). IsName v.full) infos
-  pub levels : All (λ (v : VarInfo). v.levels ≤ 8) infos
-
 at_most : (a b c : ℕ) → a ≤ b → b ≤ c → a ≤ c
 at_most a b c h i = omega arith
 
@@ -68,6 +74,9 @@ module _ (thorns : List Thorn) (files : List ScheduleFile) (values : Values) (ru
 
   behind_items : or_else (grid_limits job.shape job.vars) (key_limit job.key) ≡ None
   behind_items = second_none (item_limits run job.items) (or_else (grid_limits job.shape job.vars) (key_limit job.key)) sound.few
+
+  pub items_fit : item_limits run job.items ≡ None
+  items_fit = first_none (item_limits run job.items) (or_else (grid_limits job.shape job.vars) (key_limit job.key)) sound.few
 
   grid_fits : grid_limits job.shape job.vars ≡ None
   grid_fits = first_none (grid_limits job.shape job.vars) (key_limit job.key) behind_items
@@ -135,9 +144,9 @@ module _ (thorns : List Thorn) (files : List ScheduleFile) (values : Values) (ru
 
   -- ---- all together
 
-  -- Of the items it is left to show that they touch what is there and are within their limits.
-  pub whole_with : AreRead (variable_infos thorns) → length items ≡ length ordered.items → All (IsItem job) job.items → IsWhole job
-  whole_with read as_many of_items =
+  -- Of the items it is left to show that they touch what is there, and that those that are run are within their limits.
+  whole_with : AreRead (variable_infos thorns) → length items ≡ length ordered.items → All (IsItem job) job.items → All (λ k. IsSmall (item (setup_of job) k)) (run_items (setup_of job)) → IsWhole job
+  whole_with read as_many of_items small =
       let iterations = natural_lies_within values 0 1000000 (codes "Cactus::cctk_itlast") (omega arith) in
       let turns = natural_lies_within values 1 1000000 (codes "driver::while_limit") (omega arith) in
       let ahead = natural_lies_within values 0 64 (codes "driver::lead") (omega arith) in
@@ -151,6 +160,7 @@ module _ (thorns : List Thorn) (files : List ScheduleFile) (values : Values) (ru
         one_level = one_of_scalars;
         levels_limit = few_levels read;
         items = of_items;
+        run_items = small;
         bins = each_bin (input_of thorns files values) ordered sound.planned;
         trees = trees_named as_many;
         nodes_limit = not_large (input_of thorns files values) ordered sound.planned;
@@ -171,3 +181,75 @@ module _ (thorns : List Thorn) (files : List ScheduleFile) (values : Values) (ru
         cells_limit = few_cells;
         key_limit = short_key;
       }
+
+-- ---- items that were matched
+
+module _ (thorns : List Thorn) (files : List ScheduleFile) (values : Values) (specs : List Spec) (ordered : Ordered) (items : List Item) (out_vars : List VarId)
+    (sound : IsSound thorns files values (run_count ordered.plan) ordered items out_vars) (matches : Matches thorns values specs ordered (Ok items)) where
+  abbrev made : Job
+  made = job_of thorns values ordered items out_vars
+
+  abbrev seen : World
+  seen = record { thorns = thorns; sight = matches.sight; storage = ordered.storage }
+
+  abbrev run : ℕ
+  run = run_count ordered.plan
+
+  as_many : length items ≡ length ordered.items
+  as_many = as_many_matched seen values specs run ordered.items items (sym matches.items)
+
+  each_stored_level : length ordered.storage ≡ length (variable_infos thorns)
+  each_stored_level = ap (λ (o : Ordered). length o.storage) sound.planned.is_planned ∙ each_variable thorns sound.planned.sight sound.planned.c.lines
+
+  of_plan : All (IsItem made) ordered.items
+  of_plan =
+      let w : World = world (input_of thorns files values) sound.planned.c sound.planned.sight in
+      let vars : made.vars ≡ stored_infos w.thorns w.storage = ap (λ (o : Ordered). stored_infos thorns o.storage) sound.planned.is_planned in
+      subst (λ xs. All (IsItem made) xs) (sym (ap (λ (o : Ordered). o.items) sound.planned.is_planned))
+      (planned_whole made w vars (each_variable thorns sound.planned.sight sound.planned.c.lines) (forests sound.planned.c.entries sound.planned.orders))
+
+  -- an item that isn't run has the touches of its schedule line, and each other one those of its routine
+  of_items : All (IsItem made) items
+  of_items k d within = by (matched_or_kept seen values specs run ordered.items items (sym matches.items) k d d there)
+    where
+      there : k < length ordered.items
+      there = (let same = as_many in omega (arith, within, same))
+
+      by : ((k < run) × IsMatched seen values specs (get_or ordered.items k d) (get_or items k d)) ⊎ ((run ≤ k) × (get_or items k d ≡ get_or ordered.items k d)) → IsItem made (get_or items k d)
+      by (inl is) = matched_whole made seen refl each_stored_level values specs (get_or ordered.items k d) (get_or items k d) is.1
+      by (inr is) = subst (λ x. IsItem made x) (sym is.1) (of_plan k d there)
+
+  -- what is within a limit for each of the first items
+  first_within : (what : List ℕ) (size : Item → ℕ) (limit : ℕ) → first_of_each (λ x. over what (size x) limit) (take run items) ≡ None → (k : ℕ) → k < run → k < length items → size (get_or items k no_item) ≤ limit
+  first_within what size limit none k low there =
+      let long = length-take run items in
+      let at : get_or (take run items) k no_item ≡ get_or items k no_item = get_or-take run items k no_item low in
+      not_over what (size (get_or items k no_item)) limit
+      (subst (λ x. over what (size x) limit ≡ None) at (all_none (λ x. over what (size x) limit) (take run items) none k no_item (omega (arith, long, low, there))))
+
+  small_at : (k : ℕ) → k < run → k < length items → IsSmall (get_or items k no_item)
+  small_at k low there =
+      let first : List Item = take run items in
+      let none : item_limits run items ≡ None = items_fit thorns files values run ordered items out_vars sound in
+      let behind = second_none (first_of_each writes_fault first) (or_else (first_of_each reads_fault first) (first_of_each parameters_fault first)) none in
+      record {
+        reads = first_within (codes "reads") (λ x. length x.reads) 32 (first_none (first_of_each reads_fault first) (first_of_each parameters_fault first) behind) k low there;
+        writes = first_within (codes "writes") (λ x. length x.writes) 16 (first_none (first_of_each writes_fault first) (or_else (first_of_each reads_fault first) (first_of_each parameters_fault first)) none) k low there;
+        params = first_within (codes "parameters") (λ x. length x.params) 32 (second_none (first_of_each reads_fault first) (first_of_each parameters_fault first) behind) k low there;
+      }
+
+  small_items : All (λ k. IsSmall (item (setup_of made) k)) (run_items (setup_of made))
+  small_items i d within =
+      let k : ℕ = get_or (run_items (setup_of made)) i d in
+      let at = called_of_plan (input_of thorns files values) ordered sound.planned (setup_of made) refl i d within in
+      let same = as_many in
+      small_at k at.0 (omega (arith, at.1, same))
+
+-- A job is whole where its parts are sound, its thorns were read and its items matched.
+pub is_whole : (thorns : List Thorn) (files : List ScheduleFile) (values : Values) (specs : List Spec) (ordered : Ordered) (items : List Item) (out_vars : List VarId)
+    → IsSound thorns files values (run_count ordered.plan) ordered items out_vars → AreRead (variable_infos thorns) → Matches thorns values specs ordered (Ok items) → IsWhole (job_of thorns values ordered items out_vars)
+is_whole thorns files values specs ordered items out_vars sound read matches =
+    whole_with thorns files values (run_count ordered.plan) ordered items out_vars sound read
+    (as_many thorns files values specs ordered items out_vars sound matches)
+    (of_items thorns files values specs ordered items out_vars sound matches)
+    (small_items thorns files values specs ordered items out_vars sound matches)

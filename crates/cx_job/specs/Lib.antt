@@ -10,3 +10,5 @@ pub mod Matching
 pub mod Lookups
 pub mod Shelf
 pub mod Reading
+pub mod Read
+pub mod Making

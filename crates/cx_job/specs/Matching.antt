@@ -3,9 +3,9 @@ use Rattle.std.specs.Prelude.{◌≡◌, ◌⊎◌, ℕ, ◌+◌, ◌-◌, ◌==
 use Rattle.std.specs.List.{list_all, list_any, flat_map, enumerate_from}
 use Rattle.cx_text.specs.Lexemes.{same_name, among}
 use Rattle.cx_plan.specs.Lists.{all_ok}
+use Rattle.cx_plan.specs.Regions.{same_region}
 use Rattle.cx_plan.specs.declared.variable.VarId.{VarId}
 use Rattle.cx_plan.specs.declared.item.Region.{Region}
-use Rattle.cx_plan.specs.declared.item.Region.TheVariants.{Interior, Boundary, Everywhere}
 use Rattle.cx_plan.specs.declared.item.Touch.{Touch}
 use Rattle.cx_plan.specs.declared.item.Item.{Item}
 use Rattle.cx_plan.specs.declared.item.ItemKind.{ItemKind}
@@ -91,17 +91,6 @@ abbrev pub param_number : Values → List ℕ → Option ℤ
 param_number v name = if among starred name then None else number v name None
 
 -- ---- comparing
-
-abbrev pub same_region : Region → Region → Bool
-same_region Interior Interior = true
-same_region Boundary Boundary = true
-same_region Everywhere Everywhere = true
-same_region Interior Boundary = false
-same_region Interior Everywhere = false
-same_region Boundary Interior = false
-same_region Boundary Everywhere = false
-same_region Everywhere Interior = false
-same_region Everywhere Boundary = false
 
 -- one variable, level and region, whatever the reach
 abbrev pub same_touch : Touch → Touch → Bool

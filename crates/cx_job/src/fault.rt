@@ -5,6 +5,7 @@ ghost use Rattle.cx_job.specs.declared.fault.JobFault.TheVariants as faults;
 
 use cx_bind::BindFault;
 use cx_order::OrderFault;
+use cx_region::RegionFault;
 use cx_text::{CclFault, Memory, Text, TextFault};
 use cx_values::ValueFault;
 use std::alloc::{AllocError, AllocFailed};
@@ -30,6 +31,8 @@ pub enum JobFault {
     RoutineMismatch(Text, Text, Text),
     /// More of these than may be.
     Limit(Text, u64),
+    /// A routine might read a point that nobody has filled.
+    Region(RegionFault),
     /// Memory is wanting.
     Memory,
 }

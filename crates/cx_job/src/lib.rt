@@ -2,6 +2,8 @@
 #![tactic(auto)]
 
 mod built_in;
+mod configuring;
+mod counting;
 mod cuts;
 mod direction;
 mod fault;
@@ -13,6 +15,7 @@ mod keys;
 mod limits;
 mod lines;
 mod lookup;
+mod making;
 mod matching;
 mod mismatch;
 mod outputs;
@@ -20,10 +23,12 @@ mod reading;
 mod refs;
 mod run_numbers;
 mod shelf;
+mod stages;
 mod starred;
 mod stored;
 
 pub(crate) use direction::Direction;
 pub use fault::JobFault;
 pub use folder::FolderShelf;
+pub use making::make_job;
 pub use shelf::{MemoryShelf, Shelf, ShelfFault};

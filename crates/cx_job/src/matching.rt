@@ -1,9 +1,10 @@
 //! Items matched with routines.
 
-ghost use Rattle.std.specs.Prelude.{◌≡◌, ◌≤◌, ◌<◌, map, length, position, IfOk, IfSome};
+ghost use Rattle.std.specs.Prelude.{◌≡◌, ◌≤◌, ◌<◌, ◌^◌, map, length, position, IfOk, IfSome};
 ghost use Rattle.std.specs.List.{list_any, list_all};
 ghost use Rattle.cx_scope.specs.Closures.{thorns_in, sight_in};
-ghost use Rattle.cx_job.specs.Matching.{thorn_number as number_of_thorn, same_region as is_one_region, same_touch as is_one_touch, all_among as are_among, same_touches as are_same, offer_by as offer_of, offer as offer_told, fits as is_fitting, completed as completed_by, matched_with as told_with, is_for as is_its, routine_number as number_of_routine, matched as told, matched_if_run as told_if_run, all_matched as all_told, Answers};
+ghost use Rattle.cx_plan.specs.Regions.{same_region as is_one_region};
+ghost use Rattle.cx_job.specs.Matching.{thorn_number as number_of_thorn, same_touch as is_one_touch, all_among as are_among, same_touches as are_same, offer_by as offer_of, offer as offer_told, fits as is_fitting, completed as completed_by, matched_with as told_with, is_for as is_its, routine_number as number_of_routine, matched as told, matched_if_run as told_if_run, all_matched as all_told, Answers};
 ghost use Rattle.cx_job.specs.Lookups.{world_of, world_in, IsOfBound, IsBound, HasThorn};
 
 use crate::JobFault;
@@ -157,14 +158,6 @@ fn matched_with(
     }
 }
 
-/// The thorns, of which there are few.
-fn few_thorns(bound: &Bound) -> &[Thorn]
-    ensures thorns { result.now ≡ bound.now }
-    ensures few { length result.now ≤ 64 }
-{
-    bound.thorns().as_slice()
-}
-
 fn place_of(thorns: &[Thorn], name: &[u8]) -> Option<usize>
     ensures place { result ≡ number_of_thorn thorns.now name.now }
     ensures within { IfSome result (λ place. place < length thorns.now) }
@@ -179,7 +172,7 @@ fn thorn_number(bound: &Bound, name: &[u8]) -> Option<u32>
     ensures number { result ≡ number_of_thorn bound.now name.now }
     ensures within { IfSome result (λ number. number < length bound.now) }
 {
-    match place_of(few_thorns(bound), name) {
+    match place_of(bound.thorns().as_slice(), name) {
         Some(place) => Some(place as u32),
         None => None,
     }
@@ -207,16 +200,6 @@ fn routine_number(specs: &[&Spec], item: &Item) -> Option<usize>
     place_for(specs, item)
 }
 
-/// A number of 32 bits; one that is greater counts as want of memory.
-fn number_of(place: usize) -> Result<u32, Memory>
-    ensures { IfOk result (λ number. number ≡ place) }
-{
-    match u32::try_from(place) {
-        Ok(number) => Ok(number),
-        Err(_) => Err(Memory),
-    }
-}
-
 impl<'a> Routines<'a> {
     /// What the names of an item's routine are looked up in.
     fn lookup(&self, item: &Item) -> Lookup<'a>
@@ -236,19 +219,19 @@ impl<'a> Routines<'a> {
 
     /// An item with the first routine of its thorn and name.
     fn matched(&self, alloc: Global, item: Item) -> Result<Item, JobFault>
-        requires { IsBound self.now }
+        requires bound { IsBound self.now }
+        requires few { length self.now.specs.now ≤ 2 ^ 32 }
         ensures { Answers (told (world_in self.now) self.now.values.now (map (λ s. s.now) self.now.specs.now) item) result }
     {
         match routine_number(self.specs, &item) {
             Some(place) => {
-                let routine = number_of(place)?;
                 let lookup = self.lookup(&item);
                 matched_with(
                     alloc,
                     &lookup,
                     self.values,
                     item,
-                    routine,
+                    place as u32,
                     self.specs[place],
                 )
             }
@@ -264,7 +247,8 @@ impl<'a> Routines<'a> {
         number: usize,
         item: Item,
     ) -> Result<Item, JobFault>
-        requires { IsBound self.now }
+        requires bound { IsBound self.now }
+        requires few { length self.now.specs.now ≤ 2 ^ 32 }
         ensures { Answers (told_if_run (world_in self.now) self.now.values.now (map (λ s. s.now) self.now.specs.now) run (number, item)) result }
     {
         if number < run {
@@ -288,7 +272,8 @@ impl<'a> Routines<'a> {
         run: usize,
         items: List<Item>,
     ) -> Result<List<Item>, JobFault>
-        requires { IsBound self.now }
+        requires bound { IsBound self.now }
+        requires few { length self.now.specs.now ≤ 2 ^ 32 }
         ensures { Answers (all_told (world_in self.now) self.now.values.now (map (λ s. s.now) self.now.specs.now) run items) result }
     {
         let mut matched = List::empty(alloc);

@@ -10,7 +10,7 @@ ghost use Rattle.cx_job.specs.Lookups.{world_of, IsOfBound, HasThorn};
 
 use crate::JobFault;
 use crate::lookup::{Lookup, param_number};
-use cx_order::{push_level, region_text};
+use cx_order::{level_text, region_text};
 use cx_plan::{Item, Region, Touch, VarId, VarInfo};
 use cx_rule::{Spec, Want};
 use cx_text::{Memory, Text};
@@ -26,6 +26,7 @@ fn variable<'a>(lookup: &Lookup<'a>, variable: VarId) -> Option<&'a VarInfo>
 
 fn push_level_name(
     text: &mut Text,
+    alloc: Global,
     lookup: &Lookup<'_>,
     var: VarId,
     level: u8,
@@ -33,26 +34,36 @@ fn push_level_name(
     ensures { OnOk result (text.new ≡ text.old ++ level_name (world_of lookup.now) var level) }
 {
     match variable(lookup, var) {
-        Some(info) => push_level(text, info.full.as_slice(), level),
+        Some(info) => text.push_slice(level_text(alloc, info.full.as_slice(), level)?.as_slice()),
         None => Ok(()),
     }
 }
 
-fn push_touch(text: &mut Text, lookup: &Lookup<'_>, touch: &Touch) -> Result<(), Memory>
+fn push_touch(
+    text: &mut Text,
+    alloc: Global,
+    lookup: &Lookup<'_>,
+    touch: &Touch,
+) -> Result<(), Memory>
     ensures { OnOk result (text.new ≡ text.old ++ touch_text (world_of lookup.now) touch.now) }
 {
     text.push_slice(b" ")?;
-    push_level_name(text, lookup, touch.var, touch.level)?;
+    push_level_name(text, alloc, lookup, touch.var, touch.level)?;
     text.push_slice(b"(")?;
     text.push_slice(region_text(touch.region))?;
     text.push_slice(b")")
 }
 
-fn push_each_touch(text: &mut Text, lookup: &Lookup<'_>, touches: &[Touch]) -> Result<(), Memory>
+fn push_each_touch(
+    text: &mut Text,
+    alloc: Global,
+    lookup: &Lookup<'_>,
+    touches: &[Touch],
+) -> Result<(), Memory>
     ensures { OnOk result (text.new ≡ text.old ++ flat_map (touch_text (world_of lookup.now)) touches.now) }
 {
     'touches: for touch in touches {
-        push_touch(text, lookup, touch)?;
+        push_touch(text, alloc, lookup, touch)?;
     }
     Ok(())
 }
@@ -60,6 +71,7 @@ fn push_each_touch(text: &mut Text, lookup: &Lookup<'_>, touches: &[Touch]) -> R
 /// Adds what an item reads or writes behind a word, unless it is nothing.
 fn push_touches(
     text: &mut Text,
+    alloc: Global,
     lookup: &Lookup<'_>,
     word: &[u8],
     touches: &[Touch],
@@ -70,7 +82,7 @@ fn push_touches(
         return Ok(());
     }
     text.push_slice(word)?;
-    push_each_touch(text, lookup, touches)
+    push_each_touch(text, alloc, lookup, touches)
 }
 
 /// Adds a name that means no one level.
@@ -90,7 +102,7 @@ fn push_want(text: &mut Text, alloc: Global, lookup: &Lookup<'_>, want: &Want) -
     ensures { OnOk result (text.new ≡ text.old ++ want_text (world_of lookup.now) want.now (touch_of (world_of lookup.now) lookup.now.thorn want.now)) }
 {
     match lookup.touch_of(alloc, want)? {
-        Some(touch) => push_touch(text, lookup, &touch),
+        Some(touch) => push_touch(text, alloc, lookup, &touch),
         None => push_named(text, want.name.as_slice(), want.region),
     }
 }
@@ -196,8 +208,14 @@ fn declared_text(alloc: Global, lookup: &Lookup<'_>, item: &Item) -> Result<Text
     ensures { IfOk result (λ text. text ≡ declared_told (world_of lookup.now) item.now) }
 {
     let mut parts = Text::from_slice(alloc, b"")?;
-    push_touches(&mut parts, lookup, b" reads", item.reads.as_slice())?;
-    push_touches(&mut parts, lookup, b" writes", item.writes.as_slice())?;
+    push_touches(&mut parts, alloc, lookup, b" reads", item.reads.as_slice())?;
+    push_touches(
+        &mut parts,
+        alloc,
+        lookup,
+        b" writes",
+        item.writes.as_slice(),
+    )?;
     enclosed(alloc, parts.as_slice())
 }
 

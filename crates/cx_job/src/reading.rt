@@ -4,6 +4,8 @@ ghost use Rattle.std.specs.Prelude.{◌≡◌, ◌≢◌, ◌⊎◌, IfOk, Optio
 ghost use Rattle.cx_text.specs.declared.fault.TextFault.TheVariants as texts;
 ghost use Rattle.cx_text.specs.declared.fault.CclFault.TheVariants as trees;
 ghost use Rattle.cx_text.specs.declared.token.Style.TheVariants as styles;
+ghost use Rattle.cx_text.specs.Printing.{HasText};
+ghost use Rattle.cx_plan.specs.Whole.{IsName};
 ghost use Rattle.cx_iface.specs.File.{interface};
 ghost use Rattle.cx_param.specs.Params.{params};
 ghost use Rattle.cx_sched.specs.Nodes.{schedule};
@@ -13,6 +15,7 @@ ghost use Rattle.cx_parfile.specs.ParFile.{parameter_file};
 ghost use Rattle.cx_parfile.specs.Values.{base_of};
 ghost use Rattle.cx_job.specs.declared.fault.JobFault.TheVariants as faults;
 ghost use Rattle.cx_job.specs.Reading.{Comes, ConfAnd, File, FileOr, Follows, ParamsAnd, ScheduleAnd, ThornSays, file_names, made, no_configuration, thorn_file, IsTree, TextTokens, Tokens, TokensIfAny};
+ghost use Rattle.cx_job.specs.Read.{AreNamed, HasNames, IsReadThorn, SayOf};
 
 use crate::fault::JobFault;
 use crate::shelf::{Shelf, ShelfFault};
@@ -113,7 +116,8 @@ fn required_tokens<H: Shelf>(
     name: &Text,
     style: Style,
 ) -> Result<List<Token>, JobFault>
-    ensures { Follows H.tells (λ files. Tokens style name.now (files name.now)) (H.held shelf.old) (H.held shelf.new) (H.faults shelf.old) (H.faults shelf.new) result }
+    ensures follows { Follows H.tells (λ files. Tokens style name.now (files name.now)) (H.held shelf.old) (H.held shelf.new) (H.faults shelf.old) (H.faults shelf.new) result }
+    ensures spelled { IfOk result (λ tokens. HasText style tokens) }
 {
     match bytes_of(alloc, shelf, name)? {
         Some(bytes) => text_tokens(alloc, name, &bytes, style),
@@ -152,7 +156,8 @@ fn interface_file<H: Shelf>(
     shelf: &mut H,
     name: &Text,
 ) -> Result<Interface, JobFault>
-    ensures { Follows H.tells (File styles.Ccl interface name.now) (H.held shelf.old) (H.held shelf.new) (H.faults shelf.old) (H.faults shelf.new) result }
+    ensures follows { Follows H.tells (File styles.Ccl interface name.now) (H.held shelf.old) (H.held shelf.new) (H.faults shelf.old) (H.faults shelf.new) result }
+    ensures read { IfOk result HasNames }
 {
     let tokens = required_tokens(alloc, shelf, name, Style::Ccl)?;
     named_tree(alloc, name, read_interface(alloc, &tokens))
@@ -183,19 +188,24 @@ fn schedule_file<H: Shelf>(
 }
 
 /// What the list of thorns of this name says.
-fn thorn_list_file<H: Shelf>(
+pub(crate) fn thorn_list_file<H: Shelf>(
     alloc: Global,
     shelf: &mut H,
     name: &Text,
 ) -> Result<ThornList, JobFault>
-    ensures { Follows H.tells (File styles.Thorns thorn_list.derives name.now) (H.held shelf.old) (H.held shelf.new) (H.faults shelf.old) (H.faults shelf.new) result }
+    ensures follows { Follows H.tells (File styles.Thorns thorn_list.derives name.now) (H.held shelf.old) (H.held shelf.new) (H.faults shelf.old) (H.faults shelf.new) result }
+    ensures read { IfOk result (λ list. AreNamed list.places) }
 {
     let tokens = required_tokens(alloc, shelf, name, Style::Thorns)?;
     named_tree(alloc, name, read_thornlist(alloc, &tokens))
 }
 
 /// What the parameter file of this name says.
-fn settings_file<H: Shelf>(alloc: Global, shelf: &mut H, name: &Text) -> Result<Settings, JobFault>
+pub(crate) fn settings_file<H: Shelf>(
+    alloc: Global,
+    shelf: &mut H,
+    name: &Text,
+) -> Result<Settings, JobFault>
     ensures { Follows H.tells (File styles.Par (parameter_file (base_of name.now)).derives name.now) (H.held shelf.old) (H.held shelf.new) (H.faults shelf.old) (H.faults shelf.new) result }
 {
     let base = base_of(alloc, name)?;
@@ -258,7 +268,8 @@ fn conf_and<H: Shelf>(
     params: List<ParamDecl>,
     schedule: ScheduleFile,
 ) -> Result<ThornFiles, JobFault>
-    ensures { Follows H.tells (ConfAnd place.now names.now interface params schedule) (H.held shelf.old) (H.held shelf.new) (H.faults shelf.old) (H.faults shelf.new) result }
+    ensures follows { Follows H.tells (ConfAnd place.now names.now interface params schedule) (H.held shelf.old) (H.held shelf.new) (H.faults shelf.old) (H.faults shelf.new) result }
+    ensures says { IfOk result (λ files. SayOf place.now interface files) }
 {
     let conf = configuration_file(alloc, shelf, &names.conf)?;
     let thorn = made(alloc, place, interface, params, conf)?;
@@ -274,7 +285,8 @@ fn schedule_and<H: Shelf>(
     interface: Interface,
     params: List<ParamDecl>,
 ) -> Result<ThornFiles, JobFault>
-    ensures { Follows H.tells (ScheduleAnd place.now names.now interface params) (H.held shelf.old) (H.held shelf.new) (H.faults shelf.old) (H.faults shelf.new) result }
+    ensures follows { Follows H.tells (ScheduleAnd place.now names.now interface params) (H.held shelf.old) (H.held shelf.new) (H.faults shelf.old) (H.faults shelf.new) result }
+    ensures says { IfOk result (λ files. SayOf place.now interface files) }
 {
     let schedule = schedule_file(alloc, shelf, &names.schedule)?;
     conf_and(alloc, shelf, place, names, interface, params, schedule)
@@ -288,7 +300,8 @@ fn params_and<H: Shelf>(
     names: &FileNames,
     interface: Interface,
 ) -> Result<ThornFiles, JobFault>
-    ensures { Follows H.tells (ParamsAnd place.now names.now interface) (H.held shelf.old) (H.held shelf.new) (H.faults shelf.old) (H.faults shelf.new) result }
+    ensures follows { Follows H.tells (ParamsAnd place.now names.now interface) (H.held shelf.old) (H.held shelf.new) (H.faults shelf.old) (H.faults shelf.new) result }
+    ensures says { IfOk result (λ files. SayOf place.now interface files) }
 {
     let params = param_file(alloc, shelf, &names.params)?;
     schedule_and(alloc, shelf, place, names, interface, params)
@@ -301,7 +314,8 @@ fn thorn_says<H: Shelf>(
     place: &(Text, Text),
     names: &FileNames,
 ) -> Result<ThornFiles, JobFault>
-    ensures { Follows H.tells (ThornSays place.now names.now) (H.held shelf.old) (H.held shelf.new) (H.faults shelf.old) (H.faults shelf.new) result }
+    ensures follows { Follows H.tells (ThornSays place.now names.now) (H.held shelf.old) (H.held shelf.new) (H.faults shelf.old) (H.faults shelf.new) result }
+    ensures read { IfOk result (λ files. IsName place.now.1 → IsReadThorn files.thorn) }
 {
     let interface = interface_file(alloc, shelf, &names.interface)?;
     params_and(alloc, shelf, place, names, interface)
@@ -344,7 +358,8 @@ pub(crate) fn thorn_files<H: Shelf>(
     shelf: &mut H,
     place: &(Text, Text),
 ) -> Result<ThornFiles, JobFault>
-    ensures { Follows H.tells (ThornSays place.now (file_names place.now)) (H.held shelf.old) (H.held shelf.new) (H.faults shelf.old) (H.faults shelf.new) result }
+    ensures follows { Follows H.tells (ThornSays place.now (file_names place.now)) (H.held shelf.old) (H.held shelf.new) (H.faults shelf.old) (H.faults shelf.new) result }
+    ensures read { IfOk result (λ files. IsName place.now.1 → IsReadThorn files.thorn) }
 {
     let names = file_names(alloc, place)?;
     thorn_says(alloc, shelf, place, &names)

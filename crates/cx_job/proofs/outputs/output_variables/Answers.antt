@@ -15,7 +15,7 @@ returns c =
     let thorns = c.as_slice-thorns.ensures ∙ c.thorns.ensures.thorns in
     as_told c.args.bound.now c.args.values.now c.args.storage.now c.written_by.result
     (c.as_slice-5.ensures ∙ c.in_ok-names.ensures)
-    (c.as_slice.ensures ∙ c.variables.ensures)
+    (c.as_slice.ensures ∙ c.variables.ensures.variables)
     (c.as_slice-2.ensures ∙ c.in_ok-groups.ensures ∙ ap (λ (ts : List Thorn). full_groups ts) thorns)
     (c.as_slice-3.ensures ∙ c.in_ok-places.ensures ∙ ap (λ (ts : List Thorn). group_places ts) thorns)
     c.as_slice-4.ensures c.written_by.ensures

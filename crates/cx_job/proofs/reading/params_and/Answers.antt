@@ -5,16 +5,16 @@ use Rattle.cx_job.specs.Reading.{File, ScheduleAnd}
 use Rattle.cx_job.proofs.ReadingLaws as laws
 use Rattle.cx_job.proofs.reading.params_and.Goals as goal
 
-pub returns-in_err-params : goal.returns-in_err-params
-returns-in_err-params g c =
+pub returns-in_err-params-clause-follows : goal.returns-in_err-params-clause-follows
+returns-in_err-params-clause-follows g c =
     let p = err_from_is_err_and c.from_residual.result c.from_residual.ensures.1 in
     rw (p.1, p.2) (laws.halted g.H.Shelf.tells (File styles.Ccl params.derives c.args.names.now.params) (λ h ps. ScheduleAnd c.args.place.now c.args.names.now c.args.interface ps h)
     (g.H.Shelf.held c.args.shelf.now) (g.H.Shelf.held c.param_file.new.shelf)
     (g.H.Shelf.faults c.args.shelf.now) (g.H.Shelf.faults c.param_file.new.shelf)
     c.in_err-params.field-0.0 c.in_err-params.ensures)
 
-pub returns : goal.returns
-returns g c = laws.passed g.H.Shelf.tells (File styles.Ccl params.derives c.args.names.now.params) (λ h ps. ScheduleAnd c.args.place.now c.args.names.now c.args.interface ps h)
+pub returns-clause-follows : goal.returns-clause-follows
+returns-clause-follows g c = laws.passed g.H.Shelf.tells (File styles.Ccl params.derives c.args.names.now.params) (λ h ps. ScheduleAnd c.args.place.now c.args.names.now c.args.interface ps h)
     (g.H.Shelf.held c.args.shelf.now) (g.H.Shelf.held c.param_file.new.shelf) (g.H.Shelf.held c.schedule_and.new.shelf)
     (g.H.Shelf.faults c.args.shelf.now) (g.H.Shelf.faults c.param_file.new.shelf) (g.H.Shelf.faults c.schedule_and.new.shelf)
-    c.in_ok-params.params c.schedule_and.result c.in_ok-params.ensures c.schedule_and.ensures
+    c.in_ok-params.params c.schedule_and.result c.in_ok-params.ensures c.schedule_and.ensures.follows

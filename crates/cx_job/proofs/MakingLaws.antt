@@ -1,0 +1,256 @@
+-- The stages from thorns to a job, one behind another.
+use Rattle.std.proofs.Common.{◌≡◌, ◌≢◌, ◌∙◌, sym, ap, subst, refl, ◌⊎◌, inl, inr, ℕ, Bool, true, false, List, [], ◌∷◌, map, Option, Some, None, Result, Ok, Err, nat_lt, take, codes, if◌then◌else◌, arith}
+use Rattle.std.specs.Prelude.{option_map, MatchResult}
+use Rattle.std.specs.List.{enumerate_from}
+use Rattle.cx_plan.specs.Lists.{all_ok, with_next, or_else, first_of_each}
+use Rattle.cx_plan.specs.declared.item.Item.{Item}
+use Rattle.cx_plan.specs.declared.job.Job.{Job}
+use Rattle.cx_plan.specs.declared.variable.VarId.{VarId}
+use Rattle.cx_parfile.specs.declared.settings.Setting.{Setting}
+use Rattle.cx_sched.specs.declared.tree.ScheduleFile.{ScheduleFile}
+use Rattle.cx_bind.specs.Binding.{bind_fault}
+use Rattle.cx_bind.specs.declared.thorns.BindFault.{BindFault}
+use Rattle.cx_bind.specs.declared.thorns.Thorn.{Thorn}
+use Rattle.cx_values.specs.Faults.{assign_fault}
+use Rattle.cx_values.specs.Assigned.{assigned}
+use Rattle.cx_values.specs.declared.fault.ValueFault.{ValueFault}
+use Rattle.cx_values.specs.declared.values.Values.{Values}
+use Rattle.cx_order.specs.Files.{Input, input_of}
+use Rattle.cx_order.specs.Meanings.{World}
+use Rattle.cx_order.specs.declared.ordered.Ordered.{Ordered}
+use Rattle.cx_order.specs.declared.fault.OrderFault.TheVariants as orders
+use Rattle.cx_rule.specs.declared.spec.Spec.{Spec}
+use Rattle.cx_disk.specs.Cause.{HasCause}
+use Rattle.cx_job.specs.declared.fault.JobFault.{JobFault}
+use Rattle.cx_job.specs.declared.fault.JobFault.TheVariants as faults
+use Rattle.cx_job.specs.declared.configuring.Configured.{Configured}
+use Rattle.cx_job.specs.declared.matching.Offer.{Offer}
+use Rattle.cx_job.specs.Shelf.{Held}
+use Rattle.cx_job.specs.Stored.{in_64_bits}
+use Rattle.cx_job.specs.Jobs.{job_of}
+use Rattle.cx_job.specs.Outputs.{output_variables}
+use Rattle.cx_job.specs.Reading.{Stage, Then, Follows}
+use Rattle.cx_job.specs.JobLimits.{over, writes_fault, reads_fault, parameters_fault, each_limit, item_limits, points_fault, cells_fault, grid_limits, key_limit, limit_fault}
+use Rattle.cx_job.specs.Matching.{completed, matched, matched_by, spec_at, with_routine, matched_if_run, all_matched, fits, mismatch, offer, routine_number, thorn_number}
+use Rattle.cx_job.specs.Making.{Is, unless, or_fault, Orders, Matches, Accepts, LimitsAnd, ItemsAnd, OutputsAnd, PlanAnd, ValuesAnd, MadeOf, Made, Makes, Configures, Yields, written, within_limits, run_count}
+use Rattle.cx_job.proofs.OnlyMade.{made_one}
+
+abbrev err : (A : Type 0) → JobFault → Result A JobFault
+err A e = Err e
+
+abbrev okay : Configured → Result Configured JobFault
+okay c = Ok c
+
+-- ---- two stages
+
+moved : (A B : Type 0) (e f : JobFault) → err B e ≡ err B f → err A e ≡ err A f
+moved A B e f h = let same : e ≡ f = cc in ap (err A) same
+
+pub yields_halt : {A B : Type 0} (p : Stage A) (q : A → Stage B) (e : JobFault) → Yields p (err A e) → Yields (Then p q) (err B e)
+yields_halt {A} {B} p q e (inl m) = inl (moved B A e faults.Memory m)
+yields_halt {A} {B} p q e (inr s) = inr (inl (e, s, refl))
+
+pub yields_pass : {A B : Type 0} (p : Stage A) (q : A → Stage B) (x : A) (r : Result B JobFault) → Yields p (Ok x) → Yields (q x) r → Yields (Then p q) r
+yields_pass p q x r (inl m) b = absurd cc
+yields_pass p q x r (inr s) (inl m) = inl m
+yields_pass p q x r (inr s) (inr t) = inr (inr (x, s, t))
+
+-- the value of a stage without a fault
+pub unless_ok : {A : Type 0} (o : Option JobFault) (x y : A) → Yields (Is (unless o x)) (Ok y) → (o ≡ None) × (y ≡ x)
+unless_ok None x y (inl m) = absurd cc
+unless_ok None x y (inr s) = (refl, cc)
+unless_ok (Some e) x y (inl m) = absurd cc
+unless_ok (Some e) x y (inr s) = absurd cc
+
+-- a stage that has given its value
+pub yields_ok : {A : Type 0} (p : Stage A) (x : A) → Yields p (Ok x) → p (Ok x)
+yields_ok p x (inl m) = absurd cc
+yields_ok p x (inr s) = s
+
+-- ---- no stage behind the files tells that the shelf failed
+
+abbrev NotShelf : Option JobFault → Type 0
+NotShelf o = o ≢ Some faults.Shelf
+
+then_not : {A B : Type 0} (p : Stage A) (q : A → Stage B) → (p (err A faults.Shelf) → ⊥) → ((x : A) → q x (err B faults.Shelf) → ⊥) → Then p q (err B faults.Shelf) → ⊥
+then_not {A} {B} p q first second (inl (e, s, z)) = (let same : e ≡ faults.Shelf = cc in first (subst (λ f. p (err A f)) same s))
+then_not p q first second (inr (x, s, t)) = second x t
+
+unless_not : {A : Type 0} (o : Option JobFault) (x : A) → NotShelf o → err A faults.Shelf ≡ unless o x → ⊥
+unless_not None x other z = absurd cc
+unless_not (Some e) x other z = other (let same : e ≡ faults.Shelf = cc in ap (λ f. Some f) same)
+
+bind_not : (o : Option BindFault) → NotShelf (option_map faults.Bind o)
+bind_not None z = absurd cc
+bind_not (Some e) z = absurd cc
+
+value_not : (o : Option ValueFault) → NotShelf (option_map faults.Value o)
+value_not None z = absurd cc
+value_not (Some e) z = absurd cc
+
+or_fault_not : {A F : Type 0} (as_job : F → JobFault) (r : Result A F) → ((f : F) → as_job f ≢ faults.Shelf) → err A faults.Shelf ≡ or_fault as_job r → ⊥
+or_fault_not as_job (Ok x) other z = absurd cc
+or_fault_not as_job (Err f) other z = other f (let same : faults.Shelf ≡ as_job f = cc in sym same)
+
+-- ---- limits
+
+or_else_not : (a b : Option JobFault) → NotShelf a → NotShelf b → NotShelf (or_else a b)
+or_else_not None b first second = second
+or_else_not (Some e) b first second = first
+
+each_not : {X : Type 0} (f : X → Option JobFault) (xs : List X) → ((x : X) → NotShelf (f x)) → NotShelf (first_of_each f xs)
+each_not f [] all = λ z. absurd cc
+each_not f (x ∷ xs) all = or_else_not (f x) (first_of_each f xs) (all x) (each_not f xs all)
+
+over_not : (what : List ℕ) (number limit : ℕ) → NotShelf (over what number limit)
+over_not what number limit = by (nat_lt limit number)
+  where
+    by : (b : Bool) → NotShelf (if b then Some (faults.Limit what (in_64_bits number)) else None)
+    by true z = absurd cc
+    by false z = absurd cc
+
+each_limit_not : (items : List Item) → NotShelf (each_limit items)
+each_limit_not items =
+    or_else_not (first_of_each writes_fault items) (or_else (first_of_each reads_fault items) (first_of_each parameters_fault items))
+    (each_not writes_fault items (λ x. over_not _ _ _))
+    (or_else_not (first_of_each reads_fault items) (first_of_each parameters_fault items) (each_not reads_fault items (λ x. over_not _ _ _)) (each_not parameters_fault items (λ x. over_not _ _ _)))
+
+limits_not : (run : ℕ) (job : Job) → NotShelf (limit_fault run job.items job.shape job.vars job.key)
+limits_not run job =
+    or_else_not (item_limits run job.items) (or_else (grid_limits job.shape job.vars) (key_limit job.key)) (each_limit_not (take run job.items))
+    (or_else_not (grid_limits job.shape job.vars) (key_limit job.key) (or_else_not (points_fault job.shape) (cells_fault job.shape job.vars) (over_not _ _ _) (over_not _ _ _)) (over_not _ _ _))
+
+-- ---- items
+
+next_not : {Y : Type 0} (r : Result Y JobFault) (rest : Result (List Y) JobFault) → r ≢ err Y faults.Shelf → (err (List Y) faults.Shelf ≡ rest → ⊥) → err (List Y) faults.Shelf ≡ with_next r rest → ⊥
+next_not {Y} (Err e) rest first second z = first (let same : faults.Shelf ≡ e = cc in ap (err Y) (sym same))
+next_not (Ok x) (Ok xs) first second z = absurd cc
+next_not {Y} (Ok x) (Err e) first second z = second (let same : faults.Shelf ≡ e = cc in ap (err (List Y)) same)
+
+all_not : {X Y : Type 0} (f : X → Result Y JobFault) (xs : List X) → ((x : X) → f x ≢ err Y faults.Shelf) → err (List Y) faults.Shelf ≡ all_ok (map f xs) → ⊥
+all_not f [] other z = absurd cc
+all_not f (x ∷ xs) other z = next_not (f x) (all_ok (map f xs)) (other x) (all_not f xs other) z
+
+module _ (w : World) (v : Values) where
+  by_not : (t : Option ℕ) (x : Item) (k : ℕ) (s : Spec) (o : Option Offer) → matched_by w v t x k s o ≢ err Item faults.Shelf
+  by_not t x k s None z = absurd cc
+  by_not t x k s (Some o) z = either (fits x o) z
+    where
+      either : (b : Bool) → (if b then Ok (completed x k s.kind o) else Err (mismatch w v t x s)) ≡ err Item faults.Shelf → ⊥
+      either true z = absurd cc
+      either false z = absurd cc
+
+  with_not : (x : Item) (s : Option (ℕ × Spec)) → with_routine w v x s ≢ err Item faults.Shelf
+  with_not x None z = absurd cc
+  with_not x (Some s) z = by_not (thorn_number w.thorns x.thorn) x s.0 s.1 (offer w v (thorn_number w.thorns x.thorn) s.1) z
+
+  if_run_not : (specs : List Spec) (run : ℕ) (x : ℕ × Item) → matched_if_run w v specs run x ≢ err Item faults.Shelf
+  if_run_not specs run x z = either (nat_lt x.0 run) z
+    where
+      either : (b : Bool) → (if b then matched w v specs x.1 else Ok x.1) ≡ err Item faults.Shelf → ⊥
+      either true z = with_not x.1 (spec_at specs (routine_number specs x.1)) z
+      either false z = absurd cc
+
+  matches_not : (specs : List Spec) (run : ℕ) (items : List Item) → err (List Item) faults.Shelf ≡ all_matched w v specs run items → ⊥
+  matches_not specs run items z = all_not (matched_if_run w v specs run) (enumerate_from 0 items) (if_run_not specs run) z
+
+-- ---- all stages
+
+accepts_not : (job : Job) → Accepts job (err Job faults.Shelf) → ⊥
+accepts_not job (fault, is, other, told) = absurd cc
+
+limits_and_not : (run : ℕ) (job : Job) → LimitsAnd run job (err Job faults.Shelf) → ⊥
+limits_and_not run job = then_not (Is (within_limits run job)) Accepts (unless_not (limit_fault run job.items job.shape job.vars job.key) job (limits_not run job)) accepts_not
+
+module _ (specs : List Spec) where
+  items_not : (thorns : List Thorn) (values : Values) (ordered : Ordered) → Matches thorns values specs ordered (err (List Item) faults.Shelf) → ⊥
+  items_not thorns values ordered m = matches_not (record { thorns = thorns; sight = m.sight; storage = ordered.storage }) values specs (run_count ordered.plan) ordered.items m.items
+
+  items_and_not : (thorns : List Thorn) (values : Values) (ordered : Ordered) (out_vars : List VarId) → ItemsAnd specs thorns values ordered out_vars (err Job faults.Shelf) → ⊥
+  items_and_not thorns values ordered out_vars =
+      then_not (Matches thorns values specs ordered) (λ items. LimitsAnd (run_count ordered.plan) (job_of thorns values ordered items out_vars)) (items_not thorns values ordered)
+      (λ items. limits_and_not (run_count ordered.plan) (job_of thorns values ordered items out_vars))
+
+  outputs_not : (thorns : List Thorn) (values : Values) (ordered : Ordered) → OutputsAnd specs thorns values ordered (err Job faults.Shelf) → ⊥
+  outputs_not thorns values ordered =
+      then_not (Is (written thorns values ordered.storage)) (ItemsAnd specs thorns values ordered)
+      (or_fault_not (λ f. faults.Order (orders.Scope (codes "output") f)) (output_variables thorns values ordered.storage) (λ f z. absurd cc)) (items_and_not thorns values ordered)
+
+  order_not : (input : Input) → Orders input (err Ordered faults.Shelf) → ⊥
+  order_not input (fault, is, other, told) = absurd cc
+
+  plan_not : (thorns : List Thorn) (schedules : List ScheduleFile) (values : Values) → PlanAnd specs thorns schedules values (err Job faults.Shelf) → ⊥
+  plan_not thorns schedules values = then_not (Orders (input_of thorns schedules values)) (OutputsAnd specs thorns values) (order_not (input_of thorns schedules values)) (outputs_not thorns values)
+
+  values_not : (schedules : List ScheduleFile) (settings : List Setting) (thorns : List Thorn) → ValuesAnd specs schedules settings thorns (err Job faults.Shelf) → ⊥
+  values_not schedules settings thorns =
+      then_not (Is (unless (option_map faults.Value (assign_fault thorns settings)) (assigned thorns settings))) (PlanAnd specs thorns schedules)
+      (unless_not (option_map faults.Value (assign_fault thorns settings)) (assigned thorns settings) (value_not (assign_fault thorns settings))) (plan_not thorns schedules)
+
+  made_not : (c : Configured) → MadeOf specs c (err Job faults.Shelf) → ⊥
+  made_not c =
+      then_not (Is (unless (option_map faults.Bind (bind_fault c.thorns)) c.thorns)) (ValuesAnd specs c.schedules c.settings.list)
+      (unless_not (option_map faults.Bind (bind_fault c.thorns)) c.thorns (bind_not (bind_fault c.thorns))) (values_not c.schedules c.settings.list)
+
+  pub yields_not : (c : Configured) (r : Result Job JobFault) → Yields (MadeOf specs c) r → r ≢ err Job faults.Shelf
+  yields_not c r (inl m) z = absurd cc
+  yields_not c r (inr s) z = made_not c (subst (λ (v : Result Job JobFault). MadeOf specs c v) z s)
+
+  -- ---- over a shelf
+
+  since : (before now : ℕ) (c : Configured) (r : Result Job JobFault) → HasCause faults.Shelf before now (okay c) → r ≢ err Job faults.Shelf → HasCause faults.Shelf before now r
+  since before now c (Ok v) cause other = record { later = cause.later; failed = λ z. absurd cc }
+  since before now c (Err e) cause other = record { later = cause.later; failed = λ z. absurd (other z) }
+
+  made_answers : (name : List ℕ) (files : Held) (c : Configured) (r : Result Job JobFault) → (okay c ≡ err Configured faults.Memory) ⊎ (okay c ≡ err Configured faults.Shelf) ⊎ Configures name files (Ok c) → Yields (MadeOf specs c) r → (r ≡ err Job faults.Memory) ⊎ (r ≡ err Job faults.Shelf) ⊎ Made name specs files r
+  made_answers name files c r (inl m) b = absurd cc
+  made_answers name files c r (inr (inl m)) b = absurd cc
+  made_answers name files c r (inr (inr s)) (inl m) = inl m
+  made_answers name files c r (inr (inr s)) (inr t) = inr (inr (inr (c, s, t)))
+
+  -- where a stage gives its value, a job is made of this
+  pass_only : (name : List ℕ) (files : Held) (c : Configured) (r : Result Job JobFault) (job : Job) → ((d : Configured) → Configures name files (Ok d) → c ≡ d) → Yields (MadeOf specs c) r → Made name specs files (Ok job) → MatchResult r (λ found. found ≡ job) (λ e. (e ≡ faults.Memory) ⊎ (e ≡ faults.Shelf))
+  pass_only name files c r job one b (inl (e, s, z)) = absurd cc
+  pass_only name files c r job one (inl m) (inr (d, s, t)) = subst (λ (v : Result Job JobFault). MatchResult v (λ found. found ≡ job) (λ e. (e ≡ faults.Memory) ⊎ (e ≡ faults.Shelf))) (sym m) (inl refl)
+  pass_only name files c r job one (inr b) (inr (d, s, t)) =
+      let made = made_one specs c job r (subst (λ (v : Configured). MadeOf specs v (Ok job)) (sym (one d s)) t) b in
+      subst (λ (v : Result Job JobFault). MatchResult v (λ found. found ≡ job) (λ e. (e ≡ faults.Memory) ⊎ (e ≡ faults.Shelf))) (sym made) refl
+
+  halt_only : (name : List ℕ) (files : Held) (e : JobFault) (job : Job) → ((d : Configured) → Configures name files (Ok d) → (e ≡ faults.Memory) ⊎ (e ≡ faults.Shelf)) → Made name specs files (Ok job) → (e ≡ faults.Memory) ⊎ (e ≡ faults.Shelf)
+  halt_only name files e job one (inl (f, s, z)) = absurd cc
+  halt_only name files e job one (inr (d, s, t)) = one d s
+
+  pub makes_pass : (tells : Type 0) (name : List ℕ) (h0 h1 : Held) (f0 f1 : ℕ) (c : Configured) (r : Result Job JobFault) → Follows tells (Configures name) h0 h1 f0 f1 (Ok c) → Yields (MadeOf specs c) r → Makes tells (Made name specs) h0 h1 f0 f1 r
+  makes_pass tells name h0 h1 f0 f1 c r a b = record { answers = λ t. made_answers name h0 c r (a.answers t) b; only = λ t job made. pass_only name h0 c r job (a.only t) b made; same = a.same; cause = since f0 f1 c r a.cause (yields_not c r b) }
+
+  halt_answers : (name : List ℕ) (files : Held) (e : JobFault) → (err Configured e ≡ err Configured faults.Memory) ⊎ (err Configured e ≡ err Configured faults.Shelf) ⊎ Configures name files (Err e) → (err Job e ≡ err Job faults.Memory) ⊎ (err Job e ≡ err Job faults.Shelf) ⊎ Made name specs files (Err e)
+  halt_answers name files e (inl m) = inl (moved Job Configured e faults.Memory m)
+  halt_answers name files e (inr (inl m)) = inr (inl (moved Job Configured e faults.Shelf m))
+  halt_answers name files e (inr (inr s)) = inr (inr (inl (e, s, refl)))
+
+  pub makes_halt : (tells : Type 0) (name : List ℕ) (h0 h1 : Held) (f0 f1 : ℕ) (e : JobFault) → Follows tells (Configures name) h0 h1 f0 f1 (Err e) → Makes tells (Made name specs) h0 h1 f0 f1 (err Job e)
+  makes_halt tells name h0 h1 f0 f1 e a = record {
+    answers = λ t. halt_answers name h0 e (a.answers t);
+    only = λ t job made. halt_only name h0 e job (a.only t) made;
+    same = a.same;
+    cause = record { later = a.cause.later; failed = λ z. a.cause.failed (moved Configured Job e faults.Shelf z) };
+  }
+
+  pub makes_memory : (tells : Type 0) (name : List ℕ) (h : Held) (f : ℕ) → Makes tells (Made name specs) h h f f (err Job faults.Memory)
+  makes_memory tells name h f = record {
+    answers = λ t. inl refl;
+    only = λ t job made. inl refl;
+    same = λ t. refl;
+    cause = record { later = omega arith; failed = λ z. absurd cc };
+  }
+
+-- ---- the limits, one after another
+
+pub key_over : (run : ℕ) (job : Job) (e : JobFault) → item_limits run job.items ≡ None → grid_limits job.shape job.vars ≡ None → (e ≡ faults.Memory) ⊎ (key_limit job.key ≡ Some e) → Yields (Is (within_limits run job)) (err Job e)
+key_over run job e items grid (inl m) = inl (ap (err Job) m)
+key_over run job e items grid (inr key) =
+    inr
+    (sym
+    (ap (λ (o : Option JobFault). unless (or_else o (or_else (grid_limits job.shape job.vars) (key_limit job.key))) job) items
+    ∙ ap (λ (o : Option JobFault). unless (or_else o (key_limit job.key)) job) grid
+    ∙ ap (λ (o : Option JobFault). unless o job) key))

@@ -1,0 +1,127 @@
+-- What the stages from thorns to a job make sure of.
+use Rattle.std.proofs.Common.{◌≡◌, ◌∙◌, sym, ap, subst, refl, ◌<◌, ◌+◌, inl, inr, ℕ, List, [], ◌∷◌, ◌++◌, map, length, take, get_or, Option, Some, None, Result, Ok, Err, IfOk}
+use Rattle.std.proofs.lemmas.List.{map-append, take_more}
+use Rattle.cx_plan.specs.Setups.{setup_of}
+use Rattle.cx_plan.specs.Whole.{IsWhole}
+use Rattle.cx_plan.specs.declared.item.Item.{Item}
+use Rattle.cx_plan.specs.declared.job.Job.{Job}
+use Rattle.cx_plan.specs.declared.variable.VarId.{VarId}
+use Rattle.cx_sched.specs.declared.tree.ScheduleFile.{ScheduleFile}
+use Rattle.cx_bind.specs.Variables.{variable_infos}
+use Rattle.cx_bind.specs.declared.thorns.Thorn.{Thorn}
+use Rattle.cx_values.specs.declared.values.Values.{Values}
+use Rattle.cx_scope.specs.Sight.{Sight, Tells}
+use Rattle.cx_order.specs.Files.{input_of}
+use Rattle.cx_order.specs.Meanings.{World}
+use Rattle.cx_order.specs.declared.ordered.Ordered.{Ordered}
+use Rattle.cx_rule.specs.Jobs.{FitJob}
+use Rattle.cx_rule.specs.declared.spec.Spec.{Spec}
+use Rattle.cx_job.specs.declared.fault.JobFault.{JobFault}
+use Rattle.cx_job.specs.declared.fault.JobFault.TheVariants as faults
+use Rattle.cx_job.specs.JobLimits.{limit_fault}
+use Rattle.cx_job.specs.Jobs.{job_of}
+use Rattle.cx_job.specs.Outputs.{output_variables}
+use Rattle.cx_job.specs.Matching.{all_matched, Answers}
+use Rattle.cx_job.specs.Read.{AreRead}
+use Rattle.cx_job.specs.Making.{Is, Orders, Matches, Accepts, LimitsAnd, ItemsAnd, OutputsAnd, PlanAnd, Yields, IsReady, IsPlanned, written, within_limits, run_count}
+use Rattle.cx_job.proofs.MakingLaws.{yields_halt, yields_pass, yields_ok, unless_ok}
+use Rattle.cx_job.proofs.WholeJobs.{is_whole}
+use Rattle.cx_job.proofs.FitLaws.{fits}
+
+abbrev err : (A : Type 0) → JobFault → Result A JobFault
+err A e = Err e
+
+-- ---- what objects say of themselves
+
+-- what is kept of the first ones, with one more
+pub kept_one : {X Y Z : Type 0} (f : X → Z) (g : Y → Z) (xs xs2 : List X) (x : X) (ys : List Y) (k : ℕ) (y : Y) → k < length ys → y ≡ get_or ys k y → f x ≡ g y → map f xs ≡ map g (take k ys) → xs2 ≡ xs ++ x ∷ [] → map f xs2 ≡ map g (take (k + 1) ys)
+kept_one f g xs xs2 x ys k y within at one before after =
+    ap (map f) after ∙ map-append f xs (x ∷ []) ∙ ap (λ zs. zs ++ f x ∷ []) before ∙ ap (λ z. map g (take k ys) ++ z ∷ []) one
+    ∙ ap (λ v. map g (take k ys) ++ g v ∷ []) at ∙ sym (map-append g (take k ys) (get_or ys k y ∷ [])) ∙ ap (map g) (sym (take_more ys k y within))
+
+-- ---- items by what the thorns see
+
+pub matches_of : (thorns : List Thorn) (values : Values) (specs : List Spec) (ordered : Ordered) (sight : Sight) (run : ℕ) (items : List Item) → Tells thorns sight → run ≡ run_count ordered.plan → items ≡ ordered.items → (r : Result (List Item) JobFault) → Answers (all_matched (record { thorns = thorns; sight = sight; storage = ordered.storage }) values specs run items) r → Yields (Matches thorns values specs ordered) r
+matches_of thorns values specs ordered sight run items told counted taken = by
+  where
+    w : World
+    w = record { thorns = thorns; sight = sight; storage = ordered.storage }
+
+    same : all_matched w values specs run items ≡ all_matched w values specs (run_count ordered.plan) ordered.items
+    same = ap (λ k. all_matched w values specs k items) counted ∙ ap (all_matched w values specs (run_count ordered.plan)) taken
+
+    by : (r : Result (List Item) JobFault) → Answers (all_matched w values specs run items) r → Yields (Matches thorns values specs ordered) r
+    by (Ok xs) is = inr (record { sight = sight; told = told; items = sym is ∙ same })
+    by (Err e) (inl m) = inl (ap (err (List Item)) m)
+    by (Err e) (inr is) = inr (record { sight = sight; told = told; items = sym is ∙ same })
+
+-- ---- the job, of a plan whose items were taken out to be matched
+
+module _ (specs : List Spec) (thorns : List Thorn) (values : Values) (ordered : Ordered) (out_vars : List VarId) where
+  abbrev job_by : List Item → Job
+  job_by items = job_of thorns values ordered items out_vars
+
+  abbrev limits : ℕ → Job → Option JobFault
+  limits run job = limit_fault run job.items job.shape job.vars job.key
+
+  module _ (left : Ordered) (run : ℕ) (items : List Item) (taken : left ≡ record ordered { items = [] }) (counted : run ≡ run_count ordered.plan) where
+    abbrev job_left : Job
+    job_left = job_of thorns values left items out_vars
+
+    one_job : job_left ≡ job_by items
+    one_job = ap (λ (o : Ordered). job_of thorns values o items out_vars) taken
+
+    limits_too : (r : Result Job JobFault) → Yields (LimitsAnd run job_left) r → Yields (LimitsAnd (run_count ordered.plan) (job_by items)) r
+    limits_too r here = subst (λ k. Yields (LimitsAnd k (job_by items)) r) counted (subst (λ j. Yields (LimitsAnd run j) r) one_job here)
+
+    pub over_limits : (e : JobFault) → Yields (Matches thorns values specs ordered) (Ok items) → Yields (Is (within_limits run job_left)) (err Job e) → Yields (ItemsAnd specs thorns values ordered out_vars) (err Job e)
+    over_limits e matches limited =
+        yields_pass (Matches thorns values specs ordered) (λ items. LimitsAnd (run_count ordered.plan) (job_by items)) items (Err e) matches
+        (limits_too (Err e) (yields_halt (Is (within_limits run job_left)) Accepts e limited))
+
+    pub items_made : (job : Job) (r : Result Job JobFault) → Yields (Matches thorns values specs ordered) (Ok items) → Yields (Is (within_limits run job_left)) (Ok job) → Yields (Accepts job) r → Yields (ItemsAnd specs thorns values ordered out_vars) r
+    items_made job r matches limited accepted =
+        yields_pass (Matches thorns values specs ordered) (λ items. LimitsAnd (run_count ordered.plan) (job_by items)) items r matches
+        (limits_too r (yields_pass (Is (within_limits run job_left)) Accepts job r limited accepted))
+
+    module _ (job : Job) (matches : Yields (Matches thorns values specs ordered) (Ok items)) (limited : Yields (Is (within_limits run job_left)) (Ok job)) (planned : IsPlanned thorns values ordered) where
+      the_job : job ≡ job_by items
+      the_job = (unless_ok (limits run job_left) job_left job limited).1 ∙ one_job
+
+      none_over : limits (run_count ordered.plan) (job_by items) ≡ None
+      none_over =
+          subst (λ k. limits k (job_by items) ≡ None) counted
+          (subst (λ j. limits run j ≡ None) one_job (unless_ok (limits run job_left) job_left job limited).0)
+
+      pub whole_of : AreRead (variable_infos thorns) → output_variables thorns values ordered.storage ≡ Ok out_vars → IsWhole job
+      whole_of read outputs =
+          subst IsWhole (sym the_job)
+          (is_whole thorns planned.files values specs ordered items out_vars (record { fit = planned.fit; planned = planned.plan; few = none_over; written = outputs }) read (yields_ok (Matches thorns values specs ordered) items matches))
+
+      pub fit_of : FitJob specs (setup_of job)
+      fit_of =
+          subst (λ (j : Job). FitJob specs (setup_of j)) (sym the_job)
+          (fits thorns planned.files values specs ordered items out_vars planned.plan (yields_ok (Matches thorns values specs ordered) items matches))
+
+pub ready_of : (specs : List Spec) (job : Job) (r : Result Job JobFault) → IsWhole job → FitJob specs (setup_of job) → Yields (Accepts job) r → IfOk r (IsReady specs)
+ready_of specs job (Err e) whole fit accepted = tt
+ready_of specs job (Ok other) whole fit (inl m) = absurd cc
+ready_of specs job (Ok other) whole fit (inr s) = subst (IsReady specs) (sym s.0) (record { whole = whole; shapes = s.1; sound = s.2; fit = fit })
+
+-- ---- the plan and the variables that are written
+
+module _ (specs : List Spec) (thorns : List Thorn) (schedules : List ScheduleFile) (values : Values) where
+  pub unwritten : (ordered : Ordered) (e : JobFault) → Yields (Orders (input_of thorns schedules values)) (Ok ordered) → Yields (Is (written thorns values ordered.storage)) (err (List VarId) e) → Yields (PlanAnd specs thorns schedules values) (err Job e)
+  unwritten ordered e plan told =
+      yields_pass (Orders (input_of thorns schedules values)) (OutputsAnd specs thorns values) ordered (Err e) plan (yields_halt (Is (written thorns values ordered.storage)) (ItemsAnd specs thorns values ordered) e told)
+
+  pub plan_made : (ordered : Ordered) (out_vars : List VarId) (r : Result Job JobFault) → Yields (Orders (input_of thorns schedules values)) (Ok ordered) → Yields (Is (written thorns values ordered.storage)) (Ok out_vars) → Yields (ItemsAnd specs thorns values ordered out_vars) r → Yields (PlanAnd specs thorns schedules values) r
+  plan_made ordered out_vars r plan told made =
+      yields_pass (Orders (input_of thorns schedules values)) (OutputsAnd specs thorns values) ordered r plan (yields_pass (Is (written thorns values ordered.storage)) (ItemsAnd specs thorns values ordered) out_vars r told made)
+
+-- ---- the answer
+
+-- what holds of a job that is ready
+pub if_ready : (specs : List Spec) (P : Job → Type 0) (r : Result Job JobFault) → ((job : Job) → IsReady specs job → P job) → IfOk r (IsReady specs) → IfOk r P
+if_ready specs P (Ok job) each ready = each job ready
+if_ready specs P (Err e) each ready = tt

@@ -1,0 +1,50 @@
+//! How many items the bins that are run call.
+
+ghost use Rattle.std.specs.Prelude.{◌≡◌, ◌≤◌, ◌-◌, ◌^◌, length, min, take};
+ghost use Rattle.std.specs.List.{flat_map};
+ghost use Rattle.cx_plan.specs.Lookups.{called};
+ghost use Rattle.cx_job.specs.Making.{run_count as run_told};
+
+use cx_plan::{Schedule, Tree};
+
+/// How many bins are run: the first ones.
+const RUN_BINS: usize = 13;
+
+/// How many items a tree calls, each call counted; more than a `usize` holds count as its greatest.
+#[cycle(tree)]
+fn count_tree(tree: &Tree) -> usize
+    ensures { result ≡ min (length (called tree.now)) (2 ^ 64 - 1) }
+{
+    match tree {
+        Tree::Seq(trees) => count_trees(trees.as_slice()),
+        Tree::Call(_) => 1,
+        Tree::Sync(_, _) => 0,
+        Tree::If(_, _, work) => count_tree(work.get()),
+        Tree::While(_, _, work) => count_tree(work.get()),
+    }
+}
+
+#[cycle(tree)]
+fn count_trees(trees: &[Tree]) -> usize
+    ensures { result ≡ min (length (flat_map called trees.now)) (2 ^ 64 - 1) }
+{
+    let mut count = 0_usize;
+    'trees: for tree in trees {
+        count = count.saturating_add(count_tree(tree));
+    }
+    count
+}
+
+fn run_bins(bins: &[Tree]) -> &[Tree]
+    ensures { result.now ≡ take 13 bins.now }
+{
+    &bins[..RUN_BINS.min(bins.len())]
+}
+
+/// How many items the bins that are run call.
+pub(crate) fn run_count(plan: &Schedule) -> usize
+    requires few { run_told plan.now ≤ 4096 }
+    ensures { result ≡ run_told plan.now }
+{
+    count_trees(run_bins(plan.bins.as_slice()))
+}

@@ -1,0 +1,138 @@
+//! The job that files make.
+
+ghost use Rattle.std.specs.Prelude.{◌≡◌, ◌≤◌, ◌^◌, length, map, None, Ok, IfOk};
+ghost use Rattle.cx_plan.specs.Setups.{setup_of};
+ghost use Rattle.cx_plan.specs.Regions.{HasShapes};
+ghost use Rattle.cx_plan.specs.Paths.{Sound};
+ghost use Rattle.cx_plan.specs.Whole.{IsWhole};
+ghost use Rattle.cx_rule.specs.Jobs.{FitJob};
+ghost use Rattle.cx_bind.specs.Binding.{bind_fault};
+ghost use Rattle.cx_bind.specs.Variables.{variable_infos};
+ghost use Rattle.cx_job.specs.Outputs.{output_variables};
+ghost use Rattle.cx_job.specs.Read.{AreRead};
+ghost use Rattle.cx_job.specs.Making.{Made, Makes, MadeOf, PlanAnd, ItemsAnd, Yields, IsReady, IsPlanned};
+
+use crate::configuring::{Configured, configure};
+use crate::counting::run_count;
+use crate::fault::JobFault;
+use crate::shelf::Shelf;
+use crate::stages::{accepted, assign_all, bind_all, limited, matched, order_all, written};
+use cx_bind::Bound;
+use cx_order::Ordered;
+use cx_plan::{Job, VarId};
+use cx_rule::{Routine, Spec};
+use cx_sched::ScheduleFile;
+use cx_text::{List, Text};
+use cx_values::Values;
+use std::alloc::{AllocError, Global};
+
+/// What an object says of itself.
+fn said_by(routine: &Box<dyn Routine>) -> &Spec
+    ensures { result.now ≡ spec_of routine.now }
+{
+    routine.spec()
+}
+
+/// What the objects say of themselves.
+fn specs_of(alloc: Global, routines: &[Box<dyn Routine>]) -> Result<Vec<&Spec>, AllocError>
+    ensures { IfOk result (λ specs. map (λ s. s.now) specs.items ≡ map spec_of routines.now) }
+{
+    let mut specs = Vec::new(alloc);
+    'routines: for routine in routines {
+        specs.push(said_by(routine))?;
+    }
+    Ok(specs)
+}
+
+/// The items matched, and what follows them.
+fn items_and(
+    alloc: Global,
+    specs: &[&Spec],
+    bound: &Bound,
+    values: &Values,
+    ordered: Ordered,
+    out_vars: List<VarId>,
+) -> Result<Job, JobFault>
+    requires few { length specs.now ≤ 2 ^ 32 }
+    requires read { AreRead (variable_infos bound.now) }
+    requires planned { IsPlanned bound.now values.now ordered }
+    requires written { output_variables bound.now values.now ordered.storage ≡ Ok out_vars }
+    ensures made { Yields (ItemsAnd (map (λ s. s.now) specs.now) bound.now values.now ordered out_vars) result }
+    ensures ready { IfOk result (IsReady (map (λ s. s.now) specs.now)) }
+{
+    let mut ordered = ordered;
+    let run = run_count(&ordered.plan);
+    let items = matched(alloc, bound, values, specs, run, &mut ordered)?;
+    let job = limited(alloc, bound, values, run, ordered, items, out_vars)?;
+    accepted(alloc, job)
+}
+
+/// The plan and the variables that are written, and what follows them.
+fn plan_and(
+    alloc: Global,
+    specs: &[&Spec],
+    bound: &Bound,
+    schedules: &List<ScheduleFile>,
+    values: &Values,
+) -> Result<Job, JobFault>
+    requires few { length specs.now ≤ 2 ^ 32 }
+    requires read { AreRead (variable_infos bound.now) }
+    requires fit { bind_fault bound.now ≡ None }
+    requires as_many { length schedules.now ≡ length bound.now }
+    ensures made { Yields (PlanAnd (map (λ s. s.now) specs.now) bound.now schedules.now values.now) result }
+    ensures ready { IfOk result (IsReady (map (λ s. s.now) specs.now)) }
+{
+    let ordered = order_all(alloc, bound, schedules, values)?;
+    let out_vars = written(alloc, bound, values, &ordered.storage)?;
+    items_and(alloc, specs, bound, values, ordered, out_vars)
+}
+
+/// The job of what the files of a configuration say.
+fn made_of(alloc: Global, configured: Configured, specs: &[&Spec]) -> Result<Job, JobFault>
+    requires few { length specs.now ≤ 2 ^ 32 }
+    requires read { AreRead (variable_infos configured.thorns) }
+    requires as_many { length configured.schedules ≡ length configured.thorns }
+    ensures made { Yields (MadeOf (map (λ s. s.now) specs.now) configured) result }
+    ensures ready { IfOk result (IsReady (map (λ s. s.now) specs.now)) }
+{
+    let Configured {
+        settings,
+        thorns,
+        schedules,
+    } = configured;
+    let bound = bind_all(alloc, thorns)?;
+    let values = assign_all(alloc, &bound, &settings)?;
+    plan_and(alloc, specs, &bound, &schedules, &values)
+}
+
+/// The job that a parameter file makes, with the list of thorns `ThornList`, the active thorns' files and the objects of routines that are
+/// handed in, at most 2^32 of them.
+///
+/// The stages stand in this order, and the first fault counts. The parameter file; the list of thorns; each active thorn's place in it;
+/// per thorn `interface.ccl`, `param.ccl`, `schedule.ccl` and `configuration.ccl` under `arrangements/Arrangement/Thorn/`, of which the
+/// last one may be absent; binding; the parameters' values; the plan; the variables that are written, sought by their full names; the
+/// items' routines, in the order of items; the limits; and the check that no routine reads a point that nobody has filled.
+///
+/// Shelf: the shelf failed. NoFile: a file isn't there. Text, Ccl: a file's text has no tokens, or its tokens spell nothing. Bind, Value,
+/// Order, Region: the fault of that stage; Order has the path `output` for a name in `IO::out_vars`. UnknownRoutine: no object has the
+/// thorn and the name of an item of a bin that is run. RoutineMismatch: its Spec names other variables, levels or regions than
+/// READS and WRITES, a name that means no one level, or a parameter that no thorn can use or that has no number. Limit: an item has more than
+/// 16 `writes`, 32 `reads` or 32 `parameters`, the grid more than 2^24 `points`, or its stored levels together more than 2^26 `owned cells`, or the
+/// `key` is longer than 2^32 - 1 bytes.
+pub fn make_job<H: Shelf>(
+    alloc: Global,
+    shelf: &mut H,
+    name: &Text,
+    routines: &[Box<dyn Routine>],
+) -> Result<Job, JobFault>
+    requires few { length routines.now ≤ 2 ^ 32 }
+    ensures made { Makes H.tells (Made name.now (map spec_of routines.now)) (H.held shelf.old) (H.held shelf.new) (H.faults shelf.old) (H.faults shelf.new) result }
+    ensures whole { IfOk result IsWhole }
+    ensures sound { IfOk result (λ job. HasShapes (setup_of job) × Sound (setup_of job)) }
+    // The objects fit the job.
+    ensures fit { IfOk result (λ job. FitJob (map spec_of routines.now) (setup_of job)) }
+{
+    let specs = specs_of(alloc, routines)?;
+    let configured = configure(alloc, shelf, name)?;
+    made_of(alloc, configured, &specs)
+}
