@@ -1,12 +1,14 @@
 pub mod Fronts
-pub mod OneRow
 pub mod Filled
 pub mod TurnSteps
 pub mod GoesOn
-pub mod FirstTwo
+pub mod Matched
 pub mod OutMore
 pub mod Near
-pub mod SettingLaws
-pub mod FileLaws
+pub mod ServedLaws
+pub mod Explaining
+pub mod ForJob
 pub mod Clauses
 mod Rows
+mod FaultRows
+mod CallRows

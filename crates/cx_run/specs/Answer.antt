@@ -1,27 +1,36 @@
 -- The answers of a call: their statuses and texts, and what stands behind each.
-use Rattle.std.specs.Prelude.{◌≡◌, ℕ, ◌+◌, ◌*◌, List, Option, Some, None, ◌⊎◌}
+use Rattle.std.specs.Prelude.{◌≡◌, ◌≢◌, ℕ, ◌+◌, ◌*◌, List, ◌⊎◌, Result, Ok, Err}
 use Rattle.cx_disk.specs.Cause.{Rose}
 use Rattle.cx_disk.specs.Disk.{View, IsSettled, OthersSame}
-use Rattle.cx_rule.specs.Routine.{Rule}
+use Rattle.cx_grid.specs.Boxes.{point_count}
+use Rattle.cx_grid.specs.Grid.{whole}
+use Rattle.cx_job.specs.declared.fault.JobFault.{JobFault}
+use Rattle.cx_job.specs.declared.fault.JobFault.TheVariants as faults
+use Rattle.cx_plan.specs.Setups.{setup_of}
+use Rattle.cx_plan.specs.Whole.{IsWhole}
+use Rattle.cx_plan.specs.declared.job.Job.{Job}
+use Rattle.cx_rule.specs.Jobs.{FitJob}
 use Rattle.cx_rule.specs.Meter.{raised}
-use Rattle.cx_run.specs.declared.job.Job.{Job}
+use Rattle.cx_rule.specs.Routine.{Rule}
+use Rattle.cx_rule.specs.declared.spec.Spec.{Spec}
+use Rattle.cx_text.specs.declared.memory.Memory.{Memory}
+use Rattle.cx_run.specs.FaultWords.{refused_text}
+use Rattle.cx_run.specs.Served.{IsServed}
+use Rattle.cx_run.specs.Sink.{Adds, AddsFront}
+use Rattle.cx_run.specs.Texts.{command_text, done_text, accepted_text, usage_text, not_built_text, shelf_text, disk_text, memory_text}
+use Rattle.cx_run.specs.Undivided.{output_of}
+use Rattle.cx_run.specs.Words.{Asks, IsUsage}
 use Rattle.cx_run.specs.declared.reply.Answer.{Answer}
 use Rattle.cx_run.specs.declared.reply.Answer.TheVariants as a
-use Rattle.cx_run.specs.Job.{IsJob}
-use Rattle.cx_run.specs.Undivided.{output_of}
-use Rattle.cx_text.specs.declared.fault.TextFault.{TextFault}
-use Rattle.cx_text.specs.declared.fault.CclFault.{CclFault}
-use Rattle.cx_run.specs.ParameterFile.{AsksFor, AsksForNone, HasTextFault, HasTreeFault, HasOtherSettings}
-use Rattle.cx_run.specs.Sink.{Adds, AddsFront}
-use Rattle.cx_run.specs.Texts.{done_text, usage_text, no_file_text, text_fault_text, tree_fault_text, not_built_text, shelf_text, disk_text, memory_text}
-use Rattle.cx_run.specs.Words.{IsRun, IsUsage}
+use Rattle.cx_run.specs.declared.words.Command.{Command}
+use Rattle.cx_run.specs.declared.words.Command.TheVariants as commands
 
 abbrev pub status_of : Answer → ℕ
-status_of (a.Done iterations) = 0
+status_of (a.Done iteration) = 0
+status_of a.Accepted = 0
+status_of (a.Text text) = 0
 status_of a.Usage = 1
-status_of a.NoFile = 2
-status_of (a.Text fault) = 2
-status_of (a.Ccl fault) = 2
+status_of (a.Refused fault) = 2
 status_of a.NotBuilt = 2
 status_of a.Shelf = 4
 status_of a.Disk = 4
@@ -32,15 +41,28 @@ IsStatus status = (status ≡ 0) ⊎ ((status ≡ 1) ⊎ ((status ≡ 2) ⊎ ((s
 
 -- the text of an answer for a file
 abbrev pub text_of : Answer → List ℕ → List ℕ
-text_of (a.Done iterations) file = done_text iterations
+text_of (a.Done iteration) file = done_text iteration
+text_of a.Accepted file = accepted_text
+text_of (a.Text text) file = text
 text_of a.Usage file = usage_text
-text_of a.NoFile file = no_file_text file
-text_of (a.Text fault) file = text_fault_text file fault
-text_of (a.Ccl fault) file = tree_fault_text file fault
+text_of (a.Refused fault) file = refused_text fault
 text_of a.NotBuilt file = not_built_text file
 text_of a.Shelf file = shelf_text
 text_of a.Disk file = disk_text
 text_of a.Memory file = memory_text
+
+-- a job's fault as an answer
+abbrev pub answer_of : JobFault → Answer
+answer_of faults.Shelf = a.Shelf
+answer_of faults.Memory = a.Memory
+answer_of fault = a.Refused fault
+
+-- a text, or want of memory, as an answer
+abbrev pub answer_with : Result (List ℕ) Memory → Answer
+answer_with (Ok text) = a.Text text
+answer_with (Err e) = a.Memory
+
+-- ---- a call
 
 -- file 8 has this text, also in all that a crash may leave now, and each other file is as it was
 pub record IsOutput (text : List ℕ) (old new : View) : Type 0 where
@@ -48,88 +70,115 @@ pub record IsOutput (text : List ℕ) (old new : View) : Type 0 where
   pub settled : IsSettled new 8
   pub others : OthersSame 8 old.seen new.seen
 
--- a call as its answers see it: the words, the rules, what the shelf holds under a name, where it tells, that the shelf and
--- the disk are as they were, what the disk's telling is, and before and after the call the disk, the meter and the counts
--- of the shelf's and the disk's faults
-pub record Call : Type 1 where
-  pub words : List (List ℕ)
+-- what a call does to the disk and the meter: by these rules; that the disk is as it was; what the disk's telling is; and before and
+-- after the call the disk, the meter and the count of the disk's faults
+pub record Work : Type 1 where
   pub rules : List Rule
-  pub held : List ℕ → Option (List ℕ) → Type 0
-  pub same_shelf : Type 0
   pub same_disk : Type 0
   pub told_disk : Type 0
   pub disk_before : View
   pub disk_after : View
   pub meter_before : ℕ
   pub meter_after : ℕ
-  pub shelf_faults_before : ℕ
-  pub shelf_faults_after : ℕ
   pub disk_faults_before : ℕ
   pub disk_faults_after : ℕ
 
--- the file is that of a job; its run is done, and its points are counted
-pub record IsDone (c : Call) (file : List ℕ) (iterations : ℕ) : Type 0 where
-  pub job : Job
-  pub words : IsRun c.words file
-  pub job_is : IsJob job
-  pub bytes : List ℕ
-  pub held : c.held file (Some bytes)
-  pub asks : AsksFor file bytes job
-  pub output : c.told_disk → IsOutput (output_of c.rules job) c.disk_before c.disk_after
-  pub meter : c.meter_after ≡ raised c.meter_before (job.points * (job.iterations + 1))
-  pub last : job.iterations ≡ iterations
+-- a call as its answers see it: the words, the objects' Specs, what a file's name makes, where the shelf tells, that the shelf is as
+-- it was, before and after the call the count of its faults, and what became of the disk and the meter
+pub record Call : Type 1 where
+  pub words : List (List ℕ)
+  pub specs : List Spec
+  pub makes : List ℕ → Result Job JobFault → Type 0
+  pub same_shelf : Type 0
+  pub shelf_faults_before : ℕ
+  pub shelf_faults_after : ℕ
+  pub work : Work
+
+-- ---- what stands behind an answer
+
+-- no file, no count of the disk and no point was touched
+pub record Untouched (w : Work) : Type 0 where
+  pub disk : w.same_disk
+  pub meter : w.meter_after ≡ w.meter_before
 
 -- the words ask for nothing that there is, and nothing was touched
 pub record IsWrongUse (c : Call) : Type 0 where
   pub words : IsUsage c.words
   pub shelf : c.same_shelf
-  pub disk : c.same_disk
-  pub meter : c.meter_after ≡ c.meter_before
+  pub untouched : Untouched c.work
 
--- nothing is held under the name, and no file and no point was touched
-pub record IsMissing (c : Call) (file : List ℕ) : Type 0 where
-  pub words : IsRun c.words file
-  pub held : c.held file None
-  pub disk : c.same_disk
-  pub meter : c.meter_after ≡ c.meter_before
+-- the file makes this job
+pub record IsMade (c : Call) (file : List ℕ) (job : Job) : Type 0 where
+  pub made : c.makes file (Ok job)
+  pub whole : IsWhole job
+  pub fit : FitJob c.specs (setup_of job)
 
--- the bytes under the name are those of no job, and no file and no point was touched
-pub record IsNoJob (c : Call) (file bytes : List ℕ) : Type 0 where
-  pub words : IsRun c.words file
-  pub held : c.held file (Some bytes)
-  pub none : AsksForNone file bytes
-  pub disk : c.same_disk
-  pub meter : c.meter_after ≡ c.meter_before
+-- the job's run is done, and its points are counted
+pub record HasRun (w : Work) (job : Job) : Type 0 where
+  pub served : IsServed job
+  pub output : w.told_disk → IsOutput (output_of w.rules job) w.disk_before w.disk_after
+  pub meter : w.meter_after ≡ raised w.meter_before (point_count (whole job.shape) * (job.itlast + 1))
 
--- that, since this is the first fault of the text
-pub record IsNoText (c : Call) (file : List ℕ) (fault : TextFault) : Type 0 where
-  pub bytes : List ℕ
-  pub no_job : IsNoJob c file bytes
-  pub cause : HasTextFault bytes fault
+-- the command is done with a job, and this is its text
+pub record IsDone (w : Work) (command : Command) (job : Job) (text : List ℕ) : Type 0 where
+  pub done : (command ≡ commands.Run) × HasRun w job ⊎ (command ≢ commands.Run) × Untouched w
+  pub text_is : text ≡ command_text command job
 
--- that, since this is the first fault of the text's tokens
-pub record IsNoTree (c : Call) (file : List ℕ) (fault : CclFault) : Type 0 where
-  pub bytes : List ℕ
-  pub no_job : IsNoJob c file bytes
-  pub cause : HasTreeFault file bytes fault
+-- a run isn't built for the job, and nothing was touched
+pub record IsNotBuilt (w : Work) (command : Command) (job : Job) : Type 0 where
+  pub run : command ≡ commands.Run
+  pub other : IsServed job → ⊥
+  pub untouched : Untouched w
 
--- that, since its settings ask for no job
-pub record IsNotBuilt (c : Call) (file : List ℕ) : Type 0 where
-  pub bytes : List ℕ
-  pub no_job : IsNoJob c file bytes
-  pub cause : HasOtherSettings file bytes
+-- the file makes no job for this reason, and nothing but the shelf was touched
+pub record IsRefused (c : Call) (file : List ℕ) (fault : JobFault) : Type 0 where
+  pub not_shelf : fault ≢ faults.Shelf
+  pub not_memory : fault ≢ faults.Memory
+  pub made : c.makes file (Err fault)
+  pub untouched : Untouched c.work
+
+-- what comes of a command with a job
+abbrev pub Comes : Work → Command → Job → Answer → Type 0
+Comes w command job (a.Done iteration) = IsDone w command job (done_text iteration)
+Comes w command job a.Accepted = IsDone w command job accepted_text
+Comes w command job (a.Text text) = IsDone w command job text
+Comes w command job a.NotBuilt = IsNotBuilt w command job
+Comes w command job a.Disk = (command ≡ commands.Run) × Rose w.disk_faults_before w.disk_faults_after
+Comes w command job a.Memory = command ≢ commands.Run → Untouched w
+Comes w command job a.Usage = ⊥
+Comes w command job (a.Refused fault) = ⊥
+Comes w command job a.Shelf = ⊥
+
+-- what is answered where the file makes this job: it isn't refused, and only a run of a job that isn't served isn't built
+abbrev pub IsForJob : Command → Job → Answer → Type 0
+IsForJob command job a.Usage = ⊥
+IsForJob command job (a.Refused fault) = ⊥
+IsForJob command job a.NotBuilt = (command ≡ commands.Run) × (IsServed job → ⊥)
+IsForJob command job answer = Unit {0}
+
+-- what comes of a file that makes no job
+abbrev pub Fails : Call → List ℕ → Answer → Type 0
+Fails c file (a.Refused fault) = IsRefused c file fault
+Fails c file a.Shelf = Rose c.shelf_faults_before c.shelf_faults_after × Untouched c.work
+Fails c file a.Memory = Untouched c.work
+Fails c file (a.Done iteration) = ⊥
+Fails c file a.Accepted = ⊥
+Fails c file (a.Text text) = ⊥
+Fails c file a.Usage = ⊥
+Fails c file a.NotBuilt = ⊥
+Fails c file a.Disk = ⊥
+
+-- the words ask for a command with this file, which makes no job, or a job with which the command comes to this answer
+pub record IsAsked (c : Call) (file : List ℕ) (answer : Answer) : Type 0 where
+  pub command : Command
+  pub words : Asks c.words command file
+  pub cause : Fails c file answer ⊎ ((job : Job) × IsMade c file job × Comes c.work command job answer)
 
 -- what stands behind each answer for a file
 abbrev pub Explains : Call → List ℕ → Answer → Type 0
-Explains c file (a.Done iterations) = IsDone c file iterations
-Explains c file a.Usage = IsWrongUse c
-Explains c file a.NoFile = IsMissing c file
-Explains c file (a.Text fault) = IsNoText c file fault
-Explains c file (a.Ccl fault) = IsNoTree c file fault
-Explains c file a.NotBuilt = IsNotBuilt c file
-Explains c file a.Shelf = IsRun c.words file × Rose c.shelf_faults_before c.shelf_faults_after
-Explains c file a.Disk = IsRun c.words file × Rose c.disk_faults_before c.disk_faults_after
-Explains c file a.Memory = IsRun c.words file
+Explains c file answer = (answer ≡ a.Usage) × IsWrongUse c ⊎ IsAsked c file answer
+
+-- ---- what is said
 
 -- this status, with the whole of this text, where the sink tells it
 pub record Says (told : Type 0) (status : ℕ) (text : List ℕ) (result : ℕ) (old new : List ℕ) (before now : ℕ) : Type 0 where

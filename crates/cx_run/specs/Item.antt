@@ -1,14 +1,20 @@
 -- An item of one write over a periodic row, as the code has it.
-use Rattle.std.specs.Prelude.{◌≡◌, ℕ, pos, negsuc, ◌≤◌, List, [], ◌∷◌, length, map, Option, Some, None, IsTrue}
+use Rattle.std.specs.Prelude.{◌≡◌, ℕ, ◌≤◌, List, [], ◌∷◌, length, map, Option, Some, None, IsTrue}
 use Rattle.cx_grid.specs.Grid.{IsShape, is_periodic}
 use Rattle.cx_grid.specs.declared.shapes.Shape.{Shape}
+use Rattle.cx_plan.specs.declared.job.Job.{Job}
+use Rattle.cx_plan.specs.Setups.{setup_of}
+use Rattle.cx_plan.specs.Lookups.{item}
+use Rattle.cx_plan.specs.Whole.{IsWhole}
+use Rattle.cx_rule.specs.Jobs.{FitJob}
 use Rattle.cx_rule.specs.Routine.{Rule, reach_of}
 use Rattle.cx_rule.specs.Seen.{volume_of}
 use Rattle.cx_rule.specs.declared.spec.Spec.{Spec}
-use Rattle.cx_run.specs.declared.job.Job.{Job}
 use Rattle.cx_run.specs.declared.undivided.Item.{Item}
 use Rattle.cx_run.specs.declared.undivided.Bench.{Bench}
+use Rattle.cx_run.specs.Automaton.{AreElemCA}
 use Rattle.cx_run.specs.Run.{Turn}
+use Rattle.cx_run.specs.Served.{IsServed}
 
 -- a grid of one periodic direction
 pub record IsRow (s : Shape) : Type 0 where
@@ -40,8 +46,13 @@ pub record Holds (bench : Bench) (item : Item) : Type 0 where
   pub window : reach_values item.reach ≤ bench.window.room
   pub cells : length bench.cells ≡ 1
 
-abbrev pub IsInitItem : Job → Item → Type 0
-IsInitItem job item = item ≡ record { reach = None; params = negsuc 0 ∷ pos job.start ∷ [] }
+-- the item with this number is in the code what the job has, and its read has this reach, if it has one
+abbrev pub IsItemAt : Job → ℕ → Option ℕ → Item → Type 0
+IsItemAt job k reach x = x ≡ record { reach = reach; params = (item (setup_of job) k).params }
 
-abbrev pub IsStepItem : Item → Type 0
-IsStepItem item = item ≡ record { reach = Some 1; params = pos 90 ∷ [] }
+-- what a run of a job asks
+pub record CanRun (rules : List Rule) (specs : List Spec) (job : Job) : Type 0 where
+  pub whole : IsWhole job
+  pub served : IsServed job
+  pub fit : FitJob specs (setup_of job)
+  pub routines : AreElemCA rules specs

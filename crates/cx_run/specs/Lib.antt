@@ -1,14 +1,12 @@
 pub mod Sink
 pub mod MemorySink
 pub mod Words
+pub mod FaultWords
 pub mod Texts
-pub mod Output
 pub mod Run
-pub mod Job
+pub mod Served
 pub mod Undivided
-pub mod ParameterFile
 pub mod Automaton
 pub mod Item
 pub mod Fault
-pub mod Settings
 pub mod Answer

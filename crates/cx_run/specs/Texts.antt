@@ -1,43 +1,30 @@
 -- What the top call prints.
 use Rattle.std.specs.Prelude.{ℕ, List, [], ◌∷◌, ◌++◌, codes}
 use Rattle.std.specs.Fmt.{decimal}
-use Rattle.cx_text.specs.declared.fault.TextFault.{TextFault}
-use Rattle.cx_text.specs.declared.fault.TextFault.TheVariants as texts
-use Rattle.cx_text.specs.declared.fault.CclFault.{CclFault}
-use Rattle.cx_text.specs.declared.fault.CclFault.TheVariants as trees
+use Rattle.cx_plan.specs.declared.job.Job.{Job}
+use Rattle.cx_run.specs.declared.words.Command.{Command}
+use Rattle.cx_run.specs.declared.words.Command.TheVariants as commands
 
 abbrev pub done_text : ℕ → List ℕ
-done_text iterations = codes "done: iteration " ++ decimal iterations ++ 10 ∷ []
+done_text iteration = codes "done: iteration " ++ decimal iteration ++ 10 ∷ []
+
+abbrev pub accepted_text : List ℕ
+accepted_text = codes "accepted" ++ 10 ∷ []
+
+-- what a command prints where the file makes a job: of `schedule` the plan, of `describe` the key and the other parameters
+abbrev pub command_text : Command → Job → List ℕ
+command_text commands.Run job = done_text job.itlast
+command_text commands.Check job = accepted_text
+command_text commands.Schedule job = job.plan_text
+command_text commands.Describe job = job.key ++ job.starred
 
 abbrev pub usage_text : List ℕ
-usage_text = codes "usage: cactus run FILE" ++ 10 ∷ []
-
-abbrev pub no_file_text : List ℕ → List ℕ
-no_file_text file = codes "refused: NoFile " ++ file ++ 10 ∷ []
-
--- a fault's name and its line
-abbrev pub text_fault_words : TextFault → List ℕ
-text_fault_words (texts.BadByte line) = codes "BadByte " ++ decimal line
-text_fault_words (texts.OpenQuote line) = codes "OpenQuote " ++ decimal line
-text_fault_words texts.TooLong = codes "TooLong"
-text_fault_words texts.Memory = codes "Memory"
-
-abbrev pub tree_fault_words : CclFault → List ℕ
-tree_fault_words (trees.Unexpected line) = codes "Unexpected " ++ decimal line
-tree_fault_words (trees.Repeated line) = codes "Repeated " ++ decimal line
-tree_fault_words (trees.BadNumber line) = codes "BadNumber " ++ decimal line
-tree_fault_words (trees.Limit line) = codes "Limit " ++ decimal line
-tree_fault_words trees.Memory = codes "Memory"
-
--- the file that is refused, before its fault
-abbrev pub refused_file : List ℕ → List ℕ
-refused_file file = codes "refused: " ++ file ++ 32 ∷ []
-
-abbrev pub text_fault_text : List ℕ → TextFault → List ℕ
-text_fault_text file fault = refused_file file ++ text_fault_words fault ++ 10 ∷ []
-
-abbrev pub tree_fault_text : List ℕ → CclFault → List ℕ
-tree_fault_text file fault = refused_file file ++ tree_fault_words fault ++ 10 ∷ []
+usage_text =
+    codes "usage: cactus run FILE" ++ 10
+    ∷ codes "       cactus check FILE" ++ 10
+    ∷ codes "       cactus schedule FILE" ++ 10
+    ∷ codes "       cactus describe FILE" ++ 10
+    ∷ []
 
 abbrev pub not_built_text : List ℕ → List ℕ
 not_built_text file = codes "refused: NotBuilt " ++ file ++ 10 ∷ []

@@ -1,61 +1,64 @@
 //! The top call.
-ghost use Rattle.std.specs.Prelude.{◌≡◌, ◌≤◌, ◌<◌, ◌+◌, ◌*◌, ◌⊎◌, [], ℕ, List as ListOf, Option, Some, None, map, slice_index_or};
+ghost use Rattle.std.specs.Prelude.{◌≡◌, ◌≢◌, ◌≤◌, ◌<◌, ◌+◌, ◌*◌, ◌^◌, ◌⊎◌, [], ℕ, List as ListOf, Ok, Err, length, map, slice_index_or};
 ghost use Rattle.cx_disk.specs.Cause.{Rose};
 ghost use Rattle.cx_disk.specs.Disk.{OthersSame};
+ghost use Rattle.cx_grid.specs.Boxes.{point_count};
+ghost use Rattle.cx_grid.specs.Grid.{whole};
+ghost use Rattle.cx_job.specs.Making.{Made};
+ghost use Rattle.cx_job.specs.declared.fault.JobFault.{JobFault};
+ghost use Rattle.cx_plan.specs.Setups.{setup_of};
+ghost use Rattle.cx_plan.specs.Whole.{IsWhole};
+ghost use Rattle.cx_plan.specs.declared.job.Job.{Job};
+ghost use Rattle.cx_rule.specs.Jobs.{FitJob};
 ghost use Rattle.cx_rule.specs.Meter.{raised};
-ghost use Rattle.cx_run.specs.Answer.{Call, Explains, WasSaid, IsOutput, IsStatus};
-ghost use Rattle.cx_run.specs.Automaton.{IsAutomaton};
-ghost use Rattle.cx_run.specs.Job.{IsJob};
-ghost use Rattle.cx_text.specs.declared.fault.TextFault.{TextFault};
-ghost use Rattle.cx_text.specs.declared.fault.CclFault.{CclFault};
-ghost use Rattle.cx_run.specs.ParameterFile.{AsksFor, AsksForNone, HasTextFault, HasTreeFault, HasOtherSettings};
+ghost use Rattle.cx_run.specs.Answer.{Call, Work, answer_with, Comes, Explains, IsForJob, WasSaid, IsOutput, IsStatus};
+ghost use Rattle.cx_run.specs.Automaton.{AreElemCA};
+ghost use Rattle.cx_run.specs.FaultWords.{refused_text};
+ghost use Rattle.cx_run.specs.Served.{IsServed};
 ghost use Rattle.cx_run.specs.Sink.{Adds};
-ghost use Rattle.cx_run.specs.Texts.{done_text, usage_text, no_file_text, text_fault_text, tree_fault_text, not_built_text, shelf_text, disk_text, memory_text};
+ghost use Rattle.cx_run.specs.Texts.{command_text, usage_text, not_built_text, shelf_text, disk_text, memory_text};
 ghost use Rattle.cx_run.specs.Undivided.{output_of};
-ghost use Rattle.cx_run.specs.Words.{IsRun, IsUsage};
-ghost use Rattle.cx_run.specs.declared.job.Job.{Job};
+ghost use Rattle.cx_run.specs.Words.{Asks, IsUsage};
 ghost use Rattle.cx_run.specs.declared.reply.Answer.{Answer};
+ghost use Rattle.cx_run.specs.declared.words.Command.{Command};
 
 use crate::driver::{RunFault, run_job};
-use crate::parameter_file::{FileFault, read_job};
-use crate::reply::{Answer, reply};
+use crate::reply::{Answer, answer_of, reply};
+use crate::served::is_served;
 use crate::sink::Sink;
-use crate::words::{file_named, second_word};
+use crate::texts::{describe, schedule_text};
+use crate::words::{Command, asked, second_word};
 use cx_disk::{Disk, DiskFault};
-use cx_job::{Shelf, ShelfFault};
+use cx_job::{Shelf, make_job};
+use cx_plan::Job;
 use cx_rule::{Meter, Routine};
-use cx_text::Text;
+use cx_text::{Memory, Text};
 use std::alloc::Global;
 
-/// Does what the words of the command line ask, prints one line on `out`, and gives the program's status.
+/// Does what the words of the command line ask, prints the answer on `out`, and gives the program's status.
 ///
-/// The one command is `run FILE`, where FILE isn't empty and doesn't begin with `-`. It reads the parameter file FILE
-/// from the shelf, runs the job that the file asks for with the objects of `ca_init` and `ca_step`, and writes the cells
-/// of the start and of each iteration into the disk's file 8, which it first cuts to nothing. So far a file asks for a
-/// job where ElemCA is its one active thorn beside PUGH, IOUtil and Cactus, and where it has these five settings, each
-/// once, in any order, with numbers in their shortest spelling: I up to 100, N from 1 to 1,000 and S below 2^63.
+/// | words | what is done | printed at status 0 |
+/// |---|---|---|
+/// | `run FILE` | makes the job of the parameter file FILE and runs it | `done: iteration N`, the last iteration |
+/// | `check FILE` | makes the job | `accepted` |
+/// | `schedule FILE` | makes the job | its schedule text |
+/// | `describe FILE` | makes the job | its key and the other parameters' lines |
 ///
-/// ```text
-/// ActiveThorns = "ElemCA"
-/// Cactus::cctk_itlast = I
-/// driver::global_nx = N
-/// driver::periodic = yes
-/// ca::start = S
-/// IO::out_vars = "ca::cell"
-/// ```
+/// FILE isn't empty and doesn't begin with `-`. What makes a job is said at `make_job` of cx_job. A run writes the text of the
+/// undivided run into file 8 of the disk, which it first cuts to nothing. So far `run` serves the jobs of `IsServed` alone: the
+/// automaton of ElemCA on a periodic row of at most 1,000 points and up to iteration 100, whose cells are written at each iteration.
 ///
 /// | status | what came of it | printed |
 /// |---|---|---|
-/// | 0 | the job is done | `done: iteration I` |
-/// | 1 | the words are others | `usage: cactus run FILE` |
-/// | 2 | there is no such file | `refused: NoFile FILE` |
-/// | 2 | its text has a fault, or its tokens spell no settings | `refused: FILE`, the fault and its line |
-/// | 2 | it asks for another job | `refused: NotBuilt FILE` |
+/// | 0 | the command is done | as above |
+/// | 1 | the words are others | the usage text, a line for each command |
+/// | 2 | the file makes no job | `refused: ` and the words of the fault |
+/// | 2 | its run isn't built | `refused: NotBuilt FILE` |
 /// | 4 | a device failed | `device: shelf`, `device: disk`; after a failure of the sink nothing more |
 /// | 5 | memory is wanting | `memory` |
 ///
-/// At status 1 and 2 no file, no count but those of the shelf and the sink, and no meter has changed. The meter rises by
-/// N * (I + 1) at status 0.
+/// Each text ends with a line feed. The commands but `run` touch neither the disk nor the meter, nor does anything at status 1 and 2.
+/// The meter rises by the number of points times N + 1 at status 0 of a run.
 pub fn cactus<H: Shelf, D: Disk, O: Sink>(
     alloc: Global,
     words: &[Text],
@@ -65,24 +68,27 @@ pub fn cactus<H: Shelf, D: Disk, O: Sink>(
     routines: &[Box<dyn Routine>],
     meter: &mut Meter,
 ) -> u8
-    requires routines { IsAutomaton (map rule routines.now) (map spec_of routines.now) }
+    requires routines { AreElemCA (map rule routines.now) (map spec_of routines.now) }
+    requires few { length routines.now ≤ 2 ^ 32 }
     ensures statuses { IsStatus result }
-    // 0: the named file asks for a job, and file 8 is the output of its undivided run.
-    ensures done { result ≡ 0 → (file bytes : ListOf ℕ) × (job : Job) × IsRun words.now file × IsJob job
-        × (H.tells → H.held shelf.old file ≡ Some bytes) × AsksFor file bytes job
+    // 0: the words ask for a command with a file, which makes a job. Its text is printed; a run's output is that of the undivided run,
+    // and its points are counted; the other commands leave disk and meter as they were.
+    ensures done { result ≡ 0 → (command : Command) × (file : ListOf ℕ) × (job : Job) × Asks words.now command file
+        × (H.tells → Made file (map spec_of routines.now) (H.held shelf.old) (Ok job)) × IsWhole job × FitJob (map spec_of routines.now) (setup_of job)
+        × (O.tells → Adds (command_text command job) (O.written out.old) (O.written out.new))
+        × ((command ≡ Command.Run) × IsServed job
         × (D.tells → IsOutput (output_of (map rule routines.now) job) (D.view disk.old) (D.view disk.new))
-        × (meter.new ≡ raised meter.old (job.points * (job.iterations + 1)))
-        × (O.tells → Adds (done_text job.iterations) (O.written out.old) (O.written out.new)) }
-    // 1: the words ask for nothing that there is. Shelf, disk and meter are as they were.
-    ensures usage { result ≡ 1 → IsUsage words.now × (shelf.new ≡ shelf.old) × (disk.new ≡ disk.old) × (meter.new ≡ meter.old)
-        × (O.tells → Adds usage_text (O.written out.old) (O.written out.new)) }
-    // 2: nothing is held under the named file, or it asks for no job, for this reason. Disk and meter are as they were.
-    ensures refused { result ≡ 2 → (file : ListOf ℕ) × IsRun words.now file × (disk.new ≡ disk.old) × (meter.new ≡ meter.old)
-        × ((H.tells → H.held shelf.old file ≡ None) × (O.tells → Adds (no_file_text file) (O.written out.old) (O.written out.new))
-        ⊎ ((bytes : ListOf ℕ) × (H.tells → H.held shelf.old file ≡ Some bytes) × AsksForNone file bytes
-        × (((fault : TextFault) × HasTextFault bytes fault × (O.tells → Adds (text_fault_text file fault) (O.written out.old) (O.written out.new)))
-        ⊎ (((fault : CclFault) × HasTreeFault file bytes fault × (O.tells → Adds (tree_fault_text file fault) (O.written out.old) (O.written out.new)))
-        ⊎ (HasOtherSettings file bytes × (O.tells → Adds (not_built_text file) (O.written out.old) (O.written out.new))))))) }
+        × (meter.new ≡ raised meter.old (point_count (whole job.shape) * (job.itlast + 1)))
+        ⊎ (command ≢ Command.Run) × (disk.new ≡ disk.old) × (meter.new ≡ meter.old)) }
+    // 1: the words ask for nothing that there is.
+    ensures usage { result ≡ 1 → IsUsage words.now × (O.tells → Adds usage_text (O.written out.old) (O.written out.new)) }
+    // 2: the file makes no job for this reason, or a job whose run isn't built. Disk and meter are as they were.
+    ensures refused { result ≡ 2 → (command : Command) × (file : ListOf ℕ) × Asks words.now command file × (disk.new ≡ disk.old) × (meter.new ≡ meter.old)
+        × (((fault : JobFault) × (fault ≢ JobFault.Shelf) × (fault ≢ JobFault.Memory)
+        × (H.tells → Made file (map spec_of routines.now) (H.held shelf.old) (Err fault))
+        × (O.tells → Adds (refused_text fault) (O.written out.old) (O.written out.new)))
+        ⊎ ((job : Job) × (command ≡ Command.Run) × (H.tells → Made file (map spec_of routines.now) (H.held shelf.old) (Ok job)) × (IsServed job → ⊥)
+        × (O.tells → Adds (not_built_text file) (O.written out.old) (O.written out.new)))) }
     // 4: the count of the device that is named has risen in this call, or stands at its last value. The sink isn't named.
     ensures device { result ≡ 4 →
         Rose (H.faults shelf.old) (H.faults shelf.new) × (O.tells → Adds shelf_text (O.written out.old) (O.written out.new))
@@ -94,34 +100,45 @@ pub fn cactus<H: Shelf, D: Disk, O: Sink>(
     ensures printed { (answer : Answer) × (file : ListOf ℕ)
         × Explains (record {
           words = words.now;
-          rules = map rule routines.now;
-          held = λ file bytes. H.tells → H.held shelf.old file ≡ bytes;
+          specs = map spec_of routines.now;
+          makes = λ name made. H.tells → Made name (map spec_of routines.now) (H.held shelf.old) made;
           same_shelf = shelf.new ≡ shelf.old;
-          same_disk = disk.new ≡ disk.old;
-          told_disk = D.tells;
-          disk_before = D.view disk.old;
-          disk_after = D.view disk.new;
-          meter_before = meter.old;
-          meter_after = meter.new;
           shelf_faults_before = H.faults shelf.old;
           shelf_faults_after = H.faults shelf.new;
-          disk_faults_before = D.faults disk.old;
-          disk_faults_after = D.faults disk.new;
+          work = record {
+            rules = map rule routines.now;
+            same_disk = disk.new ≡ disk.old;
+            told_disk = D.tells;
+            disk_before = D.view disk.old;
+            disk_after = D.view disk.new;
+            meter_before = meter.old;
+            meter_after = meter.new;
+            disk_faults_before = D.faults disk.old;
+            disk_faults_after = D.faults disk.new;
+          };
         }) file answer
         × WasSaid O.tells file answer result (O.written out.old) (O.written out.new) (O.faults out.old) (O.faults out.new) }
     ensures sink_failed { O.faults out.old < O.faults out.new → result ≡ 4 }
-    // Other words give 1, where neither the sink fails nor memory is wanting.
-    ensures usage_given { IsUsage words.now → (result ≡ 1) ⊎ ((result ≡ 5) ⊎ ((result ≡ 4) × Rose (O.faults out.old) (O.faults out.new))) }
-    // Where no device fails, a run gives what its file asks for, or wants memory.
-    ensures no_file_given { H.tells → (file : ListOf ℕ) → IsRun words.now file → H.held shelf.old file ≡ None
+    // Words that ask for nothing touch nothing but the sink, and give 1 where neither it fails nor memory is wanting.
+    ensures wrong_use { IsUsage words.now → (shelf.new ≡ shelf.old) × (disk.new ≡ disk.old) × (meter.new ≡ meter.old)
+        × ((result ≡ 1) ⊎ ((result ≡ 5) ⊎ ((result ≡ 4) × Rose (O.faults out.old) (O.faults out.new)))) }
+    // The commands but `run` touch neither the disk nor the meter, whatever the answer.
+    ensures without_run { (command : Command) (file : ListOf ℕ) → Asks words.now command file → command ≢ Command.Run
+        → (disk.new ≡ disk.old) × (meter.new ≡ meter.old) }
+    // Where no device fails, a command is done or its file refused, or memory is wanting.
+    ensures answered { (command : Command) (file : ListOf ℕ) → Asks words.now command file
+        → (Rose (H.faults shelf.old) (H.faults shelf.new) → ⊥) → (Rose (D.faults disk.old) (D.faults disk.new) → ⊥) → (Rose (O.faults out.old) (O.faults out.new) → ⊥)
+        → (result ≡ 0) ⊎ ((result ≡ 2) ⊎ (result ≡ 5)) }
+    // Where the file makes a job and no device fails, the command is done or memory is wanting, but for a run that isn't built.
+    ensures job_given { H.tells → (command : Command) (file : ListOf ℕ) (job : Job) → Asks words.now command file
+        → Made file (map spec_of routines.now) (H.held shelf.old) (Ok job)
+        → (Rose (H.faults shelf.old) (H.faults shelf.new) → ⊥) → (Rose (D.faults disk.old) (D.faults disk.new) → ⊥) → (Rose (O.faults out.old) (O.faults out.new) → ⊥)
+        → (command ≢ Command.Run) ⊎ IsServed job → (result ≡ 0) ⊎ (result ≡ 5) }
+    // Where it makes none and no device fails, it is refused or memory is wanting.
+    ensures no_job_given { H.tells → (command : Command) (file : ListOf ℕ) → Asks words.now command file
+        → ((job : Job) → Made file (map spec_of routines.now) (H.held shelf.old) (Ok job) → ⊥)
         → (Rose (H.faults shelf.old) (H.faults shelf.new) → ⊥) → (Rose (D.faults disk.old) (D.faults disk.new) → ⊥) → (Rose (O.faults out.old) (O.faults out.new) → ⊥)
         → (result ≡ 2) ⊎ (result ≡ 5) }
-    ensures refused_given { H.tells → (file bytes : ListOf ℕ) → IsRun words.now file → H.held shelf.old file ≡ Some bytes → AsksForNone file bytes
-        → (Rose (H.faults shelf.old) (H.faults shelf.new) → ⊥) → (Rose (D.faults disk.old) (D.faults disk.new) → ⊥) → (Rose (O.faults out.old) (O.faults out.new) → ⊥)
-        → (result ≡ 2) ⊎ (result ≡ 5) }
-    ensures done_given { H.tells → (file bytes : ListOf ℕ) (job : Job) → IsRun words.now file → H.held shelf.old file ≡ Some bytes → AsksFor file bytes job → IsJob job
-        → (Rose (H.faults shelf.old) (H.faults shelf.new) → ⊥) → (Rose (D.faults disk.old) (D.faults disk.new) → ⊥) → (Rose (O.faults out.old) (O.faults out.new) → ⊥)
-        → (result ≡ 0) ⊎ (result ≡ 5) }
     // Whatever the answer, each file but the output is as it was, the shelf's files are, and no count falls.
     ensures other_files { D.tells → OthersSame 8 (D.view disk.old).seen (D.view disk.new).seen }
     ensures held { H.tells → H.held shelf.new ≡ H.held shelf.old }
@@ -142,51 +159,122 @@ fn answer_to<H: Shelf, D: Disk>(
     routines: &[Box<dyn Routine>],
     meter: &mut Meter,
 ) -> Answer
-    requires routines { IsAutomaton (map rule routines.now) (map spec_of routines.now) }
+    requires routines { AreElemCA (map rule routines.now) (map spec_of routines.now) }
+    requires few { length routines.now ≤ 2 ^ 32 }
     ensures explained { Explains (record {
       words = words.now;
-      rules = map rule routines.now;
-      held = λ file bytes. H.tells → H.held shelf.old file ≡ bytes;
+      specs = map spec_of routines.now;
+      makes = λ name made. H.tells → Made name (map spec_of routines.now) (H.held shelf.old) made;
       same_shelf = shelf.new ≡ shelf.old;
+      shelf_faults_before = H.faults shelf.old;
+      shelf_faults_after = H.faults shelf.new;
+      work = record {
+        rules = map rule routines.now;
+        same_disk = disk.new ≡ disk.old;
+        told_disk = D.tells;
+        disk_before = D.view disk.old;
+        disk_after = D.view disk.new;
+        meter_before = meter.old;
+        meter_after = meter.new;
+        disk_faults_before = D.faults disk.old;
+        disk_faults_after = D.faults disk.new;
+      };
+    }) (slice_index_or words.now 1 []) result }
+    ensures job_given { H.tells → (command : Command) (file : ListOf ℕ) (job : Job) → Asks words.now command file
+        → Made file (map spec_of routines.now) (H.held shelf.old) (Ok job) → IsForJob command job result }
+    ensures other_files { D.tells → OthersSame 8 (D.view disk.old).seen (D.view disk.new).seen }
+    ensures held { H.tells → H.held shelf.new ≡ H.held shelf.old }
+    ensures shelf_count { H.faults shelf.old ≤ H.faults shelf.new }
+    ensures disk_count { D.faults disk.old ≤ D.faults disk.new }
+{
+    let Some((command, file)) = asked(words) else {
+        return Answer::Usage;
+    };
+    match make_job(alloc, shelf, file, routines) {
+        Ok(job) => done(alloc, command, &job, disk, routines, meter),
+        Err(fault) => answer_of(fault),
+    }
+}
+
+/// Does a command with the job of its file.
+fn done<D: Disk>(
+    alloc: Global,
+    command: Command,
+    job: &Job,
+    disk: &mut D,
+    routines: &[Box<dyn Routine>],
+    meter: &mut Meter,
+) -> Answer
+    requires routines { AreElemCA (map rule routines.now) (map spec_of routines.now) }
+    requires whole { IsWhole job.now }
+    requires fit { FitJob (map spec_of routines.now) (setup_of job.now) }
+    ensures comes { Comes (record {
+      rules = map rule routines.now;
       same_disk = disk.new ≡ disk.old;
       told_disk = D.tells;
       disk_before = D.view disk.old;
       disk_after = D.view disk.new;
       meter_before = meter.old;
       meter_after = meter.new;
-      shelf_faults_before = H.faults shelf.old;
-      shelf_faults_after = H.faults shelf.new;
       disk_faults_before = D.faults disk.old;
       disk_faults_after = D.faults disk.new;
-    }) (slice_index_or words.now 1 []) result }
+    }) command job.now result }
     ensures other_files { D.tells → OthersSame 8 (D.view disk.old).seen (D.view disk.new).seen }
-    ensures held { H.tells → H.held shelf.new ≡ H.held shelf.old }
-    ensures shelf_count { H.faults shelf.old ≤ H.faults shelf.new }
     ensures disk_count { D.faults disk.old ≤ D.faults disk.new }
 {
-    let Some(file) = file_named(words) else {
-        return Answer::Usage;
-    };
-    let bytes = match shelf.read(alloc, file) {
-        Ok(Some(bytes)) => bytes,
-        Ok(None) => return Answer::NoFile,
-        Err(ShelfFault::Failed) => return Answer::Shelf,
-        Err(ShelfFault::Memory) => return Answer::Memory,
-    };
-    let job = match read_job(alloc, file, &bytes) {
-        Ok(Some(job)) => job,
-        Ok(None) => return Answer::NotBuilt,
-        Err(FileFault::Text(fault)) => return Answer::Text(fault),
-        Err(FileFault::Ccl(fault)) => return Answer::Ccl(fault),
-        Err(FileFault::Memory) => return Answer::Memory,
-    };
-    match disk.mount(&Text::new(Vec::new(alloc)), &Text::new(Vec::new(alloc))) {
+    match command {
+        Command::Run => run(alloc, job, disk, routines, meter),
+        Command::Check => Answer::Accepted,
+        Command::Schedule => printed(schedule_text(alloc, job)),
+        Command::Describe => printed(describe(alloc, job)),
+    }
+}
+
+/// A text as an answer, or want of memory.
+fn printed(text: Result<Text, Memory>) -> Answer
+    ensures { result ≡ answer_with text }
+{
+    match text {
+        Ok(text) => Answer::Text(text),
+        Err(Memory) => Answer::Memory,
+    }
+}
+
+/// Runs a job, if such runs are built.
+fn run<D: Disk>(
+    alloc: Global,
+    job: &Job,
+    disk: &mut D,
+    routines: &[Box<dyn Routine>],
+    meter: &mut Meter,
+) -> Answer
+    requires routines { AreElemCA (map rule routines.now) (map spec_of routines.now) }
+    requires whole { IsWhole job.now }
+    requires fit { FitJob (map spec_of routines.now) (setup_of job.now) }
+    ensures comes { Comes (record {
+      rules = map rule routines.now;
+      same_disk = disk.new ≡ disk.old;
+      told_disk = D.tells;
+      disk_before = D.view disk.old;
+      disk_after = D.view disk.new;
+      meter_before = meter.old;
+      meter_after = meter.new;
+      disk_faults_before = D.faults disk.old;
+      disk_faults_after = D.faults disk.new;
+    }) Command.Run job.now result }
+    ensures other_files { D.tells → OthersSame 8 (D.view disk.old).seen (D.view disk.new).seen }
+    ensures disk_count { D.faults disk.old ≤ D.faults disk.new }
+{
+    if !is_served(job) {
+        return Answer::NotBuilt;
+    }
+    match disk.mount(&job.out_dir, &job.chk_dir) {
         Ok(()) => {}
         Err(DiskFault::Failed) => return Answer::Disk,
         Err(DiskFault::Memory) => return Answer::Memory,
     }
-    match run_job(alloc, &job, routines, disk, meter) {
-        Ok(()) => Answer::Done(job.iterations),
+    match run_job(alloc, job, routines, disk, meter) {
+        Ok(()) => Answer::Done(job.itlast),
         Err(RunFault::Disk) => Answer::Disk,
         Err(RunFault::Memory) => Answer::Memory,
     }

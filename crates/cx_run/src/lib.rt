@@ -1,24 +1,24 @@
-//! The top call: from the words of the command line to the output file and the status.
+//! The top call: from the words of the command line to what is printed, the output file and the status.
 #![tactic(auto)]
 
 mod call;
 mod driver;
-mod job;
+mod fault_words;
 mod levels;
-mod numeral;
 mod output;
-mod parameter_file;
 mod reply;
-mod settings;
+mod served;
 mod sink;
 mod stdout;
+mod texts;
 mod turns;
 mod undivided;
 mod words;
 
 pub use call::cactus;
 pub use cx_job::{FolderShelf, MemoryShelf, Shelf, ShelfFault};
-pub use job::Job;
 pub use reply::Answer;
 pub use sink::{MemorySink, Sink, SinkFault};
 pub use stdout::StdoutSink;
+pub use texts::{describe, key_lines, schedule_text};
+pub use words::Command;

@@ -1,39 +1,26 @@
 //! The text of the output file.
-ghost use Rattle.std.specs.Prelude.{◌≡◌, ◌++◌, codes, IfOk, OnOk, string_bytes, length};
-ghost use Rattle.cx_run.specs.Job.{row_shape};
-ghost use Rattle.cx_run.specs.Output.{section, values_of, after_blank};
+ghost use Rattle.std.specs.Prelude.{◌≡◌, codes, IfOk, length};
+ghost use Rattle.cx_ascii.specs.Output.{section};
+ghost use Rattle.cx_grid.specs.Boxes.{point_count};
+ghost use Rattle.cx_grid.specs.Grid.{IsShape, whole};
 
-use cx_text::Text;
-use std::alloc::{AllocError, Global};
+use cx_ascii::section;
+use cx_grid::Shape;
+use cx_text::{List, Memory, Text};
+use std::alloc::Global;
 
-/// The section of the cells of a row of so many points.
-#[tactic(auto, using(crate::proofs::OneRow::one_row))]
+/// The section of the cells.
 pub(crate) fn section_text(
     alloc: Global,
     iteration: u64,
-    size: u32,
+    shape: &Shape,
     level: &[i64],
-) -> Result<Text, AllocError>
-    requires { length level.now ≡ size }
-    ensures { IfOk result (λ text. text ≡ section (codes "ca::cell") iteration (row_shape size) level.now) }
+) -> Result<Text, Memory>
+    requires shape { IsShape shape.now }
+    requires level { length level.now ≡ point_count (whole shape.now) }
+    ensures { IfOk result (λ text. text ≡ section (codes "ca::cell") iteration shape.now level.now) }
 {
-    let mut text = format!(in alloc; "# ca::cell iteration {iteration} size {size}\n")?;
-    push_values(alloc, &mut text, level)?;
-    text.push_str("\n\n")?;
-    Ok(Text::new(text.into_bytes()))
-}
-
-/// The values in decimal, one blank between.
-fn push_values(alloc: Global, text: &mut String, values: &[i64]) -> Result<(), AllocError>
-    ensures { OnOk result (string_bytes text.new ≡ string_bytes text.old ++ values_of values.now) }
-{
-    let Some((first, others)) = values.split_first() else {
-        return Ok(());
-    };
-    text.push_str(first.to_string(alloc)?.as_str())?;
-    'values: for value in others {
-        text.push_str(" ")?;
-        text.push_str(value.to_string(alloc)?.as_str())?;
-    }
-    Ok(())
+    let full = Text::from_slice(alloc, b"ca::cell")?;
+    let values = List::new(Vec::from_slice(alloc, level)?);
+    section(alloc, &full, iteration, shape, &values)
 }

@@ -1,27 +1,31 @@
 //! What the top call prints and answers.
-ghost use Rattle.std.specs.Prelude.{◌≡◌, ◌≤◌, ◌⊎◌, ◌++◌, ℕ, IfOk, OnOk};
-ghost use Rattle.std.specs.Fmt.{decimal};
-ghost use Rattle.cx_run.specs.Texts.{refused_file, text_fault_words, tree_fault_words};
-ghost use Rattle.cx_run.specs.Answer.{Says, IsCutOff, WasSaid};
+ghost use Rattle.std.specs.Prelude.{◌≡◌, ◌≤◌, ◌⊎◌, IfOk};
+ghost use Rattle.cx_run.specs.Answer.{answer_of, Says, IsCutOff, WasSaid};
+ghost use Rattle.cx_run.specs.Texts.{done_text, not_built_text};
 
+use crate::fault_words::refused_text;
 use crate::sink::Sink;
-use cx_text::{CclFault, Memory, Text, TextFault};
+use cx_job::JobFault;
+use cx_text::{Memory, Text};
 use std::alloc::Global;
 
+const USAGE: &[u8] =
+    b"usage: cactus run FILE\n       cactus check FILE\n       cactus schedule FILE\n       cactus describe FILE\n";
+
 /// What came of a call.
-#[derive(Clone, Copy, Debug, PartialEq, Eq)]
+#[derive(Debug, Drop)]
 pub enum Answer {
-    /// A run of so many iterations is done.
-    Done(u32),
+    /// A run is done up to this iteration.
+    Done(u64),
+    /// The file makes a job.
+    Accepted,
+    /// The file makes a job, and this is what was asked of it.
+    Text(Text),
     /// The words ask for nothing that there is.
     Usage,
-    /// There is no such file.
-    NoFile,
-    /// The file's text has no tokens.
-    Text(TextFault),
-    /// The file's tokens spell no settings.
-    Ccl(CclFault),
-    /// The file asks for something that isn't built.
+    /// The file makes no job, and neither the shelf nor memory is the reason.
+    Refused(JobFault),
+    /// The run of the job that the file makes isn't built.
     NotBuilt,
     /// The shelf failed.
     Shelf,
@@ -35,98 +39,63 @@ impl Answer {
     ghost use Rattle.cx_run.specs.Answer.{status_of, text_of};
 
     /// The status of the program.
-    pub fn status(self) -> u8
-        ensures { result ≡ status_of self }
+    pub fn status(&self) -> u8
+        ensures { result ≡ status_of self.now }
     {
         match self {
-            Answer::Done(_) => 0,
+            Answer::Done(_) | Answer::Accepted | Answer::Text(_) => 0,
             Answer::Usage => 1,
-            Answer::NoFile | Answer::Text(_) | Answer::Ccl(_) | Answer::NotBuilt => 2,
+            Answer::Refused(_) | Answer::NotBuilt => 2,
             Answer::Shelf | Answer::Disk => 4,
             Answer::Memory => 5,
         }
     }
 
-    /// The text that is printed for a file.
+    /// The text that is printed for a file. It fails where memory is wanting.
     pub fn text(self, alloc: Global, file: &[u8]) -> Result<Text, Memory>
         ensures { IfOk result (λ text. text ≡ text_of self file.now) }
     {
-        let mut bytes = Vec::new(alloc);
         match self {
-            Answer::Done(iterations) => {
-                bytes.extend_from_slice(b"done: iteration ")?;
-                bytes.extend_from_slice(iterations.to_string(alloc)?.as_bytes())?;
-            }
-            Answer::Usage => bytes.extend_from_slice(b"usage: cactus run FILE")?,
-            Answer::NoFile => {
-                bytes.extend_from_slice(b"refused: NoFile ")?;
-                bytes.extend_from_slice(file)?;
-            }
-            Answer::Text(fault) => {
-                push_file(&mut bytes, file)?;
-                push_text_fault(alloc, &mut bytes, fault)?;
-            }
-            Answer::Ccl(fault) => {
-                push_file(&mut bytes, file)?;
-                push_tree_fault(alloc, &mut bytes, fault)?;
-            }
-            Answer::NotBuilt => {
-                bytes.extend_from_slice(b"refused: NotBuilt ")?;
-                bytes.extend_from_slice(file)?;
-            }
-            Answer::Shelf => bytes.extend_from_slice(b"device: shelf")?,
-            Answer::Disk => bytes.extend_from_slice(b"device: disk")?,
-            Answer::Memory => bytes.extend_from_slice(b"memory")?,
+            Answer::Done(iteration) => done_text(alloc, iteration),
+            Answer::Accepted => Text::from_slice(alloc, b"accepted\n"),
+            Answer::Text(text) => Ok(text),
+            Answer::Usage => Text::from_slice(alloc, USAGE),
+            Answer::Refused(fault) => refused_text(alloc, &fault),
+            Answer::NotBuilt => not_built_text(alloc, file),
+            Answer::Shelf => Text::from_slice(alloc, b"device: shelf\n"),
+            Answer::Disk => Text::from_slice(alloc, b"device: disk\n"),
+            Answer::Memory => Text::from_slice(alloc, b"memory\n"),
         }
-        bytes.push(b'\n')?;
-        Ok(Text::new(bytes))
     }
 }
 
-/// Adds the file that is refused.
-fn push_file(bytes: &mut Vec<u8>, file: &[u8]) -> Result<(), Memory>
-    ensures { OnOk result (bytes.new.items ≡ bytes.old.items ++ refused_file file.now) }
-{
-    bytes.extend_from_slice(b"refused: ")?;
-    bytes.extend_from_slice(file)?;
-    bytes.push(b' ')?;
-    Ok(())
-}
-
-/// Adds a fault of a text: its name and its line.
-fn push_text_fault(alloc: Global, bytes: &mut Vec<u8>, fault: TextFault) -> Result<(), Memory>
-    ensures { OnOk result (bytes.new.items ≡ bytes.old.items ++ text_fault_words fault) }
+/// A job's fault as an answer.
+pub(crate) fn answer_of(fault: JobFault) -> Answer
+    ensures { result ≡ answer_of fault }
 {
     match fault {
-        TextFault::BadByte(line) => push_line(alloc, bytes, b"BadByte ", line)?,
-        TextFault::OpenQuote(line) => push_line(alloc, bytes, b"OpenQuote ", line)?,
-        TextFault::TooLong => bytes.extend_from_slice(b"TooLong")?,
-        TextFault::Memory => bytes.extend_from_slice(b"Memory")?,
+        JobFault::Shelf => Answer::Shelf,
+        JobFault::Memory => Answer::Memory,
+        fault => Answer::Refused(fault),
     }
-    Ok(())
 }
 
-/// Adds a fault of tokens: its name and its line.
-fn push_tree_fault(alloc: Global, bytes: &mut Vec<u8>, fault: CclFault) -> Result<(), Memory>
-    ensures { OnOk result (bytes.new.items ≡ bytes.old.items ++ tree_fault_words fault) }
+/// The text of a run that is done up to this iteration.
+fn done_text(alloc: Global, iteration: u64) -> Result<Text, Memory>
+    ensures { IfOk result (λ text. text ≡ done_text iteration) }
 {
-    match fault {
-        CclFault::Unexpected(line) => push_line(alloc, bytes, b"Unexpected ", line)?,
-        CclFault::Repeated(line) => push_line(alloc, bytes, b"Repeated ", line)?,
-        CclFault::BadNumber(line) => push_line(alloc, bytes, b"BadNumber ", line)?,
-        CclFault::Limit(line) => push_line(alloc, bytes, b"Limit ", line)?,
-        CclFault::Memory => bytes.extend_from_slice(b"Memory")?,
-    }
-    Ok(())
+    let text = format!(in alloc; "done: iteration {iteration}\n")?;
+    Ok(Text::new(text.into_bytes()))
 }
 
-/// Adds a name and a line.
-fn push_line(alloc: Global, bytes: &mut Vec<u8>, name: &[u8], line: u32) -> Result<(), Memory>
-    ensures { OnOk result (bytes.new.items ≡ bytes.old.items ++ (name.now ++ decimal line)) }
+/// The text of a run that isn't built.
+fn not_built_text(alloc: Global, file: &[u8]) -> Result<Text, Memory>
+    ensures { IfOk result (λ text. text ≡ not_built_text file.now) }
 {
-    bytes.extend_from_slice(name)?;
-    bytes.extend_from_slice(line.to_string(alloc)?.as_bytes())?;
-    Ok(())
+    let mut text = Text::from_slice(alloc, b"refused: NotBuilt ")?;
+    text.push_slice(file)?;
+    text.push_slice(b"\n")?;
+    Ok(text)
 }
 
 /// Prints an answer for a file and gives its status; want of memory in its place; 4 where the sink fails.
@@ -134,8 +103,9 @@ pub(crate) fn reply<O: Sink>(alloc: Global, answer: Answer, file: &[u8], out: &m
     ensures said { WasSaid O.tells file.now answer result (O.written out.old) (O.written out.new) (O.faults out.old) (O.faults out.new) }
     ensures later { O.faults out.old ≤ O.faults out.new }
 {
+    let status = answer.status();
     match answer.text(alloc, file) {
-        Ok(text) => say(out, text.as_slice(), answer.status()),
+        Ok(text) => say(out, text.as_slice(), status),
         Err(Memory) => say(out, b"memory\n", 5),
     }
 }

@@ -12,7 +12,7 @@ use cx_rule::{Meter, Overflow, Place, Routine, apply};
 use std::alloc::Global;
 
 /// How many points the grid has.
-fn points(shape: &Shape) -> usize
+pub(crate) fn points(shape: &Shape) -> usize
     requires { IsShape shape.now }
     ensures { result ≡ point_count (whole shape.now) }
 {

@@ -1,5 +1,6 @@
-use Rattle.std.proofs.Common.{◌∙◌, sym, [], slice_index_or}
+use Rattle.std.proofs.Common.{[], slice_index_or}
 use Rattle.cx_run.proofs.Clauses as clauses
+use Rattle.cx_run.proofs.ForJob.{no_job, not_first}
 use Rattle.cx_run.proofs.call.cactus.Goals as goal
 
 pub returns-clause-statuses : goal.returns-clause-statuses
@@ -26,14 +27,19 @@ returns-clause-printed g c = (c.answer_to-answer.result, slice_index_or c.args.w
 pub returns-clause-sink_failed : goal.returns-clause-sink_failed
 returns-clause-sink_failed g c e = clauses.sink_failed _ _ c.answer_to-answer.result _ _ _ _ _ c.reply.ensures.said e
 
-pub returns-clause-usage_given : goal.returns-clause-usage_given
-returns-clause-usage_given g c u = clauses.usage_given _ (slice_index_or c.args.words.now 1 []) c.answer_to-answer.result _ _ _ _ _ _ c.answer_to-answer.ensures.explained (rw c.second_word.ensures at c.reply.ensures.said) u
+pub returns-clause-wrong_use : goal.returns-clause-wrong_use
+returns-clause-wrong_use g c none = clauses.wrong_use _ (slice_index_or c.args.words.now 1 []) c.answer_to-answer.result _ _ _ _ _ _ c.answer_to-answer.ensures.explained (rw c.second_word.ensures at c.reply.ensures.said) none
 
-pub returns-clause-no_file_given : goal.returns-clause-no_file_given
-returns-clause-no_file_given g c tells f run h shelf disk sink = clauses.no_file_given _ (slice_index_or c.args.words.now 1 []) c.answer_to-answer.result _ _ _ _ _ _ c.answer_to-answer.ensures.explained (rw c.second_word.ensures at c.reply.ensures.said) (λ f x y p q. sym (p tells) ∙ q tells) f run (λ t. h) shelf disk sink
+pub returns-clause-without_run : goal.returns-clause-without_run
+returns-clause-without_run g c command file asks other = clauses.without_run _ (slice_index_or c.args.words.now 1 []) c.answer_to-answer.result c.answer_to-answer.ensures.explained command file asks other
 
-pub returns-clause-refused_given : goal.returns-clause-refused_given
-returns-clause-refused_given g c tells f bytes run h none shelf disk sink = clauses.refused_given _ (slice_index_or c.args.words.now 1 []) c.answer_to-answer.result _ _ _ _ _ _ c.answer_to-answer.ensures.explained (rw c.second_word.ensures at c.reply.ensures.said) (λ f x y p q. sym (p tells) ∙ q tells) f bytes run (λ t. h) none shelf disk sink
+pub returns-clause-answered : goal.returns-clause-answered
+returns-clause-answered g c command file asks shelf disk sink = clauses.answered _ (slice_index_or c.args.words.now 1 []) c.answer_to-answer.result _ _ _ _ _ _ c.answer_to-answer.ensures.explained (rw c.second_word.ensures at c.reply.ensures.said) command file asks shelf disk sink
 
-pub returns-clause-done_given : goal.returns-clause-done_given
-returns-clause-done_given g c tells f bytes job run h asks is shelf disk sink = clauses.done_given _ (slice_index_or c.args.words.now 1 []) c.answer_to-answer.result _ _ _ _ _ _ c.answer_to-answer.ensures.explained (rw c.second_word.ensures at c.reply.ensures.said) (λ f x y p q. sym (p tells) ∙ q tells) f bytes job run (λ t. h) asks is shelf disk sink
+pub returns-clause-job_given : goal.returns-clause-job_given
+returns-clause-job_given g c told command file job asks made shelf disk sink built = clauses.job_given _ (slice_index_or c.args.words.now 1 []) c.answer_to-answer.result _ _ _ _ _ _ c.answer_to-answer.ensures.explained (rw c.second_word.ensures at c.reply.ensures.said) command file job asks (c.answer_to-answer.ensures.job_given told command file job asks made) shelf disk sink built
+
+pub returns-clause-no_job_given : goal.returns-clause-no_job_given
+returns-clause-no_job_given g c told command file asks none shelf disk sink =
+    not_first (λ zero. let d = returns-clause-done g c zero in no_job _ _ _ command d.0 file d.1 d.2 d.3 asks none (d.4 told))
+    (returns-clause-answered g c command file asks shelf disk sink)
