@@ -1,1 +1,1 @@
-pub mod FirstTwo
+pub mod Handed

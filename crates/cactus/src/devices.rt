@@ -4,24 +4,34 @@ ghost use Rattle.cx_disk.specs.Cause.{HasCause};
 ghost use Rattle.cx_disk.specs.Disk.{untold};
 ghost use Rattle.cx_job.specs.Shelf.{nothing_held};
 
+use crate::samples::File;
 use cx_disk::{Disk, DiskFault};
 use cx_run::{Shelf, ShelfFault};
 use cx_text::Text;
 use std::alloc::Global;
 
-/// A shelf that fails in its first call, and then gives these bytes for every name.
+/// A shelf that fails at the first reading of its list of thorns, and then has these files.
 #[derive(Drop)]
 pub struct LateShelf {
-    bytes: &'static [u8],
+    files: &'static [File],
     faults: u64,
 }
 
 impl LateShelf {
-    pub fn new(bytes: &'static [u8]) -> Self
-        ensures given { result.bytes.now ≡ bytes.now }
+    pub fn new(files: &'static [File]) -> Self
         ensures faults { result.faults ≡ 0 }
     {
-        LateShelf { bytes, faults: 0 }
+        LateShelf { files, faults: 0 }
+    }
+
+    /// The bytes of the first file of a name.
+    fn find(&self, name: &[u8]) -> Option<&'static [u8]> {
+        for file in self.files {
+            if file.0 == name {
+                return Some(file.1);
+            }
+        }
+        None
     }
 }
 
@@ -32,12 +42,15 @@ impl Shelf for LateShelf {
 
     ghost faults = { λ shelf. shelf.faults };
 
-    fn read(&mut self, alloc: Global, _name: &Text) -> Result<Option<Vec<u8>>, ShelfFault> {
-        if self.faults == 0 {
+    fn read(&mut self, alloc: Global, name: &Text) -> Result<Option<Vec<u8>>, ShelfFault> {
+        if self.faults == 0 && name.as_slice() == b"ThornList".as_slice() {
             self.faults = 1;
             return Err(ShelfFault::Failed);
         }
-        Ok(Some(self.bytes.to_vec(alloc)?))
+        match self.find(name.as_slice()) {
+            Some(bytes) => Ok(Some(bytes.to_vec(alloc)?)),
+            None => Ok(None),
+        }
     }
 }
 

@@ -1,23 +1,28 @@
-//! The program: a thorn's automaton, from a parameter file in the current folder to the output file.
+//! The program: what the words ask of a parameter file in the current folder.
 #![tactic(auto)]
 
-ghost use Rattle.std.specs.Prelude.{map};
-ghost use Rattle.cx_run.specs.Automaton.{IsAutomaton};
+ghost use Rattle.std.specs.Prelude.{◌≡◌, map};
+ghost use Rattle.cactus.specs.Samples.{sample_rules, sample_specs};
 
 #[cfg(test)]
 mod devices;
 #[cfg(test)]
+mod faults;
+#[cfg(test)]
+mod samples;
+#[cfg(test)]
 mod tests;
 
-use cx_disk::FolderDisk;
+use cx_disk::{Disk, FolderDisk};
 use cx_rule::{Meter, Routine};
-use cx_run::{FolderShelf, StdoutSink, cactus};
+use cx_run::{FolderShelf, Shelf, Sink, StdoutSink, cactus};
 use cx_text::{Memory, Text};
 use cx_thorn_ca::{CaCount, CaInit, CaStep, CaZero, LifeCount, LifeInit, LifeStep, LifeZero};
 use cx_thorn_pde::{
     ControlSet, ControlSpin, DiffFlat, DiffInit, DiffScalar, DiffStep, DiffSum, WaveCopy, WaveFlat,
     WaveInit, WaveInit1, WaveScalar, WaveStep, WaveSum,
 };
+use std::alloc::Global;
 use std::env;
 use std::io::{self, ErrorKind};
 use std::process::ExitCode;
@@ -35,19 +40,34 @@ fn main(rt: HostRuntime) -> ExitCode {
 /// Does what the words ask, over the current folder and standard output. It fails where memory is wanting.
 fn run(rt: &HostRuntime) -> io::Result<u8> {
     let words = words(rt)?;
-    match answered(rt, &words) {
+    match in_folder(rt, &words) {
         Ok(status) => Ok(status),
         Err(Memory) => Err(io::Error::from(ErrorKind::OutOfMemory)),
     }
 }
 
-/// What the top call answers, with the routines of all sample thorns.
-fn answered(rt: &HostRuntime, words: &[Text]) -> Result<u8, Memory> {
+/// What the top call answers over the current folder and standard output.
+fn in_folder(rt: &HostRuntime, words: &[Text]) -> Result<u8, Memory> {
     let alloc = rt.alloc();
+    let mut shelf = FolderShelf::new(rt.clone()?);
+    let mut disk = FolderDisk::new(rt.clone()?, alloc);
+    let mut out = StdoutSink::new(rt.clone()?);
+    let mut meter = Meter::new(rt);
+    answered(alloc, words, &mut shelf, &mut disk, &mut out, &mut meter)
+}
+
+/// What the top call answers over these devices, with the routines of all sample thorns.
+fn answered<H: Shelf, D: Disk, O: Sink>(
+    alloc: Global,
+    words: &[Text],
+    shelf: &mut H,
+    disk: &mut D,
+    out: &mut O,
+    meter: &mut Meter,
+) -> Result<u8, Memory> {
     let mut routines: Vec<Box<dyn Routine>> = Vec::new(alloc);
     routines.push(Box::new(alloc, CaInit::new(alloc)?)?)?;
     routines.push(Box::new(alloc, CaStep::new(alloc)?)?)?;
-    begins_with_automaton(&routines);
     routines.push(Box::new(alloc, CaZero::new(alloc)?)?)?;
     routines.push(Box::new(alloc, CaCount::new(alloc)?)?)?;
     routines.push(Box::new(alloc, LifeInit::new(alloc)?)?)?;
@@ -68,32 +88,23 @@ fn answered(rt: &HostRuntime, words: &[Text]) -> Result<u8, Memory> {
     routines.push(Box::new(alloc, DiffSum::new(alloc)?)?)?;
     routines.push(Box::new(alloc, ControlSet::new(alloc)?)?)?;
     routines.push(Box::new(alloc, ControlSpin::new(alloc)?)?)?;
-    called(rt, words, &routines)
+    Ok(called(alloc, words, shelf, disk, out, &routines, meter))
 }
 
-/// The two routines that the top call looks for stand first.
-fn begins_with_automaton(routines: &[Box<dyn Routine>])
-    requires { IsAutomaton (map rule routines.now) (map spec_of routines.now) }
-    ensures { IsAutomaton (map rule routines.now) (map spec_of routines.now) }
-{}
-
-/// The top call, over the current folder and standard output.
-fn called(rt: &HostRuntime, words: &[Text], routines: &[Box<dyn Routine>]) -> Result<u8, Memory>
-    requires { IsAutomaton (map rule routines.now) (map spec_of routines.now) }
+/// The top call with the sample thorns' routines.
+fn called<H: Shelf, D: Disk, O: Sink>(
+    alloc: Global,
+    words: &[Text],
+    shelf: &mut H,
+    disk: &mut D,
+    out: &mut O,
+    routines: &[Box<dyn Routine>],
+    meter: &mut Meter,
+) -> u8
+    requires rules { map rule routines.now ≡ sample_rules }
+    requires specs { map spec_of routines.now ≡ sample_specs }
 {
-    let mut shelf = FolderShelf::new(rt.clone()?);
-    let mut disk = FolderDisk::new(rt.clone()?, rt.alloc());
-    let mut out = StdoutSink::new(rt.clone()?);
-    let mut meter = Meter::new(rt);
-    Ok(cactus(
-        rt.alloc(),
-        words,
-        &mut shelf,
-        &mut disk,
-        &mut out,
-        routines,
-        &mut meter,
-    ))
+    cactus(alloc, words, shelf, disk, out, routines, meter)
 }
 
 /// The words after the program's name. Words that aren't text are those of no command, as no words are.

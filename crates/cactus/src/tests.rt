@@ -1,35 +1,72 @@
 // The top call over objects in memory and over devices that fail.
+use crate::answered;
 use crate::devices::{HollowDisk, LateShelf};
+use crate::faults::{FAULTS, IF_AROUND, IF_NOWHERE, PLAIN, SAMPLE_FAULTS};
+use crate::samples::{CONTROL, File, HEAT, LIFE, SAMPLES, WAVE};
 use cx_disk::{Disk, MemoryDisk};
-use cx_rule::{Meter, Routine};
-use cx_run::{FolderShelf, MemoryShelf, MemorySink, Shelf, Sink, cactus};
+use cx_rule::Meter;
+use cx_run::{FolderShelf, MemoryShelf, MemorySink, Shelf, Sink};
 use cx_text::{List, Memory, Text};
-use cx_thorn_ca::{CaInit, CaStep};
 use std::alloc::Global;
 use std::fs;
 use std::test::Fail;
 
-const TWO: &[u8] =
-    b"ActiveThorns = \"ElemCA\"\nCactus::cctk_itlast = 2\ndriver::global_nx = 8\ndriver::periodic = yes\nca::start = 3\nIO::out_vars = \"ca::cell\"\n";
-
 const NONE: &[u8] =
     b"ActiveThorns = \"ElemCA\"\nCactus::cctk_itlast = 0\ndriver::global_nx = 8\ndriver::periodic = yes\nca::start = 3\nIO::out_vars = \"ca::cell\"\n";
 
-/// The settings of `TWO` in another order, in other spellings that mean the same, with comments and ignored lines.
+/// The settings of `CA` in another order, in other spellings that mean the same, with comments and ignored lines.
 const OTHER_ORDER: &[u8] =
-    b"# cells\n!DESC \"three\"\nIO::out_vars = ca::cell # all\nca::start=\"3\"\n  ! no setting = 1\nActiveThorns = \"Cactus elemca, PUGH\"\n\nDRIVER::periodic = yes\ncactus::cctk_itlast = 2\ndriver::Global_NX = 8";
+    b"# cells\n!DESC \"three\"\nIO::out_vars = ca::cell # all\nca::start=\"3\"\n  ! no setting = 1\nActiveThorns = \"Cactus elemca, PUGH\"\n\nDRIVER::periodic = yes\ncactus::cctk_itlast = 02\ndriver::Global_NX = 8";
+
+const PARAMETER_FILES: &[File] = &[
+    (b"life.par", LIFE),
+    (b"wave.par", WAVE),
+    (b"heat.par", HEAT),
+    (b"control.par", CONTROL),
+    (b"none.par", NONE),
+    (b"other.par", OTHER_ORDER),
+    (
+        b"cut.par",
+        b"ActiveThorns = \"ElemCA\"\nCactus::cctk_itlast = 2\ndriver::global_nx = 8\ndriver::periodic = yes\ndriver::widths_x = \"8\"\nca::start = 3\nIO::out_vars = \"ca::cell\"\n",
+    ),
+    (b"byte.par", b"a = 1\nb = \x01\n"),
+    (b"open.par", b"a = \"1\nb = 2\n"),
+    (b"sign.par", b"ca::start 3\n"),
+    (b"index.par", b"a[1023] = 1\na[1024] = 1\n"),
+];
 
 const OUTPUT: &[u8] =
     b"# ca::cell iteration 0 size 8\n0 0 0 1 0 0 0 0\n\n# ca::cell iteration 1 size 8\n0 0 1 0 1 0 0 0\n\n# ca::cell iteration 2 size 8\n0 1 0 0 0 1 0 0\n\n";
 
+const USAGE: &[u8] =
+    b"usage: cactus run FILE\n       cactus check FILE\n       cactus schedule FILE\n       cactus describe FILE\n";
+
+const SCHEDULE: &[u8] =
+    b"bin STARTUP\nbin WRAGH\nbin PARAMCHECK\nbin BASEGRID\nbin INITIAL\n  call ElemCA::ca_init writes ca::cell(everywhere)\nbin POSTINITIAL\nbin PRESTEP\nbin EVOL\n  call ElemCA::ca_step reads ca::cell(everywhere) writes ca::cell(interior) sync ca::cell\n  call ElemCA::ca_zero writes ca::cell(boundary)\nbin POSTSTEP\n  call ElemCA::ca_count reads ca::cell(everywhere) writes ca::live(everywhere)\nbin CHECKPOINT\nbin ANALYSIS\nbin TERMINATE\nbin SHUTDOWN\nbin CPINITIAL not run\nbin RECOVER_PARAMETERS not run\nbin RECOVER_VARIABLES not run\nbin POST_RECOVER_VARIABLES not run\n";
+
+/// What `describe` prints before the schedule text.
+const KEY_BEGINS: &[u8] =
+    b"thorn Integer/ElemCA ca\ndirection x points 8 ghost 1 periodic\nvariable 0 ca::cell BYTE GF levels 1\nvariable 1 ca::live INT SCALAR levels 1\nparameter Cactus::cctk_itlast = \"2\"\nparameter Cactus::cctk_run_title = \"\"\nparameter Cactus::terminate = \"iteration\" 0\nparameter driver::global_nx = \"8\"\nparameter driver::global_ny = \"10\"\nparameter driver::global_nz = \"10\"\nparameter driver::global_nsize = \"-1\"\nparameter driver::ghost_size = \"-1\"\nparameter driver::ghost_size_x = \"1\"\nparameter driver::ghost_size_y = \"1\"\nparameter driver::ghost_size_z = \"1\"\nparameter driver::periodic = \"yes\"\nparameter driver::periodic_x = \"yes\"\nparameter driver::periodic_y = \"yes\"\nparameter driver::periodic_z = \"yes\"\nparameter driver::while_limit = \"1000\"\nparameter IO::out_vars = \"ca::cell\"\nparameter IO::out_every = \"1\"\nparameter IO::checkpoint_every = \"-1\"\nparameter IO::checkpoint_keep = \"1\"\nparameter IO::checkpoint_on_terminate = \"no\"\nparameter IO::checkpoint_ID = \"no\"\nparameter ca::rule = \"90\"\nparameter ca::start = \"3\"\nparameter ca::seed = \"-1\"\n";
+
+/// What it prints behind it.
+const STARRED: &[u8] =
+    b"parameter driver::parts_x = \"1\"\nparameter driver::parts_y = \"1\"\nparameter driver::parts_z = \"1\"\nparameter driver::widths_x = \"\"\nparameter driver::widths_y = \"\"\nparameter driver::widths_z = \"\"\nparameter driver::lead = \"0\"\nparameter IO::out_dir = \".\"\nparameter IO::checkpoint_dir = \".\"\nparameter IO::recover_dir = \".\"\nparameter IO::recover = \"no\" 0\n";
+
 /// Words, the status that they give and the text that is printed.
 const ANSWERS: &[(&[&[u8]], u8, &[u8])] = &[
-    (&[], 1, b"usage: cactus run FILE\n"),
-    (&[b"run"], 1, b"usage: cactus run FILE\n"),
-    (&[b"run", b"-x"], 1, b"usage: cactus run FILE\n"),
-    (&[b"run", b"b.par"], 2, b"refused: NoFile b.par\n"),
-    (&[b"run", b"odd.par"], 2, b"refused: NotBuilt odd.par\n"),
-    (&[b"run", b"zero.par"], 2, b"refused: NotBuilt zero.par\n"),
+    (&[], 1, USAGE),
+    (&[b"run"], 1, USAGE),
+    (&[b"run", b"-x"], 1, USAGE),
+    (&[b"check", b""], 1, USAGE),
+    (&[b"walk", b"ca.par"], 1, USAGE),
+    (
+        &[b"run", b"a", b"--turns", b"1", b"--turns", b"2"],
+        1,
+        USAGE,
+    ),
+    (&[b"make", b"1", b"7"], 1, USAGE),
+    (&[b"run", b"no.par"], 2, b"refused: NoFile no.par\n"),
+    (&[b"check", b"no.par"], 2, b"refused: NoFile no.par\n"),
     (&[b"run", b"byte.par"], 2, b"refused: byte.par BadByte 2\n"),
     (
         &[b"run", b"open.par"],
@@ -46,8 +83,29 @@ const ANSWERS: &[(&[&[u8]], u8, &[u8])] = &[
         2,
         b"refused: index.par BadNumber 2\n",
     ),
+    (&[b"run", b"heat.par"], 2, b"refused: NotBuilt heat.par\n"),
+    (&[b"run", b"cut.par"], 2, b"refused: NotBuilt cut.par\n"),
     (&[b"run", b"none.par"], 0, b"done: iteration 0\n"),
     (&[b"run", b"ca.par"], 0, b"done: iteration 2\n"),
+    (&[b"check", b"ca.par"], 0, b"accepted\n"),
+    (&[b"check", b"life.par"], 0, b"accepted\n"),
+    (&[b"check", b"wave.par"], 0, b"accepted\n"),
+    (&[b"check", b"heat.par"], 0, b"accepted\n"),
+    (&[b"check", b"control.par"], 0, b"accepted\n"),
+    (&[b"schedule", b"ca.par"], 0, SCHEDULE),
+];
+
+/// Thorns, each with the grids' directions that it has.
+const THORNS: &[&[u8]] = &[b"ElemCA", b"Life2D", b"WaveInt", b"DiffInt"];
+
+/// Periodicity and ghost widths; none leaves the routines of reach 1 without ghost points.
+const GRIDS: &[&[u8]] = &[
+    b"driver::periodic = no\n",
+    b"driver::periodic = yes\n",
+    b"driver::periodic = yes\ndriver::periodic_x = no\n",
+    b"driver::ghost_size = 2\n",
+    b"driver::ghost_size = 8\ndriver::global_nsize = 40\n",
+    b"driver::ghost_size_x = 3\ndriver::periodic = yes\n",
 ];
 
 fn texts(alloc: Global, words: &[&[u8]]) -> Result<Vec<Text>, Memory> {
@@ -58,69 +116,152 @@ fn texts(alloc: Global, words: &[&[u8]]) -> Result<Vec<Text>, Memory> {
     Ok(texts)
 }
 
-/// A shelf of files, of which some ask for something that isn't built and some have a fault.
-fn shelf(alloc: Global) -> Result<MemoryShelf, Memory> {
-    let files: &[(&[u8], &[u8])] = &[
-        (b"ca.par", TWO),
-        (b"none.par", NONE),
-        (b"other.par", OTHER_ORDER),
-        (b"odd.par", b"ActiveThorns = \"WaveInt\"\n"),
-        (
-            b"zero.par",
-            b"ActiveThorns = \"ElemCA\"\nCactus::cctk_itlast = 02\ndriver::global_nx = 8\ndriver::periodic = yes\nca::start = 3\nIO::out_vars = \"ca::cell\"\n",
-        ),
-        (b"byte.par", b"a = 1\nb = \x01\n"),
-        (b"open.par", b"a = \"1\nb = 2\n"),
-        (b"sign.par", b"ca::start 3\n"),
-        (b"index.par", b"a[1023] = 1\na[1024] = 1\n"),
-    ];
-    let mut list = Vec::new(alloc);
+fn push_files(alloc: Global, list: &mut Vec<(Text, Text)>, files: &[File]) -> Result<(), Memory> {
     for file in files {
         list.push((
             Text::from_slice(alloc, file.0)?,
             Text::from_slice(alloc, file.1)?,
         ))?;
     }
+    Ok(())
+}
+
+/// A shelf of files; of several of one name the first counts.
+fn shelf(alloc: Global, files: &[File], more: &[File]) -> Result<MemoryShelf, Memory> {
+    let mut list = Vec::new(alloc);
+    push_files(alloc, &mut list, files)?;
+    push_files(alloc, &mut list, more)?;
     Ok(MemoryShelf::new(List::new(list)))
 }
 
 /// A sink that fails in the calls of these numbers.
 fn sink(alloc: Global, fail: &[u64]) -> Result<MemorySink, Memory> {
-    MemorySink::new(alloc, 100, List::new(fail.to_vec(alloc)?))
+    MemorySink::new(alloc, 10_000, List::new(fail.to_vec(alloc)?))
 }
 
-fn called<H: Shelf, D: Disk, O: Sink>(
-    alloc: Global,
+/// What a command prints over a shelf, with its status, on a new disk that no command but `run` changes.
+fn printed(
+    rt: &HostRuntime,
     words: &[&[u8]],
-    shelf: &mut H,
-    disk: &mut D,
-    out: &mut O,
-    meter: &mut Meter,
-) -> Result<u8, Memory> {
+    shelf: &mut MemoryShelf,
+) -> Result<(u8, MemorySink), Fail> {
+    let alloc = rt.alloc();
     let words = texts(alloc, words)?;
-    let mut routines: Vec<Box<dyn Routine>> = Vec::new(alloc);
-    routines.push(Box::new(alloc, CaInit::new(alloc)?)?)?;
-    routines.push(Box::new(alloc, CaStep::new(alloc)?)?)?;
-    Ok(cactus(alloc, &words, shelf, disk, out, &routines, meter))
+    let mut disk = MemoryDisk::new(alloc, List::empty(alloc));
+    let mut out = sink(alloc, &[])?;
+    let mut meter = Meter::new(rt);
+    let status = answered(alloc, &words, shelf, &mut disk, &mut out, &mut meter)?;
+    Ok((status, out))
 }
 
 #[test]
 fn answers(rt: HostRuntime) -> Result<(), Fail> {
     let alloc = rt.alloc();
+    let mut shelf = shelf(alloc, PARAMETER_FILES, SAMPLES)?;
     for answer in ANSWERS {
-        let mut disk = MemoryDisk::new(alloc, List::empty(alloc));
-        let mut out = sink(alloc, &[])?;
-        let mut meter = Meter::new(&rt);
-        let status = called(
-            alloc,
-            answer.0,
-            &mut shelf(alloc)?,
-            &mut disk,
-            &mut out,
-            &mut meter,
-        )?;
+        let (status, out) = printed(&rt, answer.0, &mut shelf)?;
         assert_eq!(rt; status, answer.1);
         assert_eq!(rt; out.bytes(), answer.2);
+    }
+    Ok(())
+}
+
+#[test]
+fn description_of_eight_points(rt: HostRuntime) -> Result<(), Fail> {
+    let alloc = rt.alloc();
+    let mut shelf = shelf(alloc, PARAMETER_FILES, SAMPLES)?;
+    let mut expected = Text::from_slice(alloc, KEY_BEGINS)?;
+    expected.push_slice(SCHEDULE)?;
+    expected.push_slice(STARRED)?;
+    let (status, out) = printed(&rt, &[b"describe", b"ca.par"], &mut shelf)?;
+    assert_eq!(rt; status, 0);
+    assert_eq!(rt; out.bytes(), expected.as_slice());
+    Ok(())
+}
+
+#[test]
+fn sample_thorns_are_shown(rt: HostRuntime) -> Result<(), Fail> {
+    let alloc = rt.alloc();
+    let files: &[&[u8]] = &[
+        b"ca.par",
+        b"life.par",
+        b"wave.par",
+        b"heat.par",
+        b"control.par",
+    ];
+    let mut shelf = shelf(alloc, PARAMETER_FILES, SAMPLES)?;
+    for file in files {
+        let (status, schedule) = printed(&rt, &[b"schedule", file], &mut shelf)?;
+        assert_eq!(rt; status, 0);
+        assert!(rt; schedule.bytes().starts_with(b"bin STARTUP\n"));
+        let (status, description) = printed(&rt, &[b"describe", file], &mut shelf)?;
+        assert_eq!(rt; status, 0);
+        assert!(rt; description.bytes().starts_with(b"thorn Integer/"));
+    }
+    Ok(())
+}
+
+/// What `check t.par` prints where these files stand before others.
+fn checked(rt: &HostRuntime, files: &[File], more: &[File]) -> Result<MemorySink, Fail> {
+    let mut shelf = shelf(rt.alloc(), files, more)?;
+    let (_, out) = printed(rt, &[b"check", b"t.par"], &mut shelf)?;
+    Ok(out)
+}
+
+#[test]
+fn faults_of_plain_thorns(rt: HostRuntime) -> Result<(), Fail> {
+    for fault in FAULTS {
+        let out = checked(&rt, fault.0, PLAIN)?;
+        assert_eq!(rt; out.bytes(), fault.1);
+    }
+    let out = checked(&rt, &[], PLAIN)?;
+    assert_eq!(rt; out.bytes(), b"accepted\n".as_slice());
+    Ok(())
+}
+
+#[test]
+fn faults_of_sample_thorns(rt: HostRuntime) -> Result<(), Fail> {
+    for fault in SAMPLE_FAULTS {
+        let out = checked(&rt, fault.0, SAMPLES)?;
+        assert_eq!(rt; out.bytes(), fault.1);
+    }
+    Ok(())
+}
+
+#[test]
+fn if_around_the_only_start(rt: HostRuntime) -> Result<(), Fail> {
+    let refused = checked(&rt, IF_AROUND, SAMPLES)?;
+    assert!(rt; refused.bytes().starts_with(b"refused: Unset n"));
+    let accepted = checked(&rt, IF_NOWHERE, SAMPLES)?;
+    assert_eq!(rt; accepted.bytes(), b"accepted\n".as_slice());
+    Ok(())
+}
+
+/// A parameter file of one thorn on a grid.
+fn on_grid(alloc: Global, thorn: &[u8], grid: &[u8]) -> Result<Text, Memory> {
+    let mut text = Text::from_slice(alloc, b"ActiveThorns = ")?;
+    text.push_slice(thorn)?;
+    text.push_slice(b"\n")?;
+    text.push_slice(grid)?;
+    Ok(text)
+}
+
+#[test]
+fn sample_thorns_on_many_grids(rt: HostRuntime) -> Result<(), Fail> {
+    let alloc = rt.alloc();
+    for thorn in THORNS {
+        for grid in GRIDS {
+            let mut list = Vec::new(alloc);
+            list.push((
+                Text::from_slice(alloc, b"t.par")?,
+                on_grid(alloc, thorn, grid)?,
+            ))?;
+            push_files(alloc, &mut list, SAMPLES)?;
+            let mut shelf = MemoryShelf::new(List::new(list));
+            let (status, out) = printed(&rt, &[b"check", b"t.par"], &mut shelf)?;
+            assert_eq!(rt; status, 0);
+            assert_eq!(rt; out.bytes(), b"accepted\n".as_slice());
+        }
     }
     Ok(())
 }
@@ -133,18 +274,13 @@ fn output_of_eight_points(rt: HostRuntime) -> Result<(), Fail> {
         (b"ca.par", OUTPUT, 24),
         (b"other.par", OUTPUT, 24),
     ];
+    let mut shelf = shelf(alloc, PARAMETER_FILES, SAMPLES)?;
     for file in files {
+        let words = texts(alloc, &[b"run", file.0])?;
         let mut disk = MemoryDisk::new(alloc, List::empty(alloc));
         let mut out = sink(alloc, &[])?;
         let mut meter = Meter::new(&rt);
-        let status = called(
-            alloc,
-            &[b"run", file.0],
-            &mut shelf(alloc)?,
-            &mut disk,
-            &mut out,
-            &mut meter,
-        )?;
+        let status = answered(alloc, &words, &mut shelf, &mut disk, &mut out, &mut meter)?;
         assert_eq!(rt; status, 0);
         assert_eq!(rt; disk.bytes(8), file.1);
         assert_eq!(rt; meter.count(), file.2);
@@ -159,17 +295,7 @@ fn file_that_is_too_long(rt: HostRuntime) -> Result<(), Fail> {
     let name = Text::from_slice(alloc, b"long.par")?;
     let bytes = Text::new(vec![in alloc; b' '; 1_048_577]?);
     let mut shelf = MemoryShelf::new(List::new(vec![in alloc; (name, bytes)]?));
-    let mut disk = MemoryDisk::new(alloc, List::empty(alloc));
-    let mut out = sink(alloc, &[])?;
-    let mut meter = Meter::new(&rt);
-    let status = called(
-        alloc,
-        &[b"run", b"long.par"],
-        &mut shelf,
-        &mut disk,
-        &mut out,
-        &mut meter,
-    )?;
+    let (status, out) = printed(&rt, &[b"run", b"long.par"], &mut shelf)?;
     assert_eq!(rt; status, 2);
     assert_eq!(rt; out.bytes(), b"refused: long.par TooLong\n".as_slice());
     Ok(())
@@ -178,29 +304,16 @@ fn file_that_is_too_long(rt: HostRuntime) -> Result<(), Fail> {
 #[test]
 fn disk_that_fails_once(rt: HostRuntime) -> Result<(), Fail> {
     let alloc = rt.alloc();
+    let words = texts(alloc, &[b"run", b"ca.par"])?;
     for fail in 0..10 {
         let mut disk = HollowDisk::new(fail);
         let mut out = sink(alloc, &[])?;
         let mut meter = Meter::new(&rt);
-        let mut shelf = shelf(alloc)?;
-        let first = called(
-            alloc,
-            &[b"run", b"ca.par"],
-            &mut shelf,
-            &mut disk,
-            &mut out,
-            &mut meter,
-        )?;
+        let mut shelf = shelf(alloc, PARAMETER_FILES, SAMPLES)?;
+        let first = answered(alloc, &words, &mut shelf, &mut disk, &mut out, &mut meter)?;
         assert_eq!(rt; first, 4);
         assert_eq!(rt; disk.calls(), fail + 1);
-        let second = called(
-            alloc,
-            &[b"run", b"ca.par"],
-            &mut shelf,
-            &mut disk,
-            &mut out,
-            &mut meter,
-        )?;
+        let second = answered(alloc, &words, &mut shelf, &mut disk, &mut out, &mut meter)?;
         assert_eq!(rt; second, 0);
         assert_eq!(rt; disk.calls(), fail + 11);
         assert_eq!(rt;
@@ -214,13 +327,13 @@ fn disk_that_fails_once(rt: HostRuntime) -> Result<(), Fail> {
 #[test]
 fn shelf_and_sink_that_fail_once(rt: HostRuntime) -> Result<(), Fail> {
     let alloc = rt.alloc();
-    let words: &[&[u8]] = &[b"run", b"ca.par"];
-    let mut shelf = LateShelf::new(TWO);
+    let words = texts(alloc, &[b"run", b"ca.par"])?;
+    let mut shelf = LateShelf::new(SAMPLES);
     let mut disk = HollowDisk::new(100);
     let mut out = sink(alloc, &[1])?;
     let mut meter = Meter::new(&rt);
     for status in [4, 4, 0] {
-        let given = called(alloc, words, &mut shelf, &mut disk, &mut out, &mut meter)?;
+        let given = answered(alloc, &words, &mut shelf, &mut disk, &mut out, &mut meter)?;
         assert_eq!(rt; given, status);
     }
     assert_eq!(rt;
