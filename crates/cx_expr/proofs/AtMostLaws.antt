@@ -220,7 +220,7 @@ local p S G r never front t us (Err d) e h =
       place = l.end;
       same = λ vs.
           ap p (ap (λ (ws : List Token). ws ++ t ∷ vs) l.start ∙ append_assoc k.before l.mid (t ∷ vs))
-          ∙ k.same (λ q. never (front ++ t ∷ us) d.1 (e ∙ ap (λ (w : Why). Err (w, d.1)) q)) (l.mid ++ t ∷ vs) (head-behind l.mid t vs us ∙ sym (ap head l.end));
+          ∙ k.same (l.mid ++ t ∷ vs) (head-behind l.mid t vs us ∙ sym (ap head l.end)) (λ q. absurd (never (front ++ t ∷ us) d.1 (e ∙ ap (λ (w : Why). Err (w, d.1)) q)));
     }
 
 -- ---- where reading is stopped
@@ -293,7 +293,7 @@ over_stops n p S G r never ts h =
       before = f.front;
       parts = f.parts;
       begins = λ next g. let b = goes_past p S G r f.front f.t f.rest (p (f.front ++ f.t ∷ f.rest)) refl less next g in over_begins n f.k S f.front f.t f.rest b.1 b.0 next f.over f.marks b.2;
-      same = λ q. over_same n f.k p S G r never f.front f.t f.rest f.over f.places less;
+      same = λ other o q. over_same n f.k p S G r never f.front f.t f.rest f.over f.places less other o;
     })
 
 -- a fault that comes before
@@ -318,9 +318,9 @@ before_stops n p S G r ts w rest e h =
       before = k.before;
       parts = k.parts;
       begins = λ next g. let b = k.begins next g in (b.0, limited i.k b.1, (clean k.before ++ b.1, sym (i.marks b.1), b.2), shows_limited i.k w rest b.1 b.3);
-      same = λ q other o.
+      same = λ other o q.
           let short : length (past n (k.before ++ other)) ≤ length other = subst (λ (us : List Token). length us ≤ length other) (sym (i.places other)) (past_short i.k other) in
-          ap (until (past n (k.before ++ other))) (k.same q other o) ∙ until_kept (past n (k.before ++ other)) (Err (w, other)) short;
+          ap (until (past n (k.before ++ other))) (k.same other o q) ∙ until_kept (past n (k.before ++ other)) (Err (w, other)) short;
     }
 
 at_most_stops : {A : Type 0} (n : ℕ) (p : Read A) (S : Grammar A) (G : Option Token → Type 0) → Reads p S G → Unrepeated p → (ts : List Token) (w : Why) (rest : List Token) → read_at_most n p ts ≡ Err (w, rest) → Stopped (read_at_most n p) (derives_at_most n S) G ts w rest

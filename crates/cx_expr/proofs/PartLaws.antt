@@ -1,7 +1,6 @@
 -- From a place on, the longest part is read, or the first fault is found.
 use Rattle.std.proofs.Common.{◌≡◌, ℕ, ◌+◌, ◌≤◌, List, [], ◌∷◌, ◌++◌, length, drop, Option, Some, None, Result, Ok, Err, refl, sym, ap, subst, ◌∙◌, append_assoc, arith}
 use Rattle.std.proofs.lemmas.List.{append-nil, length-append, length-drop}
-use Rattle.cx_text.specs.declared.stop.Mark.{Mark}
 use Rattle.cx_text.specs.declared.stop.Mark.TheVariants as marks
 use Rattle.cx_text.specs.declared.stop.Why.{Why}
 use Rattle.cx_text.specs.declared.stop.Why.TheVariants.{Unexpected, Marked}
@@ -10,9 +9,10 @@ use Rattle.cx_text.specs.declared.stop.Stop.TheVariants as stops
 use Rattle.cx_text.specs.declared.fault.CclFault.{CclFault}
 use Rattle.cx_text.specs.declared.fault.CclFault.TheVariants as faults
 use Rattle.cx_text.specs.declared.token.Token.{Token}
-use Rattle.cx_text.specs.Grammar.{Item, Grammar, tokens, clean, head, IsFirstFault, BeginsMarked, line_at}
+use Rattle.cx_text.specs.Grammar.{Item, Grammar, tokens, clean, head, line_at}
 use Rattle.cx_text.specs.Reading.{Answer, Read, Fails, Gives, fault_of}
-use Rattle.cx_text.proofs.Laws.{told, Shows, Taken, Reads, ok_is, err_is, tokens-clean, told-clean, taken_same}
+use Rattle.cx_text.proofs.Laws.{told, Taken, Reads, ok_is, tokens-clean, told-clean, taken_same}
+use Rattle.cx_text.proofs.Whole.{told_all, first_fault}
 use Rattle.cx_expr.specs.Parts.{IsBeginning, IsLongest, IsSpelledFrom, HasFaultFrom, IsFaultFrom, AnswersFrom, AnswersDerived, AnswersFromOnly, ReadsFrom}
 use Rattle.cx_text.specs.Rules.{Rule}
 use Rattle.cx_text.specs.Grammar.{Spells}
@@ -25,20 +25,12 @@ told_left x y [] rest e = sym (ok_is x y [] rest e).1
 told_left x y ((t, None) ∷ ms) rest e = told_left x y ms rest e
 told_left x y ((t, Some m) ∷ ms) rest e = absurd cc
 
-told_expected : {A : Type 0} (x : A) (ms : List Item) (rest : List Token) → told x ms [] ≡ Err (Unexpected, rest) → ⊥
-told_expected x [] rest e = absurd cc
-told_expected x ((t, None) ∷ ms) rest e = told_expected x ms rest e
-told_expected {A} x ((t, Some m) ∷ ms) rest e = absurd (let h = (err_is {A = A} (Marked m) Unexpected (t ∷ (tokens ms ++ [])) rest e).0 in cc)
-
-told_whole : {A : Type 0} (p : Read A) (S : Grammar A) (G : Option Token → Type 0) → Reads p S G → (x : A) (ms : List Item) → S x ms None → p (tokens ms) ≡ told x ms []
-told_whole p S G r x ms s = ap p (sym (append-nil (tokens ms))) ∙ r.again x ms [] s
-
 -- nothing longer begins a derived list
 none_longer : {A : Type 0} (p : Read A) (S : Grammar A) (G : Option Token → Type 0) → Reads p S G → (ts : List Token) (x : A) (rest : List Token) (k : Taken S ts x rest) (t : Token) (more : List Token) → rest ≡ t ∷ more → IsBeginning S (k.front ++ t ∷ []) → ⊥
 none_longer p S G r ts x rest k t more e b =
     let listed : tokens b.1 ≡ k.front ++ t ∷ b.2 = b.4 ∙ append_assoc k.front (t ∷ []) b.2 in
     let one : p (tokens b.1) ≡ Ok (x, t ∷ b.2) = ap p listed ∙ taken_same p S G r ts x rest k (t ∷ b.2) (sym (ap head e)) in
-    absurd (let none : t ∷ b.2 ≡ [] = told_left b.0 x b.1 (t ∷ b.2) (sym (told_whole p S G r b.0 b.1 b.3) ∙ one) in cc)
+    absurd (let none : t ∷ b.2 ≡ [] = told_left b.0 x b.1 (t ∷ b.2) (sym (told_all p S G r b.0 b.1 b.3) ∙ one) in cc)
 
 pub spelled_from : {A : Type 0} (p : Read A) (S : Grammar A) (G : Option Token → Type 0) → Reads p S G → G None → (ts : List Token) (at : ℕ) (x : A) (place : ℕ) (rest : List Token) → at ≤ length ts → p (drop at ts) ≡ Ok (x, rest) → place + length rest ≡ length ts → IsSpelledFrom S ts at x place
 spelled_from p S G r g ts at x place rest within e sized =
@@ -58,27 +50,6 @@ spelled_from p S G r g ts at x place rest within e sized =
       spelled = spelled;
       ends = omega (arith, sized, size, whole);
     }
-
-shown : {A : Type 0} (S : Grammar A) (m : Mark) (before rest : List Token) (x : A) (more : List Item) → S x (clean before ++ more) None → Shows (Marked m) rest more → BeginsMarked S before m (head rest)
-shown S m before [] x more s h = absurd h
-shown S m before (t ∷ ts) x [] s h = absurd h
-shown S m before (t ∷ ts) x (i ∷ is) s h = (x, t, is, refl, subst (λ (j : Item). S x (clean before ++ j ∷ is) None) h s)
-
-pub first_fault : {A : Type 0} (p : Read A) (S : Grammar A) (G : Option Token → Type 0) → Reads p S G → G None → (w : Why) (ts rest : List Token) → p ts ≡ Err (w, rest) → (before : List Token) × (ts ≡ before ++ rest) × IsFirstFault S before w (head rest)
-first_fault p S G r g Unexpected ts rest e =
-    let k = r.stops ts Unexpected rest e in
-    let b = k.begins None g in (
-      k.before,
-      k.parts,
-      (
-        (b.0, b.1, b.2),
-        λ x ms more s q h. told_expected x ms more (sym (told_whole p S G r x ms s) ∙ ap p q ∙ k.same (λ q. absurd cc) more h),
-      ),
-    )
-first_fault p S G r g (Marked m) ts rest e =
-    let k = r.stops ts (Marked m) rest e in
-    let b = k.begins None g in
-    (k.before, k.parts, shown S m k.before rest b.0 b.1 b.2 b.3)
 
 fault_from : {A : Type 0} (p : Read A) (S : Grammar A) (G : Option Token → Type 0) → Reads p S G → G None → (ts : List Token) (at : ℕ) (w : Why) (rest : List Token) → p (drop at ts) ≡ Err (w, rest) → HasFaultFrom S ts at w (line_at ts rest)
 fault_from p S G r g ts at w rest e = let f = first_fault p S G r g w (drop at ts) rest e in (f.0, rest, f.1, f.2, refl)

@@ -30,7 +30,7 @@ pub record IsSpelledFrom {A : Type 0} (S : Grammar A) (ts : List Token) (at : �
 
 -- the first fault from a place on, and its line: that of the list's last token where the list ends too early
 abbrev pub HasFaultFrom : {A : Type 0} → Grammar A → List Token → ℕ → Why → ℕ → Type 0
-HasFaultFrom S ts at why line = (before : List Token) × (rest : List Token) × (drop at ts ≡ before ++ rest) × IsFirstFault S before why (head rest) × (line ≡ line_at ts rest)
+HasFaultFrom S ts at why line = (before : List Token) × (rest : List Token) × (drop at ts ≡ before ++ rest) × IsFirstFault S before why rest × (line ≡ line_at ts rest)
 
 abbrev pub IsFaultFrom : {A : Type 0} → Grammar A → List Token → ℕ → CclFault → Type 0
 IsFaultFrom S ts at faults.Memory = Unit {0}

@@ -6,7 +6,7 @@ use Rattle.cx_text.specs.declared.stop.Mark.{Mark}
 use Rattle.cx_text.specs.declared.stop.Why.{Why}
 use Rattle.cx_text.specs.declared.stop.Why.TheVariants.{Unexpected, Marked}
 use Rattle.cx_text.specs.declared.token.Token.{Token}
-use Rattle.cx_text.specs.Grammar.{Item, clean, head, next_of, Grammar, many, Spells, Begins, NoneBegins, BeginsMarked, IsFirstFault}
+use Rattle.cx_text.specs.Grammar.{Item, clean, next_of, Grammar, many, Spells, Begins, NoneBegins, BeginsMarked, IsFirstFault}
 use Rattle.cx_text.specs.Reading.{Answer, Read, go_on, read_whole}
 use Rattle.cx_text.proofs.Laws.{told, Reads, ok_is, err_is, ok_goes, err_goes}
 use Rattle.cx_text.proofs.Many.{IsFull}
@@ -31,14 +31,15 @@ begins_checked S has extends before (x, more, s) =
     let e = extends x (clean before ++ more) s in
     (e.0, more ++ e.1, (subst (λ (ms : List Item). S e.0 ms None) (append_assoc (clean before) more e.1) e.2, e.3))
 
-marked_checked : {A : Type 0} (S : Grammar A) (has : A → Bool) (extends : Extends S has) (before : List Token) (m : Mark) (next : Option Token) → BeginsMarked S before m next → BeginsMarked (checked S has) before m next
-marked_checked S has extends before m next (x, t, more, e, s) =
+marked_checked : {A : Type 0} (S : Grammar A) (has : A → Bool) (extends : Extends S has) (before : List Token) (t : Token) (m : Mark) → BeginsMarked S before t m → BeginsMarked (checked S has) before t m
+marked_checked S has extends before t m (x, more, s) =
     let k = extends x (clean before ++ (t, Some m) ∷ more) s in
-    (k.0, t, more ++ k.1, e, (subst (λ (ms : List Item). S k.0 ms None) (append_assoc (clean before) ((t, Some m) ∷ more) k.1) k.2, k.3))
+    (k.0, more ++ k.1, (subst (λ (ms : List Item). S k.0 ms None) (append_assoc (clean before) ((t, Some m) ∷ more) k.1) k.2, k.3))
 
-fault_checked : {A : Type 0} (S : Grammar A) (has : A → Bool) (extends : Extends S has) (w : Why) (before : List Token) (next : Option Token) → IsFirstFault S before w next → IsFirstFault (checked S has) before w next
-fault_checked S has extends Unexpected before next f = (begins_checked S has extends before f.0, λ x ms more s q h. f.1 x ms more s.0 q h)
-fault_checked S has extends (Marked m) before next f = marked_checked S has extends before m next f
+fault_checked : {A : Type 0} (S : Grammar A) (has : A → Bool) (extends : Extends S has) (w : Why) (before rest : List Token) → IsFirstFault S before w rest → IsFirstFault (checked S has) before w rest
+fault_checked S has extends Unexpected before rest f = (begins_checked S has extends before f.0, λ x ms more s q h. f.1 x ms more s.0 q h)
+fault_checked S has extends (Marked m) before [] f = absurd f
+fault_checked S has extends (Marked m) before (t ∷ rest) f = (marked_checked S has extends before t m f.0, λ x more s n. f.1 x more s.0 n)
 
 passed : {A : Type 0} (b : Bool) (x : A) (mid : List Token) (y : A) (rest : List Token) → cond {A = Answer A} b (Ok (x, mid)) (Err (Unexpected, mid)) ≡ Ok (y, rest) → (b ≡ true) × (x ≡ y)
 passed true x mid y rest e = (refl, (ok_is x y mid rest e).0)
@@ -63,17 +64,17 @@ ended_checked p S G r g has ts x rest e no-header y ms [] s q h =
     absurd (let one : has y ≡ has x = ap has (told_is y ms [] x rest same) in let t = s.1 in cc)
 ended_checked p S G r g has ts x rest e no-header y ms (t ∷ more) s q h = absurd cc
 
-pub checked_fault : {A : Type 0} (p : Read A) (S : Grammar A) (G : Option Token → Type 0) (r : Reads p S G) (g : G None) (has : A → Bool) (extends : Extends S has) (w : Why) (ts rest : List Token) → read_checked p has ts ≡ Err (w, rest) → (before : List Token) × (ts ≡ before ++ rest) × IsFirstFault (checked S has) before w (head rest)
+pub checked_fault : {A : Type 0} (p : Read A) (S : Grammar A) (G : Option Token → Type 0) (r : Reads p S G) (g : G None) (has : A → Bool) (extends : Extends S has) (w : Why) (ts rest : List Token) → read_checked p has ts ≡ Err (w, rest) → (before : List Token) × (ts ≡ before ++ rest) × IsFirstFault (checked S has) before w rest
 checked_fault {A} p S G r g has extends w ts rest e =
     elim (err_goes (read_whole p ts) (or_unexpected has) w rest e) [
-      | inl a ↦ let f = whole_fault p S G r g w ts rest a in (f.0, f.1, fault_checked S has extends w f.0 (head rest) f.2)
+      | inl a ↦ let f = whole_fault p S G r g w ts rest a in (f.0, f.1, fault_checked S has extends w f.0 rest f.2)
       | inr a ↦
           let f = failed (has a.0) a.0 a.1 w rest a.3 in
           let ends : rest ≡ [] = sym f.2 ∙ whole_rest p S G r g ts a.0 a.1 a.2 in
           let found = whole_found p S G r g ts a.0 a.1 a.2 in
           let begins = begins_checked S has extends ts (a.0, [], subst (λ (ms : List Item). S a.0 ms None) (sym (append-nil (clean ts))) found) in
           let none = ended_checked p S G r g has ts a.0 a.1 a.2 f.0 in
-          (ts, rw (ends, append-nil ts) refl, rw ends (subst (λ (v : Why). IsFirstFault (checked S has) ts v None) f.1 (begins, none)))
+          (ts, rw (ends, append-nil ts) refl, rw ends (subst (λ (v : Why). IsFirstFault (checked S has) ts v []) f.1 (begins, none)))
     ]
 
 -- ---- lists of items, one behind another

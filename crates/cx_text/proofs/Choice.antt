@@ -53,7 +53,7 @@ choice_stops true test p q S R H first second parts ts w rest t e =
             let b = k.begins next h in
             (b.0, b.1, at_test _ _ _ (sym (ap (passes test) (ap head k.parts ∙ next-same w k.before rest b.1 next b.3 n)) ∙ t) b.2, b.3)
       ];
-      same = λ n other o. cond-true _ _ _ (ap (passes test) (head-same k.before other rest o ∙ sym (ap head k.parts)) ∙ t) ∙ k.same n other o;
+      same = λ other o n. cond-true _ _ _ (ap (passes test) (head-same k.before other rest o ∙ sym (ap head k.parts)) ∙ t) ∙ k.same other o n;
     }
 choice_stops false test p q S R H first second parts ts w rest t e =
     let k = second.stops ts w rest e in
@@ -66,7 +66,7 @@ choice_stops false test p q S R H first second parts ts w rest t e =
             let b = k.begins next h in
             (b.0, b.1, at_other _ _ _ (sym (ap (passes test) (ap head k.parts ∙ next-same w k.before rest b.1 next b.3 n)) ∙ t) b.2, b.3)
       ];
-      same = λ n other o. cond-false _ _ _ (ap (passes test) (head-same k.before other rest o ∙ sym (ap head k.parts)) ∙ t) ∙ k.same n other o;
+      same = λ other o n. cond-false _ _ _ (ap (passes test) (head-same k.before other rest o ∙ sym (ap head k.parts)) ∙ t) ∙ k.same other o n;
     }
 
 choice_moves : {A : Type 0} (b : Bool) (test : Token → Bool) (p q : Read A) (S R : Grammar A) (H : Option Token → Type 0) (first : Reads p S H) (second : Reads q R H) (parts : Parts test S R H) (x : A) (ms : List Item) (next other : Option Token)

@@ -16,6 +16,11 @@ told x [] rest = Ok (x, rest)
 told x ((t, None) ∷ ms) rest = told x ms rest
 told x ((t, Some m) ∷ ms) rest = Err (Marked m, t ∷ (tokens ms ++ rest))
 
+-- the token behind the first
+abbrev pub second : List Token → Option Token
+second [] = None
+second (t ∷ ts) = head ts
+
 -- a list that goes on is what the fault says of its first token
 abbrev pub Shows : Why → List Token → List Item → Type 0
 Shows Unexpected rest more = Unit {0}
@@ -30,12 +35,12 @@ pub record Taken {A : Type 0} (S : Grammar A) (ts : List Token) (x : A) (rest : 
   pub spelled : S x (clean front) (head rest)
 
 -- Reading stopped. The tokens before begin a derived list, before each next token that G allows, and any list that
--- goes on with the same token is stopped at it too; but whether a word is repeated may depend on the token behind it.
+-- goes on with the same token is stopped at it too; at a repeated word, any with the same token behind it.
 pub record Stopped {A : Type 0} (p : Read A) (S : Grammar A) (G : Option Token → Type 0) (ts : List Token) (w : Why) (rest : List Token) : Type 0 where
   pub before : List Token
   pub parts : ts ≡ before ++ rest
   pub begins : (next : Option Token) → G next → (x : A) × (more : List Item) × S x (clean before ++ more) next × Shows w rest more
-  pub same : (w ≡ Marked Repeated → ⊥) → (other : List Token) → head other ≡ head rest → p (before ++ other) ≡ Err (w, other)
+  pub same : (other : List Token) → head other ≡ head rest → (w ≡ Marked Repeated → second other ≡ second rest) → p (before ++ other) ≡ Err (w, other)
 
 pub record Reads {A : Type 0} (p : Read A) (S : Grammar A) (G : Option Token → Type 0) : Type 0 where
   pub again : (x : A) (ms : List Item) (rest : List Token) → S x ms (head rest) → p (tokens ms ++ rest) ≡ told x ms rest
@@ -171,15 +176,15 @@ token_stops {A} value mark one G [] w rest e =
     let h = err_is {A = A} Unexpected w [] rest e in
     subst (λ (r : List Token). Stopped (read_token value mark) (token value mark) G [] w r) h.1
     (subst (λ (v : Why). Stopped (read_token value mark) (token value mark) G [] v []) h.0
-    (record { before = []; parts = refl; begins = λ next g. (one.x, (one.tok, mark one.tok) ∷ [], (one.tok, one.is, refl), tt); same = λ n. token_ended value mark }))
+    (record { before = []; parts = refl; begins = λ next g. (one.x, (one.tok, mark one.tok) ∷ [], (one.tok, one.is, refl), tt); same = λ other e n. token_ended value mark other e }))
 token_stops {A} value mark one G (t ∷ ts) w rest e =
     let h = found_err (value t) (mark t) t ts w rest e in
     subst (λ (r : List Token). Stopped (read_token value mark) (token value mark) G (t ∷ ts) w r) h.0
     (elim h.1 [
       | inl n ↦ subst (λ (v : Why). Stopped (read_token value mark) (token value mark) G (t ∷ ts) v (t ∷ ts)) n.1
-          (record { before = []; parts = refl; begins = λ next g. (one.x, (one.tok, mark one.tok) ∷ [], (one.tok, one.is, refl), tt); same = λ k. token_same value mark t Unexpected (λ us. rw n.0 refl) })
+          (record { before = []; parts = refl; begins = λ next g. (one.x, (one.tok, mark one.tok) ∷ [], (one.tok, one.is, refl), tt); same = λ other e k. token_same value mark t Unexpected (λ us. rw n.0 refl) other e })
       | inr m ↦ subst (λ (v : Why). Stopped (read_token value mark) (token value mark) G (t ∷ ts) v (t ∷ ts)) m.4
-          (record { before = []; parts = refl; begins = λ next g. (m.0, (t, Some m.1) ∷ [], (t, m.2, ap (λ (k : Option Mark). (t, k) ∷ []) (sym m.3)), refl); same = λ k. token_same value mark t (Marked m.1) (λ us. rw (m.2, m.3) refl) })
+          (record { before = []; parts = refl; begins = λ next g. (m.0, (t, Some m.1) ∷ [], (t, m.2, ap (λ (k : Option Mark). (t, k) ∷ []) (sym m.3)), refl); same = λ other e k. token_same value mark t (Marked m.1) (λ us. rw (m.2, m.3) refl) other e })
     ])
 
 pub reads_token : {A : Type 0} (value : Token → Option A) (mark : Token → Option Mark) (one : Means value) (G : Option Token → Type 0) → Reads (read_token value mark) (token value mark) G
@@ -253,7 +258,7 @@ also_first {A} {B} p S G f R H first joins ts w rest s =
           let b = s.begins joins.one joins.allowed in
           let e = joins.ends b.0 next h in
           (e.0, b.1 ++ e.1, (b.0, clean s.before ++ b.1, e.1, sym (append_assoc (clean s.before) b.1 e.1), first.moves b.0 (clean s.before ++ b.1) joins.one (next_of e.1 next) b.2 e.3, e.2), Shows-append w rest b.1 e.1 b.3);
-      same = λ n other e. ap (λ a. go_on a f) (s.same n other e);
+      same = λ other e n. ap (λ a. go_on a f) (s.same other e n);
     }
 
 also_second : {A B : Type 0} (p : Read A) (S : Grammar A) (G : Option Token → Type 0) (f : A → Read B) (R : A → Grammar B) (H : Option Token → Type 0) (first : Reads p S G) (joins : Joins S G R H)
@@ -274,10 +279,10 @@ also_second p S G f R H first joins ts x mid w rest t u =
                 let whole : clean (t.front ++ u.before) ++ b.1 ≡ clean t.front ++ (clean u.before ++ b.1) = ap (λ (a : List Item). a ++ b.1) (clean-append t.front u.before) ∙ append_assoc (clean t.front) (clean u.before) b.1 in
                 (b.0, b.1, (x, clean t.front, clean u.before ++ b.1, whole, subst (λ (k : Option Token). S x (clean t.front) k) same t.spelled, b.2), b.3)
           ];
-      same = λ n other e.
+      same = λ other e n.
           ap (λ (us : List Token). go_on (p us) f) (append_assoc t.front u.before other)
           ∙ ap (λ a. go_on a f) (taken_same p S G first ts x mid t (u.before ++ other) (head-same u.before other rest e ∙ sym (ap head u.parts)))
-          ∙ u.same n other e;
+          ∙ u.same other e n;
     }
 
 also_stops : {A B : Type 0} (p : Read A) (S : Grammar A) (G : Option Token → Type 0) (f : A → Read B) (R : A → Grammar B) (H : Option Token → Type 0) (first : Reads p S G) (second : (x : A) → Reads (f x) (R x) H) (joins : Joins S G R H)

@@ -3,6 +3,7 @@ pub mod Choice
 pub mod Many
 pub mod Loops
 pub mod Whole
+pub mod Exclusive
 pub mod RuleLaws
 pub mod LexemeLaws
 pub mod Lookahead

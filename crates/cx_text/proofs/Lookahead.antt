@@ -9,7 +9,7 @@ use Rattle.cx_text.specs.declared.token.Token.{Token}
 use Rattle.cx_text.specs.Grammar.{Item, tokens, clean, head, next_of, passes}
 use Rattle.cx_text.specs.Reading.{Read, found, go_on}
 use Rattle.cx_text.specs.Rules.{Rule, lookahead}
-use Rattle.cx_text.proofs.Laws.{told, Means, Taken, Stopped, head-tokens, head-clean, head-same, next-same, is_first, ok_is, err_is, ok_goes, err_goes}
+use Rattle.cx_text.proofs.Laws.{told, second, Means, Taken, Stopped, head-tokens, head-clean, head-same, next-same, is_first, ok_is, err_is, ok_goes, err_goes}
 use Rattle.cx_text.proofs.RuleLaws.{Part, Any}
 
 -- whatever stands behind the token, the rule has a list before which the token has the same mark
@@ -68,6 +68,13 @@ module _ {A B : Type 0} (value : Token → Option A) (test : Token → Bool) (ma
   first_same t v [] e = absurd cc
   first_same t v (u ∷ us) e = let same : u ≡ t = cc in rw (same, v) refl
 
+  marked_same : (t : Token) (ts : List Token) (x : A) (k : Mark) → value t ≡ Some x → mark (passes test (head ts)) t ≡ Some k → (other : List Token) → head other ≡ Some t → second other ≡ head ts → (lookahead value test mark f).reads other ≡ Err (Marked k, other)
+  marked_same t ts x k v m [] e s = absurd cc
+  marked_same t ts x k v m (u ∷ us) e s =
+      let same : u ≡ t = cc in
+      let seen : passes test (head us) ≡ passes test (head ts) = ap (passes test) s in
+      rw (same, v, seen, m) refl
+
   ended_same : (other : List Token) → head other ≡ None → (lookahead value test mark f).reads other ≡ Err (Unexpected, other)
   ended_same [] e = refl
   ended_same (u ∷ us) e = absurd cc
@@ -86,9 +93,9 @@ module _ {A B : Type 0} (value : Token → Option A) (test : Token → Bool) (ma
               let unmarked : None ≡ mark (passes test (next_of (clean k.before ++ b.1) next)) t = sym m ∙ ap (λ c. mark c t) seen in
               (b.0, b.1, (x, t, clean k.before ++ b.1, v, ap (λ (o : Option Mark). (t, o) ∷ (clean k.before ++ b.1)) unmarked, b.2), b.3)
         ];
-        same = λ n other o.
+        same = λ other o n.
             let seen : passes test (head (k.before ++ other)) ≡ passes test (head ts) = ap (passes test) (head-same k.before other rest o ∙ sym (ap head k.parts)) in
-            rw (v, seen, m) (k.same n other o);
+            rw (v, seen, m) (k.same other o n);
       }
 
   stops : (ts : List Token) (w : Why) (rest : List Token) → (lookahead value test mark f).reads ts ≡ Err (w, rest) → Stopped (lookahead value test mark f).reads (lookahead value test mark f).derives H ts w rest
@@ -96,7 +103,7 @@ module _ {A B : Type 0} (value : Token → Option A) (test : Token → Bool) (ma
       let h = err_is {A = B} Unexpected w [] rest e in
       subst (λ (r : List Token). Stopped (lookahead value test mark f).reads (lookahead value test mark f).derives H [] w r) h.1
       (subst (λ (v : Why). Stopped (lookahead value test mark f).reads (lookahead value test mark f).derives H [] v []) h.0
-      (record { before = []; parts = refl; begins = λ next h. let b = begins_any next h in (b.0, b.1, b.2, tt); same = λ n. ended_same }))
+      (record { before = []; parts = refl; begins = λ next h. let b = begins_any next h in (b.0, b.1, b.2, tt); same = λ other e n. ended_same other e }))
   stops (t ∷ ts) w rest e =
       elim (err_goes (found (value t) (mark (passes test (head ts)) t) t ts) (λ z. (f z).reads) w rest e) [
         | inr a ↦
@@ -107,13 +114,13 @@ module _ {A B : Type 0} (value : Token → Option A) (test : Token → Bool) (ma
             subst (λ (r : List Token). Stopped (lookahead value test mark f).reads (lookahead value test mark f).derives H (t ∷ ts) w r) h.0
             (elim h.1 [
               | inl n ↦ subst (λ (v : Why). Stopped (lookahead value test mark f).reads (lookahead value test mark f).derives H (t ∷ ts) v (t ∷ ts)) n.1
-                  (record { before = []; parts = refl; begins = λ next g. let b = begins_any next g in (b.0, b.1, b.2, tt); same = λ k. first_same t n.0 })
+                  (record { before = []; parts = refl; begins = λ next g. let b = begins_any next g in (b.0, b.1, b.2, tt); same = λ other e k. first_same t n.0 other e })
               | inr m ↦ subst (λ (v : Why). Stopped (lookahead value test mark f).reads (lookahead value test mark f).derives H (t ∷ ts) v (t ∷ ts)) m.4
                   (record {
                     before = [];
                     parts = refl;
                     begins = λ next g. let b = begins_there t m.0 (Some m.1) (passes test (head ts)) next m.2 m.3 g in (b.0, (t, Some m.1) ∷ b.1, b.2, refl);
-                    same = λ k other o. absurd (k (ap (λ (r : Mark). Marked r) (only (passes test (head ts)) t m.1 m.3)));
+                    same = λ other o k. marked_same t ts m.0 m.1 m.2 m.3 other o (k (ap (λ (r : Mark). Marked r) (only (passes test (head ts)) t m.1 m.3)));
                   })
             ])
       ]

@@ -132,9 +132,9 @@ many_first {A} {C} test p step S G H each items c ts w rest t k =
             let go = sym (ap (passes test) (ap head k.parts ∙ next-same w k.before rest b.1 next b.3 n)) ∙ t in
             (b.0 ∷ [], b.1, (go, clean k.before ++ b.1, [], sym (append-nil (clean k.before ++ b.1)), b.2, (items.stays next h, refl)), b.3)
       ];
-      same = λ n other o.
+      same = λ other o n.
           let go : passes test (head (k.before ++ other)) ≡ true = ap (passes test) (head-same k.before other rest o ∙ sym (ap head k.parts)) ∙ t in
-          unrolled test p step short c (k.before ++ other) ∙ rw (go, k.same n other o) refl;
+          unrolled test p step short c (k.before ++ other) ∙ rw (go, k.same other o n) refl;
     }
 
 many_later : {A C : Type 0} (test : Token → Bool) (p : C → Read A) (step : C → A → C) (S : C → Grammar A) (G H : Option Token → Type 0) (each : (c : C) → Reads (p c) (S c) G) (items : Items test S G H)
@@ -162,11 +162,11 @@ many_later {A} {C} test p step S G H each items c ts x mid w rest t go u =
             let at : (front : List Token) → P front = λ front. elim front as P [ [] ↦ λ s q. absurd (items.full c x (head mid) s) | (a ∷ others) ↦ λ s q. sym (ap (λ (us : List Token). passes test (head us)) q) ∙ go ] in
             (x ∷ b.0, b.1, (rw whole (at t.front t.spelled t.parts), clean t.front, clean u.before ++ b.1, whole, spelled, b.2), b.3)
       ];
-      same = λ n other e.
+      same = λ other e n.
           let other_go : passes test (head ((t.front ++ u.before) ++ other)) ≡ true = ap (passes test) (head-same (t.front ++ u.before) other rest e ∙ sym (ap head parts)) ∙ go in
           let first : p c ((t.front ++ u.before) ++ other) ≡ Ok (x, u.before ++ other) =
           ap (p c) (append_assoc t.front u.before other) ∙ taken_same (p c) (S c) G (each c) ts x mid t (u.before ++ other) (head-same u.before other rest e ∙ sym (ap head u.parts)) in
-          unrolled test p step short c ((t.front ++ u.before) ++ other) ∙ rw (other_go, first, u.same n other e) refl;
+          unrolled test p step short c ((t.front ++ u.before) ++ other) ∙ rw (other_go, first, u.same other e n) refl;
     }
 
 many_stops : {A C : Type 0} (test : Token → Bool) (p : C → Read A) (step : C → A → C) (S : C → Grammar A) (G H : Option Token → Type 0) (each : (c : C) → Reads (p c) (S c) G) (items : Items test S G H)

@@ -1,5 +1,5 @@
 -- A whole list: what is read is spelled, what is spelled is read, and a fault is the first one.
-use Rattle.std.proofs.Common.{◌≡◌, ℕ, List, [], ◌∷◌, ◌++◌, Option, Some, None, Ok, Err, refl, sym, ap, subst, ◌∙◌}
+use Rattle.std.proofs.Common.{◌≡◌, ℕ, ◌≤◌, List, [], ◌∷◌, ◌++◌, length, Option, Some, None, Ok, Err, refl, sym, ap, subst, ◌∙◌, arith}
 use Rattle.std.proofs.lemmas.List.{append-nil}
 use Rattle.cx_text.specs.declared.stop.Mark.{Mark}
 use Rattle.cx_text.specs.declared.stop.Why.{Why}
@@ -9,9 +9,9 @@ use Rattle.cx_text.specs.declared.stop.Stop.{Stop}
 use Rattle.cx_text.specs.declared.stop.Stop.TheVariants as stops
 use Rattle.cx_text.specs.declared.fault.CclFault.TheVariants as faults
 use Rattle.cx_text.specs.declared.token.Token.{Token}
-use Rattle.cx_text.specs.Grammar.{Item, tokens, clean, head, Grammar, also, Spells, BeginsMarked, IsFirstFault, IsFault, line_at, last_line}
+use Rattle.cx_text.specs.Grammar.{Item, tokens, clean, head, next_of, Grammar, also, Spells, BeginsMarked, NoneUnmarked, IsFirstFault, IsFault, line_at, last_line}
 use Rattle.cx_text.specs.Reading.{Read, read_end, read_whole, Fails, fault_of}
-use Rattle.cx_text.proofs.Laws.{told, Shows, Taken, Stopped, Reads, reads_also, ok_is, err_is, tokens-clean, told-clean}
+use Rattle.cx_text.proofs.Laws.{told, Shows, Taken, Stopped, Reads, reads_also, ok_is, err_is, tokens-append, tokens-clean, told-clean}
 
 -- nothing, and nothing follows
 abbrev ended : {A : Type 0} → A → Grammar A
@@ -35,7 +35,7 @@ end_stops {A} x (t ∷ ts) w rest e =
     let h = err_is {A = A} Unexpected w (t ∷ ts) rest e in
     subst (λ (r : List Token). Stopped (read_end x) (ended x) (λ n. n ≡ None) (t ∷ ts) w r) h.1
     (subst (λ (v : Why). Stopped (read_end x) (ended x) (λ n. n ≡ None) (t ∷ ts) v (t ∷ ts)) h.0
-    (record { before = []; parts = refl; begins = λ next n. (x, [], (refl, refl, n), tt); same = λ n other o. end_same x t other o }))
+    (record { before = []; parts = refl; begins = λ next n. (x, [], (refl, refl, n), tt); same = λ other o n. end_same x t other o }))
 
 reads_end : {A : Type 0} (x : A) → Reads (read_end x) (ended x) (λ n. n ≡ None)
 reads_end x = record {
@@ -80,32 +80,68 @@ whole_only p S G r g ts x s =
     let a = (reads_whole p S G r g).again x (clean ts) [] (to_whole S x (clean ts) s) in
     ap (read_whole p) (sym (append-nil (tokens (clean ts)) ∙ tokens-clean ts)) ∙ a ∙ told-clean x ts []
 
+-- ---- where reading stops is the first fault
+
 told_marks : {A : Type 0} (x : A) (ms : List Item) (rest r : List Token) → told x ms rest ≡ Err (Unexpected, r) → ⊥
 told_marks x [] rest r e = absurd cc
 told_marks x ((t, None) ∷ ms) rest r e = told_marks x ms rest r e
 told_marks {A} x ((t, Some m) ∷ ms) rest r e = absurd (let h = (err_is {A = A} (Marked m) Unexpected (t ∷ (tokens ms ++ rest)) r e).0 in cc)
 
-shown : {A : Type 0} (S : Grammar A) (m : Mark) (before rest : List Token) (x : A) (more : List Item) → S x (clean before ++ more) None → Shows (Marked m) rest more → BeginsMarked S before m (head rest)
-shown S m before [] x more s h = absurd h
-shown S m before (t ∷ ts) x [] s h = absurd h
-shown S m before (t ∷ ts) x (i ∷ is) s h = (x, t, is, refl, subst (λ (j : Item). S x (clean before ++ j ∷ is) None) h s)
+told_within : {A : Type 0} (x : A) (ms : List Item) (w : Why) (us : List Token) → told x ms [] ≡ Err (w, us) → length us ≤ length (tokens ms)
+told_within x [] w us e = absurd cc
+told_within x ((t, None) ∷ ms) w us e = let h = told_within x ms w us e in omega (arith, h)
+told_within {A} x ((t, Some m) ∷ ms) w us e =
+    let h = (err_is {A = A} (Marked m) w (t ∷ (tokens ms ++ [])) us e).1 in
+    let size : length us ≡ length (t ∷ tokens ms) = ap length (sym h ∙ ap (λ (ts : List Token). t ∷ ts) (append-nil (tokens ms))) in
+    omega (arith, size)
 
-pub whole_fault : {A : Type 0} (p : Read A) (S : Grammar A) (G : Option Token → Type 0) → Reads p S G → G None → (w : Why) (ts : List Token) (rest : List Token) → read_whole p ts ≡ Err (w, rest) → (before : List Token) × (ts ≡ before ++ rest) × IsFirstFault S before w (head rest)
-whole_fault p S G r g Unexpected ts rest e =
-    let k = (reads_whole p S G r g).stops ts Unexpected rest e in
-    let b = k.begins None refl in (
-      k.before,
-      k.parts,
-      (
-        (b.0, b.1, of_whole S b.0 (clean k.before ++ b.1) None b.2),
-        λ x ms more s q h.
-            told_marks x ms [] more (sym ((reads_whole p S G r g).again x ms [] (to_whole S x ms s)) ∙ ap (read_whole p) (append-nil (tokens ms) ∙ q) ∙ k.same (λ q. absurd cc) more h),
-      ),
+told_behind : {A : Type 0} (x : A) (front : List Token) (ms : List Item) (rest : List Token) → told x (clean front ++ ms) rest ≡ told x ms rest
+told_behind x [] ms rest = refl
+told_behind x (t ∷ front) ms rest = told_behind x front ms rest
+
+next_tokens : (ms : List Item) → head (tokens ms) ≡ next_of ms None
+next_tokens [] = refl
+next_tokens (m ∷ ms) = refl
+
+pub told_all : {A : Type 0} (p : Read A) (S : Grammar A) (G : Option Token → Type 0) → Reads p S G → (x : A) (ms : List Item) → S x ms None → p (tokens ms) ≡ told x ms []
+told_all p S G r x ms s = ap p (sym (append-nil (tokens ms))) ∙ r.again x ms [] s
+
+-- a list that goes on without the mark would be read past the token
+none_unmarked : {A : Type 0} (p : Read A) (S : Grammar A) (G : Option Token → Type 0) → Reads p S G → (m : Mark) (ts : List Token) (t : Token) (rest : List Token) (k : Stopped p S G ts (Marked m) (t ∷ rest)) → NoneUnmarked S k.before t (head rest)
+none_unmarked p S G r m ts t rest k x more s n =
+    let listed : tokens (clean k.before ++ (t, None) ∷ more) ≡ k.before ++ t ∷ tokens more = tokens-append (clean k.before) ((t, None) ∷ more) ∙ ap (λ (us : List Token). us ++ t ∷ tokens more) (tokens-clean k.before) in
+    let stopped = k.same (t ∷ tokens more) refl (λ q. next_tokens more ∙ n) in
+    let goes : p (k.before ++ t ∷ tokens more) ≡ told x more [] = ap p (sym listed) ∙ told_all p S G r x (clean k.before ++ (t, None) ∷ more) s ∙ told_behind x k.before ((t, None) ∷ more) [] in
+    let short = told_within x more (Marked m) (t ∷ tokens more) (sym goes ∙ stopped) in
+    absurd (omega (arith, short))
+
+marked_there : {A : Type 0} (S : Grammar A) (m : Mark) (before : List Token) (t : Token) (rest : List Token) (x : A) (more : List Item) → S x (clean before ++ more) None → Shows (Marked m) (t ∷ rest) more → BeginsMarked S before t m
+marked_there S m before t rest x [] s h = absurd h
+marked_there S m before t rest x (i ∷ is) s h = (x, is, subst (λ (j : Item). S x (clean before ++ j ∷ is) None) h s)
+
+stopped_first : {A : Type 0} (p : Read A) (S : Grammar A) (G : Option Token → Type 0) → Reads p S G → G None → (w : Why) (ts : List Token) (rest : List Token) (k : Stopped p S G ts w rest) → IsFirstFault S k.before w rest
+stopped_first p S G r g Unexpected ts rest k =
+    let b = k.begins None g in (
+      (b.0, b.1, b.2),
+      λ x ms more s q h. told_marks x ms [] more (sym (told_all p S G r x ms s) ∙ ap p q ∙ k.same more h (λ v. absurd cc)),
     )
-whole_fault p S G r g (Marked m) ts rest e =
-    let k = (reads_whole p S G r g).stops ts (Marked m) rest e in
-    let b = k.begins None refl in
-    (k.before, k.parts, shown S m k.before rest b.0 b.1 (of_whole S b.0 (clean k.before ++ b.1) None b.2) b.3)
+stopped_first p S G r g (Marked m) ts [] k = let b = k.begins None g in absurd b.3
+stopped_first p S G r g (Marked m) ts (t ∷ rest) k =
+    let b = k.begins None g in
+    (marked_there S m k.before t rest b.0 b.1 b.2 b.3, none_unmarked p S G r m ts t rest k)
+
+pub first_fault : {A : Type 0} (p : Read A) (S : Grammar A) (G : Option Token → Type 0) → Reads p S G → G None → (w : Why) (ts rest : List Token) → p ts ≡ Err (w, rest) → (before : List Token) × (ts ≡ before ++ rest) × IsFirstFault S before w rest
+first_fault p S G r g w ts rest e = let k = r.stops ts w rest e in (k.before, k.parts, stopped_first p S G r g w ts rest k)
+
+fault_of_whole : {A : Type 0} (S : Grammar A) (before : List Token) (w : Why) (rest : List Token) → IsFirstFault (also S ended) before w rest → IsFirstFault S before w rest
+fault_of_whole S before Unexpected rest ((x, more, s), none) = ((x, more, of_whole S x (clean before ++ more) None s), λ y ms us d q h. none y ms us (to_whole S y ms d) q h)
+fault_of_whole S before (Marked m) [] f = absurd f
+fault_of_whole S before (Marked m) (t ∷ rest) ((x, more, s), none) = ((x, more, of_whole S x (clean before ++ (t, Some m) ∷ more) None s), λ y us d n. none y us (to_whole S y (clean before ++ (t, None) ∷ us) d) n)
+
+pub whole_fault : {A : Type 0} (p : Read A) (S : Grammar A) (G : Option Token → Type 0) → Reads p S G → G None → (w : Why) (ts : List Token) (rest : List Token) → read_whole p ts ≡ Err (w, rest) → (before : List Token) × (ts ≡ before ++ rest) × IsFirstFault S before w rest
+whole_fault p S G r g w ts rest e =
+    let f = first_fault (read_whole p) (also S ended) (λ n. n ≡ None) (reads_whole p S G r g) refl w ts rest e in
+    (f.0, f.1, fault_of_whole S f.0 w rest f.2)
 
 -- ---- what a reader answers
 

@@ -72,14 +72,21 @@ Begins {A} S ts = (x : A) × (more : List Item) × S x (clean ts ++ more) None
 abbrev pub NoneBegins : {A : Type 0} → Grammar A → List Token → Option Token → Type 0
 NoneBegins {A} S before next = (x : A) (ms : List Item) (more : List Token) → S x ms None → tokens ms ≡ before ++ more → head more ≡ next → ⊥
 
--- some derived list goes on from `before`, unmarked, with the next token, which has this mark
-abbrev pub BeginsMarked : {A : Type 0} → Grammar A → List Token → Mark → Option Token → Type 0
-BeginsMarked {A} S before mark next = (x : A) × (t : Token) × (more : List Item) × (next ≡ Some t) × S x (clean before ++ (t, Some mark) ∷ more) None
+-- some derived list goes on from `before`, unmarked, with this token, which has this mark
+abbrev pub BeginsMarked : {A : Type 0} → Grammar A → List Token → Token → Mark → Type 0
+BeginsMarked {A} S before t mark = (x : A) × (more : List Item) × S x (clean before ++ (t, Some mark) ∷ more) None
 
--- what is wrong first, after `before` and with the next token
-abbrev pub IsFirstFault : {A : Type 0} → Grammar A → List Token → Why → Option Token → Type 0
-IsFirstFault S before Unexpected next = Begins S before × NoneBegins S before next
-IsFirstFault S before (Marked mark) next = BeginsMarked S before mark next
+-- no derived list goes on from `before`, unmarked, with this token unmarked too and then this one behind it, or ends
+-- behind the token where there is none
+abbrev pub NoneUnmarked : {A : Type 0} → Grammar A → List Token → Token → Option Token → Type 0
+NoneUnmarked {A} S before t behind = (x : A) (more : List Item) → S x (clean before ++ (t, None) ∷ more) None → next_of more None ≡ behind → ⊥
+
+-- What is wrong first, after `before` and with the first of the rest. A mark counts where the list can't go on without it,
+-- with this token and the one behind it.
+abbrev pub IsFirstFault : {A : Type 0} → Grammar A → List Token → Why → List Token → Type 0
+IsFirstFault S before Unexpected rest = Begins S before × NoneBegins S before (head rest)
+IsFirstFault S before (Marked mark) [] = ⊥
+IsFirstFault S before (Marked mark) (t ∷ rest) = BeginsMarked S before t mark × NoneUnmarked S before t (head rest)
 
 -- the line of the last token, or 1 where there is none
 abbrev pub last_line : List Token → ℕ
@@ -94,7 +101,7 @@ line_at ts (t ∷ rest) = t.line
 
 -- the first fault of a list, and its line
 abbrev pub HasFault : {A : Type 0} → Grammar A → List Token → Why → ℕ → Type 0
-HasFault S ts why line = (before : List Token) × (rest : List Token) × (ts ≡ before ++ rest) × IsFirstFault S before why (head rest) × (line ≡ line_at ts rest)
+HasFault S ts why line = (before : List Token) × (rest : List Token) × (ts ≡ before ++ rest) × IsFirstFault S before why rest × (line ≡ line_at ts rest)
 
 abbrev pub IsFault : {A : Type 0} → Grammar A → List Token → CclFault → Type 0
 IsFault S ts faults.Memory = Unit {0}
