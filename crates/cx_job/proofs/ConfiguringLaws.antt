@@ -1,5 +1,5 @@
 -- The files of several thorns, read one thorn after another.
-use Rattle.std.proofs.Common.{◌≡◌, ◌∙◌, sym, ap, subst, refl, ◌<◌, ◌≤◌, ◌+◌, ◌⊎◌, inl, inr, ℕ, List, [], ◌∷◌, ◌++◌, length, drop, get_or, Result, Ok, Err, IfOk}
+use Rattle.std.proofs.Common.{◌≡◌, ◌∙◌, sym, ap, subst, refl, ◌<◌, ◌≤◌, ◌+◌, ◌⊎◌, inl, inr, ℕ, List, [], ◌∷◌, ◌++◌, length, drop, get_or, Result, Ok, Err, IsErr, IfOk}
 use Rattle.std.proofs.lemmas.List.{append_assoc, append-nil, length-map}
 use Rattle.cx_parfile.specs.declared.settings.Settings.{Settings}
 use Rattle.cx_values.proofs.Along.{left_over}
@@ -21,6 +21,7 @@ pub same_stage : {A : Type 0} (tells : Type 0) (p q : Held → Stage A) (h0 h1 :
 same_stage {A} tells p q h0 h1 f0 f1 r to from a = record {
   answers = λ t. onward (a.answers t);
   only = λ t y s. a.only t y (from h0 (Ok y) s);
+  faulty = λ t f s. a.faulty t f (from h0 (Err f) s);
   same = a.same;
   cause = a.cause;
 }
@@ -32,11 +33,11 @@ same_stage {A} tells p q h0 h1 f0 f1 r to from a = record {
 
 -- what is made with no more reading
 pub came_of : {A : Type 0} (tells : Type 0) (p : Held → Stage A) (h : Held) (f : ℕ) (r : Result A JobFault) → Comes (p h) r → Follows tells p h h f f r
-came_of tells p h f r c = let a = came tells (p h) h f r c in record { answers = a.answers; only = a.only; same = a.same; cause = a.cause }
+came_of tells p h f r c = let a = came tells (p h) h f r c in record { answers = a.answers; only = a.only; faulty = a.faulty; same = a.same; cause = a.cause }
 
 -- want of memory
 pub forgot : {A : Type 0} (tells : Type 0) (p : Held → Stage A) (h : Held) (f : ℕ) → Follows tells p h h f f (err A faults.Memory)
-forgot {A} tells p h f = came_of tells p h f (err A faults.Memory) (record { answers = inl refl; only = λ x s. refl; no_shelf = λ z. absurd cc })
+forgot {A} tells p h f = came_of tells p h f (err A faults.Memory) (record { answers = inl refl; only = λ x s. refl; faulty = λ f s. refl; no_shelf = λ z. absurd cc })
 
 -- ---- some thorns' files, with others behind them
 
@@ -122,9 +123,14 @@ module _ (tells : Type 0) (places : List (List ℕ × List ℕ)) (h0 : Held) (f0
   at_end said h1 = record {
     answers = inr (inr ([], refl, ap (λ (xs : List ThornFiles). Ok xs) (sym (append-nil said))));
     only = only;
+    faulty = faulty;
     no_shelf = λ z. absurd cc;
   }
     where
+      faulty : (e : JobFault) → Rest said [] h1 (Err e) → IsErr {E = JobFault} (Ok said)
+      faulty e (inl (f, s, z)) = absurd cc
+      faulty e (inr (more, m, z)) = absurd cc
+
       only : (x : List ThornFiles) → Rest said [] h1 (Ok x) → said ≡ x
       only x (inl (f, s, z)) = absurd cc
       only x (inr (more, m, z)) =

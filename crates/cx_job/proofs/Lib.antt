@@ -8,6 +8,7 @@ pub mod LimitLaws
 pub mod DimLaws
 mod GridRows
 pub mod OnlyMade
+pub mod OnlyFiles
 pub mod OutputLaws
 pub mod CellLaws
 mod OutputRows

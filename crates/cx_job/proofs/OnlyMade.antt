@@ -49,10 +49,10 @@ use Rattle.cx_job.specs.Making.{Is, unless, Orders, Matches, Accepts, LimitsAnd,
 abbrev pub IsOne : {A : Type 0} → Stage A → Type 0
 IsOne {A} p = (x : A) (r : Result A JobFault) → p (Ok x) → p r → r ≡ Ok x
 
-is_one : {A : Type 0} (told : Result A JobFault) → IsOne (Is told)
+pub is_one : {A : Type 0} (told : Result A JobFault) → IsOne (Is told)
 is_one told x r s t = t ∙ sym s
 
-then_one : {A B : Type 0} (p : Stage A) (q : A → Stage B) → IsOne p → ((x : A) → IsOne (q x)) → IsOne (Then p q)
+pub then_one : {A B : Type 0} (p : Stage A) (q : A → Stage B) → IsOne p → ((x : A) → IsOne (q x)) → IsOne (Then p q)
 then_one p q one each y r (inl (e, s, z)) other = absurd cc
 then_one p q one each y r (inr (x, s, t)) (inl (e, u, z)) = absurd (let no = one x (Err e) s u in cc)
 then_one {A} p q one each y r (inr (x, s, t)) (inr (v, u, w)) =

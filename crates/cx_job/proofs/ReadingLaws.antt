@@ -1,5 +1,5 @@
 -- One stage of reading behind another.
-use Rattle.std.proofs.Common.{◌≡◌, ◌≢◌, ◌∙◌, sym, ap, subst, refl, ◌≤◌, ◌⊎◌, inl, inr, ℕ, List, Option, Some, None, Result, Ok, Err, MatchResult, arith}
+use Rattle.std.proofs.Common.{◌≡◌, ◌≢◌, ◌∙◌, sym, ap, subst, refl, ◌≤◌, ◌⊎◌, inl, inr, ℕ, List, Option, Some, None, Result, Ok, Err, IsErr, MatchResult, arith}
 use Rattle.cx_text.specs.declared.token.Token.{Token}
 use Rattle.cx_text.specs.declared.token.Style.{Style}
 use Rattle.cx_text.specs.declared.fault.TextFault.{TextFault}
@@ -7,7 +7,8 @@ use Rattle.cx_text.specs.declared.fault.TextFault.TheVariants as texts
 use Rattle.cx_text.specs.declared.fault.CclFault.{CclFault}
 use Rattle.cx_text.specs.declared.fault.CclFault.TheVariants as trees
 use Rattle.cx_text.specs.Pieces.{IsCause, Reads, OnlyTokens}
-use Rattle.cx_text.specs.Grammar.{Grammar, IsFault, Answers, AnswersOnly}
+use Rattle.cx_text.specs.Grammar.{Grammar, Spells, IsFault, Answers, AnswersOnly}
+use Rattle.cx_text.proofs.Exclusive.{no_fault_spelled, no_cause_spelled}
 use Rattle.cx_disk.specs.Cause.{HasCause, Rose}
 use Rattle.cx_job.specs.declared.fault.JobFault.{JobFault}
 use Rattle.cx_job.specs.declared.fault.JobFault.TheVariants as faults
@@ -84,6 +85,7 @@ pub halted : {A B : Type 0} (tells : Type 0) (p : Held → Stage A) (q : Held �
 halted {A} {B} tells p q h0 h1 f0 f1 e a = record {
   answers = λ t. halt_answers A B (p h0) (q h0) e (free tells p h0 h1 f0 f1 e a t);
   only = λ t y. halt_only A B (p h0) (q h0) e y (a.only t);
+  faulty = λ t f s. refl;
   same = a.same;
   cause = halted_cause A B e f0 f1 a.cause;
 }
@@ -97,10 +99,18 @@ pass_only : (A B : Type 0) (p : Stage A) (q : A → Stage B) (x : A) (y : B) (P 
 pass_only A B p q x y P only last (inl (f, g, z)) = absurd cc
 pass_only A B p q x y P only last (inr (v, s, t)) = last (subst (λ (w : A). q w (Ok y)) (sym (only v s)) t)
 
+no_value : (A B : Type 0) (x : A) (r : Result B JobFault) → IsErr {E = JobFault} (Ok x) → IsErr r
+no_value A B x r none = absurd cc
+
+pass_faulty : (A B : Type 0) (p : Stage A) (q : A → Stage B) (x : A) (r : Result B JobFault) (f : JobFault) → ((e : JobFault) → p (err A e) → IsErr {E = JobFault} (Ok x)) → ((v : A) → p (Ok v) → x ≡ v) → (q x (err B f) → IsErr r) → Then p q (err B f) → IsErr r
+pass_faulty A B p q x r f first only last (inl (e, s, z)) = no_value A B x r (first e s)
+pass_faulty A B p q x r f first only last (inr (v, s, t)) = last (subst (λ (w : A). q w (err B f)) (sym (only v s)) t)
+
 pub passed : {A B : Type 0} (tells : Type 0) (p : Held → Stage A) (q : Held → A → Stage B) (h0 h1 h2 : Held) (f0 f1 f2 : ℕ) (x : A) (r : Result B JobFault) → Follows tells p h0 h1 f0 f1 (Ok x) → Follows tells (λ h. q h x) h1 h2 f1 f2 r → Follows tells (λ h. Then (p h) (q h)) h0 h2 f0 f2 r
 passed {A} {B} tells p q h0 h1 h2 f0 f1 f2 x r a b = record {
   answers = λ t. pass_answers A B (p h0) (q h0) x r (given tells p h0 h1 f0 f1 x a t) (subst (λ (h : Held). (r ≡ err B faults.Memory) ⊎ (r ≡ err B faults.Shelf) ⊎ q h x r) (a.same t) (b.answers t));
   only = λ t y. pass_only A B (p h0) (q h0) x y (MatchResult r (λ v. v ≡ y) (λ e. (e ≡ faults.Memory) ⊎ (e ≡ faults.Shelf))) (a.only t) (subst (λ (h : Held). q h x (Ok y) → MatchResult r (λ v. v ≡ y) (λ e. (e ≡ faults.Memory) ⊎ (e ≡ faults.Shelf))) (a.same t) (b.only t y));
+  faulty = λ t f. pass_faulty A B (p h0) (q h0) x r f (a.faulty t) (a.only t) (subst (λ (h : Held). q h x (err B f) → IsErr r) (a.same t) (b.faulty t f));
   same = λ t. b.same t ∙ a.same t;
   cause = two_causes A B f0 f1 f2 (Ok x) r a.cause b.cause;
 }
@@ -119,16 +129,21 @@ pub came : {B : Type 0} (tells : Type 0) (q : Stage B) (h : Held) (f : ℕ) (r :
 came {B} tells q h f r c = record {
   answers = λ t. come_answers B (q r) r c.answers;
   only = λ t y s. come_only B y r (c.only y s);
+  faulty = λ t f s. c.faulty f s;
   same = λ t. refl;
   cause = no_cause B f r c.no_shelf;
 }
 
 -- ---- tokens and trees
 
+text_none : (style : Style) (name bytes : List ℕ) (ts : List Token) (e : JobFault) → Reads bytes style (Ok ts) → TextTokens style name bytes (Err e) → ⊥
+text_none style name bytes ts e reads (fault, is, other, cause) = other (no_cause_spelled bytes style ts fault reads.0 reads.1 cause)
+
 pub text_ok : (style : Style) (name bytes : List ℕ) (ts : List Token) → Reads bytes style (Ok ts) → OnlyTokens bytes style (Ok ts) → Comes (TextTokens style name bytes) (Ok ts)
 text_ok style name bytes ts reads only = record {
   answers = inr reads;
   only = λ us s. only us s.0 s.1;
+  faulty = λ e s. absurd (text_none style name bytes ts e reads s);
   no_shelf = λ z. absurd cc;
 }
 
@@ -147,6 +162,7 @@ pub text_err : (style : Style) (name bytes : List ℕ) (fault : TextFault) (e : 
 text_err style name bytes fault e reads only found memory = record {
   answers = text_sort style name bytes fault e reads found;
   only = λ us s. memory (only us s.0 s.1);
+  faulty = λ f s. refl;
   no_shelf = text_other name fault e found;
 }
 
@@ -161,15 +177,20 @@ tree_other : (A : Type 0) (name : List ℕ) (fault : CclFault) (e : JobFault) �
 tree_other A name fault e (inl m) z = absurd cc
 tree_other A name fault e (inr (m, s)) z = absurd cc
 
+tree_none : {A : Type 0} (S : Grammar A) (name : List ℕ) (ts : List Token) (x : A) (e : JobFault) → Spells S ts x → Tree S name ts (Err e) → ⊥
+tree_none S name ts x e spelled (fault, is, other, told) = other (no_fault_spelled S ts x fault spelled told)
+
 pub tree_comes : {A : Type 0} (S : Grammar A) (name : List ℕ) (ts : List Token) (read : Result A CclFault) (r : Result A JobFault) → Answers S (λ x. x) ts read → AnswersOnly S (λ x. x) ts read → IsTree name read r → Comes (Tree S name ts) r
 tree_comes {A} S name ts (Ok x) r answers only is = subst (λ (z : Result A JobFault). Comes (Tree S name ts) z) (sym is) (record {
   answers = inr answers;
   only = only;
+  faulty = λ e s. absurd (tree_none S name ts x e answers s);
   no_shelf = λ z. absurd cc;
 })
 tree_comes {A} S name ts (Err fault) r answers only (e, is, found) = subst (λ (z : Result A JobFault). Comes (Tree S name ts) z) (sym is) (record {
   answers = tree_sort S name ts fault e answers found.0;
   only = λ x s. found.1 (only x s);
+  faulty = λ f s. refl;
   no_shelf = tree_other A name fault e found.0;
 })
 
@@ -179,6 +200,7 @@ pub named_halted : {B : Type 0} (tells : Type 0) (name : List ℕ) (q : Option (
 named_halted {B} tells name q h0 h1 f0 f1 e a = record {
   answers = λ t. by_read B e name h0 (q (h0 name)) (free tells (λ files found. found ≡ Ok (files name)) h0 h1 f0 f1 e a t);
   only = λ t y s. unread e (h0 name) (free tells (λ files found. found ≡ Ok (files name)) h0 h1 f0 f1 e a t);
+  faulty = λ t f s. refl;
   same = a.same;
   cause = halted_cause (Option (List ℕ)) B e f0 f1 a.cause;
 }
@@ -197,6 +219,7 @@ pub named_passed : {B : Type 0} (tells : Type 0) (name : List ℕ) (q : Option (
 named_passed {B} tells name q h0 h1 f0 f1 o r a c = record {
   answers = λ t. come_answers B (q (h0 name) r) r (subst (λ (p : Option (List ℕ)). (r ≡ err B faults.Memory) ⊎ q p r) (held t) c.answers);
   only = λ t y s. come_only B y r (c.only y (subst (λ (p : Option (List ℕ)). q p (Ok y)) (sym (held t)) s));
+  faulty = λ t f s. c.faulty f (subst (λ (p : Option (List ℕ)). q p (err B f)) (sym (held t)) s);
   same = a.same;
   cause = two_causes (Option (List ℕ)) B f0 f1 f1 (Ok o) r a.cause (no_cause B f1 r c.no_shelf);
 }
@@ -205,16 +228,17 @@ named_passed {B} tells name q h0 h1 f0 f1 o r a c = record {
     held t = a.only t (h0 name) refl
 
 pub no_file : (style : Style) (name : List ℕ) (e : JobFault) → (e ≡ faults.Memory) ⊎ (e ≡ faults.NoFile name) → Comes (Tokens style name None) (Err e)
-no_file style name e (inl m) = record { answers = inl (ap (err (List Token)) m); only = λ x s. absurd cc; no_shelf = λ z. absurd cc }
-no_file style name e (inr s) = record { answers = inr (ap (err (List Token)) s); only = λ x t. absurd cc; no_shelf = λ z. absurd cc }
+no_file style name e (inl m) = record { answers = inl (ap (err (List Token)) m); only = λ x s. absurd cc; faulty = λ f s. refl; no_shelf = λ z. absurd cc }
+no_file style name e (inr s) = record { answers = inr (ap (err (List Token)) s); only = λ x t. absurd cc; faulty = λ f t. refl; no_shelf = λ z. absurd cc }
 
 pub none_there : (style : Style) (name : List ℕ) → Comes (TokensIfAny style name None) (Ok None)
-none_there style name = record { answers = inr refl; only = λ x s. cc; no_shelf = λ z. absurd cc }
+none_there style name = record { answers = inr refl; only = λ x s. cc; faulty = λ f s. absurd cc; no_shelf = λ z. absurd cc }
 
 pub some_there : (style : Style) (name bytes : List ℕ) (ts : List Token) → Comes (TextTokens style name bytes) (Ok ts) → Comes (TokensIfAny style name (Some bytes)) (Ok (Some ts))
 some_there style name bytes ts c = record {
   answers = inr (inr (ts, there c.answers, refl));
   only = only;
+  faulty = faulty;
   no_shelf = λ z. absurd cc;
 }
   where
@@ -226,10 +250,15 @@ some_there style name bytes ts c = record {
     only x (inl (f, g, z)) = absurd cc
     only x (inr (us, s, z)) = let same = c.only us s in cc
 
+    faulty : (e : JobFault) → TokensIfAny style name (Some bytes) (Err e) → IsErr {E = JobFault} (Ok (Some ts))
+    faulty e (inl (f, g, z)) = no_value (List Token) (Option (List Token)) ts (Ok (Some ts)) (c.faulty f g)
+    faulty e (inr (us, s, z)) = absurd cc
+
 pub halted_there : (style : Style) (name bytes : List ℕ) (e : JobFault) → Comes (TextTokens style name bytes) (Err e) → Comes (TokensIfAny style name (Some bytes)) (Err e)
 halted_there style name bytes e c = record {
   answers = answers c.answers;
   only = only;
+  faulty = λ f s. refl;
   no_shelf = λ z. c.no_shelf (moved (List Token) (Option (List Token)) e faults.Shelf z);
 }
   where
@@ -263,5 +292,6 @@ pub done : {B : Type 0} (y : B) (r : Result B JobFault) → r ≡ Ok y → Comes
 done {B} y r e = subst (λ (z : Result B JobFault). Comes (λ found. found ≡ Ok y) z) (sym e) (record {
   answers = inr refl;
   only = λ x s. let same : x ≡ y = cc in sym same;
+  faulty = λ f s. absurd cc;
   no_shelf = λ z. absurd cc;
 })

@@ -1,5 +1,5 @@
 -- The job that files make, or the first fault: stage after stage.
-use Rattle.std.specs.Prelude.{◌≡◌, ◌≢◌, ◌⊎◌, ℕ, List, [], ◌∷◌, map, take, length, codes, Option, Some, None, option_map, Result, Ok, Err, MatchResult}
+use Rattle.std.specs.Prelude.{◌≡◌, ◌≢◌, ◌⊎◌, ℕ, List, [], ◌∷◌, map, take, length, codes, Option, Some, None, option_map, Result, Ok, Err, IsErr, MatchResult}
 use Rattle.std.specs.List.{flat_map}
 use Rattle.cx_text.specs.declared.token.Style.TheVariants.{Par, Thorns}
 use Rattle.cx_parfile.specs.declared.settings.Settings.{Settings}
@@ -162,9 +162,11 @@ abbrev pub Made : List ℕ → List Spec → Held → Stage Job
 Made name specs files = Then (Configures name files) (MadeOf specs)
 
 -- An answer over a shelf that held these files, with its counts of faults before and after. Where the shelf tells its files, it is what
--- they make, but for want of memory and failures of the shelf; and they are as they were. Where they make a job, it is this one.
+-- they make, but for want of memory and failures of the shelf; and they are as they were. Where they make a job, it is this one; where
+-- they make a fault, no job is answered.
 pub record Makes (tells : Type 0) (made : Held → Stage Job) (old new : Held) (before now : ℕ) (result : Result Job JobFault) : Type 0 where
   pub answers : tells → (result ≡ Err faults.Memory) ⊎ (result ≡ Err faults.Shelf) ⊎ made old result
   pub only : tells → (job : Job) → made old (Ok job) → MatchResult result (λ found. found ≡ job) (λ e. (e ≡ faults.Memory) ⊎ (e ≡ faults.Shelf))
+  pub faulty : tells → (fault : JobFault) → made old (Err fault) → IsErr result
   pub same : tells → new ≡ old
   pub cause : HasCause faults.Shelf before now result
