@@ -9,16 +9,16 @@ ghost use Rattle.cx_ascii.specs.Output.{section, line, size_of, after_blank};
 
 use crate::rows::size;
 use cx_grid::Shape;
-use cx_text::{List, Text};
+use cx_text::Text;
 
 /// How many bytes `section` gives.
 #[tactic(auto, using(crate::proofs::LengthLaws::section_by))]
-pub fn section_length(full: &Text, iteration: u64, shape: &Shape, values: &List<i64>) -> u64
+pub fn section_length(full: &Text, iteration: u64, shape: &Shape, values: &[i64]) -> u64
     requires shape { IsShape shape.now }
     requires values { length values.now ≡ point_count (whole shape.now) }
     ensures { result ≡ length (section full.now iteration shape.now values.now) }
 {
-    head_length(full, iteration) + sizes_length(shape) + values_length(values.as_slice()) + 7
+    head_length(full, iteration) + sizes_length(shape) + values_length(values) + 7
 }
 
 /// How many bytes `scalar_line` gives.

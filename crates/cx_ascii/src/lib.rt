@@ -13,7 +13,7 @@ pub use lines::{scalar_line, section};
 mod tests {
     use super::*;
     use cx_grid::{Point, Shape};
-    use cx_text::{List, Text};
+    use cx_text::Text;
     use std::test::Fail;
 
     #[test]
@@ -25,7 +25,7 @@ mod tests {
             periodic: [true, false, false],
         };
         let full = Text::from_slice(rt.alloc(), b"ca::cell")?;
-        let values = List::new(vec![in rt.alloc(); 0, 0, 0, 1, 0, 0, 0, 0]?);
+        let values: [i64; 8] = [0, 0, 0, 1, 0, 0, 0, 0];
         let text = section(rt.alloc(), &full, 0, &shape, &values)?;
         let expected: &[u8] = b"# ca::cell iteration 0 size 8\n0 0 0 1 0 0 0 0\n\n";
         assert_eq!(rt; text.as_slice(), expected);

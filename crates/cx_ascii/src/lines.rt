@@ -9,7 +9,7 @@ ghost use Rattle.cx_ascii.specs.Output.{section, line};
 use crate::numbers::{push_count, push_value};
 use crate::rows::{push_level, push_sizes};
 use cx_grid::Shape;
-use cx_text::{List, Memory, Text};
+use cx_text::{Memory, Text};
 use std::alloc::Global;
 
 /// A grid variable's section: `# FULL iteration N size NX NY NZ` with as many sizes as directions, a line for each row along
@@ -19,7 +19,7 @@ pub fn section(
     full: &Text,
     iteration: u64,
     shape: &Shape,
-    values: &List<i64>,
+    values: &[i64],
 ) -> Result<Text, Memory>
     requires shape { IsShape shape.now }
     requires values { length values.now ≡ point_count (whole shape.now) }
@@ -29,7 +29,7 @@ pub fn section(
     text.push_slice(b" size")?;
     push_sizes(alloc, &mut text, shape)?;
     text.push_slice(b"\n")?;
-    push_level(alloc, &mut text, shape, values.as_slice())?;
+    push_level(alloc, &mut text, shape, values)?;
     text.push_slice(b"\n")?;
     Ok(text)
 }

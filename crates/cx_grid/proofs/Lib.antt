@@ -2,4 +2,5 @@ pub mod Places
 pub mod Following
 pub mod Interior
 pub mod Reaching
+mod Remainders
 mod Examples

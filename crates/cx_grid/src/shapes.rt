@@ -58,7 +58,16 @@ fn wrapped(periodic: bool, n: i32, c: i32) -> i32
     ensures value { result ≡ (if periodic then int_rem_euclid c n else c) }
     ensures on { IsTrue periodic ⊎ IsOn (pos 0) n c → IsOn (pos 0) n result }
 {
-    if periodic { c.rem_euclid(n) } else { c }
+    if periodic { remainder(n, c) } else { c }
+}
+
+/// A number modulo `n`, without a division where it is one of 0 to `n - 1` already.
+fn remainder(n: i32, c: i32) -> i32
+    requires { pos 0 <ℤ n }
+    ensures value { result ≡ int_rem_euclid c n }
+    ensures on { IsOn (pos 0) n result }
+{
+    if 0 <= c && c < n { c } else { c.rem_euclid(n) }
 }
 
 /// The nearest point of the interior: each coordinate of a direction that isn't periodic is moved there.

@@ -56,6 +56,17 @@ mod tests {
     }
 
     #[test]
+    fn a_window_takes_all_its_values(rt: HostRuntime) -> Result<(), Fail> {
+        let mut w = Window::new(rt.alloc(), 3)?;
+        w.clear(1);
+        w.add_read(1);
+        w.fill(&[4, 5, 6]);
+        let behind = Point { x: 1, y: 0, z: 0 };
+        assert_eq!(rt; [w.here(0), w.value(0, behind)], [5, 6]);
+        Ok(())
+    }
+
+    #[test]
     fn a_place_has_its_parameters(rt: HostRuntime) -> Result<(), Fail> {
         let shape = Shape {
             dims: 2,

@@ -101,6 +101,14 @@ impl Window {
         let place = place_of(self.dims, &self.reaches, read, offset);
         self.values[place] = value;
     }
+
+    /// Sets all values: read after read, those of a read in the order of its offsets, x fastest.
+    pub fn fill(&mut self, values: &[i64])
+        requires { length values.now ≡ length self.old.seen.values }
+        ensures { self.new ≡ record self.old { seen = record self.old.seen { values = values.now } } }
+    {
+        self.values.copy_from_slice(values);
+    }
 }
 
 /// The place of a read's offset among all values.
