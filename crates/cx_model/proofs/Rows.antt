@@ -1,6 +1,6 @@
 use Rattle.std.specs.Prelude.{◌≡◌, refl, length, codes, pos}
 use Rattle.std.specs.Fmt.{digits}
-use Rattle.cx_model.specs.Traces.{Done, Overflow, WhileLimit}
+use Rattle.cx_model.specs.declared.ends.End.TheVariants.{Done, Overflow, WhileLimit}
 use Rattle.cx_model.specs.Runs.{output, end}
 use Rattle.cx_model.proofs.Samples.{ca, ca_rules, wave_setup, wave_rules, control, control_rules, filled}
 

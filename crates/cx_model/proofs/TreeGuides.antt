@@ -10,7 +10,9 @@ use Rattle.cx_plan.specs.Paths.{Mark, Letter, Meets, letter_n, letter_w, letter_
 use Rattle.cx_rule.specs.Routine.{Rule}
 use Rattle.cx_model.specs.States.{State, scalar_of}
 use Rattle.cx_model.specs.Turns.{turn}
-use Rattle.cx_model.specs.Traces.{Tested, End, WhileLimit, Outcome, Goes, Ends, Trace, stays, ends, after, then_go}
+use Rattle.cx_model.specs.declared.ends.End.{End}
+use Rattle.cx_model.specs.declared.ends.End.TheVariants.{WhileLimit}
+use Rattle.cx_model.specs.Traces.{Tested, Outcome, Goes, Ends, Trace, stays, ends, after, then_go}
 use Rattle.cx_model.specs.Trees.{at_zero, test, turn_trace, loop, run_tree, run_row}
 use Rattle.cx_model.proofs.Guides.{Guided, SameLeft, guided-map, guided-stays, guided-ends, guided-then}
 

@@ -4,4 +4,5 @@ pub mod Traces
 pub mod Trees
 pub mod Stages
 pub mod Runs
+pub mod Work
 pub mod Uses

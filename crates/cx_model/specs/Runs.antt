@@ -7,7 +7,9 @@ use Rattle.cx_plan.specs.Lookups.{variable, is_scalar, bin}
 use Rattle.cx_rule.specs.Routine.{Rule}
 use Rattle.cx_ascii.specs.Output.{section, line}
 use Rattle.cx_model.specs.States.{State, level_of, scalar_of, start, rotate}
-use Rattle.cx_model.specs.Traces.{End, Done, OutputLimit, Entry, Rotated, Wrote, Saved, Outcome, Goes, Ends, Trace, stays, ends, does, after, then_go}
+use Rattle.cx_model.specs.declared.ends.End.{End}
+use Rattle.cx_model.specs.declared.ends.End.TheVariants.{Done, OutputLimit}
+use Rattle.cx_model.specs.Traces.{Entry, Rotated, Wrote, Saved, Outcome, Goes, Ends, Trace, stays, ends, does, after, then_go}
 use Rattle.cx_model.specs.Trees.{run_tree}
 use Rattle.cx_model.specs.Stages.{Stage, Bin, Rotate, Save, Write, stages, stages_after}
 

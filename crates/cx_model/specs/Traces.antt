@@ -1,14 +1,8 @@
 -- What an undivided run does, as a list of entries, and how it ends.
 use Rattle.std.specs.Prelude.{ℕ, List, [], ◌∷◌, ◌++◌}
 use Rattle.cx_plan.specs.declared.variable.VarId.{VarId}
+use Rattle.cx_model.specs.declared.ends.End.{End}
 use Rattle.cx_model.specs.States.{State}
-
--- how a run ends, with the iteration and the path
-pub data End : Type 0 where
-  Done : End
-  Overflow : ℕ → List ℕ → End
-  WhileLimit : ℕ → List ℕ → End
-  OutputLimit : ℕ → End
 
 -- each entry has the state before it
 pub data Entry : Type 0 where

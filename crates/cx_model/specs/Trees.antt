@@ -8,7 +8,9 @@ use Rattle.cx_plan.specs.Lookups.{item}
 use Rattle.cx_rule.specs.Routine.{Rule}
 use Rattle.cx_model.specs.States.{State, scalar_of}
 use Rattle.cx_model.specs.Turns.{turn}
-use Rattle.cx_model.specs.Traces.{End, Trace, Turned, Overflowed, Exchanged, Tested, Overflow, WhileLimit, stays, ends, does, after, then_go}
+use Rattle.cx_model.specs.declared.ends.End.{End}
+use Rattle.cx_model.specs.declared.ends.End.TheVariants.{Overflow, WhileLimit}
+use Rattle.cx_model.specs.Traces.{Trace, Turned, Overflowed, Exchanged, Tested, stays, ends, does, after, then_go}
 
 -- the first where the number is 0, else the second
 abbrev pub at_zero : ℤ → (State → Trace) → (State → Trace) → State → Trace
