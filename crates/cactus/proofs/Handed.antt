@@ -31,3 +31,13 @@ specs_of xs ys f g rules specs h e = ap (map g) e ∙ h.specs_are
 -- what is seen of an object by its table of methods alone
 pub by_table : {I A : Type 0} {H : I → Type 0} (look : (x : I) → H x → A) (x y : I) (a : A) → x ≡ y → ((h : H y) → look y h ≡ a) → (h : H x) → look x h ≡ a
 by_table {I} {A} {H} look x y a e all = subst (λ (z : I). (h : H z) → look z h ≡ a) (sym e) all
+
+-- one more object, by its table of methods
+module _ {I X : Type 0} {H : I → Type 0} (first : List X) (rule_by : (t : I) → H t → Rule) (spec_by : (t : I) → H t → Spec) (table : X → I) (value : (x : X) → H (table x)) where
+  pub pushed : (xs ys : List X) (x : X) (own : I) (rules : List Rule) (specs : List Spec) (rule : Rule) (spec : Spec)
+      → Handed xs (λ z. rule_by (table z) (value z)) (λ z. spec_by (table z) (value z)) rules specs → ys ≡ xs ++ x ∷ []
+      → table x ≡ own → ((h : H own) → rule_by own h ≡ rule) → ((h : H own) → spec_by own h ≡ spec)
+      → Handed ys (λ z. rule_by (table z) (value z)) (λ z. spec_by (table z) (value z)) (rules ++ rule ∷ []) (specs ++ spec ∷ [])
+  pushed xs ys x own rules specs rule spec h e is r s =
+      one_more xs ys x (λ z. rule_by (table z) (value z)) (λ z. spec_by (table z) (value z)) rules specs rule spec h e
+      (by_table rule_by (table x) own rule is r (value x)) (by_table spec_by (table x) own spec is s (value x))

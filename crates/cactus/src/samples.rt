@@ -6,7 +6,14 @@ pub const SAMPLES: &[File] = &[
     (b"ca.par", CA),
     (
         b"ThornList",
-        b"# the sample thorns\nInteger/ElemCA\nInteger/Life2D\nInteger/WaveInt\nInteger/DiffInt\nInteger/Control\n",
+        b"# the driver and IO, which are built in, and the sample thorns\n\
+        CactusPUGH/PUGH\n\
+        CactusBase/IOUtil\n\
+        Integer/ElemCA\n\
+        Integer/Life2D\n\
+        Integer/WaveInt\n\
+        Integer/DiffInt\n\
+        Integer/Control\n",
     ),
     (
         b"arrangements/Integer/ElemCA/interface.ccl",
@@ -84,3 +91,37 @@ pub const HEAT: &[u8] =
 
 pub const CONTROL: &[u8] =
     b"# turns that are counted down\nActiveThorns = \"Control\"\nCactus::cctk_itlast = 1\ncontrol::turns = 5\ncontrol::drop = 1\nIO::out_vars = \"control::count\"\n";
+
+pub const GLIDER: &[u8] =
+    b"# a glider that goes once around a sheet, and is back after 48 iterations\n\
+    ActiveThorns = \"Life2D\"\n\
+    Cactus::cctk_itlast = 48\n\
+    driver::global_nsize = 12\n\
+    driver::periodic = yes\n\
+    life::pattern = \"glider\"\n\
+    IO::out_dir = $parfile\n\
+    IO::out_every = 24\n\
+    IO::out_vars = \"life::cell life::live\"\n";
+
+pub const BOX: &[u8] = b"!DESC \"a wave, heat, cells and a count, together in one box\"\n\
+    \n\
+    Cactus::cctk_run_title = \"All in one box\"\n\
+    \n\
+    ActiveThorns = \"PUGH IOUtil\"\n\
+    ActiveThorns = \"WaveInt DiffInt ElemCA Control\"\n\
+    \n\
+    Cactus::terminate   = \"iteration\"\n\
+    Cactus::cctk_itlast = 40\n\
+    \n\
+    driver::global_nx   = 40\n\
+    driver::ghost_size  = 1      # one ghost point per side\n\
+    driver::parts_x     = 3\n\
+    \n\
+    wave::pattern = \"uniform\"\n\
+    wave::amount  = 5\n\
+    wave::sum     = yes\n\
+    \n\
+    IO::out_dir   = $parfile\n\
+    IO::out_every = 20\n\
+    IO::out_vars  = \"wave::phi\n\
+    \x20                wave::total\"\n";

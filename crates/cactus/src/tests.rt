@@ -1,42 +1,31 @@
 // The top call over objects in memory and over devices that fail.
+mod runs;
+
 use crate::answered;
 use crate::devices::{HollowDisk, LateShelf};
 use crate::faults::{FAULTS, IF_AROUND, IF_NOWHERE, PLAIN, SAMPLE_FAULTS};
-use crate::samples::{CONTROL, File, HEAT, LIFE, SAMPLES, WAVE};
+use crate::samples::{BOX, CA, CONTROL, File, GLIDER, HEAT, LIFE, SAMPLES, WAVE};
 use cx_disk::{Disk, MemoryDisk};
 use cx_rule::Meter;
 use cx_run::{FolderShelf, MemoryShelf, MemorySink, Shelf, Sink};
 use cx_text::{List, Memory, Text};
+use runs::{CA_OUTPUT, RUNS};
 use std::alloc::Global;
 use std::fs;
 use std::test::Fail;
-
-const NONE: &[u8] =
-    b"ActiveThorns = \"ElemCA\"\nCactus::cctk_itlast = 0\ndriver::global_nx = 8\ndriver::periodic = yes\nca::start = 3\nIO::out_vars = \"ca::cell\"\n";
-
-/// The settings of `CA` in another order, in other spellings that mean the same, with comments and ignored lines.
-const OTHER_ORDER: &[u8] =
-    b"# cells\n!DESC \"three\"\nIO::out_vars = ca::cell # all\nca::start=\"3\"\n  ! no setting = 1\nActiveThorns = \"Cactus elemca, PUGH\"\n\nDRIVER::periodic = yes\ncactus::cctk_itlast = 02\ndriver::Global_NX = 8";
 
 const PARAMETER_FILES: &[File] = &[
     (b"life.par", LIFE),
     (b"wave.par", WAVE),
     (b"heat.par", HEAT),
     (b"control.par", CONTROL),
-    (b"none.par", NONE),
-    (b"other.par", OTHER_ORDER),
-    (
-        b"cut.par",
-        b"ActiveThorns = \"ElemCA\"\nCactus::cctk_itlast = 2\ndriver::global_nx = 8\ndriver::periodic = yes\ndriver::widths_x = \"8\"\nca::start = 3\nIO::out_vars = \"ca::cell\"\n",
-    ),
+    (b"glider.par", GLIDER),
+    (b"box.par", BOX),
     (b"byte.par", b"a = 1\nb = \x01\n"),
     (b"open.par", b"a = \"1\nb = 2\n"),
     (b"sign.par", b"ca::start 3\n"),
     (b"index.par", b"a[1023] = 1\na[1024] = 1\n"),
 ];
-
-const OUTPUT: &[u8] =
-    b"# ca::cell iteration 0 size 8\n0 0 0 1 0 0 0 0\n\n# ca::cell iteration 1 size 8\n0 0 1 0 1 0 0 0\n\n# ca::cell iteration 2 size 8\n0 1 0 0 0 1 0 0\n\n";
 
 const USAGE: &[u8] =
     b"usage: cactus run FILE\n       cactus check FILE\n       cactus schedule FILE\n       cactus describe FILE\n";
@@ -83,16 +72,34 @@ const ANSWERS: &[(&[&[u8]], u8, &[u8])] = &[
         2,
         b"refused: index.par BadNumber 2\n",
     ),
-    (&[b"run", b"heat.par"], 2, b"refused: NotBuilt heat.par\n"),
-    (&[b"run", b"cut.par"], 2, b"refused: NotBuilt cut.par\n"),
-    (&[b"run", b"none.par"], 0, b"done: iteration 0\n"),
     (&[b"run", b"ca.par"], 0, b"done: iteration 2\n"),
     (&[b"check", b"ca.par"], 0, b"accepted\n"),
     (&[b"check", b"life.par"], 0, b"accepted\n"),
     (&[b"check", b"wave.par"], 0, b"accepted\n"),
     (&[b"check", b"heat.par"], 0, b"accepted\n"),
     (&[b"check", b"control.par"], 0, b"accepted\n"),
+    (&[b"check", b"glider.par"], 0, b"accepted\n"),
+    (&[b"check", b"box.par"], 0, b"accepted\n"),
     (&[b"schedule", b"ca.par"], 0, SCHEDULE),
+];
+
+/// Lines of jobs that `run` doesn't run yet: checkpoints, and other beginnings than afresh.
+const UNBUILT: &[&[u8]] = &[
+    b"IO::checkpoint_every = 5\n",
+    b"IO::checkpoint_on_terminate = yes\n",
+    b"IO::recover = auto\n",
+    b"IO::recover = autoprobe\n",
+];
+
+/// Jobs, each with how many calls of the disk its run makes, its status, and what two runs print whose disk fails once.
+const WRITERS: &[(&[u8], u64, u8, &[u8])] = &[
+    (CA, 10, 0, b"device: disk\ndone: iteration 2\n"),
+    (
+        b"ActiveThorns = \"Control\"\ncontrol::drop = 0\nIO::out_vars = \"control::count\"\n",
+        6,
+        3,
+        b"device: disk\nended: WhileLimit 1 EVOL/control_spin\n",
+    ),
 ];
 
 /// Thorns, each with the grids' directions that it has.
@@ -139,19 +146,45 @@ fn sink(alloc: Global, fail: &[u64]) -> Result<MemorySink, Memory> {
     MemorySink::new(alloc, 10_000, List::new(fail.to_vec(alloc)?))
 }
 
-/// What a command prints over a shelf, with its status, on a new disk that no command but `run` changes.
-fn printed(
-    rt: &HostRuntime,
-    words: &[&[u8]],
-    shelf: &mut MemoryShelf,
-) -> Result<(u8, MemorySink), Fail> {
+/// What a call came to: its status, what is printed, the output file and how many points are computed.
+#[derive(Drop)]
+struct Outcome {
+    status: u8,
+    printed: Vec<u8>,
+    output: Vec<u8>,
+    points: u128,
+}
+
+/// What a command comes to over a shelf, on a new disk.
+fn answer_to(rt: &HostRuntime, words: &[&[u8]], shelf: &mut MemoryShelf) -> Result<Outcome, Fail> {
     let alloc = rt.alloc();
     let words = texts(alloc, words)?;
     let mut disk = MemoryDisk::new(alloc, List::empty(alloc));
     let mut out = sink(alloc, &[])?;
     let mut meter = Meter::new(rt);
     let status = answered(alloc, &words, shelf, &mut disk, &mut out, &mut meter)?;
-    Ok((status, out))
+    Ok(Outcome {
+        status,
+        printed: out.bytes().to_vec(alloc)?,
+        output: disk.bytes(8).to_vec(alloc)?,
+        points: meter.count(),
+    })
+}
+
+/// A shelf with the parameter file `t.par`, which has more lines behind those of a file, and with other files.
+fn shelf_with(
+    alloc: Global,
+    file: &[u8],
+    more: &[u8],
+    others: &[File],
+) -> Result<MemoryShelf, Memory> {
+    let mut text = Text::from_slice(alloc, file)?;
+    text.push_slice(more)?;
+    let mut list = Vec::new(alloc);
+    list.push((Text::from_slice(alloc, b"t.par")?, text))?;
+    push_files(alloc, &mut list, others)?;
+    push_files(alloc, &mut list, SAMPLES)?;
+    Ok(MemoryShelf::new(List::new(list)))
 }
 
 #[test]
@@ -159,9 +192,9 @@ fn answers(rt: HostRuntime) -> Result<(), Fail> {
     let alloc = rt.alloc();
     let mut shelf = shelf(alloc, PARAMETER_FILES, SAMPLES)?;
     for answer in ANSWERS {
-        let (status, out) = printed(&rt, answer.0, &mut shelf)?;
-        assert_eq!(rt; status, answer.1);
-        assert_eq!(rt; out.bytes(), answer.2);
+        let came = answer_to(&rt, answer.0, &mut shelf)?;
+        assert_eq!(rt; came.status, answer.1);
+        assert_eq!(rt; came.printed.as_slice(), answer.2);
     }
     Ok(())
 }
@@ -173,9 +206,9 @@ fn description_of_eight_points(rt: HostRuntime) -> Result<(), Fail> {
     let mut expected = Text::from_slice(alloc, KEY_BEGINS)?;
     expected.push_slice(SCHEDULE)?;
     expected.push_slice(STARRED)?;
-    let (status, out) = printed(&rt, &[b"describe", b"ca.par"], &mut shelf)?;
-    assert_eq!(rt; status, 0);
-    assert_eq!(rt; out.bytes(), expected.as_slice());
+    let came = answer_to(&rt, &[b"describe", b"ca.par"], &mut shelf)?;
+    assert_eq!(rt; came.status, 0);
+    assert_eq!(rt; came.printed.as_slice(), expected.as_slice());
     Ok(())
 }
 
@@ -188,42 +221,43 @@ fn sample_thorns_are_shown(rt: HostRuntime) -> Result<(), Fail> {
         b"wave.par",
         b"heat.par",
         b"control.par",
+        b"glider.par",
+        b"box.par",
     ];
     let mut shelf = shelf(alloc, PARAMETER_FILES, SAMPLES)?;
     for file in files {
-        let (status, schedule) = printed(&rt, &[b"schedule", file], &mut shelf)?;
-        assert_eq!(rt; status, 0);
-        assert!(rt; schedule.bytes().starts_with(b"bin STARTUP\n"));
-        let (status, description) = printed(&rt, &[b"describe", file], &mut shelf)?;
-        assert_eq!(rt; status, 0);
-        assert!(rt; description.bytes().starts_with(b"thorn Integer/"));
+        let schedule = answer_to(&rt, &[b"schedule", file], &mut shelf)?;
+        assert_eq!(rt; schedule.status, 0);
+        assert!(rt; schedule.printed.starts_with(b"bin STARTUP\n"));
+        let description = answer_to(&rt, &[b"describe", file], &mut shelf)?;
+        assert_eq!(rt; description.status, 0);
+        assert!(rt; description.printed.starts_with(b"thorn Integer/"));
     }
     Ok(())
 }
 
 /// What `check t.par` prints where these files stand before others.
-fn checked(rt: &HostRuntime, files: &[File], more: &[File]) -> Result<MemorySink, Fail> {
+fn checked(rt: &HostRuntime, files: &[File], more: &[File]) -> Result<Vec<u8>, Fail> {
     let mut shelf = shelf(rt.alloc(), files, more)?;
-    let (_, out) = printed(rt, &[b"check", b"t.par"], &mut shelf)?;
-    Ok(out)
+    Ok(answer_to(rt, &[b"check", b"t.par"], &mut shelf)?.printed)
 }
 
 #[test]
 fn faults_of_plain_thorns(rt: HostRuntime) -> Result<(), Fail> {
     for fault in FAULTS {
-        let out = checked(&rt, fault.0, PLAIN)?;
-        assert_eq!(rt; out.bytes(), fault.1);
+        let printed = checked(&rt, fault.0, PLAIN)?;
+        assert_eq!(rt; printed.as_slice(), fault.1);
     }
-    let out = checked(&rt, &[], PLAIN)?;
-    assert_eq!(rt; out.bytes(), b"accepted\n".as_slice());
+    let printed = checked(&rt, &[], PLAIN)?;
+    assert_eq!(rt; printed.as_slice(), b"accepted\n".as_slice());
     Ok(())
 }
 
 #[test]
 fn faults_of_sample_thorns(rt: HostRuntime) -> Result<(), Fail> {
     for fault in SAMPLE_FAULTS {
-        let out = checked(&rt, fault.0, SAMPLES)?;
-        assert_eq!(rt; out.bytes(), fault.1);
+        let printed = checked(&rt, fault.0, SAMPLES)?;
+        assert_eq!(rt; printed.as_slice(), fault.1);
     }
     Ok(())
 }
@@ -231,18 +265,17 @@ fn faults_of_sample_thorns(rt: HostRuntime) -> Result<(), Fail> {
 #[test]
 fn if_around_the_only_start(rt: HostRuntime) -> Result<(), Fail> {
     let refused = checked(&rt, IF_AROUND, SAMPLES)?;
-    assert!(rt; refused.bytes().starts_with(b"refused: Unset n"));
+    assert!(rt; refused.starts_with(b"refused: Unset n"));
     let accepted = checked(&rt, IF_NOWHERE, SAMPLES)?;
-    assert_eq!(rt; accepted.bytes(), b"accepted\n".as_slice());
+    assert_eq!(rt; accepted.as_slice(), b"accepted\n".as_slice());
     Ok(())
 }
 
-/// A parameter file of one thorn on a grid.
-fn on_grid(alloc: Global, thorn: &[u8], grid: &[u8]) -> Result<Text, Memory> {
+/// The first line of a parameter file of one thorn.
+fn activation(alloc: Global, thorn: &[u8]) -> Result<Text, Memory> {
     let mut text = Text::from_slice(alloc, b"ActiveThorns = ")?;
     text.push_slice(thorn)?;
     text.push_slice(b"\n")?;
-    text.push_slice(grid)?;
     Ok(text)
 }
 
@@ -251,41 +284,49 @@ fn sample_thorns_on_many_grids(rt: HostRuntime) -> Result<(), Fail> {
     let alloc = rt.alloc();
     for thorn in THORNS {
         for grid in GRIDS {
-            let mut list = Vec::new(alloc);
-            list.push((
-                Text::from_slice(alloc, b"t.par")?,
-                on_grid(alloc, thorn, grid)?,
-            ))?;
-            push_files(alloc, &mut list, SAMPLES)?;
-            let mut shelf = MemoryShelf::new(List::new(list));
-            let (status, out) = printed(&rt, &[b"check", b"t.par"], &mut shelf)?;
-            assert_eq!(rt; status, 0);
-            assert_eq!(rt; out.bytes(), b"accepted\n".as_slice());
+            let line = activation(alloc, thorn)?;
+            let mut shelf = shelf_with(alloc, line.as_slice(), grid, &[])?;
+            let came = answer_to(&rt, &[b"check", b"t.par"], &mut shelf)?;
+            assert_eq!(rt; came.status, 0);
+            assert_eq!(rt; came.printed.as_slice(), b"accepted\n".as_slice());
         }
     }
     Ok(())
 }
 
 #[test]
-fn output_of_eight_points(rt: HostRuntime) -> Result<(), Fail> {
+fn runs_of_jobs(rt: HostRuntime) -> Result<(), Fail> {
     let alloc = rt.alloc();
-    let files: &[(&[u8], &[u8], u128)] = &[
-        (b"none.par", &OUTPUT[..47], 8),
-        (b"ca.par", OUTPUT, 24),
-        (b"other.par", OUTPUT, 24),
-    ];
-    let mut shelf = shelf(alloc, PARAMETER_FILES, SAMPLES)?;
-    for file in files {
-        let words = texts(alloc, &[b"run", file.0])?;
-        let mut disk = MemoryDisk::new(alloc, List::empty(alloc));
-        let mut out = sink(alloc, &[])?;
-        let mut meter = Meter::new(&rt);
-        let status = answered(alloc, &words, &mut shelf, &mut disk, &mut out, &mut meter)?;
-        assert_eq!(rt; status, 0);
-        assert_eq!(rt; disk.bytes(8), file.1);
-        assert_eq!(rt; meter.count(), file.2);
+    for run in RUNS {
+        let mut shelf = shelf_with(alloc, run.file, run.more, run.others)?;
+        let came = answer_to(&rt, &[b"run", b"t.par"], &mut shelf)?;
+        assert_eq!(rt; came.status, run.status);
+        assert_eq!(rt; came.printed.as_slice(), run.printed);
+        assert_eq!(rt; came.output.as_slice(), run.output);
+        if let Some(points) = run.points {
+            assert_eq!(rt; came.points, points);
+        }
     }
-    assert_eq!(rt; OUTPUT.len(), 141);
+    assert_eq!(rt; CA_OUTPUT.len(), 141);
+    Ok(())
+}
+
+#[test]
+fn jobs_that_are_accepted_and_not_built(rt: HostRuntime) -> Result<(), Fail> {
+    let alloc = rt.alloc();
+    for more in UNBUILT {
+        let mut shelf = shelf_with(alloc, CA, more, &[])?;
+        let checked = answer_to(&rt, &[b"check", b"t.par"], &mut shelf)?;
+        assert_eq!(rt; checked.printed.as_slice(), b"accepted\n".as_slice());
+        let refused = answer_to(&rt, &[b"run", b"t.par"], &mut shelf)?;
+        assert_eq!(rt; refused.status, 2);
+        assert_eq!(rt;
+            refused.printed.as_slice(),
+            b"refused: NotBuilt t.par\n".as_slice()
+        );
+        assert_eq!(rt; refused.output.len(), 0);
+        assert_eq!(rt; refused.points, 0);
+    }
     Ok(())
 }
 
@@ -295,31 +336,56 @@ fn file_that_is_too_long(rt: HostRuntime) -> Result<(), Fail> {
     let name = Text::from_slice(alloc, b"long.par")?;
     let bytes = Text::new(vec![in alloc; b' '; 1_048_577]?);
     let mut shelf = MemoryShelf::new(List::new(vec![in alloc; (name, bytes)]?));
-    let (status, out) = printed(&rt, &[b"run", b"long.par"], &mut shelf)?;
-    assert_eq!(rt; status, 2);
-    assert_eq!(rt; out.bytes(), b"refused: long.par TooLong\n".as_slice());
+    let came = answer_to(&rt, &[b"run", b"long.par"], &mut shelf)?;
+    assert_eq!(rt; came.status, 2);
+    assert_eq!(rt;
+        came.printed.as_slice(),
+        b"refused: long.par TooLong\n".as_slice()
+    );
     Ok(())
+}
+
+/// What two runs of a job came to over one disk: statuses, the calls of the disk up to the end of each, and what they print.
+#[derive(Drop)]
+struct Twice {
+    first: u8,
+    first_calls: u64,
+    second: u8,
+    calls: u64,
+    printed: Vec<u8>,
+}
+
+/// Runs a job twice over a disk that fails in one call.
+fn run_twice(rt: &HostRuntime, file: &[u8], fail: u64) -> Result<Twice, Fail> {
+    let alloc = rt.alloc();
+    let words = texts(alloc, &[b"run", b"t.par"])?;
+    let mut shelf = shelf_with(alloc, file, b"", &[])?;
+    let mut disk = HollowDisk::new(fail);
+    let mut out = sink(alloc, &[])?;
+    let mut meter = Meter::new(rt);
+    let first = answered(alloc, &words, &mut shelf, &mut disk, &mut out, &mut meter)?;
+    let first_calls = disk.calls();
+    let second = answered(alloc, &words, &mut shelf, &mut disk, &mut out, &mut meter)?;
+    Ok(Twice {
+        first,
+        first_calls,
+        second,
+        calls: disk.calls(),
+        printed: out.bytes().to_vec(alloc)?,
+    })
 }
 
 #[test]
 fn disk_that_fails_once(rt: HostRuntime) -> Result<(), Fail> {
-    let alloc = rt.alloc();
-    let words = texts(alloc, &[b"run", b"ca.par"])?;
-    for fail in 0..10 {
-        let mut disk = HollowDisk::new(fail);
-        let mut out = sink(alloc, &[])?;
-        let mut meter = Meter::new(&rt);
-        let mut shelf = shelf(alloc, PARAMETER_FILES, SAMPLES)?;
-        let first = answered(alloc, &words, &mut shelf, &mut disk, &mut out, &mut meter)?;
-        assert_eq!(rt; first, 4);
-        assert_eq!(rt; disk.calls(), fail + 1);
-        let second = answered(alloc, &words, &mut shelf, &mut disk, &mut out, &mut meter)?;
-        assert_eq!(rt; second, 0);
-        assert_eq!(rt; disk.calls(), fail + 11);
-        assert_eq!(rt;
-            out.bytes(),
-            b"device: disk\ndone: iteration 2\n".as_slice()
-        );
+    for writer in WRITERS {
+        for fail in 0..writer.1 {
+            let came = run_twice(&rt, writer.0, fail)?;
+            assert_eq!(rt; came.first, 4);
+            assert_eq!(rt; came.first_calls, fail + 1);
+            assert_eq!(rt; came.second, writer.2);
+            assert_eq!(rt; came.calls, came.first_calls.saturating_add(writer.1));
+            assert_eq!(rt; came.printed.as_slice(), writer.3);
+        }
     }
     Ok(())
 }

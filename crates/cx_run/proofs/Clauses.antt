@@ -1,21 +1,22 @@
 -- From what stands behind an answer, and what was said, to what the top call ensures.
-use Rattle.std.proofs.Common.{◌≡◌, ◌≢◌, ◌∙◌, ◌⊎◌, ℕ, ◌+◌, ◌*◌, ◌<◌, List, [], ◌∷◌, Result, Ok, Err, codes, inl, inr, sym, ap, subst, refl, arith}
+use Rattle.std.proofs.Common.{◌≡◌, ◌≢◌, ◌∙◌, ◌⊎◌, ℕ, ◌<◌, List, [], ◌∷◌, Ok, Err, inl, inr, sym, ap, subst, refl, arith}
 use Rattle.cx_disk.specs.Cause.{Rose}
-use Rattle.cx_grid.specs.Boxes.{point_count}
-use Rattle.cx_grid.specs.Grid.{whole}
 use Rattle.cx_job.specs.declared.fault.JobFault.{JobFault}
 use Rattle.cx_job.specs.declared.fault.JobFault.TheVariants as faults
+use Rattle.cx_model.specs.Runs.{output, undivided_run, end as end_of}
+use Rattle.cx_model.specs.Work.{points_computed}
+use Rattle.cx_model.specs.declared.ends.End.{End}
+use Rattle.cx_model.specs.declared.ends.End.TheVariants as ends
 use Rattle.cx_plan.specs.Setups.{setup_of}
 use Rattle.cx_plan.specs.Whole.{IsWhole}
 use Rattle.cx_plan.specs.declared.job.Job.{Job}
 use Rattle.cx_rule.specs.Jobs.{FitJob}
 use Rattle.cx_rule.specs.Meter.{raised}
-use Rattle.cx_run.specs.Answer.{Call, Work, Untouched, IsMade, HasRun, IsDone, IsAsked, Comes, Fails, IsForJob, Explains, WasSaid, IsOutput, IsStatus, status_of, text_of}
+use Rattle.cx_run.specs.Answer.{Call, Work, Untouched, IsMade, HasRun, IsDone, IsEnded, IsNotBuilt, IsAsked, Comes, Fails, IsForFault, IsForJob, Explains, WasSaid, IsOutput, IsStatus, status_of, text_of, answer_of}
+use Rattle.cx_run.specs.Built.{IsBuilt}
 use Rattle.cx_run.specs.FaultWords.{refused_text}
-use Rattle.cx_run.specs.Served.{IsServed}
 use Rattle.cx_run.specs.Sink.{Adds}
-use Rattle.cx_run.specs.Texts.{command_text, done_text, accepted_text, usage_text, not_built_text, shelf_text, disk_text, memory_text}
-use Rattle.cx_run.specs.Undivided.{output_of}
+use Rattle.cx_run.specs.Texts.{command_text, done_text, ended_text, accepted_text, usage_text, not_built_text, shelf_text, disk_text, memory_text}
 use Rattle.cx_run.specs.Words.{word_of, Asks, IsUsage}
 use Rattle.cx_run.specs.declared.reply.Answer.{Answer}
 use Rattle.cx_run.specs.declared.reply.Answer.TheVariants as a
@@ -46,15 +47,16 @@ status_is (a.Text text) = inl refl
 status_is a.Usage = inr (inl refl)
 status_is (a.Refused fault) = inr (inr (inl refl))
 status_is a.NotBuilt = inr (inr (inl refl))
-status_is a.Shelf = inr (inr (inr (inl refl)))
-status_is a.Disk = inr (inr (inr (inl refl)))
-status_is a.Memory = inr (inr (inr (inr refl)))
+status_is (a.Ended end) = inr (inr (inr (inl refl)))
+status_is a.Shelf = inr (inr (inr (inr (inl refl))))
+status_is a.Disk = inr (inr (inr (inr (inl refl))))
+status_is a.Memory = inr (inr (inr (inr (inr refl))))
 
 pub statuses : (told : Type 0) (file : List ℕ) (answer : Answer) (result : ℕ) (old new : List ℕ) (b n : ℕ) → WasSaid told file answer result old new b n → IsStatus result
 statuses told file answer result old new b n (inl p) = subst (λ (s : ℕ). IsStatus s) (sym p.status_is) (status_is answer)
-statuses told file answer result old new b n (inr (inl p)) = inr (inr (inr (inr p.status_is)))
-statuses told file answer result old new b n (inr (inr (inl p))) = inr (inr (inr (inl p.status_is)))
-statuses told file answer result old new b n (inr (inr (inr p))) = inr (inr (inr (inl p.status_is)))
+statuses told file answer result old new b n (inr (inl p)) = inr (inr (inr (inr (inr p.status_is))))
+statuses told file answer result old new b n (inr (inr (inl p))) = inr (inr (inr (inr (inl p.status_is))))
+statuses told file answer result old new b n (inr (inr (inr p))) = inr (inr (inr (inr (inl p.status_is))))
 
 -- ---- what stands behind an answer
 
@@ -77,12 +79,13 @@ not_usage c file x = go x.cause
 
 abbrev Did : Work → Command → Job → Type 0
 Did w command job =
-    (command ≡ commands.Run) × IsServed job × (w.told_disk → IsOutput (output_of w.rules job) w.disk_before w.disk_after)
-    × (w.meter_after ≡ raised w.meter_before (point_count (whole job.shape) * (job.itlast + 1)))
+    (command ≡ commands.Run) × IsBuilt job × (end_of (setup_of job) w.rules ≡ ends.Done)
+    × (w.told_disk → IsOutput (output (setup_of job) w.rules) w.disk_before w.disk_after)
+    × (w.meter_after ≡ raised w.meter_before (points_computed (setup_of job) (undivided_run (setup_of job) w.rules).entries))
     ⊎ (command ≢ commands.Run) × w.same_disk × (w.meter_after ≡ w.meter_before)
 
-did : (w : Work) (command : Command) (job : Job) → (command ≡ commands.Run) × HasRun w job ⊎ (command ≢ commands.Run) × Untouched w → Did w command job
-did w command job (inl p) = inl (p.0, p.1.served, p.1.output, p.1.meter)
+did : (w : Work) (command : Command) (job : Job) → (command ≡ commands.Run) × HasRun w job ends.Done ⊎ (command ≢ commands.Run) × Untouched w → Did w command job
+did w command job (inl p) = inl (p.0, p.1.built, p.1.end_is, p.1.written, p.1.meter refl)
 did w command job (inr p) = inr (p.0, p.1.disk, p.1.meter)
 
 abbrev Done : Call → Type 0 → List ℕ → List ℕ → Type 0
@@ -103,6 +106,7 @@ done_by c file (a.Text text) told old new x e said = done_with c file text x.com
 done_by c file a.Usage told old new x e said = absurd cc
 done_by c file (a.Refused fault) told old new x e said = absurd cc
 done_by c file a.NotBuilt told old new x e said = absurd cc
+done_by c file (a.Ended end) told old new x e said = absurd cc
 done_by c file a.Shelf told old new x e said = absurd cc
 done_by c file a.Disk told old new x e said = absurd cc
 done_by c file a.Memory told old new x e said = absurd cc
@@ -129,6 +133,7 @@ asked_not_1 c file (a.Text text) x e = absurd cc
 asked_not_1 c file a.Usage x e = not_usage c file x
 asked_not_1 c file (a.Refused fault) x e = absurd cc
 asked_not_1 c file a.NotBuilt x e = absurd cc
+asked_not_1 c file (a.Ended end) x e = absurd cc
 asked_not_1 c file a.Shelf x e = absurd cc
 asked_not_1 c file a.Disk x e = absurd cc
 asked_not_1 c file a.Memory x e = absurd cc
@@ -148,7 +153,7 @@ usage c file answer told result old new b n x said e =
 abbrev Refused : Call → Type 0 → List ℕ → List ℕ → Type 0
 Refused c told old new = (command : Command) × (file : List ℕ) × Asks c.words command file × c.work.same_disk × (c.work.meter_after ≡ c.work.meter_before)
     × (((fault : JobFault) × (fault ≢ faults.Shelf) × (fault ≢ faults.Memory) × c.makes file (Err fault) × (told → Adds (refused_text fault) old new))
-    ⊎ ((job : Job) × (command ≡ commands.Run) × c.makes file (Ok job) × (IsServed job → ⊥) × (told → Adds (not_built_text file) old new)))
+    ⊎ ((job : Job) × (command ≡ commands.Run) × c.makes file (Ok job) × (IsBuilt job → ⊥) × (told → Adds (not_built_text file) old new)))
 
 fault_by : (c : Call) (file : List ℕ) (fault : JobFault) (told : Type 0) (old new : List ℕ) → IsAsked c file (a.Refused fault) → (told → Adds (refused_text fault) old new) → Refused c told old new
 fault_by c file fault told old new x said = go x.cause
@@ -169,6 +174,7 @@ refused_by c file (a.Text text) told old new x e said = absurd cc
 refused_by c file a.Usage told old new x e said = absurd cc
 refused_by c file (a.Refused fault) told old new x e said = fault_by c file fault told old new x said
 refused_by c file a.NotBuilt told old new x e said = not_built_by c file told old new x said
+refused_by c file (a.Ended end) told old new x e said = absurd cc
 refused_by c file a.Shelf told old new x e said = absurd cc
 refused_by c file a.Disk told old new x e said = absurd cc
 refused_by c file a.Memory told old new x e said = absurd cc
@@ -182,6 +188,43 @@ refused c file answer told result old new b n x said e =
     go : Explains c file answer → status_of answer ≡ 2 → (told → Adds (text_of answer file) old new) → Refused c told old new
     go (inl u) s text = let z = usage_status answer 2 u.0 s in absurd cc
     go (inr x) s text = refused_by c file answer told old new x s text
+
+-- ---- 3
+
+abbrev Ended : Call → Type 0 → List ℕ → List ℕ → Type 0
+Ended c told old new = (file : List ℕ) × (job : Job) × (stop : End) × Asks c.words commands.Run file
+    × c.makes file (Ok job) × IsWhole job × FitJob c.specs (setup_of job)
+    × IsBuilt job × (stop ≢ ends.Done) × (end_of (setup_of job) c.work.rules ≡ stop)
+    × (told → Adds (ended_text stop) old new)
+    × (c.work.told_disk → IsOutput (output (setup_of job) c.work.rules) c.work.disk_before c.work.disk_after)
+
+ended_with : (c : Call) (file : List ℕ) (end : End) (told : Type 0) (old new : List ℕ) → IsAsked c file (a.Ended end) → (told → Adds (ended_text end) old new) → Ended c told old new
+ended_with c file end told old new x said =
+    let p = unfailed x.cause in
+    let run = p.2.has_run in
+    (file, p.0, end, subst (λ (command : Command). Asks c.words command file) p.2.run x.words, p.1.made, p.1.whole, p.1.fit, run.built, p.2.not_done, run.end_is, said, run.written)
+
+ended_by : (c : Call) (file : List ℕ) (answer : Answer) (told : Type 0) (old new : List ℕ) → IsAsked c file answer → status_of answer ≡ 3 → (told → Adds (text_of answer file) old new) → Ended c told old new
+ended_by c file (a.Done i) told old new x e said = absurd cc
+ended_by c file a.Accepted told old new x e said = absurd cc
+ended_by c file (a.Text text) told old new x e said = absurd cc
+ended_by c file a.Usage told old new x e said = absurd cc
+ended_by c file (a.Refused fault) told old new x e said = absurd cc
+ended_by c file a.NotBuilt told old new x e said = absurd cc
+ended_by c file (a.Ended end) told old new x e said = ended_with c file end told old new x said
+ended_by c file a.Shelf told old new x e said = absurd cc
+ended_by c file a.Disk told old new x e said = absurd cc
+ended_by c file a.Memory told old new x e said = absurd cc
+
+pub ended : (c : Call) (file : List ℕ) (answer : Answer) (told : Type 0) (result : ℕ) (old new : List ℕ) (b n : ℕ) → Explains c file answer → WasSaid told file answer result old new b n
+    → result ≡ 3 → Ended c told old new
+ended c file answer told result old new b n x said e =
+    let p = said_whole told file answer result old new b n 3 said e (λ z. absurd cc) (λ z. absurd cc) in
+    go x p.0 p.1
+  where
+    go : Explains c file answer → status_of answer ≡ 3 → (told → Adds (text_of answer file) old new) → Ended c told old new
+    go (inl u) s text = let z = usage_status answer 3 u.0 s in absurd cc
+    go (inr x) s text = ended_by c file answer told old new x s text
 
 -- ---- 4
 
@@ -212,6 +255,7 @@ device_by c file (a.Text text) told old new b n (inr x) e said = absurd cc
 device_by c file a.Usage told old new b n (inr x) e said = absurd cc
 device_by c file (a.Refused fault) told old new b n (inr x) e said = absurd cc
 device_by c file a.NotBuilt told old new b n (inr x) e said = absurd cc
+device_by c file (a.Ended end) told old new b n (inr x) e said = absurd cc
 device_by c file a.Shelf told old new b n (inr x) e said = inl (shelf_rose c file x, said)
 device_by c file a.Disk told old new b n (inr x) e said = inr (inl (disk_rose c file x, said))
 device_by c file a.Memory told old new b n (inr x) e said = absurd cc
@@ -232,6 +276,7 @@ memory_by file (a.Text text) e = absurd cc
 memory_by file a.Usage e = absurd cc
 memory_by file (a.Refused fault) e = absurd cc
 memory_by file a.NotBuilt e = absurd cc
+memory_by file (a.Ended end) e = absurd cc
 memory_by file a.Shelf e = absurd cc
 memory_by file a.Disk e = absurd cc
 memory_by file a.Memory e = refl
@@ -293,7 +338,7 @@ same_command words x y f g p q =
 untouched_done : (w : Work) (command : Command) (job : Job) (text : List ℕ) → command ≢ commands.Run → IsDone w command job text → Untouched w
 untouched_done w command job text other d = go d.done
   where
-    go : (command ≡ commands.Run) × HasRun w job ⊎ (command ≢ commands.Run) × Untouched w → Untouched w
+    go : (command ≡ commands.Run) × HasRun w job ends.Done ⊎ (command ≢ commands.Run) × Untouched w → Untouched w
     go (inl p) = absurd (other p.0)
     go (inr p) = p.1
 
@@ -305,6 +350,7 @@ untouched_come w command job (a.Text text) other x = untouched_done w command jo
 untouched_come w command job a.Usage other x = absurd x
 untouched_come w command job (a.Refused fault) other x = absurd x
 untouched_come w command job a.NotBuilt other x = x.untouched
+untouched_come w command job (a.Ended end) other x = absurd (other x.run)
 untouched_come w command job a.Shelf other x = absurd x
 untouched_come w command job a.Disk other x = absurd (other x.0)
 untouched_come w command job a.Memory other x = x other
@@ -317,6 +363,7 @@ untouched_failed c file (a.Text text) x = absurd x
 untouched_failed c file a.Usage x = absurd x
 untouched_failed c file (a.Refused fault) x = x.untouched
 untouched_failed c file a.NotBuilt x = absurd x
+untouched_failed c file (a.Ended end) x = absurd x
 untouched_failed c file a.Shelf x = x.1
 untouched_failed c file a.Disk x = absurd x
 untouched_failed c file a.Memory x = x
@@ -336,59 +383,181 @@ pub without_run : (c : Call) (file : List ℕ) (answer : Answer) → Explains c 
 without_run c file answer x command f asks other = let u = untouched c file answer command f x asks other in (u.disk, u.meter)
 
 -- where neither the shelf nor the disk fails
+abbrev CalmStatus : ℕ → Type 0
+CalmStatus s = (s ≡ 0) ⊎ ((s ≡ 2) ⊎ ((s ≡ 3) ⊎ (s ≡ 5)))
+
 calm_status : (c : Call) (file : List ℕ) (answer : Answer) → IsAsked c file answer
-    → (Rose c.shelf_faults_before c.shelf_faults_after → ⊥) → (Rose c.work.disk_faults_before c.work.disk_faults_after → ⊥)
-    → (status_of answer ≡ 0) ⊎ ((status_of answer ≡ 2) ⊎ (status_of answer ≡ 5))
+    → (Rose c.shelf_faults_before c.shelf_faults_after → ⊥) → (Rose c.work.disk_faults_before c.work.disk_faults_after → ⊥) → CalmStatus (status_of answer)
 calm_status c file (a.Done i) x shelf disk = inl refl
 calm_status c file a.Accepted x shelf disk = inl refl
 calm_status c file (a.Text text) x shelf disk = inl refl
 calm_status c file a.Usage x shelf disk = absurd (not_usage c file x)
 calm_status c file (a.Refused fault) x shelf disk = inr (inl refl)
 calm_status c file a.NotBuilt x shelf disk = inr (inl refl)
+calm_status c file (a.Ended end) x shelf disk = inr (inr (inl refl))
 calm_status c file a.Shelf x shelf disk = absurd (shelf (shelf_rose c file x))
 calm_status c file a.Disk x shelf disk = absurd (disk (disk_rose c file x))
-calm_status c file a.Memory x shelf disk = inr (inr refl)
+calm_status c file a.Memory x shelf disk = inr (inr (inr refl))
 
 calm_asked : (c : Call) (file : List ℕ) (answer : Answer) (command : Command) (f : List ℕ) → Explains c file answer → Asks c.words command f → IsAsked c file answer
 calm_asked c file answer command f (inl u) asks = absurd (u.1.words command f asks)
 calm_asked c file answer command f (inr x) asks = x
 
-given : (result s : ℕ) → result ≡ s → (s ≡ 0) ⊎ ((s ≡ 2) ⊎ (s ≡ 5)) → (result ≡ 0) ⊎ ((result ≡ 2) ⊎ (result ≡ 5))
+given : (result s : ℕ) → result ≡ s → CalmStatus s → CalmStatus result
 given result s e p = rw e p
 
 pub answered : (c : Call) (file : List ℕ) (answer : Answer) (told : Type 0) (result : ℕ) (old new : List ℕ) (b n : ℕ) → Explains c file answer → WasSaid told file answer result old new b n
     → (command : Command) (f : List ℕ) → Asks c.words command f
     → (Rose c.shelf_faults_before c.shelf_faults_after → ⊥) → (Rose c.work.disk_faults_before c.work.disk_faults_after → ⊥) → (Rose b n → ⊥)
-    → (result ≡ 0) ⊎ ((result ≡ 2) ⊎ (result ≡ 5))
+    → CalmStatus result
 answered c file answer told result old new b n x (inl p) command f asks shelf disk sink =
     given result (status_of answer) p.status_is (calm_status c file answer (calm_asked c file answer command f x asks) shelf disk)
-answered c file answer told result old new b n x (inr (inl p)) command f asks shelf disk sink = inr (inr p.status_is)
+answered c file answer told result old new b n x (inr (inl p)) command f asks shelf disk sink = inr (inr (inr p.status_is))
 answered c file answer told result old new b n x (inr (inr (inl p))) command f asks shelf disk sink = absurd (sink p.rose)
 answered c file answer told result old new b n x (inr (inr (inr p))) command f asks shelf disk sink = absurd (sink p.rose)
 
--- where the file makes a job
-not_refused : (command : Command) (job : Job) (answer : Answer) → IsForJob command job answer → (command ≢ commands.Run) ⊎ IsServed job → status_of answer ≡ 2 → ⊥
-not_refused command job (a.Done i) x built s = absurd cc
-not_refused command job a.Accepted x built s = absurd cc
-not_refused command job (a.Text text) x built s = absurd cc
-not_refused command job a.Usage x built s = x
-not_refused command job (a.Refused fault) x built s = x
-not_refused command job a.NotBuilt x (inl other) s = other x.0
-not_refused command job a.NotBuilt x (inr served) s = x.1 served
-not_refused command job a.Shelf x built s = absurd cc
-not_refused command job a.Disk x built s = absurd cc
-not_refused command job a.Memory x built s = absurd cc
+-- ---- where the file makes a job
 
-done_or_memory : (result : ℕ) → (result ≡ 2 → ⊥) → (result ≡ 0) ⊎ ((result ≡ 2) ⊎ (result ≡ 5)) → (result ≡ 0) ⊎ (result ≡ 5)
-done_or_memory result other (inl z) = inl z
-done_or_memory result other (inr (inl two)) = absurd (other two)
-done_or_memory result other (inr (inr five)) = inr five
+-- which statuses there are for it
+abbrev JobStatus : Work → Command → Job → ℕ → Type 0
+JobStatus w command job s =
+    (s ≡ 0) × ((command ≡ commands.Run) × HasRun w job ends.Done ⊎ (command ≢ commands.Run))
+    ⊎ ((s ≡ 2) × IsNotBuilt w command job
+    ⊎ ((s ≡ 3) × ((end : End) × IsEnded w command job end)
+    ⊎ (s ≡ 5)))
+
+status_done : (w : Work) (command : Command) (job : Job) (text : List ℕ) → IsDone w command job text → JobStatus w command job 0
+status_done w command job text d = inl (refl, go d.done)
+  where
+    go : (command ≡ commands.Run) × HasRun w job ends.Done ⊎ (command ≢ commands.Run) × Untouched w → (command ≡ commands.Run) × HasRun w job ends.Done ⊎ (command ≢ commands.Run)
+    go (inl p) = inl p
+    go (inr p) = inr p.0
+
+status_comes : (w : Work) (command : Command) (job : Job) (answer : Answer) → (Rose w.disk_faults_before w.disk_faults_after → ⊥) → Comes w command job answer
+    → JobStatus w command job (status_of answer)
+status_comes w command job (a.Done i) disk x = status_done w command job (done_text i) x
+status_comes w command job a.Accepted disk x = status_done w command job accepted_text x
+status_comes w command job (a.Text text) disk x = status_done w command job text x
+status_comes w command job a.Usage disk x = absurd x
+status_comes w command job (a.Refused fault) disk x = absurd x
+status_comes w command job a.NotBuilt disk x = inr (inl (refl, x))
+status_comes w command job (a.Ended end) disk x = inr (inr (inl (refl, (end, x))))
+status_comes w command job a.Shelf disk x = absurd x
+status_comes w command job a.Disk disk x = absurd (disk x.1)
+status_comes w command job a.Memory disk x = inr (inr (inr refl))
+
+with_status : (w : Work) (command : Command) (job : Job) (result s : ℕ) → result ≡ s → JobStatus w command job s → JobStatus w command job result
+with_status w command job result s e p = subst (λ (k : ℕ). JobStatus w command job k) (sym e) p
+
+not_shelf : (c : Call) (file : List ℕ) (answer : Answer) → answer ≡ a.Shelf → Explains c file answer → Rose c.shelf_faults_before c.shelf_faults_after
+not_shelf c file answer is (inl u) = let z : a.Shelf ≡ a.Usage = sym is ∙ u.0 in absurd cc
+not_shelf c file answer is (inr x) = shelf_rose c file (subst (λ (other : Answer). IsAsked c file other) is x)
+
+status_answered : (c : Call) (file : List ℕ) (answer : Answer) (command : Command) (job : Job) → Explains c file answer
+    → (Rose c.shelf_faults_before c.shelf_faults_after → ⊥) → (Rose c.work.disk_faults_before c.work.disk_faults_after → ⊥) → IsForJob c.work command job answer
+    → JobStatus c.work command job (status_of answer)
+status_answered c file answer command job x shelf disk (inl comes) = status_comes c.work command job answer disk comes
+status_answered c file answer command job x shelf disk (inr (inl is)) = absurd (shelf (not_shelf c file answer is x))
+status_answered c file answer command job x shelf disk (inr (inr is)) = inr (inr (inr (ap status_of is)))
+
+status_for_job : (c : Call) (file : List ℕ) (answer : Answer) (told : Type 0) (result : ℕ) (old new : List ℕ) (b n : ℕ) → Explains c file answer → WasSaid told file answer result old new b n
+    → (command : Command) (job : Job) → IsForJob c.work command job answer
+    → (Rose c.shelf_faults_before c.shelf_faults_after → ⊥) → (Rose c.work.disk_faults_before c.work.disk_faults_after → ⊥) → (Rose b n → ⊥)
+    → JobStatus c.work command job result
+status_for_job c file answer told result old new b n x (inl p) command job is shelf disk sink =
+    with_status c.work command job result (status_of answer) p.status_is (status_answered c file answer command job x shelf disk is)
+status_for_job c file answer told result old new b n x (inr (inl p)) command job is shelf disk sink = inr (inr (inr p.status_is))
+status_for_job c file answer told result old new b n x (inr (inr (inl p))) command job is shelf disk sink = absurd (sink p.rose)
+status_for_job c file answer told result old new b n x (inr (inr (inr p))) command job is shelf disk sink = absurd (sink p.rose)
+
+not_run_status : (w : Work) (command : Command) (job : Job) (result : ℕ) → command ≢ commands.Run → JobStatus w command job result → (result ≡ 0) ⊎ (result ≡ 5)
+not_run_status w command job result other (inl p) = inl p.0
+not_run_status w command job result other (inr (inl p)) = absurd (other p.1.run)
+not_run_status w command job result other (inr (inr (inl p))) = absurd (other p.1.1.run)
+not_run_status w command job result other (inr (inr (inr five))) = inr five
+
+has_run : (w : Work) (job : Job) → (commands.Run ≡ commands.Run) × HasRun w job ends.Done ⊎ (commands.Run ≢ commands.Run) → HasRun w job ends.Done
+has_run w job (inl p) = p.1
+has_run w job (inr other) = absurd (other refl)
+
+done_status : (w : Work) (job : Job) (result : ℕ) → IsBuilt job → end_of (setup_of job) w.rules ≡ ends.Done → JobStatus w commands.Run job result → (result ≡ 0) ⊎ (result ≡ 5)
+done_status w job result built done (inl p) = inl p.0
+done_status w job result built done (inr (inl p)) = absurd (p.1.other built)
+done_status w job result built done (inr (inr (inl p))) = absurd (p.1.1.not_done (sym p.1.1.has_run.end_is ∙ done))
+done_status w job result built done (inr (inr (inr five))) = inr five
+
+ended_status : (w : Work) (job : Job) (result : ℕ) → IsBuilt job → end_of (setup_of job) w.rules ≢ ends.Done → JobStatus w commands.Run job result → (result ≡ 3) ⊎ (result ≡ 5)
+ended_status w job result built other (inl p) = absurd (other (has_run w job p.1).end_is)
+ended_status w job result built other (inr (inl p)) = absurd (p.1.other built)
+ended_status w job result built other (inr (inr (inl p))) = inl p.0
+ended_status w job result built other (inr (inr (inr five))) = inr five
+
+refused_status : (w : Work) (job : Job) (result : ℕ) → (IsBuilt job → ⊥) → JobStatus w commands.Run job result → (result ≡ 2) ⊎ (result ≡ 5)
+refused_status w job result other (inl p) = absurd (other (has_run w job p.1).built)
+refused_status w job result other (inr (inl p)) = inl p.0
+refused_status w job result other (inr (inr (inl p))) = absurd (other p.1.1.has_run.built)
+refused_status w job result other (inr (inr (inr five))) = inr five
 
 pub job_given : (c : Call) (file : List ℕ) (answer : Answer) (told : Type 0) (result : ℕ) (old new : List ℕ) (b n : ℕ) → Explains c file answer → WasSaid told file answer result old new b n
-    → (command : Command) (f : List ℕ) (job : Job) → Asks c.words command f → IsForJob command job answer
+    → (command : Command) (job : Job) → IsForJob c.work command job answer
     → (Rose c.shelf_faults_before c.shelf_faults_after → ⊥) → (Rose c.work.disk_faults_before c.work.disk_faults_after → ⊥) → (Rose b n → ⊥)
-    → (command ≢ commands.Run) ⊎ IsServed job → (result ≡ 0) ⊎ (result ≡ 5)
-job_given c file answer told result old new b n x said command f job asks is shelf disk sink built =
-    done_or_memory result
-    (λ two. not_refused command job answer is built (said_whole told file answer result old new b n 2 said two (λ z. absurd cc) (λ z. absurd cc)).0)
-    (answered c file answer told result old new b n x said command f asks shelf disk sink)
+    → command ≢ commands.Run → (result ≡ 0) ⊎ (result ≡ 5)
+job_given c file answer told result old new b n x said command job is shelf disk sink other =
+    not_run_status c.work command job result other (status_for_job c file answer told result old new b n x said command job is shelf disk sink)
+
+pub run_given : (c : Call) (file : List ℕ) (answer : Answer) (told : Type 0) (result : ℕ) (old new : List ℕ) (b n : ℕ) → Explains c file answer → WasSaid told file answer result old new b n
+    → (job : Job) → IsForJob c.work commands.Run job answer
+    → (Rose c.shelf_faults_before c.shelf_faults_after → ⊥) → (Rose c.work.disk_faults_before c.work.disk_faults_after → ⊥) → (Rose b n → ⊥)
+    → IsBuilt job → (end_of (setup_of job) c.work.rules ≡ ends.Done → (result ≡ 0) ⊎ (result ≡ 5)) × (end_of (setup_of job) c.work.rules ≢ ends.Done → (result ≡ 3) ⊎ (result ≡ 5))
+run_given c file answer told result old new b n x said job is shelf disk sink built =
+    let status = status_for_job c file answer told result old new b n x said commands.Run job is shelf disk sink in
+    (λ done. done_status c.work job result built done status, λ other. ended_status c.work job result built other status)
+
+pub other_run_given : (c : Call) (file : List ℕ) (answer : Answer) (told : Type 0) (result : ℕ) (old new : List ℕ) (b n : ℕ) → Explains c file answer → WasSaid told file answer result old new b n
+    → (job : Job) → IsForJob c.work commands.Run job answer
+    → (Rose c.shelf_faults_before c.shelf_faults_after → ⊥) → (Rose c.work.disk_faults_before c.work.disk_faults_after → ⊥) → (Rose b n → ⊥)
+    → (IsBuilt job → ⊥) → (result ≡ 2) ⊎ (result ≡ 5)
+other_run_given c file answer told result old new b n x said job is shelf disk sink other =
+    refused_status c.work job result other (status_for_job c file answer told result old new b n x said commands.Run job is shelf disk sink)
+
+-- a status that isn't 0 or 3 is 2 or 5
+pub two_or_five : (result : ℕ) → (result ≡ 0 → ⊥) → (result ≡ 3 → ⊥) → CalmStatus result → (result ≡ 2) ⊎ (result ≡ 5)
+two_or_five result not0 not3 (inl zero) = absurd (not0 zero)
+two_or_five result not0 not3 (inr (inl two)) = inl two
+two_or_five result not0 not3 (inr (inr (inl three))) = absurd (not3 three)
+two_or_five result not0 not3 (inr (inr (inr five))) = inr five
+
+-- ---- where the file makes a fault
+
+fault_status : (fault : JobFault) → (status_of (answer_of fault) ≡ 2) ⊎ ((answer_of fault ≡ a.Shelf) ⊎ (status_of (answer_of fault) ≡ 5))
+fault_status faults.Shelf = inr (inl refl)
+fault_status (faults.NoFile name) = inl refl
+fault_status (faults.Text name fault) = inl refl
+fault_status (faults.Ccl name fault) = inl refl
+fault_status (faults.Bind fault) = inl refl
+fault_status (faults.Value fault) = inl refl
+fault_status (faults.Order fault) = inl refl
+fault_status (faults.UnknownRoutine path) = inl refl
+fault_status (faults.RoutineMismatch path declared offered) = inl refl
+fault_status (faults.Limit what count) = inl refl
+fault_status (faults.Region fault) = inl refl
+fault_status faults.Memory = inr (inr refl)
+
+status_for_fault : (c : Call) (file : List ℕ) (fault : JobFault) (answer : Answer) → answer ≡ answer_of fault → Explains c file answer
+    → (Rose c.shelf_faults_before c.shelf_faults_after → ⊥)
+    → (status_of (answer_of fault) ≡ 2) ⊎ ((answer_of fault ≡ a.Shelf) ⊎ (status_of (answer_of fault) ≡ 5)) → (status_of answer ≡ 2) ⊎ (status_of answer ≡ 5)
+status_for_fault c file fault answer is x shelf (inl two) = inl (ap status_of is ∙ two)
+status_for_fault c file fault answer is x shelf (inr (inl failed)) = absurd (shelf (not_shelf c file answer (is ∙ failed) x))
+status_for_fault c file fault answer is x shelf (inr (inr five)) = inr (ap status_of is ∙ five)
+
+with_two_or_five : (result s : ℕ) → result ≡ s → (s ≡ 2) ⊎ (s ≡ 5) → (result ≡ 2) ⊎ (result ≡ 5)
+with_two_or_five result s e (inl two) = inl (e ∙ two)
+with_two_or_five result s e (inr five) = inr (e ∙ five)
+
+pub fault_given : (c : Call) (file : List ℕ) (answer : Answer) (told : Type 0) (result : ℕ) (old new : List ℕ) (b n : ℕ) → Explains c file answer → WasSaid told file answer result old new b n
+    → IsForFault answer → (Rose c.shelf_faults_before c.shelf_faults_after → ⊥) → (Rose b n → ⊥) → (result ≡ 2) ⊎ (result ≡ 5)
+fault_given c file answer told result old new b n x (inl p) is shelf sink =
+    with_two_or_five result (status_of answer) p.status_is (status_for_fault c file is.0 answer is.1 x shelf (fault_status is.0))
+fault_given c file answer told result old new b n x (inr (inl p)) is shelf sink = inr p.status_is
+fault_given c file answer told result old new b n x (inr (inr (inl p))) is shelf sink = absurd (sink p.rose)
+fault_given c file answer told result old new b n x (inr (inr (inr p))) is shelf sink = absurd (sink p.rose)

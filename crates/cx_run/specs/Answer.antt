@@ -1,9 +1,7 @@
 -- The answers of a call: their statuses and texts, and what stands behind each.
-use Rattle.std.specs.Prelude.{◌≡◌, ◌≢◌, ℕ, ◌+◌, ◌*◌, List, ◌⊎◌, Result, Ok, Err}
+use Rattle.std.specs.Prelude.{◌≡◌, ◌≢◌, ℕ, List, ◌⊎◌, Result, Ok, Err}
 use Rattle.cx_disk.specs.Cause.{Rose}
 use Rattle.cx_disk.specs.Disk.{View, IsSettled, OthersSame}
-use Rattle.cx_grid.specs.Boxes.{point_count}
-use Rattle.cx_grid.specs.Grid.{whole}
 use Rattle.cx_job.specs.declared.fault.JobFault.{JobFault}
 use Rattle.cx_job.specs.declared.fault.JobFault.TheVariants as faults
 use Rattle.cx_plan.specs.Setups.{setup_of}
@@ -14,11 +12,14 @@ use Rattle.cx_rule.specs.Meter.{raised}
 use Rattle.cx_rule.specs.Routine.{Rule}
 use Rattle.cx_rule.specs.declared.spec.Spec.{Spec}
 use Rattle.cx_text.specs.declared.memory.Memory.{Memory}
+use Rattle.cx_model.specs.Runs.{output, undivided_run, end as end_of}
+use Rattle.cx_model.specs.Work.{points_computed}
+use Rattle.cx_model.specs.declared.ends.End.{End}
+use Rattle.cx_model.specs.declared.ends.End.TheVariants.{Done}
+use Rattle.cx_run.specs.Built.{IsBuilt}
 use Rattle.cx_run.specs.FaultWords.{refused_text}
-use Rattle.cx_run.specs.Served.{IsServed}
 use Rattle.cx_run.specs.Sink.{Adds, AddsFront}
-use Rattle.cx_run.specs.Texts.{command_text, done_text, accepted_text, usage_text, not_built_text, shelf_text, disk_text, memory_text}
-use Rattle.cx_run.specs.Undivided.{output_of}
+use Rattle.cx_run.specs.Texts.{command_text, done_text, ended_text, accepted_text, usage_text, not_built_text, shelf_text, disk_text, memory_text}
 use Rattle.cx_run.specs.Words.{Asks, IsUsage}
 use Rattle.cx_run.specs.declared.reply.Answer.{Answer}
 use Rattle.cx_run.specs.declared.reply.Answer.TheVariants as a
@@ -32,12 +33,13 @@ status_of (a.Text text) = 0
 status_of a.Usage = 1
 status_of (a.Refused fault) = 2
 status_of a.NotBuilt = 2
+status_of (a.Ended end) = 3
 status_of a.Shelf = 4
 status_of a.Disk = 4
 status_of a.Memory = 5
 
 abbrev pub IsStatus : ℕ → Type 0
-IsStatus status = (status ≡ 0) ⊎ ((status ≡ 1) ⊎ ((status ≡ 2) ⊎ ((status ≡ 4) ⊎ (status ≡ 5))))
+IsStatus status = (status ≡ 0) ⊎ ((status ≡ 1) ⊎ ((status ≡ 2) ⊎ ((status ≡ 3) ⊎ ((status ≡ 4) ⊎ (status ≡ 5)))))
 
 -- the text of an answer for a file
 abbrev pub text_of : Answer → List ℕ → List ℕ
@@ -47,6 +49,7 @@ text_of (a.Text text) file = text
 text_of a.Usage file = usage_text
 text_of (a.Refused fault) file = refused_text fault
 text_of a.NotBuilt file = not_built_text file
+text_of (a.Ended end) file = ended_text end
 text_of a.Shelf file = shelf_text
 text_of a.Disk file = disk_text
 text_of a.Memory file = memory_text
@@ -113,21 +116,28 @@ pub record IsMade (c : Call) (file : List ℕ) (job : Job) : Type 0 where
   pub whole : IsWhole job
   pub fit : FitJob c.specs (setup_of job)
 
--- the job's run is done, and its points are counted
-pub record HasRun (w : Work) (job : Job) : Type 0 where
-  pub served : IsServed job
-  pub output : w.told_disk → IsOutput (output_of w.rules job) w.disk_before w.disk_after
-  pub meter : w.meter_after ≡ raised w.meter_before (point_count (whole job.shape) * (job.itlast + 1))
+-- the job's run came to this end, and its output is written; where it is done, its points are counted
+pub record HasRun (w : Work) (job : Job) (end : End) : Type 0 where
+  pub built : IsBuilt job
+  pub end_is : end_of (setup_of job) w.rules ≡ end
+  pub written : w.told_disk → IsOutput (output (setup_of job) w.rules) w.disk_before w.disk_after
+  pub meter : end ≡ Done → w.meter_after ≡ raised w.meter_before (points_computed (setup_of job) (undivided_run (setup_of job) w.rules).entries)
 
 -- the command is done with a job, and this is its text
 pub record IsDone (w : Work) (command : Command) (job : Job) (text : List ℕ) : Type 0 where
-  pub done : (command ≡ commands.Run) × HasRun w job ⊎ (command ≢ commands.Run) × Untouched w
+  pub done : (command ≡ commands.Run) × HasRun w job Done ⊎ (command ≢ commands.Run) × Untouched w
   pub text_is : text ≡ command_text command job
+
+-- the job's run came to another end
+pub record IsEnded (w : Work) (command : Command) (job : Job) (end : End) : Type 0 where
+  pub run : command ≡ commands.Run
+  pub not_done : end ≢ Done
+  pub has_run : HasRun w job end
 
 -- a run isn't built for the job, and nothing was touched
 pub record IsNotBuilt (w : Work) (command : Command) (job : Job) : Type 0 where
   pub run : command ≡ commands.Run
-  pub other : IsServed job → ⊥
+  pub other : IsBuilt job → ⊥
   pub untouched : Untouched w
 
 -- the file makes no job for this reason, and nothing but the shelf was touched
@@ -142,6 +152,7 @@ abbrev pub Comes : Work → Command → Job → Answer → Type 0
 Comes w command job (a.Done iteration) = IsDone w command job (done_text iteration)
 Comes w command job a.Accepted = IsDone w command job accepted_text
 Comes w command job (a.Text text) = IsDone w command job text
+Comes w command job (a.Ended end) = IsEnded w command job end
 Comes w command job a.NotBuilt = IsNotBuilt w command job
 Comes w command job a.Disk = (command ≡ commands.Run) × Rose w.disk_faults_before w.disk_faults_after
 Comes w command job a.Memory = command ≢ commands.Run → Untouched w
@@ -149,12 +160,13 @@ Comes w command job a.Usage = ⊥
 Comes w command job (a.Refused fault) = ⊥
 Comes w command job a.Shelf = ⊥
 
--- what is answered where the file makes this job: it isn't refused, and only a run of a job that isn't served isn't built
-abbrev pub IsForJob : Command → Job → Answer → Type 0
-IsForJob command job a.Usage = ⊥
-IsForJob command job (a.Refused fault) = ⊥
-IsForJob command job a.NotBuilt = (command ≡ commands.Run) × (IsServed job → ⊥)
-IsForJob command job answer = Unit {0}
+-- what is answered where the file makes this job: what the command comes to with it, unless the shelf failed or memory is wanting
+abbrev pub IsForJob : Work → Command → Job → Answer → Type 0
+IsForJob w command job answer = Comes w command job answer ⊎ ((answer ≡ a.Shelf) ⊎ (answer ≡ a.Memory))
+
+-- what is answered where the file makes a fault: the file is refused, the shelf failed or memory is wanting
+abbrev pub IsForFault : Answer → Type 0
+IsForFault answer = (fault : JobFault) × (answer ≡ answer_of fault)
 
 -- what comes of a file that makes no job
 abbrev pub Fails : Call → List ℕ → Answer → Type 0
@@ -164,6 +176,7 @@ Fails c file a.Memory = Untouched c.work
 Fails c file (a.Done iteration) = ⊥
 Fails c file a.Accepted = ⊥
 Fails c file (a.Text text) = ⊥
+Fails c file (a.Ended end) = ⊥
 Fails c file a.Usage = ⊥
 Fails c file a.NotBuilt = ⊥
 Fails c file a.Disk = ⊥

@@ -3,10 +3,6 @@ pub mod MemorySink
 pub mod Words
 pub mod FaultWords
 pub mod Texts
-pub mod Run
-pub mod Served
-pub mod Undivided
-pub mod Automaton
-pub mod Item
+pub mod Built
 pub mod Fault
 pub mod Answer

@@ -2,11 +2,25 @@
 use Rattle.std.specs.Prelude.{ℕ, List, [], ◌∷◌, ◌++◌, codes}
 use Rattle.std.specs.Fmt.{decimal}
 use Rattle.cx_plan.specs.declared.job.Job.{Job}
+use Rattle.cx_model.specs.declared.ends.End.{End}
+use Rattle.cx_model.specs.declared.ends.End.TheVariants as ends
+use Rattle.cx_run.specs.FaultWords.{spaced, or_dash}
 use Rattle.cx_run.specs.declared.words.Command.{Command}
 use Rattle.cx_run.specs.declared.words.Command.TheVariants as commands
 
 abbrev pub done_text : ℕ → List ℕ
 done_text iteration = codes "done: iteration " ++ decimal iteration ++ 10 ∷ []
+
+-- the words of an end: its name, its iteration and its path
+abbrev pub end_words : End → List ℕ
+end_words ends.Done = codes "Done"
+end_words (ends.Overflow iteration path) = spaced (codes "Overflow" ∷ decimal iteration ∷ or_dash path ∷ [])
+end_words (ends.WhileLimit iteration path) = spaced (codes "WhileLimit" ∷ decimal iteration ∷ or_dash path ∷ [])
+end_words (ends.OutputLimit iteration) = spaced (codes "OutputLimit" ∷ decimal iteration ∷ [])
+
+-- what is printed of a run that came to another end than Done
+abbrev pub ended_text : End → List ℕ
+ended_text end = codes "ended: " ++ end_words end ++ 10 ∷ []
 
 abbrev pub accepted_text : List ℕ
 accepted_text = codes "accepted" ++ 10 ∷ []

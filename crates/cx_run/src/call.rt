@@ -1,36 +1,36 @@
 //! The top call.
-ghost use Rattle.std.specs.Prelude.{◌≡◌, ◌≢◌, ◌≤◌, ◌<◌, ◌+◌, ◌*◌, ◌^◌, ◌⊎◌, [], ℕ, List as ListOf, Ok, Err, length, map, slice_index_or};
+ghost use Rattle.std.specs.Prelude.{◌≡◌, ◌≢◌, ◌≤◌, ◌<◌, ◌^◌, ◌⊎◌, ◌↔◌, [], ℕ, List as ListOf, Ok, Err, IsTrue, length, map, slice_index_or};
 ghost use Rattle.cx_disk.specs.Cause.{Rose};
 ghost use Rattle.cx_disk.specs.Disk.{OthersSame};
-ghost use Rattle.cx_grid.specs.Boxes.{point_count};
-ghost use Rattle.cx_grid.specs.Grid.{whole};
 ghost use Rattle.cx_job.specs.Making.{Made};
 ghost use Rattle.cx_job.specs.declared.fault.JobFault.{JobFault};
+ghost use Rattle.cx_model.specs.Runs.{end, output, undivided_run};
+ghost use Rattle.cx_model.specs.Work.{points_computed};
+ghost use Rattle.cx_model.specs.declared.ends.End.{End};
+ghost use Rattle.cx_plan.specs.Regions.{HasShapes};
 ghost use Rattle.cx_plan.specs.Setups.{setup_of};
 ghost use Rattle.cx_plan.specs.Whole.{IsWhole};
 ghost use Rattle.cx_plan.specs.declared.job.Job.{Job};
 ghost use Rattle.cx_rule.specs.Jobs.{FitJob};
 ghost use Rattle.cx_rule.specs.Meter.{raised};
-ghost use Rattle.cx_run.specs.Answer.{Call, Work, answer_with, Comes, Explains, IsForJob, WasSaid, IsOutput, IsStatus};
-ghost use Rattle.cx_run.specs.Automaton.{AreElemCA};
+ghost use Rattle.cx_run.specs.Answer.{Call, Work, answer_with, Comes, Explains, IsForFault, IsForJob, WasSaid, IsOutput, IsStatus};
+ghost use Rattle.cx_run.specs.Built.{IsBuilt};
 ghost use Rattle.cx_run.specs.FaultWords.{refused_text};
-ghost use Rattle.cx_run.specs.Served.{IsServed};
 ghost use Rattle.cx_run.specs.Sink.{Adds};
-ghost use Rattle.cx_run.specs.Texts.{command_text, usage_text, not_built_text, shelf_text, disk_text, memory_text};
-ghost use Rattle.cx_run.specs.Undivided.{output_of};
+ghost use Rattle.cx_run.specs.Texts.{command_text, ended_text, usage_text, not_built_text, shelf_text, disk_text, memory_text};
 ghost use Rattle.cx_run.specs.Words.{Asks, IsUsage};
 ghost use Rattle.cx_run.specs.declared.reply.Answer.{Answer};
 ghost use Rattle.cx_run.specs.declared.words.Command.{Command};
 
 use crate::driver::{RunFault, run_job};
 use crate::reply::{Answer, answer_of, reply};
-use crate::served::is_served;
 use crate::sink::Sink;
 use crate::texts::{describe, schedule_text};
 use crate::words::{Command, asked, second_word};
 use cx_disk::{Disk, DiskFault};
 use cx_job::{Shelf, make_job};
-use cx_plan::Job;
+use cx_model::End;
+use cx_plan::{Job, Recover};
 use cx_rule::{Meter, Routine};
 use cx_text::{Memory, Text};
 use std::alloc::Global;
@@ -44,9 +44,9 @@ use std::alloc::Global;
 /// | `schedule FILE` | makes the job | its schedule text |
 /// | `describe FILE` | makes the job | its key and the other parameters' lines |
 ///
-/// FILE isn't empty and doesn't begin with `-`. What makes a job is said at `make_job` of cx_job. A run writes the text of the
-/// undivided run into file 8 of the disk, which it first cuts to nothing. So far `run` serves the jobs of `IsServed` alone: the
-/// automaton of ElemCA on a periodic row of at most 1,000 points and up to iteration 100, whose cells are written at each iteration.
+/// FILE isn't empty and doesn't begin with `-`. What makes a job is said at `make_job` of cx_job. A run writes the output of
+/// the undivided run into file 8 of the disk, which it first cuts to nothing, and syncs it at the end. So far `run` leaves no
+/// checkpoints and recovers from none: a job that asks for either isn't built.
 ///
 /// | status | what came of it | printed |
 /// |---|---|---|
@@ -54,11 +54,13 @@ use std::alloc::Global;
 /// | 1 | the words are others | the usage text, a line for each command |
 /// | 2 | the file makes no job | `refused: ` and the words of the fault |
 /// | 2 | its run isn't built | `refused: NotBuilt FILE` |
+/// | 3 | its run ended earlier | `ended: `, the end's name, the iteration, and the path of the item or WHILE, if it has one |
 /// | 4 | a device failed | `device: shelf`, `device: disk`; after a failure of the sink nothing more |
 /// | 5 | memory is wanting | `memory` |
 ///
-/// Each text ends with a line feed. The commands but `run` touch neither the disk nor the meter, nor does anything at status 1 and 2.
-/// The meter rises by the number of points times N + 1 at status 0 of a run.
+/// Each text ends with a line feed. The ends are `Overflow`, `WhileLimit` and `OutputLimit` (`End` of cx_model). The commands
+/// but `run` touch neither the disk nor the meter, nor does anything at status 1 and 2. The meter rises by the number of points
+/// that are computed at status 0 of a run; at status 3 nothing is said of it.
 pub fn cactus<H: Shelf, D: Disk, O: Sink>(
     alloc: Global,
     words: &[Text],
@@ -68,27 +70,38 @@ pub fn cactus<H: Shelf, D: Disk, O: Sink>(
     routines: &[Box<dyn Routine>],
     meter: &mut Meter,
 ) -> u8
-    requires routines { AreElemCA (map rule routines.now) (map spec_of routines.now) }
     requires few { length routines.now ≤ 2 ^ 32 }
     ensures statuses { IsStatus result }
-    // 0: the words ask for a command with a file, which makes a job. Its text is printed; a run's output is that of the undivided run,
-    // and its points are counted; the other commands leave disk and meter as they were.
+    // 0: the words ask for a command with a file, which makes a job. Its text is printed; a run's output is that of the
+    // undivided run, which is done, and its points are counted; the other commands leave disk and meter as they were.
     ensures done { result ≡ 0 → (command : Command) × (file : ListOf ℕ) × (job : Job) × Asks words.now command file
-        × (H.tells → Made file (map spec_of routines.now) (H.held shelf.old) (Ok job)) × IsWhole job × FitJob (map spec_of routines.now) (setup_of job)
+        × (H.tells → Made file (map spec_of routines.now) (H.held shelf.old) (Ok job))
+        × IsWhole job × FitJob (map spec_of routines.now) (setup_of job)
         × (O.tells → Adds (command_text command job) (O.written out.old) (O.written out.new))
-        × ((command ≡ Command.Run) × IsServed job
-        × (D.tells → IsOutput (output_of (map rule routines.now) job) (D.view disk.old) (D.view disk.new))
-        × (meter.new ≡ raised meter.old (point_count (whole job.shape) * (job.itlast + 1)))
+        × ((command ≡ Command.Run) × IsBuilt job × (end (setup_of job) (map rule routines.now) ≡ End.Done)
+        × (D.tells → IsOutput (output (setup_of job) (map rule routines.now)) (D.view disk.old) (D.view disk.new))
+        × (meter.new ≡ raised meter.old
+        (points_computed (setup_of job) (undivided_run (setup_of job) (map rule routines.now)).entries))
         ⊎ (command ≢ Command.Run) × (disk.new ≡ disk.old) × (meter.new ≡ meter.old)) }
     // 1: the words ask for nothing that there is.
     ensures usage { result ≡ 1 → IsUsage words.now × (O.tells → Adds usage_text (O.written out.old) (O.written out.new)) }
     // 2: the file makes no job for this reason, or a job whose run isn't built. Disk and meter are as they were.
-    ensures refused { result ≡ 2 → (command : Command) × (file : ListOf ℕ) × Asks words.now command file × (disk.new ≡ disk.old) × (meter.new ≡ meter.old)
+    ensures refused { result ≡ 2 → (command : Command) × (file : ListOf ℕ) × Asks words.now command file
+        × (disk.new ≡ disk.old) × (meter.new ≡ meter.old)
         × (((fault : JobFault) × (fault ≢ JobFault.Shelf) × (fault ≢ JobFault.Memory)
         × (H.tells → Made file (map spec_of routines.now) (H.held shelf.old) (Err fault))
         × (O.tells → Adds (refused_text fault) (O.written out.old) (O.written out.new)))
-        ⊎ ((job : Job) × (command ≡ Command.Run) × (H.tells → Made file (map spec_of routines.now) (H.held shelf.old) (Ok job)) × (IsServed job → ⊥)
+        ⊎ ((job : Job) × (command ≡ Command.Run) × (H.tells → Made file (map spec_of routines.now) (H.held shelf.old) (Ok job))
+        × (IsBuilt job → ⊥)
         × (O.tells → Adds (not_built_text file) (O.written out.old) (O.written out.new)))) }
+    // 3: the words ask for the run of a file, which makes a job. The undivided run comes to another end than Done, which is
+    // printed, and the output is that of the undivided run.
+    ensures ended { result ≡ 3 → (file : ListOf ℕ) × (job : Job) × (stop : End) × Asks words.now Command.Run file
+        × (H.tells → Made file (map spec_of routines.now) (H.held shelf.old) (Ok job))
+        × IsWhole job × FitJob (map spec_of routines.now) (setup_of job)
+        × IsBuilt job × (stop ≢ End.Done) × (end (setup_of job) (map rule routines.now) ≡ stop)
+        × (O.tells → Adds (ended_text stop) (O.written out.old) (O.written out.new))
+        × (D.tells → IsOutput (output (setup_of job) (map rule routines.now)) (D.view disk.old) (D.view disk.new)) }
     // 4: the count of the device that is named has risen in this call, or stands at its last value. The sink isn't named.
     ensures device { result ≡ 4 →
         Rose (H.faults shelf.old) (H.faults shelf.new) × (O.tells → Adds shelf_text (O.written out.old) (O.written out.new))
@@ -125,19 +138,41 @@ pub fn cactus<H: Shelf, D: Disk, O: Sink>(
     // The commands but `run` touch neither the disk nor the meter, whatever the answer.
     ensures without_run { (command : Command) (file : ListOf ℕ) → Asks words.now command file → command ≢ Command.Run
         → (disk.new ≡ disk.old) × (meter.new ≡ meter.old) }
-    // Where no device fails, a command is done or its file refused, or memory is wanting.
+    // Where no device fails, a command is done, its file refused or its run ended, or memory is wanting.
     ensures answered { (command : Command) (file : ListOf ℕ) → Asks words.now command file
-        → (Rose (H.faults shelf.old) (H.faults shelf.new) → ⊥) → (Rose (D.faults disk.old) (D.faults disk.new) → ⊥) → (Rose (O.faults out.old) (O.faults out.new) → ⊥)
-        → (result ≡ 0) ⊎ ((result ≡ 2) ⊎ (result ≡ 5)) }
-    // Where the file makes a job and no device fails, the command is done or memory is wanting, but for a run that isn't built.
+        → (Rose (H.faults shelf.old) (H.faults shelf.new) → ⊥) → (Rose (D.faults disk.old) (D.faults disk.new) → ⊥)
+        → (Rose (O.faults out.old) (O.faults out.new) → ⊥)
+        → (result ≡ 0) ⊎ ((result ≡ 2) ⊎ ((result ≡ 3) ⊎ (result ≡ 5))) }
+    // Where the file makes a job and no device fails, a command but `run` is done or memory is wanting.
     ensures job_given { H.tells → (command : Command) (file : ListOf ℕ) (job : Job) → Asks words.now command file
         → Made file (map spec_of routines.now) (H.held shelf.old) (Ok job)
-        → (Rose (H.faults shelf.old) (H.faults shelf.new) → ⊥) → (Rose (D.faults disk.old) (D.faults disk.new) → ⊥) → (Rose (O.faults out.old) (O.faults out.new) → ⊥)
-        → (command ≢ Command.Run) ⊎ IsServed job → (result ≡ 0) ⊎ (result ≡ 5) }
-    // Where it makes none and no device fails, it is refused or memory is wanting.
+        → (Rose (H.faults shelf.old) (H.faults shelf.new) → ⊥) → (Rose (D.faults disk.old) (D.faults disk.new) → ⊥)
+        → (Rose (O.faults out.old) (O.faults out.new) → ⊥)
+        → command ≢ Command.Run → (result ≡ 0) ⊎ (result ≡ 5) }
+    // A run that is built is done or ended, as the undivided run of its job is, or memory is wanting.
+    ensures run_given { H.tells → (file : ListOf ℕ) (job : Job) → Asks words.now Command.Run file
+        → Made file (map spec_of routines.now) (H.held shelf.old) (Ok job)
+        → (Rose (H.faults shelf.old) (H.faults shelf.new) → ⊥) → (Rose (D.faults disk.old) (D.faults disk.new) → ⊥)
+        → (Rose (O.faults out.old) (O.faults out.new) → ⊥)
+        → IsBuilt job → (end (setup_of job) (map rule routines.now) ≡ End.Done → (result ≡ 0) ⊎ (result ≡ 5))
+        × (end (setup_of job) (map rule routines.now) ≢ End.Done → (result ≡ 3) ⊎ (result ≡ 5)) }
+    // A run that isn't built is refused, or memory is wanting.
+    ensures other_run_given { H.tells → (file : ListOf ℕ) (job : Job) → Asks words.now Command.Run file
+        → Made file (map spec_of routines.now) (H.held shelf.old) (Ok job)
+        → (Rose (H.faults shelf.old) (H.faults shelf.new) → ⊥) → (Rose (D.faults disk.old) (D.faults disk.new) → ⊥)
+        → (Rose (O.faults out.old) (O.faults out.new) → ⊥)
+        → (IsBuilt job → ⊥) → (result ≡ 2) ⊎ (result ≡ 5) }
+    // Where the file makes a fault and no device fails, it is refused or memory is wanting.
+    ensures fault_given { H.tells → (command : Command) (file : ListOf ℕ) (fault : JobFault) → Asks words.now command file
+        → Made file (map spec_of routines.now) (H.held shelf.old) (Err fault)
+        → (Rose (H.faults shelf.old) (H.faults shelf.new) → ⊥) → (Rose (D.faults disk.old) (D.faults disk.new) → ⊥)
+        → (Rose (O.faults out.old) (O.faults out.new) → ⊥)
+        → (result ≡ 2) ⊎ (result ≡ 5) }
+    // Where the file makes no job and no device fails, it is refused or memory is wanting.
     ensures no_job_given { H.tells → (command : Command) (file : ListOf ℕ) → Asks words.now command file
         → ((job : Job) → Made file (map spec_of routines.now) (H.held shelf.old) (Ok job) → ⊥)
-        → (Rose (H.faults shelf.old) (H.faults shelf.new) → ⊥) → (Rose (D.faults disk.old) (D.faults disk.new) → ⊥) → (Rose (O.faults out.old) (O.faults out.new) → ⊥)
+        → (Rose (H.faults shelf.old) (H.faults shelf.new) → ⊥) → (Rose (D.faults disk.old) (D.faults disk.new) → ⊥)
+        → (Rose (O.faults out.old) (O.faults out.new) → ⊥)
         → (result ≡ 2) ⊎ (result ≡ 5) }
     // Whatever the answer, each file but the output is as it was, the shelf's files are, and no count falls.
     ensures other_files { D.tells → OthersSame 8 (D.view disk.old).seen (D.view disk.new).seen }
@@ -159,7 +194,6 @@ fn answer_to<H: Shelf, D: Disk>(
     routines: &[Box<dyn Routine>],
     meter: &mut Meter,
 ) -> Answer
-    requires routines { AreElemCA (map rule routines.now) (map spec_of routines.now) }
     requires few { length routines.now ≤ 2 ^ 32 }
     ensures explained { Explains (record {
       words = words.now;
@@ -181,7 +215,19 @@ fn answer_to<H: Shelf, D: Disk>(
       };
     }) (slice_index_or words.now 1 []) result }
     ensures job_given { H.tells → (command : Command) (file : ListOf ℕ) (job : Job) → Asks words.now command file
-        → Made file (map spec_of routines.now) (H.held shelf.old) (Ok job) → IsForJob command job result }
+        → Made file (map spec_of routines.now) (H.held shelf.old) (Ok job) → IsForJob (record {
+          rules = map rule routines.now;
+          same_disk = disk.new ≡ disk.old;
+          told_disk = D.tells;
+          disk_before = D.view disk.old;
+          disk_after = D.view disk.new;
+          meter_before = meter.old;
+          meter_after = meter.new;
+          disk_faults_before = D.faults disk.old;
+          disk_faults_after = D.faults disk.new;
+        }) command job result }
+    ensures fault_given { H.tells → (command : Command) (file : ListOf ℕ) (fault : JobFault) → Asks words.now command file
+        → Made file (map spec_of routines.now) (H.held shelf.old) (Err fault) → IsForFault result }
     ensures other_files { D.tells → OthersSame 8 (D.view disk.old).seen (D.view disk.new).seen }
     ensures held { H.tells → H.held shelf.new ≡ H.held shelf.old }
     ensures shelf_count { H.faults shelf.old ≤ H.faults shelf.new }
@@ -205,8 +251,8 @@ fn done<D: Disk>(
     routines: &[Box<dyn Routine>],
     meter: &mut Meter,
 ) -> Answer
-    requires routines { AreElemCA (map rule routines.now) (map spec_of routines.now) }
     requires whole { IsWhole job.now }
+    requires shapes { HasShapes (setup_of job.now) }
     requires fit { FitJob (map spec_of routines.now) (setup_of job.now) }
     ensures comes { Comes (record {
       rules = map rule routines.now;
@@ -240,7 +286,14 @@ fn printed(text: Result<Text, Memory>) -> Answer
     }
 }
 
-/// Runs a job, if such runs are built.
+/// Whether a run of a job is built: it begins afresh, and no checkpoint is written.
+fn is_built(job: &Job) -> bool
+    ensures { IsTrue result ↔ IsBuilt job.now }
+{
+    job.chk_every < 1 && !job.on_end && job.recover == Recover::No
+}
+
+/// Runs a job, if its run is built.
 fn run<D: Disk>(
     alloc: Global,
     job: &Job,
@@ -248,8 +301,8 @@ fn run<D: Disk>(
     routines: &[Box<dyn Routine>],
     meter: &mut Meter,
 ) -> Answer
-    requires routines { AreElemCA (map rule routines.now) (map spec_of routines.now) }
     requires whole { IsWhole job.now }
+    requires shapes { HasShapes (setup_of job.now) }
     requires fit { FitJob (map spec_of routines.now) (setup_of job.now) }
     ensures comes { Comes (record {
       rules = map rule routines.now;
@@ -265,7 +318,7 @@ fn run<D: Disk>(
     ensures other_files { D.tells → OthersSame 8 (D.view disk.old).seen (D.view disk.new).seen }
     ensures disk_count { D.faults disk.old ≤ D.faults disk.new }
 {
-    if !is_served(job) {
+    if !is_built(job) {
         return Answer::NotBuilt;
     }
     match disk.mount(&job.out_dir, &job.chk_dir) {
@@ -274,7 +327,8 @@ fn run<D: Disk>(
         Err(DiskFault::Memory) => return Answer::Memory,
     }
     match run_job(alloc, job, routines, disk, meter) {
-        Ok(()) => Answer::Done(job.itlast),
+        Ok(End::Done) => Answer::Done(job.itlast),
+        Ok(end) => Answer::Ended(end),
         Err(RunFault::Disk) => Answer::Disk,
         Err(RunFault::Memory) => Answer::Memory,
     }

@@ -27,7 +27,7 @@ fn push_or_dash(text: &mut Text, name: &[u8]) -> Result<(), Memory>
 }
 
 /// Adds a path or a name behind a blank.
-fn push_name(text: &mut Text, name: &[u8]) -> Result<(), Memory>
+pub(crate) fn push_name(text: &mut Text, name: &[u8]) -> Result<(), Memory>
     ensures { OnOk result (text.new ≡ text.old ++ 32 ∷ or_dash name.now) }
 {
     text.push_slice(b" ")?;
@@ -35,7 +35,7 @@ fn push_name(text: &mut Text, name: &[u8]) -> Result<(), Memory>
 }
 
 /// Adds a number behind a blank.
-fn push_number(text: &mut Text, alloc: Global, number: u64) -> Result<(), Memory>
+pub(crate) fn push_number(text: &mut Text, alloc: Global, number: u64) -> Result<(), Memory>
     ensures { OnOk result (text.new ≡ text.old ++ 32 ∷ decimal number) }
 {
     text.push_slice(b" ")?;

@@ -4,15 +4,10 @@
 mod call;
 mod driver;
 mod fault_words;
-mod levels;
-mod output;
 mod reply;
-mod served;
 mod sink;
 mod stdout;
 mod texts;
-mod turns;
-mod undivided;
 mod words;
 
 pub use call::cactus;

@@ -1,11 +1,14 @@
 //! What the top call prints and answers.
-ghost use Rattle.std.specs.Prelude.{◌≡◌, ◌≤◌, ◌⊎◌, IfOk};
+ghost use Rattle.std.specs.Prelude.{◌≡◌, ◌++◌, ◌≤◌, ◌⊎◌, ◌∷◌, [], codes, IfOk, OnOk};
+ghost use Rattle.std.specs.Fmt.{decimal};
 ghost use Rattle.cx_run.specs.Answer.{answer_of, Says, IsCutOff, WasSaid};
-ghost use Rattle.cx_run.specs.Texts.{done_text, not_built_text};
+ghost use Rattle.cx_run.specs.FaultWords.{or_dash, spaced};
+ghost use Rattle.cx_run.specs.Texts.{done_text, end_words, ended_text, not_built_text};
 
-use crate::fault_words::refused_text;
+use crate::fault_words::{push_name, push_number, refused_text};
 use crate::sink::Sink;
 use cx_job::JobFault;
+use cx_model::End;
 use cx_text::{Memory, Text};
 use std::alloc::Global;
 
@@ -27,6 +30,8 @@ pub enum Answer {
     Refused(JobFault),
     /// The run of the job that the file makes isn't built.
     NotBuilt,
+    /// A run came to this end, which isn't Done.
+    Ended(End),
     /// The shelf failed.
     Shelf,
     /// The disk failed.
@@ -46,6 +51,7 @@ impl Answer {
             Answer::Done(_) | Answer::Accepted | Answer::Text(_) => 0,
             Answer::Usage => 1,
             Answer::Refused(_) | Answer::NotBuilt => 2,
+            Answer::Ended(_) => 3,
             Answer::Shelf | Answer::Disk => 4,
             Answer::Memory => 5,
         }
@@ -62,6 +68,7 @@ impl Answer {
             Answer::Usage => Text::from_slice(alloc, USAGE),
             Answer::Refused(fault) => refused_text(alloc, &fault),
             Answer::NotBuilt => not_built_text(alloc, file),
+            Answer::Ended(end) => ended_text(alloc, &end),
             Answer::Shelf => Text::from_slice(alloc, b"device: shelf\n"),
             Answer::Disk => Text::from_slice(alloc, b"device: disk\n"),
             Answer::Memory => Text::from_slice(alloc, b"memory\n"),
@@ -94,6 +101,51 @@ fn not_built_text(alloc: Global, file: &[u8]) -> Result<Text, Memory>
 {
     let mut text = Text::from_slice(alloc, b"refused: NotBuilt ")?;
     text.push_slice(file)?;
+    text.push_slice(b"\n")?;
+    Ok(text)
+}
+
+/// Adds the name of an end, its iteration and its path.
+fn push_stop(
+    text: &mut Text,
+    alloc: Global,
+    name: &[u8],
+    iteration: u64,
+    path: &Text,
+) -> Result<(), Memory>
+    ensures { OnOk result (text.new ≡ text.old ++ spaced (name.now ∷ decimal iteration ∷ or_dash path.now ∷ [])) }
+{
+    text.push_slice(name)?;
+    push_number(text, alloc, iteration)?;
+    push_name(text, path.as_slice())
+}
+
+/// Adds the name of an end and its iteration.
+fn push_limit(text: &mut Text, alloc: Global, name: &[u8], iteration: u64) -> Result<(), Memory>
+    ensures { OnOk result (text.new ≡ text.old ++ spaced (name.now ∷ decimal iteration ∷ [])) }
+{
+    text.push_slice(name)?;
+    push_number(text, alloc, iteration)
+}
+
+/// Adds the words of an end.
+fn push_end(text: &mut Text, alloc: Global, end: &End) -> Result<(), Memory>
+    ensures { OnOk result (text.new ≡ text.old ++ end_words end.now) }
+{
+    match end {
+        End::Done => text.push_slice(b"Done"),
+        End::Overflow(iteration, path) => push_stop(text, alloc, b"Overflow", *iteration, path),
+        End::WhileLimit(iteration, path) => push_stop(text, alloc, b"WhileLimit", *iteration, path),
+        End::OutputLimit(iteration) => push_limit(text, alloc, b"OutputLimit", *iteration),
+    }
+}
+
+/// The text of a run that came to another end than Done.
+fn ended_text(alloc: Global, end: &End) -> Result<Text, Memory>
+    ensures { IfOk result (λ text. text ≡ ended_text end.now) }
+{
+    let mut text = Text::from_slice(alloc, b"ended: ")?;
+    push_end(&mut text, alloc, end)?;
     text.push_slice(b"\n")?;
     Ok(text)
 }

@@ -1,0 +1,13 @@
+mod TraceLaws
+mod StageLaws
+mod QuietLaws
+mod LevelLaws
+mod ReductionLaws
+mod ScalarLaws
+pub mod StateLaws
+mod SeeingLaws
+pub mod StagingLaws
+mod TreeLaws
+mod ShownLaws
+mod AheadLaws
+pub mod SweepLaws
