@@ -10,7 +10,7 @@ use Rattle.cx_text.specs.declared.token.Token.{Token}
 use Rattle.cx_text.specs.Grammar.{Item, Grammar, tokens, clean, head, next_of}
 use Rattle.cx_text.specs.Reading.{Answer, Read}
 use Rattle.cx_text.specs.Rules.{Rule}
-use Rattle.cx_text.proofs.Laws.{told, Shows, Taken, Stopped, Reads, err_is, clean-append, taken_same}
+use Rattle.cx_text.proofs.Laws.{told, tail, Beyond, Shows, Taken, Stopped, Reads, err_is, clean-append, taken_same}
 use Rattle.cx_text.proofs.RuleLaws.{Good, Part}
 use Rattle.cx_text.proofs.Never.{Never}
 use Rattle.cx_expr.specs.AtMost.{left_behind, is_over, limit_mark, limited, derives_at_most, past, until, read_at_most, at_most}
@@ -294,6 +294,7 @@ over_stops n p S G r never ts h =
       parts = f.parts;
       begins = λ next g. let b = goes_past p S G r f.front f.t f.rest (p (f.front ++ f.t ∷ f.rest)) refl less next g in over_begins n f.k S f.front f.t f.rest b.1 b.0 next f.over f.marks b.2;
       same = λ other o q. over_same n f.k p S G r never f.front f.t f.rest f.over f.places less other o;
+      past = λ other o. inl (over_same n f.k p S G r never f.front f.t f.rest f.over f.places less other o);
     })
 
 -- a fault that comes before
@@ -310,6 +311,14 @@ shows_limited k (Marked m) (t ∷ ts) ((u, v) ∷ is) h =
     let mark : v ≡ Some m = ap (λ (i : Item). i.1) h in
     rw (same, mark, limit_kept (is_over k t) m) refl
 
+-- what goes beyond some tokens does so too where a limit stops it
+beyond_until : {A : Type 0} (place : List Token) (a : Answer A) (us : List Token) → Beyond a us → Beyond (until place a) us
+beyond_until {A} place a us beyond =
+    elim (cut_cases place a) [
+      | inl h ↦ subst (λ (r : Answer A). Beyond r us) (sym (until_kept place a h)) beyond
+      | inr h ↦ subst (λ (r : Answer A). Beyond r us) (sym (until_cut place a h)) tt
+    ]
+
 before_stops : {A : Type 0} (n : ℕ) (p : Read A) (S : Grammar A) (G : Option Token → Type 0) → Reads p S G → (ts : List Token) (w : Why) (rest : List Token) → p ts ≡ Err (w, rest) → length (past n ts) ≤ length rest → Stopped (read_at_most n p) (derives_at_most n S) G ts w rest
 before_stops n p S G r ts w rest e h =
     let k = r.stops ts w rest e in
@@ -321,6 +330,12 @@ before_stops n p S G r ts w rest e h =
       same = λ other o q.
           let short : length (past n (k.before ++ other)) ≤ length other = subst (λ (us : List Token). length us ≤ length other) (sym (i.places other)) (past_short i.k other) in
           ap (until (past n (k.before ++ other))) (k.same other o q) ∙ until_kept (past n (k.before ++ other)) (Err (w, other)) short;
+      past = λ other o. elim (k.past other o) [
+        | inl e ↦
+            let short : length (past n (k.before ++ other)) ≤ length other = subst (λ (us : List Token). length us ≤ length other) (sym (i.places other)) (past_short i.k other) in
+            inl (ap (until (past n (k.before ++ other))) e ∙ until_kept (past n (k.before ++ other)) (Err (w, other)) short)
+        | inr b ↦ inr (beyond_until (past n (k.before ++ other)) (p (k.before ++ other)) (tail other) b)
+      ];
     }
 
 at_most_stops : {A : Type 0} (n : ℕ) (p : Read A) (S : Grammar A) (G : Option Token → Type 0) → Reads p S G → Unrepeated p → (ts : List Token) (w : Why) (rest : List Token) → read_at_most n p ts ≡ Err (w, rest) → Stopped (read_at_most n p) (derives_at_most n S) G ts w rest

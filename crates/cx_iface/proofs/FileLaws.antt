@@ -1,15 +1,16 @@
 -- The interface file is read as it derives.
-use Rattle.std.proofs.Common.{◌≡◌, ℕ, Bool, true, false, cond, ◌&&◌, ◌||◌, nat_eq, List, [], ◌∷◌, Option, Some, None, refl, sym, ap, ◌∙◌}
+use Rattle.std.proofs.Common.{◌≡◌, ℕ, Bool, true, false, cond, ◌&&◌, ◌||◌, nat_eq, List, [], ◌∷◌, Option, Some, None, refl, sym, ap, ◌∙◌, arith}
 use Rattle.cx_text.specs.declared.stop.Mark.{Mark}
-use Rattle.cx_text.specs.declared.stop.Mark.TheVariants.{Repeated}
+use Rattle.cx_text.specs.declared.stop.Mark.TheVariants.{Repeated, Limit}
 use Rattle.cx_text.specs.declared.token.Token.{Token}
-use Rattle.cx_text.specs.Grammar.{Item, next_of, passes}
+use Rattle.cx_text.specs.Grammar.{Item, head, next_of, passes}
+use Rattle.cx_text.specs.Reading.{Answer, found}
 use Rattle.cx_text.specs.Tokens.{is_word, is_line_end}
 use Rattle.cx_text.specs.Rules.{Rule, nothing, ◌>>=◌, is_named, line_ends, sign_here, line_end}
 use Rattle.cx_text.specs.Lexemes.{first_mark, names, kept_if, kept, more_kept}
 use Rattle.cx_text.proofs.Choice.{at_test, at_other}
-use Rattle.cx_text.proofs.Lookahead.{Goes, lookahead_part}
-use Rattle.cx_text.proofs.Laws.{Means}
+use Rattle.cx_text.proofs.Lookahead.{Goes, Lifts, lookahead_part}
+use Rattle.cx_text.proofs.Laws.{Means, Beyond, beyond_also}
 use Rattle.cx_text.proofs.Loops.{Short}
 use Rattle.cx_text.proofs.RuleLaws.{Good, Part, Tail, Any, Not, short_part, weaker_part, before_part, token_then, lexeme_then, lexeme_last, part_choice, part_end, empty_then, line_ends_good, line_ends_empty, loop_good, loop_empty, a_line_end, tail_loop, tail_then}
 use Rattle.cx_text.proofs.LexemeLaws.{a_word, a_sign, a_name, sign_is, Ended, names_good, names_empty, more_kept_good, more_kept_full, more_kept_short, line_ends_tail}
@@ -18,7 +19,7 @@ use Rattle.cx_iface.specs.declared.interface.Read.{Read}
 use Rattle.cx_iface.specs.declared.words.First.{First}
 use Rattle.cx_iface.specs.declared.words.First.TheVariants as firsts
 use Rattle.cx_iface.specs.Words.{FUNCTION, IMPLEMENTS, INHERITS, FRIEND, is_line_word, begins_with}
-use Rattle.cx_iface.specs.File.{implements, access, grouped, in_line, line, kept_line, function, or_function, part, is_again, again_mark, worded, item, file}
+use Rattle.cx_iface.specs.File.{implements, inherits, friends, access, grouped, in_line, line, kept_line, function, or_function, part, is_again, again_mark, worded, item, file}
 use Rattle.cx_iface.proofs.AttributeLaws.{Is}
 use Rattle.cx_iface.proofs.GroupLaws.{AfterGroup, at_end, group_part}
 use Rattle.cx_text.specs.declared.ctype.CType.{CType}
@@ -102,11 +103,11 @@ other_begins k w s t e part next h derives =
     let first : passes (is_named FUNCTION) (next_of k.1 next) ≡ false = rw k.3 e in
     record { y = k.0; ms = k.1; derived = derives k.0 k.1 first k.2; first = first }
 
-none_begins : (a b c : Bool) (other : First) → cond a firsts.Implements (cond b firsts.Inherits (cond c firsts.Friend other)) ≡ firsts.Other → (a ≡ false) × (b ≡ false) × (c ≡ false)
-none_begins true b c other e = absurd cc
-none_begins false true c other e = absurd cc
-none_begins false false true other e = absurd cc
-none_begins false false false other e = (refl, refl, refl)
+none_begins : (a b c : Bool) (last : First) → cond a firsts.Implements (cond b firsts.Inherits (cond c firsts.Friend last)) ≡ firsts.Other → (a ≡ false) × (b ≡ false) × (c ≡ false)
+none_begins true b c last e = absurd cc
+none_begins false true c last e = absurd cc
+none_begins false false true last e = absurd cc
+none_begins false false false last e = (refl, refl, refl)
 
 nothing_of : (p : Bool) → (p && false) ≡ false
 nothing_of true = refl
@@ -143,8 +144,46 @@ only_repeated s false t m e = first_repeated (is_again s t) m e where
   first_repeated true m e = cc
   first_repeated false m e = absurd cc
 
+-- ---- where the word goes on unmarked with FUNCTION, the line is read on
+
+taken_beyond : (b : Bool) (x f : Token) (m : Option Mark) (fs : List Token) → b ≡ true → Beyond (found (cond b (Some x) None) m f fs) (f ∷ fs)
+taken_beyond true x f None fs e = omega arith
+taken_beyond true x f (Some m) fs e = tt
+taken_beyond false x f m fs e = absurd cc
+
+function_beyond : (w : Token) (s : Read) (rest : List Token) → passes (is_named FUNCTION) (head rest) ≡ true → Beyond ((function w s).reads rest) rest
+function_beyond w s [] e = absurd cc
+function_beyond w s (f ∷ fs) e =
+    let m : Option Mark = first_mark (nat_eq s.lines 0) Limit None in
+    beyond_also (λ g. (line (w ∷ g ∷ []) s).reads) (λ g. (line (w ∷ g ∷ []) s).derives) Ended (λ g. (line_part (w ∷ g ∷ []) s).good.law)
+    (found (kept_if (is_named FUNCTION) f) m f fs) (f ∷ fs) (taken_beyond (is_named FUNCTION f) (kept f) f m fs e)
+
+choice_beyond : (b : Bool) (x y : Answer Read) (rest : List Token) → b ≡ true → Beyond x rest → Beyond (cond b x y) rest
+choice_beyond true x y rest e less = less
+choice_beyond false x y rest e less = absurd cc
+
+or_function_beyond : (w : Token) (s : Read) (r : Rule Read) (rest : List Token) → passes (is_named FUNCTION) (head rest) ≡ true → Beyond ((or_function w s r).reads rest) rest
+or_function_beyond w s r rest e = choice_beyond (passes (is_named FUNCTION) (head rest)) ((function w s).reads rest) (r.reads rest) rest e (function_beyond w s rest e)
+
+part_beyond : (k : First) (w : Token) (s : Read) (rest : List Token) → passes (is_named FUNCTION) (head rest) ≡ true → Beyond ((part k w s).reads rest) rest
+part_beyond firsts.Implements w s rest e = or_function_beyond w s (implements s) rest e
+part_beyond firsts.Inherits w s rest e = or_function_beyond w s (inherits s) rest e
+part_beyond firsts.Friend w s rest e = or_function_beyond w s (friends s) rest e
+part_beyond (firsts.Access a) w s rest e = or_function_beyond w s (access a s) rest e
+part_beyond (firsts.Group c) w s rest e = or_function_beyond w s (grouped c s) rest e
+part_beyond firsts.Other w s rest e = function_beyond w s rest e
+
+-- only FUNCTION behind it lifts a word's mark
+lifted : (s : Read) (b c : Bool) (t : Token) (m : Mark) → again_mark s b t ≡ Some m → again_mark s c t ≡ None → c ≡ true
+lifted s b true t m e n = refl
+lifted s true false t m e n = absurd cc
+lifted s false false t m e n = absurd (let both = sym e ∙ n in cc)
+
+word_lifts : (s : Read) → Lifts (kept_if is_word) (is_named FUNCTION) (again_mark s) (λ w. part (begins_with w) w s)
+word_lifts s = record { law = λ t x rest b m v e n. part_beyond (begins_with x) x s rest (lifted s b (passes (is_named FUNCTION) (head rest)) t m e n) }
+
 worded_part : (s : Read) → Part (worded s) (Is a_name.tok) AfterGroup
-worded_part s = lookahead_part (kept_if is_word) (is_named FUNCTION) (again_mark s) (λ w. part (begins_with w) w s) AfterGroup a_first (λ w. part_part (begins_with w) w s) (word_goes s) (only_repeated s) refl
+worded_part s = lookahead_part (kept_if is_word) (is_named FUNCTION) (again_mark s) (λ w. part (begins_with w) w s) AfterGroup a_first (λ w. part_part (begins_with w) w s) (word_goes s) (word_lifts s) (only_repeated s) refl
 
 pub item_part : (s : Read) → Part (item s) (Is a_name.tok) AfterGroup
 item_part s = part_choice (before_part (kept_line_part s) (λ n h. h.ended)) (worded_part s) (λ n h. rw h refl)

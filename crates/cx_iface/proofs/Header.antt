@@ -12,13 +12,14 @@ use Rattle.cx_text.specs.declared.fault.CclFault.{CclFault}
 use Rattle.cx_text.specs.declared.fault.CclFault.TheVariants as faults
 use Rattle.cx_text.specs.declared.token.Token.{Token}
 use Rattle.cx_text.specs.Tokens.{is_word}
-use Rattle.cx_text.specs.Grammar.{Item, next_of, passes, many, Spells, IsFirstFault, IsFault, Answers, AnswersOnly, line_at}
+use Rattle.cx_text.specs.Grammar.{Item, next_of, passes, many, Spells, IsWrong, IsFirstFault, IsFault, Answers, AnswersOnly, line_at}
 use Rattle.cx_text.specs.Reading.{Answer, go_on, read_end, Fails, Gives, fault_of}
 use Rattle.cx_text.specs.Rules.{last, line_ends, is_named}
 use Rattle.cx_text.specs.Lexemes.{finished}
 use Rattle.cx_text.proofs.Laws.{ok_is}
 use Rattle.cx_text.proofs.Choice.{at_other}
-use Rattle.cx_text.proofs.Checked.{checked, read_checked, or_unexpected, Extends, checked_found, checked_only, checked_fault, many_append, after}
+use Rattle.cx_text.proofs.FirstFault.{Judges, judges_seen, read_seen, first_from}
+use Rattle.cx_text.proofs.Checked.{judges_checked, checked, read_checked, or_unexpected, Extends, checked_found, checked_only, checked_fault, many_append, after}
 use Rattle.cx_text.proofs.RuleLaws.{line_ends_good}
 use Rattle.cx_text.proofs.LexemeLaws.{Ended, a_word}
 use Rattle.cx_iface.specs.declared.tree.Interface.{Interface}
@@ -87,15 +88,23 @@ file_extends s ms (u, front, back, e, k, (cs, f, b, d, m, (same, none))) =
 
 -- ---- what is answered
 
-fault_is : (before : List Token) (w : Why) (rest : List Token) → IsFirstFault (checked file.derives (λ s. s.implements)) before w rest → IsFirstFault interface before w rest
-fault_is before Unexpected rest ((s, more, d), none) = ((s.tree, more, (s, d.0, d.1, refl)), λ tree ms us (x, y, h, e) q n. none x ms us (y, h) q n)
-fault_is before (Marked m) [] f = absurd f
-fault_is before (Marked m) (t ∷ rest) ((s, more, d), none) = ((s.tree, more, (s, d.0, d.1, refl)), λ tree us (x, y, h, e) n. none x us (y, h) n)
+wrong_is : (before : List Token) (w : Why) (rest : List Token) → IsWrong (checked file.derives (λ s. s.implements)) before w rest → IsWrong interface before w rest
+wrong_is before Unexpected rest ((s, more, d), none) = ((s.tree, more, (s, d.0, d.1, refl)), λ tree ms us (x, y, h, e) q n. none x ms us (y, h) q n)
+wrong_is before (Marked m) [] f = absurd f
+wrong_is before (Marked m) (t ∷ rest) ((s, more, d), none) = ((s.tree, more, (s, d.0, d.1, refl)), λ tree us (x, y, h, e) n. none x us (y, h) n)
+
+abbrev pub read_tree : List Token → Answer Interface
+read_tree = read_seen (λ (s : Read). s.tree) (read_checked file.reads (λ s. s.implements))
+
+-- reading a file whole, with its header, judges it
+pub judges_interface : Judges read_tree interface
+judges_interface = judges_seen (λ (s : Read). s.tree) (read_checked file.reads (λ s. s.implements)) (checked file.derives (λ s. s.implements)) interface
+    (judges_checked file.reads file.derives _ file_good.law (refl, at_end) (λ s. s.implements)) (λ tree ms (s, d, h, e). (s, (d, h), e))
 
 first_fault : (w : Why) (ts rest : List Token) → read_checked file.reads (λ s. s.implements) ts ≡ Err (w, rest) → (before : List Token) × (ts ≡ before ++ rest) × IsFirstFault interface before w rest
 first_fault w ts rest e =
     let f = checked_fault file.reads file.derives _ file_good.law (refl, at_end) (λ s. s.implements) file_extends w ts rest e in
-    (f.0, f.1, fault_is f.0 w rest f.2)
+    first_from read_tree interface judges_interface w ts rest (rw e refl) (f.0, f.1, wrong_is f.0 w rest f.2.0)
 
 fault_answer : (ts rest : List Token) (stop : Stop) → Fails stop rest (read_checked file.reads (λ s. s.implements) ts) → IsFault interface ts (fault_of stop (line_at ts rest))
 fault_answer ts rest stops.Memory h = tt

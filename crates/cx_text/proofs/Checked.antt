@@ -6,11 +6,12 @@ use Rattle.cx_text.specs.declared.stop.Mark.{Mark}
 use Rattle.cx_text.specs.declared.stop.Why.{Why}
 use Rattle.cx_text.specs.declared.stop.Why.TheVariants.{Unexpected, Marked}
 use Rattle.cx_text.specs.declared.token.Token.{Token}
-use Rattle.cx_text.specs.Grammar.{Item, clean, next_of, Grammar, many, Spells, Begins, NoneBegins, BeginsMarked, IsFirstFault}
+use Rattle.cx_text.specs.Grammar.{Item, clean, next_of, Grammar, many, Spells, Begins, NoneBegins, BeginsMarked, IsWrong, IsFirstFault}
 use Rattle.cx_text.specs.Reading.{Answer, Read, go_on, read_whole}
-use Rattle.cx_text.proofs.Laws.{told, Reads, ok_is, err_is, ok_goes, err_goes}
+use Rattle.cx_text.proofs.Laws.{told, Beyond, Reads, ok_is, err_is, ok_goes, err_goes}
+use Rattle.cx_text.proofs.FirstFault.{Judges, first_from}
 use Rattle.cx_text.proofs.Many.{IsFull}
-use Rattle.cx_text.proofs.Whole.{whole_found, whole_only, whole_fault, told_is, whole_told, whole_rest}
+use Rattle.cx_text.proofs.Whole.{whole_found, whole_only, whole_wrong, judges_whole, told_is, whole_told, whole_rest}
 
 -- the derived lists whose value passes
 abbrev pub checked : {A : Type 0} → Grammar A → (A → Bool) → Grammar A
@@ -36,10 +37,10 @@ marked_checked S has extends before t m (x, more, s) =
     let k = extends x (clean before ++ (t, Some m) ∷ more) s in
     (k.0, more ++ k.1, (subst (λ (ms : List Item). S k.0 ms None) (append_assoc (clean before) ((t, Some m) ∷ more) k.1) k.2, k.3))
 
-fault_checked : {A : Type 0} (S : Grammar A) (has : A → Bool) (extends : Extends S has) (w : Why) (before rest : List Token) → IsFirstFault S before w rest → IsFirstFault (checked S has) before w rest
-fault_checked S has extends Unexpected before rest f = (begins_checked S has extends before f.0, λ x ms more s q h. f.1 x ms more s.0 q h)
-fault_checked S has extends (Marked m) before [] f = absurd f
-fault_checked S has extends (Marked m) before (t ∷ rest) f = (marked_checked S has extends before t m f.0, λ x more s n. f.1 x more s.0 n)
+wrong_checked : {A : Type 0} (S : Grammar A) (has : A → Bool) (extends : Extends S has) (w : Why) (before rest : List Token) → IsWrong S before w rest → IsWrong (checked S has) before w rest
+wrong_checked S has extends Unexpected before rest f = (begins_checked S has extends before f.0, λ x ms more s q h. f.1 x ms more s.0 q h)
+wrong_checked S has extends (Marked m) before [] f = absurd f
+wrong_checked S has extends (Marked m) before (t ∷ rest) f = (marked_checked S has extends before t m f.0, λ x more s n. f.1 x more s.0 n)
 
 passed : {A : Type 0} (b : Bool) (x : A) (mid : List Token) (y : A) (rest : List Token) → cond {A = Answer A} b (Ok (x, mid)) (Err (Unexpected, mid)) ≡ Ok (y, rest) → (b ≡ true) × (x ≡ y)
 passed true x mid y rest e = (refl, (ok_is x y mid rest e).0)
@@ -64,18 +65,53 @@ ended_checked p S G r g has ts x rest e no-header y ms [] s q h =
     absurd (let one : has y ≡ has x = ap has (told_is y ms [] x rest same) in let t = s.1 in cc)
 ended_checked p S G r g has ts x rest e no-header y ms (t ∷ more) s q h = absurd cc
 
-pub checked_fault : {A : Type 0} (p : Read A) (S : Grammar A) (G : Option Token → Type 0) (r : Reads p S G) (g : G None) (has : A → Bool) (extends : Extends S has) (w : Why) (ts rest : List Token) → read_checked p has ts ≡ Err (w, rest) → (before : List Token) × (ts ≡ before ++ rest) × IsFirstFault (checked S has) before w rest
-checked_fault {A} p S G r g has extends w ts rest e =
+checked_wrong : {A : Type 0} (p : Read A) (S : Grammar A) (G : Option Token → Type 0) (r : Reads p S G) (g : G None) (has : A → Bool) (extends : Extends S has) (w : Why) (ts rest : List Token) → read_checked p has ts ≡ Err (w, rest) → (before : List Token) × (ts ≡ before ++ rest) × IsWrong (checked S has) before w rest
+checked_wrong {A} p S G r g has extends w ts rest e =
     elim (err_goes (read_whole p ts) (or_unexpected has) w rest e) [
-      | inl a ↦ let f = whole_fault p S G r g w ts rest a in (f.0, f.1, fault_checked S has extends w f.0 rest f.2)
+      | inl a ↦ let f = whole_wrong p S G r g w ts rest a in (f.0, f.1, wrong_checked S has extends w f.0 rest f.2)
       | inr a ↦
           let f = failed (has a.0) a.0 a.1 w rest a.3 in
           let ends : rest ≡ [] = sym f.2 ∙ whole_rest p S G r g ts a.0 a.1 a.2 in
           let found = whole_found p S G r g ts a.0 a.1 a.2 in
           let begins = begins_checked S has extends ts (a.0, [], subst (λ (ms : List Item). S a.0 ms None) (sym (append-nil (clean ts))) found) in
           let none = ended_checked p S G r g has ts a.0 a.1 a.2 f.0 in
-          (ts, rw (ends, append-nil ts) refl, rw ends (subst (λ (v : Why). IsFirstFault (checked S has) ts v []) f.1 (begins, none)))
+          (ts, rw (ends, append-nil ts) refl, rw ends (subst (λ (v : Why). IsWrong (checked S has) ts v []) f.1 (begins, none)))
     ]
+
+beyond_checked : {A : Type 0} (has : A → Bool) (a : Answer A) (us : List Token) → Beyond a us → Beyond (go_on a (or_unexpected has)) us
+beyond_checked {A} has (Ok x) us less = by (has x.0)
+  where
+    by : (b : Bool) → Beyond (cond {A = Answer A} b (Ok (x.0, x.1)) (Err (Unexpected, x.1))) us
+    by true = less
+    by false = less
+beyond_checked has (Err e) us less = less
+
+told_checked : {A : Type 0} (has : A → Bool) (x : A) (ms : List Item) → has x ≡ true → go_on (told x ms []) (or_unexpected has) ≡ told x ms []
+told_checked has x [] e = rw e refl
+told_checked has x ((t, None) ∷ ms) e = told_checked has x ms e
+told_checked has x ((t, Some m) ∷ ms) e = refl
+
+-- what is marked in a checked list is marked in the list
+mark_kept : {A : Type 0} (has : A → Bool) (a : Answer A) (m : Mark) (us : List Token) → go_on a (or_unexpected has) ≡ Err (Marked m, us) → a ≡ Err (Marked m, us)
+mark_kept {A} has (Ok x) m us e = absurd (let h = failed (has x.0) x.0 x.1 (Marked m) us e in let w = h.1 in cc)
+mark_kept has (Err d) m us e = e
+
+-- reading a list whole, with a test at the end, judges it
+pub judges_checked : {A : Type 0} (p : Read A) (S : Grammar A) (G : Option Token → Type 0) (r : Reads p S G) (g : G None) (has : A → Bool) → Judges (read_checked p has) (checked S has)
+judges_checked p S G r g has = record {
+  tells = λ x ms s. ap (λ a. go_on a (or_unexpected has)) (j.tells x ms s.0) ∙ told_checked has x ms s.1;
+  firm = λ m before t rest other e n. ap (λ a. go_on a (or_unexpected has)) (j.firm m before t rest other (mark_kept has (read_whole p (before ++ t ∷ rest)) m (t ∷ rest) e) n);
+  past = λ m before t rest other e. elim (j.past m before t rest other (mark_kept has (read_whole p (before ++ t ∷ rest)) m (t ∷ rest) e)) [
+    | inl f ↦ inl (ap (λ a. go_on a (or_unexpected has)) f)
+    | inr b ↦ inr (beyond_checked has (read_whole p (before ++ t ∷ other)) other b)
+  ];
+}
+  where
+    j : Judges (read_whole p) S
+    j = judges_whole p S G r g
+
+pub checked_fault : {A : Type 0} (p : Read A) (S : Grammar A) (G : Option Token → Type 0) (r : Reads p S G) (g : G None) (has : A → Bool) (extends : Extends S has) (w : Why) (ts rest : List Token) → read_checked p has ts ≡ Err (w, rest) → (before : List Token) × (ts ≡ before ++ rest) × IsFirstFault (checked S has) before w rest
+checked_fault p S G r g has extends w ts rest e = first_from (read_checked p has) (checked S has) (judges_checked p S G r g has) w ts rest e (checked_wrong p S G r g has extends w ts rest e)
 
 -- ---- lists of items, one behind another
 

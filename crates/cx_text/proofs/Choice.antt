@@ -1,11 +1,11 @@
 -- A choice by the next token keeps what its ways keep.
-use Rattle.std.proofs.Common.{◌≡◌, Bool, true, false, cond, List, [], ◌∷◌, ◌++◌, Option, Ok, Err, refl, sym, ap, ◌∙◌, inl, inr}
+use Rattle.std.proofs.Common.{◌≡◌, Bool, true, false, cond, List, [], ◌∷◌, ◌++◌, Option, Ok, Err, refl, sym, ap, subst, ◌∙◌, inl, inr}
 use Rattle.std.specs.Prelude.{MatchBool}
 use Rattle.cx_text.specs.declared.stop.Why.{Why}
 use Rattle.cx_text.specs.declared.token.Token.{Token}
 use Rattle.cx_text.specs.Grammar.{Item, tokens, head, next_of, passes, Grammar, choice}
-use Rattle.cx_text.specs.Reading.{Read, read_choice}
-use Rattle.cx_text.proofs.Laws.{told, Taken, Stopped, Reads, head-tokens, head-clean, head-same, next-same, is_first}
+use Rattle.cx_text.specs.Reading.{Answer, Read, read_choice}
+use Rattle.cx_text.proofs.Laws.{told, tail, Beyond, Taken, Stopped, Reads, head-tokens, head-clean, head-same, next-same, is_first}
 
 -- what the two ways owe
 pub record Parts {A : Type 0} (test : Token → Bool) (S R : Grammar A) (H : Option Token → Type 0) : Type 0 where
@@ -42,8 +42,7 @@ cond-false : {X : Type 0} (b : Bool) (x y : X) → b ≡ false → cond b x y �
 cond-false b x y e = rw e refl
 
 choice_stops : {A : Type 0} (b : Bool) (test : Token → Bool) (p q : Read A) (S R : Grammar A) (H : Option Token → Type 0) (first : Reads p S H) (second : Reads q R H) (parts : Parts test S R H) (ts : List Token) (w : Why) (rest : List Token) → passes test (head ts) ≡ b → cond b (p ts) (q ts) ≡ Err (w, rest) → Stopped (read_choice test p q) (choice test S R) H ts w rest
-choice_stops true test p q S R H first second parts ts w rest t e =
-    let k = first.stops ts w rest e in
+choice_stops {A} true test p q S R H first second parts ts w rest t e =
     record {
       before = k.before;
       parts = k.parts;
@@ -53,10 +52,19 @@ choice_stops true test p q S R H first second parts ts w rest t e =
             let b = k.begins next h in
             (b.0, b.1, at_test _ _ _ (sym (ap (passes test) (ap head k.parts ∙ next-same w k.before rest b.1 next b.3 n)) ∙ t) b.2, b.3)
       ];
-      same = λ other o n. cond-true _ _ _ (ap (passes test) (head-same k.before other rest o ∙ sym (ap head k.parts)) ∙ t) ∙ k.same other o n;
+      same = λ other o n. way other o ∙ k.same other o n;
+      past = λ other o. elim (k.past other o) [
+        | inl e ↦ inl (way other o ∙ e)
+        | inr b ↦ inr (subst (λ (a : Answer A). Beyond a (tail other)) (sym (way other o)) b)
+      ];
     }
-choice_stops false test p q S R H first second parts ts w rest t e =
-    let k = second.stops ts w rest e in
+  where
+    k : Stopped p S H ts w rest
+    k = first.stops ts w rest e
+
+    way : (other : List Token) → head other ≡ head rest → cond (passes test (head (k.before ++ other))) (p (k.before ++ other)) (q (k.before ++ other)) ≡ p (k.before ++ other)
+    way other o = cond-true _ _ _ (ap (passes test) (head-same k.before other rest o ∙ sym (ap head k.parts)) ∙ t)
+choice_stops {A} false test p q S R H first second parts ts w rest t e =
     record {
       before = k.before;
       parts = k.parts;
@@ -66,8 +74,18 @@ choice_stops false test p q S R H first second parts ts w rest t e =
             let b = k.begins next h in
             (b.0, b.1, at_other _ _ _ (sym (ap (passes test) (ap head k.parts ∙ next-same w k.before rest b.1 next b.3 n)) ∙ t) b.2, b.3)
       ];
-      same = λ other o n. cond-false _ _ _ (ap (passes test) (head-same k.before other rest o ∙ sym (ap head k.parts)) ∙ t) ∙ k.same other o n;
+      same = λ other o n. way other o ∙ k.same other o n;
+      past = λ other o. elim (k.past other o) [
+        | inl e ↦ inl (way other o ∙ e)
+        | inr b ↦ inr (subst (λ (a : Answer A). Beyond a (tail other)) (sym (way other o)) b)
+      ];
     }
+  where
+    k : Stopped q R H ts w rest
+    k = second.stops ts w rest e
+
+    way : (other : List Token) → head other ≡ head rest → cond (passes test (head (k.before ++ other))) (p (k.before ++ other)) (q (k.before ++ other)) ≡ q (k.before ++ other)
+    way other o = cond-false _ _ _ (ap (passes test) (head-same k.before other rest o ∙ sym (ap head k.parts)) ∙ t)
 
 choice_moves : {A : Type 0} (b : Bool) (test : Token → Bool) (p q : Read A) (S R : Grammar A) (H : Option Token → Type 0) (first : Reads p S H) (second : Reads q R H) (parts : Parts test S R H) (x : A) (ms : List Item) (next other : Option Token)
     → passes test (next_of ms next) ≡ b → MatchBool b (S x ms next) (R x ms next) → H other → choice test S R x ms other

@@ -1,7 +1,7 @@
 -- What a reading function owes its grammar, and that the ways to join them keep it.
-use Rattle.std.proofs.Common.{◌≡◌, List, [], ◌∷◌, ◌++◌, Option, Some, None, Ok, Err, refl, inl, inr, sym, ap, subst, ◌∙◌, append_assoc}
+use Rattle.std.proofs.Common.{◌≡◌, ◌<◌, List, [], ◌∷◌, ◌++◌, length, Option, Some, None, Ok, Err, refl, inl, inr, sym, ap, subst, ◌∙◌, append_assoc, arith}
 use Rattle.std.specs.Prelude.{◌⊎◌}
-use Rattle.std.proofs.lemmas.List.{append-nil}
+use Rattle.std.proofs.lemmas.List.{append-nil, length-append}
 use Rattle.cx_text.specs.declared.stop.Mark.{Mark}
 use Rattle.cx_text.specs.declared.stop.Mark.TheVariants.{Repeated}
 use Rattle.cx_text.specs.declared.stop.Why.{Why}
@@ -21,6 +21,19 @@ abbrev pub second : List Token → Option Token
 second [] = None
 second (t ∷ ts) = head ts
 
+abbrev pub tail : List Token → List Token
+tail [] = []
+tail (t ∷ ts) = ts
+
+-- reading went further than to these tokens, or met a mark
+abbrev pub Short : Why → List Token → List Token → Type 0
+Short Unexpected rest ts = length rest < length ts
+Short (Marked m) rest ts = Unit {0}
+
+abbrev pub Beyond : {A : Type 0} → Answer A → List Token → Type 0
+Beyond (Ok x) ts = length x.1 < length ts
+Beyond (Err e) ts = Short e.0 e.1 ts
+
 -- a list that goes on is what the fault says of its first token
 abbrev pub Shows : Why → List Token → List Item → Type 0
 Shows Unexpected rest more = Unit {0}
@@ -35,12 +48,14 @@ pub record Taken {A : Type 0} (S : Grammar A) (ts : List Token) (x : A) (rest : 
   pub spelled : S x (clean front) (head rest)
 
 -- Reading stopped. The tokens before begin a derived list, before each next token that G allows, and any list that
--- goes on with the same token is stopped at it too; at a repeated word, any with the same token behind it.
+-- goes on with the same token is stopped at it too; at a repeated word, any with the same token behind it. Where another
+-- stands there, reading is stopped at the word too, or goes on behind that one.
 pub record Stopped {A : Type 0} (p : Read A) (S : Grammar A) (G : Option Token → Type 0) (ts : List Token) (w : Why) (rest : List Token) : Type 0 where
   pub before : List Token
   pub parts : ts ≡ before ++ rest
   pub begins : (next : Option Token) → G next → (x : A) × (more : List Item) × S x (clean before ++ more) next × Shows w rest more
   pub same : (other : List Token) → head other ≡ head rest → (w ≡ Marked Repeated → second other ≡ second rest) → p (before ++ other) ≡ Err (w, other)
+  pub past : (other : List Token) → head other ≡ head rest → (p (before ++ other) ≡ Err (w, other)) ⊎ Beyond (p (before ++ other)) (tail other)
 
 pub record Reads {A : Type 0} (p : Read A) (S : Grammar A) (G : Option Token → Type 0) : Type 0 where
   pub again : (x : A) (ms : List Item) (rest : List Token) → S x ms (head rest) → p (tokens ms ++ rest) ≡ told x ms rest
@@ -176,15 +191,15 @@ token_stops {A} value mark one G [] w rest e =
     let h = err_is {A = A} Unexpected w [] rest e in
     subst (λ (r : List Token). Stopped (read_token value mark) (token value mark) G [] w r) h.1
     (subst (λ (v : Why). Stopped (read_token value mark) (token value mark) G [] v []) h.0
-    (record { before = []; parts = refl; begins = λ next g. (one.x, (one.tok, mark one.tok) ∷ [], (one.tok, one.is, refl), tt); same = λ other e n. token_ended value mark other e }))
+    (record { before = []; parts = refl; begins = λ next g. (one.x, (one.tok, mark one.tok) ∷ [], (one.tok, one.is, refl), tt); same = λ other e n. token_ended value mark other e; past = λ other e. inl (token_ended value mark other e) }))
 token_stops {A} value mark one G (t ∷ ts) w rest e =
     let h = found_err (value t) (mark t) t ts w rest e in
     subst (λ (r : List Token). Stopped (read_token value mark) (token value mark) G (t ∷ ts) w r) h.0
     (elim h.1 [
       | inl n ↦ subst (λ (v : Why). Stopped (read_token value mark) (token value mark) G (t ∷ ts) v (t ∷ ts)) n.1
-          (record { before = []; parts = refl; begins = λ next g. (one.x, (one.tok, mark one.tok) ∷ [], (one.tok, one.is, refl), tt); same = λ other e k. token_same value mark t Unexpected (λ us. rw n.0 refl) other e })
+          (record { before = []; parts = refl; begins = λ next g. (one.x, (one.tok, mark one.tok) ∷ [], (one.tok, one.is, refl), tt); same = λ other e k. token_same value mark t Unexpected (λ us. rw n.0 refl) other e; past = λ other e. inl (token_same value mark t Unexpected (λ us. rw n.0 refl) other e) })
       | inr m ↦ subst (λ (v : Why). Stopped (read_token value mark) (token value mark) G (t ∷ ts) v (t ∷ ts)) m.4
-          (record { before = []; parts = refl; begins = λ next g. (m.0, (t, Some m.1) ∷ [], (t, m.2, ap (λ (k : Option Mark). (t, k) ∷ []) (sym m.3)), refl); same = λ other e k. token_same value mark t (Marked m.1) (λ us. rw (m.2, m.3) refl) other e })
+          (record { before = []; parts = refl; begins = λ next g. (m.0, (t, Some m.1) ∷ [], (t, m.2, ap (λ (k : Option Mark). (t, k) ∷ []) (sym m.3)), refl); same = λ other e k. token_same value mark t (Marked m.1) (λ us. rw (m.2, m.3) refl) other e; past = λ other e. inl (token_same value mark t (Marked m.1) (λ us. rw (m.2, m.3) refl) other e) })
     ])
 
 pub reads_token : {A : Type 0} (value : Token → Option A) (mark : Token → Option Mark) (one : Means value) (G : Option Token → Type 0) → Reads (read_token value mark) (token value mark) G
@@ -248,9 +263,28 @@ pub record Joins {A B : Type 0} (S : Grammar A) (G : Option Token → Type 0) (R
   -- where the second has no token, what follows it may follow the first
   pub through : (x : A) (y : B) (next other : Option Token) → R x y [] next → H other → G other
 
-also_first : {A B : Type 0} (p : Read A) (S : Grammar A) (G : Option Token → Type 0) (f : A → Read B) (R : A → Grammar B) (H : Option Token → Type 0) (first : Reads p S G) (joins : Joins S G R H)
+-- what is read behind a part leaves no more than that
+no_longer : (ts front rest us : List Token) → ts ≡ front ++ rest → length ts < length us → length rest < length us
+no_longer ts front rest us parts less = (let whole : length ts ≡ length (front ++ rest) = ap length parts in let sum = length-append front rest in omega (arith, whole, sum, less))
+
+pub behind : {B : Type 0} (q : Read B) (R : Grammar B) (H : Option Token → Type 0) → Reads q R H → (ts us : List Token) → length ts < length us → Beyond (q ts) us
+behind {B} q R H r ts us less = by (q ts) refl
+  where
+    stop : (w : Why) (rest : List Token) → Stopped q R H ts w rest → Short w rest us
+    stop Unexpected rest k = no_longer ts k.before rest us k.parts less
+    stop (Marked m) rest k = tt
+
+    by : (a : Answer B) → q ts ≡ a → Beyond a us
+    by (Ok x) e = let t = r.takes ts x.0 x.1 e in no_longer ts t.front x.1 us t.parts less
+    by (Err d) e = stop d.0 d.1 (r.stops ts d.0 d.1 e)
+
+pub beyond_also : {A B : Type 0} (f : A → Read B) (R : A → Grammar B) (H : Option Token → Type 0) → ((x : A) → Reads (f x) (R x) H) → (a : Answer A) (us : List Token) → Beyond a us → Beyond (go_on a f) us
+beyond_also f R H second (Ok x) us less = behind (f x.0) (R x.0) H (second x.0) x.1 us less
+beyond_also f R H second (Err e) us less = less
+
+also_first : {A B : Type 0} (p : Read A) (S : Grammar A) (G : Option Token → Type 0) (f : A → Read B) (R : A → Grammar B) (H : Option Token → Type 0) (first : Reads p S G) (second : (x : A) → Reads (f x) (R x) H) (joins : Joins S G R H)
     (ts : List Token) (w : Why) (rest : List Token) → Stopped p S G ts w rest → Stopped (read_also p f) (also S R) H ts w rest
-also_first {A} {B} p S G f R H first joins ts w rest s =
+also_first {A} {B} p S G f R H first second joins ts w rest s =
     record {
       before = s.before;
       parts = s.parts;
@@ -259,11 +293,15 @@ also_first {A} {B} p S G f R H first joins ts w rest s =
           let e = joins.ends b.0 next h in
           (e.0, b.1 ++ e.1, (b.0, clean s.before ++ b.1, e.1, sym (append_assoc (clean s.before) b.1 e.1), first.moves b.0 (clean s.before ++ b.1) joins.one (next_of e.1 next) b.2 e.3, e.2), Shows-append w rest b.1 e.1 b.3);
       same = λ other e n. ap (λ a. go_on a f) (s.same other e n);
+      past = λ other e. elim (s.past other e) [
+        | inl q ↦ inl (ap (λ a. go_on a f) q)
+        | inr b ↦ inr (beyond_also f R H second (p (s.before ++ other)) (tail other) b)
+      ];
     }
 
 also_second : {A B : Type 0} (p : Read A) (S : Grammar A) (G : Option Token → Type 0) (f : A → Read B) (R : A → Grammar B) (H : Option Token → Type 0) (first : Reads p S G) (joins : Joins S G R H)
     (ts : List Token) (x : A) (mid : List Token) (w : Why) (rest : List Token) (t : Taken S ts x mid) → Stopped (f x) (R x) H mid w rest → Stopped (read_also p f) (also S R) H ts w rest
-also_second p S G f R H first joins ts x mid w rest t u =
+also_second {A} {B} p S G f R H first joins ts x mid w rest t u =
     record {
       before = t.front ++ u.before;
       parts = t.parts ∙ ap (λ (us : List Token). t.front ++ us) u.parts ∙ sym (append_assoc t.front u.before rest);
@@ -279,17 +317,23 @@ also_second p S G f R H first joins ts x mid w rest t u =
                 let whole : clean (t.front ++ u.before) ++ b.1 ≡ clean t.front ++ (clean u.before ++ b.1) = ap (λ (a : List Item). a ++ b.1) (clean-append t.front u.before) ∙ append_assoc (clean t.front) (clean u.before) b.1 in
                 (b.0, b.1, (x, clean t.front, clean u.before ++ b.1, whole, subst (λ (k : Option Token). S x (clean t.front) k) same t.spelled, b.2), b.3)
           ];
-      same = λ other e n.
-          ap (λ (us : List Token). go_on (p us) f) (append_assoc t.front u.before other)
-          ∙ ap (λ a. go_on a f) (taken_same p S G first ts x mid t (u.before ++ other) (head-same u.before other rest e ∙ sym (ap head u.parts)))
-          ∙ u.same other e n;
+      same = λ other e n. go other e ∙ u.same other e n;
+      past = λ other e. elim (u.past other e) [
+        | inl q ↦ inl (go other e ∙ q)
+        | inr b ↦ inr (subst (λ (a : Answer B). Beyond a (tail other)) (sym (go other e)) b)
+      ];
     }
+  where
+    go : (other : List Token) → head other ≡ head rest → read_also p f ((t.front ++ u.before) ++ other) ≡ f x (u.before ++ other)
+    go other e =
+        ap (λ (us : List Token). go_on (p us) f) (append_assoc t.front u.before other)
+        ∙ ap (λ a. go_on a f) (taken_same p S G first ts x mid t (u.before ++ other) (head-same u.before other rest e ∙ sym (ap head u.parts)))
 
 also_stops : {A B : Type 0} (p : Read A) (S : Grammar A) (G : Option Token → Type 0) (f : A → Read B) (R : A → Grammar B) (H : Option Token → Type 0) (first : Reads p S G) (second : (x : A) → Reads (f x) (R x) H) (joins : Joins S G R H)
     (ts : List Token) (w : Why) (rest : List Token) → read_also p f ts ≡ Err (w, rest) → Stopped (read_also p f) (also S R) H ts w rest
 also_stops p S G f R H first second joins ts w rest e =
     elim (err_goes (p ts) f w rest e) [
-      | inl a ↦ also_first p S G f R H first joins ts w rest (first.stops ts w rest a)
+      | inl a ↦ also_first p S G f R H first second joins ts w rest (first.stops ts w rest a)
       | inr b ↦ also_second p S G f R H first joins ts b.0 b.1 w rest (first.takes ts b.0 b.1 b.2) ((second b.0).stops b.1 w rest b.3)
     ]
 

@@ -2,6 +2,7 @@ pub mod Laws
 pub mod Choice
 pub mod Many
 pub mod Loops
+pub mod FirstFault
 pub mod Whole
 pub mod Exclusive
 pub mod RuleLaws

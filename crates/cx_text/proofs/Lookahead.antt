@@ -7,14 +7,18 @@ use Rattle.cx_text.specs.declared.stop.Why.{Why}
 use Rattle.cx_text.specs.declared.stop.Why.TheVariants.{Unexpected, Marked}
 use Rattle.cx_text.specs.declared.token.Token.{Token}
 use Rattle.cx_text.specs.Grammar.{Item, tokens, clean, head, next_of, passes}
-use Rattle.cx_text.specs.Reading.{Read, found, go_on}
+use Rattle.cx_text.specs.Reading.{Answer, Read, found, go_on}
 use Rattle.cx_text.specs.Rules.{Rule, lookahead}
-use Rattle.cx_text.proofs.Laws.{told, second, Means, Taken, Stopped, head-tokens, head-clean, head-same, next-same, is_first, ok_is, err_is, ok_goes, err_goes}
+use Rattle.cx_text.proofs.Laws.{told, second, tail, Beyond, Means, Taken, Stopped, head-tokens, head-clean, head-same, next-same, is_first, ok_is, err_is, ok_goes, err_goes}
 use Rattle.cx_text.proofs.RuleLaws.{Part, Any}
 
 -- whatever stands behind the token, the rule has a list before which the token has the same mark
 pub record Goes {A B : Type 0} (value : Token → Option A) (test : Token → Bool) (mark : Bool → Token → Option Mark) (f : A → Rule B) (H : Option Token → Type 0) : Type 0 where
   pub law : (t : Token) (x : A) (b : Bool) (next : Option Token) → value t ≡ Some x → H next → (y : B) × (ms : List Item) × (f x).derives y ms next × (mark (passes test (next_of ms next)) t ≡ mark b t)
+
+-- where a token that may have a mark has none, the part goes on behind the next token
+pub record Lifts {A B : Type 0} (value : Token → Option A) (test : Token → Bool) (mark : Bool → Token → Option Mark) (f : A → Rule B) : Type 0 where
+  pub law : (t : Token) (x : A) (rest : List Token) (b : Bool) (m : Mark) → value t ≡ Some x → mark b t ≡ Some m → mark (passes test (head rest)) t ≡ None → Beyond ((f x).reads rest) rest
 
 -- ---- what reading the token answers
 
@@ -35,7 +39,7 @@ marked_told (Some k) x f y t back rest h = refl
 
 -- ---- the rule
 
-module _ {A B : Type 0} (value : Token → Option A) (test : Token → Bool) (mark : Bool → Token → Option Mark) (f : A → Rule B) (H : Option Token → Type 0) (one : Means value) (part : (x : A) → Part (f x) Any H) (goes : Goes value test mark f H) (only : (b : Bool) (t : Token) (m : Mark) → mark b t ≡ Some m → m ≡ Repeated) where
+module _ {A B : Type 0} (value : Token → Option A) (test : Token → Bool) (mark : Bool → Token → Option Mark) (f : A → Rule B) (H : Option Token → Type 0) (one : Means value) (part : (x : A) → Part (f x) Any H) (goes : Goes value test mark f H) (lifts : Lifts value test mark f) (only : (b : Bool) (t : Token) (m : Mark) → mark b t ≡ Some m → m ≡ Repeated) where
   again : (y : B) (ms : List Item) (rest : List Token) → (lookahead value test mark f).derives y ms (head rest) → (lookahead value test mark f).reads (tokens ms ++ rest) ≡ told y ms rest
   again y ms rest (x, t, back, v, e, d) =
       let seen : passes test (head (tokens back ++ rest)) ≡ passes test (next_of back (head rest)) = ap (passes test) (head-tokens back rest) in
@@ -75,6 +79,20 @@ module _ {A B : Type 0} (value : Token → Option A) (test : Token → Bool) (ma
       let seen : passes test (head us) ≡ passes test (head ts) = ap (passes test) s in
       rw (same, v, seen, m) refl
 
+  -- a mark there, by another token behind, is the same; without one the part goes on
+  marked_past : (t : Token) (x : A) (b : Bool) (k : Mark) → value t ≡ Some x → mark b t ≡ Some k → (other : List Token) → head other ≡ Some t → ((lookahead value test mark f).reads other ≡ Err (Marked k, other)) ⊎ Beyond ((lookahead value test mark f).reads other) (tail other)
+  marked_past t x b k v m [] e = absurd cc
+  marked_past t x b k v m (u ∷ us) e = by (mark (passes test (head us)) t) refl
+    where
+      same : u ≡ t
+      same = cc
+
+      by : (o : Option Mark) → mark (passes test (head us)) t ≡ o → ((lookahead value test mark f).reads (u ∷ us) ≡ Err (Marked k, u ∷ us)) ⊎ Beyond ((lookahead value test mark f).reads (u ∷ us)) us
+      by None o = inr (let read : (lookahead value test mark f).reads (u ∷ us) ≡ (f x).reads us = rw (same, v, o) refl in subst (λ (a : Answer B). Beyond a us) (sym read) (lifts.law t x us b k v m o))
+      by (Some l) o =
+          let one : l ≡ k = only (passes test (head us)) t l o ∙ sym (only b t k m) in
+          inl (rw (same, v, o, one) refl)
+
   ended_same : (other : List Token) → head other ≡ None → (lookahead value test mark f).reads other ≡ Err (Unexpected, other)
   ended_same [] e = refl
   ended_same (u ∷ us) e = absurd cc
@@ -96,6 +114,9 @@ module _ {A B : Type 0} (value : Token → Option A) (test : Token → Bool) (ma
         same = λ other o n.
             let seen : passes test (head (k.before ++ other)) ≡ passes test (head ts) = ap (passes test) (head-same k.before other rest o ∙ sym (ap head k.parts)) in
             rw (v, seen, m) (k.same other o n);
+        past = λ other o.
+            let seen : passes test (head (k.before ++ other)) ≡ passes test (head ts) = ap (passes test) (head-same k.before other rest o ∙ sym (ap head k.parts)) in
+            rw (v, seen, m) (k.past other o);
       }
 
   stops : (ts : List Token) (w : Why) (rest : List Token) → (lookahead value test mark f).reads ts ≡ Err (w, rest) → Stopped (lookahead value test mark f).reads (lookahead value test mark f).derives H ts w rest
@@ -103,7 +124,7 @@ module _ {A B : Type 0} (value : Token → Option A) (test : Token → Bool) (ma
       let h = err_is {A = B} Unexpected w [] rest e in
       subst (λ (r : List Token). Stopped (lookahead value test mark f).reads (lookahead value test mark f).derives H [] w r) h.1
       (subst (λ (v : Why). Stopped (lookahead value test mark f).reads (lookahead value test mark f).derives H [] v []) h.0
-      (record { before = []; parts = refl; begins = λ next h. let b = begins_any next h in (b.0, b.1, b.2, tt); same = λ other e n. ended_same other e }))
+      (record { before = []; parts = refl; begins = λ next h. let b = begins_any next h in (b.0, b.1, b.2, tt); same = λ other e n. ended_same other e; past = λ other e. inl (ended_same other e) }))
   stops (t ∷ ts) w rest e =
       elim (err_goes (found (value t) (mark (passes test (head ts)) t) t ts) (λ z. (f z).reads) w rest e) [
         | inr a ↦
@@ -114,13 +135,14 @@ module _ {A B : Type 0} (value : Token → Option A) (test : Token → Bool) (ma
             subst (λ (r : List Token). Stopped (lookahead value test mark f).reads (lookahead value test mark f).derives H (t ∷ ts) w r) h.0
             (elim h.1 [
               | inl n ↦ subst (λ (v : Why). Stopped (lookahead value test mark f).reads (lookahead value test mark f).derives H (t ∷ ts) v (t ∷ ts)) n.1
-                  (record { before = []; parts = refl; begins = λ next g. let b = begins_any next g in (b.0, b.1, b.2, tt); same = λ other e k. first_same t n.0 other e })
+                  (record { before = []; parts = refl; begins = λ next g. let b = begins_any next g in (b.0, b.1, b.2, tt); same = λ other e k. first_same t n.0 other e; past = λ other e. inl (first_same t n.0 other e) })
               | inr m ↦ subst (λ (v : Why). Stopped (lookahead value test mark f).reads (lookahead value test mark f).derives H (t ∷ ts) v (t ∷ ts)) m.4
                   (record {
                     before = [];
                     parts = refl;
                     begins = λ next g. let b = begins_there t m.0 (Some m.1) (passes test (head ts)) next m.2 m.3 g in (b.0, (t, Some m.1) ∷ b.1, b.2, refl);
                     same = λ other o k. marked_same t ts m.0 m.1 m.2 m.3 other o (k (ap (λ (r : Mark). Marked r) (only (passes test (head ts)) t m.1 m.3)));
+                    past = λ other o. marked_past t m.0 (passes test (head ts)) m.1 m.2 m.3 other o;
                   })
             ])
       ]

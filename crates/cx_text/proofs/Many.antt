@@ -6,7 +6,7 @@ use Rattle.cx_text.specs.declared.stop.Why.{Why}
 use Rattle.cx_text.specs.declared.token.Token.{Token}
 use Rattle.cx_text.specs.Grammar.{Item, tokens, clean, head, next_of, passes, Grammar, token, also, many}
 use Rattle.cx_text.specs.Reading.{Answer, Read, go_on, read_up_to, read_many}
-use Rattle.cx_text.proofs.Laws.{told, Taken, Stopped, Reads, head-tokens, head-clean, head-same, next-same, is_first, ok_goes, err_goes, ok_is, told-also, regrouped, taken_same, clean-append}
+use Rattle.cx_text.proofs.Laws.{told, tail, Beyond, behind, Taken, Stopped, Reads, head-tokens, head-clean, head-same, next-same, is_first, ok_goes, err_goes, ok_is, told-also, regrouped, taken_same, clean-append}
 
 -- a reader takes at least one token
 abbrev pub IsShort : {A : Type 0} → Read A → Type 0
@@ -118,6 +118,33 @@ many_takes {A} {C} test p step S G H each items (suc n) true c ts xs rest lt t e
     } in
     subst (λ (ys : List A). Taken (many test S step c) ts ys rest) h.0 (subst (λ (r : List Token). Taken (many test S step c) ts (a.0 ∷ b.0) r) h.1 made)
 
+beyond-cons : {A : Type 0} (x : A) (a : Answer (List A)) (us : List Token) → Beyond a us → Beyond (go_on a (λ xs vs. Ok (x ∷ xs, vs))) us
+beyond-cons x (Ok y) us less = less
+beyond-cons x (Err e) us less = less
+
+module _ {A C : Type 0} (test : Token → Bool) (p : C → Read A) (step : C → A → C) (S : C → Grammar A) (G : Option Token → Type 0) (each : (c : C) → Reads (p c) (S c) G) (full : (c : C) → IsFull (S c)) where
+  short_at : (c : C) → IsShort (p c)
+  short_at c = short_of (p c) (S c) G (each c) (full c)
+
+  beyond_turn : (c : C) (ts us : List Token) → length ts < length us → ((d : C) (vs : List Token) → length vs < length ts → Beyond (read_many test p step d vs) us) → (a : Answer A) → p c ts ≡ a → Beyond (go_on a (then_more test p step c)) us
+  beyond_turn c ts us less others (Ok x) e = beyond-cons x.0 (read_many test p step (step c x.0) x.1) us (others (step c x.0) x.1 (short_at c ts x.0 x.1 e))
+  beyond_turn c ts us less others (Err d) e = subst (λ (a : Answer A). Beyond a us) e (behind (p c) (S c) G (each c) ts us less)
+
+  beyond_way : (c : C) (ts us : List Token) (b : Bool) → length ts < length us → Beyond (go_on (p c ts) (then_more test p step c)) us → Beyond (cond b (go_on (p c ts) (then_more test p step c)) (Ok ([], ts))) us
+  beyond_way c ts us true less turn = turn
+  beyond_way c ts us false less turn = less
+
+  -- what is read behind an item leaves no more than that
+  many_behind : (n : ℕ) (c : C) (ts us : List Token) → length ts < n → length ts < length us → Beyond (read_many test p step c ts) us
+  many_behind zero c ts us lt less = absurd (omega arith)
+  many_behind (suc n) c ts us lt less =
+      subst (λ (a : Answer (List A)). Beyond a us) (sym (unrolled test p step short_at c ts))
+      (beyond_way c ts us (passes test (head ts)) less (beyond_turn c ts us less (λ d vs fewer. many_behind n d vs us (omega (arith, fewer, lt)) (omega (arith, fewer, less))) (p c ts) refl))
+
+  beyond-more : (c : C) (a : Answer A) (us : List Token) → Beyond a us → Beyond (go_on a (then_more test p step c)) us
+  beyond-more c (Ok x) us less = beyond-cons x.0 (read_many test p step (step c x.0) x.1) us (many_behind (suc (length x.1)) (step c x.0) x.1 us (omega arith) less)
+  beyond-more c (Err e) us less = less
+
 many_first : {A C : Type 0} (test : Token → Bool) (p : C → Read A) (step : C → A → C) (S : C → Grammar A) (G H : Option Token → Type 0) (each : (c : C) → Reads (p c) (S c) G) (items : Items test S G H)
     (c : C) (ts : List Token) (w : Why) (rest : List Token) → passes test (head ts) ≡ true → Stopped (p c) (S c) G ts w rest → Stopped (read_many test p step c) (many test S step c) H ts w rest
 many_first {A} {C} test p step S G H each items c ts w rest t k =
@@ -135,6 +162,13 @@ many_first {A} {C} test p step S G H each items c ts w rest t k =
       same = λ other o n.
           let go : passes test (head (k.before ++ other)) ≡ true = ap (passes test) (head-same k.before other rest o ∙ sym (ap head k.parts)) ∙ t in
           unrolled test p step short c (k.before ++ other) ∙ rw (go, k.same other o n) refl;
+      past = λ other o.
+          let go : passes test (head (k.before ++ other)) ≡ true = ap (passes test) (head-same k.before other rest o ∙ sym (ap head k.parts)) ∙ t in
+          let turn : read_many test p step c (k.before ++ other) ≡ go_on (p c (k.before ++ other)) (then_more test p step c) = unrolled test p step short c (k.before ++ other) ∙ rw go refl in
+          elim (k.past other o) [
+            | inl e ↦ inl (turn ∙ rw e refl)
+            | inr b ↦ inr (subst (λ (a : Answer (List A)). Beyond a (tail other)) (sym turn) (beyond-more test p step S G each items.full c (p c (k.before ++ other)) (tail other) b))
+          ];
     }
 
 many_later : {A C : Type 0} (test : Token → Bool) (p : C → Read A) (step : C → A → C) (S : C → Grammar A) (G H : Option Token → Type 0) (each : (c : C) → Reads (p c) (S c) G) (items : Items test S G H)
@@ -167,6 +201,16 @@ many_later {A} {C} test p step S G H each items c ts x mid w rest t go u =
           let first : p c ((t.front ++ u.before) ++ other) ≡ Ok (x, u.before ++ other) =
           ap (p c) (append_assoc t.front u.before other) ∙ taken_same (p c) (S c) G (each c) ts x mid t (u.before ++ other) (head-same u.before other rest e ∙ sym (ap head u.parts)) in
           unrolled test p step short c ((t.front ++ u.before) ++ other) ∙ rw (other_go, first, u.same other e n) refl;
+      past = λ other e.
+          let other_go : passes test (head ((t.front ++ u.before) ++ other)) ≡ true = ap (passes test) (head-same (t.front ++ u.before) other rest e ∙ sym (ap head parts)) ∙ go in
+          let first : p c ((t.front ++ u.before) ++ other) ≡ Ok (x, u.before ++ other) =
+          ap (p c) (append_assoc t.front u.before other) ∙ taken_same (p c) (S c) G (each c) ts x mid t (u.before ++ other) (head-same u.before other rest e ∙ sym (ap head u.parts)) in
+          let more : read_many test p step c ((t.front ++ u.before) ++ other) ≡ go_on (read_many test p step (step c x) (u.before ++ other)) (λ ys vs. Ok (x ∷ ys, vs)) =
+          unrolled test p step short c ((t.front ++ u.before) ++ other) ∙ rw (other_go, first) refl in
+          elim (u.past other e) [
+            | inl q ↦ inl (more ∙ rw q refl)
+            | inr b ↦ inr (subst (λ (a : Answer (List A)). Beyond a (tail other)) (sym more) (beyond-cons x (read_many test p step (step c x) (u.before ++ other)) (tail other) b))
+          ];
     }
 
 many_stops : {A C : Type 0} (test : Token → Bool) (p : C → Read A) (step : C → A → C) (S : C → Grammar A) (G H : Option Token → Type 0) (each : (c : C) → Reads (p c) (S c) G) (items : Items test S G H)

@@ -98,7 +98,7 @@ weaker_good {A} {r} {G} {H} good weaker = record {
   law = record {
     again = good.law.again;
     takes = good.law.takes;
-    stops = λ ts w rest e. let s = good.law.stops ts w rest e in record { before = s.before; parts = s.parts; begins = λ next h. s.begins next (weaker next h); same = s.same };
+    stops = λ ts w rest e. let s = good.law.stops ts w rest e in record { before = s.before; parts = s.parts; begins = λ next h. s.begins next (weaker next h); same = s.same; past = s.past };
     moves = λ x ms next other s h. good.law.moves x ms next other s (weaker other h);
   };
 }

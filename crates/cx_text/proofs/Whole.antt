@@ -1,5 +1,5 @@
 -- A whole list: what is read is spelled, what is spelled is read, and a fault is the first one.
-use Rattle.std.proofs.Common.{◌≡◌, ℕ, ◌≤◌, List, [], ◌∷◌, ◌++◌, length, Option, Some, None, Ok, Err, refl, sym, ap, subst, ◌∙◌, arith}
+use Rattle.std.proofs.Common.{◌≡◌, ℕ, ◌≤◌, List, [], ◌∷◌, ◌++◌, length, Option, Some, None, Ok, Err, refl, inl, sym, ap, subst, ◌∙◌, arith}
 use Rattle.std.proofs.lemmas.List.{append-nil}
 use Rattle.cx_text.specs.declared.stop.Mark.{Mark}
 use Rattle.cx_text.specs.declared.stop.Why.{Why}
@@ -9,8 +9,9 @@ use Rattle.cx_text.specs.declared.stop.Stop.{Stop}
 use Rattle.cx_text.specs.declared.stop.Stop.TheVariants as stops
 use Rattle.cx_text.specs.declared.fault.CclFault.TheVariants as faults
 use Rattle.cx_text.specs.declared.token.Token.{Token}
-use Rattle.cx_text.specs.Grammar.{Item, tokens, clean, head, next_of, Grammar, also, Spells, BeginsMarked, NoneUnmarked, IsFirstFault, IsFault, line_at, last_line}
+use Rattle.cx_text.specs.Grammar.{Item, tokens, clean, head, next_of, Grammar, also, Spells, BeginsMarked, NoneUnmarked, IsWrong, IsFirstFault, IsFault, line_at, last_line}
 use Rattle.cx_text.specs.Reading.{Read, read_end, read_whole, Fails, fault_of}
+use Rattle.cx_text.proofs.FirstFault.{Judges, judges_read, told_behind, first_from}
 use Rattle.cx_text.proofs.Laws.{told, Shows, Taken, Stopped, Reads, reads_also, ok_is, err_is, tokens-append, tokens-clean, told-clean}
 
 -- nothing, and nothing follows
@@ -35,7 +36,7 @@ end_stops {A} x (t ∷ ts) w rest e =
     let h = err_is {A = A} Unexpected w (t ∷ ts) rest e in
     subst (λ (r : List Token). Stopped (read_end x) (ended x) (λ n. n ≡ None) (t ∷ ts) w r) h.1
     (subst (λ (v : Why). Stopped (read_end x) (ended x) (λ n. n ≡ None) (t ∷ ts) v (t ∷ ts)) h.0
-    (record { before = []; parts = refl; begins = λ next n. (x, [], (refl, refl, n), tt); same = λ other o n. end_same x t other o }))
+    (record { before = []; parts = refl; begins = λ next n. (x, [], (refl, refl, n), tt); same = λ other o n. end_same x t other o; past = λ other o. inl (end_same x t other o) }))
 
 reads_end : {A : Type 0} (x : A) → Reads (read_end x) (ended x) (λ n. n ≡ None)
 reads_end x = record {
@@ -95,10 +96,6 @@ told_within {A} x ((t, Some m) ∷ ms) w us e =
     let size : length us ≡ length (t ∷ tokens ms) = ap length (sym h ∙ ap (λ (ts : List Token). t ∷ ts) (append-nil (tokens ms))) in
     omega (arith, size)
 
-told_behind : {A : Type 0} (x : A) (front : List Token) (ms : List Item) (rest : List Token) → told x (clean front ++ ms) rest ≡ told x ms rest
-told_behind x [] ms rest = refl
-told_behind x (t ∷ front) ms rest = told_behind x front ms rest
-
 next_tokens : (ms : List Item) → head (tokens ms) ≡ next_of ms None
 next_tokens [] = refl
 next_tokens (m ∷ ms) = refl
@@ -119,29 +116,40 @@ marked_there : {A : Type 0} (S : Grammar A) (m : Mark) (before : List Token) (t 
 marked_there S m before t rest x [] s h = absurd h
 marked_there S m before t rest x (i ∷ is) s h = (x, is, subst (λ (j : Item). S x (clean before ++ j ∷ is) None) h s)
 
-stopped_first : {A : Type 0} (p : Read A) (S : Grammar A) (G : Option Token → Type 0) → Reads p S G → G None → (w : Why) (ts : List Token) (rest : List Token) (k : Stopped p S G ts w rest) → IsFirstFault S k.before w rest
-stopped_first p S G r g Unexpected ts rest k =
+stopped_wrong : {A : Type 0} (p : Read A) (S : Grammar A) (G : Option Token → Type 0) → Reads p S G → G None → (w : Why) (ts : List Token) (rest : List Token) (k : Stopped p S G ts w rest) → IsWrong S k.before w rest
+stopped_wrong p S G r g Unexpected ts rest k =
     let b = k.begins None g in (
       (b.0, b.1, b.2),
       λ x ms more s q h. told_marks x ms [] more (sym (told_all p S G r x ms s) ∙ ap p q ∙ k.same more h (λ v. absurd cc)),
     )
-stopped_first p S G r g (Marked m) ts [] k = let b = k.begins None g in absurd b.3
-stopped_first p S G r g (Marked m) ts (t ∷ rest) k =
+stopped_wrong p S G r g (Marked m) ts [] k = let b = k.begins None g in absurd b.3
+stopped_wrong p S G r g (Marked m) ts (t ∷ rest) k =
     let b = k.begins None g in
     (marked_there S m k.before t rest b.0 b.1 b.2 b.3, none_unmarked p S G r m ts t rest k)
 
 pub first_fault : {A : Type 0} (p : Read A) (S : Grammar A) (G : Option Token → Type 0) → Reads p S G → G None → (w : Why) (ts rest : List Token) → p ts ≡ Err (w, rest) → (before : List Token) × (ts ≡ before ++ rest) × IsFirstFault S before w rest
-first_fault p S G r g w ts rest e = let k = r.stops ts w rest e in (k.before, k.parts, stopped_first p S G r g w ts rest k)
+first_fault p S G r g w ts rest e = let k = r.stops ts w rest e in first_from p S (judges_read p S G r) w ts rest e (k.before, k.parts, stopped_wrong p S G r g w ts rest k)
 
-fault_of_whole : {A : Type 0} (S : Grammar A) (before : List Token) (w : Why) (rest : List Token) → IsFirstFault (also S ended) before w rest → IsFirstFault S before w rest
-fault_of_whole S before Unexpected rest ((x, more, s), none) = ((x, more, of_whole S x (clean before ++ more) None s), λ y ms us d q h. none y ms us (to_whole S y ms d) q h)
-fault_of_whole S before (Marked m) [] f = absurd f
-fault_of_whole S before (Marked m) (t ∷ rest) ((x, more, s), none) = ((x, more, of_whole S x (clean before ++ (t, Some m) ∷ more) None s), λ y us d n. none y us (to_whole S y (clean before ++ (t, None) ∷ us) d) n)
+wrong_of_whole : {A : Type 0} (S : Grammar A) (before : List Token) (w : Why) (rest : List Token) → IsWrong (also S ended) before w rest → IsWrong S before w rest
+wrong_of_whole S before Unexpected rest ((x, more, s), none) = ((x, more, of_whole S x (clean before ++ more) None s), λ y ms us d q h. none y ms us (to_whole S y ms d) q h)
+wrong_of_whole S before (Marked m) [] f = absurd f
+wrong_of_whole S before (Marked m) (t ∷ rest) ((x, more, s), none) = ((x, more, of_whole S x (clean before ++ (t, Some m) ∷ more) None s), λ y us d n. none y us (to_whole S y (clean before ++ (t, None) ∷ us) d) n)
+
+-- reading a list whole judges it
+pub judges_whole : {A : Type 0} (p : Read A) (S : Grammar A) (G : Option Token → Type 0) → Reads p S G → G None → Judges (read_whole p) S
+judges_whole p S G r g =
+    let j = judges_read (read_whole p) (also S ended) (λ n. n ≡ None) (reads_whole p S G r g) in
+    record { tells = λ x ms s. j.tells x ms (to_whole S x ms s); firm = j.firm; past = j.past }
+
+-- where a list is wrong that is read whole
+pub whole_wrong : {A : Type 0} (p : Read A) (S : Grammar A) (G : Option Token → Type 0) → Reads p S G → G None → (w : Why) (ts : List Token) (rest : List Token) → read_whole p ts ≡ Err (w, rest) → (before : List Token) × (ts ≡ before ++ rest) × IsWrong S before w rest
+whole_wrong p S G r g w ts rest e =
+    let whole = reads_whole p S G r g in
+    let k = whole.stops ts w rest e in
+    (k.before, k.parts, wrong_of_whole S k.before w rest (stopped_wrong (read_whole p) (also S ended) (λ n. n ≡ None) whole refl w ts rest k))
 
 pub whole_fault : {A : Type 0} (p : Read A) (S : Grammar A) (G : Option Token → Type 0) → Reads p S G → G None → (w : Why) (ts : List Token) (rest : List Token) → read_whole p ts ≡ Err (w, rest) → (before : List Token) × (ts ≡ before ++ rest) × IsFirstFault S before w rest
-whole_fault p S G r g w ts rest e =
-    let f = first_fault (read_whole p) (also S ended) (λ n. n ≡ None) (reads_whole p S G r g) refl w ts rest e in
-    (f.0, f.1, fault_of_whole S f.0 w rest f.2)
+whole_fault p S G r g w ts rest e = first_from (read_whole p) S (judges_whole p S G r g) w ts rest e (whole_wrong p S G r g w ts rest e)
 
 -- ---- what a reader answers
 

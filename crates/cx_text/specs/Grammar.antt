@@ -81,12 +81,16 @@ BeginsMarked {A} S before t mark = (x : A) × (more : List Item) × S x (clean b
 abbrev pub NoneUnmarked : {A : Type 0} → Grammar A → List Token → Token → Option Token → Type 0
 NoneUnmarked {A} S before t behind = (x : A) (more : List Item) → S x (clean before ++ (t, None) ∷ more) None → next_of more None ≡ behind → ⊥
 
--- What is wrong first, after `before` and with the first of the rest. A mark counts where the list can't go on without it,
--- with this token and the one behind it.
+-- What is wrong after `before`, with the first of the rest: no list goes on with it, or it has a mark. A mark counts where
+-- the list can't go on without it, with this token and the one behind it.
+abbrev pub IsWrong : {A : Type 0} → Grammar A → List Token → Why → List Token → Type 0
+IsWrong S before Unexpected rest = Begins S before × NoneBegins S before (head rest)
+IsWrong S before (Marked mark) [] = ⊥
+IsWrong S before (Marked mark) (t ∷ rest) = BeginsMarked S before t mark × NoneUnmarked S before t (head rest)
+
+-- what is wrong first: after no shorter beginning anything is
 abbrev pub IsFirstFault : {A : Type 0} → Grammar A → List Token → Why → List Token → Type 0
-IsFirstFault S before Unexpected rest = Begins S before × NoneBegins S before (head rest)
-IsFirstFault S before (Marked mark) [] = ⊥
-IsFirstFault S before (Marked mark) (t ∷ rest) = BeginsMarked S before t mark × NoneUnmarked S before t (head rest)
+IsFirstFault S before why rest = IsWrong S before why rest × ((early : List Token) (t : Token) (late : List Token) (other : Why) → before ≡ early ++ t ∷ late → IsWrong S early other (t ∷ late ++ rest) → ⊥)
 
 -- the line of the last token, or 1 where there is none
 abbrev pub last_line : List Token → ℕ
