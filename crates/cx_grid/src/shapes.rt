@@ -70,14 +70,14 @@ fn remainder(n: i32, c: i32) -> i32
     if 0 <= c && c < n { c } else { c.rem_euclid(n) }
 }
 
-/// The nearest point of the interior: each coordinate of a direction that isn't periodic is moved there.
+/// The nearest point of the interior: each coordinate of a direction that isn't periodic is moved there. In a direction of
+/// less than 2g + 1 points, which has no interior, it is moved to g, the width of the ghost zone.
 pub fn clamp(shape: &Shape, p: Point) -> Point
-    requires shape { IsShape shape.now }
-    requires interior { HasInterior shape.now }
+    requires { IsShape shape.now }
     ensures value { result ≡ source shape.now p }
-    ensures interior { is_boundary shape.now result ≡ false }
-    ensures near { IsNearGrid shape.now result }
-    ensures inside { IsIn (whole shape.now) p → IsIn (whole shape.now) result }
+    ensures interior { HasInterior shape.now → is_boundary shape.now result ≡ false }
+    ensures near { HasInterior shape.now → IsNearGrid shape.now result }
+    ensures inside { HasInterior shape.now → IsIn (whole shape.now) p → IsIn (whole shape.now) result }
 {
     Point {
         x: clamped(shape.periodic[0], shape.n.x, shape.ghost_.x, p.x),
@@ -89,13 +89,12 @@ pub fn clamp(shape: &Shape, p: Point) -> Point
 fn clamped(periodic: bool, n: i32, ghosts: i32, c: i32) -> i32
     requires ghosts { (pos 0 ≤ℤ ghosts) × (ghosts ≤ℤ pos 8) }
     requires n { (pos 1 ≤ℤ n) × (n ≤ℤ pos 16777216) }
-    requires wide { IsTrue periodic ⊎ ((pos 2 *ℤ ghosts +ℤ pos 1) ≤ℤ n) }
     ensures value { result ≡ (if periodic then c else int_max ghosts (int_min c (n -ℤ ghosts -ℤ pos 1))) }
 {
     if periodic {
         c
     } else {
-        c.clamp(ghosts, n - ghosts - 1)
+        c.min(n - ghosts - 1).max(ghosts)
     }
 }
 

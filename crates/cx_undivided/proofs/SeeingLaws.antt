@@ -1,13 +1,15 @@
 -- What is seen around a point.
-use Rattle.std.proofs.Common.{◌≡◌, ℕ, zero, suc, ◌+◌, ◌*◌, ◌^◌, ◌<◌, ◌≤◌, Bool, true, false, arith, refl, sym, ap, ◌∙◌, ℤ, pos, neg_ℤ, negsuc, ◌≤ℤ◌, nat_lt, if◌then◌else◌, List, [], ◌∷◌, ◌++◌, map, length, replicate, get_or, append_assoc, mul-le-mul_left, zero-add, subst}
+use Rattle.std.proofs.Common.{◌≡◌, ℕ, zero, suc, ◌+◌, ◌*◌, ◌^◌, ◌<◌, ◌≤◌, Bool, true, false, arith, refl, sym, ap, ◌∙◌, ℤ, pos, neg_ℤ, negsuc, ◌≤ℤ◌, ◌-ℤ◌, nat_lt, if◌then◌else◌, List, [], ◌∷◌, ◌++◌, map, length, replicate, get_or, append_assoc, mul-le-mul_left, zero-add, subst}
 use Rattle.std.specs.List.{range_with_len}
-use Rattle.std.proofs.lemmas.Int.{ints}
+use Rattle.std.specs.Int.{int_min, int_max}
+use Rattle.std.proofs.lemmas.Int.{ints, clamps}
 use Rattle.std.proofs.lemmas.List.{map-append}
 use Rattle.std.proofs.lemmas.List.FromFn.{length-map-range_with_len, get_or-map-range_with_len}
 use Rattle.cx_grid.specs.declared.boxes.Point.{Point}
 use Rattle.cx_grid.specs.declared.boxes.Box3.{Box3}
 use Rattle.cx_grid.specs.Boxes.{IsOn, IsIn, point_count, point_in, points_in, numbers_in, shifted}
-use Rattle.cx_grid.specs.Grid.{at}
+use Rattle.cx_grid.specs.declared.shapes.Shape.{Shape}
+use Rattle.cx_grid.specs.Grid.{at, IsAxis, IsShape, is_periodic, source, whole}
 use Rattle.cx_grid.specs.Windows.{reach_box}
 use Rattle.cx_grid.proofs.Places.{point_inside}
 use Rattle.cx_plan.specs.declared.item.Touch.{Touch}
@@ -38,6 +40,25 @@ offset_close dims reach o small on =
     let x = side_close (nat_lt 0 dims) reach o.x small on.x in
     let y = side_close (nat_lt 1 dims) reach o.y small on.y in
     let z = side_close (nat_lt 2 dims) reach o.z small on.z in
+    record { least_x = x.0; most_x = x.1; least_y = y.0; most_y = y.1; least_z = z.0; most_z = z.1 }
+
+-- the interior's nearest point to a point of the grid is close
+axis_close : (periodic : Bool) (n g c : ℤ) → IsAxis n g → IsOn (pos 0) n c
+    → (negsuc 33554432 ≤ℤ (if periodic then c else int_max g (int_min c (n -ℤ g -ℤ pos 1)))) × ((if periodic then c else int_max g (int_min c (n -ℤ g -ℤ pos 1))) ≤ℤ pos 33554432)
+axis_close true n g c axis on = (let from = on.from in omega (arith, ints, from), let below = on.below in let most = axis.most in omega (arith, ints, below, most))
+axis_close false n g c axis on =
+    let from = on.from in
+    let below = on.below in
+    let most = axis.most in
+    let least = axis.least_ghosts in
+    let few = axis.most_ghosts in
+    (omega (arith, ints, clamps, from, below, most, least, few), omega (arith, ints, clamps, from, below, most, least, few))
+
+pub source_close : (s : Shape) (p : Point) → IsShape s → IsIn (whole s) p → IsClose (source s p)
+source_close s p h on =
+    let x = axis_close (is_periodic s 0) s.n.x s.ghost_.x p.x h.x on.x in
+    let y = axis_close (is_periodic s 1) s.n.y s.ghost_.y p.y h.y on.y in
+    let z = axis_close (is_periodic s 2) s.n.z s.ghost_.z p.z h.z on.z in
     record { least_x = x.0; most_x = x.1; least_y = y.0; most_y = y.1; least_z = z.0; most_z = z.1 }
 
 -- a point that stands among a box's points lies in it

@@ -3,7 +3,6 @@ use Rattle.std.specs.Prelude.{ℕ, ◌≡◌, ◌≤ℤ◌, pos, negsuc, true, L
 use Rattle.cx_grid.specs.declared.boxes.Point.{Point}
 use Rattle.cx_grid.specs.Grid.{IsShape}
 use Rattle.cx_plan.specs.declared.item.Item.{Item}
-use Rattle.cx_plan.specs.declared.item.Touch.{Touch}
 use Rattle.cx_plan.specs.declared.job.Job.{Job}
 use Rattle.cx_plan.specs.Regions.{has_shape, HasShapes}
 use Rattle.cx_plan.specs.Setups.{Setup, setup_of}
@@ -14,6 +13,7 @@ use Rattle.cx_rule.specs.Seen.{volumes}
 use Rattle.cx_rule.specs.declared.spec.Spec.{Spec}
 use Rattle.cx_model.specs.States.{State, IsState}
 use Rattle.cx_model.specs.Traces.{Trace, Goes, Ends}
+use Rattle.cx_model.specs.Turns.{reach_of}
 use Rattle.cx_model.specs.Work.{points_computed}
 use Rattle.cx_undivided.specs.declared.faults.Stop.{Stop}
 use Rattle.cx_undivided.specs.declared.faults.Stop.TheVariants as stops
@@ -42,9 +42,6 @@ pub record IsClose (p : Point) : Type 0 where
   pub most_y : p.y ≤ℤ pos 33554432
   pub least_z : negsuc 33554432 ≤ℤ p.z
   pub most_z : p.z ≤ℤ pos 33554432
-
-abbrev pub reach_of : Touch → ℕ
-reach_of r = r.reach
 
 -- the window, the place and the numbers are those of an item in an iteration
 pub record IsBench (setup : Setup) (x : Item) (iteration : ℕ) (bench : Bench) : Type 0 where

@@ -1,8 +1,7 @@
 //! The turn of an item over all points of its region.
-ghost use Rattle.std.specs.Prelude.{◌≡◌, ◌≤ℤ◌, ◌-ℤ◌, ◌∷◌, [], pos, map, length, filter, true, false, OnOk, IsErrOf, if◌then◌else◌};
-ghost use Rattle.std.specs.Int.{int_min, int_max};
-ghost use Rattle.cx_grid.specs.Boxes.{IsIn, IsOn, points_in};
-ghost use Rattle.cx_grid.specs.Grid.{IsShape, whole, source};
+ghost use Rattle.std.specs.Prelude.{◌≡◌, ◌∷◌, [], map, length, filter, true, false, OnOk, IsErrOf};
+ghost use Rattle.cx_grid.specs.Boxes.{IsIn, points_in};
+ghost use Rattle.cx_grid.specs.Grid.{IsShape, whole};
 ghost use Rattle.cx_plan.specs.Regions.{region_of};
 ghost use Rattle.cx_plan.specs.Setups.{setup_of};
 ghost use Rattle.cx_plan.specs.declared.item.ItemKind.{ItemKind};
@@ -19,7 +18,7 @@ use crate::points::{Bench, bench_for, compute};
 use crate::staged::Staged;
 use crate::state::State;
 use crate::values::value_at;
-use cx_grid::{Point, Shape, is_boundary, rows, whole};
+use cx_grid::{Point, Shape, clamp, is_boundary, rows, whole};
 use cx_plan::{Item, Job, Region, Touch};
 use cx_rule::{Cells, Meter, Routine};
 use std::alloc::Global;
@@ -145,36 +144,7 @@ fn window_point(shape: &Shape, region: Region, p: Point) -> Point
     ensures close { IsClose result }
 {
     match region {
-        Region::Boundary => source_of(shape, p),
+        Region::Boundary => clamp(shape, p),
         Region::Interior | Region::Everywhere => p,
-    }
-}
-
-/// The nearest point of the interior, if there is one: each coordinate of a direction that isn't periodic is moved there.
-fn source_of(shape: &Shape, p: Point) -> Point
-    requires shape { IsShape shape.now }
-    requires point { IsIn (whole shape.now) p }
-    ensures value { result ≡ source shape.now p }
-    ensures close { IsClose result }
-{
-    Point {
-        x: source_along(shape.periodic[0], shape.n.x, shape.ghost_.x, p.x),
-        y: source_along(shape.periodic[1], shape.n.y, shape.ghost_.y, p.y),
-        z: source_along(shape.periodic[2], shape.n.z, shape.ghost_.z, p.z),
-    }
-}
-
-fn source_along(periodic: bool, n: i32, ghosts: i32, c: i32) -> i32
-    requires ghosts { (pos 0 ≤ℤ ghosts) × (ghosts ≤ℤ pos 8) }
-    requires n { (pos 1 ≤ℤ n) × (n ≤ℤ pos 16777216) }
-    requires on { IsOn (pos 0) n c }
-    ensures value { result ≡ (if periodic then c else int_max ghosts (int_min c (n -ℤ ghosts -ℤ pos 1))) }
-    ensures least { pos 0 ≤ℤ result }
-    ensures most { result ≤ℤ pos 16777216 }
-{
-    if periodic {
-        c
-    } else {
-        c.min(n - ghosts - 1).max(ghosts)
     }
 }

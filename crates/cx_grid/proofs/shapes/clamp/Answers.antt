@@ -25,13 +25,13 @@ returns-clause-value c =
     (to_z-of_z w32 _ rz ∙ simp to_z-of_z at c.clamped-3.ensures.value)
 
 pub returns-clause-interior : goal.returns-clause-interior
-returns-clause-interior c =
-    ap (is_boundary c.args.shape.now) (returns-clause-value c) ∙ interior c.args.shape.now c.args.p c.requires.shape c.requires.interior
+returns-clause-interior c wide =
+    ap (is_boundary c.args.shape.now) (returns-clause-value c) ∙ interior c.args.shape.now c.args.p c.requires wide
 
 pub returns-clause-near : goal.returns-clause-near
-returns-clause-near c =
-    rw (returns-clause-value c) (near c.args.shape.now c.args.p c.requires.shape c.requires.interior)
+returns-clause-near c wide =
+    rw (returns-clause-value c) (near c.args.shape.now c.args.p c.requires wide)
 
 pub returns-clause-inside : goal.returns-clause-inside
-returns-clause-inside c =
-    rw (returns-clause-value c) (inside c.args.shape.now c.args.p c.requires.shape c.requires.interior)
+returns-clause-inside c wide =
+    rw (returns-clause-value c) (inside c.args.shape.now c.args.p c.requires wide)
