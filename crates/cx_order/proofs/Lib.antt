@@ -42,3 +42,4 @@ pub mod OnlyOrders
 pub mod OnlySights
 pub mod OnlyMeanings
 pub mod OnlyPlan
+pub mod OnlyFaults

@@ -28,7 +28,7 @@ use Rattle.cx_order.proofs.OnlySights.{Each, IsThere}
 use Rattle.cx_order.proofs.OnlyMeanings.{each-of, Grows, forests-grow, same-fault, same-items, same-trees, same-text, same-meaning, same-storage, same-storage-fault}
 
 -- the same plan and the same fault
-record Same (input : Input) (c : Counted) (a : Sight) (o : Orders) (d : Counted) (b : Sight) (q : Orders) : Type 0 where
+pub record Same (input : Input) (c : Counted) (a : Sight) (o : Orders) (d : Counted) (b : Sight) (q : Orders) : Type 0 where
   pub plans : planned input c a o ≡ planned input d b q
   pub faults : scope_fault input c a o ≡ scope_fault input d b q
 
@@ -76,10 +76,10 @@ one-ok : (r : Result Counted OrderFault) (c d : Counted) → r ≡ Ok c → r �
 one-ok r c d h k = cc (h, k)
 
 module _ (input : Input) where
-  one-counted : (c d : Counted) → all_counted input ≡ Ok c → all_counted input ≡ Ok d → c ≡ d
+  pub one-counted : (c d : Counted) → all_counted input ≡ Ok c → all_counted input ≡ Ok d → c ≡ d
   one-counted c d h k = one-ok (all_counted input) c d h k
 
-  same : (c d : Counted) (a b : Sight) (o q : Orders) → AreOrders input c a o → AreOrders input d b q → Same input c a o d b q
+  pub same : (c d : Counted) (a b : Sight) (o q : Orders) → AreOrders input c a o → AreOrders input d b q → Same input c a o d b q
   same c d a b o q x y =
       let entries : c ≡ d = one-counted c d x.are_entries.counted y.are_entries.counted in
       let L : Counted → Type 0 = λ z. AreLeast z.entries q in
@@ -93,10 +93,10 @@ module _ (input : Input) where
       let s = same x.c y.c x.sight y.sight x.orders y.orders x.are_orders y.are_orders in
       x.is_planned ∙ s.plans ∙ sym y.is_planned
 
-  none-and-some : (o : Option OrderFault) (e : OrderFault) → o ≡ None → o ≡ Some e → ⊥
+  pub none-and-some : (o : Option OrderFault) (e : OrderFault) → o ≡ None → o ≡ Some e → ⊥
   none-and-some o e h k = cc (h, k)
 
-  ok-and-err : (r : Result Counted OrderFault) (c : Counted) (e : OrderFault) → r ≡ Ok c → r ≡ Err e → ⊥
+  pub ok-and-err : (r : Result Counted OrderFault) (c : Counted) (e : OrderFault) → r ≡ Ok c → r ≡ Err e → ⊥
   ok-and-err r c e h k = cc (h, k)
 
   -- where there is a plan there is no fault

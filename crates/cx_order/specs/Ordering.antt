@@ -1,11 +1,11 @@
 -- What ordering answers.
-use Rattle.std.specs.Prelude.{◌≡◌, ◌⊎◌, ℕ, List, Option, Some, None, Result, Ok, Err}
+use Rattle.std.specs.Prelude.{◌≡◌, ◌⊎◌, ℕ, List, [], Option, Some, None, Result, Ok, Err}
 use Rattle.std.specs.List.{flat_map}
 use Rattle.cx_plan.specs.Lists.{or_else}
 use Rattle.cx_scope.specs.Sight.{Sight, Tells}
 use Rattle.cx_order.specs.declared.ordered.Ordered.{Ordered}
 use Rattle.cx_order.specs.declared.fault.OrderFault.{OrderFault}
-use Rattle.cx_order.specs.declared.fault.OrderFault.TheVariants.{GroupCycle, Cycle, Memory}
+use Rattle.cx_order.specs.declared.fault.OrderFault.TheVariants.{Expr, UnknownBin, TwoNames, GroupCycle, Cycle, Scope, Limit, Memory}
 use Rattle.cx_order.specs.Counted.{Counted}
 use Rattle.cx_order.specs.Files.{Input, all_counted}
 use Rattle.cx_order.specs.Entries.{bin_fault, names_fault}
@@ -100,6 +100,17 @@ pub data IsFault (input : Input) (fault : OrderFault) : Type 0 where
   of_entries : IsOfEntries input fault → IsFault input fault
   of_scope : IsScopeFault input fault → IsFault input fault
   of_limit : IsLimitFault input fault → IsFault input fault
+
+-- What a fault tells beside the cycle that it shows: of several cycles any may be shown.
+abbrev pub without_cycle : OrderFault → OrderFault
+without_cycle (GroupCycle names) = GroupCycle []
+without_cycle (Cycle names) = Cycle []
+without_cycle (Expr thorn fault) = Expr thorn fault
+without_cycle (UnknownBin name) = UnknownBin name
+without_cycle (TwoNames name) = TwoNames name
+without_cycle (Scope path fault) = Scope path fault
+without_cycle (Limit name count) = Limit name count
+without_cycle Memory = Memory
 
 abbrev pub OrderAnswers : Input → Result Ordered OrderFault → Type 0
 OrderAnswers input (Ok ordered) = IsPlan input ordered

@@ -12,6 +12,7 @@ pub mod JobLaws
 pub mod JoinLaws
 pub mod LevelLaws
 pub mod MeetLaws
+pub mod OnlyFaults
 pub mod PathLaws
 pub mod RangeLaws
 pub mod SampleLaws
