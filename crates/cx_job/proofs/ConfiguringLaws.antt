@@ -1,5 +1,5 @@
 -- The files of several thorns, read one thorn after another.
-use Rattle.std.proofs.Common.{◌≡◌, ◌∙◌, sym, ap, subst, refl, ◌<◌, ◌≤◌, ◌+◌, ◌⊎◌, inl, inr, ℕ, List, [], ◌∷◌, ◌++◌, length, drop, get_or, Result, Ok, Err, IsErr, IfOk}
+use Rattle.std.proofs.Common.{◌≡◌, ◌∙◌, sym, ap, subst, refl, ◌<◌, ◌≤◌, ◌+◌, ◌⊎◌, inl, inr, ℕ, List, [], ◌∷◌, ◌++◌, length, drop, get_or, Result, Ok, Err, IfOk}
 use Rattle.std.proofs.lemmas.List.{append_assoc, append-nil, length-map}
 use Rattle.cx_parfile.specs.declared.settings.Settings.{Settings}
 use Rattle.cx_values.proofs.Along.{left_over}
@@ -17,11 +17,9 @@ abbrev err : (A : Type 0) → JobFault → Result A JobFault
 err A e = Err e
 
 -- where two stages come to the same
-pub same_stage : {A : Type 0} (tells : Type 0) (p q : Held → Stage A) (h0 h1 : Held) (f0 f1 : ℕ) (r : Result A JobFault) → ((h : Held) (s : Result A JobFault) → p h s → q h s) → ((h : Held) (s : Result A JobFault) → q h s → p h s) → Follows tells p h0 h1 f0 f1 r → Follows tells q h0 h1 f0 f1 r
-same_stage {A} tells p q h0 h1 f0 f1 r to from a = record {
+pub same_stage : {A : Type 0} (tells : Type 0) (p q : Held → Stage A) (h0 h1 : Held) (f0 f1 : ℕ) (r : Result A JobFault) → ((h : Held) (s : Result A JobFault) → p h s → q h s) → Follows tells p h0 h1 f0 f1 r → Follows tells q h0 h1 f0 f1 r
+same_stage {A} tells p q h0 h1 f0 f1 r to a = record {
   answers = λ t. onward (a.answers t);
-  only = λ t y s. a.only t y (from h0 (Ok y) s);
-  faulty = λ t f s. a.faulty t f (from h0 (Err f) s);
   same = a.same;
   cause = a.cause;
 }
@@ -33,11 +31,11 @@ same_stage {A} tells p q h0 h1 f0 f1 r to from a = record {
 
 -- what is made with no more reading
 pub came_of : {A : Type 0} (tells : Type 0) (p : Held → Stage A) (h : Held) (f : ℕ) (r : Result A JobFault) → Comes (p h) r → Follows tells p h h f f r
-came_of tells p h f r c = let a = came tells (p h) h f r c in record { answers = a.answers; only = a.only; faulty = a.faulty; same = a.same; cause = a.cause }
+came_of tells p h f r c = let a = came tells (p h) h f r c in record { answers = a.answers; same = a.same; cause = a.cause }
 
 -- want of memory
 pub forgot : {A : Type 0} (tells : Type 0) (p : Held → Stage A) (h : Held) (f : ℕ) → Follows tells p h h f f (err A faults.Memory)
-forgot {A} tells p h f = came_of tells p h f (err A faults.Memory) (record { answers = inl refl; only = λ x s. refl; faulty = λ f s. refl; no_shelf = λ z. absurd cc })
+forgot {A} tells p h f = came_of tells p h f (err A faults.Memory) (record { answers = inl refl; no_shelf = λ z. absurd cc })
 
 -- ---- some thorns' files, with others behind them
 
@@ -56,16 +54,6 @@ module _ {A : Type 0} (p : Stage A) (q : Stage (List A)) (said : List A) where
   grouped r (inr (t, s, inl (e, u, z))) = inl (e, inr (t, s, inl (e, u, refl)), z)
   grouped r (inr (t, s, inr (more, u, z))) = inr (t ∷ more, inr (t, s, inr (more, u, refl)), z ∙ ap (λ (xs : List A). Ok xs) (append_assoc said (t ∷ []) more))
 
-  pub split : (r : Result (List A) JobFault) → All r → One r
-  split r (inl (e, inl (f, s, y), z)) = inl (f, s, z ∙ y)
-  split r (inl (e, inr (t, s, inl (f, u, y)), z)) = inr (t, s, inl (f, u, z ∙ y))
-  split r (inl (e, inr (t, s, inr (ts, u, y)), z)) = absurd cc
-  split r (inr (more, inl (f, s, y), z)) = absurd cc
-  split r (inr (more, inr (t, s, inl (f, u, y)), z)) = absurd cc
-  split r (inr (more, inr (t, s, inr (ts, u, y)), z)) =
-      let same : more ≡ t ∷ ts = cc in
-      inr (t, s, inr (ts, u, z ∙ ap (λ (xs : List A). Ok (said ++ xs)) same ∙ ap (λ (xs : List A). Ok xs) (sym (append_assoc said (t ∷ []) ts))))
-
 -- what the thorns at these places say, behind what others said
 abbrev pub Rest : List ThornFiles → List (List ℕ × List ℕ) → Held → Stage (List ThornFiles)
 Rest said places files = Then (ThornsSay places files) (λ more. Is (Ok (said ++ more)))
@@ -74,10 +62,6 @@ none_before : (p : Stage (List ThornFiles)) (r : Result (List ThornFiles) JobFau
 none_before p r (inl (e, s, z)) = subst (λ (v : Result (List ThornFiles) JobFault). p v) (sym z) s
 none_before p r (inr (x, s, z)) = subst (λ (v : Result (List ThornFiles) JobFault). p v) (sym z) s
 
-with_none : (p : Stage (List ThornFiles)) (r : Result (List ThornFiles) JobFault) → p r → Then p (λ more. Is (Ok ([] ++ more))) r
-with_none p (Ok x) s = inr (x, s, refl)
-with_none p (Err e) s = inl (e, s, refl)
-
 -- What was said and what is still to come is what all comes to.
 abbrev pub Leads : Type 0 → List (List ℕ × List ℕ) → Held → ℕ → List ThornFiles → List (List ℕ × List ℕ) → Held → ℕ → Type 0
 Leads tells places h0 f0 said left h1 f1 =
@@ -85,17 +69,17 @@ Leads tells places h0 f0 said left h1 f1 =
 
 module _ (tells : Type 0) (places : List (List ℕ × List ℕ)) (h0 : Held) (f0 : ℕ) where
   none_said : Leads tells places h0 f0 [] places h0 f0
-  none_said h2 f2 r a = same_stage tells (Rest [] places) (ThornsSay places) h0 h2 f0 f2 r (λ h s. none_before (ThornsSay places h) s) (λ h s. with_none (ThornsSay places h) s) a
+  none_said h2 f2 r a = same_stage tells (Rest [] places) (ThornsSay places) h0 h2 f0 f2 r (λ h s. none_before (ThornsSay places h) s) a
 
   leads_more : (place : List ℕ × List ℕ) (rest : List (List ℕ × List ℕ)) (said : List ThornFiles) (t : ThornFiles) (h1 h2 : Held) (f1 f2 : ℕ) → Follows tells (ThornSays place (file_names place)) h1 h2 f1 f2 (Ok t) → Leads tells places h0 f0 said (place ∷ rest) h1 f1 → Leads tells places h0 f0 (said ++ t ∷ []) rest h2 f2
   leads_more place rest said t h1 h2 f1 f2 read before h3 f3 r a =
       let both = passed tells (ThornSays place (file_names place)) (λ h t. Rest (said ++ t ∷ []) rest h) h1 h2 h3 f1 f2 f3 t r read a in
-      before h3 f3 r (same_stage tells (λ h. One (ThornSays place (file_names place) h) (ThornsSay rest h) said) (Rest said (place ∷ rest)) h1 h3 f1 f3 r (λ h s. grouped (ThornSays place (file_names place) h) (ThornsSay rest h) said s) (λ h s. split (ThornSays place (file_names place) h) (ThornsSay rest h) said s) both)
+      before h3 f3 r (same_stage tells (λ h. One (ThornSays place (file_names place) h) (ThornsSay rest h) said) (Rest said (place ∷ rest)) h1 h3 f1 f3 r (λ h s. grouped (ThornSays place (file_names place) h) (ThornsSay rest h) said s) both)
 
   leads_halt : (place : List ℕ × List ℕ) (rest : List (List ℕ × List ℕ)) (said : List ThornFiles) (e : JobFault) (h1 h2 : Held) (f1 f2 : ℕ) → Follows tells (ThornSays place (file_names place)) h1 h2 f1 f2 (Err e) → Leads tells places h0 f0 said (place ∷ rest) h1 f1 → Follows tells (ThornsSay places) h0 h2 f0 f2 (err (List ThornFiles) e)
   leads_halt place rest said e h1 h2 f1 f2 read before =
       let both = halted {B = List ThornFiles} tells (ThornSays place (file_names place)) (λ h t. Rest (said ++ t ∷ []) rest h) h1 h2 f1 f2 e read in
-      before h2 f2 (Err e) (same_stage tells (λ h. One (ThornSays place (file_names place) h) (ThornsSay rest h) said) (Rest said (place ∷ rest)) h1 h2 f1 f2 (Err e) (λ h s. grouped (ThornSays place (file_names place) h) (ThornsSay rest h) said s) (λ h s. split (ThornSays place (file_names place) h) (ThornsSay rest h) said s) both)
+      before h2 f2 (Err e) (same_stage tells (λ h. One (ThornSays place (file_names place) h) (ThornsSay rest h) said) (Rest said (place ∷ rest)) h1 h2 f1 f2 (Err e) (λ h s. grouped (ThornSays place (file_names place) h) (ThornsSay rest h) said s) both)
 
   -- ---- the places that are left
 
@@ -122,21 +106,8 @@ module _ (tells : Type 0) (places : List (List ℕ × List ℕ)) (h0 : Held) (f0
   at_end : (said : List ThornFiles) (h1 : Held) → Comes (Rest said [] h1) (Ok said)
   at_end said h1 = record {
     answers = inr (inr ([], refl, ap (λ (xs : List ThornFiles). Ok xs) (sym (append-nil said))));
-    only = only;
-    faulty = faulty;
     no_shelf = λ z. absurd cc;
   }
-    where
-      faulty : (e : JobFault) → Rest said [] h1 (Err e) → IsErr {E = JobFault} (Ok said)
-      faulty e (inl (f, s, z)) = absurd cc
-      faulty e (inr (more, m, z)) = absurd cc
-
-      only : (x : List ThornFiles) → Rest said [] h1 (Ok x) → said ≡ x
-      only x (inl (f, s, z)) = absurd cc
-      only x (inr (more, m, z)) =
-          let none : more ≡ [] = cc in
-          let same : x ≡ said ++ more = cc in
-          sym (same ∙ ap (λ (xs : List ThornFiles). said ++ xs) none ∙ append-nil said)
 
   pub leads_all : (k : ℕ) (said : List ThornFiles) (h1 : Held) (f1 : ℕ) → length places ≤ k → LeadsAt said k h1 f1 → Follows tells (ThornsSay places) h0 h1 f0 f1 (Ok said)
   leads_all k said h1 f1 past before =

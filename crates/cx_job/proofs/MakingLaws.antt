@@ -1,6 +1,6 @@
 -- The stages from thorns to a job, one behind another.
 use Rattle.std.proofs.Common.{◌≡◌, ◌≢◌, ◌∙◌, sym, ap, subst, refl, ◌⊎◌, inl, inr, ℕ, Bool, true, false, List, [], ◌∷◌, map, Option, Some, None, Result, Ok, Err, nat_lt, take, codes, if◌then◌else◌, arith}
-use Rattle.std.specs.Prelude.{option_map, IsErr, MatchResult}
+use Rattle.std.specs.Prelude.{option_map}
 use Rattle.std.specs.List.{enumerate_from}
 use Rattle.cx_plan.specs.Lists.{all_ok, with_next, or_else, first_of_each}
 use Rattle.cx_plan.specs.declared.item.Item.{Item}
@@ -33,7 +33,7 @@ use Rattle.cx_job.specs.Reading.{Stage, Then, Follows}
 use Rattle.cx_job.specs.JobLimits.{over, writes_fault, reads_fault, parameters_fault, each_limit, item_limits, points_fault, cells_fault, grid_limits, key_limit, limit_fault}
 use Rattle.cx_job.specs.Matching.{completed, matched, matched_by, spec_at, with_routine, matched_if_run, all_matched, fits, mismatch, offer, routine_number, thorn_number}
 use Rattle.cx_job.specs.Making.{Is, unless, or_fault, Orders, Matches, Accepts, LimitsAnd, ItemsAnd, OutputsAnd, PlanAnd, ValuesAnd, MadeOf, Made, Makes, Configures, Yields, written, within_limits, run_count}
-use Rattle.cx_job.proofs.OnlyMade.{made_one}
+use Rattle.cx_job.proofs.OnlyFiles.{Comes, only_job, only_fault}
 
 abbrev err : (A : Type 0) → JobFault → Result A JobFault
 err A e = Err e
@@ -208,59 +208,31 @@ module _ (specs : List Spec) where
   made_answers name files c r (inr (inr s)) (inl m) = inl m
   made_answers name files c r (inr (inr s)) (inr t) = inr (inr (inr (c, s, t)))
 
-  -- where a stage gives its value, a job is made of this
-  pass_only : (name : List ℕ) (files : Held) (c : Configured) (r : Result Job JobFault) (job : Job) → ((d : Configured) → Configures name files (Ok d) → c ≡ d) → Yields (MadeOf specs c) r → Made name specs files (Ok job) → MatchResult r (λ found. found ≡ job) (λ e. (e ≡ faults.Memory) ⊎ (e ≡ faults.Shelf))
-  pass_only name files c r job one b (inl (e, s, z)) = absurd cc
-  pass_only name files c r job one (inl m) (inr (d, s, t)) = subst (λ (v : Result Job JobFault). MatchResult v (λ found. found ≡ job) (λ e. (e ≡ faults.Memory) ⊎ (e ≡ faults.Shelf))) (sym m) (inl refl)
-  pass_only name files c r job one (inr b) (inr (d, s, t)) =
-      let made = made_one specs c job r (subst (λ (v : Configured). MadeOf specs v (Ok job)) (sym (one d s)) t) b in
-      subst (λ (v : Result Job JobFault). MatchResult v (λ found. found ≡ job) (λ e. (e ≡ faults.Memory) ⊎ (e ≡ faults.Shelf))) (sym made) refl
-
-  -- where a stage gives its value, and a fault is made of it, no job is
-  one_fault : (c : Configured) (r : Result Job JobFault) (fault : JobFault) → MadeOf specs c r → MadeOf specs c (err Job fault) → IsErr r
-  one_fault c (Ok job) fault b t = absurd (let no = made_one specs c job (err Job fault) b t in cc)
-  one_fault c (Err e) fault b t = refl
-
-  pass_faulty : (name : List ℕ) (files : Held) (c : Configured) (r : Result Job JobFault) (fault : JobFault) → ((e : JobFault) → Configures name files (err Configured e) → IsErr (okay c)) → ((d : Configured) → Configures name files (Ok d) → c ≡ d) → Yields (MadeOf specs c) r → Made name specs files (err Job fault) → IsErr r
-  pass_faulty name files c r fault none one b (inl (e, s, z)) = absurd (let no = none e s in cc)
-  pass_faulty name files c r fault none one (inl m) (inr (d, s, t)) = subst (λ (v : Result Job JobFault). IsErr v) (sym m) refl
-  pass_faulty name files c r fault none one (inr b) (inr (d, s, t)) = one_fault c r fault b (subst (λ (v : Configured). MadeOf specs v (err Job fault)) (sym (one d s)) t)
-
-  halt_only : (name : List ℕ) (files : Held) (e : JobFault) (job : Job) → ((d : Configured) → Configures name files (Ok d) → (e ≡ faults.Memory) ⊎ (e ≡ faults.Shelf)) → Made name specs files (Ok job) → (e ≡ faults.Memory) ⊎ (e ≡ faults.Shelf)
-  halt_only name files e job one (inl (f, s, z)) = absurd cc
-  halt_only name files e job one (inr (d, s, t)) = one d s
-
-  pub makes_pass : (tells : Type 0) (name : List ℕ) (h0 h1 : Held) (f0 f1 : ℕ) (c : Configured) (r : Result Job JobFault) → Follows tells (Configures name) h0 h1 f0 f1 (Ok c) → Yields (MadeOf specs c) r → Makes tells (Made name specs) h0 h1 f0 f1 r
-  makes_pass tells name h0 h1 f0 f1 c r a b = record {
-    answers = λ t. made_answers name h0 c r (a.answers t) b;
-    only = λ t job made. pass_only name h0 c r job (a.only t) b made;
-    faulty = λ t fault made. pass_faulty name h0 c r fault (a.faulty t) (a.only t) b made;
-    same = a.same;
-    cause = since f0 f1 c r a.cause (yields_not c r b);
+  -- what the files make is one
+  makes_of : (tells : Type 0) (name : List ℕ) (h0 h1 : Held) (f0 f1 : ℕ) (r : Result Job JobFault) → (tells → Comes h0 name specs r) → (tells → h1 ≡ h0) → HasCause faults.Shelf f0 f1 r → Makes tells (Made name specs) h0 h1 f0 f1 r
+  makes_of tells name h0 h1 f0 f1 r answers same cause = record {
+    answers = answers;
+    only = λ t. only_job h0 name specs r (answers t);
+    faulty = λ t. only_fault h0 name specs r (answers t);
+    same = same;
+    cause = cause;
   }
 
-  halt_answers : (name : List ℕ) (files : Held) (e : JobFault) → (err Configured e ≡ err Configured faults.Memory) ⊎ (err Configured e ≡ err Configured faults.Shelf) ⊎ Configures name files (Err e) → (err Job e ≡ err Job faults.Memory) ⊎ (err Job e ≡ err Job faults.Shelf) ⊎ Made name specs files (Err e)
+  pub makes_pass : (tells : Type 0) (name : List ℕ) (h0 h1 : Held) (f0 f1 : ℕ) (c : Configured) (r : Result Job JobFault) → Follows tells (Configures name) h0 h1 f0 f1 (Ok c) → Yields (MadeOf specs c) r → Makes tells (Made name specs) h0 h1 f0 f1 r
+  makes_pass tells name h0 h1 f0 f1 c r a b = makes_of tells name h0 h1 f0 f1 r (λ t. made_answers name h0 c r (a.answers t) b) a.same (since f0 f1 c r a.cause (yields_not c r b))
+
+  halt_answers : (name : List ℕ) (files : Held) (e : JobFault) → (err Configured e ≡ err Configured faults.Memory) ⊎ (err Configured e ≡ err Configured faults.Shelf) ⊎ Configures name files (Err e) → Comes files name specs (err Job e)
   halt_answers name files e (inl m) = inl (moved Job Configured e faults.Memory m)
   halt_answers name files e (inr (inl m)) = inr (inl (moved Job Configured e faults.Shelf m))
   halt_answers name files e (inr (inr s)) = inr (inr (inl (e, s, refl)))
 
   pub makes_halt : (tells : Type 0) (name : List ℕ) (h0 h1 : Held) (f0 f1 : ℕ) (e : JobFault) → Follows tells (Configures name) h0 h1 f0 f1 (Err e) → Makes tells (Made name specs) h0 h1 f0 f1 (err Job e)
-  makes_halt tells name h0 h1 f0 f1 e a = record {
-    answers = λ t. halt_answers name h0 e (a.answers t);
-    only = λ t job made. halt_only name h0 e job (a.only t) made;
-    faulty = λ t fault made. refl;
-    same = a.same;
-    cause = record { later = a.cause.later; failed = λ z. a.cause.failed (moved Configured Job e faults.Shelf z) };
-  }
+  makes_halt tells name h0 h1 f0 f1 e a =
+      makes_of tells name h0 h1 f0 f1 (err Job e) (λ t. halt_answers name h0 e (a.answers t)) a.same
+      (record { later = a.cause.later; failed = λ z. a.cause.failed (moved Configured Job e faults.Shelf z) })
 
   pub makes_memory : (tells : Type 0) (name : List ℕ) (h : Held) (f : ℕ) → Makes tells (Made name specs) h h f f (err Job faults.Memory)
-  makes_memory tells name h f = record {
-    answers = λ t. inl refl;
-    only = λ t job made. inl refl;
-    faulty = λ t fault made. refl;
-    same = λ t. refl;
-    cause = record { later = omega arith; failed = λ z. absurd cc };
-  }
+  makes_memory tells name h f = makes_of tells name h h f f (err Job faults.Memory) (λ t. inl refl) (λ t. refl) (record { later = omega arith; failed = λ z. absurd cc })
 
 -- ---- the limits, one after another
 

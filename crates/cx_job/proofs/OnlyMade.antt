@@ -1,4 +1,4 @@
--- A configuration makes one job, and where it makes one it has no fault.
+-- A configuration makes one job, or it has one fault but for the cycle or the path that is shown.
 use Rattle.std.proofs.Common.{◌≡◌, ◌∙◌, sym, ap, subst, refl, ℕ, ◌+◌, ◌<◌, Bool, true, false, cond, List, [], ◌∷◌, ◌++◌, map, length, Option, Some, None, Result, Ok, Err, inl, inr, arith}
 use Rattle.std.specs.Prelude.{option_map, position, codes, nat_lt, if◌then◌else◌}
 use Rattle.std.specs.List.{flat_map, enumerate_from, position_from}
@@ -7,7 +7,6 @@ use Rattle.std.proofs.lemmas.Iterator.Adapters.{position_from-zero}
 use Rattle.cx_text.specs.Lexemes.{same_name}
 use Rattle.cx_plan.specs.Lists.{all_ok}
 use Rattle.cx_plan.specs.Setups.{Setup, setup_of}
-use Rattle.cx_plan.specs.Lookups.{item}
 use Rattle.cx_plan.specs.Regions.{HasShapes}
 use Rattle.cx_plan.specs.Paths.{Sound}
 use Rattle.cx_plan.specs.declared.item.Item.{Item}
@@ -28,10 +27,11 @@ use Rattle.cx_order.specs.Texts.{touches_text}
 use Rattle.cx_order.specs.declared.ordered.Ordered.{Ordered}
 use Rattle.cx_order.proofs.OnlySights.{same-levels}
 use Rattle.cx_order.proofs.OnlyPlan.{only, never-both}
-use Rattle.cx_region.specs.Shapes.{no_shape, shape_fault}
+use Rattle.cx_order.proofs.OnlyFaults as orders
+use Rattle.cx_region.proofs.OnlyFaults as regions
 use Rattle.cx_region.specs.Checks.{IsRegionFault}
 use Rattle.cx_region.specs.declared.fault.RegionFault.{RegionFault}
-use Rattle.cx_region.proofs.WholeLaws.{none_from_shapes}
+use Rattle.cx_region.proofs.OnlyFaults.{no-shape-fault}
 use Rattle.cx_rule.specs.declared.spec.Spec.{Spec}
 use Rattle.cx_rule.specs.declared.spec.Want.{Want}
 use Rattle.cx_job.specs.declared.fault.JobFault.{JobFault}
@@ -41,24 +41,43 @@ use Rattle.cx_job.specs.declared.matching.Offer.{Offer}
 use Rattle.cx_job.specs.Jobs.{job_of}
 use Rattle.cx_job.specs.Reading.{Stage, Then}
 use Rattle.cx_job.specs.Matching.{thorn_number, only_level, level_of, ref_in, touch_by, touch_of, want_text, wants_text, params_text, enclosed, declared_text, offered_text, all_some, touches_of, numbers_of, offer_by, offer, fits, completed, mismatch, matched_by, spec_at, routine_number, with_routine, matched_if_run, all_matched}
-use Rattle.cx_job.specs.Making.{Is, unless, Orders, Matches, Accepts, LimitsAnd, ItemsAnd, OutputsAnd, PlanAnd, ValuesAnd, MadeOf, written, within_limits, run_count}
+use Rattle.cx_job.specs.Making.{Is, unless, Orders, Matches, Accepts, LimitsAnd, ItemsAnd, OutputsAnd, PlanAnd, ValuesAnd, MadeOf, written, within_limits, run_count, without_witness}
 
 -- ---- stages
 
--- where a stage gives a value, it has no other answer
-abbrev pub IsOne : {A : Type 0} → Stage A → Type 0
-IsOne {A} p = (x : A) (r : Result A JobFault) → p (Ok x) → p r → r ≡ Ok x
+-- where a stage gives a value, it has no other answer, and its faults are one but for what they show
+pub record Settled {A : Type 0} (p : Stage A) : Type 0 where
+  pub one : (x : A) (r : Result A JobFault) → p (Ok x) → p r → r ≡ Ok x
+  pub alike : (e f : JobFault) → p (Err e) → p (Err f) → without_witness e ≡ without_witness f
 
-pub is_one : {A : Type 0} (told : Result A JobFault) → IsOne (Is told)
-is_one told x r s t = t ∙ sym s
+abbrev err : (A : Type 0) → JobFault → Result A JobFault
+err A e = Err e
 
-pub then_one : {A B : Type 0} (p : Stage A) (q : A → Stage B) → IsOne p → ((x : A) → IsOne (q x)) → IsOne (Then p q)
-then_one p q one each y r (inl (e, s, z)) other = absurd cc
-then_one p q one each y r (inr (x, s, t)) (inl (e, u, z)) = absurd (let no = one x (Err e) s u in cc)
-then_one {A} p q one each y r (inr (x, s, t)) (inr (v, u, w)) =
-    let told = one x (Ok v) s u in
+pub same_fault : {A : Type 0} (e f : JobFault) → err A e ≡ err A f → e ≡ f
+same_fault e f h = cc
+
+pub settled_is : {A : Type 0} (told : Result A JobFault) → Settled (Is told)
+settled_is {A} told = record { one = λ x r s t. t ∙ sym s; alike = λ e f s t. ap without_witness (same_fault {A = A} e f (s ∙ sym t)) }
+
+then_one : {A B : Type 0} (p : Stage A) (q : A → Stage B) → Settled p → ((x : A) → Settled (q x)) → (y : B) (r : Result B JobFault) → Then p q (Ok y) → Then p q r → r ≡ Ok y
+then_one p q first each y r (inl (e, s, z)) other = absurd cc
+then_one p q first each y r (inr (x, s, t)) (inl (e, u, z)) = absurd (let no = first.one x (Err e) s u in cc)
+then_one {A} p q first each y r (inr (x, s, t)) (inr (v, u, w)) =
+    let told = first.one x (Ok v) s u in
     let same : v ≡ x = cc in
-    each x y r t (subst (λ (z : A). q z r) same w)
+    (each x).one y r t (subst (λ (z : A). q z r) same w)
+
+then_alike : {A B : Type 0} (p : Stage A) (q : A → Stage B) → Settled p → ((x : A) → Settled (q x)) → (e f : JobFault) → Then p q (Err e) → Then p q (Err f) → without_witness e ≡ without_witness f
+then_alike {A} {B} p q first each e f (inl (g, s, y)) (inl (h, t, z)) = ap without_witness (same_fault {A = B} e g y) ∙ first.alike g h s t ∙ sym (ap without_witness (same_fault {A = B} f h z))
+then_alike p q first each e f (inl (g, s, y)) (inr (x, t, u)) = absurd (let no = first.one x (Err g) t s in cc)
+then_alike p q first each e f (inr (x, s, t)) (inl (h, u, z)) = absurd (let no = first.one x (Err h) s u in cc)
+then_alike {A} {B} p q first each e f (inr (x, s, t)) (inr (v, u, w)) =
+    let told = first.one x (Ok v) s u in
+    let same : v ≡ x = cc in
+    (each x).alike e f t (subst (λ (z : A). q z (Err f)) same w)
+
+pub then_settled : {A B : Type 0} (p : Stage A) (q : A → Stage B) → Settled p → ((x : A) → Settled (q x)) → Settled (Then p q)
+then_settled p q first each = record { one = then_one p q first each; alike = then_alike p q first each }
 
 -- ---- items by two sights that tell what the same thorns see
 
@@ -151,54 +170,70 @@ module _ (thorns : List Thorn) (a b : Sight) (storage : List ℕ) (values : Valu
   all-same : (specs : List Spec) (run : ℕ) (items : List Item) → all_matched w values specs run items ≡ all_matched u values specs run items
   all-same specs run items = ap (λ (f : ℕ × Item → Result Item JobFault). all_ok (map f (enumerate_from 0 items))) (fun_ext (if-run-same specs run))
 
-matches_one : (thorns : List Thorn) (values : Values) (specs : List Spec) (ordered : Ordered) → IsOne (Matches thorns values specs ordered)
-matches_one thorns values specs ordered x r m n =
-    n.items ∙ all-same thorns n.sight m.sight ordered.storage values n.told m.told specs (run_count ordered.plan) ordered.items ∙ sym m.items
+matches_same : (thorns : List Thorn) (values : Values) (specs : List Spec) (ordered : Ordered) (r s : Result (List Item) JobFault) → Matches thorns values specs ordered r → Matches thorns values specs ordered s → r ≡ s
+matches_same thorns values specs ordered r s m n =
+    m.items ∙ all-same thorns m.sight n.sight ordered.storage values m.told n.told specs (run_count ordered.plan) ordered.items ∙ sym n.items
+
+matches_settled : (thorns : List Thorn) (values : Values) (specs : List Spec) (ordered : Ordered) → Settled (Matches thorns values specs ordered)
+matches_settled thorns values specs ordered = record {
+  one = λ x r m n. matches_same thorns values specs ordered r (Ok x) n m;
+  alike = λ e f m n. ap without_witness (same_fault {A = List Item} e f (matches_same thorns values specs ordered (Err e) (Err f) m n));
+}
 
 -- ---- the plan, and the job's acceptance
 
-orders_one : (input : Input) → IsOne (Orders input)
+orders_one : (input : Input) (x : Ordered) (r : Result Ordered JobFault) → Orders input (Ok x) → Orders input r → r ≡ Ok x
 orders_one input x (Ok y) p q = ap (λ (o : Ordered). Ok o) (only input y x q p)
 orders_one input x (Err e) p (fault, is, other, told) = absurd (never-both input x fault p told)
 
+orders_settled : (input : Input) → Settled (Orders input)
+orders_settled input = record {
+  one = orders_one input;
+  alike = λ e f (a, is, other, told) (b, is2, other2, told2). ap without_witness is ∙ ap faults.Order (orders.one-fault input a b told told2) ∙ sym (ap without_witness is2);
+}
+
 never-refused : (setup : Setup) (fault : RegionFault) → HasShapes setup → Sound setup → IsRegionFault setup fault → ⊥
-never-refused setup fault shapes sound (inl told) =
-    let none : shape_fault setup ≡ None = ap (option_map (λ k. no_shape setup (item setup k))) (none_from_shapes setup shapes) in
-    absurd cc
+never-refused setup fault shapes sound (inl told) = no-shape-fault setup fault shapes told
 never-refused setup fault shapes sound (inr (has, f)) =
     let none = sound f.first.0 f.first.1 in
     let some = f.first.2 in
     absurd cc
 
-accepts_one : (job : Job) → IsOne (Accepts job)
+accepts_one : (job : Job) (x : Job) (r : Result Job JobFault) → Accepts job (Ok x) → Accepts job r → r ≡ Ok x
 accepts_one job x (Ok y) p q = ap (λ (j : Job). Ok j) (q.0 ∙ sym p.0)
 accepts_one job x (Err e) p (fault, is, other, told) = absurd (never-refused (setup_of job) fault p.1 p.2 told)
 
+accepts_settled : (job : Job) → Settled (Accepts job)
+accepts_settled job = record {
+  one = accepts_one job;
+  alike = λ e f (a, is, other, told) (b, is2, other2, told2). ap without_witness is ∙ ap faults.Region (regions.one-fault (setup_of job) a b told told2) ∙ sym (ap without_witness is2);
+}
+
 -- ---- all stages behind the files
 
-limits_one : (run : ℕ) (job : Job) → IsOne (LimitsAnd run job)
-limits_one run job = then_one (Is (within_limits run job)) Accepts (is_one (within_limits run job)) accepts_one
+limits_settled : (run : ℕ) (job : Job) → Settled (LimitsAnd run job)
+limits_settled run job = then_settled (Is (within_limits run job)) Accepts (settled_is (within_limits run job)) accepts_settled
 
 module _ (specs : List Spec) where
-  items_one : (thorns : List Thorn) (values : Values) (ordered : Ordered) (out_vars : List VarId) → IsOne (ItemsAnd specs thorns values ordered out_vars)
-  items_one thorns values ordered out_vars =
-      then_one (Matches thorns values specs ordered) (λ items. LimitsAnd (run_count ordered.plan) (job_of thorns values ordered items out_vars)) (matches_one thorns values specs ordered)
-      (λ items. limits_one (run_count ordered.plan) (job_of thorns values ordered items out_vars))
+  items_settled : (thorns : List Thorn) (values : Values) (ordered : Ordered) (out_vars : List VarId) → Settled (ItemsAnd specs thorns values ordered out_vars)
+  items_settled thorns values ordered out_vars =
+      then_settled (Matches thorns values specs ordered) (λ items. LimitsAnd (run_count ordered.plan) (job_of thorns values ordered items out_vars)) (matches_settled thorns values specs ordered)
+      (λ items. limits_settled (run_count ordered.plan) (job_of thorns values ordered items out_vars))
 
-  outputs_one : (thorns : List Thorn) (values : Values) (ordered : Ordered) → IsOne (OutputsAnd specs thorns values ordered)
-  outputs_one thorns values ordered =
-      then_one (Is (written thorns values ordered.storage)) (ItemsAnd specs thorns values ordered) (is_one (written thorns values ordered.storage)) (items_one thorns values ordered)
+  outputs_settled : (thorns : List Thorn) (values : Values) (ordered : Ordered) → Settled (OutputsAnd specs thorns values ordered)
+  outputs_settled thorns values ordered =
+      then_settled (Is (written thorns values ordered.storage)) (ItemsAnd specs thorns values ordered) (settled_is (written thorns values ordered.storage)) (items_settled thorns values ordered)
 
-  plan_one : (thorns : List Thorn) (schedules : List ScheduleFile) (values : Values) → IsOne (PlanAnd specs thorns schedules values)
-  plan_one thorns schedules values =
-      then_one (Orders (input_of thorns schedules values)) (OutputsAnd specs thorns values) (orders_one (input_of thorns schedules values)) (outputs_one thorns values)
+  plan_settled : (thorns : List Thorn) (schedules : List ScheduleFile) (values : Values) → Settled (PlanAnd specs thorns schedules values)
+  plan_settled thorns schedules values =
+      then_settled (Orders (input_of thorns schedules values)) (OutputsAnd specs thorns values) (orders_settled (input_of thorns schedules values)) (outputs_settled thorns values)
 
-  values_one : (schedules : List ScheduleFile) (settings : List Setting) (thorns : List Thorn) → IsOne (ValuesAnd specs schedules settings thorns)
-  values_one schedules settings thorns =
+  values_settled : (schedules : List ScheduleFile) (settings : List Setting) (thorns : List Thorn) → Settled (ValuesAnd specs schedules settings thorns)
+  values_settled schedules settings thorns =
       let told : Result Values JobFault = unless (option_map faults.Value (assign_fault thorns settings)) (assigned thorns settings) in
-      then_one (Is told) (PlanAnd specs thorns schedules) (is_one told) (plan_one thorns schedules)
+      then_settled (Is told) (PlanAnd specs thorns schedules) (settled_is told) (plan_settled thorns schedules)
 
-  pub made_one : (c : Configured) → IsOne (MadeOf specs c)
-  made_one c =
+  pub made_settled : (c : Configured) → Settled (MadeOf specs c)
+  made_settled c =
       let told : Result (List Thorn) JobFault = unless (option_map faults.Bind (bind_fault c.thorns)) c.thorns in
-      then_one (Is told) (ValuesAnd specs c.schedules c.settings.list) (is_one told) (values_one c.schedules c.settings.list)
+      then_settled (Is told) (ValuesAnd specs c.schedules c.settings.list) (settled_is told) (values_settled c.schedules c.settings.list)

@@ -1,14 +1,13 @@
 -- One stage of reading behind another.
-use Rattle.std.proofs.Common.{◌≡◌, ◌≢◌, ◌∙◌, sym, ap, subst, refl, ◌≤◌, ◌⊎◌, inl, inr, ℕ, List, Option, Some, None, Result, Ok, Err, IsErr, MatchResult, arith}
+use Rattle.std.proofs.Common.{◌≡◌, ◌≢◌, ◌∙◌, sym, ap, subst, refl, ◌≤◌, ◌⊎◌, inl, inr, ℕ, List, Option, Some, None, Result, Ok, Err, arith}
 use Rattle.cx_text.specs.declared.token.Token.{Token}
 use Rattle.cx_text.specs.declared.token.Style.{Style}
 use Rattle.cx_text.specs.declared.fault.TextFault.{TextFault}
 use Rattle.cx_text.specs.declared.fault.TextFault.TheVariants as texts
 use Rattle.cx_text.specs.declared.fault.CclFault.{CclFault}
 use Rattle.cx_text.specs.declared.fault.CclFault.TheVariants as trees
-use Rattle.cx_text.specs.Pieces.{IsCause, Reads, OnlyTokens}
-use Rattle.cx_text.specs.Grammar.{Grammar, Spells, IsFault, Answers, AnswersOnly}
-use Rattle.cx_text.proofs.Exclusive.{no_fault_spelled, no_cause_spelled}
+use Rattle.cx_text.specs.Pieces.{IsCause, Reads}
+use Rattle.cx_text.specs.Grammar.{Grammar, IsFault, Answers}
 use Rattle.cx_disk.specs.Cause.{HasCause, Rose}
 use Rattle.cx_job.specs.declared.fault.JobFault.{JobFault}
 use Rattle.cx_job.specs.declared.fault.JobFault.TheVariants as faults
@@ -16,6 +15,9 @@ use Rattle.cx_job.specs.Shelf.{Held}
 use Rattle.cx_job.specs.Reading.{Stage, Then, TextTokens, Tree, Tokens, TokensIfAny, TreeIfAny, File, FileOr, Comes, Follows, IsTree}
 
 -- ---- answers without a value
+
+abbrev okay : (A : Type 0) → A → Result A JobFault
+okay A x = Ok x
 
 abbrev err : (A : Type 0) → JobFault → Result A JobFault
 err A e = Err e
@@ -77,15 +79,9 @@ halt_answers A B p q e (inl m) = inl (ap (err B) m)
 halt_answers A B p q e (inr (inl m)) = inr (inl (ap (err B) m))
 halt_answers A B p q e (inr (inr s)) = inr (inr (inl (e, s, refl)))
 
-halt_only : (A B : Type 0) (p : Stage A) (q : A → Stage B) (e : JobFault) (y : B) → ((x : A) → p (Ok x) → (e ≡ faults.Memory) ⊎ (e ≡ faults.Shelf)) → Then p q (Ok y) → (e ≡ faults.Memory) ⊎ (e ≡ faults.Shelf)
-halt_only A B p q e y only (inl (f, g, z)) = absurd cc
-halt_only A B p q e y only (inr (x, s, t)) = only x s
-
 pub halted : {A B : Type 0} (tells : Type 0) (p : Held → Stage A) (q : Held → A → Stage B) (h0 h1 : Held) (f0 f1 : ℕ) (e : JobFault) → Follows tells p h0 h1 f0 f1 (err A e) → Follows tells (λ h. Then (p h) (q h)) h0 h1 f0 f1 (err B e)
 halted {A} {B} tells p q h0 h1 f0 f1 e a = record {
   answers = λ t. halt_answers A B (p h0) (q h0) e (free tells p h0 h1 f0 f1 e a t);
-  only = λ t y. halt_only A B (p h0) (q h0) e y (a.only t);
-  faulty = λ t f s. refl;
   same = a.same;
   cause = halted_cause A B e f0 f1 a.cause;
 }
@@ -95,22 +91,9 @@ pass_answers A B p q x r s (inl m) = inl m
 pass_answers A B p q x r s (inr (inl m)) = inr (inl m)
 pass_answers A B p q x r s (inr (inr t)) = inr (inr (inr (x, s, t)))
 
-pass_only : (A B : Type 0) (p : Stage A) (q : A → Stage B) (x : A) (y : B) (P : Type 0) → ((v : A) → p (Ok v) → x ≡ v) → (q x (Ok y) → P) → Then p q (Ok y) → P
-pass_only A B p q x y P only last (inl (f, g, z)) = absurd cc
-pass_only A B p q x y P only last (inr (v, s, t)) = last (subst (λ (w : A). q w (Ok y)) (sym (only v s)) t)
-
-no_value : (A B : Type 0) (x : A) (r : Result B JobFault) → IsErr {E = JobFault} (Ok x) → IsErr r
-no_value A B x r none = absurd cc
-
-pass_faulty : (A B : Type 0) (p : Stage A) (q : A → Stage B) (x : A) (r : Result B JobFault) (f : JobFault) → ((e : JobFault) → p (err A e) → IsErr {E = JobFault} (Ok x)) → ((v : A) → p (Ok v) → x ≡ v) → (q x (err B f) → IsErr r) → Then p q (err B f) → IsErr r
-pass_faulty A B p q x r f first only last (inl (e, s, z)) = no_value A B x r (first e s)
-pass_faulty A B p q x r f first only last (inr (v, s, t)) = last (subst (λ (w : A). q w (err B f)) (sym (only v s)) t)
-
 pub passed : {A B : Type 0} (tells : Type 0) (p : Held → Stage A) (q : Held → A → Stage B) (h0 h1 h2 : Held) (f0 f1 f2 : ℕ) (x : A) (r : Result B JobFault) → Follows tells p h0 h1 f0 f1 (Ok x) → Follows tells (λ h. q h x) h1 h2 f1 f2 r → Follows tells (λ h. Then (p h) (q h)) h0 h2 f0 f2 r
 passed {A} {B} tells p q h0 h1 h2 f0 f1 f2 x r a b = record {
   answers = λ t. pass_answers A B (p h0) (q h0) x r (given tells p h0 h1 f0 f1 x a t) (subst (λ (h : Held). (r ≡ err B faults.Memory) ⊎ (r ≡ err B faults.Shelf) ⊎ q h x r) (a.same t) (b.answers t));
-  only = λ t y. pass_only A B (p h0) (q h0) x y (MatchResult r (λ v. v ≡ y) (λ e. (e ≡ faults.Memory) ⊎ (e ≡ faults.Shelf))) (a.only t) (subst (λ (h : Held). q h x (Ok y) → MatchResult r (λ v. v ≡ y) (λ e. (e ≡ faults.Memory) ⊎ (e ≡ faults.Shelf))) (a.same t) (b.only t y));
-  faulty = λ t f. pass_faulty A B (p h0) (q h0) x r f (a.faulty t) (a.only t) (subst (λ (h : Held). q h x (err B f) → IsErr r) (a.same t) (b.faulty t f));
   same = λ t. b.same t ∙ a.same t;
   cause = two_causes A B f0 f1 f2 (Ok x) r a.cause b.cause;
 }
@@ -121,29 +104,18 @@ come_answers : (B : Type 0) (P : Type 0) (r : Result B JobFault) → (r ≡ err 
 come_answers B P r (inl m) = inl m
 come_answers B P r (inr s) = inr (inr s)
 
-come_only : (B : Type 0) (y : B) (r : Result B JobFault) → MatchResult r (λ v. v ≡ y) (λ e. e ≡ faults.Memory) → MatchResult r (λ v. v ≡ y) (λ e. (e ≡ faults.Memory) ⊎ (e ≡ faults.Shelf))
-come_only B y (Ok v) s = s
-come_only B y (Err e) s = inl s
-
 pub came : {B : Type 0} (tells : Type 0) (q : Stage B) (h : Held) (f : ℕ) (r : Result B JobFault) → Comes q r → Follows tells (λ _. q) h h f f r
 came {B} tells q h f r c = record {
   answers = λ t. come_answers B (q r) r c.answers;
-  only = λ t y s. come_only B y r (c.only y s);
-  faulty = λ t f s. c.faulty f s;
   same = λ t. refl;
   cause = no_cause B f r c.no_shelf;
 }
 
 -- ---- tokens and trees
 
-text_none : (style : Style) (name bytes : List ℕ) (ts : List Token) (e : JobFault) → Reads bytes style (Ok ts) → TextTokens style name bytes (Err e) → ⊥
-text_none style name bytes ts e reads (fault, is, other, cause) = other (no_cause_spelled bytes style ts fault reads.0 reads.1 cause)
-
-pub text_ok : (style : Style) (name bytes : List ℕ) (ts : List Token) → Reads bytes style (Ok ts) → OnlyTokens bytes style (Ok ts) → Comes (TextTokens style name bytes) (Ok ts)
-text_ok style name bytes ts reads only = record {
+pub text_ok : (style : Style) (name bytes : List ℕ) (ts : List Token) → Reads bytes style (Ok ts) → Comes (TextTokens style name bytes) (Ok ts)
+text_ok style name bytes ts reads = record {
   answers = inr reads;
-  only = λ us s. only us s.0 s.1;
-  faulty = λ e s. absurd (text_none style name bytes ts e reads s);
   no_shelf = λ z. absurd cc;
 }
 
@@ -158,11 +130,9 @@ text_other : (name : List ℕ) (fault : TextFault) (e : JobFault) → NamedText 
 text_other name fault e (inl m) z = absurd cc
 text_other name fault e (inr (m, s)) z = absurd cc
 
-pub text_err : (style : Style) (name bytes : List ℕ) (fault : TextFault) (e : JobFault) → Reads bytes style (Err fault) → OnlyTokens bytes style (Err fault) → NamedText name fault e → (fault ≡ texts.Memory → e ≡ faults.Memory) → Comes (TextTokens style name bytes) (Err e)
-text_err style name bytes fault e reads only found memory = record {
+pub text_err : (style : Style) (name bytes : List ℕ) (fault : TextFault) (e : JobFault) → Reads bytes style (Err fault) → NamedText name fault e → Comes (TextTokens style name bytes) (Err e)
+text_err style name bytes fault e reads found = record {
   answers = text_sort style name bytes fault e reads found;
-  only = λ us s. memory (only us s.0 s.1);
-  faulty = λ f s. refl;
   no_shelf = text_other name fault e found;
 }
 
@@ -177,20 +147,13 @@ tree_other : (A : Type 0) (name : List ℕ) (fault : CclFault) (e : JobFault) �
 tree_other A name fault e (inl m) z = absurd cc
 tree_other A name fault e (inr (m, s)) z = absurd cc
 
-tree_none : {A : Type 0} (S : Grammar A) (name : List ℕ) (ts : List Token) (x : A) (e : JobFault) → Spells S ts x → Tree S name ts (Err e) → ⊥
-tree_none S name ts x e spelled (fault, is, other, told) = other (no_fault_spelled S ts x fault spelled told)
-
-pub tree_comes : {A : Type 0} (S : Grammar A) (name : List ℕ) (ts : List Token) (read : Result A CclFault) (r : Result A JobFault) → Answers S (λ x. x) ts read → AnswersOnly S (λ x. x) ts read → IsTree name read r → Comes (Tree S name ts) r
-tree_comes {A} S name ts (Ok x) r answers only is = subst (λ (z : Result A JobFault). Comes (Tree S name ts) z) (sym is) (record {
+pub tree_comes : {A : Type 0} (S : Grammar A) (name : List ℕ) (ts : List Token) (read : Result A CclFault) (r : Result A JobFault) → Answers S (λ x. x) ts read → IsTree name read r → Comes (Tree S name ts) r
+tree_comes {A} S name ts (Ok x) r answers is = subst (λ (z : Result A JobFault). Comes (Tree S name ts) z) (sym is) (record {
   answers = inr answers;
-  only = only;
-  faulty = λ e s. absurd (tree_none S name ts x e answers s);
   no_shelf = λ z. absurd cc;
 })
-tree_comes {A} S name ts (Err fault) r answers only (e, is, found) = subst (λ (z : Result A JobFault). Comes (Tree S name ts) z) (sym is) (record {
+tree_comes {A} S name ts (Err fault) r answers (e, is, found) = subst (λ (z : Result A JobFault). Comes (Tree S name ts) z) (sym is) (record {
   answers = tree_sort S name ts fault e answers found.0;
-  only = λ x s. found.1 (only x s);
-  faulty = λ f s. refl;
   no_shelf = tree_other A name fault e found.0;
 })
 
@@ -199,46 +162,38 @@ tree_comes {A} S name ts (Err fault) r answers only (e, is, found) = subst (λ (
 pub named_halted : {B : Type 0} (tells : Type 0) (name : List ℕ) (q : Option (List ℕ) → Stage B) (h0 h1 : Held) (f0 f1 : ℕ) (e : JobFault) → Follows tells (λ files found. found ≡ Ok (files name)) h0 h1 f0 f1 (err (Option (List ℕ)) e) → Follows tells (λ files. q (files name)) h0 h1 f0 f1 (err B e)
 named_halted {B} tells name q h0 h1 f0 f1 e a = record {
   answers = λ t. by_read B e name h0 (q (h0 name)) (free tells (λ files found. found ≡ Ok (files name)) h0 h1 f0 f1 e a t);
-  only = λ t y s. unread e (h0 name) (free tells (λ files found. found ≡ Ok (files name)) h0 h1 f0 f1 e a t);
-  faulty = λ t f s. refl;
   same = a.same;
   cause = halted_cause (Option (List ℕ)) B e f0 f1 a.cause;
 }
   where
-    unread : (e : JobFault) (o : Option (List ℕ)) → (e ≡ faults.Memory) ⊎ (e ≡ faults.Shelf) ⊎ (err (Option (List ℕ)) e ≡ Ok o) → (e ≡ faults.Memory) ⊎ (e ≡ faults.Shelf)
-    unread e o (inl m) = inl m
-    unread e o (inr (inl m)) = inr m
-    unread e o (inr (inr s)) = absurd cc
-
     by_read : (B : Type 0) (e : JobFault) (name : List ℕ) (files : Held) (q : Stage B) → (e ≡ faults.Memory) ⊎ (e ≡ faults.Shelf) ⊎ (err (Option (List ℕ)) e ≡ Ok (files name)) → (err B e ≡ err B faults.Memory) ⊎ (err B e ≡ err B faults.Shelf) ⊎ q (err B e)
     by_read B e name files q (inl m) = inl (ap (err B) m)
     by_read B e name files q (inr (inl m)) = inr (inl (ap (err B) m))
     by_read B e name files q (inr (inr s)) = absurd cc
 
+same_value : {A : Type 0} (x y : A) → okay A x ≡ okay A y → x ≡ y
+same_value x y e = cc
+
 pub named_passed : {B : Type 0} (tells : Type 0) (name : List ℕ) (q : Option (List ℕ) → Stage B) (h0 h1 : Held) (f0 f1 : ℕ) (o : Option (List ℕ)) (r : Result B JobFault) → Follows tells (λ files found. found ≡ Ok (files name)) h0 h1 f0 f1 (Ok o) → Comes (q o) r → Follows tells (λ files. q (files name)) h0 h1 f0 f1 r
 named_passed {B} tells name q h0 h1 f0 f1 o r a c = record {
   answers = λ t. come_answers B (q (h0 name) r) r (subst (λ (p : Option (List ℕ)). (r ≡ err B faults.Memory) ⊎ q p r) (held t) c.answers);
-  only = λ t y s. come_only B y r (c.only y (subst (λ (p : Option (List ℕ)). q p (Ok y)) (sym (held t)) s));
-  faulty = λ t f s. c.faulty f (subst (λ (p : Option (List ℕ)). q p (err B f)) (sym (held t)) s);
   same = a.same;
   cause = two_causes (Option (List ℕ)) B f0 f1 f1 (Ok o) r a.cause (no_cause B f1 r c.no_shelf);
 }
   where
     held : tells → o ≡ h0 name
-    held t = a.only t (h0 name) refl
+    held t = same_value o (h0 name) (given tells (λ files found. found ≡ Ok (files name)) h0 h1 f0 f1 o a t)
 
 pub no_file : (style : Style) (name : List ℕ) (e : JobFault) → (e ≡ faults.Memory) ⊎ (e ≡ faults.NoFile name) → Comes (Tokens style name None) (Err e)
-no_file style name e (inl m) = record { answers = inl (ap (err (List Token)) m); only = λ x s. absurd cc; faulty = λ f s. refl; no_shelf = λ z. absurd cc }
-no_file style name e (inr s) = record { answers = inr (ap (err (List Token)) s); only = λ x t. absurd cc; faulty = λ f t. refl; no_shelf = λ z. absurd cc }
+no_file style name e (inl m) = record { answers = inl (ap (err (List Token)) m); no_shelf = λ z. absurd cc }
+no_file style name e (inr s) = record { answers = inr (ap (err (List Token)) s); no_shelf = λ z. absurd cc }
 
 pub none_there : (style : Style) (name : List ℕ) → Comes (TokensIfAny style name None) (Ok None)
-none_there style name = record { answers = inr refl; only = λ x s. cc; faulty = λ f s. absurd cc; no_shelf = λ z. absurd cc }
+none_there style name = record { answers = inr refl; no_shelf = λ z. absurd cc }
 
 pub some_there : (style : Style) (name bytes : List ℕ) (ts : List Token) → Comes (TextTokens style name bytes) (Ok ts) → Comes (TokensIfAny style name (Some bytes)) (Ok (Some ts))
 some_there style name bytes ts c = record {
   answers = inr (inr (ts, there c.answers, refl));
-  only = only;
-  faulty = faulty;
   no_shelf = λ z. absurd cc;
 }
   where
@@ -246,19 +201,9 @@ some_there style name bytes ts c = record {
     there (inl m) = absurd cc
     there (inr s) = s
 
-    only : (x : Option (List Token)) → TokensIfAny style name (Some bytes) (Ok x) → Some ts ≡ x
-    only x (inl (f, g, z)) = absurd cc
-    only x (inr (us, s, z)) = let same = c.only us s in cc
-
-    faulty : (e : JobFault) → TokensIfAny style name (Some bytes) (Err e) → IsErr {E = JobFault} (Ok (Some ts))
-    faulty e (inl (f, g, z)) = no_value (List Token) (Option (List Token)) ts (Ok (Some ts)) (c.faulty f g)
-    faulty e (inr (us, s, z)) = absurd cc
-
 pub halted_there : (style : Style) (name bytes : List ℕ) (e : JobFault) → Comes (TextTokens style name bytes) (Err e) → Comes (TokensIfAny style name (Some bytes)) (Err e)
 halted_there style name bytes e c = record {
   answers = answers c.answers;
-  only = only;
-  faulty = λ f s. refl;
   no_shelf = λ z. c.no_shelf (moved (List Token) (Option (List Token)) e faults.Shelf z);
 }
   where
@@ -266,32 +211,26 @@ halted_there style name bytes e c = record {
     answers (inl m) = inl (moved (Option (List Token)) (List Token) e faults.Memory m)
     answers (inr s) = inr (inl (e, s, refl))
 
-    only : (x : Option (List Token)) → TokensIfAny style name (Some bytes) (Ok x) → e ≡ faults.Memory
-    only x (inl (f, g, z)) = absurd cc
-    only x (inr (us, s, z)) = c.only us s
-
 -- ---- a file
 
 pub file_passed : {A : Type 0} (tells : Type 0) (style : Style) (S : Grammar A) (name : List ℕ) (h0 h1 : Held) (f0 f1 : ℕ) (ts : List Token) (read : Result A CclFault) (r : Result A JobFault)
-    → Follows tells (λ files. Tokens style name (files name)) h0 h1 f0 f1 (Ok ts) → Answers S (λ x. x) ts read → AnswersOnly S (λ x. x) ts read → IsTree name read r → Follows tells (File style S name) h0 h1 f0 f1 r
-file_passed tells style S name h0 h1 f0 f1 ts read r a answers only is =
-    passed tells (λ files. Tokens style name (files name)) (λ _. Tree S name) h0 h1 h1 f0 f1 f1 ts r a (came tells (Tree S name ts) h1 f1 r (tree_comes S name ts read r answers only is))
+    → Follows tells (λ files. Tokens style name (files name)) h0 h1 f0 f1 (Ok ts) → Answers S (λ x. x) ts read → IsTree name read r → Follows tells (File style S name) h0 h1 f0 f1 r
+file_passed tells style S name h0 h1 f0 f1 ts read r a answers is =
+    passed tells (λ files. Tokens style name (files name)) (λ _. Tree S name) h0 h1 h1 f0 f1 f1 ts r a (came tells (Tree S name ts) h1 f1 r (tree_comes S name ts read r answers is))
 
 pub file_halted : {A : Type 0} (tells : Type 0) (style : Style) (S : Grammar A) (name : List ℕ) (h0 h1 : Held) (f0 f1 : ℕ) (e : JobFault)
     → Follows tells (λ files. Tokens style name (files name)) h0 h1 f0 f1 (err (List Token) e) → Follows tells (File style S name) h0 h1 f0 f1 (err A e)
 file_halted tells style S name h0 h1 f0 f1 e a = halted tells (λ files. Tokens style name (files name)) (λ _. Tree S name) h0 h1 f0 f1 e a
 
 pub or_passed : {A : Type 0} (tells : Type 0) (absent : A) (style : Style) (S : Grammar A) (name : List ℕ) (h0 h1 : Held) (f0 f1 : ℕ) (ts : List Token) (read : Result A CclFault) (r : Result A JobFault)
-    → Follows tells (λ files. TokensIfAny style name (files name)) h0 h1 f0 f1 (Ok (Some ts)) → Answers S (λ x. x) ts read → AnswersOnly S (λ x. x) ts read → IsTree name read r → Follows tells (FileOr absent style S name) h0 h1 f0 f1 r
-or_passed tells absent style S name h0 h1 f0 f1 ts read r a answers only is =
-    passed tells (λ files. TokensIfAny style name (files name)) (λ _. TreeIfAny absent S name) h0 h1 h1 f0 f1 f1 (Some ts) r a (came tells (TreeIfAny absent S name (Some ts)) h1 f1 r (tree_comes S name ts read r answers only is))
+    → Follows tells (λ files. TokensIfAny style name (files name)) h0 h1 f0 f1 (Ok (Some ts)) → Answers S (λ x. x) ts read → IsTree name read r → Follows tells (FileOr absent style S name) h0 h1 f0 f1 r
+or_passed tells absent style S name h0 h1 f0 f1 ts read r a answers is =
+    passed tells (λ files. TokensIfAny style name (files name)) (λ _. TreeIfAny absent S name) h0 h1 h1 f0 f1 f1 (Some ts) r a (came tells (TreeIfAny absent S name (Some ts)) h1 f1 r (tree_comes S name ts read r answers is))
 
 -- ---- the last step
 
 pub done : {B : Type 0} (y : B) (r : Result B JobFault) → r ≡ Ok y → Comes (λ found. found ≡ Ok y) r
 done {B} y r e = subst (λ (z : Result B JobFault). Comes (λ found. found ≡ Ok y) z) (sym e) (record {
   answers = inr refl;
-  only = λ x s. let same : x ≡ y = cc in sym same;
-  faulty = λ f s. absurd cc;
   no_shelf = λ z. absurd cc;
 })

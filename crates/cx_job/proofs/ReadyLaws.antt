@@ -1,5 +1,5 @@
 -- What the stages from thorns to a job make sure of.
-use Rattle.std.proofs.Common.{◌≡◌, ◌∙◌, sym, ap, subst, refl, ◌<◌, ◌+◌, inl, inr, ℕ, List, [], ◌∷◌, ◌++◌, map, length, take, get_or, Option, Some, None, Result, Ok, Err, IfOk}
+use Rattle.std.proofs.Common.{◌≡◌, ◌∙◌, sym, ap, subst, ◌<◌, ◌+◌, inl, inr, ℕ, List, [], ◌∷◌, ◌++◌, map, length, take, get_or, Option, None, Result, Ok, Err, IfOk}
 use Rattle.std.proofs.lemmas.List.{map-append, take_more}
 use Rattle.cx_plan.specs.Setups.{setup_of}
 use Rattle.cx_plan.specs.Whole.{IsWhole}
@@ -17,7 +17,6 @@ use Rattle.cx_order.specs.declared.ordered.Ordered.{Ordered}
 use Rattle.cx_rule.specs.Jobs.{FitJob}
 use Rattle.cx_rule.specs.declared.spec.Spec.{Spec}
 use Rattle.cx_job.specs.declared.fault.JobFault.{JobFault}
-use Rattle.cx_job.specs.declared.fault.JobFault.TheVariants as faults
 use Rattle.cx_job.specs.JobLimits.{limit_fault}
 use Rattle.cx_job.specs.Jobs.{job_of}
 use Rattle.cx_job.specs.Outputs.{output_variables}

@@ -1,5 +1,5 @@
 -- The job that files make, or the first fault: stage after stage.
-use Rattle.std.specs.Prelude.{◌≡◌, ◌≢◌, ◌⊎◌, ℕ, List, [], ◌∷◌, map, take, length, codes, Option, Some, None, option_map, Result, Ok, Err, IsErr, MatchResult}
+use Rattle.std.specs.Prelude.{◌≡◌, ◌≢◌, ◌⊎◌, ℕ, List, [], ◌∷◌, map, take, length, codes, Option, Some, None, option_map, Result, Ok, Err, IsErrAnd, MatchResult}
 use Rattle.std.specs.List.{flat_map}
 use Rattle.cx_text.specs.declared.token.Style.TheVariants.{Par, Thorns}
 use Rattle.cx_parfile.specs.declared.settings.Settings.{Settings}
@@ -26,11 +26,11 @@ use Rattle.cx_values.specs.Faults.{assign_fault}
 use Rattle.cx_values.specs.declared.values.Values.{Values}
 use Rattle.cx_scope.specs.Sight.{Sight, Tells}
 use Rattle.cx_order.specs.Files.{Input, input_of}
-use Rattle.cx_order.specs.Ordering.{IsPlan, IsFault}
+use Rattle.cx_order.specs.Ordering.{IsPlan, IsFault, without_cycle}
 use Rattle.cx_order.specs.declared.ordered.Ordered.{Ordered}
 use Rattle.cx_order.specs.declared.fault.OrderFault.{OrderFault}
 use Rattle.cx_order.specs.declared.fault.OrderFault.TheVariants as orders
-use Rattle.cx_region.specs.Checks.{IsRegionFault}
+use Rattle.cx_region.specs.Checks.{IsRegionFault, without_path}
 use Rattle.cx_region.specs.declared.fault.RegionFault.{RegionFault}
 use Rattle.cx_region.specs.declared.fault.RegionFault.TheVariants as regions
 use Rattle.cx_rule.specs.declared.spec.Spec.{Spec}
@@ -161,12 +161,27 @@ pub record IsPlanned (thorns : List Thorn) (values : Values) (ordered : Ordered)
 abbrev pub Made : List ℕ → List Spec → Held → Stage Job
 Made name specs files = Then (Configures name files) (MadeOf specs)
 
+-- What a fault tells beside the cycle or the path that it shows: of several any may be shown.
+abbrev pub without_witness : JobFault → JobFault
+without_witness (faults.Order fault) = faults.Order (without_cycle fault)
+without_witness (faults.Region fault) = faults.Region (without_path fault)
+without_witness faults.Shelf = faults.Shelf
+without_witness (faults.NoFile name) = faults.NoFile name
+without_witness (faults.Text name fault) = faults.Text name fault
+without_witness (faults.Ccl name fault) = faults.Ccl name fault
+without_witness (faults.Bind fault) = faults.Bind fault
+without_witness (faults.Value fault) = faults.Value fault
+without_witness (faults.UnknownRoutine path) = faults.UnknownRoutine path
+without_witness (faults.RoutineMismatch path declared offered) = faults.RoutineMismatch path declared offered
+without_witness (faults.Limit name count) = faults.Limit name count
+without_witness faults.Memory = faults.Memory
+
 -- An answer over a shelf that held these files, with its counts of faults before and after. Where the shelf tells its files, it is what
--- they make, but for want of memory and failures of the shelf; and they are as they were. Where they make a job, it is this one; where
--- they make a fault, no job is answered.
+-- they make, but for want of memory and failures of the shelf; and they are as they were. Where they make a job, it is this one, and where
+-- they make a fault, it is this one but for its witness.
 pub record Makes (tells : Type 0) (made : Held → Stage Job) (old new : Held) (before now : ℕ) (result : Result Job JobFault) : Type 0 where
   pub answers : tells → (result ≡ Err faults.Memory) ⊎ (result ≡ Err faults.Shelf) ⊎ made old result
   pub only : tells → (job : Job) → made old (Ok job) → MatchResult result (λ found. found ≡ job) (λ e. (e ≡ faults.Memory) ⊎ (e ≡ faults.Shelf))
-  pub faulty : tells → (fault : JobFault) → made old (Err fault) → IsErr result
+  pub faulty : tells → (fault : JobFault) → made old (Err fault) → IsErrAnd result (λ e. (e ≡ faults.Memory) ⊎ (e ≡ faults.Shelf) ⊎ (without_witness e ≡ without_witness fault))
   pub same : tells → new ≡ old
   pub cause : HasCause faults.Shelf before now result

@@ -1,5 +1,5 @@
 -- Items matched with the routines that are handed in.
-use Rattle.std.specs.Prelude.{◌≡◌, ◌⊎◌, ℕ, ◌+◌, ◌-◌, ◌==◌, nat_lt, Bool, true, false, ◌&&◌, ℤ, List, [], ◌∷◌, ◌++◌, map, length, take, drop, position, codes, slice_get, slice_index_or, Option, Some, None, option_map, is_none, Result, Ok, Err, if◌then◌else◌}
+use Rattle.std.specs.Prelude.{◌≡◌, ◌⊎◌, ℕ, ◌+◌, ◌-◌, ◌==◌, nat_lt, Bool, ◌&&◌, ℤ, List, [], ◌∷◌, ◌++◌, map, length, take, drop, position, codes, slice_get, slice_index_or, Option, Some, None, option_map, is_none, Result, Ok, Err, if◌then◌else◌}
 use Rattle.std.specs.List.{list_all, list_any, flat_map, enumerate_from}
 use Rattle.cx_text.specs.Lexemes.{same_name, among}
 use Rattle.cx_plan.specs.Lists.{all_ok}

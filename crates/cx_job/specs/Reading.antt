@@ -1,5 +1,5 @@
 -- What the files of a configuration say, or what is wrong first.
-use Rattle.std.specs.Prelude.{◌≡◌, ◌≢◌, ◌≤◌, ◌⊎◌, ℕ, List, [], length, codes, ◌++◌, Option, Some, None, Result, Ok, Err, IsErr, MatchResult}
+use Rattle.std.specs.Prelude.{◌≡◌, ◌≢◌, ◌≤◌, ◌⊎◌, ℕ, List, [], length, codes, ◌++◌, Option, Some, None, Result, Ok, Err}
 use Rattle.cx_text.specs.declared.token.Token.{Token}
 use Rattle.cx_text.specs.declared.token.Style.{Style}
 use Rattle.cx_text.specs.declared.token.Style.TheVariants.{Ccl}
@@ -104,21 +104,15 @@ ThornSays place names files = Then (File Ccl interface names.interface files) (�
 
 -- ---- answers
 
--- An answer from what has been read: what the stage comes to, but for want of memory. Where the stage gives a value, it is this one;
--- where it gives a fault, no value is answered.
+-- An answer from what has been read: what the stage comes to, but for want of memory.
 pub record Comes {A : Type 0} (stage : Stage A) (result : Result A JobFault) : Type 0 where
   pub answers : (result ≡ Err faults.Memory) ⊎ stage result
-  pub only : (x : A) → stage (Ok x) → MatchResult result (λ y. y ≡ x) (λ e. e ≡ faults.Memory)
-  pub faulty : (fault : JobFault) → stage (Err fault) → IsErr result
   pub no_shelf : result ≢ Err faults.Shelf
 
 -- An answer over a shelf that held these files, with its counts of faults before and after. Where the shelf tells its
--- files, the answer is what the stage comes to, but for want of memory and failures of the shelf. Where the stage gives a value, it
--- is this one; where it gives a fault, no value is answered.
+-- files, the answer is what the stage comes to, but for want of memory and failures of the shelf, and they are as they were.
 pub record Follows {A : Type 0} (tells : Type 0) (stage : Held → Stage A) (old new : Held) (before now : ℕ) (result : Result A JobFault) : Type 0 where
   pub answers : tells → (result ≡ Err faults.Memory) ⊎ (result ≡ Err faults.Shelf) ⊎ stage old result
-  pub only : tells → (x : A) → stage old (Ok x) → MatchResult result (λ y. y ≡ x) (λ e. (e ≡ faults.Memory) ⊎ (e ≡ faults.Shelf))
-  pub faulty : tells → (fault : JobFault) → stage old (Err fault) → IsErr result
   pub same : tells → new ≡ old
   pub cause : HasCause faults.Shelf before now result
 

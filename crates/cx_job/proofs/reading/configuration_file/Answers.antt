@@ -8,4 +8,4 @@ pub returns-in-Some : goal.returns-in-Some
 returns-in-Some g c = laws.or_passed g.H.Shelf.tells no_configuration styles.Ccl configuration.derives c.args.name.now
     (g.H.Shelf.held c.args.shelf.now) (g.H.Shelf.held c.tokens_if_any.new.shelf)
     (g.H.Shelf.faults c.args.shelf.now) (g.H.Shelf.faults c.tokens_if_any.new.shelf)
-    c.in-Some.tokens c.read_configuration.result c.named_tree.result (rw c.in-Some.is at c.in_ok-tokens.ensures) c.read_configuration.ensures.answers c.read_configuration.ensures.only c.named_tree.ensures
+    c.in-Some.tokens c.read_configuration.result c.named_tree.result (rw c.in-Some.is at c.in_ok-tokens.ensures) c.read_configuration.ensures.answers c.named_tree.ensures

@@ -8,4 +8,4 @@ pub returns : goal.returns
 returns g c = laws.file_passed g.H.Shelf.tells styles.Par (parameter_file (base_of c.args.name.now)).derives c.args.name.now
     (g.H.Shelf.held c.args.shelf.now) (g.H.Shelf.held c.required_tokens.new.shelf)
     (g.H.Shelf.faults c.args.shelf.now) (g.H.Shelf.faults c.required_tokens.new.shelf)
-    c.in_ok-tokens.tokens c.read_parfile.result c.named_tree.result c.in_ok-tokens.ensures.follows (rw c.in_ok-base.ensures at c.read_parfile.ensures.answers) (rw c.in_ok-base.ensures at c.read_parfile.ensures.only) c.named_tree.ensures
+    c.in_ok-tokens.tokens c.read_parfile.result c.named_tree.result c.in_ok-tokens.ensures.follows (rw c.in_ok-base.ensures at c.read_parfile.ensures.answers) c.named_tree.ensures

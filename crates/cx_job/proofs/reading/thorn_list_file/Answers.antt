@@ -8,7 +8,7 @@ use Rattle.cx_job.proofs.reading.thorn_list_file.Goals as goal
 pub returns-clause-follows : goal.returns-clause-follows
 returns-clause-follows g c = laws.file_passed g.H.Shelf.tells styles.Thorns thorn_list.derives c.args.name.now
     (g.H.Shelf.held c.args.shelf.now) (g.H.Shelf.held c.required_tokens.new.shelf) (g.H.Shelf.faults c.args.shelf.now) (g.H.Shelf.faults c.required_tokens.new.shelf)
-    c.in_ok-tokens.tokens c.read_thornlist.result c.named_tree.result c.in_ok-tokens.ensures.follows c.read_thornlist.ensures.answers c.read_thornlist.ensures.only c.named_tree.ensures
+    c.in_ok-tokens.tokens c.read_thornlist.result c.named_tree.result c.in_ok-tokens.ensures.follows c.read_thornlist.ensures.answers c.named_tree.ensures
 
 pub returns-clause-read : goal.returns-clause-read
 returns-clause-read g c = tree_read thorn_list.derives (λ list. AreNamed list.places) c.args.name.now c.in_ok-tokens.tokens c.read_thornlist.result c.named_tree.result (λ list spelled. places_named c.in_ok-tokens.tokens list c.in_ok-tokens.ensures.spelled spelled) c.read_thornlist.ensures.answers c.named_tree.ensures
