@@ -1,6 +1,7 @@
 -- From what stands behind an answer, and what was said, to what the top call ensures.
 use Rattle.std.proofs.Common.{◌≡◌, ◌≢◌, ◌∙◌, ◌⊎◌, ℕ, ◌<◌, List, [], ◌∷◌, Ok, Err, inl, inr, sym, ap, subst, refl, arith}
 use Rattle.cx_disk.specs.Cause.{Rose}
+use Rattle.cx_job.specs.Making.{without_witness}
 use Rattle.cx_job.specs.declared.fault.JobFault.{JobFault}
 use Rattle.cx_job.specs.declared.fault.JobFault.TheVariants as faults
 use Rattle.cx_model.specs.Runs.{output, undivided_run, end as end_of}
@@ -12,7 +13,7 @@ use Rattle.cx_plan.specs.Whole.{IsWhole}
 use Rattle.cx_plan.specs.declared.job.Job.{Job}
 use Rattle.cx_rule.specs.Jobs.{FitJob}
 use Rattle.cx_rule.specs.Meter.{raised}
-use Rattle.cx_run.specs.Answer.{Call, Work, Untouched, IsMade, HasRun, IsDone, IsEnded, IsNotBuilt, IsAsked, Comes, Fails, IsForFault, IsForJob, Explains, WasSaid, IsOutput, IsStatus, status_of, text_of, answer_of}
+use Rattle.cx_run.specs.Answer.{Call, Work, Untouched, IsMade, HasRun, IsDone, IsEnded, IsNotBuilt, IsAsked, Comes, Fails, IsForFault, IsForJob, Explains, WasSaid, IsOutput, IsStatus, status_of, text_of}
 use Rattle.cx_run.specs.Built.{IsBuilt}
 use Rattle.cx_run.specs.FaultWords.{refused_text}
 use Rattle.cx_run.specs.Sink.{Adds}
@@ -529,35 +530,20 @@ two_or_five result not0 not3 (inr (inr (inr five))) = inr five
 
 -- ---- where the file makes a fault
 
-fault_status : (fault : JobFault) → (status_of (answer_of fault) ≡ 2) ⊎ ((answer_of fault ≡ a.Shelf) ⊎ (status_of (answer_of fault) ≡ 5))
-fault_status faults.Shelf = inr (inl refl)
-fault_status (faults.NoFile name) = inl refl
-fault_status (faults.Text name fault) = inl refl
-fault_status (faults.Ccl name fault) = inl refl
-fault_status (faults.Bind fault) = inl refl
-fault_status (faults.Value fault) = inl refl
-fault_status (faults.Order fault) = inl refl
-fault_status (faults.UnknownRoutine path) = inl refl
-fault_status (faults.RoutineMismatch path declared offered) = inl refl
-fault_status (faults.Limit what count) = inl refl
-fault_status (faults.Region fault) = inl refl
-fault_status faults.Memory = inr (inr refl)
+-- the file is refused for it, or memory is wanting
+abbrev RefusedFor : JobFault → Type 0 → List ℕ → List ℕ → ℕ → Type 0
+RefusedFor fault told old new result = (result ≡ 5) ⊎ (result ≡ 2) × ((other : JobFault) × (without_witness other ≡ without_witness fault) × (told → Adds (refused_text other) old new))
 
-status_for_fault : (c : Call) (file : List ℕ) (fault : JobFault) (answer : Answer) → answer ≡ answer_of fault → Explains c file answer
-    → (Rose c.shelf_faults_before c.shelf_faults_after → ⊥)
-    → (status_of (answer_of fault) ≡ 2) ⊎ ((answer_of fault ≡ a.Shelf) ⊎ (status_of (answer_of fault) ≡ 5)) → (status_of answer ≡ 2) ⊎ (status_of answer ≡ 5)
-status_for_fault c file fault answer is x shelf (inl two) = inl (ap status_of is ∙ two)
-status_for_fault c file fault answer is x shelf (inr (inl failed)) = absurd (shelf (not_shelf c file answer (is ∙ failed) x))
-status_for_fault c file fault answer is x shelf (inr (inr five)) = inr (ap status_of is ∙ five)
+refused_for : (c : Call) (file : List ℕ) (fault : JobFault) (answer : Answer) (told : Type 0) (result : ℕ) (old new : List ℕ) → Explains c file answer → IsForFault fault answer
+    → (Rose c.shelf_faults_before c.shelf_faults_after → ⊥) → result ≡ status_of answer → (told → Adds (text_of answer file) old new) → RefusedFor fault told old new result
+refused_for c file fault answer told result old new x (inl is) shelf status said = absurd (shelf (not_shelf c file answer is x))
+refused_for c file fault answer told result old new x (inr (inl is)) shelf status said = inl (status ∙ ap status_of is)
+refused_for c file fault answer told result old new x (inr (inr (other, is, alike))) shelf status said =
+    inr (status ∙ ap status_of is, (other, alike, λ t. subst (λ (r : Answer). Adds (text_of r file) old new) is (said t)))
 
-with_two_or_five : (result s : ℕ) → result ≡ s → (s ≡ 2) ⊎ (s ≡ 5) → (result ≡ 2) ⊎ (result ≡ 5)
-with_two_or_five result s e (inl two) = inl (e ∙ two)
-with_two_or_five result s e (inr five) = inr (e ∙ five)
-
-pub fault_given : (c : Call) (file : List ℕ) (answer : Answer) (told : Type 0) (result : ℕ) (old new : List ℕ) (b n : ℕ) → Explains c file answer → WasSaid told file answer result old new b n
-    → IsForFault answer → (Rose c.shelf_faults_before c.shelf_faults_after → ⊥) → (Rose b n → ⊥) → (result ≡ 2) ⊎ (result ≡ 5)
-fault_given c file answer told result old new b n x (inl p) is shelf sink =
-    with_two_or_five result (status_of answer) p.status_is (status_for_fault c file is.0 answer is.1 x shelf (fault_status is.0))
-fault_given c file answer told result old new b n x (inr (inl p)) is shelf sink = inr p.status_is
-fault_given c file answer told result old new b n x (inr (inr (inl p))) is shelf sink = absurd (sink p.rose)
-fault_given c file answer told result old new b n x (inr (inr (inr p))) is shelf sink = absurd (sink p.rose)
+pub fault_given : (c : Call) (file : List ℕ) (fault : JobFault) (answer : Answer) (told : Type 0) (result : ℕ) (old new : List ℕ) (b n : ℕ) → Explains c file answer → WasSaid told file answer result old new b n
+    → IsForFault fault answer → (Rose c.shelf_faults_before c.shelf_faults_after → ⊥) → (Rose b n → ⊥) → RefusedFor fault told old new result
+fault_given c file fault answer told result old new b n x (inl p) is shelf sink = refused_for c file fault answer told result old new x is shelf p.status_is p.text_is
+fault_given c file fault answer told result old new b n x (inr (inl p)) is shelf sink = inl p.status_is
+fault_given c file fault answer told result old new b n x (inr (inr (inl p))) is shelf sink = absurd (sink p.rose)
+fault_given c file fault answer told result old new b n x (inr (inr (inr p))) is shelf sink = absurd (sink p.rose)

@@ -1,15 +1,15 @@
 -- What is answered to a command whose file makes a job, or a fault.
-use Rattle.std.proofs.Common.{◌≡◌, ◌⊎◌, ◌∙◌, ℕ, List, [], ◌∷◌, Result, Ok, Err, inl, inr, sym, ap, subst}
-use Rattle.std.specs.Prelude.{IsErr}
-use Rattle.cx_job.specs.Making.{Made, Makes}
+use Rattle.std.proofs.Common.{◌≡◌, ◌⊎◌, ◌∙◌, ℕ, List, [], ◌∷◌, Ok, Err, inl, inr, refl, sym, ap, subst}
+use Rattle.cx_job.specs.Making.{Made, Makes, without_witness}
 use Rattle.cx_job.specs.Shelf.{Held}
 use Rattle.cx_job.specs.declared.fault.JobFault.{JobFault}
 use Rattle.cx_job.specs.declared.fault.JobFault.TheVariants as faults
 use Rattle.cx_plan.specs.declared.job.Job.{Job}
 use Rattle.cx_rule.specs.declared.spec.Spec.{Spec}
-use Rattle.cx_run.specs.Answer.{Work, Comes, IsForJob, answer_of}
+use Rattle.cx_run.specs.Answer.{Work, Comes, IsForJob, IsForFault, answer_of}
 use Rattle.cx_run.specs.Words.{word_of, Asks}
 use Rattle.cx_run.specs.declared.reply.Answer.{Answer}
+use Rattle.cx_run.specs.declared.reply.Answer.TheVariants as a
 use Rattle.cx_run.specs.declared.words.Command.{Command}
 use Rattle.cx_run.proofs.Clauses.{same_command}
 
@@ -45,13 +45,39 @@ pub no_job : (specs : List Spec) (held : Held) (words : List (List ℕ)) (comman
 no_job specs held words command other file f job again asks none made =
     none job (subst (λ (name : List ℕ). Made name specs held (Ok job)) (same_file words other command f file again asks) made)
 
--- no job is found
-abbrev IsFault : Result Job JobFault → Type 0
-IsFault result = IsErr result
+-- an answer for a fault: the shelf's or memory's, or that the file is refused for it
+abbrev IsSorted : JobFault → Type 0
+IsSorted fault = (answer_of fault ≡ a.Shelf) ⊎ ((answer_of fault ≡ a.Memory) ⊎ (answer_of fault ≡ a.Refused fault))
 
--- where the file makes a fault, no job is found
-pub no_job_found : (tells : Type 0) (specs : List Spec) (old new : Held) (b n : ℕ) (words : List (List ℕ)) (command other : Command) (file f : List ℕ) (fault : JobFault) (found : Job)
-    → Asks words command file → Asks words other f → tells → Made f specs old (Err fault) → Makes tells (Made file specs) old new b n (Ok found) → ⊥
-no_job_found tells specs old new b n words command other file f fault found asks again told made m =
-    let none : IsFault (Ok found) = m.faulty told fault (subst (λ (name : List ℕ). Made name specs old (Err fault)) (same_file words other command f file again asks) made) in
-    absurd cc
+sorted : (fault : JobFault) → IsSorted fault
+sorted faults.Shelf = inl refl
+sorted faults.Memory = inr (inl refl)
+sorted (faults.NoFile name) = inr (inr refl)
+sorted (faults.Text name fault) = inr (inr refl)
+sorted (faults.Ccl name fault) = inr (inr refl)
+sorted (faults.Bind fault) = inr (inr refl)
+sorted (faults.Value fault) = inr (inr refl)
+sorted (faults.Order fault) = inr (inr refl)
+sorted (faults.UnknownRoutine path) = inr (inr refl)
+sorted (faults.RoutineMismatch path declared offered) = inr (inr refl)
+sorted (faults.Limit what count) = inr (inr refl)
+sorted (faults.Region fault) = inr (inr refl)
+
+for_fault : (fault found : JobFault) → IsSorted found → (found ≡ faults.Memory) ⊎ (found ≡ faults.Shelf) ⊎ (without_witness found ≡ without_witness fault) → IsForFault fault (answer_of found)
+for_fault fault found (inl shelf) told = inl shelf
+for_fault fault found (inr (inl memory)) told = inr (inl memory)
+for_fault fault found (inr (inr refused)) (inl is) = inr (inl (ap answer_of is))
+for_fault fault found (inr (inr refused)) (inr (inl is)) = inl (ap answer_of is)
+for_fault fault found (inr (inr refused)) (inr (inr alike)) = inr (inr (found, refused, alike))
+
+module _ (tells : Type 0) (specs : List Spec) (old new : Held) (b n : ℕ) (words : List (List ℕ)) (command other : Command) (file f : List ℕ) (fault : JobFault) (asks : Asks words command file) (again : Asks words other f) (told : tells) (made : Made f specs old (Err fault)) where
+  fault_too : Made file specs old (Err fault)
+  fault_too = subst (λ (name : List ℕ). Made name specs old (Err fault)) (same_file words other command f file again asks) made
+
+  -- where the file makes a fault, no job is found
+  pub no_job_found : (found : Job) → Makes tells (Made file specs) old new b n (Ok found) → ⊥
+  no_job_found found m = m.faulty told fault fault_too
+
+  -- the fault that is found is answered
+  pub fault_found : (found : JobFault) (answer : Answer) → Makes tells (Made file specs) old new b n (Err found) → answer ≡ answer_of found → IsForFault fault answer
+  fault_found found answer m is = subst (λ (x : Answer). IsForFault fault x) (sym is) (for_fault fault found (sorted found) (m.faulty told fault fault_too))

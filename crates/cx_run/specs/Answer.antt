@@ -2,6 +2,7 @@
 use Rattle.std.specs.Prelude.{◌≡◌, ◌≢◌, ℕ, List, ◌⊎◌, Result, Ok, Err}
 use Rattle.cx_disk.specs.Cause.{Rose}
 use Rattle.cx_disk.specs.Disk.{View, IsSettled, OthersSame}
+use Rattle.cx_job.specs.Making.{without_witness}
 use Rattle.cx_job.specs.declared.fault.JobFault.{JobFault}
 use Rattle.cx_job.specs.declared.fault.JobFault.TheVariants as faults
 use Rattle.cx_plan.specs.Setups.{setup_of}
@@ -164,9 +165,10 @@ Comes w command job a.Shelf = ⊥
 abbrev pub IsForJob : Work → Command → Job → Answer → Type 0
 IsForJob w command job answer = Comes w command job answer ⊎ ((answer ≡ a.Shelf) ⊎ (answer ≡ a.Memory))
 
--- what is answered where the file makes a fault: the file is refused, the shelf failed or memory is wanting
-abbrev pub IsForFault : Answer → Type 0
-IsForFault answer = (fault : JobFault) × (answer ≡ answer_of fault)
+-- what is answered where the file makes this fault: the file is refused for it, but for the cycle or the path that is shown, unless the shelf
+-- failed or memory is wanting
+abbrev pub IsForFault : JobFault → Answer → Type 0
+IsForFault fault answer = (answer ≡ a.Shelf) ⊎ ((answer ≡ a.Memory) ⊎ ((other : JobFault) × (answer ≡ a.Refused other) × (without_witness other ≡ without_witness fault)))
 
 -- what comes of a file that makes no job
 abbrev pub Fails : Call → List ℕ → Answer → Type 0

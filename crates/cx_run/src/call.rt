@@ -2,7 +2,7 @@
 ghost use Rattle.std.specs.Prelude.{◌≡◌, ◌≢◌, ◌≤◌, ◌<◌, ◌^◌, ◌⊎◌, ◌↔◌, [], ℕ, List as ListOf, Ok, Err, IsTrue, length, map, slice_index_or};
 ghost use Rattle.cx_disk.specs.Cause.{Rose};
 ghost use Rattle.cx_disk.specs.Disk.{OthersSame};
-ghost use Rattle.cx_job.specs.Making.{Made};
+ghost use Rattle.cx_job.specs.Making.{Made, without_witness};
 ghost use Rattle.cx_job.specs.declared.fault.JobFault.{JobFault};
 ghost use Rattle.cx_model.specs.Runs.{end, output, undivided_run};
 ghost use Rattle.cx_model.specs.Work.{points_computed};
@@ -162,12 +162,14 @@ pub fn cactus<H: Shelf, D: Disk, O: Sink>(
         → (Rose (H.faults shelf.old) (H.faults shelf.new) → ⊥) → (Rose (D.faults disk.old) (D.faults disk.new) → ⊥)
         → (Rose (O.faults out.old) (O.faults out.new) → ⊥)
         → (IsBuilt job → ⊥) → (result ≡ 2) ⊎ (result ≡ 5) }
-    // Where the file makes a fault and no device fails, it is refused or memory is wanting.
+    // Where the file makes a fault, neither the disk nor the meter is touched; where no device fails, it is refused for this
+    // fault, but for the cycle or the path that is shown, or memory is wanting.
     ensures fault_given { H.tells → (command : Command) (file : ListOf ℕ) (fault : JobFault) → Asks words.now command file
         → Made file (map spec_of routines.now) (H.held shelf.old) (Err fault)
-        → (Rose (H.faults shelf.old) (H.faults shelf.new) → ⊥) → (Rose (D.faults disk.old) (D.faults disk.new) → ⊥)
-        → (Rose (O.faults out.old) (O.faults out.new) → ⊥)
-        → (result ≡ 2) ⊎ (result ≡ 5) }
+        → (disk.new ≡ disk.old) × (meter.new ≡ meter.old)
+        × ((Rose (H.faults shelf.old) (H.faults shelf.new) → ⊥) → (Rose (O.faults out.old) (O.faults out.new) → ⊥)
+        → (result ≡ 5) ⊎ (result ≡ 2) × ((other : JobFault) × (without_witness other ≡ without_witness fault)
+        × (O.tells → Adds (refused_text other) (O.written out.old) (O.written out.new)))) }
     // Where the file makes no job and no device fails, it is refused or memory is wanting.
     ensures no_job_given { H.tells → (command : Command) (file : ListOf ℕ) → Asks words.now command file
         → ((job : Job) → Made file (map spec_of routines.now) (H.held shelf.old) (Ok job) → ⊥)
@@ -227,7 +229,7 @@ fn answer_to<H: Shelf, D: Disk>(
           disk_faults_after = D.faults disk.new;
         }) command job result }
     ensures fault_given { H.tells → (command : Command) (file : ListOf ℕ) (fault : JobFault) → Asks words.now command file
-        → Made file (map spec_of routines.now) (H.held shelf.old) (Err fault) → IsForFault result }
+        → Made file (map spec_of routines.now) (H.held shelf.old) (Err fault) → (disk.new ≡ disk.old) × (meter.new ≡ meter.old) × IsForFault fault result }
     ensures other_files { D.tells → OthersSame 8 (D.view disk.old).seen (D.view disk.new).seen }
     ensures held { H.tells → H.held shelf.new ≡ H.held shelf.old }
     ensures shelf_count { H.faults shelf.old ≤ H.faults shelf.new }

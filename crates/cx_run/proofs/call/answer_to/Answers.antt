@@ -28,7 +28,14 @@ returns-in-Err-clause-job_given g c told other f job again made =
 pub returns-in-Ok-clause-fault_given : goal.returns-in-Ok-clause-fault_given
 returns-in-Ok-clause-fault_given g c told other f fault again made =
     absurd (for_job.no_job_found g.H.Shelf.tells (map (λ r. (goal.Routine-dyn g (r.vtable, r.value)).spec_of r.value) c.args.routines.now) (g.H.Shelf.held c.args.shelf.now) (g.H.Shelf.held c.make_job.new.shelf)
-    (g.H.Shelf.faults c.args.shelf.now) (g.H.Shelf.faults c.make_job.new.shelf) c.args.words.now c.in-Some.command other c.in-Some.file.now f fault c.in-Ok.job c.in-Some.ensures.some again told made c.in-Ok.ensures.made)
+    (g.H.Shelf.faults c.args.shelf.now) (g.H.Shelf.faults c.make_job.new.shelf) c.args.words.now c.in-Some.command other c.in-Some.file.now f fault c.in-Some.ensures.some again told made
+    c.in-Ok.job c.in-Ok.ensures.made)
 
 pub returns-in-Err-clause-fault_given : goal.returns-in-Err-clause-fault_given
-returns-in-Err-clause-fault_given g c told other f fault again made = (c.in-Err.fault, c.answer_of.ensures)
+returns-in-Err-clause-fault_given g c told other f fault again made = (
+  refl,
+  refl,
+  for_job.fault_found g.H.Shelf.tells (map (λ r. (goal.Routine-dyn g (r.vtable, r.value)).spec_of r.value) c.args.routines.now) (g.H.Shelf.held c.args.shelf.now) (g.H.Shelf.held c.make_job.new.shelf)
+      (g.H.Shelf.faults c.args.shelf.now) (g.H.Shelf.faults c.make_job.new.shelf) c.args.words.now c.in-Some.command other c.in-Some.file.now f fault c.in-Some.ensures.some again told made
+      c.in-Err.fault c.answer_of.result c.in-Err.ensures.made c.answer_of.ensures,
+)

@@ -53,8 +53,9 @@ returns-clause-other_run_given g c told file job asks made shelf disk sink other
     clauses.other_run_given _ (slice_index_or c.args.words.now 1 []) c.answer_to-answer.result _ _ _ _ _ _ c.answer_to-answer.ensures.explained (rw c.second_word.ensures at c.reply.ensures.said) job (c.answer_to-answer.ensures.job_given told commands.Run file job asks made) shelf disk sink other
 
 pub returns-clause-fault_given : goal.returns-clause-fault_given
-returns-clause-fault_given g c told command file fault asks made shelf disk sink =
-    clauses.fault_given _ (slice_index_or c.args.words.now 1 []) c.answer_to-answer.result _ _ _ _ _ _ c.answer_to-answer.ensures.explained (rw c.second_word.ensures at c.reply.ensures.said) (c.answer_to-answer.ensures.fault_given told command file fault asks made) shelf sink
+returns-clause-fault_given g c told command file fault asks made =
+    let for_fault = c.answer_to-answer.ensures.fault_given told command file fault asks made in
+    (for_fault.0, for_fault.1, λ shelf sink. clauses.fault_given _ (slice_index_or c.args.words.now 1 []) fault c.answer_to-answer.result _ _ _ _ _ _ c.answer_to-answer.ensures.explained (rw c.second_word.ensures at c.reply.ensures.said) for_fault.2 shelf sink)
 
 pub returns-clause-no_job_given : goal.returns-clause-no_job_given
 returns-clause-no_job_given g c told command file asks none shelf disk sink =
