@@ -5,3 +5,5 @@ pub mod Numbers
 pub mod Place
 pub mod Single
 pub mod Jobs
+pub mod States
+pub mod Sweeps
