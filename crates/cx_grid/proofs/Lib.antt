@@ -1,6 +1,8 @@
 pub mod Places
+pub mod Points
 pub mod Following
 pub mod Interior
 pub mod Reaching
-mod Remainders
+pub mod Remainders
+pub mod WrapLaws
 mod Examples

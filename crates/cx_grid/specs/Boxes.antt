@@ -1,5 +1,5 @@
 -- Boxes of points, and the one order of their points: x is the fastest, then y. The directions x, y and z are 0, 1 and 2.
-use Rattle.std.specs.Prelude.{ℕ, zero, suc, ◌+◌, ◌*◌, ◌/◌, ◌%◌, ◌^◌, ◌<◌, ℤ, pos, ◌+ℤ◌, ◌≤ℤ◌, ◌<ℤ◌, List, map}
+use Rattle.std.specs.Prelude.{ℕ, zero, suc, ◌+◌, ◌*◌, ◌/◌, ◌%◌, ◌^◌, ◌<◌, Bool, ◌&&◌, ℤ, pos, ◌+ℤ◌, ◌≤ℤ◌, ◌<ℤ◌, int_le, int_lt, List, map}
 use Rattle.std.specs.List.{range_with_len}
 use Rattle.std.specs.Int.{int_gap}
 use Rattle.cx_grid.specs.declared.boxes.Point.{Point}
@@ -29,6 +29,13 @@ pub record IsIn (b : Box3) (p : Point) : Type 0 where
   pub x : IsOn b.low.x b.high.x p.x
   pub y : IsOn b.low.y b.high.y p.y
   pub z : IsOn b.low.z b.high.z p.z
+
+-- whether a coordinate is from low on and below high, and whether a box holds a point
+abbrev pub is_on : ℤ → ℤ → ℤ → Bool
+is_on low high c = int_le low c && int_lt c high
+
+abbrev pub has_point : Box3 → Point → Bool
+has_point b p = is_on b.low.x b.high.x p.x && is_on b.low.y b.high.y p.y && is_on b.low.z b.high.z p.z
 
 -- no end of a box is below its start
 pub record IsBox (b : Box3) : Type 0 where

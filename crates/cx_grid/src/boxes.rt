@@ -1,7 +1,7 @@
 //! Boxes of points.
-ghost use Rattle.std.specs.Prelude.{◌≡◌, ◌<◌, ◌+◌, ◌*◌, ◌/◌, ◌%◌, ◌^◌, ℕ, IsTrue, ◌↔◌, ◌≤ℤ◌, ◌<ℤ◌, pos, ◌+ℤ◌};
+ghost use Rattle.std.specs.Prelude.{◌≡◌, ◌<◌, ◌+◌, ◌*◌, ◌/◌, ◌%◌, ◌^◌, ◌&&◌, IsTrue, ◌↔◌, ◌≤ℤ◌, ◌<ℤ◌, pos, ◌+ℤ◌};
 ghost use Rattle.std.specs.Int.{int_gap};
-ghost use Rattle.cx_grid.specs.Boxes.{IsIn, IsOn, IsSmall, IsBox, point_count, extent, index_in, point_in, points_in};
+ghost use Rattle.cx_grid.specs.Boxes.{IsIn, IsOn, is_on, has_point, IsSmall, IsBox, point_count, index_in, point_in, points_in};
 
 use crate::walk::Rows;
 
@@ -22,14 +22,15 @@ pub struct Box3 {
 
 /// Whether a number lies from the one up to the other, which is excluded.
 fn is_on(low: i32, high: i32, c: i32) -> bool
-    ensures { IsTrue result ↔ IsOn low high c }
+    ensures { result ≡ is_on low high c }
 {
     low <= c && c < high
 }
 
 /// Whether a box holds a point.
 pub fn contains(b: &Box3, p: Point) -> bool
-    ensures { IsTrue result ↔ IsIn b.now p }
+    ensures value { result ≡ has_point b.now p }
+    ensures inside { IsTrue result ↔ IsIn b.now p }
 {
     let x = is_on(b.low.x, b.high.x, p.x);
     let y = is_on(b.low.y, b.high.y, p.y);
@@ -38,7 +39,7 @@ pub fn contains(b: &Box3, p: Point) -> bool
 }
 
 fn all_three(x: bool, y: bool, z: bool) -> bool
-    ensures { IsTrue result ↔ (IsTrue x × IsTrue y × IsTrue z) }
+    ensures { result ≡ (x && y && z) }
 {
     x && y && z
 }

@@ -4,7 +4,7 @@ ghost use Rattle.std.specs.Iterator.{YieldsFirst, item_count};
 ghost use Rattle.cx_grid.specs.Boxes.{points_in, IsIn};
 ghost use Rattle.cx_grid.specs.Walk.{points_from, IsNext};
 
-use crate::boxes::{Box3, Point};
+use crate::boxes::{Box3, Point, contains};
 use std::marker::Model;
 
 /// The points of a box that are left, x fastest.
@@ -57,7 +57,7 @@ fn first(b: &Box3) -> Option<Point>
     ensures next { IsNext b.now result }
     ensures left { points_from b.now result ≡ points_in b.now }
 {
-    if b.low.x < b.high.x && b.low.y < b.high.y && b.low.z < b.high.z {
+    if contains(b, b.low) {
         Some(b.low)
     } else {
         None

@@ -1,9 +1,13 @@
-use Rattle.std.proofs.Common.{rules, w32, SFits}
+use Rattle.std.proofs.Common.{rules, w32, SFits, ◌≡◌, ◌∙◌, sym, refl, Bool, ◌&&◌}
 use Rattle.std.proofs.lemmas.Int.{to_z-of_z}
+use Rattle.cx_grid.proofs.Points.{in_is, in_from}
 use Rattle.cx_grid.proofs.boxes.contains.Goals as goal
 
-pub returns : goal.returns
-returns c =
+same_all : {a b c x y z : Bool} → a ≡ x → b ≡ y → c ≡ z → (a && b && c) ≡ (x && y && z)
+same_all p q r = rw (p, q, r) refl
+
+pub returns-clause-value : goal.returns-clause-value
+returns-clause-value c =
     let lx : SFits w32 c.args.b.now.low.x = search rules in
     let ly : SFits w32 c.args.b.now.low.y = search rules in
     let lz : SFits w32 c.args.b.now.low.z = search rules in
@@ -15,7 +19,12 @@ returns c =
     let pz : SFits w32 c.args.p.z = search rules in
     let x = simp to_z-of_z at c.is_on-x.ensures in
     let y = simp to_z-of_z at c.is_on-y.ensures in
-    let z = simp to_z-of_z at c.is_on-z.ensures in (
-      λ t. record { x = x.0 (c.all_three.ensures.0 t).0; y = y.0 (c.all_three.ensures.0 t).1; z = z.0 (c.all_three.ensures.0 t).2 },
-      λ h. c.all_three.ensures.1 (x.1 h.x, y.1 h.y, z.1 h.z),
+    let z = simp to_z-of_z at c.is_on-z.ensures in
+    c.all_three.ensures ∙ same_all x y z
+
+pub returns-clause-inside : goal.returns-clause-inside
+returns-clause-inside c =
+    let value = returns-clause-value c in (
+      λ t. in_is c.args.b.now c.args.p (sym value ∙ t),
+      λ h. value ∙ in_from c.args.b.now c.args.p h,
     )
