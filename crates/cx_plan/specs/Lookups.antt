@@ -1,5 +1,5 @@
 -- What a job has under a number, and the bins.
-use Rattle.std.specs.Prelude.{ℕ, Bool, true, false, List, [], ◌∷◌, ◌++◌, slice_index_or}
+use Rattle.std.specs.Prelude.{ℕ, Bool, true, false, List, [], ◌∷◌, ◌++◌, slice_index_or, codes}
 use Rattle.cx_text.specs.declared.ctype.CType.TheVariants.{Int8}
 use Rattle.cx_plan.specs.declared.variable.VarId.{VarId}
 use Rattle.cx_plan.specs.declared.variable.VarInfo.{VarInfo}
@@ -31,7 +31,9 @@ item setup k = slice_index_or setup.items k no_item
 abbrev pub bin : Setup → ℕ → Tree
 bin setup b = slice_index_or setup.bins b (Seq [])
 
--- the bins that are run
+-- ---- bins, by their numbers
+
+-- those that are run
 abbrev pub STARTUP : ℕ
 STARTUP = 0
 
@@ -70,6 +72,70 @@ TERMINATE = 11
 
 abbrev pub SHUTDOWN : ℕ
 SHUTDOWN = 12
+
+-- those that are not run
+abbrev pub CPINITIAL : ℕ
+CPINITIAL = 13
+
+abbrev pub RECOVER_PARAMETERS : ℕ
+RECOVER_PARAMETERS = 14
+
+abbrev pub RECOVER_VARIABLES : ℕ
+RECOVER_VARIABLES = 15
+
+abbrev pub POST_RECOVER_VARIABLES : ℕ
+POST_RECOVER_VARIABLES = 16
+
+-- the order of a run: at iteration 0, in each later iteration, and at the end. ANALYSIS stands behind the first two, and
+-- CHECKPOINT between the second and ANALYSIS
+abbrev pub start_bins : List ℕ
+start_bins = STARTUP ∷ WRAGH ∷ PARAMCHECK ∷ BASEGRID ∷ INITIAL ∷ POSTINITIAL ∷ POSTSTEP ∷ []
+
+abbrev pub step_bins : List ℕ
+step_bins = PRESTEP ∷ EVOL ∷ POSTSTEP ∷ []
+
+abbrev pub end_bins : List ℕ
+end_bins = TERMINATE ∷ SHUTDOWN ∷ []
+
+-- the bins that are run, by their numbers
+abbrev pub run_bins : List ℕ
+run_bins =
+    STARTUP ∷ WRAGH ∷ PARAMCHECK ∷ BASEGRID ∷ INITIAL ∷ POSTINITIAL ∷ PRESTEP ∷ EVOL ∷ POSTSTEP ∷ CHECKPOINT ∷ ANALYSIS
+    ∷ TERMINATE ∷ SHUTDOWN ∷ []
+
+-- how many bins there are; the first so many are run
+abbrev pub bin_count : ℕ
+bin_count = 17
+
+abbrev pub run_bin_count : ℕ
+run_bin_count = 13
+
+-- the bins' names, by their numbers
+abbrev pub bin_names : List (List ℕ)
+bin_names =
+    codes "STARTUP"
+    ∷ codes "WRAGH"
+    ∷ codes "PARAMCHECK"
+    ∷ codes "BASEGRID"
+    ∷ codes "INITIAL"
+    ∷ codes "POSTINITIAL"
+    ∷ codes "PRESTEP"
+    ∷ codes "EVOL"
+    ∷ codes "POSTSTEP"
+    ∷ codes "CHECKPOINT"
+    ∷ codes "ANALYSIS"
+    ∷ codes "TERMINATE"
+    ∷ codes "SHUTDOWN"
+    ∷ codes "CPINITIAL"
+    ∷ codes "RECOVER_PARAMETERS"
+    ∷ codes "RECOVER_VARIABLES"
+    ∷ codes "POST_RECOVER_VARIABLES"
+    ∷ []
+
+abbrev pub bin_name : ℕ → List ℕ
+bin_name b = slice_index_or bin_names b []
+
+-- ---- trees
 
 -- the items that a tree calls, in its order
 abbrev mutual

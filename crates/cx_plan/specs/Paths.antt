@@ -2,7 +2,7 @@
 use Rattle.std.specs.Prelude.{ℕ, zero, suc, ◌≡◌, ◌⊎◌, Bool, true, false, not, int_lt, pos, List, [], ◌∷◌, ◌++◌, find, Option, Some, None, MatchBool}
 use Rattle.cx_plan.specs.Setups.{Setup}
 use Rattle.cx_plan.specs.declared.tree.Tree.{Tree, Seq', Call, Sync, If', While', Row_of-Tree, end_of-Tree, more_of-Tree}
-use Rattle.cx_plan.specs.Lookups.{bin, is_empty, STARTUP, WRAGH, PARAMCHECK, BASEGRID, INITIAL, POSTINITIAL, PRESTEP, EVOL, POSTSTEP, CHECKPOINT, ANALYSIS, TERMINATE, SHUTDOWN}
+use Rattle.cx_plan.specs.Lookups.{bin, is_empty, start_bins, step_bins, end_bins, CHECKPOINT, ANALYSIS}
 use Rattle.cx_plan.specs.Regions.{Act, Turns, Syncs, Tests, Rotates, Outputs, Flags, Need, cleared, needs, leaves, is_met}
 
 -- a path is a list of marks: a letter says which way it takes, and the rest is what it meets
@@ -74,13 +74,12 @@ PathOfCheckpoint setup marks =
     (Then (Just (letter_y ∷ [])) (Path (bin setup CHECKPOINT)) marks ⊎ Just (letter_n ∷ []) marks)
 
 abbrev pub PathOfStart : Setup → List Mark → Type 0
-PathOfStart setup =
-    Then (PathOfBins setup (STARTUP ∷ WRAGH ∷ PARAMCHECK ∷ BASEGRID ∷ INITIAL ∷ POSTINITIAL ∷ POSTSTEP ∷ [])) (PathOfAnalysis setup)
+PathOfStart setup = Then (PathOfBins setup start_bins) (PathOfAnalysis setup)
 
 abbrev pub PathOfIteration : Setup → List Mark → Type 0
 PathOfIteration setup =
     Then (Just (letter_i ∷ Meets Rotates ∷ []))
-    (Then (PathOfBins setup (PRESTEP ∷ EVOL ∷ POSTSTEP ∷ [])) (Then (PathOfCheckpoint setup) (PathOfAnalysis setup)))
+    (Then (PathOfBins setup step_bins) (Then (PathOfCheckpoint setup) (PathOfAnalysis setup)))
 
 abbrev pub PathOfIterations : Setup → ℕ → List Mark → Type 0
 PathOfIterations setup zero = Just []
@@ -90,7 +89,7 @@ PathOfIterations setup (suc n) = Then (PathOfIteration setup) (PathOfIterations 
 abbrev pub PathOfJob : Setup → List Mark → Type 0
 PathOfJob setup =
     Then (PathOfStart setup)
-    (Then (λ marks. (n : ℕ) × PathOfIterations setup n marks) (PathOfBins setup (TERMINATE ∷ SHUTDOWN ∷ [])))
+    (Then (λ marks. (n : ℕ) × PathOfIterations setup n marks) (PathOfBins setup end_bins))
 
 -- the first need on a path that meets a cleared flag, with the letters before it
 abbrev pub or_go_on : List ℕ → Option Need → Option (List ℕ × Need) → Option (List ℕ × Need)

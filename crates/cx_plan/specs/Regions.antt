@@ -14,7 +14,7 @@ use Rattle.cx_plan.specs.declared.item.Item.{Item}
 use Rattle.cx_plan.specs.Setups.{Setup}
 use Rattle.cx_plan.specs.declared.flag.Flag.{Flag}
 use Rattle.cx_plan.specs.declared.flag.Flag.TheVariants.{I, B, G, S}
-use Rattle.cx_plan.specs.Lookups.{is_scalar, levels_of, item, bin, called}
+use Rattle.cx_plan.specs.Lookups.{is_scalar, levels_of, item, bin, called, run_bins}
 
 -- ---- shapes
 
@@ -107,7 +107,7 @@ has_shape setup x =
 
 -- the items that the bins call which are run
 abbrev pub run_items : Setup → List ℕ
-run_items setup = flat_map (λ b. called (bin setup b)) (0 ∷ 1 ∷ 2 ∷ 3 ∷ 4 ∷ 5 ∷ 6 ∷ 7 ∷ 8 ∷ 9 ∷ 10 ∷ 11 ∷ 12 ∷ [])
+run_items setup = flat_map (λ b. called (bin setup b)) run_bins
 
 abbrev pub HasShapes : Setup → Type 0
 HasShapes setup = All (λ k. has_shape setup (item setup k) ≡ true) (run_items setup)

@@ -9,7 +9,7 @@ use Rattle.cx_plan.specs.declared.item.Item.{Item}
 use Rattle.cx_plan.specs.declared.job.Job.{Job}
 use Rattle.cx_plan.specs.declared.tree.Tree.{Tree, Seq', Call, Sync, If', While', Row_of-Tree, end_of-Tree, more_of-Tree}
 use Rattle.cx_plan.specs.Setups.{setup_of}
-use Rattle.cx_plan.specs.Lookups.{is_scalar, levels_of, item}
+use Rattle.cx_plan.specs.Lookups.{is_scalar, levels_of, item, bin_count}
 use Rattle.cx_plan.specs.Regions.{run_items}
 use Rattle.cx_plan.specs.Sizes.{all_nodes, greatest_depth}
 
@@ -69,7 +69,7 @@ pub record IsWhole (job : Job) : Type 0 where
   pub levels_limit : All (λ (v : VarInfo). v.levels ≤ 8) job.vars
   pub items : All (IsItem job) job.items
   pub run_items : All (λ k. IsSmall (item (setup_of job) k)) (run_items (setup_of job))
-  pub bins : length job.plan.bins ≡ 17
+  pub bins : length job.plan.bins ≡ bin_count
   pub trees : All (IsTree job) job.plan.bins
   pub nodes_limit : all_nodes job.plan.bins ≤ 4096
   pub depth_limit : greatest_depth job.plan.bins ≤ 32
