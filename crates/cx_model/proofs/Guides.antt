@@ -10,12 +10,10 @@ use Rattle.cx_plan.specs.Paths.{Mark, Letter, Meets, Then, Just, or_go_on, first
 use Rattle.cx_model.specs.States.{State}
 use Rattle.cx_model.specs.declared.ends.End.{End}
 use Rattle.cx_model.specs.Traces.{Entry, Outcome, Goes, Ends, Trace, stays, ends, after, follow, then_go}
+use Rattle.cx_model.specs.Agreement.{Met}
 use Rattle.cx_model.specs.Uses.{entry_needs, entry_leaves, entries_leave}
 
 -- ---- needs that are met
-
-abbrev pub Met : Setup → Flags → List Need → Type 0
-Met setup flags ns = All (λ need. is_met setup flags need ≡ true) ns
 
 -- each need on a path is met, from these flags on
 abbrev pub PathMet : Setup → Flags → List Mark → Type 0

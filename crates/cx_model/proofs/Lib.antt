@@ -1,5 +1,21 @@
 mod Samples
 mod Rows
-mod Guides
-mod TreeGuides
-mod RunGuides
+mod ThinRow
+pub mod Guides
+pub mod TreeGuides
+pub mod RunGuides
+pub mod StateLaws
+pub mod ListLaws
+pub mod SaveLaws
+pub mod StageLaws
+pub mod CheckpointLaws
+pub mod PointLaws
+pub mod NearLaws
+pub mod WriteLaws
+pub mod TurnLaws
+pub mod CellLaws
+pub mod ActLaws
+pub mod ReadyLaws
+pub mod RunLaws
+pub mod KeepLaws
+pub mod ValueLaws

@@ -8,7 +8,7 @@ use Rattle.cx_plan.specs.declared.tree.Tree.{Tree, Seq', Call, Sync, If', While'
 use Rattle.cx_plan.specs.Setups.{Setup}
 use Rattle.cx_plan.specs.Dues.{is_due, is_each, is_written}
 use Rattle.cx_plan.specs.Lookups.{bin, is_empty, has_none, STARTUP, WRAGH, PARAMCHECK, BASEGRID, INITIAL, POSTINITIAL, PRESTEP, EVOL, POSTSTEP, CHECKPOINT, ANALYSIS, TERMINATE, SHUTDOWN}
-use Rattle.cx_plan.specs.Regions.{Rotates, Outputs, Flags, cleared, output_needs, is_met}
+use Rattle.cx_plan.specs.Regions.{Rotates, Outputs, Flags, Need, cleared, output_needs, is_met}
 use Rattle.cx_plan.specs.Paths.{Mark, Letter, Meets, letter_i, letter_y, letter_n, Then, Just, Path, PathIn, PathOfBins, PathOfAnalysis, PathOfCheckpoint, PathOfIteration, PathOfIterations, PathOfJob, Sound}
 use Rattle.cx_rule.specs.Routine.{Rule}
 use Rattle.cx_model.specs.States.{State, start, rotate}
@@ -17,7 +17,9 @@ use Rattle.cx_model.specs.Trees.{run_tree}
 use Rattle.cx_model.specs.Stages.{Stage, Bin, Rotate, Save, Write, bins, checkpoint, before_analysis, from_analysis, iteration, rest_behind, stages}
 use Rattle.cx_model.specs.Runs.{all_written, run_stage, run_stages, text_added, passing, stop_or, within_limit}
 use Rattle.cx_model.specs.Uses.{entry_leaves, entries_leave, UsesOnlySet}
-use Rattle.cx_model.proofs.Guides.{Met, EntriesMet, Guided, SameLeft, guided-map, guided-stays, guided-then, then-nothing, then-right, path-met, entry-met}
+use Rattle.cx_model.specs.Agreement.{Met}
+use Rattle.cx_model.proofs.ListLaws.{all-left, all-right}
+use Rattle.cx_model.proofs.Guides.{EntriesMet, Guided, SameLeft, guided-map, guided-stays, guided-then, then-nothing, then-right, path-met, entry-met}
 use Rattle.cx_model.proofs.TreeGuides.{guided-tree}
 
 -- ---- stages, one after another
@@ -54,16 +56,13 @@ follow-bins setup rules n (b ∷ bs) state =
 
 -- ---- output
 
-all-parts : {X : Type 0} (P : X → Type 0) (xs ys : List X) → All P (xs ++ ys) → All P xs × All P ys
-all-parts P [] ys all = (All-nil P, all)
-all-parts P (x ∷ xs) ys all =
-    let r = all-parts P xs ys (All-tail P x (xs ++ ys) all) in (All-cons P x xs (All-head P x (xs ++ ys) all) r.0, r.1)
-
 met-written : (setup : Setup) (n : ℕ) (state : State) (flags : Flags) (vs : List VarId) → Met setup flags (flat_map (output_needs setup) vs) → EntriesMet setup flags (all_written setup n state vs)
 met-written setup n state flags [] met = tt
 met-written setup n state flags (v ∷ vs) met =
-    let parts = all-parts (λ need. is_met setup flags need ≡ true) (output_needs setup v) (flat_map (output_needs setup) vs) met in
-    (parts.0, met-written setup n state flags vs parts.1)
+    let P = λ (need : Need). is_met setup flags need ≡ true in (
+      all-left P (output_needs setup v) (flat_map (output_needs setup) vs) met,
+      met-written setup n state flags vs (all-right P (output_needs setup v) (flat_map (output_needs setup) vs) met),
+    )
 
 written-leave : (setup : Setup) (n : ℕ) (state : State) (flags : Flags) (vs : List VarId) → entries_leave setup (all_written setup n state vs) flags ≡ flags
 written-leave setup n state flags [] = refl
@@ -79,11 +78,11 @@ guided-write setup rules n state =
     }
 
 -- the output that a path meets where there is any; where it isn't due the run writes nothing
-abbrev outputs_if : Bool → List Mark
+abbrev pub outputs_if : Bool → List Mark
 outputs_if true = Meets Outputs ∷ []
 outputs_if false = []
 
-is_positive : (k : ℕ) → true ≡ int_lt (pos 0) (pos (suc k))
+pub is_positive : (k : ℕ) → true ≡ int_lt (pos 0) (pos (suc k))
 is_positive k = grind arith
 
 follow-output : (setup : Setup) (rules : List Rule) (n : ℕ) (z : ℤ) → Follow setup rules (Just (outputs_if (int_lt (pos 0) z))) (cond (is_each z n) (Write n ∷ []) [])
@@ -98,7 +97,7 @@ follow-output setup rules n (pos (suc k)) state =
         (guided-then setup (Just (Meets Outputs ∷ [])) (Just []) (run_stage setup rules (Write n) state) (run_stages setup rules []) (guided-write setup rules n state) (guided-stays setup))
     by false = record { marks = Meets Outputs ∷ []; path = refl; met = λ flags met. tt; left = λ flags. refl }
 
-analysis : (setup : Setup) (z : ℤ) (marks : List Mark) → Then (Path (bin setup ANALYSIS)) (Just (outputs_if (int_lt (pos 0) z))) marks → PathOfAnalysis (record setup { out_every = z }) marks
+pub analysis : (setup : Setup) (z : ℤ) (marks : List Mark) → Then (Path (bin setup ANALYSIS)) (Just (outputs_if (int_lt (pos 0) z))) marks → PathOfAnalysis (record setup { out_every = z }) marks
 analysis setup (pos zero) marks way = way
 analysis setup (pos (suc k)) marks way = way
 analysis setup (negsuc k) marks way = way
@@ -115,7 +114,7 @@ follow-analysis setup rules n state =
 
 -- ---- checkpoints
 
-empty-path : (tree : Tree) (marks : List Mark) → is_empty tree ≡ true → Path tree marks → marks ≡ []
+pub empty-path : (tree : Tree) (marks : List Mark) → is_empty tree ≡ true → Path tree marks → marks ≡ []
 empty-path (Seq' shape all) marks none way = by all none way
   where
     by : {m : _} (row : Row_of-Tree m) → has_none row ≡ true → PathIn row marks → marks ≡ []
@@ -220,9 +219,14 @@ met-within setup so_far (e ∷ es) o flags met =
     by None rest others = (met.0, others)
     by (Some n) rest others = tt
 
+-- along the run of a sound job from any state each need is met
+pub met-run : (setup : Setup) (rules : List Rule) (state : State) → Sound setup → EntriesMet setup cleared (run_stages setup rules (stages setup) state).entries
+met-run setup rules state sound =
+    let g = follow-job setup rules state in
+    g.met cleared (path-met setup [] cleared g.marks (sound g.marks g.path))
+
 pub uses-only-set : (setup : Setup) (rules : List Rule) → Sound setup → UsesOnlySet setup rules
 uses-only-set setup rules sound earlier e later is =
     let run = run_stages setup rules (stages setup) (start setup) in
-    let g = follow-job setup rules (start setup) in
-    let met = met-within setup 0 run.entries run.outcome cleared (g.met cleared (path-met setup [] cleared g.marks (sound g.marks g.path))) in
+    let met = met-within setup 0 run.entries run.outcome cleared (met-run setup rules (start setup) sound) in
     entry-met setup earlier e later cleared (subst (EntriesMet setup cleared) is met)

@@ -6,3 +6,7 @@ pub mod Stages
 pub mod Runs
 pub mod Work
 pub mod Uses
+pub mod Checkpoints
+pub mod Agreement
+pub mod Alike
+pub mod Values

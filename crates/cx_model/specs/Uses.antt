@@ -1,10 +1,11 @@
 -- What an undivided run uses, and the flags that it leaves.
-use Rattle.std.specs.Prelude.{◌≡◌, true, List, [], ◌∷◌, ◌++◌, All}
+use Rattle.std.specs.Prelude.{◌≡◌, List, [], ◌∷◌, ◌++◌}
 use Rattle.cx_plan.specs.Setups.{Setup}
-use Rattle.cx_plan.specs.Regions.{Turns, Syncs, Tests, Rotates, Flags, Need, cleared, needs, leaves, output_needs, is_met}
+use Rattle.cx_plan.specs.Regions.{Turns, Syncs, Tests, Rotates, Flags, Need, cleared, needs, leaves, output_needs}
 use Rattle.cx_rule.specs.Routine.{Rule}
 use Rattle.cx_model.specs.Traces.{Entry, Turned, Overflowed, Exchanged, Tested, Rotated, Wrote, Saved}
 use Rattle.cx_model.specs.Runs.{undivided_run}
+use Rattle.cx_model.specs.Agreement.{Met}
 
 -- what an entry needs
 abbrev pub entry_needs : Setup → Entry → List Need
@@ -35,7 +36,7 @@ entries_leave setup (e ∷ es) flags = entries_leave setup es (entry_leaves setu
 abbrev pub UsesSet : Setup → List Entry → Type 0
 UsesSet setup entries =
     (earlier : List Entry) (e : Entry) (later : List Entry) → entries ≡ earlier ++ e ∷ later
-    → All (λ need. is_met setup (entries_leave setup earlier cleared) need ≡ true) (entry_needs setup e)
+    → Met setup (entries_leave setup earlier cleared) (entry_needs setup e)
 
 -- the undivided run never uses a value of a region that no write has set since its flag was last cleared
 abbrev pub UsesOnlySet : Setup → List Rule → Type 0

@@ -4,7 +4,6 @@ mod QuietLaws
 mod LevelLaws
 mod ReductionLaws
 mod ScalarLaws
-pub mod StateLaws
 mod SeeingLaws
 pub mod StagingLaws
 mod TreeLaws

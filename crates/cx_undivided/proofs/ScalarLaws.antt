@@ -11,7 +11,7 @@ use Rattle.cx_plan.specs.Regions.{is_one, reduces, has_shape, is_some_list, are_
 use Rattle.cx_rule.specs.Meter.{raised}
 use Rattle.cx_model.specs.States.{State, with_scalar, IsState}
 use Rattle.cx_model.specs.Turns.{fits, all_fit, if_fit, scalars_after, scalar_turn}
-use Rattle.cx_undivided.proofs.StateLaws.{with_scalar_keeps, scalars_after_keeps}
+use Rattle.cx_model.proofs.StateLaws.{with_scalar_keeps, scalars_after_keeps}
 
 -- ---- reductions
 

@@ -30,7 +30,7 @@ use Rattle.cx_undivided.specs.declared.points.Bench.{Bench}
 use Rattle.cx_grid.proofs.Places.{point_inside}
 use Rattle.cx_plan.specs.declared.item.Touch.{Touch}
 use Rattle.cx_rule.specs.Meter.{raised, raised_none, raised_twice}
-use Rattle.cx_undivided.proofs.StateLaws.{with_level_keeps}
+use Rattle.cx_model.proofs.StateLaws.{with_level_keeps}
 use Rattle.cx_undivided.specs.Staging.{Sweep, sweep_of, old_number, is_swept, new_number, new_row, new_lists, lengthened, with_lists, IsSwept, Swept}
 
 -- ---- cells that are filled

@@ -1,0 +1,261 @@
+-- Where a checkpoint place stands among a run's entries.
+use Rattle.std.proofs.Common.{◌≡◌, ℕ, zero, suc, ◌+◌, ◌≤◌, ℤ, pos, negsuc, refl, sym, ap, subst, ◌∙◌, Bool, true, false, nat_le, List, [], ◌∷◌, ◌++◌, length, append_assoc, length-append, Option, Some, None, add-zero, arith, if◌then◌else◌}
+use Rattle.cx_plan.specs.declared.variable.VarId.{VarId}
+use Rattle.cx_plan.specs.declared.item.Item.{Item}
+use Rattle.cx_plan.specs.declared.tree.Tree.{Tree, Seq', Call, Sync, If', While', Row_of-Tree, end_of-Tree, more_of-Tree}
+use Rattle.cx_plan.specs.Setups.{Setup}
+use Rattle.cx_plan.specs.Lookups.{item, bin}
+use Rattle.cx_rule.specs.Routine.{Rule}
+use Rattle.cx_model.specs.States.{State, scalar_of, rotate}
+use Rattle.cx_model.specs.Turns.{turn}
+use Rattle.cx_model.specs.declared.ends.End.{End}
+use Rattle.cx_model.specs.declared.ends.End.TheVariants.{WhileLimit}
+use Rattle.cx_model.specs.Traces.{Entry, Turned, Overflowed, Exchanged, Tested, Rotated, Wrote, Saved, Outcome, Goes, Ends, Trace, stays, ends, after, follow, then_go}
+use Rattle.cx_model.specs.Trees.{at_zero, test, turn_trace, loop, run_tree, run_row}
+use Rattle.cx_model.specs.Stages.{Stage, Bin, Rotate, Save, Write}
+use Rattle.cx_model.specs.Runs.{all_written, run_stages, text_added, output_of, passing, stop_or, within_limit, limited, greatest_output}
+use Rattle.cx_model.proofs.ListLaws.{heads, tails, nothing_there}
+
+-- ---- entries that are no checkpoint place
+
+abbrev pub Each : (Entry → Type 0) → List Entry → Type 0
+Each P [] = Unit {0}
+Each P (e ∷ es) = P e × Each P es
+
+pub each-both : (P : Entry → Type 0) (xs ys : List Entry) → Each P xs → Each P ys → Each P (xs ++ ys)
+each-both P [] ys one two = two
+each-both P (e ∷ xs) ys one two = (one.0, each-both P xs ys one.1 two)
+
+abbrev pub IsOther : Entry → Type 0
+IsOther (Saved n state) = ⊥
+IsOther _ = Unit {0}
+
+others-then : (t : Trace) (next : State → Trace) → Each IsOther t.entries → ((state : State) → Each IsOther (next state).entries) → Each IsOther (then_go t next).entries
+others-then t next one two = each-both IsOther t.entries (follow t.outcome next).entries one (by t.outcome)
+  where
+    by : (o : Outcome) → Each IsOther (follow o next).entries
+    by (Goes state) = two state
+    by (Ends end) = tt
+
+others-test : (v : VarId) (path : List ℕ) (a b : State → Trace) (state : State) → Each IsOther (a state).entries → Each IsOther (b state).entries → Each IsOther (test v path a b state).entries
+others-test v path a b state one two = by (scalar_of state v)
+  where
+    by : (n : ℤ) → Each IsOther (after (Tested v path state ∷ []) (at_zero n a b state)).entries
+    by (pos zero) = (tt, one)
+    by (pos (suc n)) = (tt, two)
+    by (negsuc n) = (tt, two)
+
+others-loop : (v : VarId) (path : List ℕ) (limit : End) (body : State → Trace) → ((state : State) → Each IsOther (body state).entries) → (turns : ℕ) (state : State) → Each IsOther (loop v path limit body turns state).entries
+others-loop v path limit body each zero state = others-test v path stays (λ _. ends limit) state tt tt
+others-loop v path limit body each (suc turns) state =
+    let next = loop v path limit body turns in
+    others-test v path stays (λ s. then_go (body s) next) state tt (others-then (body state) next (each state) (others-loop v path limit body each turns))
+
+others-turn : (k : ℕ) (x : Item) (iteration : ℕ) (state : State) (given : Option State) → Each IsOther (turn_trace k x iteration state given).entries
+others-turn k x iteration state None = (tt, tt)
+others-turn k x iteration state (Some now) = (tt, tt)
+
+mutual
+  others-tree : (setup : Setup) (rules : List Rule) (iteration : ℕ) (tree : Tree) (state : State) → Each IsOther (run_tree setup rules iteration tree state).entries
+  others-tree setup rules iteration (Seq' shape all) state = others-row setup rules iteration all state
+  others-tree setup rules iteration (Call k) state = others-turn k (item setup k) iteration state (turn setup rules (item setup k) state iteration)
+  others-tree setup rules iteration (Sync vars path) state = (tt, tt)
+  others-tree setup rules iteration (If' v path shape one) state =
+      others-test v path stays (run_row setup rules iteration one) state tt (others-row setup rules iteration one state)
+  others-tree setup rules iteration (While' v path shape one) state =
+      others-loop v path (WhileLimit iteration path) (run_row setup rules iteration one) (others-row setup rules iteration one) setup.while_limit state
+
+  others-row : {m : _} (setup : Setup) (rules : List Rule) (iteration : ℕ) (row : Row_of-Tree m) (state : State) → Each IsOther (run_row setup rules iteration row state).entries
+  others-row setup rules iteration end_of-Tree state = tt
+  others-row setup rules iteration (more_of-Tree tree rest) state =
+      others-then (run_tree setup rules iteration tree state) (run_row setup rules iteration rest)
+      (others-tree setup rules iteration tree state) (others-row setup rules iteration rest)
+
+others-written : (setup : Setup) (iteration : ℕ) (state : State) (vs : List VarId) → Each IsOther (all_written setup iteration state vs)
+others-written setup iteration state [] = tt
+others-written setup iteration state (v ∷ vs) = (tt, others-written setup iteration state vs)
+
+-- ---- lengths
+
+pub output-both : (xs ys : List Entry) → output_of (xs ++ ys) ≡ output_of xs ++ output_of ys
+output-both [] ys = refl
+output-both (e ∷ xs) ys = ap (λ t. text_added e ++ t) (output-both xs ys) ∙ sym (append_assoc (text_added e) (output_of xs) (output_of ys))
+
+pub length-both : (xs ys : List Entry) (n : ℕ) → n + length (output_of (xs ++ ys)) ≡ n + length (output_of xs) + length (output_of ys)
+length-both xs ys n =
+    let e = ap length (output-both xs ys) ∙ length-append (output_of xs) (output_of ys) in
+    omega (arith, e)
+
+-- ---- behind entries that are no checkpoint place
+
+abbrev pub Stands : Trace → List Entry → ℕ → State → List Entry → Type 0
+Stands t earlier c state later = t.entries ≡ earlier ++ Saved c state ∷ later
+
+-- where a checkpoint place stands behind some entries, they are passed
+pub record Passes (so_far : ℕ) (es more : List Entry) (o : Outcome) (earlier : List Entry) (c : ℕ) (state : State) (later : List Entry) : Type 0 where
+  pub between : List Entry
+  pub is : earlier ≡ es ++ between
+  pub all : within_limit so_far (es ++ more) o ≡ after es (within_limit (so_far + length (output_of es)) more o)
+  pub there : Stands (within_limit (so_far + length (output_of es)) more o) between c state later
+
+not_other : (e : Entry) (c : ℕ) (state : State) → IsOther e → e ≡ Saved c state → ⊥
+not_other e c state other is = subst IsOther is other
+
+pub passes : (so_far : ℕ) (es more : List Entry) (o : Outcome) (earlier : List Entry) (c : ℕ) (state : State) (later : List Entry)
+    → Each IsOther es → Stands (within_limit so_far (es ++ more) o) earlier c state later → Passes so_far es more o earlier c state later
+passes so_far [] more o earlier c state later others there =
+    record {
+      between = earlier;
+      is = refl;
+      all = ap (λ n. within_limit n more o) (sym (add-zero so_far));
+      there = subst (λ n. Stands (within_limit n more o) earlier c state later) (sym (add-zero so_far)) there;
+    }
+passes so_far (e ∷ es) more o earlier c state later others there =
+    by (passing so_far e) refl earlier there (λ rest at. passes (so_far + length (text_added e)) es more o rest c state later others.1 at)
+  where
+    inner : Trace
+    inner = within_limit (so_far + length (text_added e)) (es ++ more) o
+
+    more_length : so_far + length (text_added e) + length (output_of es) ≡ so_far + length (output_of (e ∷ es))
+    more_length = let f = length-append (text_added e) (output_of es) in omega (arith, f)
+
+    by : (p : Option ℕ) → passing so_far e ≡ p → (earlier : List Entry) → Stands (stop_or p (after (e ∷ []) inner)) earlier c state later
+        → ((rest : List Entry) → Stands inner rest c state later → Passes (so_far + length (text_added e)) es more o rest c state later)
+        → Passes so_far (e ∷ es) more o earlier c state later
+    by None is [] there again = absurd (not_other e c state others.0 (heads e (Saved c state) inner.entries later there))
+    by None is (f ∷ rest) there again =
+        let r = again rest (tails e f inner.entries (rest ++ Saved c state ∷ later) there) in
+        record {
+          between = r.between;
+          is = ap (λ g. g ∷ rest) (sym (heads e f inner.entries (rest ++ Saved c state ∷ later) there)) ∙ ap (λ l. e ∷ l) r.is;
+          all = ap (λ p. stop_or p (after (e ∷ []) inner)) is ∙ ap (after (e ∷ [])) (r.all ∙ ap (λ n. after es (within_limit n more o)) more_length);
+          there = subst (λ n. Stands (within_limit n more o) r.between c state later) more_length r.there;
+        }
+    by (Some n) is earlier there again = absurd (nothing_there earlier (Saved c state) later there)
+
+-- ---- a run of stages
+
+-- what holds of each checkpoint place of some stages and of the stages behind it
+abbrev pub EachSave : (ℕ → List Stage → Type 0) → List Stage → Type 0
+EachSave P [] = Unit {0}
+EachSave P (Save n ∷ ss) = P n ss × EachSave P ss
+EachSave P (Bin b n ∷ ss) = EachSave P ss
+EachSave P (Rotate ∷ ss) = EachSave P ss
+EachSave P (Write n ∷ ss) = EachSave P ss
+
+-- a place that a run of stages reaches, with the stages behind it
+pub record Found (P : ℕ → List Stage → Type 0) (setup : Setup) (rules : List Rule) (t : Trace) (entries : List Entry) (so_far : ℕ) (earlier : List Entry) (c : ℕ) (state : State) : Type 0 where
+  pub behind : List Stage
+  pub holds : P c behind
+  pub all : t ≡ after (earlier ++ Saved c state ∷ []) (limited (so_far + length (output_of earlier)) (run_stages setup rules behind state))
+  pub full : entries ≡ earlier ++ Saved c state ∷ (run_stages setup rules behind state).entries
+
+after-joined : (es between earlier : List Entry) (x : Entry) (t : Trace) → earlier ≡ es ++ between → after es (after (between ++ x ∷ []) t) ≡ after (earlier ++ x ∷ []) t
+after-joined es between earlier x t is =
+    ap (λ (all : List Entry). record { entries = all; outcome = t.outcome })
+    (sym (append_assoc es (between ++ x ∷ []) t.entries)
+    ∙ ap (λ (a : List Entry). a ++ t.entries) (sym (append_assoc es between (x ∷ [])) ∙ ap (λ (a : List Entry). a ++ x ∷ []) (sym is)))
+
+-- the place stands behind the entries of one stage
+found_behind : (P : ℕ → List Stage → Type 0) (setup : Setup) (rules : List Rule) (es : List Entry) (out : Outcome) (ss : List Stage) (so_far : ℕ) (earlier : List Entry) (c : ℕ) (state : State) (later : List Entry)
+    → Each IsOther es
+    → ((first : State) (n : ℕ) (between : List Entry) → Stands (limited n (run_stages setup rules ss first)) between c state later → Found P setup rules (limited n (run_stages setup rules ss first)) (run_stages setup rules ss first).entries n between c state)
+    → Stands (limited so_far (after es (follow out (run_stages setup rules ss)))) earlier c state later
+    → Found P setup rules (limited so_far (after es (follow out (run_stages setup rules ss)))) (after es (follow out (run_stages setup rules ss))).entries so_far earlier c state
+found_behind P setup rules es (Goes first) ss so_far earlier c state later others again there =
+    let rest = run_stages setup rules ss first in
+    let r = passes so_far es rest.entries rest.outcome earlier c state later others there in
+    let f = again first (so_far + length (output_of es)) r.between r.there in
+    record {
+      behind = f.behind;
+      holds = f.holds;
+      all = r.all ∙ ap (after es) f.all
+          ∙ after-joined es r.between earlier (Saved c state) (limited (so_far + length (output_of es) + length (output_of r.between)) (run_stages setup rules f.behind state)) r.is
+          ∙ ap (λ n. after (earlier ++ Saved c state ∷ []) (limited n (run_stages setup rules f.behind state)))
+          (sym (length-both es r.between so_far) ∙ ap (λ a. so_far + length (output_of a)) (sym r.is));
+      full = ap (λ l. es ++ l) f.full ∙ sym (append_assoc es r.between (Saved c state ∷ (run_stages setup rules f.behind state).entries))
+          ∙ ap (λ a. a ++ Saved c state ∷ (run_stages setup rules f.behind state).entries) (sym r.is);
+    }
+found_behind P setup rules es (Ends end) ss so_far earlier c state later others again there =
+    let r = passes so_far es [] (Ends end) earlier c state later others there in
+    absurd (nothing_there r.between (Saved c state) later r.there)
+
+pub found : (P : ℕ → List Stage → Type 0) (setup : Setup) (rules : List Rule) (ss : List Stage) → EachSave P ss
+    → (first : State) (so_far : ℕ) (earlier : List Entry) (c : ℕ) (state : State) (later : List Entry)
+    → Stands (limited so_far (run_stages setup rules ss first)) earlier c state later
+    → Found P setup rules (limited so_far (run_stages setup rules ss first)) (run_stages setup rules ss first).entries so_far earlier c state
+found P setup rules [] each first so_far earlier c state later there = absurd (nothing_there earlier (Saved c state) later there)
+found P setup rules (Bin b n ∷ ss) each first so_far earlier c state later there =
+    let t = run_tree setup rules n (bin setup b) first in
+    found_behind P setup rules t.entries t.outcome ss so_far earlier c state later (others-tree setup rules n (bin setup b) first)
+    (λ now k between at. found P setup rules ss each now k between c state later at) there
+found P setup rules (Rotate ∷ ss) each first so_far earlier c state later there =
+    found_behind P setup rules (Rotated first ∷ []) (Goes (rotate first)) ss so_far earlier c state later (tt, tt)
+    (λ now k between at. found P setup rules ss each now k between c state later at) there
+found P setup rules (Write n ∷ ss) each first so_far earlier c state later there =
+    found_behind P setup rules (all_written setup n first setup.out_vars) (Goes first) ss so_far earlier c state later (others-written setup n first setup.out_vars)
+    (λ now k between at. found P setup rules ss each now k between c state later at) there
+found P setup rules (Save n ∷ ss) each first so_far [] c state later there =
+    let same = heads (Saved n first) (Saved c state) (limited (so_far + 0) (run_stages setup rules ss first)).entries later there in
+    let s : first ≡ state = ap state_saved same in
+    record {
+      behind = ss;
+      holds = subst (λ k. P k ss) (ap place_saved same) each.0;
+      all = ap (λ (e : Entry). after (e ∷ []) (limited (so_far + 0) (run_stages setup rules ss first))) same
+          ∙ ap (λ (now : State). after (Saved c state ∷ []) (limited (so_far + 0) (run_stages setup rules ss now))) s;
+      full = ap (λ (e : Entry). e ∷ (run_stages setup rules ss first).entries) same
+          ∙ ap (λ (now : State). Saved c state ∷ (run_stages setup rules ss now).entries) s;
+    }
+  where
+    place_saved : Entry → ℕ
+    place_saved (Saved k now) = k
+    place_saved _ = n
+
+    state_saved : Entry → State
+    state_saved (Saved k now) = now
+    state_saved _ = first
+found P setup rules (Save n ∷ ss) each first so_far (e ∷ earlier) c state later there =
+    let rest = limited (so_far + 0) (run_stages setup rules ss first) in
+    let same = heads (Saved n first) e rest.entries (earlier ++ Saved c state ∷ later) there in
+    let f = found P setup rules ss each.1 first (so_far + 0) earlier c state later (tails (Saved n first) e rest.entries (earlier ++ Saved c state ∷ later) there) in
+    record {
+      behind = f.behind;
+      holds = f.holds;
+      all = ap (after (Saved n first ∷ [])) f.all
+          ∙ ap (λ (g : Entry). after (g ∷ earlier ++ Saved c state ∷ []) (limited (so_far + 0 + length (output_of earlier)) (run_stages setup rules f.behind state))) same
+          ∙ ap (λ k. after (e ∷ earlier ++ Saved c state ∷ []) (limited k (run_stages setup rules f.behind state))) (longer e same);
+      full = ap (λ (l : List Entry). Saved n first ∷ l) f.full
+          ∙ ap (λ (g : Entry). g ∷ earlier ++ Saved c state ∷ (run_stages setup rules f.behind state).entries) same;
+    }
+  where
+    longer : (e : Entry) → Saved n first ≡ e → so_far + 0 + length (output_of earlier) ≡ so_far + length (output_of (e ∷ earlier))
+    longer e same = subst (λ (g : Entry). so_far + 0 + length (output_of earlier) ≡ so_far + length (output_of (g ∷ earlier))) same (omega arith)
+
+-- ---- the limit
+
+not_passed : (so_far : ℕ) (e : Entry) → so_far ≤ greatest_output → passing so_far e ≡ None → so_far + length (text_added e) ≤ greatest_output
+not_passed so_far (Wrote v n text state) below none = by (nat_le (so_far + length text) greatest_output) refl none
+  where
+    by : (b : Bool) → nat_le (so_far + length text) greatest_output ≡ b → (if b then None else Some n) ≡ None → so_far + length text ≤ greatest_output
+    by true is none = grind (arith, is)
+    by false is none = absurd cc
+not_passed so_far (Turned k n state) below none = subst (λ m. m ≤ greatest_output) (sym (add-zero so_far)) below
+not_passed so_far (Overflowed k n state) below none = subst (λ m. m ≤ greatest_output) (sym (add-zero so_far)) below
+not_passed so_far (Exchanged vars path state) below none = subst (λ m. m ≤ greatest_output) (sym (add-zero so_far)) below
+not_passed so_far (Tested v path state) below none = subst (λ m. m ≤ greatest_output) (sym (add-zero so_far)) below
+not_passed so_far (Rotated state) below none = subst (λ m. m ≤ greatest_output) (sym (add-zero so_far)) below
+not_passed so_far (Saved n state) below none = subst (λ m. m ≤ greatest_output) (sym (add-zero so_far)) below
+
+pub within-greatest : (so_far : ℕ) (es : List Entry) (o : Outcome) → so_far ≤ greatest_output → so_far + length (output_of (within_limit so_far es o).entries) ≤ greatest_output
+within-greatest so_far [] o below = subst (λ n. n ≤ greatest_output) (sym (add-zero so_far)) below
+within-greatest so_far (e ∷ es) o below =
+    by (passing so_far e) (within_limit (so_far + length (text_added e)) es o) (not_passed so_far e below) (within-greatest (so_far + length (text_added e)) es o)
+  where
+    more : (t : List ℕ) (xs : List Entry) → so_far + length (text_added e) + length (output_of xs) ≡ so_far + length (output_of (e ∷ xs))
+    more t xs = let f = length-append (text_added e) (output_of xs) in omega (arith, f)
+
+    by : (p : Option ℕ) (rest : Trace) → (p ≡ None → so_far + length (text_added e) ≤ greatest_output)
+        → (so_far + length (text_added e) ≤ greatest_output → so_far + length (text_added e) + length (output_of rest.entries) ≤ greatest_output)
+        → so_far + length (output_of (stop_or p (after (e ∷ []) rest)).entries) ≤ greatest_output
+    by None rest fits again = subst (λ n. n ≤ greatest_output) (more [] rest.entries) (again (fits refl))
+    by (Some n) rest fits again = subst (λ n. n ≤ greatest_output) (sym (add-zero so_far)) below
