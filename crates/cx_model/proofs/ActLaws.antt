@@ -15,7 +15,8 @@ use Rattle.cx_plan.specs.declared.flag.Flag.TheVariants.{I, B, S}
 use Rattle.cx_plan.specs.Setups.{Setup}
 use Rattle.cx_plan.specs.Lookups.{variable, no_variable, no_item, is_scalar, levels_of}
 use Rattle.cx_plan.specs.Regions.{Flags, is_among, is_G, exchanged, rotated, output_needs}
-use Rattle.cx_model.specs.States.{State, IsState, level_of, scalar_of, rotated_levels, rotate}
+use Rattle.cx_rule.specs.States.{State, level_of, scalar_of, rotated_levels, rotate}
+use Rattle.cx_model.specs.States.{IsState}
 use Rattle.cx_model.specs.Runs.{text_of}
 use Rattle.cx_model.proofs.StateLaws.{rotate_keeps}
 use Rattle.cx_model.specs.Agreement.{Agree, Met, is_told}

@@ -21,8 +21,10 @@ use Rattle.cx_plan.specs.Setups.{Setup}
 use Rattle.cx_plan.specs.Lookups.{variable, is_scalar, levels_of}
 use Rattle.cx_plan.specs.Regions.{Flags, Need, same_region, region_of, grid_needs, read_needs, reduces, kinds_agree, written, after_write, after_scalar, all_written, needs_of_read, is_met}
 use Rattle.cx_rule.specs.Routine.{Rule}
-use Rattle.cx_model.specs.States.{State, IsState, level_of, with_level}
-use Rattle.cx_model.specs.Turns.{Values, values_of, values_around, fits, all_fit, if_fit, numbers_at, in_region, window_point, swept_at, number_or, level_after, levels_after, sweep, cell_turn, scalar_turn, first_point, reduced, first_read, reduce_turn, turn_by, turn}
+use Rattle.cx_rule.specs.States.{State, level_of, with_level}
+use Rattle.cx_model.specs.States.{IsState}
+use Rattle.cx_rule.specs.Sweeps.{Values, values_around, fits, all_fit, if_fit, in_region, window_point, number_or, level_after, levels_after, sweep, scalar_turn, first_point}
+use Rattle.cx_model.specs.Turns.{values_of, numbers_at, swept_at, cell_turn, reduced, first_read, reduce_turn, turn_by, turn}
 use Rattle.cx_model.specs.Agreement.{IsWindowTold, Agree, AgreeOrNone, Met, is_told, IsStoredTouch, IsReady, IsSettled}
 use Rattle.cx_model.proofs.PointLaws.{numbers-count, at-numbers, same-numbers, all-same, all-at}
 use Rattle.cx_model.proofs.WriteLaws.{agree-level, agree-scalars, flag-new}

@@ -3,7 +3,8 @@ use Rattle.std.proofs.Common.{◌≡◌, ℕ, ◌+◌, ◌<◌, ◌≤◌, refl,
 use Rattle.cx_plan.specs.Setups.{Setup}
 use Rattle.cx_plan.specs.Dues.{is_due}
 use Rattle.cx_rule.specs.Routine.{Rule}
-use Rattle.cx_model.specs.States.{State, start}
+use Rattle.cx_rule.specs.States.{State}
+use Rattle.cx_model.specs.States.{start}
 use Rattle.cx_model.specs.Stages.{stages, stages_after}
 use Rattle.cx_model.specs.Traces.{Entry, Saved, Trace, after}
 use Rattle.cx_model.specs.Runs.{run_stages, output_of, limited, greatest_output, undivided_run, continued_run, Reaches}

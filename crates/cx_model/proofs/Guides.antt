@@ -7,7 +7,7 @@ use Rattle.std.proofs.lemmas.List.Elements.{All-nil, All-cons}
 use Rattle.cx_plan.specs.Setups.{Setup}
 use Rattle.cx_plan.specs.Regions.{Flags, Need, needs, leaves, is_met}
 use Rattle.cx_plan.specs.Paths.{Mark, Letter, Meets, Then, Just, or_go_on, first_unmet}
-use Rattle.cx_model.specs.States.{State}
+use Rattle.cx_rule.specs.States.{State}
 use Rattle.cx_model.specs.declared.ends.End.{End}
 use Rattle.cx_model.specs.Traces.{Entry, Outcome, Goes, Ends, Trace, stays, ends, after, follow, then_go}
 use Rattle.cx_model.specs.Agreement.{Met}

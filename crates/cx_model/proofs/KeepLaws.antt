@@ -17,8 +17,10 @@ use Rattle.cx_plan.specs.Setups.{Setup}
 use Rattle.cx_plan.specs.Lookups.{item, bin, is_scalar}
 use Rattle.cx_plan.specs.Regions.{region_of, kinds_agree, reduces}
 use Rattle.cx_rule.specs.Routine.{Rule}
-use Rattle.cx_model.specs.States.{State, IsState, scalar_of, start, rotate, with_level}
-use Rattle.cx_model.specs.Turns.{Values, values_of, in_region, swept_at, numbers_at, level_after, levels_after, number_or, scalar_turn, first_point, reduce_turn, turn_by, turn}
+use Rattle.cx_rule.specs.States.{State, scalar_of, rotate, with_level}
+use Rattle.cx_model.specs.States.{IsState, start}
+use Rattle.cx_rule.specs.Sweeps.{Values, in_region, level_after, levels_after, number_or, scalar_turn, first_point}
+use Rattle.cx_model.specs.Turns.{values_of, swept_at, numbers_at, reduce_turn, turn_by, turn}
 use Rattle.cx_model.specs.declared.ends.End.{End}
 use Rattle.cx_model.specs.declared.ends.End.TheVariants.{WhileLimit}
 use Rattle.cx_model.specs.Traces.{Entry, Tested, Rotated, Saved, Outcome, Goes, Ends, Trace, stays, ends, does, after, follow, then_go}

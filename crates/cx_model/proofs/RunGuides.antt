@@ -11,7 +11,8 @@ use Rattle.cx_plan.specs.Lookups.{bin, is_empty, has_none, STARTUP, WRAGH, PARAM
 use Rattle.cx_plan.specs.Regions.{Rotates, Outputs, Flags, Need, cleared, output_needs, is_met}
 use Rattle.cx_plan.specs.Paths.{Mark, Letter, Meets, letter_i, letter_y, letter_n, Then, Just, Path, PathIn, PathOfBins, PathOfAnalysis, PathOfCheckpoint, PathOfIteration, PathOfIterations, PathOfJob, Sound}
 use Rattle.cx_rule.specs.Routine.{Rule}
-use Rattle.cx_model.specs.States.{State, start, rotate}
+use Rattle.cx_rule.specs.States.{State, rotate}
+use Rattle.cx_model.specs.States.{start}
 use Rattle.cx_model.specs.Traces.{Entry, Rotated, Outcome, Goes, Ends, Trace, ends, does, after, follow, then_go}
 use Rattle.cx_model.specs.Trees.{run_tree}
 use Rattle.cx_model.specs.Stages.{Stage, Bin, Rotate, Save, Write, bins, checkpoint, before_analysis, from_analysis, iteration, rest_behind, stages}

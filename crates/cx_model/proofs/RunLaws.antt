@@ -11,7 +11,8 @@ use Rattle.cx_plan.specs.Lookups.{item, bin, is_scalar, PRESTEP, EVOL, POSTSTEP,
 use Rattle.cx_plan.specs.Regions.{Flags, cleared, all_written, rotated}
 use Rattle.cx_plan.specs.Paths.{Sound}
 use Rattle.cx_rule.specs.Routine.{Rule}
-use Rattle.cx_model.specs.States.{State, IsState, scalar_of, rotate}
+use Rattle.cx_rule.specs.States.{State, scalar_of, rotate}
+use Rattle.cx_model.specs.States.{IsState}
 use Rattle.cx_model.specs.Turns.{turn}
 use Rattle.cx_model.specs.declared.ends.End.{End}
 use Rattle.cx_model.specs.declared.ends.End.TheVariants.{WhileLimit}

@@ -7,8 +7,9 @@ use Rattle.cx_plan.specs.declared.variable.VarId.{VarId}
 use Rattle.cx_plan.specs.declared.item.Touch.{Touch}
 use Rattle.cx_plan.specs.Setups.{Setup}
 use Rattle.cx_plan.specs.Lookups.{variable, no_variable, levels_of, is_scalar}
-use Rattle.cx_model.specs.States.{State, with_level, with_scalar, number_count, zeros, start, rotated_levels, rotate, IsState}
-use Rattle.cx_model.specs.Turns.{scalars_after}
+use Rattle.cx_rule.specs.States.{State, with_level, with_scalar, rotated_levels, rotate}
+use Rattle.cx_model.specs.States.{number_count, zeros, start, IsState}
+use Rattle.cx_rule.specs.Sweeps.{scalars_after}
 
 -- ---- the start
 

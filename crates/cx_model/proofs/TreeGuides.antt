@@ -8,7 +8,7 @@ use Rattle.cx_plan.specs.Lookups.{item}
 use Rattle.cx_plan.specs.Regions.{Act, Turns, Syncs, Tests}
 use Rattle.cx_plan.specs.Paths.{Mark, Letter, Meets, letter_n, letter_w, letter_x, Then, Just, Loop, Path, PathIn}
 use Rattle.cx_rule.specs.Routine.{Rule}
-use Rattle.cx_model.specs.States.{State, scalar_of}
+use Rattle.cx_rule.specs.States.{State, scalar_of}
 use Rattle.cx_model.specs.Turns.{turn}
 use Rattle.cx_model.specs.declared.ends.End.{End}
 use Rattle.cx_model.specs.declared.ends.End.TheVariants.{WhileLimit}

@@ -21,8 +21,9 @@ use Rattle.cx_plan.specs.Setups.{Setup}
 use Rattle.cx_plan.specs.Lookups.{is_scalar}
 use Rattle.cx_plan.specs.Regions.{Flags, Need, has_boundary, within_ghosts, cell_needs, region_of, grid_needs, read_needs, are_distinct, is_some_list, kinds_agree, has_shape, flags_or_none, needs_of_read, is_met, is_B}
 use Rattle.cx_rule.specs.Routine.{Rule, rule_at}
-use Rattle.cx_model.specs.States.{State, level_of, scalar_of}
-use Rattle.cx_model.specs.Turns.{Values, values_of, values_around, reach_of, place_at, if_fit, numbers_at, in_region, window_point}
+use Rattle.cx_rule.specs.States.{State, level_of, scalar_of}
+use Rattle.cx_rule.specs.Sweeps.{Values, values_around, reach_of, place_at, if_fit, in_region, window_point}
+use Rattle.cx_model.specs.Turns.{values_of, numbers_at}
 use Rattle.cx_model.specs.Agreement.{IsWindowTold, Agree, Met, is_told}
 use Rattle.cx_model.proofs.ListLaws.{all-left, all-right}
 use Rattle.cx_model.proofs.PointLaws.{wrap-own, at-wrapped, numbers-same}

@@ -8,7 +8,8 @@ use Rattle.cx_plan.specs.Regions.{cleared}
 use Rattle.cx_plan.specs.Paths.{Sound}
 use Rattle.cx_plan.specs.Whole.{IsItem}
 use Rattle.cx_rule.specs.Routine.{Rule}
-use Rattle.cx_model.specs.States.{State, start}
+use Rattle.cx_rule.specs.States.{State}
+use Rattle.cx_model.specs.States.{start}
 use Rattle.cx_model.specs.Stages.{stages_after}
 use Rattle.cx_model.specs.Traces.{Saved}
 use Rattle.cx_model.specs.Runs.{run_stages, Reaches}

@@ -14,8 +14,9 @@ use Rattle.cx_plan.specs.declared.flag.Flag.TheVariants.{I, B, S}
 use Rattle.cx_plan.specs.Setups.{Setup}
 use Rattle.cx_plan.specs.Lookups.{is_scalar}
 use Rattle.cx_plan.specs.Regions.{Flags, same_var, written, after_write, all_written}
-use Rattle.cx_model.specs.States.{State, IsState, level_of, scalar_of, with_level, with_scalar}
-use Rattle.cx_model.specs.Turns.{all_fit, scalars_after}
+use Rattle.cx_rule.specs.States.{State, level_of, scalar_of, with_level, with_scalar}
+use Rattle.cx_model.specs.States.{IsState}
+use Rattle.cx_rule.specs.Sweeps.{all_fit, scalars_after}
 use Rattle.cx_model.proofs.StateLaws.{with_level_keeps, with_scalar_keeps}
 use Rattle.cx_model.specs.Agreement.{Agree, is_told, IsStoredTouch}
 

@@ -3,7 +3,8 @@ use Rattle.std.specs.Prelude.{◌≡◌, List, [], map}
 use Rattle.cx_plan.specs.Setups.{Setup}
 use Rattle.cx_plan.specs.Regions.{Flags}
 use Rattle.cx_rule.specs.Routine.{Rule}
-use Rattle.cx_model.specs.States.{State, IsState}
+use Rattle.cx_rule.specs.States.{State}
+use Rattle.cx_model.specs.States.{IsState}
 use Rattle.cx_model.specs.Traces.{Entry, Turned, Overflowed, Exchanged, Tested, Rotated, Wrote, Saved, Outcome, Goes, Ends, Trace}
 use Rattle.cx_model.specs.Stages.{stages}
 use Rattle.cx_model.specs.Runs.{run_stages, output_of, limited, end_by}

@@ -6,7 +6,8 @@ use Rattle.cx_plan.specs.Setups.{Setup}
 use Rattle.cx_plan.specs.Lookups.{variable, is_scalar, bin}
 use Rattle.cx_rule.specs.Routine.{Rule}
 use Rattle.cx_ascii.specs.Output.{section, line}
-use Rattle.cx_model.specs.States.{State, level_of, scalar_of, start, rotate}
+use Rattle.cx_rule.specs.States.{State, level_of, scalar_of, rotate}
+use Rattle.cx_model.specs.States.{start}
 use Rattle.cx_model.specs.declared.ends.End.{End}
 use Rattle.cx_model.specs.declared.ends.End.TheVariants.{Done, OutputLimit}
 use Rattle.cx_model.specs.Traces.{Entry, Rotated, Wrote, Saved, Outcome, Goes, Ends, Trace, stays, ends, does, after, then_go}

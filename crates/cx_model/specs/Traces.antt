@@ -2,7 +2,7 @@
 use Rattle.std.specs.Prelude.{ℕ, List, [], ◌∷◌, ◌++◌}
 use Rattle.cx_plan.specs.declared.variable.VarId.{VarId}
 use Rattle.cx_model.specs.declared.ends.End.{End}
-use Rattle.cx_model.specs.States.{State}
+use Rattle.cx_rule.specs.States.{State}
 
 -- each entry has the state before it
 pub data Entry : Type 0 where

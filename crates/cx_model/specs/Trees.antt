@@ -6,7 +6,7 @@ use Rattle.cx_plan.specs.declared.tree.Tree.{Tree, Seq', Call, Sync, If', While'
 use Rattle.cx_plan.specs.Setups.{Setup}
 use Rattle.cx_plan.specs.Lookups.{item}
 use Rattle.cx_rule.specs.Routine.{Rule}
-use Rattle.cx_model.specs.States.{State, scalar_of}
+use Rattle.cx_rule.specs.States.{State, scalar_of}
 use Rattle.cx_model.specs.Turns.{turn}
 use Rattle.cx_model.specs.declared.ends.End.{End}
 use Rattle.cx_model.specs.declared.ends.End.TheVariants.{Overflow, WhileLimit}

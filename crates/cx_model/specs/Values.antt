@@ -11,8 +11,10 @@ use Rattle.cx_plan.specs.Setups.{Setup}
 use Rattle.cx_plan.specs.Lookups.{item, is_scalar}
 use Rattle.cx_plan.specs.Regions.{Flags, Turns, Syncs, Tests, Rotates, cleared, has_shape, region_of, needs, leaves, output_needs}
 use Rattle.cx_rule.specs.Routine.{Rule}
-use Rattle.cx_model.specs.States.{State, IsState, scalar_of, rotate}
-use Rattle.cx_model.specs.Turns.{in_region, window_point, turn}
+use Rattle.cx_rule.specs.States.{State, scalar_of, rotate}
+use Rattle.cx_model.specs.States.{IsState}
+use Rattle.cx_rule.specs.Sweeps.{in_region, window_point}
+use Rattle.cx_model.specs.Turns.{turn}
 use Rattle.cx_model.specs.Traces.{Entry, Turned, Overflowed, Exchanged, Tested, Rotated, Wrote, Saved}
 use Rattle.cx_model.specs.Runs.{text_of, continued_run, Reaches}
 use Rattle.cx_model.specs.Uses.{entries_leave}

@@ -9,7 +9,7 @@ use Rattle.cx_plan.specs.Lookups.{item}
 use Rattle.cx_plan.specs.Regions.{region_of}
 use Rattle.cx_plan.specs.Setups.{Setup}
 use Rattle.cx_model.specs.Traces.{Entry, Turned}
-use Rattle.cx_model.specs.Turns.{in_region}
+use Rattle.cx_rule.specs.Sweeps.{in_region}
 
 -- how many points a turn of an item computes: those of its region, of a Scalar item one, of a reduction none
 abbrev pub points_by : ItemKind → Setup → Item → ℕ

@@ -12,7 +12,7 @@ use Rattle.cx_plan.specs.Dues.{is_written}
 use Rattle.cx_plan.specs.Lookups.{variable, is_scalar, ANALYSIS, TERMINATE, SHUTDOWN}
 use Rattle.cx_rule.specs.Meter.{raised, raised_none, raised_twice}
 use Rattle.cx_rule.specs.Routine.{Rule}
-use Rattle.cx_model.specs.States.{State, level_of, scalar_of}
+use Rattle.cx_rule.specs.States.{State, level_of, scalar_of}
 use Rattle.cx_model.specs.declared.ends.End.{End}
 use Rattle.cx_model.specs.declared.ends.End.TheVariants.{Done, OutputLimit}
 use Rattle.cx_model.specs.Traces.{Wrote, Outcome, Goes, Ends, Trace, stays, ends, after, follow, then_go}

@@ -7,7 +7,7 @@ use Rattle.cx_plan.specs.Setups.{Setup}
 use Rattle.cx_plan.specs.Dues.{is_due}
 use Rattle.cx_plan.specs.Lookups.{item, bin, CHECKPOINT, ANALYSIS}
 use Rattle.cx_rule.specs.Routine.{Rule}
-use Rattle.cx_model.specs.States.{State, scalar_of, rotate}
+use Rattle.cx_rule.specs.States.{State, scalar_of, rotate}
 use Rattle.cx_model.specs.Turns.{turn}
 use Rattle.cx_model.specs.declared.ends.End.{End}
 use Rattle.cx_model.specs.declared.ends.End.TheVariants.{Done, WhileLimit}

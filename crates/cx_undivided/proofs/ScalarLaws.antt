@@ -9,8 +9,9 @@ use Rattle.cx_plan.specs.Setups.{Setup}
 use Rattle.cx_plan.specs.Lookups.{variable, is_scalar}
 use Rattle.cx_plan.specs.Regions.{is_one, reduces, has_shape, is_some_list, are_distinct, kinds_agree, read_needs}
 use Rattle.cx_rule.specs.Meter.{raised}
-use Rattle.cx_model.specs.States.{State, with_scalar, IsState}
-use Rattle.cx_model.specs.Turns.{fits, all_fit, if_fit, scalars_after, scalar_turn}
+use Rattle.cx_rule.specs.States.{State, with_scalar}
+use Rattle.cx_model.specs.States.{IsState}
+use Rattle.cx_rule.specs.Sweeps.{fits, all_fit, if_fit, scalars_after, scalar_turn}
 use Rattle.cx_model.proofs.StateLaws.{with_scalar_keeps, scalars_after_keeps}
 
 -- ---- reductions

@@ -15,8 +15,9 @@ use Rattle.cx_grid.proofs.Places.{point_inside}
 use Rattle.cx_plan.specs.declared.item.Touch.{Touch}
 use Rattle.cx_plan.specs.Lookups.{is_scalar}
 use Rattle.cx_plan.specs.Setups.{Setup}
-use Rattle.cx_model.specs.States.{State, level_of, scalar_of}
-use Rattle.cx_model.specs.Turns.{values_of, values_around}
+use Rattle.cx_rule.specs.States.{State, level_of, scalar_of}
+use Rattle.cx_rule.specs.Sweeps.{values_around}
+use Rattle.cx_model.specs.Turns.{values_of}
 use Rattle.cx_undivided.specs.Answers.{IsClose}
 
 -- the place of a point with coordinates of 31 bits

@@ -20,7 +20,7 @@ use Rattle.cx_rule.specs.declared.spec.Want.{Want}
 use Rattle.cx_rule.specs.Jobs.{IsRoutineOf, HasRoutine, of_touch, of_want}
 use Rattle.cx_rule.specs.Routine.{Fits, reach_of as want_reach}
 use Rattle.cx_rule.specs.Seen.{Seen, Shown, volume_of, volumes, HasRoom}
-use Rattle.cx_model.specs.Turns.{Values, values_around, reach_of}
+use Rattle.cx_rule.specs.Sweeps.{Values, values_around, reach_of}
 use Rattle.cx_undivided.specs.Answers.{IsBench}
 use Rattle.cx_undivided.specs.Suits.{Suits}
 use Rattle.cx_undivided.specs.declared.points.Bench.{Bench}

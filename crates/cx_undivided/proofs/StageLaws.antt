@@ -10,7 +10,8 @@ use Rattle.cx_plan.specs.Setups.{Setup}
 use Rattle.cx_plan.specs.Dues.{is_due}
 use Rattle.cx_plan.specs.Lookups.{bin, PRESTEP, EVOL, POSTSTEP, CHECKPOINT}
 use Rattle.cx_rule.specs.Routine.{Rule}
-use Rattle.cx_model.specs.States.{State, rotate, IsState}
+use Rattle.cx_rule.specs.States.{State, rotate}
+use Rattle.cx_model.specs.States.{IsState}
 use Rattle.cx_model.specs.Traces.{Entry, Rotated, Saved, Outcome, Goes, Ends, Trace, ends, after, follow, then_go}
 use Rattle.cx_model.specs.Trees.{run_tree}
 use Rattle.cx_model.specs.Stages.{Stage, Bin, Rotate, Save, bins, checkpoint, before_analysis}

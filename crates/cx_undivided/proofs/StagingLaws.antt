@@ -5,7 +5,7 @@ use Rattle.std.proofs.Math.Seq.{drop-cons, drop-length, drop-set-lt}
 use Rattle.std.specs.List.{zip}
 use Rattle.std.proofs.lemmas.Slice.Zip.{length-zip, get_or-zip}
 use Rattle.cx_plan.specs.declared.item.Touch.{Touch}
-use Rattle.cx_model.specs.States.{State, with_level}
+use Rattle.cx_rule.specs.States.{State, with_level}
 use Rattle.cx_undivided.specs.Staging.{lengthened, with_lists}
 
 -- ---- one list that grows

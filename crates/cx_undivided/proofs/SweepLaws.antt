@@ -20,8 +20,10 @@ use Rattle.cx_plan.specs.Lookups.{is_scalar, variable}
 use Rattle.cx_plan.specs.Regions.{region_of, has_shape, kinds_agree, same_region, is_some_list, are_distinct, read_needs}
 use Rattle.cx_plan.specs.Setups.{Setup}
 use Rattle.cx_rule.specs.Routine.{Rule}
-use Rattle.cx_model.specs.States.{State, IsState, number_count, with_level}
-use Rattle.cx_model.specs.Turns.{values_of, in_region, window_point, numbers_at, swept_at, level_after, levels_after, sweep, cell_turn}
+use Rattle.cx_rule.specs.States.{State, with_level}
+use Rattle.cx_model.specs.States.{IsState, number_count}
+use Rattle.cx_rule.specs.Sweeps.{in_region, window_point, level_after, levels_after, sweep}
+use Rattle.cx_model.specs.Turns.{values_of, numbers_at, swept_at, cell_turn}
 use Rattle.cx_model.specs.Work.{points_by}
 use Rattle.cx_undivided.specs.Answers.{IsBench, Turned}
 use Rattle.cx_undivided.specs.declared.faults.TurnFault.{TurnFault}

@@ -3,7 +3,8 @@ use Rattle.std.proofs.Common.{◌≡◌, ℕ, ◌+◌, refl, sym, ap, subst, ◌
 use Rattle.cx_plan.specs.Setups.{Setup}
 use Rattle.cx_rule.specs.Meter.{raised, raised_none, raised_twice}
 use Rattle.cx_model.specs.declared.ends.End.{End}
-use Rattle.cx_model.specs.States.{State, IsState}
+use Rattle.cx_rule.specs.States.{State}
+use Rattle.cx_model.specs.States.{IsState}
 use Rattle.cx_model.specs.Traces.{Entry, Outcome, Goes, Ends, Trace, stays, ends, does, after, follow, then_go}
 use Rattle.cx_model.specs.Work.{points_computed, entry_points}
 use Rattle.cx_undivided.specs.declared.faults.Stop.{Stop}

@@ -20,7 +20,8 @@ use Rattle.cx_rule.specs.Routine.{Rule}
 use Rattle.cx_rule.specs.declared.spec.Spec.{Spec}
 use Rattle.cx_model.specs.declared.ends.End.{End}
 use Rattle.cx_model.specs.declared.ends.End.TheVariants.{Overflow, WhileLimit}
-use Rattle.cx_model.specs.States.{State, IsState, scalar_of}
+use Rattle.cx_rule.specs.States.{State, scalar_of}
+use Rattle.cx_model.specs.States.{IsState}
 use Rattle.cx_model.specs.Traces.{Tested, Ends, Trace, stays, ends, after, then_go}
 use Rattle.cx_model.specs.Traces.{Turned as TookTurn}
 use Rattle.cx_model.specs.Trees.{at_zero, test, turn_trace, loop, run_tree, run_row}

@@ -11,9 +11,10 @@ use Rattle.cx_rule.specs.Jobs.{HasRoutine, FitJob}
 use Rattle.cx_rule.specs.Meter.{raised}
 use Rattle.cx_rule.specs.Seen.{volumes}
 use Rattle.cx_rule.specs.declared.spec.Spec.{Spec}
-use Rattle.cx_model.specs.States.{State, IsState}
+use Rattle.cx_rule.specs.States.{State}
+use Rattle.cx_model.specs.States.{IsState}
 use Rattle.cx_model.specs.Traces.{Trace, Goes, Ends}
-use Rattle.cx_model.specs.Turns.{reach_of}
+use Rattle.cx_rule.specs.Sweeps.{reach_of}
 use Rattle.cx_model.specs.Work.{points_computed}
 use Rattle.cx_undivided.specs.declared.faults.Stop.{Stop}
 use Rattle.cx_undivided.specs.declared.faults.Stop.TheVariants as stops

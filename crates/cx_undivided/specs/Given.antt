@@ -1,7 +1,8 @@
 -- What came of a turn that computes no points.
 use Rattle.std.specs.Prelude.{◌≡◌, Option, Some, None, Result, Ok, Err}
 use Rattle.cx_plan.specs.Setups.{Setup}
-use Rattle.cx_model.specs.States.{State, IsState}
+use Rattle.cx_rule.specs.States.{State}
+use Rattle.cx_model.specs.States.{IsState}
 use Rattle.cx_undivided.specs.declared.faults.TurnFault.{TurnFault}
 use Rattle.cx_undivided.specs.declared.faults.TurnFault.TheVariants as turns
 

@@ -10,8 +10,9 @@ use Rattle.cx_plan.specs.Regions.{region_of}
 use Rattle.cx_plan.specs.Setups.{Setup}
 use Rattle.cx_rule.specs.Meter.{raised}
 use Rattle.cx_rule.specs.Routine.{Rule}
-use Rattle.cx_model.specs.States.{State, level_of, with_level}
-use Rattle.cx_model.specs.Turns.{Values, values_of, in_region, swept_at, number_or}
+use Rattle.cx_rule.specs.States.{State, level_of, with_level}
+use Rattle.cx_rule.specs.Sweeps.{Values, in_region, number_or}
+use Rattle.cx_model.specs.Turns.{values_of, swept_at}
 use Rattle.cx_undivided.specs.declared.faults.TurnFault.{TurnFault}
 use Rattle.cx_undivided.specs.declared.faults.TurnFault.TheVariants as turns
 

@@ -6,7 +6,8 @@ use Rattle.cx_rule.specs.Routine.{Rule}
 use Rattle.cx_text.specs.declared.memory.Memory.{Memory}
 use Rattle.cx_model.specs.declared.ends.End.{End}
 use Rattle.cx_model.specs.declared.ends.End.TheVariants.{Done}
-use Rattle.cx_model.specs.States.{State, IsState}
+use Rattle.cx_rule.specs.States.{State}
+use Rattle.cx_model.specs.States.{IsState}
 use Rattle.cx_model.specs.Stages.{stages, rest_behind}
 use Rattle.cx_model.specs.Traces.{Trace, Goes, then_go}
 use Rattle.cx_model.specs.Runs.{run_stages, all_written, limited, output_of, end_by, greatest_output}

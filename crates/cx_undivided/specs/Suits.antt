@@ -5,7 +5,7 @@ use Rattle.cx_grid.specs.Grid.{IsShape, whole}
 use Rattle.cx_plan.specs.declared.item.Item.{Item}
 use Rattle.cx_rule.specs.declared.place.Place.{Place}
 use Rattle.cx_rule.specs.Seen.{Seen, volumes}
-use Rattle.cx_model.specs.Turns.{reach_of}
+use Rattle.cx_rule.specs.Sweeps.{reach_of}
 
 -- the place is one of the grid; the window has the item's reads, the place its parameters, the cells its writes
 pub record Suits (x : Item) (w : Seen) (at : Place) (out : List ℤ) : Type 0 where

@@ -1,6 +1,6 @@
 //! The levels of a variable.
 ghost use Rattle.std.specs.Prelude.{◌≡◌, IfOk, pos, replicate, [], slice_index_or, slice_set};
-ghost use Rattle.cx_model.specs.States.{rotated_levels};
+ghost use Rattle.cx_rule.specs.States.{rotated_levels};
 
 use cx_text::Memory;
 use std::alloc::Global;

@@ -6,7 +6,8 @@ ghost use Rattle.cx_plan.specs.Regions.{reduces};
 ghost use Rattle.cx_plan.specs.Setups.{setup_of};
 ghost use Rattle.cx_plan.specs.declared.item.ItemKind.{ItemKind};
 ghost use Rattle.cx_model.specs.States.{IsState};
-ghost use Rattle.cx_model.specs.Turns.{is_not_zero, reduced, fits, if_fit, first_read, scalar_turn, reduce_turn};
+ghost use Rattle.cx_rule.specs.Sweeps.{fits, if_fit, scalar_turn};
+ghost use Rattle.cx_model.specs.Turns.{is_not_zero, reduced, first_read, reduce_turn};
 ghost use Rattle.cx_undivided.specs.Given.{Gave};
 
 use crate::faults::TurnFault;

@@ -2,7 +2,8 @@
 ghost use Rattle.std.specs.Prelude.{◌≡◌, IfOk, OnOk};
 ghost use Rattle.cx_grid.specs.Grid.{IsShape};
 ghost use Rattle.cx_plan.specs.Setups.{Setup, setup_of};
-ghost use Rattle.cx_model.specs.States.{level_of, scalar_of, number_count, zeros, with_level, with_scalar, start, rotate, IsState};
+ghost use Rattle.cx_rule.specs.States.{level_of, scalar_of, with_level, with_scalar, rotate};
+ghost use Rattle.cx_model.specs.States.{number_count, zeros, start, IsState};
 
 use crate::levels::Levels;
 use cx_grid::{count, whole};

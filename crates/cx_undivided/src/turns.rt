@@ -3,7 +3,8 @@ ghost use Rattle.std.specs.Prelude.{◌≡◌, OnOk, length, map};
 ghost use Rattle.cx_plan.specs.Setups.{setup_of};
 ghost use Rattle.cx_plan.specs.declared.item.ItemKind.{ItemKind};
 ghost use Rattle.cx_model.specs.States.{IsState};
-ghost use Rattle.cx_model.specs.Turns.{scalars_after, turn_by, turn};
+ghost use Rattle.cx_rule.specs.Sweeps.{scalars_after};
+ghost use Rattle.cx_model.specs.Turns.{turn_by, turn};
 ghost use Rattle.cx_model.specs.Work.{points_by, turn_points};
 ghost use Rattle.cx_undivided.specs.Answers.{CanTurn, Turned};
 

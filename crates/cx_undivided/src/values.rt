@@ -6,7 +6,8 @@ ghost use Rattle.cx_grid.specs.Boxes.{IsIn, index_in, numbers_in, shifted};
 ghost use Rattle.cx_grid.specs.Grid.{IsShape, at, whole};
 ghost use Rattle.cx_plan.specs.Lookups.{is_scalar};
 ghost use Rattle.cx_plan.specs.Setups.{setup_of};
-ghost use Rattle.cx_model.specs.Turns.{values_of, values_around};
+ghost use Rattle.cx_rule.specs.Sweeps.{values_around};
+ghost use Rattle.cx_model.specs.Turns.{values_of};
 ghost use Rattle.cx_undivided.specs.Answers.{IsClose};
 ghost use Rattle.cx_grid.specs.declared.boxes.Point.{Point};
 

@@ -1,7 +1,7 @@
 -- the values of the reads that were passed are counted
 use Rattle.std.proofs.Common.{◌≡◌, ◌≤◌, ◌*◌, map, take}
 use Rattle.cx_rule.specs.Seen.{volumes}
-use Rattle.cx_model.specs.Turns.{reach_of}
+use Rattle.cx_rule.specs.Sweeps.{reach_of}
 use Rattle.cx_undivided.proofs.points.value_count.Given as goal
 
 abbrev pub invariant-reads : goal.invariant-reads

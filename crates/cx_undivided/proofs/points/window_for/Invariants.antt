@@ -1,7 +1,7 @@
 -- the window has the reads that were passed, and room for all
 use Rattle.std.proofs.Common.{◌≡◌, map, take, length}
 use Rattle.cx_rule.specs.Seen.{volumes}
-use Rattle.cx_model.specs.Turns.{reach_of}
+use Rattle.cx_rule.specs.Sweeps.{reach_of}
 use Rattle.cx_undivided.proofs.points.window_for.Given as goal
 
 abbrev pub invariant-reads : goal.invariant-reads

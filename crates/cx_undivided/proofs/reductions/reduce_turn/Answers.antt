@@ -1,7 +1,8 @@
 use Rattle.std.proofs.Common.{rules, ◌≡◌, ◌∙◌, ap, subst, ℤ, ◌∷◌, [], Some, to_z, of_z}
 use Rattle.std.specs.Int.{w128}
 use Rattle.cx_plan.specs.Setups.{setup_of}
-use Rattle.cx_model.specs.Turns.{reduced, first_read, if_fit, scalar_turn}
+use Rattle.cx_rule.specs.Sweeps.{if_fit, scalar_turn}
+use Rattle.cx_model.specs.Turns.{reduced, first_read}
 use Rattle.cx_undivided.specs.Given.{Gave}
 use Rattle.cx_undivided.proofs.reductions.reduce_turn.Goals as goal
 

@@ -2,7 +2,7 @@ use Rattle.std.proofs.Common.{◌∙◌, ap, rules, ◌≡◌, to_z, of_z, w64}
 use Rattle.std.specs.Int.{w128}
 use Rattle.std.specs.List.{slice_get}
 use Rattle.cx_plan.specs.Setups.{setup_of}
-use Rattle.cx_model.specs.States.{with_scalar}
+use Rattle.cx_rule.specs.States.{with_scalar}
 use Rattle.cx_undivided.proofs.ScalarLaws.{reduced_one}
 use Rattle.cx_undivided.proofs.reductions.set_number.Goals as goal
 

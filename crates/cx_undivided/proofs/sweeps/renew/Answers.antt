@@ -1,6 +1,6 @@
 use Rattle.std.proofs.Common.{◌≡◌, ◌∙◌, sym, ap, map}
 use Rattle.cx_plan.specs.Setups.{setup_of}
-use Rattle.cx_model.specs.Turns.{in_region, window_point}
+use Rattle.cx_rule.specs.Sweeps.{in_region, window_point}
 use Rattle.cx_undivided.specs.Staging.{old_number}
 use Rattle.cx_undivided.proofs.SweepLaws.{grid-writes, row-kept, row-computed}
 use Rattle.cx_undivided.proofs.sweeps.renew.Goals as goal

@@ -3,7 +3,7 @@ use Rattle.std.proofs.lemmas.Result.{err_from_is_err_and}
 use Rattle.cx_plan.specs.declared.tree.Tree.{Seq}
 use Rattle.cx_plan.specs.Setups.{setup_of}
 use Rattle.cx_model.specs.declared.ends.End.TheVariants.{WhileLimit}
-use Rattle.cx_model.specs.States.{scalar_of}
+use Rattle.cx_rule.specs.States.{scalar_of}
 use Rattle.cx_undivided.specs.contracts.trees.run_tree.{dyn-1-ghosts}
 use Rattle.cx_undivided.proofs.TreeLaws.{part_can_run, if_can_run, while_can_run, call_can_turn, part_is_less, if_is_less, while_is_less, followed-passing-stop, passing-next, followed-seq, followed-if-other, followed-while, followed-while-stop, followed-while-limit, turning-next, another-turn, no-turn}
 use Rattle.cx_undivided.proofs.trees.+run_tree.Goals as goal

@@ -1,6 +1,6 @@
 use Rattle.std.proofs.Common.{◌∙◌, ap}
 use Rattle.cx_plan.specs.Setups.{setup_of}
-use Rattle.cx_model.specs.Turns.{scalars_after}
+use Rattle.cx_rule.specs.Sweeps.{scalars_after}
 use Rattle.cx_undivided.proofs.ScalarLaws.{scalars_written}
 use Rattle.cx_undivided.proofs.turns.scalar_turn.Goals as goal
 

@@ -1,5 +1,5 @@
 use Rattle.std.proofs.Common.{◌≡◌, drop}
-use Rattle.cx_model.specs.Turns.{scalars_after}
+use Rattle.cx_rule.specs.Sweeps.{scalars_after}
 use Rattle.cx_undivided.proofs.turns.set_scalars.Given as goal
 
 abbrev pub invariant-writes : goal.invariant-writes

@@ -2,7 +2,8 @@
 use Rattle.std.proofs.Common.{◌≡◌, take}
 use Rattle.std.specs.List.{flat_map}
 use Rattle.cx_plan.specs.Setups.{setup_of}
-use Rattle.cx_model.specs.Turns.{values_of, values_around}
+use Rattle.cx_rule.specs.Sweeps.{values_around}
+use Rattle.cx_model.specs.Turns.{values_of}
 use Rattle.cx_undivided.proofs.values.see.Given as goal
 
 abbrev pub invariant-reads : goal.invariant-reads

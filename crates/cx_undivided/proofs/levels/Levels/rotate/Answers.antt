@@ -1,5 +1,5 @@
 use Rattle.std.proofs.Common.{ap, ◌∙◌, map}
-use Rattle.cx_model.specs.States.{rotated_levels}
+use Rattle.cx_rule.specs.States.{rotated_levels}
 use Rattle.cx_undivided.proofs.LevelLaws.{rotated-map}
 use Rattle.cx_undivided.proofs.levels.Levels.rotate.Goals as goal
 

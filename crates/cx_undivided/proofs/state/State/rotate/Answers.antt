@@ -1,7 +1,8 @@
 use Rattle.std.proofs.Common.{◌∙◌, ◌<◌, ap, sym, subst, arith, length, set}
 use Rattle.std.proofs.lemmas.Grind.{common_steps}
 use Rattle.std.proofs.lemmas.List.Edits.{map_over_more}
-use Rattle.cx_model.specs.States.{rotated_levels, IsState}
+use Rattle.cx_rule.specs.States.{rotated_levels}
+use Rattle.cx_model.specs.States.{IsState}
 use Rattle.cx_model.proofs.StateLaws.{rotate_keeps}
 use Rattle.cx_undivided.proofs.state.State.rotate.Goals as goal
 

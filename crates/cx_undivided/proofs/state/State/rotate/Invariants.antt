@@ -1,5 +1,5 @@
 use Rattle.std.proofs.Common.{◌≡◌, ◌++◌, map, take, drop}
-use Rattle.cx_model.specs.States.{rotated_levels}
+use Rattle.cx_rule.specs.States.{rotated_levels}
 use Rattle.cx_undivided.proofs.state.State.rotate.Given as goal
 
 abbrev pub invariant-variables : goal.invariant-variables
