@@ -19,3 +19,7 @@ pub mod ReadyLaws
 pub mod RunLaws
 pub mod KeepLaws
 pub mod ValueLaws
+pub mod CutLaws
+pub mod MoreLaws
+pub mod CourseGuides
+pub mod CourseLaws

@@ -10,3 +10,5 @@ pub mod Checkpoints
 pub mod Agreement
 pub mod Alike
 pub mod Values
+pub mod Courses
+pub mod Needs

@@ -10,6 +10,8 @@ ghost use Rattle.cx_plan.specs.Whole.{IsWhole};
 ghost use Rattle.cx_rule.specs.Routine.{Rule};
 ghost use Rattle.cx_model.specs.Alike.{UsesOnlyOwn};
 ghost use Rattle.cx_model.specs.Checkpoints.{Continues};
+ghost use Rattle.cx_model.specs.Courses.{IsCourseCut};
+ghost use Rattle.cx_model.specs.Needs.{NeedsMet};
 ghost use Rattle.cx_model.specs.Uses.{UsesOnlySet};
 ghost use Rattle.cx_model.specs.Values.{StepsAgree, NeedsOnlyTold, KeepsStates};
 
@@ -77,4 +79,19 @@ pub fn sound_needs_only_told(job: &Job)
 /// uses is `steps_agree`. It does nothing; its clause is the law.
 pub fn sound_uses_only_set(job: &Job)
     ensures { (rules : List Rule) → Sound (setup_of job.now) → UsesOnlySet (setup_of job.now) rules }
+{}
+
+/// A course goes on where a run ends: behind an Overflow each point without a number keeps its old ones, and behind the last
+/// turn of a WHILE the loop is left. A law of every job and all rules: the run of any stages from any state is their course up
+/// to the first end that is met. It does nothing; its clause is the law.
+pub fn course_is_run(job: &Job)
+    ensures { (rules : List Rule) → IsCourseCut (setup_of job.now) rules }
+{}
+
+/// A law of every sound job and all rules: along its course each need is met, from the start with no flag set, and behind the
+/// checkpoint place of each iteration both by the flags that a course leaves there and by flags that are all set; from any
+/// states, also beyond ends. It does nothing; its clause is the law.
+pub fn course_needs_met(job: &Job)
+    requires { Sound (setup_of job.now) }
+    ensures { (rules : List Rule) → NeedsMet (setup_of job.now) rules }
 {}

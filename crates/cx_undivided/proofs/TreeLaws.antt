@@ -4,7 +4,7 @@ use Rattle.std.specs.List.{All, flat_map, range_with_len}
 use Rattle.std.proofs.Math.Path.{fun_ext}
 use Rattle.std.proofs.lemmas.Bool.{cases_lt}
 use Rattle.std.proofs.lemmas.List.{get_or_past, get_or_read_under, drop_more, drop_all}
-use Rattle.std.proofs.lemmas.List.Elements.{All-nil, All-cons, All-head, All-tail}
+use Rattle.std.proofs.lemmas.List.Elements.{All-head}
 use Rattle.std.proofs.lemmas.List.FromFn.{get_or-range_with_len}
 use Rattle.cx_plan.specs.declared.variable.VarId.{VarId}
 use Rattle.cx_plan.specs.declared.item.Item.{Item}
@@ -27,6 +27,7 @@ use Rattle.cx_model.specs.Traces.{Turned as TookTurn}
 use Rattle.cx_model.specs.Trees.{at_zero, test, turn_trace, loop, run_tree, run_row}
 use Rattle.cx_model.specs.Turns.{turn}
 use Rattle.cx_model.specs.Work.{turn_points}
+use Rattle.cx_model.proofs.ListLaws.{all-of-one}
 use Rattle.cx_undivided.specs.declared.faults.Stop.{Stop}
 use Rattle.cx_undivided.specs.declared.faults.Stop.TheVariants as stops
 use Rattle.cx_undivided.specs.declared.faults.TurnFault.{TurnFault}
@@ -34,22 +35,6 @@ use Rattle.cx_undivided.specs.declared.faults.TurnFault.TheVariants as turns
 use Rattle.cx_undivided.specs.Answers.{CanRun, CanTurn, Turned, Followed}
 use Rattle.cx_undivided.specs.Trees.{CanRunTree, StopsAt, TakesTurn}
 use Rattle.cx_undivided.proofs.TraceLaws.{Answer, Leads, followed-does, followed-after-none, then-stays, leads-next, leads-stop, leads-after-none, leads-stays, leads-ends}
-
--- ---- parts of lists
-
-all-left : {X : Type 0} (P : X → Type 0) (xs ys : List X) → All P (xs ++ ys) → All P xs
-all-left P [] ys each = All-nil P
-all-left P (x ∷ xs) ys each = All-cons P x xs (All-head P x (xs ++ ys) each) (all-left P xs ys (All-tail P x (xs ++ ys) each))
-
-all-right : {X : Type 0} (P : X → Type 0) (xs ys : List X) → All P (xs ++ ys) → All P ys
-all-right P [] ys each = each
-all-right P (x ∷ xs) ys each = all-right P xs ys (All-tail P x (xs ++ ys) each)
-
--- what holds of all lists that are joined holds of each
-all-of-one : {X Y : Type 0} (P : X → Type 0) (f : Y → List X) (ys : List Y) (i : ℕ) (d : Y) → i < length ys → All P (flat_map f ys) → All P (f (get_or ys i d))
-all-of-one P f [] i d below each = absurd (omega arith)
-all-of-one P f (y ∷ ys) zero d below each = all-left P (f y) (flat_map f ys) each
-all-of-one P f (y ∷ ys) (suc i) d below each = all-of-one P f ys i d (omega arith) (all-right P (f y) (flat_map f ys) each)
 
 -- ---- what a tree asks
 
