@@ -4,7 +4,7 @@ use Rattle.cx_text.specs.declared.stop.Stop.{Stop}
 use Rattle.cx_text.specs.declared.stop.Stop.TheVariants as stops
 use Rattle.cx_text.specs.declared.stop.Why.TheVariants.{Unexpected}
 use Rattle.cx_text.specs.declared.token.Token.{Token}
-use Rattle.cx_text.specs.Grammar.{Answers, AnswersOnly, line_at}
+use Rattle.cx_text.specs.Grammar.{ReadsBy, AnswersOnly, line_at}
 use Rattle.cx_text.specs.Reading.{Answer, go_on, read_end, Fails, Gives}
 use Rattle.cx_text.specs.Rules.{Rule}
 use Rattle.cx_text.specs.Lexemes.{finished}
@@ -16,7 +16,7 @@ still_fails stops.Memory rest read h = tt
 still_fails (stops.Fault w) rest read h = rw h refl
 
 -- the answer is the value that is spelled, or the first fault
-pub answers : {X A : Type 0} {r : Rule A} {G : Option Token → Type 0} → Good r G → G None → (view : X → A) (ts rest : List Token) (answer : Result X Stop) → Gives view answer rest (r.reads ts) → Answers r.derives view ts (finished ts rest answer)
+pub answers : {X A : Type 0} {r : Rule A} {G : Option Token → Type 0} → Good r G → G None → (view : X → A) (ts rest : List Token) (answer : Result X Stop) → Gives view answer rest (r.reads ts) → ReadsBy r.derives view ts (finished ts rest answer)
 answers {X} {A} {r} {G} good g view ts [] (Ok x) h = answer_found view r.reads r.derives G good.law g ts [] x (rw h refl)
 answers {X} {A} {r} {G} good g view ts (t ∷ rest) (Ok x) h = answer_fault r.reads r.derives G good.law g ts (t ∷ rest) (stops.Fault Unexpected) (rw h refl)
 answers {X} {A} {r} {G} good g view ts [] (Err e) h = answer_fault r.reads r.derives G good.law g ts [] e (still_fails e [] (r.reads ts) h)

@@ -8,6 +8,9 @@ use Rattle.cx_text.specs.declared.byte.Role.TheVariants as roles
 use Rattle.cx_text.specs.declared.byte.Class.{Class}
 use Rattle.cx_text.specs.declared.byte.Class.TheVariants as classes
 
+abbrev pub LINE_FEED : ℕ
+LINE_FEED = 10
+
 -- space, tab, carriage return
 abbrev pub is_blank : ℕ → Bool
 is_blank b = (b == 32) || (b == 9) || (b == 13)

@@ -115,9 +115,9 @@ IsFault S ts (faults.BadNumber line) = HasFault S ts (Marked marks.BadNumber) li
 IsFault S ts (faults.Limit line) = HasFault S ts (Marked marks.Limit) line
 
 -- A reader answers the value that is spelled, else the first fault, unless memory runs out.
-abbrev pub Answers : {X A : Type 0} → Grammar A → (X → A) → List Token → Result X CclFault → Type 0
-Answers S view ts (Ok x) = Spells S ts (view x)
-Answers S view ts (Err e) = IsFault S ts e
+abbrev pub ReadsBy : {X A : Type 0} → Grammar A → (X → A) → List Token → Result X CclFault → Type 0
+ReadsBy S view ts (Ok x) = Spells S ts (view x)
+ReadsBy S view ts (Err e) = IsFault S ts e
 
 -- what is spelled is answered, unless memory runs out
 abbrev pub AnswersOnly : {X A : Type 0} → Grammar A → (X → A) → List Token → Result X CclFault → Type 0

@@ -11,7 +11,7 @@ use Rattle.cx_text.specs.declared.stop.Stop.{Stop}
 use Rattle.cx_text.specs.declared.fault.CclFault.{CclFault}
 use Rattle.cx_text.specs.declared.fault.CclFault.TheVariants as faults
 use Rattle.cx_text.specs.declared.token.Token.{Token}
-use Rattle.cx_text.specs.Tokens.{is_word}
+use Rattle.cx_text.specs.Tokens.{is_word, is_line_end}
 use Rattle.cx_text.specs.Grammar.{line_at}
 use Rattle.cx_text.specs.Reading.{fault_of}
 use Rattle.cx_text.specs.Rules.{Rule, token, nothing, ◌>>=◌, choice, loop, if_is, unmarked, is_sign_kind, is_sign, is_named, name_of, name_mark, lexeme, sign, name, name_here}
@@ -42,19 +42,25 @@ same_name a b = bytes_eq (map to_ascii_lowercase a) (map to_ascii_lowercase b)
 abbrev pub among : List (List ℕ) → List ℕ → Bool
 among names name = list_any (same_name name) names
 
+-- a keyword that may stand once, and what follows it on its line
+abbrev pub once_here : List ℕ → Bool → Rule (Unit {0})
+once_here name seen = token (if_is (is_named name)) (λ t. first_mark seen Repeated None)
+
 -- a keyword that may stand once
 abbrev pub once : List ℕ → Bool → Rule (Unit {0})
 once name seen = lexeme (if_is (is_named name)) (λ t. first_mark seen Repeated None)
 
 -- a keyword that begins what is counted, where as many as may stand are there already
+abbrev pub counted_keyword_here : List ℕ → Bool → Rule (Unit {0})
+counted_keyword_here name full = token (if_is (is_named name)) (λ t. first_mark full Limit None)
+
 abbrev pub counted_keyword : List ℕ → Bool → Rule (Unit {0})
 counted_keyword name full = lexeme (if_is (is_named name)) (λ t. first_mark full Limit None)
 
--- a name that begins what is counted
-abbrev pub counted_name : Bool → Rule (List ℕ)
-counted_name full = lexeme name_of (λ t. first_mark full Limit (name_mark t))
-
 -- a name that isn't yet among these
+abbrev pub new_name_here : List (List ℕ) → Rule (List ℕ)
+new_name_here names = token name_of (λ t. first_mark (among names t.text) Repeated (name_mark t))
+
 abbrev pub new_name : List (List ℕ) → Rule (List ℕ)
 new_name names = lexeme name_of (λ t. first_mark (among names t.text) Repeated (name_mark t))
 
@@ -155,6 +161,10 @@ listed ns = do
   loop is_comma_or_word more_listed (ns ++ n ∷ [])
 
 -- ---- tokens of any kind
+
+-- what a line goes on with
+abbrev pub in_line : Token → Bool
+in_line t = not (is_line_end t)
 
 -- as a tree keeps it
 abbrev pub kept : Token → Token

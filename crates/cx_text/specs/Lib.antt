@@ -4,6 +4,8 @@ pub mod Grammar
 pub mod Reading
 pub mod Rules
 pub mod Lexemes
+pub mod Digits
+pub mod Telling
 pub mod Written
 pub mod Bytes
 pub mod Pieces

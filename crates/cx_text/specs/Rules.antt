@@ -1,5 +1,5 @@
 -- Rules: what a grammar derives, and how it is read from left to right. Each way to make a rule gives both.
-use Rattle.std.specs.Prelude.{ℕ, Bool, true, false, cond, ◌&&◌, nat_lt, List, [], ◌∷◌, length, map, Option, Some, None}
+use Rattle.std.specs.Prelude.{ℕ, Bool, true, false, cond, ◌&&◌, nat_lt, List, [], ◌∷◌, length, map, Option, Some, None, Result}
 use Rattle.std.specs.Str.{bytes_eq}
 use Rattle.std.specs.Char.{to_ascii_lowercase}
 use Rattle.cx_text.specs.declared.token.Kind.{Kind}
@@ -7,10 +7,12 @@ use Rattle.cx_text.specs.declared.token.Kind.TheVariants.{Word, Number, Quoted, 
 use Rattle.cx_text.specs.declared.stop.Mark.{Mark}
 use Rattle.cx_text.specs.declared.stop.Mark.TheVariants.{Limit}
 use Rattle.cx_text.specs.declared.token.Token.{Token}
+use Rattle.cx_text.specs.declared.reader.Reader.{Reader}
+use Rattle.cx_text.specs.declared.stop.Stop.{Stop}
 use Rattle.cx_text.specs.Tokens.{is_word, is_line_end}
 use Rattle.cx_text.specs.Grammar.{Grammar}
 use Rattle.cx_text.specs.Grammar as grammar
-use Rattle.cx_text.specs.Reading.{Read, read_token, read_nothing, read_also, read_marked, read_choice, read_many}
+use Rattle.cx_text.specs.Reading.{Read, Gives, read_token, read_nothing, read_also, read_marked, read_choice, read_many}
 
 pub record Rule (A : Type 0) : Type 1 where
   pub derives : Grammar A
@@ -110,3 +112,14 @@ sign_here b = token (if_is (is_sign b)) unmarked
 
 abbrev pub line_end : Rule (Unit {0})
 line_end = lexeme (if_is is_line_end) unmarked
+
+-- ---- what a function that reads owes
+
+-- It answers what the rule reads from where the reader stood, and leaves it behind that; at a fault it leaves it at the
+-- faulty token. Memory may run out.
+abbrev pub Obeys : {X : Type 0} → Rule X → Result X Stop → Reader → Reader → Type 0
+Obeys rule result old new = Gives (λ x. x) result new.rest.now (rule.reads old.rest.now)
+
+-- the same of a function that puts what the rule reads into a value of the caller's
+abbrev pub Builds : {X Y : Type 0} → Rule Y → Y → Result X Stop → Reader → Reader → Type 0
+Builds rule built result old new = Gives (λ x. built) result new.rest.now (rule.reads old.rest.now)

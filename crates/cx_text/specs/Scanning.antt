@@ -1,7 +1,9 @@
 -- Taking the piece that stands at the front of a text.
 use Rattle.std.specs.Prelude.{◌≡◌, ℕ, ◌+◌, Bool, true, false, ◌&&◌, ◌==◌, ◌⊎◌, cond, List, [], ◌∷◌, map, take, drop, Option, Some, None, Result, Ok, Err}
 use Rattle.std.specs.List.{prefix_len}
+use Rattle.cx_text.specs.declared.token.Kind.{Kind}
 use Rattle.cx_text.specs.declared.token.Token.{Token}
+use Rattle.cx_text.specs.declared.scanner.Scanner.{Scanner}
 use Rattle.cx_text.specs.declared.token.Style.{Style}
 use Rattle.cx_text.specs.declared.fault.TextFault.{TextFault}
 use Rattle.cx_text.specs.declared.fault.TextFault.TheVariants as faults
@@ -74,6 +76,14 @@ Takes (Ok token) fresh' line' rest' (Some x) fresh line fault = (token ≡ own_t
 Takes (Ok token) fresh' line' rest' None fresh line fault = ⊥
 Takes (Err e) fresh' line' rest' (Some x) fresh line fault = e ≡ faults.Memory
 Takes (Err e) fresh' line' rest' None fresh line fault = (e ≡ faults.Memory) ⊎ (e ≡ fault)
+
+-- The same of a step that took a scanner from `old` to `new`.
+abbrev pub Steps : Result (Option Token) TextFault → Scanner → Scanner → Taken → TextFault → Type 0
+Steps result old new taken fault = Takes result new.fresh new.line new.rest.now taken old.fresh old.line fault
+
+-- what goes on with a first byte, as a token
+abbrev pub long_token : Kind → ℕ → Class → Scanner → Token
+long_token kind first class old = record { kind = kind; text = first ∷ front class old.rest.now; line = old.line }
 
 -- Whether a byte was taken, and what is left.
 abbrev pub TakesByte : Bool → List ℕ → ℕ → List ℕ → Type 0

@@ -25,14 +25,6 @@ impl<T> Boxed<T> {
     {
         &self.place
     }
-
-    /// The value, handed over.
-    pub fn into_inner(self) -> T
-        ensures { result ≡ self }
-    {
-        let Boxed { place } = self;
-        Box::into_inner(place)
-    }
 }
 
 impl<T: Drop> Boxed<T> {

@@ -33,7 +33,8 @@ pub enum Class {
     Word(Style),
 }
 
-fn is_blank(byte: u8) -> bool
+/// Whether a byte is a space, a tab or a carriage return.
+pub fn is_blank(byte: u8) -> bool
     ensures { result ≡ is_blank byte }
 {
     byte == b' ' || byte == b'\t' || byte == b'\r'

@@ -1,11 +1,9 @@
 //! Tokens that several grammars share: numbers, quoted texts, lists of names, tokens in braces.
 
-ghost use Rattle.std.specs.Prelude.{◌≡◌, ◌<◌, ◌≤◌, None, MatchOption};
+ghost use Rattle.std.specs.Prelude.{◌≡◌, ◌<◌, ◌≤◌, MatchOption};
 ghost use Rattle.cx_text.specs.Grammar.{passes, head};
-ghost use Rattle.cx_text.specs.Reading.{Gives};
-ghost use Rattle.cx_text.specs.Rules.{token, loop, if_is, is_named, name_of, name_mark, unmarked};
-ghost use Rattle.cx_text.specs.Lexemes.{first_mark, same_name, among, once, counted_keyword, counted_name, new_name, word, is_sign_pair, sign_pair, decimal_from, is_number, number_of, number_mark, number_in, is_quoted, quoted_of, quoted, is_comma_or_word, comma, more_names, some_names, names, more_listed, listed, is_inside, inside, braces, finished};
-ghost use Rattle.cx_text.specs.declared.stop.Mark.TheVariants as marks;
+ghost use Rattle.cx_text.specs.Rules.{Obeys, Builds, token, loop, if_is, name_of, unmarked};
+ghost use Rattle.cx_text.specs.Lexemes.{same_name, among, once_here, once, counted_keyword_here, counted_keyword, new_name_here, new_name, word, is_sign_pair, sign_pair, decimal_from, is_number, number_of, number_mark, number_in, is_quoted, quoted_of, quoted, is_comma_or_word, comma, more_names, some_names, names, more_listed, listed, in_line, is_inside, inside, braces, finished};
 
 use crate::reader::MAX_NAME;
 use crate::{CclFault, Kind, List, Mark, Reader, Stop, Text, Token, Why};
@@ -32,7 +30,8 @@ pub fn among(names: &[Text], name: &[u8]) -> bool
 
 /// The number of a run of digits, where it is at most `high`.
 pub fn decimal(digits: &[u8], high: u64) -> Option<u64>
-    ensures { MatchOption result (high < decimal_from 0 digits.now) (λ n. (decimal_from 0 digits.now ≡ n) × (n ≤ high)) }
+    ensures { let number = decimal_from 0 digits.now in
+        MatchOption result (high < number) (λ n. (number ≡ n) × (n ≤ high)) }
 {
     let mut value: u64 = 0;
     for byte in digits {
@@ -46,6 +45,7 @@ pub fn decimal(digits: &[u8], high: u64) -> Option<u64>
 }
 
 impl<'a> Reader<'a> {
+    /// Whether a number stands here.
     pub fn at_number(&self) -> bool
         ensures { result ≡ passes is_number (head self.now.rest.now) }
     {
@@ -55,7 +55,8 @@ impl<'a> Reader<'a> {
         }
     }
 
-    pub fn at_quoted(&self) -> bool
+    /// Whether a quoted text stands here.
+    pub fn at_quoted_text(&self) -> bool
         ensures { result ≡ passes is_quoted (head self.now.rest.now) }
     {
         match self.rest {
@@ -64,6 +65,17 @@ impl<'a> Reader<'a> {
         }
     }
 
+    /// Whether a token stands here with which its line goes on.
+    pub fn at_in_line(&self) -> bool
+        ensures { result ≡ passes in_line (head self.now.rest.now) }
+    {
+        match self.rest {
+            [token, ..] => !token.is_line_end(),
+            [] => false,
+        }
+    }
+
+    /// Whether this sign of two bytes stands here.
     pub fn at_sign_pair(&self, a: u8, b: u8) -> bool
         ensures { result ≡ passes (is_sign_pair a b) (head self.now.rest.now) }
     {
@@ -73,6 +85,7 @@ impl<'a> Reader<'a> {
         }
     }
 
+    /// Whether a comma or a word stands here.
     pub fn at_comma_or_word(&self) -> bool
         ensures { result ≡ passes is_comma_or_word (head self.now.rest.now) }
     {
@@ -83,7 +96,7 @@ impl<'a> Reader<'a> {
     }
 
     fn sign_pair_here(&mut self, a: u8, b: u8) -> Result<(), Stop>
-        ensures { Gives (λ x. x) result self.new.rest.now ((token (if_is (is_sign_pair a b)) unmarked).reads self.old.rest.now) }
+        ensures { Obeys (token (if_is (is_sign_pair a b)) unmarked) result self.old self.new }
     {
         match self.rest {
             [token, rest @ ..] if token.is_sign_pair(a, b) => {
@@ -96,7 +109,7 @@ impl<'a> Reader<'a> {
 
     /// A sign of two bytes.
     pub fn sign_pair(&mut self, a: u8, b: u8) -> Result<(), Stop>
-        ensures { Gives (λ x. x) result self.new.rest.now ((sign_pair a b).reads self.old.rest.now) }
+        ensures { Obeys (sign_pair a b) result self.old self.new }
     {
         self.sign_pair_here(a, b)?;
         self.skip_line_ends();
@@ -104,7 +117,7 @@ impl<'a> Reader<'a> {
     }
 
     fn once_here(&mut self, name: &[u8], seen: bool) -> Result<(), Stop>
-        ensures { Gives (λ x. x) result self.new.rest.now ((token (if_is (is_named name.now)) (λ t. first_mark seen marks.Repeated None)).reads self.old.rest.now) }
+        ensures { Obeys (once_here name.now seen) result self.old self.new }
     {
         match self.rest {
             [token, rest @ ..] if token.is_named(name) => {
@@ -120,7 +133,7 @@ impl<'a> Reader<'a> {
 
     /// A keyword that may stand once.
     pub fn once(&mut self, name: &[u8], seen: bool) -> Result<(), Stop>
-        ensures { Gives (λ x. x) result self.new.rest.now ((once name.now seen).reads self.old.rest.now) }
+        ensures { Obeys (once name.now seen) result self.old self.new }
     {
         self.once_here(name, seen)?;
         self.skip_line_ends();
@@ -128,7 +141,7 @@ impl<'a> Reader<'a> {
     }
 
     fn counted_keyword_here(&mut self, name: &[u8], full: bool) -> Result<(), Stop>
-        ensures { Gives (λ x. x) result self.new.rest.now ((token (if_is (is_named name.now)) (λ t. first_mark full marks.Limit None)).reads self.old.rest.now) }
+        ensures { Obeys (counted_keyword_here name.now full) result self.old self.new }
     {
         match self.rest {
             [token, rest @ ..] if token.is_named(name) => {
@@ -144,40 +157,15 @@ impl<'a> Reader<'a> {
 
     /// A keyword that begins what is counted, where it is `full` if as many as may stand are there already.
     pub fn counted_keyword(&mut self, name: &[u8], full: bool) -> Result<(), Stop>
-        ensures { Gives (λ x. x) result self.new.rest.now ((counted_keyword name.now full).reads self.old.rest.now) }
+        ensures { Obeys (counted_keyword name.now full) result self.old self.new }
     {
         self.counted_keyword_here(name, full)?;
         self.skip_line_ends();
         Ok(())
     }
 
-    fn counted_name_here(&mut self, alloc: Global, full: bool) -> Result<Text, Stop>
-        ensures { Gives (λ x. x) result self.new.rest.now ((token name_of (λ t. first_mark full marks.Limit (name_mark t))).reads self.old.rest.now) }
-    {
-        match self.rest {
-            [token, rest @ ..] if token.is_word() => {
-                if full || token.text.len() > MAX_NAME {
-                    return Err(Stop::Fault(Why::Marked(Mark::Limit)));
-                }
-                let name = Text::from_slice(alloc, token.text.as_slice())?;
-                self.rest = rest;
-                Ok(name)
-            }
-            _ => Err(Stop::Fault(Why::Unexpected)),
-        }
-    }
-
-    /// A name that begins what is counted, where it is `full` if as many as may stand are there already.
-    pub fn counted_name(&mut self, alloc: Global, full: bool) -> Result<Text, Stop>
-        ensures { Gives (λ x. x) result self.new.rest.now ((counted_name full).reads self.old.rest.now) }
-    {
-        let name = self.counted_name_here(alloc, full)?;
-        self.skip_line_ends();
-        Ok(name)
-    }
-
     fn new_name_here(&mut self, alloc: Global, names: &[Text]) -> Result<Text, Stop>
-        ensures { Gives (λ x. x) result self.new.rest.now ((token name_of (λ t. first_mark (among names.now t.text) marks.Repeated (name_mark t))).reads self.old.rest.now) }
+        ensures { Obeys (new_name_here names.now) result self.old self.new }
     {
         match self.rest {
             [token, rest @ ..] if token.is_word() => {
@@ -197,7 +185,7 @@ impl<'a> Reader<'a> {
 
     /// A name that isn't yet among these.
     pub fn new_name(&mut self, alloc: Global, names: &[Text]) -> Result<Text, Stop>
-        ensures { Gives (λ x. x) result self.new.rest.now ((new_name names.now).reads self.old.rest.now) }
+        ensures { Obeys (new_name names.now) result self.old self.new }
     {
         let name = self.new_name_here(alloc, names)?;
         self.skip_line_ends();
@@ -205,7 +193,7 @@ impl<'a> Reader<'a> {
     }
 
     fn word_here(&mut self, alloc: Global) -> Result<Text, Stop>
-        ensures { Gives (λ x. x) result self.new.rest.now ((token name_of unmarked).reads self.old.rest.now) }
+        ensures { Obeys (token name_of unmarked) result self.old self.new }
     {
         match self.rest {
             [token, rest @ ..] if token.is_word() => {
@@ -219,7 +207,7 @@ impl<'a> Reader<'a> {
 
     /// A word that is no name, so of any length.
     pub fn word(&mut self, alloc: Global) -> Result<Text, Stop>
-        ensures { Gives (λ x. x) result self.new.rest.now (word.reads self.old.rest.now) }
+        ensures { Obeys word result self.old self.new }
     {
         let text = self.word_here(alloc)?;
         self.skip_line_ends();
@@ -227,7 +215,7 @@ impl<'a> Reader<'a> {
     }
 
     fn number_here(&mut self, low: u64, high: u64) -> Result<u64, Stop>
-        ensures { Gives (λ n. n) result self.new.rest.now ((token number_of (number_mark low high)).reads self.old.rest.now) }
+        ensures { Obeys (token number_of (number_mark low high)) result self.old self.new }
     {
         match self.rest {
             [token, rest @ ..] if matches!(token.kind, Kind::Number) => {
@@ -245,15 +233,15 @@ impl<'a> Reader<'a> {
 
     /// A number from `low` to `high`.
     pub fn number_in(&mut self, low: u64, high: u64) -> Result<u64, Stop>
-        ensures { Gives (λ n. n) result self.new.rest.now ((number_in low high).reads self.old.rest.now) }
+        ensures { Obeys (number_in low high) result self.old self.new }
     {
         let value = self.number_here(low, high)?;
         self.skip_line_ends();
         Ok(value)
     }
 
-    fn quoted_here(&mut self, alloc: Global) -> Result<Text, Stop>
-        ensures { Gives (λ x. x) result self.new.rest.now ((token quoted_of unmarked).reads self.old.rest.now) }
+    fn quoted_text_here(&mut self, alloc: Global) -> Result<Text, Stop>
+        ensures { Obeys (token quoted_of unmarked) result self.old self.new }
     {
         match self.rest {
             [token, rest @ ..] if matches!(token.kind, Kind::Quoted) => {
@@ -266,17 +254,17 @@ impl<'a> Reader<'a> {
     }
 
     /// A quoted text.
-    pub fn quoted(&mut self, alloc: Global) -> Result<Text, Stop>
-        ensures { Gives (λ x. x) result self.new.rest.now (quoted.reads self.old.rest.now) }
+    pub fn quoted_text(&mut self, alloc: Global) -> Result<Text, Stop>
+        ensures { Obeys quoted result self.old self.new }
     {
-        let text = self.quoted_here(alloc)?;
+        let text = self.quoted_text_here(alloc)?;
         self.skip_line_ends();
         Ok(text)
     }
 
     /// A comma, if one stands here.
     pub fn comma(&mut self) -> Result<(), Stop>
-        ensures { Gives (λ x. x) result self.new.rest.now (comma.reads self.old.rest.now) }
+        ensures { Obeys comma result self.old self.new }
     {
         if self.at_sign(b',') {
             self.sign(b',')
@@ -286,7 +274,7 @@ impl<'a> Reader<'a> {
     }
 
     fn more_names(&mut self, alloc: Global, names: &mut List<Text>) -> Result<(), Stop>
-        ensures { Gives (λ x. names.new) result self.new.rest.now ((more_names names.old).reads self.old.rest.now) }
+        ensures { Builds (more_names names.old) names.new result self.old self.new }
     {
         self.comma()?;
         let name = self.name_here(alloc)?;
@@ -296,7 +284,7 @@ impl<'a> Reader<'a> {
 
     /// More names, if a comma or a word stands here.
     fn names_after(&mut self, alloc: Global, names: &mut List<Text>) -> Result<(), Stop>
-        ensures { Gives (λ x. names.new) result self.new.rest.now ((loop is_comma_or_word more_names names.old).reads self.old.rest.now) }
+        ensures { Builds (loop is_comma_or_word more_names names.old) names.new result self.old self.new }
     {
         'names: while self.at_comma_or_word() {
             self.more_names(alloc, names)?;
@@ -306,7 +294,7 @@ impl<'a> Reader<'a> {
 
     /// One name or more, behind which a LineEnd may stand: they are added to the list.
     pub fn some_names(&mut self, alloc: Global, list: &mut List<Text>) -> Result<(), Stop>
-        ensures { Gives (λ x. list.new) result self.new.rest.now ((some_names list.old).reads self.old.rest.now) }
+        ensures { Builds (some_names list.old) list.new result self.old self.new }
     {
         let name = self.name_here(alloc)?;
         list.push(name)?;
@@ -315,7 +303,7 @@ impl<'a> Reader<'a> {
 
     /// Any number of names, behind which a LineEnd may stand: they are added to the list.
     pub fn names(&mut self, alloc: Global, list: &mut List<Text>) -> Result<(), Stop>
-        ensures { Gives (λ x. list.new) result self.new.rest.now ((names list.old).reads self.old.rest.now) }
+        ensures { Builds (names list.old) list.new result self.old self.new }
     {
         if self.at_word() {
             self.some_names(alloc, list)
@@ -325,7 +313,7 @@ impl<'a> Reader<'a> {
     }
 
     fn more_listed(&mut self, alloc: Global, names: &mut List<Text>) -> Result<(), Stop>
-        ensures { Gives (λ x. names.new) result self.new.rest.now ((more_listed names.old).reads self.old.rest.now) }
+        ensures { Builds (more_listed names.old) names.new result self.old self.new }
     {
         self.comma()?;
         let name = self.name(alloc)?;
@@ -333,8 +321,8 @@ impl<'a> Reader<'a> {
         Ok(())
     }
 
-    fn listed_after(&mut self, alloc: Global, names: &mut List<Text>) -> Result<(), Stop>
-        ensures { Gives (λ x. names.new) result self.new.rest.now ((loop is_comma_or_word more_listed names.old).reads self.old.rest.now) }
+    fn name_list_after(&mut self, alloc: Global, names: &mut List<Text>) -> Result<(), Stop>
+        ensures { Builds (loop is_comma_or_word more_listed names.old) names.new result self.old self.new }
     {
         'names: while self.at_comma_or_word() {
             self.more_listed(alloc, names)?;
@@ -343,15 +331,16 @@ impl<'a> Reader<'a> {
     }
 
     /// One name or more, where LineEnds are skipped: they are added to the list.
-    pub fn listed(&mut self, alloc: Global, list: &mut List<Text>) -> Result<(), Stop>
-        ensures { Gives (λ x. list.new) result self.new.rest.now ((listed list.old).reads self.old.rest.now) }
+    pub fn name_list(&mut self, alloc: Global, list: &mut List<Text>) -> Result<(), Stop>
+        ensures { Builds (listed list.old) list.new result self.old self.new }
     {
         let name = self.name(alloc)?;
         list.push(name)?;
-        self.listed_after(alloc, list)
+        self.name_list_after(alloc, list)
     }
 
-    fn at_inside(&self) -> bool
+    /// Whether a token stands here that doesn't end braces.
+    pub fn at_inside(&self) -> bool
         ensures { result ≡ passes is_inside (head self.now.rest.now) }
     {
         match self.rest {
@@ -361,7 +350,7 @@ impl<'a> Reader<'a> {
     }
 
     fn inside(&mut self) -> Result<(), Stop>
-        ensures { Gives (λ x. x) result self.new.rest.now ((inside tt).reads self.old.rest.now) }
+        ensures { Obeys (inside tt) result self.old self.new }
     {
         match self.rest {
             [token, rest @ ..] if !token.is_sign(b'}') => {
@@ -373,7 +362,7 @@ impl<'a> Reader<'a> {
     }
 
     fn skip_inside(&mut self) -> Result<(), Stop>
-        ensures { Gives (λ x. x) result self.new.rest.now ((loop is_inside inside tt).reads self.old.rest.now) }
+        ensures { Obeys (loop is_inside inside tt) result self.old self.new }
     {
         'skipped: while self.at_inside() {
             self.inside()?;
@@ -383,7 +372,7 @@ impl<'a> Reader<'a> {
 
     /// Tokens in braces.
     pub fn braces(&mut self) -> Result<(), Stop>
-        ensures { Gives (λ x. x) result self.new.rest.now (braces.reads self.old.rest.now) }
+        ensures { Obeys braces result self.old self.new }
     {
         self.sign(b'{')?;
         self.skip_inside()?;

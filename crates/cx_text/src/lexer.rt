@@ -21,7 +21,8 @@ struct Gathered {
 impl Gathered {
     /// Adds a token, if there is one and it is no second LineEnd.
     fn add(&mut self, token: Option<Token>) -> Result<(), Memory>
-        ensures tokens { IfOk result (λ x. self.new.tokens.items ≡ self.old.tokens.items ++ merged self.old.ended (or_nothing token)) }
+        ensures tokens { let added = merged self.old.ended (or_nothing token) in
+            IfOk result (λ x. self.new.tokens.items ≡ self.old.tokens.items ++ added) }
         ensures ended { IfOk result (λ x. self.new.ended ≡ ended self.old.ended (or_nothing token)) }
     {
         let Some(token) = token else { return Ok(()) };
@@ -35,7 +36,8 @@ impl Gathered {
 
     /// The tokens, with a LineEnd at the end.
     fn finish(self, alloc: Global, line: u32) -> Result<List<Token>, Memory>
-        ensures { IfOk result (λ list. list ≡ self.tokens.items ++ (if self.ended then [] else (line_end line ∷ []))) }
+        ensures { let last = if self.ended then [] else (line_end line ∷ []) in
+            IfOk result (λ list. list ≡ self.tokens.items ++ last) }
     {
         let Gathered { mut tokens, ended } = self;
         if !ended {

@@ -5,6 +5,7 @@
 mod boxed;
 mod byte;
 mod ctype;
+mod digits;
 mod fault;
 mod lexemes;
 mod lexer;
@@ -12,18 +13,16 @@ mod list;
 mod memory;
 mod printer;
 mod reader;
-#[cfg(test)]
-mod samples;
 mod scanner;
 mod stop;
-#[cfg(test)]
-mod tests;
 mod text;
 mod token;
 mod written;
 
 pub use boxed::Boxed;
+pub use byte::is_blank;
 pub use ctype::CType;
+pub use digits::{has_digits, is_digits, natural_in, negative, parts_between_blanks};
 pub use fault::{CclFault, TextFault};
 pub use lexemes::{among, decimal, same_name};
 pub use lexer::tokens;

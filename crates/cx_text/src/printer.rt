@@ -42,7 +42,8 @@ fn push_spelling(text: &mut Text, token: &Token) -> Result<(), Memory>
 
 /// Adds a token to a line, which is fresh where it has no token yet.
 fn push_token(text: &mut Text, fresh: bool, token: &Token) -> Result<(), Memory>
-    ensures { IfOk result (λ x. text.new ≡ text.old ++ (gap fresh token.now ++ spelling token.now.kind token.now.text)) }
+    ensures { let spelled = gap fresh token.now ++ spelling token.now.kind token.now.text in
+        IfOk result (λ x. text.new ≡ text.old ++ spelled) }
 {
     if fresh || token.is_line_end() {
         return push_spelling(text, token);

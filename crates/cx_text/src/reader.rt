@@ -3,9 +3,9 @@
 ghost use Rattle.std.specs.Prelude.{◌≡◌, ◌<◌, length, Some, None, Option, List, IsTrue};
 ghost use Rattle.std.specs.Prelude.{Ok, MatchBool, ◌≤◌};
 ghost use Rattle.cx_text.specs.Tokens.{is_word, is_line_end};
-ghost use Rattle.cx_text.specs.Rules.{token, if_is, unmarked, is_sign, is_named, one_line_end, line_ends, keyword, sign, name, name_here, sign_here, line_end};
+ghost use Rattle.cx_text.specs.Rules.{Obeys, token, if_is, unmarked, is_sign, is_named, one_line_end, line_ends, keyword, sign, name, name_here, sign_here, line_end};
 ghost use Rattle.cx_text.specs.Grammar.{passes, head, last_line, line_at};
-ghost use Rattle.cx_text.specs.Reading.{Gives, read_token, read_end, fault_of};
+ghost use Rattle.cx_text.specs.Reading.{read_token, read_end, fault_of};
 
 use crate::{CclFault, Mark, Stop, Text, Token, Why};
 use std::alloc::Global;
@@ -20,12 +20,14 @@ pub struct Reader<'a> {
 }
 
 impl<'a> Reader<'a> {
+    /// At the first of these tokens.
     pub fn new(tokens: &'a [Token]) -> Reader<'a>
         ensures { result.rest.now ≡ tokens.now }
     {
         Reader { rest: tokens }
     }
 
+    /// Whether a word stands here.
     pub fn at_word(&self) -> bool
         ensures { result ≡ passes is_word (head self.now.rest.now) }
     {
@@ -35,7 +37,7 @@ impl<'a> Reader<'a> {
         }
     }
 
-    pub fn at_line_end(&self) -> bool
+    fn at_line_end(&self) -> bool
         ensures { result ≡ passes is_line_end (head self.now.rest.now) }
     {
         match self.rest {
@@ -44,6 +46,7 @@ impl<'a> Reader<'a> {
         }
     }
 
+    /// Whether this sign of one byte stands here.
     pub fn at_sign(&self, sign: u8) -> bool
         ensures { result ≡ passes (is_sign sign) (head self.now.rest.now) }
     {
@@ -53,6 +56,7 @@ impl<'a> Reader<'a> {
         }
     }
 
+    /// Whether this word stands here, in any case.
     pub fn at_keyword(&self, name: &[u8]) -> bool
         ensures { result ≡ passes (is_named name.now) (head self.now.rest.now) }
     {
@@ -65,7 +69,8 @@ impl<'a> Reader<'a> {
     /// Takes a LineEnd if one stands here, and says whether it did.
     fn take_line_end(&mut self) -> bool
         ensures at { result ≡ passes is_line_end (head self.old.rest.now) }
-        ensures taken { MatchBool result ((one_line_end tt).reads self.old.rest.now ≡ Ok (tt, self.new.rest.now)) (self.new.rest.now ≡ self.old.rest.now) }
+        ensures taken { let read = (one_line_end tt).reads self.old.rest.now in
+            MatchBool result (read ≡ Ok (tt, self.new.rest.now)) (self.new.rest.now ≡ self.old.rest.now) }
         ensures len { length self.new.rest.now ≤ length self.old.rest.now }
     {
         match self.rest {
@@ -79,7 +84,7 @@ impl<'a> Reader<'a> {
 
     /// One LineEnd.
     pub fn one_line_end(&mut self) -> Result<(), Stop>
-        ensures { Gives (λ x. x) result self.new.rest.now ((one_line_end tt).reads self.old.rest.now) }
+        ensures { Obeys (one_line_end tt) result self.old self.new }
     {
         match self.rest {
             [token, rest @ ..] if token.is_line_end() => {
@@ -99,8 +104,9 @@ impl<'a> Reader<'a> {
         }
     }
 
+    /// A sign of one byte, and what follows it on its line.
     pub fn sign_here(&mut self, sign: u8) -> Result<(), Stop>
-        ensures { Gives (λ x. x) result self.new.rest.now ((sign_here sign).reads self.old.rest.now) }
+        ensures { Obeys (sign_here sign) result self.old self.new }
     {
         match self.rest {
             [token, rest @ ..] if token.is_sign(sign) => {
@@ -111,8 +117,9 @@ impl<'a> Reader<'a> {
         }
     }
 
+    /// A sign of one byte.
     pub fn sign(&mut self, byte: u8) -> Result<(), Stop>
-        ensures { Gives (λ x. x) result self.new.rest.now ((sign byte).reads self.old.rest.now) }
+        ensures { Obeys (sign byte) result self.old self.new }
     {
         self.sign_here(byte)?;
         self.skip_line_ends();
@@ -120,7 +127,7 @@ impl<'a> Reader<'a> {
     }
 
     fn keyword_here(&mut self, name: &[u8]) -> Result<(), Stop>
-        ensures { Gives (λ x. x) result self.new.rest.now ((token (if_is (is_named name.now)) unmarked).reads self.old.rest.now) }
+        ensures { Obeys (token (if_is (is_named name.now)) unmarked) result self.old self.new }
     {
         match self.rest {
             [token, rest @ ..] if token.is_named(name) => {
@@ -131,8 +138,9 @@ impl<'a> Reader<'a> {
         }
     }
 
+    /// A word, in any case.
     pub fn keyword(&mut self, name: &[u8]) -> Result<(), Stop>
-        ensures { Gives (λ x. x) result self.new.rest.now ((keyword name.now).reads self.old.rest.now) }
+        ensures { Obeys (keyword name.now) result self.old self.new }
     {
         self.keyword_here(name)?;
         self.skip_line_ends();
@@ -141,7 +149,7 @@ impl<'a> Reader<'a> {
 
     /// A name, and what follows it on its line.
     pub fn name_here(&mut self, alloc: Global) -> Result<Text, Stop>
-        ensures { Gives (λ x. x) result self.new.rest.now (name_here.reads self.old.rest.now) }
+        ensures { Obeys name_here result self.old self.new }
     {
         match self.rest {
             [token, rest @ ..] if token.is_word() => {
@@ -156,16 +164,18 @@ impl<'a> Reader<'a> {
         }
     }
 
+    /// A name: a word of at most 64 bytes.
     pub fn name(&mut self, alloc: Global) -> Result<Text, Stop>
-        ensures { Gives (λ x. x) result self.new.rest.now (name.reads self.old.rest.now) }
+        ensures { Obeys name result self.old self.new }
     {
         let name = self.name_here(alloc)?;
         self.skip_line_ends();
         Ok(name)
     }
 
+    /// One LineEnd or more.
     pub fn line_end(&mut self) -> Result<(), Stop>
-        ensures { Gives (λ x. x) result self.new.rest.now (line_end.reads self.old.rest.now) }
+        ensures { Obeys line_end result self.old self.new }
     {
         self.one_line_end()?;
         self.skip_line_ends();

@@ -3,8 +3,8 @@
 ghost use Rattle.std.specs.Prelude.{◌≡◌, ◌+◌, ◌<◌, ◌∷◌, ◌==◌, ◌^◌, length, true, false, Some, IfOk, MatchResult};
 ghost use Rattle.cx_text.specs.declared.fault.TextFault.TheVariants as faults;
 ghost use Rattle.cx_text.specs.declared.byte.Class.TheVariants as classes;
-ghost use Rattle.cx_text.specs.Bytes.{role_of};
-ghost use Rattle.cx_text.specs.Scanning.{front, behind, quoted, take_quoted, take_sign, take_as, Takes, TakesByte, TakesText, next_byte};
+ghost use Rattle.cx_text.specs.Bytes.{role_of, LINE_FEED};
+ghost use Rattle.cx_text.specs.Scanning.{front, behind, quoted, take_quoted, take_sign, take_as, Steps, long_token, TakesByte, TakesText, next_byte};
 ghost use Rattle.cx_text.specs.Pieces.{fault_at, line_end, meaning, QuotedByte};
 
 use crate::byte::{Class, Role, front_len, is_escapable, is_pair, role_of};
@@ -52,7 +52,8 @@ impl<'a> Scanner<'a> {
     /// The text behind an opening quote, if it is closed.
     fn quoted_text(&mut self, alloc: Global, quote: u8) -> Result<Option<Text>, Memory>
         requires { self.old.line + length self.old.rest.now < 2 ^ 32 }
-        ensures text { TakesText result self.new.line self.new.rest.now (quoted quote self.old.rest.now) self.old.line }
+        ensures text { let taken = quoted quote self.old.rest.now in
+            TakesText result self.new.line self.new.rest.now taken self.old.line }
         ensures fresh { self.new.fresh ≡ self.old.fresh }
     {
         let mut text = Vec::new(alloc);
@@ -70,10 +71,11 @@ impl<'a> Scanner<'a> {
     }
 
     /// Takes a quoted text behind its opening quote.
-    fn quoted(&mut self, alloc: Global, quote: u8) -> Result<Option<Token>, TextFault>
+    fn quoted_token(&mut self, alloc: Global, quote: u8) -> Result<Option<Token>, TextFault>
         requires room { self.old.line + length self.old.rest.now < 2 ^ 32 }
-        requires quote { (quote == 10) ≡ false }
-        ensures { Takes result self.new.fresh self.new.line self.new.rest.now (take_quoted quote (quoted quote self.old.rest.now)) self.old.fresh self.old.line (faults.OpenQuote self.old.line) }
+        requires quote { (quote == LINE_FEED) ≡ false }
+        ensures { let taken = take_quoted quote (quoted quote self.old.rest.now) in
+            Steps result self.old self.new taken (faults.OpenQuote self.old.line) }
     {
         let line = self.line;
         self.fresh = false;
@@ -95,14 +97,15 @@ impl<'a> Scanner<'a> {
         first: u8,
         class: Class,
     ) -> Result<Option<Token>, TextFault>
-        ensures token { MatchResult result (λ token. token ≡ Some (record { kind = kind; text = first ∷ front class self.old.rest.now; line = self.old.line })) (λ e. e ≡ faults.Memory) }
+        ensures token { let long = long_token kind first class self.old in
+            MatchResult result (λ token. token ≡ Some long) (λ e. e ≡ faults.Memory) }
         ensures rest { self.new.rest.now ≡ behind class self.old.rest.now }
         ensures fresh { self.new.fresh ≡ false }
         ensures line { self.new.line ≡ self.old.line }
     {
         let more = self.run(class);
         self.fresh = false;
-        let text = joined(alloc, first, more)?;
+        let text = bytes_behind(alloc, first, more)?;
         Ok(Some(Token {
             kind,
             text,
@@ -112,8 +115,9 @@ impl<'a> Scanner<'a> {
 
     /// Takes a sign behind its first byte.
     fn sign(&mut self, alloc: Global, style: Style, first: u8) -> Result<Option<Token>, TextFault>
-        requires { (first == 10) ≡ false }
-        ensures { Takes result self.new.fresh self.new.line self.new.rest.now (take_sign style first self.old.rest.now) self.old.fresh self.old.line (faults.BadByte self.old.line) }
+        requires { (first == LINE_FEED) ≡ false }
+        ensures { let taken = take_sign style first self.old.rest.now in
+            Steps result self.old self.new taken (faults.BadByte self.old.line) }
     {
         self.fresh = false;
         let text = match self.rest {
@@ -153,7 +157,9 @@ impl<'a> Scanner<'a> {
         first: u8,
     ) -> Result<Option<Token>, TextFault>
         requires { self.old.line + 1 + length self.old.rest.now < 2 ^ 32 }
-        ensures { let role = role_of style self.old.fresh first in Takes result self.new.fresh self.new.line self.new.rest.now (take_as style role first self.old.rest.now) self.old.fresh self.old.line (fault_at role self.old.line) }
+        ensures { let role = role_of style self.old.fresh first in
+            let taken = take_as style role first self.old.rest.now in
+            Steps result self.old self.new taken (fault_at role self.old.line) }
     {
         match role_of(style, self.fresh, first) {
             Role::Blank => Ok(None),
@@ -163,7 +169,7 @@ impl<'a> Scanner<'a> {
                 self.fresh = false;
                 Ok(None)
             }
-            Role::Quote => self.quoted(alloc, first),
+            Role::Quote => self.quoted_token(alloc, first),
             Role::Word => self.long_token(alloc, Kind::Word, first, Class::Word(style)),
             Role::Number => self.long_token(alloc, Kind::Number, first, Class::Digit),
             Role::Joint => {
@@ -193,7 +199,7 @@ fn unescaped(first: u8, rest: &[u8]) -> (u8, &[u8])
 }
 
 /// A byte and others behind it.
-fn joined(alloc: Global, first: u8, more: &[u8]) -> Result<Text, Memory>
+fn bytes_behind(alloc: Global, first: u8, more: &[u8]) -> Result<Text, Memory>
     ensures { IfOk result (λ text. text ≡ first ∷ more.now) }
 {
     let mut bytes = Vec::new(alloc);

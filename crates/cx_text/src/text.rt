@@ -1,4 +1,5 @@
 ghost use Rattle.std.specs.Prelude.{◌≡◌, [], ◌∷◌, ◌++◌, ◌↔◌, length, IsTrue, IfOk, OnOk, OnErr};
+ghost use Rattle.std.specs.Fmt.{decimal, signed_decimal};
 
 use crate::Memory;
 use std::alloc::Global;
@@ -33,6 +34,13 @@ impl Text {
         Ok(Text {
             bytes: bytes.to_vec(alloc)?,
         })
+    }
+
+    /// The same text.
+    pub fn copy(&self, alloc: Global) -> Result<Self, Memory>
+        ensures { IfOk result (λ copy. copy ≡ self.now) }
+    {
+        Text::from_slice(alloc, self.as_slice())
     }
 
     /// The bytes.
@@ -70,5 +78,21 @@ impl Text {
     {
         self.bytes.extend_from_slice(bytes)?;
         Ok(())
+    }
+
+    /// Adds the digits of a number at the end. Where memory is wanting, the text is as it was.
+    pub fn push_number(&mut self, alloc: Global, number: u64) -> Result<(), Memory>
+        ensures ok { OnOk result (self.new ≡ self.old ++ decimal number) }
+        ensures err { OnErr result (self.new ≡ self.old) }
+    {
+        self.push_slice(number.to_string(alloc)?.as_bytes())
+    }
+
+    /// Adds a number at the end, with `-` where it is below 0. Where memory is wanting, the text is as it was.
+    pub fn push_signed_number(&mut self, alloc: Global, number: i64) -> Result<(), Memory>
+        ensures ok { OnOk result (self.new ≡ self.old ++ signed_decimal number) }
+        ensures err { OnErr result (self.new ≡ self.old) }
+    {
+        self.push_slice(number.to_string(alloc)?.as_bytes())
     }
 }

@@ -64,13 +64,24 @@ impl Token {
         matches!(self.kind, Kind::Sign) && self.text.as_slice() == [first, second].as_slice()
     }
 
+    /// The same token.
+    pub fn copy(&self, alloc: Global) -> Result<Token, Memory>
+        ensures { IfOk result (λ token. token ≡ self.now) }
+    {
+        Ok(Token {
+            kind: self.kind,
+            text: self.text.copy(alloc)?,
+            line: self.line,
+        })
+    }
+
     /// A copy, as a tree keeps it: with line 0.
-    pub fn kept(&self, alloc: Global) -> Result<Token, Memory>
+    pub fn kept_copy(&self, alloc: Global) -> Result<Token, Memory>
         ensures { IfOk result (λ token. token ≡ kept self.now) }
     {
         Ok(Token {
             kind: self.kind,
-            text: Text::from_slice(alloc, self.text.as_slice())?,
+            text: self.text.copy(alloc)?,
             line: 0,
         })
     }

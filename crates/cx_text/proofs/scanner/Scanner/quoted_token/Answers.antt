@@ -1,7 +1,7 @@
 use Rattle.cx_text.specs.declared.fault.TextFault.TheVariants as faults
 use Rattle.cx_text.specs.Scanning.{quoted}
 use Rattle.cx_text.proofs.StepLaws.{quoted_step}
-use Rattle.cx_text.proofs.scanner.Scanner.quoted.Goals as goal
+use Rattle.cx_text.proofs.scanner.Scanner.quoted_token.Goals as goal
 
 pub returns-in-Some : goal.returns-in-Some
 returns-in-Some c =

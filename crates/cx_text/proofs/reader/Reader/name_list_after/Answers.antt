@@ -1,6 +1,6 @@
 use Rattle.cx_text.proofs.Loops.{begun, turned, fewer, stopped, ended_at}
 use Rattle.cx_text.proofs.LexemeLaws.{more_listed_short}
-use Rattle.cx_text.proofs.reader.Reader.listed_after.Goals as goal
+use Rattle.cx_text.proofs.reader.Reader.name_list_after.Goals as goal
 
 pub names-init : goal.names-init
 names-init c = begun
