@@ -18,7 +18,8 @@ module _ {L M C K B : Type 0} (N : Net L M C K B) (S : Script M C) (Agrees Gives
     };
   }
 
-  pub order_holds : (events : List Event) (w v : World L M C B) → Woven N S Agrees Books w → Ended N S w → Order N Gives w events v → Holds N S Agrees Books v
+  pub order_holds : (events : List Event) (w v : World L M C B) → Woven N S Agrees Books w → Ended N S w
+      → Order N Gives w events v → Holds N S Agrees Books v
   order_holds [] w v woven ended o = rw o (state_holds w woven ended)
   order_holds (e ∷ es) w v woven ended o =
       order_holds es o.0 v
