@@ -4,6 +4,7 @@ pub mod Routine
 pub mod Numbers
 pub mod Place
 pub mod Single
+pub mod Specs
 pub mod Jobs
 pub mod States
 pub mod Sweeps

@@ -15,6 +15,9 @@ pub record Shown : Type 0 where
   pub room : ℕ
   pub seen : Seen
 
+abbrev pub shown : (room dims : ℕ) → List ℕ → List ℤ → Shown
+shown room dims reaches values = record { room = room; seen = record { dims = dims; reaches = reaches; values = values } }
+
 -- how many values a read has, and how many several reads have
 abbrev pub volume_of : ℕ → ℕ → ℕ
 volume_of dims reach = point_count (reach_box dims reach)

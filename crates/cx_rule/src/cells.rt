@@ -55,6 +55,7 @@ impl Cells {
         requires { length self.old ≡ 1 }
         ensures numbers { OnOk result (one_number value ≡ Some self.new) }
         ensures overflow { OnErr result (one_number value ≡ None) }
+        ensures unchanged { OnErr result (self.new ≡ self.old) }
         ensures room { length self.new ≡ length self.old }
     {
         match value {

@@ -40,7 +40,12 @@ impl Place {
         requires shape { IsShape shape.now }
         requires point { IsIn (whole shape.now) at }
         requires few { length params.now ≤ 32 }
-        ensures { result ≡ record { at = at; shape = shape.now; iteration = iteration; params = params.now } }
+        ensures { result ≡ record {
+          at = at;
+          shape = shape.now;
+          iteration = iteration;
+          params = params.now;
+        } }
     {
         let given = params.as_slice();
         let mut values = [0; 32];

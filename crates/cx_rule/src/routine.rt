@@ -31,7 +31,7 @@ pub trait Routine: Drop {
     ///
     /// # Errors
     ///
-    /// `Overflow` exactly where the rule gives no numbers. What `out` holds then is left open; the point is counted.
+    /// `Overflow` exactly where the rule gives no numbers. `out` is then as it was; the point is counted.
     fn point(
         &self,
         w: &Window,
@@ -42,6 +42,7 @@ pub trait Routine: Drop {
         requires { Fits (spec_of self.now) w.now.seen at.now out.old }
         ensures numbers { OnOk result (rule self.now w.now.seen at.now ≡ Some out.new) }
         ensures overflow { OnErr result (rule self.now w.now.seen at.now ≡ None) }
+        ensures unchanged { OnErr result (out.new ≡ out.old) }
         ensures room { length out.new ≡ length out.old }
         ensures meter { meter.new ≡ raised meter.old 1 };
 }
@@ -50,7 +51,7 @@ pub trait Routine: Drop {
 ///
 /// # Errors
 ///
-/// `Overflow` exactly where the rule gives no numbers.
+/// `Overflow` exactly where the rule gives no numbers; `out` is then as it was.
 pub fn apply(
     routine: &Box<dyn Routine>,
     w: &Window,
@@ -61,6 +62,7 @@ pub fn apply(
     requires { Fits (spec_of routine.now) w.now.seen at.now out.old }
     ensures numbers { OnOk result (rule routine.now w.now.seen at.now ≡ Some out.new) }
     ensures overflow { OnErr result (rule routine.now w.now.seen at.now ≡ None) }
+    ensures unchanged { OnErr result (out.new ≡ out.old) }
     ensures room { length out.new ≡ length out.old }
     ensures meter { meter.new ≡ raised meter.old 1 }
 {

@@ -1,5 +1,6 @@
-ghost use Rattle.std.specs.Prelude.{◌≡◌, ◌++◌, ◌∷◌, [], IfOk, OnOk};
+ghost use Rattle.std.specs.Prelude.{◌≡◌, IfOk, OnOk};
 ghost use Rattle.cx_rule.specs.Single.{want_of};
+ghost use Rattle.cx_rule.specs.Specs.{spec_named, with_read, with_write, with_param};
 
 use cx_plan::{ItemKind, Region};
 use cx_text::{List, Memory, Text};
@@ -49,7 +50,7 @@ impl Want {
 impl Spec {
     /// A routine of a thorn that reads, writes and takes nothing.
     pub fn new(alloc: Global, thorn: &[u8], name: &[u8], kind: ItemKind) -> Result<Self, Memory>
-        ensures { IfOk result (λ spec. spec ≡ record { thorn = thorn.now; name = name.now; kind = kind; reads = []; writes = []; params = [] }) }
+        ensures { IfOk result (λ spec. spec ≡ spec_named thorn.now name.now kind) }
     {
         Ok(Spec {
             thorn: Text::from_slice(alloc, thorn)?,
@@ -69,21 +70,21 @@ impl Spec {
         region: Region,
         reach: u8,
     ) -> Result<(), Memory>
-        ensures { OnOk result (self.new ≡ record self.old { reads = self.old.reads ++ want_of name.now region reach ∷ [] }) }
+        ensures { OnOk result (self.new ≡ with_read self.old (want_of name.now region reach)) }
     {
         self.reads.push(Want::new(alloc, name, region, reach)?)
     }
 
     /// Adds a write behind the others.
     pub fn add_write(&mut self, alloc: Global, name: &[u8], region: Region) -> Result<(), Memory>
-        ensures { OnOk result (self.new ≡ record self.old { writes = self.old.writes ++ want_of name.now region 0 ∷ [] }) }
+        ensures { OnOk result (self.new ≡ with_write self.old (want_of name.now region 0)) }
     {
         self.writes.push(Want::new(alloc, name, region, 0)?)
     }
 
     /// Adds a parameter behind the others.
     pub fn add_param(&mut self, alloc: Global, name: &[u8]) -> Result<(), Memory>
-        ensures { OnOk result (self.new ≡ record self.old { params = self.old.params ++ name.now ∷ [] }) }
+        ensures { OnOk result (self.new ≡ with_param self.old name.now) }
     {
         self.params.push(Text::from_slice(alloc, name)?)
     }

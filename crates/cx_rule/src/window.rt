@@ -2,7 +2,7 @@
 ghost use Rattle.std.specs.Prelude.{◌≡◌, ◌≤◌, ◌<◌, ◌+◌, ◌++◌, ◌∷◌, [], ℕ, pos, length, slice_set, slice_index_or, IfOk, replicate, vec_capacity, ◌^◌};
 ghost use Rattle.cx_grid.specs.Boxes.{IsIn, point_count, index_in};
 ghost use Rattle.cx_grid.specs.Windows.{reach_box};
-ghost use Rattle.cx_rule.specs.Seen.{volume_of, volumes, HasRoom, value_of, place_of, place_among, IsOffset};
+ghost use Rattle.cx_rule.specs.Seen.{shown, volume_of, volumes, HasRoom, value_of, place_of, place_among, IsOffset};
 ghost use Rattle.cx_rule.specs.Single.{here};
 
 use cx_grid::{Point, count, index_of, reach_box};
@@ -21,20 +21,20 @@ pub struct Window {
 
 impl Model for Window {
     ghost use Rattle.std.specs.Prelude.{vec_capacity, ◌≤◌};
-    ghost use Rattle.cx_rule.specs.Seen.{Shown, IsWindow};
+    ghost use Rattle.cx_rule.specs.Seen.{Shown, shown, IsWindow};
 
     ghost Value = { Shown };
 
-    ghost view = { λ w. record { room = w.room; seen = record { dims = w.dims; reaches = w.reaches.items; values = w.values.items } } };
+    ghost view = { λ w. shown w.room w.dims w.reaches.items w.values.items };
 
-    ghost invariant = { λ w. IsWindow (record { room = w.room; seen = record { dims = w.dims; reaches = w.reaches.items; values = w.values.items } })
+    ghost invariant = { λ w. IsWindow (shown w.room w.dims w.reaches.items w.values.items)
         × (w.room ≤ vec_capacity w.reaches) × (w.room ≤ vec_capacity w.values) };
 }
 
 impl Window {
     /// Room for this many values. The window begins without reads, for one direction.
     pub fn new(alloc: Global, values: u32) -> Result<Self, Memory>
-        ensures { IfOk result (λ w. w ≡ record { room = values; seen = record { dims = 1; reaches = []; values = [] } }) }
+        ensures { IfOk result (λ w. w ≡ shown values 1 [] []) }
     {
         Ok(Window {
             dims: 1,
@@ -46,7 +46,7 @@ impl Window {
 
     /// Takes all reads out, and sets the number of directions.
     pub fn clear(&mut self, dims: u8)
-        ensures { self.new ≡ record self.old { seen = record { dims = dims; reaches = []; values = [] } } }
+        ensures { self.new ≡ shown self.old.room dims [] [] }
     {
         self.dims = dims;
         self.reaches.clear();
@@ -105,7 +105,9 @@ impl Window {
     /// Sets all values: read after read, those of a read in the order of its offsets, x fastest.
     pub fn fill(&mut self, values: &[i64])
         requires { length values.now ≡ length self.old.seen.values }
-        ensures { self.new ≡ record self.old { seen = record self.old.seen { values = values.now } } }
+        ensures { self.new ≡ record self.old {
+          seen = record self.old.seen { values = values.now };
+        } }
     {
         self.values.copy_from_slice(values);
     }
