@@ -1,9 +1,8 @@
 //! The configuration file of a thorn.
 
 ghost use Rattle.std.specs.Prelude.{◌≡◌};
-ghost use Rattle.cx_text.specs.Grammar.{passes, head, Answers, AnswersOnly};
-ghost use Rattle.cx_text.specs.Reading.{Gives};
-ghost use Rattle.cx_text.specs.Rules.{loop};
+ghost use Rattle.cx_text.specs.Grammar.{passes, head, ReadsBy, AnswersOnly};
+ghost use Rattle.cx_text.specs.Rules.{Obeys, Builds, loop};
 ghost use Rattle.cx_conf.specs.Conf.{provides, optional, thorns, capabilities, requires_, is_entry, entry, more, configuration};
 
 use cx_text::{CclFault, List, Reader, Stop, Text, Token};
@@ -38,7 +37,7 @@ fn provides(
     left: usize,
     tree: &mut Configuration,
 ) -> Result<(), Stop>
-    ensures { Gives (λ x. tree.new) result reader.new.rest.now ((provides left tree.old).reads reader.old.rest.now) }
+    ensures { Builds (provides left tree.old) tree.new result reader.old reader.new }
 {
     reader.counted_keyword(b"PROVIDES", left == 0)?;
     let name = reader.name(alloc)?;
@@ -53,7 +52,7 @@ fn optional(
     left: usize,
     tree: &mut Configuration,
 ) -> Result<(), Stop>
-    ensures { Gives (λ x. tree.new) result reader.new.rest.now ((optional left tree.old).reads reader.old.rest.now) }
+    ensures { Builds (optional left tree.old) tree.new result reader.old reader.new }
 {
     reader.counted_keyword(b"OPTIONAL", left == 0)?;
     let name = reader.name(alloc)?;
@@ -63,7 +62,7 @@ fn optional(
 }
 
 fn thorns(reader: &mut Reader, alloc: Global, tree: &mut Configuration) -> Result<(), Stop>
-    ensures { Gives (λ x. tree.new) result reader.new.rest.now ((thorns tree.old).reads reader.old.rest.now) }
+    ensures { Builds (thorns tree.old) tree.new result reader.old reader.new }
 {
     reader.keyword(b"THORNS")?;
     reader.sign_here(b':')?;
@@ -72,7 +71,7 @@ fn thorns(reader: &mut Reader, alloc: Global, tree: &mut Configuration) -> Resul
 }
 
 fn capabilities(reader: &mut Reader, alloc: Global, tree: &mut Configuration) -> Result<(), Stop>
-    ensures { Gives (λ x. tree.new) result reader.new.rest.now ((capabilities tree.old).reads reader.old.rest.now) }
+    ensures { Builds (capabilities tree.old) tree.new result reader.old reader.new }
 {
     reader.some_names(alloc, &mut tree.requires_)?;
     reader.line_end()
@@ -84,7 +83,7 @@ fn requires_(
     left: usize,
     tree: &mut Configuration,
 ) -> Result<(), Stop>
-    ensures { Gives (λ x. tree.new) result reader.new.rest.now ((requires_ left tree.old).reads reader.old.rest.now) }
+    ensures { Builds (requires_ left tree.old) tree.new result reader.old reader.new }
 {
     reader.counted_keyword(b"REQUIRES", left == 0)?;
     if reader.at_keyword(b"THORNS") {
@@ -111,7 +110,7 @@ fn entry(
     left: usize,
     tree: &mut Configuration,
 ) -> Result<(), Stop>
-    ensures { Gives (λ x. tree.new) result reader.new.rest.now ((entry left tree.old).reads reader.old.rest.now) }
+    ensures { Builds (entry left tree.old) tree.new result reader.old reader.new }
 {
     if reader.at_keyword(b"PROVIDES") {
         provides(reader, alloc, left, tree)
@@ -123,7 +122,7 @@ fn entry(
 }
 
 fn more(reader: &mut Reader, alloc: Global, read: &mut Read) -> Result<(), Stop>
-    ensures { Gives (λ x. read.new) result reader.new.rest.now ((more read.old).reads reader.old.rest.now) }
+    ensures { Builds (more read.old) read.new result reader.old reader.new }
 {
     entry(reader, alloc, read.left, &mut read.tree)?;
     read.left = read.left.saturating_sub(1);
@@ -131,7 +130,7 @@ fn more(reader: &mut Reader, alloc: Global, read: &mut Read) -> Result<(), Stop>
 }
 
 fn entries(reader: &mut Reader, alloc: Global, read: &mut Read) -> Result<(), Stop>
-    ensures { Gives (λ x. read.new) result reader.new.rest.now ((loop is_entry more read.old).reads reader.old.rest.now) }
+    ensures { Builds (loop is_entry more read.old) read.new result reader.old reader.new }
 {
     'entries: while at_entry(reader) {
         more(reader, alloc, read)?;
@@ -140,7 +139,7 @@ fn entries(reader: &mut Reader, alloc: Global, read: &mut Read) -> Result<(), St
 }
 
 fn whole(reader: &mut Reader, alloc: Global) -> Result<Configuration, Stop>
-    ensures { Gives (λ x. x) result reader.new.rest.now (configuration.reads reader.old.rest.now) }
+    ensures { Obeys configuration result reader.old reader.new }
 {
     let mut read = Read {
         left: MAX_ENTRIES,
@@ -166,7 +165,7 @@ fn whole(reader: &mut Reader, alloc: Global) -> Result<Configuration, Stop>
 /// bytes or the first token of the 4,097th entry, whichever comes first; each with the token's line.
 pub fn read_configuration(alloc: Global, tokens: &List<Token>) -> Result<Configuration, CclFault>
     // The answer is what the tokens spell, or the first fault.
-    ensures answers { Answers configuration.derives (λ x. x) tokens.now result }
+    ensures answers { ReadsBy configuration.derives (λ x. x) tokens.now result }
     // What is spelled is answered, unless memory runs out.
     ensures only { AnswersOnly configuration.derives (λ x. x) tokens.now result }
 {

@@ -2,11 +2,7 @@
 #![tactic(auto)]
 
 mod configuration;
-#[cfg(test)]
-mod enumeration;
 mod printer;
-#[cfg(test)]
-mod tests;
 mod thorn_list;
 
 pub use configuration::{Configuration, read_configuration};

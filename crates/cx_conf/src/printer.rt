@@ -4,7 +4,6 @@ ghost use Rattle.std.specs.Prelude.{◌≡◌, ◌++◌, ◌∷◌, [], IfOk, On
 ghost use Rattle.std.specs.List.{flat_map};
 ghost use Rattle.cx_text.specs.declared.token.Style.TheVariants as styles;
 ghost use Rattle.cx_text.specs.Printing.{printed, HasSpelling, TextSpells};
-ghost use Rattle.cx_text.specs.Written.{words};
 ghost use Rattle.cx_conf.specs.Conf.{configuration};
 ghost use Rattle.cx_conf.specs.Printed.{braced_line, capabilities_line, thorns_line, configuration_tokens};
 
@@ -33,19 +32,12 @@ fn braced_lines(
     keyword: &[u8],
     names: &[Text],
 ) -> Result<(), Memory>
-    ensures { OnOk result (tokens.new ≡ tokens.old ++ flat_map (braced_line keyword.now) names.now) }
+    ensures {
+        OnOk result (tokens.new ≡ tokens.old ++ flat_map (braced_line keyword.now) names.now)
+    }
 {
     for name in names {
         braced_line(alloc, tokens, keyword, name.as_slice())?;
-    }
-    Ok(())
-}
-
-fn push_words(alloc: Global, tokens: &mut List<Token>, names: &[Text]) -> Result<(), Memory>
-    ensures { OnOk result (tokens.new ≡ tokens.old ++ words names.now) }
-{
-    for name in names {
-        tokens.push_word(alloc, name.as_slice())?;
     }
     Ok(())
 }
@@ -57,7 +49,7 @@ fn capabilities_line(alloc: Global, tokens: &mut List<Token>, names: &[Text]) ->
         return Ok(());
     }
     tokens.push_word(alloc, b"REQUIRES")?;
-    push_words(alloc, tokens, names)?;
+    tokens.push_words(alloc, names)?;
     tokens.push_line_end(alloc)
 }
 
@@ -70,7 +62,7 @@ fn thorns_line(alloc: Global, tokens: &mut List<Token>, names: &[Text]) -> Resul
     tokens.push_word(alloc, b"REQUIRES")?;
     tokens.push_word(alloc, b"THORNS")?;
     tokens.push_sign(alloc, b':')?;
-    push_words(alloc, tokens, names)?;
+    tokens.push_words(alloc, names)?;
     tokens.push_line_end(alloc)
 }
 
@@ -91,7 +83,9 @@ fn tokens_of(alloc: Global, tree: &Configuration) -> Result<List<Token>, Memory>
 pub fn print_configuration(alloc: Global, tree: &Configuration) -> Result<Text, Memory>
     requires { HasSpelling styles.Ccl configuration.derives tree.now }
     ensures printed { IfOk result (λ text. text ≡ printed (configuration_tokens tree.now)) }
-    ensures again { IfOk result (λ text. TextSpells styles.Ccl configuration.derives text tree.now) }
+    ensures again {
+        IfOk result (λ text. TextSpells styles.Ccl configuration.derives text tree.now)
+    }
 {
     let tokens = tokens_of(alloc, tree)?;
     let text = write_tokens(alloc, &tokens)?;

@@ -3,9 +3,8 @@
 ghost use Rattle.std.specs.Prelude.{◌≡◌, Some, None, MatchOption, position};
 ghost use Rattle.std.specs.List.{list_any};
 ghost use Rattle.cx_text.specs.Tokens.{is_word};
-ghost use Rattle.cx_text.specs.Grammar.{Answers, AnswersOnly};
-ghost use Rattle.cx_text.specs.Reading.{Gives};
-ghost use Rattle.cx_text.specs.Rules.{token, loop};
+ghost use Rattle.cx_text.specs.Grammar.{ReadsBy, AnswersOnly};
+ghost use Rattle.cx_text.specs.Rules.{Obeys, Builds, token, loop};
 ghost use Rattle.cx_conf.specs.Thorns.{is_slash, place_in, place_of, place_mark, line, thorn_list};
 
 use cx_text::{CclFault, List, MAX_NAME, Mark, Reader, Stop, Text, Token, Why};
@@ -42,7 +41,10 @@ fn has_slash(text: &[u8]) -> bool
 
 /// The two names round the one slash.
 fn place_in(text: &[u8]) -> Option<(&[u8], &[u8])>
-    ensures { MatchOption result (place_in text.now ≡ None) (λ p. place_in text.now ≡ Some (p.0.now, p.1.now)) }
+    ensures {
+        let told = place_in text.now in
+        MatchOption result (told ≡ None) (λ p. told ≡ Some (p.0.now, p.1.now))
+    }
 {
     let slash = slash_at(text)?;
     let (_, thorn) = text.split_at(slash + 1);
@@ -55,7 +57,7 @@ fn place_in(text: &[u8]) -> Option<(&[u8], &[u8])>
 }
 
 fn place(reader: &mut Reader, alloc: Global, left: usize) -> Result<(Text, Text), Stop>
-    ensures { Gives (λ p. p) result reader.new.rest.now ((token place_of (place_mark left)).reads reader.old.rest.now) }
+    ensures { Obeys (token place_of (place_mark left)) result reader.old reader.new }
 {
     match reader.rest {
         [token, rest @ ..] if token.is_word() => {
@@ -75,7 +77,7 @@ fn place(reader: &mut Reader, alloc: Global, left: usize) -> Result<(Text, Text)
 }
 
 fn line(reader: &mut Reader, alloc: Global, lines: &mut Places) -> Result<(), Stop>
-    ensures { Gives (λ x. lines.new) result reader.new.rest.now ((line lines.old).reads reader.old.rest.now) }
+    ensures { Builds (line lines.old) lines.new result reader.old reader.new }
 {
     let place = place(reader, alloc, lines.left)?;
     reader.one_line_end()?;
@@ -85,7 +87,7 @@ fn line(reader: &mut Reader, alloc: Global, lines: &mut Places) -> Result<(), St
 }
 
 fn lines(reader: &mut Reader, alloc: Global, read: &mut Places) -> Result<(), Stop>
-    ensures { Gives (λ x. read.new) result reader.new.rest.now ((loop is_word line read.old).reads reader.old.rest.now) }
+    ensures { Builds (loop is_word line read.old) read.new result reader.old reader.new }
 {
     'lines: while reader.at_word() {
         line(reader, alloc, read)?;
@@ -94,7 +96,7 @@ fn lines(reader: &mut Reader, alloc: Global, read: &mut Places) -> Result<(), St
 }
 
 fn whole(reader: &mut Reader, alloc: Global) -> Result<ThornList, Stop>
-    ensures { Gives (λ x. x) result reader.new.rest.now (thorn_list.reads reader.old.rest.now) }
+    ensures { Obeys thorn_list result reader.old reader.new }
 {
     let mut read = Places {
         left: MAX_LINES,
@@ -113,7 +115,7 @@ fn whole(reader: &mut Reader, alloc: Global) -> Result<ThornList, Stop>
 /// than 64 bytes or the 4,097th line, whichever comes first; each with the token's line.
 pub fn read_thornlist(alloc: Global, tokens: &List<Token>) -> Result<ThornList, CclFault>
     // The answer is what the tokens spell, or the first fault.
-    ensures answers { Answers thorn_list.derives (λ x. x) tokens.now result }
+    ensures answers { ReadsBy thorn_list.derives (λ x. x) tokens.now result }
     // What is spelled is answered, unless memory runs out.
     ensures only { AnswersOnly thorn_list.derives (λ x. x) tokens.now result }
 {
