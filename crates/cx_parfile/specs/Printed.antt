@@ -17,9 +17,13 @@ blank_behind thorn = thorn ++ 32 ∷ []
 abbrev pub joined : List (List ℕ) → List ℕ
 joined thorns = flat_map blank_behind thorns
 
+-- "=" Quoted
+abbrev pub value_tokens : List ℕ → List Token
+value_tokens value = sign 61 ∷ quoted value ∷ line_end ∷ []
+
 -- ActiveThorns "=" Quoted
 abbrev pub thorns_line : List (List ℕ) → List Token
-thorns_line ns = word ACTIVETHORNS ∷ sign 61 ∷ quoted (joined ns) ∷ line_end ∷ []
+thorns_line ns = word ACTIVETHORNS ∷ value_tokens (joined ns)
 
 -- where thorns are active
 abbrev pub active_line : List (List ℕ) → List Token
@@ -38,7 +42,7 @@ index_tokens (Some i) = sign 91 ∷ word (decimal i) ∷ sign 93 ∷ []
 
 -- Word [ "[" Word "]" ] "=" Quoted
 abbrev pub setting_line : Setting → List Token
-setting_line s = word (full_name s.owner s.name) ∷ (index_tokens s.index ++ (sign 61 ∷ quoted s.value ∷ line_end ∷ []))
+setting_line s = word (full_name s.owner s.name) ∷ (index_tokens s.index ++ value_tokens s.value)
 
 abbrev pub settings_tokens : Settings → List Token
 settings_tokens v = active_line v.active ++ flat_map setting_line v.list

@@ -5,8 +5,6 @@ mod base_name;
 mod printer;
 mod reader;
 mod settings;
-#[cfg(test)]
-mod tests;
 mod value;
 
 pub use base_name::base_of;

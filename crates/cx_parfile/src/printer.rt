@@ -4,7 +4,7 @@ ghost use Rattle.std.specs.Prelude.{◌≡◌, ◌++◌, ◌∷◌, [], IfOk, On
 ghost use Rattle.std.specs.List.{flat_map};
 ghost use Rattle.cx_text.specs.Printing.{printed};
 ghost use Rattle.cx_text.specs.Written.{quoted, line_end, sign, word};
-ghost use Rattle.cx_parfile.specs.Printed.{joined, thorns_line, active_line, full_name, index_tokens, setting_line, settings_tokens, SpelledUnder, SpellsAgain};
+ghost use Rattle.cx_parfile.specs.Printed.{joined, value_tokens, thorns_line, active_line, full_name, index_tokens, setting_line, settings_tokens, SpelledUnder, SpellsAgain};
 
 use crate::{Setting, Settings};
 use cx_text::{List, Memory, Text, Token, write_tokens};
@@ -24,10 +24,10 @@ fn joined(alloc: Global, thorns: &[Text]) -> Result<Text, Memory>
 
 /// The end of each line: `=`, the value and the line's end.
 fn value_tokens(alloc: Global, tokens: &mut List<Token>, value: &[u8]) -> Result<(), Memory>
-    ensures { OnOk result (tokens.new ≡ tokens.old ++ (sign 61 ∷ quoted value.now ∷ line_end ∷ [])) }
+    ensures { OnOk result (tokens.new ≡ tokens.old ++ value_tokens value.now) }
 {
     tokens.push_sign(alloc, b'=')?;
-    tokens.push_quoted(alloc, value)?;
+    tokens.push_quoted_text(alloc, value)?;
     tokens.push_line_end(alloc)
 }
 

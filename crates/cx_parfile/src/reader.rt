@@ -2,15 +2,15 @@
 
 ghost use Rattle.std.specs.Prelude.{◌≡◌};
 ghost use Rattle.cx_text.specs.Tokens.{is_word};
-ghost use Rattle.cx_text.specs.Grammar.{Answers, AnswersOnly};
-ghost use Rattle.cx_text.specs.Reading.{Gives};
-ghost use Rattle.cx_text.specs.Rules.{token, loop, unmarked, sign_here};
+ghost use Rattle.cx_text.specs.Grammar.{ReadsBy, AnswersOnly};
+ghost use Rattle.cx_text.specs.Rules.{Obeys, Builds, token, loop, unmarked, sign_here};
 ghost use Rattle.cx_parfile.specs.ParFile.{name_of, name_mark, is_long_name, is_long_owner, is_index, index_of, index_mark, value_of, thorns_mark, bracketed, index, active, setting, is_active, behind, line, parameter_file};
 
-use crate::value::{activate_thorns, has_digits, has_long_thorn, name_in, value_in};
+use crate::value::{activate_thorns, has_long_thorn, name_in, value_in};
 use crate::{Setting, Settings};
 use cx_text::{
-    CclFault, Kind, List, MAX_NAME, Mark, Reader, Stop, Text, Token, Why, decimal, same_name,
+    CclFault, Kind, List, MAX_NAME, Mark, Reader, Stop, Text, Token, Why, decimal, has_digits,
+    same_name,
 };
 use std::alloc::Global;
 
@@ -45,7 +45,7 @@ fn is_long_owner(owner: &Option<Text>) -> bool
 }
 
 fn name_here(reader: &mut Reader, alloc: Global, left: usize) -> Result<Name, Stop>
-    ensures { Gives (λ n. n) result reader.new.rest.now ((token name_of (name_mark left)).reads reader.old.rest.now) }
+    ensures { Obeys (token name_of (name_mark left)) result reader.old reader.new }
 {
     match reader.rest {
         [token, rest @ ..] if token.is_word() => {
@@ -69,7 +69,7 @@ fn is_index(token: &Token) -> bool
 }
 
 fn index_here(reader: &mut Reader) -> Result<u32, Stop>
-    ensures { Gives (λ i. i) result reader.new.rest.now ((token index_of index_mark).reads reader.old.rest.now) }
+    ensures { Obeys (token index_of index_mark) result reader.old reader.new }
 {
     match reader.rest {
         [token, rest @ ..] if is_index(token) => {
@@ -86,7 +86,7 @@ fn index_here(reader: &mut Reader) -> Result<u32, Stop>
 }
 
 fn value_here(reader: &mut Reader, alloc: Global, base: &[u8]) -> Result<Text, Stop>
-    ensures { Gives (λ v. v) result reader.new.rest.now ((token (value_of base.now) unmarked).reads reader.old.rest.now) }
+    ensures { Obeys (token (value_of base.now) unmarked) result reader.old reader.new }
 {
     match reader.rest {
         [token, rest @ ..] if matches!(token.kind, Kind::Quoted | Kind::Word) => {
@@ -99,7 +99,7 @@ fn value_here(reader: &mut Reader, alloc: Global, base: &[u8]) -> Result<Text, S
 }
 
 fn thorns_here(reader: &mut Reader, alloc: Global, base: &[u8]) -> Result<Text, Stop>
-    ensures { Gives (λ v. v) result reader.new.rest.now ((token (value_of base.now) (thorns_mark base.now)).reads reader.old.rest.now) }
+    ensures { Obeys (token (value_of base.now) (thorns_mark base.now)) result reader.old reader.new }
 {
     match reader.rest {
         [token, rest @ ..] if matches!(token.kind, Kind::Quoted | Kind::Word) => {
@@ -115,7 +115,7 @@ fn thorns_here(reader: &mut Reader, alloc: Global, base: &[u8]) -> Result<Text, 
 }
 
 fn bracketed(reader: &mut Reader) -> Result<Option<u32>, Stop>
-    ensures { Gives (λ i. i) result reader.new.rest.now (bracketed.reads reader.old.rest.now) }
+    ensures { Obeys bracketed result reader.old reader.new }
 {
     reader.sign_here(b'[')?;
     let index = index_here(reader)?;
@@ -124,7 +124,7 @@ fn bracketed(reader: &mut Reader) -> Result<Option<u32>, Stop>
 }
 
 fn index(reader: &mut Reader) -> Result<Option<u32>, Stop>
-    ensures { Gives (λ i. i) result reader.new.rest.now (index.reads reader.old.rest.now) }
+    ensures { Obeys index result reader.old reader.new }
 {
     if reader.at_sign(b'[') {
         bracketed(reader)
@@ -135,7 +135,7 @@ fn index(reader: &mut Reader) -> Result<Option<u32>, Stop>
 
 /// The `=` before a value.
 fn equals(reader: &mut Reader) -> Result<(), Stop>
-    ensures { Gives (λ u. u) result reader.new.rest.now ((sign_here 61).reads reader.old.rest.now) }
+    ensures { Obeys (sign_here 61) result reader.old reader.new }
 {
     reader.sign_here(b'=')
 }
@@ -146,7 +146,7 @@ fn active(
     base: &[u8],
     settings: &mut Settings,
 ) -> Result<(), Stop>
-    ensures { Gives (λ x. settings.new) result reader.new.rest.now ((active base.now settings.old).reads reader.old.rest.now) }
+    ensures { Builds (active base.now settings.old) settings.new result reader.old reader.new }
 {
     equals(reader)?;
     let value = thorns_here(reader, alloc, base)?;
@@ -161,7 +161,7 @@ fn setting(
     name: Name,
     settings: &mut Settings,
 ) -> Result<(), Stop>
-    ensures { Gives (λ x. settings.new) result reader.new.rest.now ((setting base.now name settings.old).reads reader.old.rest.now) }
+    ensures { Builds (setting base.now name settings.old) settings.new result reader.old reader.new }
 {
     let index = index(reader)?;
     equals(reader)?;
@@ -189,7 +189,7 @@ fn behind(
     name: Name,
     settings: &mut Settings,
 ) -> Result<(), Stop>
-    ensures { Gives (λ x. settings.new) result reader.new.rest.now ((behind base.now name settings.old).reads reader.old.rest.now) }
+    ensures { Builds (behind base.now name settings.old) settings.new result reader.old reader.new }
 {
     if is_active(&name) && !reader.at_sign(b'[') {
         active(reader, alloc, base, settings)
@@ -199,7 +199,7 @@ fn behind(
 }
 
 fn line(reader: &mut Reader, alloc: Global, base: &[u8], read: &mut Read) -> Result<(), Stop>
-    ensures { Gives (λ x. read.new) result reader.new.rest.now ((line base.now read.old).reads reader.old.rest.now) }
+    ensures { Builds (line base.now read.old) read.new result reader.old reader.new }
 {
     let name = name_here(reader, alloc, read.left)?;
     behind(reader, alloc, base, name, &mut read.settings)?;
@@ -209,7 +209,7 @@ fn line(reader: &mut Reader, alloc: Global, base: &[u8], read: &mut Read) -> Res
 }
 
 fn lines(reader: &mut Reader, alloc: Global, base: &[u8], read: &mut Read) -> Result<(), Stop>
-    ensures { Gives (λ x. read.new) result reader.new.rest.now ((loop is_word (line base.now) read.old).reads reader.old.rest.now) }
+    ensures { Builds (loop is_word (line base.now) read.old) read.new result reader.old reader.new }
 {
     'lines: while reader.at_word() {
         line(reader, alloc, base, read)?;
@@ -218,7 +218,7 @@ fn lines(reader: &mut Reader, alloc: Global, base: &[u8], read: &mut Read) -> Re
 }
 
 fn whole(reader: &mut Reader, alloc: Global, base: &[u8]) -> Result<Settings, Stop>
-    ensures { Gives (λ x. x) result reader.new.rest.now ((parameter_file base.now).reads reader.old.rest.now) }
+    ensures { Obeys (parameter_file base.now) result reader.old reader.new }
 {
     let mut read = Read {
         left: MAX_SETTINGS,
@@ -241,7 +241,7 @@ fn whole(reader: &mut Reader, alloc: Global, base: &[u8]) -> Result<Settings, St
 /// 4,097th setting, whichever comes first; each with the token's line.
 pub fn read_parfile(alloc: Global, tokens: &List<Token>, base: &Text) -> Result<Settings, CclFault>
     // The answer is what the tokens spell, or the first fault.
-    ensures answers { Answers (parameter_file base.now).derives (λ x. x) tokens.now result }
+    ensures answers { ReadsBy (parameter_file base.now).derives (λ x. x) tokens.now result }
     // What is spelled is answered, unless memory runs out.
     ensures only { AnswersOnly (parameter_file base.now).derives (λ x. x) tokens.now result }
 {

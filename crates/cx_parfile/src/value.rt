@@ -2,7 +2,6 @@
 
 ghost use Rattle.std.specs.Prelude.{◌≡◌, map, Some, None, MatchOption, position, filter, not, IfOk, OnOk, nat_eq, length};
 ghost use Rattle.std.specs.List.{list_all, list_any, slice_split};
-ghost use Rattle.std.specs.Char.{is_ascii_digit};
 ghost use Rattle.cx_parfile.specs.Values.{is_name_byte, is_name, is_colon, is_empty, alone, owned, named_in, value_in, is_separator, thorns_in, activate, activate_all};
 ghost use Rattle.cx_parfile.specs.ParFile.{is_long, name_with};
 
@@ -70,13 +69,6 @@ pub fn name_in(alloc: Global, text: &[u8], line: u32) -> Result<Option<Name>, Me
     }
 }
 
-/// Whether all of a text are digits.
-pub fn has_digits(text: &[u8]) -> bool
-    ensures { result ≡ list_all is_ascii_digit text.now }
-{
-    text.iter().all(|byte| byte.is_ascii_digit())
-}
-
 /// The value that a text stands for, in a file of this base name.
 pub fn value_in<'a>(base: &'a [u8], text: &'a [u8]) -> &'a [u8]
     ensures { result.now ≡ value_in base.now text.now }
@@ -129,7 +121,8 @@ fn activate(alloc: Global, active: &mut List<Text>, thorn: &[u8]) -> Result<(), 
 }
 
 fn activate_all(alloc: Global, active: &mut List<Text>, parts: &[&[u8]]) -> Result<(), Memory>
-    ensures { OnOk result (active.new ≡ activate_all active.old (filter (λ n. not (is_empty n)) (map (λ x. x.now) parts.now))) }
+    ensures { let names = filter (λ n. not (is_empty n)) (map (λ x. x.now) parts.now) in
+        OnOk result (active.new ≡ activate_all active.old names) }
 {
     for part in parts {
         if !part.is_empty() {
