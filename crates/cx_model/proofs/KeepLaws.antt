@@ -33,7 +33,7 @@ use Rattle.cx_model.specs.Agreement.{IsReady, IsReadyTree, IsReadyRow}
 use Rattle.cx_model.specs.Alike.{run_from}
 use Rattle.cx_model.specs.Values.{state_before, KeepsStates}
 use Rattle.cx_model.proofs.PointLaws.{numbers-count}
-use Rattle.cx_model.proofs.SaveLaws.{Each, each-both}
+use Rattle.cx_model.proofs.WalkLaws.{Each, each-both}
 use Rattle.cx_model.proofs.TurnLaws.{declared}
 use Rattle.cx_model.proofs.CellLaws.{IsGridWrite, grid-writes}
 use Rattle.cx_model.proofs.RunLaws.{EachBin, each-of-stages, each-of-after}

@@ -6,6 +6,7 @@ pub mod TreeGuides
 pub mod RunGuides
 pub mod StateLaws
 pub mod ListLaws
+pub mod WalkLaws
 pub mod SaveLaws
 pub mod StageLaws
 pub mod CheckpointLaws

@@ -11,7 +11,7 @@ use Rattle.cx_grid.specs.Grid.{IsAxis, IsShape, whole, is_periodic, is_boundary,
 use Rattle.cx_grid.specs.Windows.{reach_box}
 use Rattle.cx_plan.specs.Regions.{within_ghosts}
 use Rattle.cx_grid.proofs.Places.{same_point}
-use Rattle.cx_model.proofs.PointLaws.{remainder-on}
+use Rattle.cx_grid.proofs.WrapLaws.{rem_on}
 
 -- ---- a reach of 0
 
@@ -36,7 +36,7 @@ near_axis : (there periodic : Bool) (n g c o : ℤ) (reach : ℕ) → IsAxis n g
     → (there ≡ true → pos reach ≤ℤ g)
     → IsOn (if there then neg_ℤ (pos reach) else pos 0) (if there then pos (reach + 1) else pos 1) o
     → IsOn (pos 0) n (if periodic then int_rem_euclid (c +ℤ o) n else (c +ℤ o))
-near_axis there true n g c o reach axis on out fits off = remainder-on (c +ℤ o) n axis.some
+near_axis there true n g c o reach axis on out fits off = rem_on (c +ℤ o) n axis.some
 near_axis true false n g c o zero axis on out fits off =
     let in_ = inner n g c out in
     let few = fits refl in

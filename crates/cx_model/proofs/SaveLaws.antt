@@ -15,61 +15,16 @@ use Rattle.cx_model.specs.Trees.{at_zero, test, turn_trace, loop, run_tree, run_
 use Rattle.cx_model.specs.Stages.{Stage, Bin, Rotate, Save, Write}
 use Rattle.cx_model.specs.Runs.{all_written, run_stages, text_added, output_of, passing, stop_or, within_limit, limited, greatest_output}
 use Rattle.cx_model.proofs.ListLaws.{heads, tails, nothing_there}
+use Rattle.cx_model.proofs.WalkLaws.{Each, OfTrees, walk-tree}
 
 -- ---- entries that are no checkpoint place
-
-abbrev pub Each : (Entry → Type 0) → List Entry → Type 0
-Each P [] = Unit {0}
-Each P (e ∷ es) = P e × Each P es
-
-pub each-both : (P : Entry → Type 0) (xs ys : List Entry) → Each P xs → Each P ys → Each P (xs ++ ys)
-each-both P [] ys one two = two
-each-both P (e ∷ xs) ys one two = (one.0, each-both P xs ys one.1 two)
 
 abbrev pub IsOther : Entry → Type 0
 IsOther (Saved n state) = ⊥
 IsOther _ = Unit {0}
 
-others-then : (t : Trace) (next : State → Trace) → Each IsOther t.entries → ((state : State) → Each IsOther (next state).entries) → Each IsOther (then_go t next).entries
-others-then t next one two = each-both IsOther t.entries (follow t.outcome next).entries one (by t.outcome)
-  where
-    by : (o : Outcome) → Each IsOther (follow o next).entries
-    by (Goes state) = two state
-    by (Ends end) = tt
-
-others-test : (v : VarId) (path : List ℕ) (a b : State → Trace) (state : State) → Each IsOther (a state).entries → Each IsOther (b state).entries → Each IsOther (test v path a b state).entries
-others-test v path a b state one two = by (scalar_of state v)
-  where
-    by : (n : ℤ) → Each IsOther (after (Tested v path state ∷ []) (at_zero n a b state)).entries
-    by (pos zero) = (tt, one)
-    by (pos (suc n)) = (tt, two)
-    by (negsuc n) = (tt, two)
-
-others-loop : (v : VarId) (path : List ℕ) (limit : End) (body : State → Trace) → ((state : State) → Each IsOther (body state).entries) → (turns : ℕ) (state : State) → Each IsOther (loop v path limit body turns state).entries
-others-loop v path limit body each zero state = others-test v path stays (λ _. ends limit) state tt tt
-others-loop v path limit body each (suc turns) state =
-    let next = loop v path limit body turns in
-    others-test v path stays (λ s. then_go (body s) next) state tt (others-then (body state) next (each state) (others-loop v path limit body each turns))
-
-others-turn : (k : ℕ) (x : Item) (iteration : ℕ) (state : State) (given : Option State) → Each IsOther (turn_trace k x iteration state given).entries
-others-turn k x iteration state None = (tt, tt)
-others-turn k x iteration state (Some now) = (tt, tt)
-
-mutual
-  others-tree : (setup : Setup) (rules : List Rule) (iteration : ℕ) (tree : Tree) (state : State) → Each IsOther (run_tree setup rules iteration tree state).entries
-  others-tree setup rules iteration (Seq' shape all) state = others-row setup rules iteration all state
-  others-tree setup rules iteration (Call k) state = others-turn k (item setup k) iteration state (turn setup rules (item setup k) state iteration)
-  others-tree setup rules iteration (Sync vars path) state = (tt, tt)
-  others-tree setup rules iteration (If' v path shape one) state =
-      others-test v path stays (run_row setup rules iteration one) state tt (others-row setup rules iteration one state)
-  others-tree setup rules iteration (While' v path shape one) state =
-      others-loop v path (WhileLimit iteration path) (run_row setup rules iteration one) (others-row setup rules iteration one) setup.while_limit state
-
-  others-row : {m : _} (setup : Setup) (rules : List Rule) (iteration : ℕ) (row : Row_of-Tree m) (state : State) → Each IsOther (run_row setup rules iteration row state).entries
-  others-row setup rules iteration end_of-Tree state = tt
-  others-row setup rules iteration (more_of-Tree tree rest) state =
-      others-then (run_tree setup rules iteration tree state) (run_row setup rules iteration rest)
-      (others-tree setup rules iteration tree state) (others-row setup rules iteration rest)
+others : OfTrees IsOther (λ _. Unit {0})
+others = record { turned = λ _ _ _. tt; overflowed = λ _ _ _. tt; exchanged = λ _ _ _. tt; tested = λ _ _ _. tt; overflow = λ _ _. tt; while_limit = λ _ _. tt }
 
 others-written : (setup : Setup) (iteration : ℕ) (state : State) (vs : List VarId) → Each IsOther (all_written setup iteration state vs)
 others-written setup iteration state [] = tt
@@ -187,7 +142,7 @@ pub found : (P : ℕ → List Stage → Type 0) (setup : Setup) (rules : List Ru
 found P setup rules [] each first so_far earlier c state later there = absurd (nothing_there earlier (Saved c state) later there)
 found P setup rules (Bin b n ∷ ss) each first so_far earlier c state later there =
     let t = run_tree setup rules n (bin setup b) first in
-    found_behind P setup rules t.entries t.outcome ss so_far earlier c state later (others-tree setup rules n (bin setup b) first)
+    found_behind P setup rules t.entries t.outcome ss so_far earlier c state later (walk-tree IsOther (λ _. Unit {0}) setup rules n (bin setup b) first others).entries
     (λ now k between at. found P setup rules ss each now k between c state later at) there
 found P setup rules (Rotate ∷ ss) each first so_far earlier c state later there =
     found_behind P setup rules (Rotated first ∷ []) (Goes (rotate first)) ss so_far earlier c state later (tt, tt)

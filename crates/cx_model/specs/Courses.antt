@@ -38,6 +38,7 @@ turned_by Least setup rules x state iteration = state_or (turn_by Least setup ru
 turned_by Greatest setup rules x state iteration = state_or (turn_by Greatest setup rules x state iteration) state
 turned_by Count setup rules x state iteration = state_or (turn_by Count setup rules x state iteration) state
 
+-- the state behind an item's turn, whether or not it met an Overflow
 abbrev pub turned : Setup → List Rule → Item → State → ℕ → State
 turned setup rules x state iteration = turned_by x.kind setup rules x state iteration
 
@@ -48,9 +49,11 @@ pub record Note : Type 0 where
   pub entry : Entry
   pub met : Option End
 
+-- an entry where no end is met
 abbrev pub note : Entry → Note
 note entry = record { entry = entry; met = None }
 
+-- an entry where this end is met
 abbrev pub ending : Entry → End → Note
 ending entry end = record { entry = entry; met = Some end }
 
@@ -59,6 +62,7 @@ abbrev pub stop_at : Option End → Trace → Trace
 stop_at None rest = rest
 stop_at (Some end) rest = ends end
 
+-- the entries up to the first end, which then ends the trace
 abbrev pub cut : List Note → State → Trace
 cut [] state = stays state
 cut (n ∷ ns) state = after (n.entry ∷ []) (stop_at n.met (cut ns state))
@@ -70,19 +74,24 @@ pub record Course : Type 0 where
   pub notes : List Note
   pub state : State
 
+-- nothing is noted
 abbrev pub rests : State → Course
 rests state = record { notes = []; state = state }
 
+-- a course behind what was noted before
 abbrev pub behind : List Note → Course → Course
 behind notes c = record { notes = notes ++ c.notes; state = c.state }
 
+-- a course, and what follows from its state
 abbrev pub goes_on : Course → (State → Course) → Course
 goes_on c next = behind c.notes (next c.state)
 
+-- an item's turn, or the Overflow that it met
 abbrev pub turn_note : ℕ → Item → ℕ → State → Option State → Note
 turn_note k x iteration before None = ending (Overflowed k iteration before) (Overflow iteration x.path)
 turn_note k x iteration before (Some state) = note (Turned k iteration before)
 
+-- an item's turn as a course
 abbrev pub turn_course : Setup → List Rule → ℕ → ℕ → State → Course
 turn_course setup rules iteration k state =
     record {
@@ -125,13 +134,16 @@ abbrev mutual
 
 -- ---- stages
 
+-- a variable's text as a note
 abbrev pub write_note : Setup → ℕ → State → VarId → Note
 write_note setup iteration state v = note (Wrote v iteration (text_of setup iteration state v) state)
 
+-- the texts of several variables
 abbrev pub write_notes : Setup → ℕ → State → List VarId → List Note
 write_notes setup iteration state [] = []
 write_notes setup iteration state (v ∷ vs) = write_note setup iteration state v ∷ write_notes setup iteration state vs
 
+-- the course of one stage
 abbrev pub course_stage : Setup → List Rule → Stage → State → Course
 course_stage setup rules (Bin b iteration) state = course_tree setup rules iteration (bin setup b) state
 course_stage setup rules Rotate state = record { notes = note (Rotated state) ∷ []; state = rotate state }
@@ -139,6 +151,7 @@ course_stage setup rules (Save iteration) state = record { notes = note (Saved i
 course_stage setup rules (Write iteration) state =
     record { notes = write_notes setup iteration state setup.out_vars; state = state }
 
+-- the course of several stages, one after another
 abbrev pub course_stages : Setup → List Rule → List Stage → State → Course
 course_stages setup rules [] state = rests state
 course_stages setup rules (s ∷ ss) state = goes_on (course_stage setup rules s state) (course_stages setup rules ss)

@@ -21,6 +21,7 @@ goes_on_with setup (Rotated state) flags = entry_leaves setup (Rotated state) fl
 goes_on_with setup (Wrote v iteration text state) flags = flags
 goes_on_with setup (Saved iteration state) flags = flags
 
+-- the flags that several notes leave, one after another
 abbrev pub notes_leave : Setup → List Note → Flags → Flags
 notes_leave setup [] flags = flags
 notes_leave setup (n ∷ ns) flags = notes_leave setup ns (goes_on_with setup n.entry flags)
@@ -30,6 +31,7 @@ abbrev pub NotesMet : Setup → Flags → List Note → Type 0
 NotesMet setup flags [] = Unit {0}
 NotesMet setup flags (n ∷ ns) = Met setup flags (entry_needs setup n.entry) × NotesMet setup (goes_on_with setup n.entry flags) ns
 
+-- flags that are all set
 abbrev pub all_set : Flags
 all_set v level f = true
 

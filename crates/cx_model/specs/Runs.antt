@@ -21,6 +21,7 @@ text_of setup iteration state v =
     then line (variable setup v).full iteration (scalar_of state v)
     else section (variable setup v).full iteration setup.shape (level_of state v 0)
 
+-- the texts of several variables, as entries
 abbrev pub all_written : Setup → ℕ → State → List VarId → List Entry
 all_written setup iteration state [] = []
 all_written setup iteration state (v ∷ vs) =
@@ -28,6 +29,7 @@ all_written setup iteration state (v ∷ vs) =
 
 -- ---- all stages, whatever the length of the output
 
+-- the run of one stage
 abbrev pub run_stage : Setup → List Rule → Stage → State → Trace
 run_stage setup rules (Bin b iteration) state = run_tree setup rules iteration (bin setup b) state
 run_stage setup rules Rotate state = does (Rotated state) (rotate state)
@@ -35,6 +37,7 @@ run_stage setup rules (Save iteration) state = does (Saved iteration state) stat
 run_stage setup rules (Write iteration) state =
     record { entries = all_written setup iteration state setup.out_vars; outcome = Goes state }
 
+-- the run of several stages, one after another
 abbrev pub run_stages : Setup → List Rule → List Stage → State → Trace
 run_stages setup rules [] state = stays state
 run_stages setup rules (s ∷ ss) state = then_go (run_stage setup rules s state) (run_stages setup rules ss)
@@ -46,6 +49,7 @@ abbrev pub text_added : Entry → List ℕ
 text_added (Wrote v iteration text state) = text
 text_added _ = []
 
+-- the output of some entries
 abbrev pub output_of : List Entry → List ℕ
 output_of entries = flat_map text_added entries
 
@@ -58,6 +62,7 @@ abbrev pub passing : ℕ → Entry → Option ℕ
 passing so_far (Wrote v iteration text state) = if nat_le (so_far + length text) greatest_output then None else Some iteration
 passing so_far _ = None
 
+-- the end at the limit where a text would pass it, else what follows
 abbrev pub stop_or : Option ℕ → Trace → Trace
 stop_or None rest = rest
 stop_or (Some iteration) rest = ends (OutputLimit iteration)
@@ -68,6 +73,7 @@ within_limit so_far [] outcome = record { entries = []; outcome = outcome }
 within_limit so_far (e ∷ es) outcome =
     stop_or (passing so_far e) (after (e ∷ []) (within_limit (so_far + length (text_added e)) es outcome))
 
+-- a trace as far as the output's limit lets it go
 abbrev pub limited : ℕ → Trace → Trace
 limited so_far t = within_limit so_far t.entries t.outcome
 
@@ -80,6 +86,7 @@ undivided_run setup rules = limited 0 (run_stages setup rules (stages setup) (st
 abbrev pub continued_run : Setup → List Rule → ℕ → State → ℕ → Trace
 continued_run setup rules c state so_far = limited so_far (run_stages setup rules (stages_after setup c) state)
 
+-- how a run ends by its outcome; one that goes on has done all its iterations
 abbrev pub end_by : Outcome → End
 end_by (Goes state) = Done
 end_by (Ends end) = end

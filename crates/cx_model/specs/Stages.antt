@@ -5,6 +5,7 @@ use Rattle.cx_plan.specs.Setups.{Setup}
 use Rattle.cx_plan.specs.Dues.{is_due, is_written}
 use Rattle.cx_plan.specs.Lookups.{STARTUP, WRAGH, PARAMCHECK, BASEGRID, INITIAL, POSTINITIAL, PRESTEP, EVOL, POSTSTEP, CHECKPOINT, ANALYSIS, TERMINATE, SHUTDOWN}
 
+-- a stage of a run
 pub data Stage : Type 0 where
   -- a bin in an iteration
   Bin : (bin iteration : ℕ) → Stage
@@ -15,9 +16,11 @@ pub data Stage : Type 0 where
   -- the output of an iteration
   Write : ℕ → Stage
 
+-- a bin in an iteration, as a stage
 abbrev pub in_iteration : ℕ → ℕ → Stage
 in_iteration n b = Bin b n
 
+-- several bins in an iteration
 abbrev pub bins : List ℕ → ℕ → List Stage
 bins bs n = map (in_iteration n) bs
 
@@ -34,6 +37,7 @@ before_analysis setup (suc n) =
 abbrev pub from_analysis : Setup → ℕ → List Stage
 from_analysis setup n = Bin ANALYSIS n ∷ (if is_written setup n then Write n ∷ [] else [])
 
+-- a whole iteration
 abbrev pub iteration : Setup → ℕ → List Stage
 iteration setup n = before_analysis setup n ++ from_analysis setup n
 

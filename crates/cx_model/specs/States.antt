@@ -16,6 +16,7 @@ number_count setup v = if v.scalar then 1 else point_count (whole setup.shape)
 abbrev pub zeros : Setup → VarInfo → List (List ℤ)
 zeros setup v = replicate v.levels (replicate (number_count setup v) (pos 0))
 
+-- the state in which the undivided run begins
 abbrev pub start : Setup → State
 start setup = map (zeros setup) setup.vars
 

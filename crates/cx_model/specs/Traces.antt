@@ -26,6 +26,7 @@ pub data Outcome : Type 0 where
   Goes : State → Outcome
   Ends : End → Outcome
 
+-- what is done, in order, and whether it goes on
 pub record Trace : Type 0 where
   pub entries : List Entry
   pub outcome : Outcome

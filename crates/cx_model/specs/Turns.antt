@@ -41,6 +41,7 @@ abbrev pub cell_turn : Setup → List Rule → Item → State → ℕ → Option
 cell_turn setup rules x state iteration =
     sweep (whole setup.shape) (values_of setup state) (in_region setup.shape (region_of x.writes)) (swept_at setup rules x (values_of setup state) iteration) x.writes state
 
+-- what Count counts
 abbrev pub is_not_zero : ℤ → Bool
 is_not_zero n = not (int_eq n (pos 0))
 
@@ -58,10 +59,12 @@ abbrev pub first_read : State → List Touch → List ℤ
 first_read state [] = []
 first_read state (r ∷ rs) = level_of state r.var r.level
 
+-- a reduction: one number from the level that is read first
 abbrev pub reduce_turn : Setup → Item → State → Option State
 reduce_turn setup x state =
     scalar_turn x state (if_fit setup x.writes (Some (reduced x.kind (first_read state x.reads) ∷ [])))
 
+-- a turn by the kind of its item
 abbrev pub turn_by : ItemKind → Setup → List Rule → Item → State → ℕ → Option State
 turn_by Cell setup rules x state iteration = cell_turn setup rules x state iteration
 turn_by Scalar setup rules x state iteration =

@@ -20,9 +20,11 @@ points_by Least setup x = 0
 points_by Greatest setup x = 0
 points_by Count setup x = 0
 
+-- the points that an item's turn computes
 abbrev pub turn_points : Setup → Item → ℕ
 turn_points setup x = points_by x.kind setup x
 
+-- the points that an entry computes
 abbrev pub entry_points : Setup → Entry → ℕ
 entry_points setup (Turned k iteration state) = turn_points setup (item setup k)
 entry_points setup _ = 0

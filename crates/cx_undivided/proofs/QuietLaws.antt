@@ -14,6 +14,7 @@ use Rattle.cx_model.specs.declared.ends.End.TheVariants.{Done, WhileLimit}
 use Rattle.cx_model.specs.Traces.{Entry, Turned, Overflowed, Exchanged, Tested, Rotated, Wrote, Saved, Outcome, Goes, Ends, Trace, stays, ends, after, follow, then_go}
 use Rattle.cx_model.specs.Trees.{at_zero, test, turn_trace, loop, run_tree, run_row}
 use Rattle.cx_model.specs.Stages.{Stage, Bin, Rotate, Save, Write, bins, before_analysis}
+use Rattle.cx_model.proofs.WalkLaws.{Each, OfEnd, Throughout, OfTrees, throughout-stays, throughout-then, walk-tree}
 use Rattle.cx_model.specs.Runs.{run_stages, text_added, output_of, passing, stop_or, within_limit}
 
 -- ---- entries without a text, and ends within a run
@@ -23,71 +24,26 @@ HasNone (Wrote v iteration text state) = ⊥
 HasNone _ = Unit {0}
 
 abbrev pub AllHaveNone : List Entry → Type 0
-AllHaveNone [] = Unit {0}
-AllHaveNone (e ∷ es) = HasNone e × AllHaveNone es
+AllHaveNone = Each HasNone
+
+abbrev NotDone : End → Type 0
+NotDone end = end ≢ Done
 
 abbrev pub IsNotDone : Outcome → Type 0
-IsNotDone (Goes state) = Unit {0}
-IsNotDone (Ends end) = end ≢ Done
+IsNotDone = OfEnd NotDone
 
-pub record IsQuiet (t : Trace) : Type 0 where
-  pub entries : AllHaveNone t.entries
-  pub outcome : IsNotDone t.outcome
-
-none-both : (xs ys : List Entry) → AllHaveNone xs → AllHaveNone ys → AllHaveNone (xs ++ ys)
-none-both [] ys one two = two
-none-both (e ∷ xs) ys one two = (one.0, none-both xs ys one.1 two)
+abbrev pub IsQuiet : Trace → Type 0
+IsQuiet = Throughout HasNone NotDone
 
 quiet-stays : (state : State) → IsQuiet (stays state)
-quiet-stays state = record { entries = tt; outcome = tt }
-
-quiet-after : (es : List Entry) (t : Trace) → AllHaveNone es → IsQuiet t → IsQuiet (after es t)
-quiet-after es t one two = record { entries = none-both es t.entries one two.entries; outcome = two.outcome }
+quiet-stays state = throughout-stays HasNone NotDone state
 
 quiet-then : (t : Trace) (next : State → Trace) → IsQuiet t → ((state : State) → IsQuiet (next state)) → IsQuiet (then_go t next)
-quiet-then t next one two = quiet-after t.entries (follow t.outcome next) one.entries (by t.outcome one.outcome)
-  where
-    by : (o : Outcome) → IsNotDone o → IsQuiet (follow o next)
-    by (Goes state) is = two state
-    by (Ends end) is = record { entries = tt; outcome = is }
+quiet-then t next one two = throughout-then HasNone NotDone t next one two
 
--- ---- trees
-
-quiet-test : (v : VarId) (path : List ℕ) (a b : State → Trace) (state : State) → IsQuiet (a state) → IsQuiet (b state) → IsQuiet (test v path a b state)
-quiet-test v path a b state one two = by (scalar_of state v)
-  where
-    by : (n : ℤ) → IsQuiet (after (Tested v path state ∷ []) (at_zero n a b state))
-    by (pos zero) = quiet-after (Tested v path state ∷ []) (a state) (tt, tt) one
-    by (pos (suc n)) = quiet-after (Tested v path state ∷ []) (b state) (tt, tt) two
-    by (negsuc n) = quiet-after (Tested v path state ∷ []) (b state) (tt, tt) two
-
-quiet-loop : (v : VarId) (path : List ℕ) (limit : End) (body : State → Trace) → limit ≢ Done → ((state : State) → IsQuiet (body state)) → (turns : ℕ) (state : State) → IsQuiet (loop v path limit body turns state)
-quiet-loop v path limit body not_done each zero state =
-    quiet-test v path stays (λ _. ends limit) state (quiet-stays state) (record { entries = tt; outcome = not_done })
-quiet-loop v path limit body not_done each (suc turns) state =
-    let next = loop v path limit body turns in
-    quiet-test v path stays (λ s. then_go (body s) next) state (quiet-stays state)
-    (quiet-then (body state) next (each state) (quiet-loop v path limit body not_done each turns))
-
-quiet-turn : (k : ℕ) (x : Item) (iteration : ℕ) (state : State) (given : Option State) → IsQuiet (turn_trace k x iteration state given)
-quiet-turn k x iteration state None = record { entries = (tt, tt); outcome = λ is. cc }
-quiet-turn k x iteration state (Some now) = record { entries = (tt, tt); outcome = tt }
-
-mutual
-  quiet-tree : (setup : Setup) (rules : List Rule) (iteration : ℕ) (tree : Tree) (state : State) → IsQuiet (run_tree setup rules iteration tree state)
-  quiet-tree setup rules iteration (Seq' shape all) state = quiet-row setup rules iteration all state
-  quiet-tree setup rules iteration (Call k) state = quiet-turn k (item setup k) iteration state (turn setup rules (item setup k) state iteration)
-  quiet-tree setup rules iteration (Sync vars path) state = record { entries = (tt, tt); outcome = tt }
-  quiet-tree setup rules iteration (If' v path shape one) state =
-      quiet-test v path stays (run_row setup rules iteration one) state (quiet-stays state) (quiet-row setup rules iteration one state)
-  quiet-tree setup rules iteration (While' v path shape one) state =
-      quiet-loop v path (WhileLimit iteration path) (run_row setup rules iteration one) (λ is. cc) (quiet-row setup rules iteration one) setup.while_limit state
-
-  quiet-row : {m : _} (setup : Setup) (rules : List Rule) (iteration : ℕ) (row : Row_of-Tree m) (state : State) → IsQuiet (run_row setup rules iteration row state)
-  quiet-row setup rules iteration end_of-Tree state = quiet-stays state
-  quiet-row setup rules iteration (more_of-Tree tree rest) state =
-      quiet-then (run_tree setup rules iteration tree state) (run_row setup rules iteration rest)
-      (quiet-tree setup rules iteration tree state) (quiet-row setup rules iteration rest)
+-- trees write no text, and no end that they meet is Done
+quiet : OfTrees HasNone NotDone
+quiet = record { turned = λ _ _ _. tt; overflowed = λ _ _ _. tt; exchanged = λ _ _ _. tt; tested = λ _ _ _. tt; overflow = λ n path is. cc; while_limit = λ n path is. cc }
 
 -- ---- stages that aren't output
 
@@ -101,7 +57,7 @@ WriteNone (Save n ∷ ss) = WriteNone ss
 quiet-stages : (setup : Setup) (rules : List Rule) (ss : List Stage) → WriteNone ss → (state : State) → IsQuiet (run_stages setup rules ss state)
 quiet-stages setup rules [] none state = quiet-stays state
 quiet-stages setup rules (Bin b n ∷ ss) none state =
-    quiet-then (run_tree setup rules n (bin setup b) state) (run_stages setup rules ss) (quiet-tree setup rules n (bin setup b) state) (quiet-stages setup rules ss none)
+    quiet-then (run_tree setup rules n (bin setup b) state) (run_stages setup rules ss) (walk-tree HasNone NotDone setup rules n (bin setup b) state quiet) (quiet-stages setup rules ss none)
 quiet-stages setup rules (Rotate ∷ ss) none state =
     quiet-then (record { entries = Rotated state ∷ []; outcome = Goes (rotate state) }) (run_stages setup rules ss) (record { entries = (tt, tt); outcome = tt }) (quiet-stages setup rules ss none)
 quiet-stages setup rules (Save n ∷ ss) none state =
