@@ -5,7 +5,7 @@ use Rattle.std.proofs.lemmas.List.Elements.{All-nil}
 use Rattle.cx_plan.specs.declared.variable.VarId.{VarId}
 use Rattle.cx_plan.specs.Setups.{Setup}
 use Rattle.cx_plan.specs.Dues.{is_due, is_each, is_written}
-use Rattle.cx_plan.specs.Lookups.{bin, is_empty, STARTUP, WRAGH, PARAMCHECK, BASEGRID, INITIAL, POSTINITIAL, PRESTEP, EVOL, POSTSTEP, CHECKPOINT, ANALYSIS, TERMINATE, SHUTDOWN}
+use Rattle.cx_plan.specs.Lookups.{bin, is_empty, CHECKPOINT, ANALYSIS, start_bins, step_bins, end_bins}
 use Rattle.cx_plan.specs.Regions.{Rotates, Outputs, Flags, Need, cleared, output_needs, is_met}
 use Rattle.cx_plan.specs.Paths.{Mark, Letter, Meets, letter_i, letter_y, letter_n, Then, Just, Path, PathOfBins, PathOfAnalysis, PathOfCheckpoint, PathOfStart, PathOfIteration, PathOfIterations, PathOfJob, Sound}
 use Rattle.cx_rule.specs.Routine.{Rule}
@@ -131,7 +131,7 @@ abbrev Begins : List Mark → Type 0
 Begins = Just (letter_i ∷ Meets Rotates ∷ [])
 
 abbrev Evolves : Setup → List Mark → Type 0
-Evolves setup = PathOfBins setup (PRESTEP ∷ EVOL ∷ POSTSTEP ∷ [])
+Evolves setup = PathOfBins setup step_bins
 
 -- an iteration up to its checkpoint place
 abbrev Before : Setup → List Mark → Type 0
@@ -142,9 +142,9 @@ led-rotate setup rules state = record { marks = letter_i ∷ Meets Rotates ∷ [
 
 follow-before : (setup : Setup) (rules : List Rule) (n : ℕ) → Follow setup rules (Before setup) (before_analysis setup (suc n))
 follow-before setup rules n =
-    let evolving = bins (PRESTEP ∷ EVOL ∷ POSTSTEP ∷ []) (suc n) in
+    let evolving = bins step_bins (suc n) in
     follow-both setup rules (Then Begins (Evolves setup)) (PathOfCheckpoint setup) (Rotate ∷ evolving) (checkpoint setup (suc n))
-    (λ state. led-then setup Begins (Evolves setup) (course_stage setup rules Rotate state) (course_stages setup rules evolving) (led-rotate setup rules state) (follow-bins setup rules (suc n) (PRESTEP ∷ EVOL ∷ POSTSTEP ∷ [])))
+    (λ state. led-then setup Begins (Evolves setup) (course_stage setup rules Rotate state) (course_stages setup rules evolving) (led-rotate setup rules state) (follow-bins setup rules (suc n) step_bins))
     (follow-checkpoint setup rules (suc n))
 
 whole-iteration : (setup : Setup) (marks : List Mark) → Then (Before setup) (PathOfAnalysis setup) marks → PathOfIteration setup marks
@@ -171,24 +171,24 @@ follow-iterations setup rules c (suc count) =
 -- ---- the run, in two parts
 
 abbrev Start : Setup → List Mark → Type 0
-Start setup = PathOfBins setup (STARTUP ∷ WRAGH ∷ PARAMCHECK ∷ BASEGRID ∷ INITIAL ∷ POSTINITIAL ∷ POSTSTEP ∷ [])
+Start setup = PathOfBins setup start_bins
 
 abbrev End : Setup → List Mark → Type 0
-End setup = PathOfBins setup (TERMINATE ∷ SHUTDOWN ∷ [])
+End setup = PathOfBins setup end_bins
 
 -- any number of iterations, and the end
 abbrev Rest : Setup → List Mark → Type 0
 Rest setup = Then (λ marks. (n : ℕ) × PathOfIterations setup n marks) (End setup)
 
 follow-start : (setup : Setup) (rules : List Rule) → Follow setup rules (Start setup) (before_analysis setup 0)
-follow-start setup rules = follow-bins setup rules 0 (STARTUP ∷ WRAGH ∷ PARAMCHECK ∷ BASEGRID ∷ INITIAL ∷ POSTINITIAL ∷ POSTSTEP ∷ [])
+follow-start setup rules = follow-bins setup rules 0 start_bins
 
 follow-rest : (setup : Setup) (rules : List Rule) (c count : ℕ) → Follow setup rules (Rest setup) (rest_behind setup c count)
 follow-rest setup rules c count =
     follow-map setup rules (Then (PathOfIterations setup count) (End setup)) (Rest setup) (rest_behind setup c count)
     (λ marks way. (way.0, way.1, (count, way.2), way.3, way.4))
-    (follow-both setup rules (PathOfIterations setup count) (End setup) (flat_map (iteration setup) (range_with_len (c + 1) count)) (bins (TERMINATE ∷ SHUTDOWN ∷ []) setup.itlast)
-    (follow-iterations setup rules c count) (follow-bins setup rules setup.itlast (TERMINATE ∷ SHUTDOWN ∷ [])))
+    (follow-both setup rules (PathOfIterations setup count) (End setup) (flat_map (iteration setup) (range_with_len (c + 1) count)) (bins end_bins setup.itlast)
+    (follow-iterations setup rules c count) (follow-bins setup rules setup.itlast end_bins))
 
 abbrev Behind : Setup → List Mark → Type 0
 Behind setup = Then (PathOfAnalysis setup) (Rest setup)

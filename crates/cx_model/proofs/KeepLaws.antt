@@ -14,7 +14,7 @@ use Rattle.cx_plan.specs.declared.item.ItemKind.TheVariants.{Cell, Scalar, Sum, 
 use Rattle.cx_plan.specs.declared.item.Item.{Item}
 use Rattle.cx_plan.specs.declared.tree.Tree.{Tree, Seq', Call, Sync, If', While', Row_of-Tree, end_of-Tree, more_of-Tree}
 use Rattle.cx_plan.specs.Setups.{Setup}
-use Rattle.cx_plan.specs.Lookups.{item, bin, is_scalar}
+use Rattle.cx_plan.specs.Lookups.{item, bin, is_scalar, run_bin_count}
 use Rattle.cx_plan.specs.Regions.{region_of, kinds_agree, reduces}
 use Rattle.cx_rule.specs.Routine.{Rule}
 use Rattle.cx_rule.specs.States.{State, scalar_of, rotate, with_level}
@@ -151,7 +151,7 @@ keeps-texts : (setup : Setup) (n : ℕ) (state : State) (vs : List VarId) → Is
 keeps-texts setup n state [] is = tt
 keeps-texts setup n state (v ∷ vs) is = (is, keeps-texts setup n state vs is)
 
-keeps-stages : (setup : Setup) (rules : List Rule) (ss : List Stage) → ((b : ℕ) → b < 13 → IsReadyTree setup (bin setup b)) → EachBin ss → KeepsFrom setup (run_stages setup rules ss)
+keeps-stages : (setup : Setup) (rules : List Rule) (ss : List Stage) → ((b : ℕ) → b < run_bin_count → IsReadyTree setup (bin setup b)) → EachBin ss → KeepsFrom setup (run_stages setup rules ss)
 keeps-stages setup rules [] trees each = keeps-stays setup
 keeps-stages setup rules (Bin k n ∷ ss) trees each = λ state is.
     keeps-then setup (run_tree setup rules n (bin setup k) state) (run_stages setup rules ss) (keeps-tree setup rules n (bin setup k) (trees k each.0) state is) (keeps-stages setup rules ss trees each.1)
@@ -178,7 +178,7 @@ each-there : (P : Entry → Type 0) (xs : List Entry) (e : Entry) (ys : List Ent
 each-there P [] e ys each = each.0
 each-there P (x ∷ xs) e ys each = each-there P xs e ys each.1
 
-pub keeps-states : (setup : Setup) (rules : List Rule) → ((b : ℕ) → b < 13 → IsReadyTree setup (bin setup b)) → KeepsStates setup rules
+pub keeps-states : (setup : Setup) (rules : List Rule) → ((b : ℕ) → b < run_bin_count → IsReadyTree setup (bin setup b)) → KeepsStates setup rules
 keeps-states setup rules trees =
     record {
       run = λ first is. all-each P _ (whole_run first is);

@@ -11,7 +11,7 @@ use Rattle.cx_plan.specs.declared.variable.VarInfo.{VarInfo}
 use Rattle.cx_plan.specs.declared.job.Job.{Job}
 use Rattle.cx_plan.specs.declared.tree.Tree.{Tree, Seq, Seq', Call, Sync, If', While', Row_of-Tree, end_of-Tree, more_of-Tree}
 use Rattle.cx_plan.specs.Setups.{Setup, setup_of}
-use Rattle.cx_plan.specs.Lookups.{item, no_item, no_variable, bin, called, called_in, is_scalar, levels_of}
+use Rattle.cx_plan.specs.Lookups.{item, no_item, no_variable, bin, called, called_in, is_scalar, levels_of, run_bins, run_bin_count}
 use Rattle.cx_plan.specs.Regions.{has_shape, HasShapes}
 use Rattle.cx_plan.specs.Whole.{IsWhole, IsTree, IsRow, IsItem}
 use Rattle.cx_model.specs.Agreement.{IsReady, IsReadyTree, IsReadyRow, IsSettled}
@@ -38,15 +38,15 @@ mutual
     ready-row job rest items is.1 (all-right (Shaped (setup_of job)) (called tree) (called_in rest) shaped),
   )
 
-pub ready-trees : (job : Job) → IsWhole job → HasShapes (setup_of job) → (b : ℕ) → b < 13 → IsReadyTree (setup_of job) (bin (setup_of job) b)
+pub ready-trees : (job : Job) → IsWhole job → HasShapes (setup_of job) → (b : ℕ) → b < run_bin_count → IsReadyTree (setup_of job) (bin (setup_of job) b)
 ready-trees job is shapes b below =
     ready-tree job (bin (setup_of job) b) is.items
     (All-get_or (IsTree job) job.plan.bins b (Seq []) (let e = is.bins in omega (arith, e, below)) is.trees)
     (subst (λ k. All (Shaped (setup_of job)) (called (bin (setup_of job) k))) number
-    (all-of-one (Shaped (setup_of job)) (λ b. called (bin (setup_of job) b)) (0 ∷ 1 ∷ 2 ∷ 3 ∷ 4 ∷ 5 ∷ 6 ∷ 7 ∷ 8 ∷ 9 ∷ 10 ∷ 11 ∷ 12 ∷ []) b 0 below shapes))
+    (all-of-one (Shaped (setup_of job)) (λ b. called (bin (setup_of job) b)) run_bins b 0 below shapes))
   where
-    number : get_or (0 ∷ 1 ∷ 2 ∷ 3 ∷ 4 ∷ 5 ∷ 6 ∷ 7 ∷ 8 ∷ 9 ∷ 10 ∷ 11 ∷ 12 ∷ []) b 0 ≡ b
-    number = get_or-range_with_len 0 13 b 0 below ∙ omega arith
+    number : get_or run_bins b 0 ≡ b
+    number = get_or-range_with_len 0 run_bin_count b 0 below ∙ omega arith
 
 pub settled : (job : Job) → IsWhole job → HasShapes (setup_of job) → HasInterior job.shape → IsSettled (setup_of job)
 settled job is shapes wide =

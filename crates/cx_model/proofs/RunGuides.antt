@@ -7,7 +7,7 @@ use Rattle.cx_plan.specs.declared.variable.VarId.{VarId}
 use Rattle.cx_plan.specs.declared.tree.Tree.{Tree, Seq', Call, Sync, If', While', Row_of-Tree, end_of-Tree, more_of-Tree}
 use Rattle.cx_plan.specs.Setups.{Setup}
 use Rattle.cx_plan.specs.Dues.{is_due, is_each, is_written}
-use Rattle.cx_plan.specs.Lookups.{bin, is_empty, has_none, STARTUP, WRAGH, PARAMCHECK, BASEGRID, INITIAL, POSTINITIAL, PRESTEP, EVOL, POSTSTEP, CHECKPOINT, ANALYSIS, TERMINATE, SHUTDOWN}
+use Rattle.cx_plan.specs.Lookups.{bin, is_empty, has_none, CHECKPOINT, ANALYSIS, start_bins, step_bins, end_bins}
 use Rattle.cx_plan.specs.Regions.{Rotates, Outputs, Flags, Need, cleared, output_needs, is_met}
 use Rattle.cx_plan.specs.Paths.{Mark, Letter, Meets, letter_i, letter_y, letter_n, Then, Just, Path, PathIn, PathOfBins, PathOfAnalysis, PathOfCheckpoint, PathOfIteration, PathOfIterations, PathOfJob, Sound}
 use Rattle.cx_rule.specs.Routine.{Rule}
@@ -174,15 +174,15 @@ guided-rotate setup state = record { marks = letter_i ∷ Meets Rotates ∷ []; 
 follow-iteration : (setup : Setup) (rules : List Rule) (n : ℕ) → Follow setup rules (PathOfIteration setup) (iteration setup (suc n))
 follow-iteration setup rules n =
     let R = Just (letter_i ∷ Meets Rotates ∷ []) in
-    let B = PathOfBins setup (PRESTEP ∷ EVOL ∷ POSTSTEP ∷ []) in
+    let B = PathOfBins setup step_bins in
     let C = PathOfCheckpoint setup in
     let A = PathOfAnalysis setup in
-    let evolving = bins (PRESTEP ∷ EVOL ∷ POSTSTEP ∷ []) (suc n) in
+    let evolving = bins step_bins (suc n) in
     follow-map setup rules (Then (Then (Then R B) C) A) (Then R (Then B (Then C A))) (iteration setup (suc n))
     (λ marks way. then-right R B (Then C A) marks (then-right (Then R B) C A marks way))
     (follow-both setup rules (Then (Then R B) C) A (before_analysis setup (suc n)) (from_analysis setup (suc n))
     (follow-both setup rules (Then R B) C (Rotate ∷ evolving) (checkpoint setup (suc n))
-    (λ state. guided-then setup R B (does (Rotated state) (rotate state)) (run_stages setup rules evolving) (guided-rotate setup state) (follow-bins setup rules (suc n) (PRESTEP ∷ EVOL ∷ POSTSTEP ∷ [])))
+    (λ state. guided-then setup R B (does (Rotated state) (rotate state)) (run_stages setup rules evolving) (guided-rotate setup state) (follow-bins setup rules (suc n) step_bins))
     (follow-checkpoint setup rules (suc n)))
     (follow-analysis setup rules (suc n)))
 
@@ -199,17 +199,17 @@ follow-iterations setup rules c (suc count) =
 
 follow-job : (setup : Setup) (rules : List Rule) → Follow setup rules (PathOfJob setup) (stages setup)
 follow-job setup rules =
-    let S = PathOfBins setup (STARTUP ∷ WRAGH ∷ PARAMCHECK ∷ BASEGRID ∷ INITIAL ∷ POSTINITIAL ∷ POSTSTEP ∷ []) in
-    let E = PathOfBins setup (TERMINATE ∷ SHUTDOWN ∷ []) in
+    let S = PathOfBins setup start_bins in
+    let E = PathOfBins setup end_bins in
     let N = PathOfIterations setup setup.itlast in
     let iterations = flat_map (iteration setup) (range_with_len 1 setup.itlast) in
-    let ending = bins (TERMINATE ∷ SHUTDOWN ∷ []) setup.itlast in
+    let ending = bins end_bins setup.itlast in
     follow-map setup rules (Then (Then S (PathOfAnalysis setup)) (Then N E)) (PathOfJob setup) (stages setup)
     (λ marks way. (way.0, way.1, way.2, (way.3.0, way.3.1, (setup.itlast, way.3.2), way.3.3, way.3.4), way.4))
     (follow-both setup rules (Then S (PathOfAnalysis setup)) (Then N E) (iteration setup 0) (rest_behind setup 0 setup.itlast)
     (follow-both setup rules S (PathOfAnalysis setup) (before_analysis setup 0) (from_analysis setup 0)
-    (follow-bins setup rules 0 (STARTUP ∷ WRAGH ∷ PARAMCHECK ∷ BASEGRID ∷ INITIAL ∷ POSTINITIAL ∷ POSTSTEP ∷ [])) (follow-analysis setup rules 0))
-    (follow-both setup rules N E iterations ending (follow-iterations setup rules 0 setup.itlast) (follow-bins setup rules setup.itlast (TERMINATE ∷ SHUTDOWN ∷ []))))
+    (follow-bins setup rules 0 start_bins) (follow-analysis setup rules 0))
+    (follow-both setup rules N E iterations ending (follow-iterations setup rules 0 setup.itlast) (follow-bins setup rules setup.itlast end_bins)))
 
 met-within : (setup : Setup) (so_far : ℕ) (es : List Entry) (o : Outcome) (flags : Flags) → EntriesMet setup flags es → EntriesMet setup flags (within_limit so_far es o).entries
 met-within setup so_far [] o flags met = tt

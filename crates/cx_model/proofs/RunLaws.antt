@@ -7,7 +7,7 @@ use Rattle.cx_plan.specs.declared.variable.VarId.{VarId}
 use Rattle.cx_plan.specs.declared.tree.Tree.{Tree, Seq', Call, Sync, If', While', Row_of-Tree, end_of-Tree, more_of-Tree}
 use Rattle.cx_plan.specs.Setups.{Setup}
 use Rattle.cx_plan.specs.Dues.{is_due, is_written}
-use Rattle.cx_plan.specs.Lookups.{item, bin, is_scalar, PRESTEP, EVOL, POSTSTEP, CHECKPOINT, ANALYSIS, TERMINATE, SHUTDOWN}
+use Rattle.cx_plan.specs.Lookups.{item, bin, is_scalar, CHECKPOINT, ANALYSIS, step_bins, end_bins, run_bin_count}
 use Rattle.cx_plan.specs.Regions.{Flags, cleared, all_written, rotated}
 use Rattle.cx_plan.specs.Paths.{Sound}
 use Rattle.cx_rule.specs.Routine.{Rule}
@@ -148,7 +148,7 @@ written-same setup n flags a b (v ∷ vs) agree met =
 -- the bins of some stages are among those that are run
 abbrev pub EachBin : List Stage → Type 0
 EachBin [] = Unit {0}
-EachBin (Bin b n ∷ ss) = (b < 13) × EachBin ss
+EachBin (Bin b n ∷ ss) = (b < run_bin_count) × EachBin ss
 EachBin (Rotate ∷ ss) = EachBin ss
 EachBin (Save n ∷ ss) = EachBin ss
 EachBin (Write n ∷ ss) = EachBin ss
@@ -199,13 +199,13 @@ each-iteration setup zero =
     (omega arith, (omega arith, (omega arith, (omega arith, (omega arith, (omega arith, (omega arith, tt))))))) (each-analysis setup 0)
 each-iteration setup (suc n) = each-both (before_analysis setup (suc n)) (from_analysis setup (suc n)) (by (is_due setup (suc n))) (each-analysis setup (suc n))
   where
-    by : (due : Bool) → EachBin (Rotate ∷ bins (PRESTEP ∷ EVOL ∷ POSTSTEP ∷ []) (suc n) ++ cond due (Bin CHECKPOINT (suc n) ∷ Save (suc n) ∷ []) [])
+    by : (due : Bool) → EachBin (Rotate ∷ bins step_bins (suc n) ++ cond due (Bin CHECKPOINT (suc n) ∷ Save (suc n) ∷ []) [])
     by true = (omega arith, (omega arith, (omega arith, (omega arith, tt))))
     by false = (omega arith, (omega arith, (omega arith, tt)))
 
 each-rest : (setup : Setup) (c count : ℕ) → EachBin (rest_behind setup c count)
 each-rest setup c count =
-    each-both (flat_map (iteration setup) (range_with_len (c + 1) count)) (bins (TERMINATE ∷ SHUTDOWN ∷ []) setup.itlast) (by (c + 1) count) (omega arith, (omega arith, tt))
+    each-both (flat_map (iteration setup) (range_with_len (c + 1) count)) (bins end_bins setup.itlast) (by (c + 1) count) (omega arith, (omega arith, tt))
   where
     by : (k count : ℕ) → EachBin (flat_map (iteration setup) (range_with_len k count))
     by k zero = tt

@@ -3,7 +3,7 @@ use Rattle.std.proofs.Common.{◌≡◌, ℕ, zero, suc, ◌+◌, ◌-◌, ◌<�
 use Rattle.std.specs.List.{range_with_len}
 use Rattle.cx_plan.specs.Setups.{Setup}
 use Rattle.cx_plan.specs.Dues.{is_due, is_written}
-use Rattle.cx_plan.specs.Lookups.{STARTUP, WRAGH, PARAMCHECK, BASEGRID, INITIAL, POSTINITIAL, PRESTEP, EVOL, POSTSTEP, CHECKPOINT, ANALYSIS, TERMINATE, SHUTDOWN}
+use Rattle.cx_plan.specs.Lookups.{CHECKPOINT, ANALYSIS, start_bins, step_bins, end_bins}
 use Rattle.cx_model.specs.Stages.{Stage, Bin, Rotate, Save, Write, bins, before_analysis, from_analysis, iteration, rest_behind, stages, stages_after}
 use Rattle.cx_model.proofs.SaveLaws.{EachSave}
 
@@ -34,12 +34,12 @@ each-analysis setup P n = by (is_written setup n)
 each-evolution : (setup : Setup) (P : ℕ → List Stage → Type 0) (n : ℕ) → (is_due setup (suc n) ≡ true → P (suc n) []) → EachSave P (before_analysis setup (suc n))
 each-evolution setup P n holds = by (is_due setup (suc n)) holds
   where
-    by : (b : Bool) → (b ≡ true → P (suc n) []) → EachSave P (Rotate ∷ bins (PRESTEP ∷ EVOL ∷ POSTSTEP ∷ []) (suc n) ++ cond b (Bin CHECKPOINT (suc n) ∷ Save (suc n) ∷ []) [])
+    by : (b : Bool) → (b ≡ true → P (suc n) []) → EachSave P (Rotate ∷ bins step_bins (suc n) ++ cond b (Bin CHECKPOINT (suc n) ∷ Save (suc n) ∷ []) [])
     by true there = (there refl, tt)
     by false there = tt
 
 each-rest : (setup : Setup) (b c count : ℕ) → b ≤ c → count ≡ setup.itlast - c → EachSave (Rises setup b) (rest_behind setup c count)
-each-rest setup b c zero below is = each-bins (Rises setup b) (TERMINATE ∷ SHUTDOWN ∷ []) setup.itlast
+each-rest setup b c zero below is = each-bins (Rises setup b) end_bins setup.itlast
 each-rest setup b c (suc count) below is =
     subst (EachSave (Rises setup b)) (sym order)
     (each-both (Rises setup b) (before_analysis setup (c + 1)) (from_analysis setup (c + 1) ++ rest_behind setup (c + 1) count)
@@ -59,7 +59,7 @@ each-rest setup b c (suc count) below is =
     order : rest_behind setup c (suc count) ≡ before_analysis setup (c + 1) ++ (from_analysis setup (c + 1) ++ rest_behind setup (c + 1) count)
     order =
         let others = flat_map (iteration setup) (range_with_len (c + 1 + 1) count) in
-        let ending = bins (TERMINATE ∷ SHUTDOWN ∷ []) setup.itlast in
+        let ending = bins end_bins setup.itlast in
         append_assoc (before_analysis setup (c + 1) ++ from_analysis setup (c + 1)) others ending
         ∙ append_assoc (before_analysis setup (c + 1)) (from_analysis setup (c + 1)) (others ++ ending)
 
@@ -73,6 +73,6 @@ pub each-stage : (setup : Setup) → EachSave (Rises setup 0) (stages setup)
 each-stage setup =
     each-both (Rises setup 0) (iteration setup 0) (rest_behind setup 0 setup.itlast)
     (each-both (λ k rest. Rises setup 0 k (rest ++ rest_behind setup 0 setup.itlast)) (before_analysis setup 0) (from_analysis setup 0)
-    (each-bins (λ k rest. Rises setup 0 k (rest ++ from_analysis setup 0 ++ rest_behind setup 0 setup.itlast)) (STARTUP ∷ WRAGH ∷ PARAMCHECK ∷ BASEGRID ∷ INITIAL ∷ POSTINITIAL ∷ POSTSTEP ∷ []) 0)
+    (each-bins (λ k rest. Rises setup 0 k (rest ++ from_analysis setup 0 ++ rest_behind setup 0 setup.itlast)) start_bins 0)
     (each-analysis setup (λ k rest. Rises setup 0 k (rest ++ rest_behind setup 0 setup.itlast)) 0))
     (each-rest setup 0 0 setup.itlast (omega arith) (omega arith))

@@ -45,5 +45,7 @@ stages_before setup (suc c) = iteration setup 0 ++ (flat_map (iteration setup) (
 pub record NeedsMet (setup : Setup) (rules : List Rule) : Type 0 where
   pub whole : (first : State) → NotesMet setup cleared (course_stages setup rules (stages setup) first).notes
   pub behind : (c : ℕ) (first state : State)
-      → NotesMet setup (notes_leave setup (course_stages setup rules (stages_before setup c) first).notes cleared) (course_stages setup rules (stages_after setup c) state).notes
-  pub from_whole_state : (c : ℕ) (state : State) → NotesMet setup all_set (course_stages setup rules (stages_after setup c) state).notes
+      → NotesMet setup (notes_leave setup (course_stages setup rules (stages_before setup c) first).notes cleared)
+      (course_stages setup rules (stages_after setup c) state).notes
+  pub from_whole_state : (c : ℕ) (state : State)
+      → NotesMet setup all_set (course_stages setup rules (stages_after setup c) state).notes

@@ -3,7 +3,7 @@ use Rattle.std.specs.Prelude.{ℕ, zero, suc, ◌+◌, ◌-◌, List, [], ◌∷
 use Rattle.std.specs.List.{flat_map, range_with_len}
 use Rattle.cx_plan.specs.Setups.{Setup}
 use Rattle.cx_plan.specs.Dues.{is_due, is_written}
-use Rattle.cx_plan.specs.Lookups.{STARTUP, WRAGH, PARAMCHECK, BASEGRID, INITIAL, POSTINITIAL, PRESTEP, EVOL, POSTSTEP, CHECKPOINT, ANALYSIS, TERMINATE, SHUTDOWN}
+use Rattle.cx_plan.specs.Lookups.{CHECKPOINT, ANALYSIS, start_bins, step_bins, end_bins}
 
 -- a stage of a run
 pub data Stage : Type 0 where
@@ -30,9 +30,9 @@ checkpoint setup n = if is_due setup n then Bin CHECKPOINT n ∷ Save n ∷ [] e
 
 -- an iteration before ANALYSIS, and from it on; iteration 0 is the start
 abbrev pub before_analysis : Setup → ℕ → List Stage
-before_analysis setup zero = bins (STARTUP ∷ WRAGH ∷ PARAMCHECK ∷ BASEGRID ∷ INITIAL ∷ POSTINITIAL ∷ POSTSTEP ∷ []) 0
+before_analysis setup zero = bins start_bins 0
 before_analysis setup (suc n) =
-    Rotate ∷ bins (PRESTEP ∷ EVOL ∷ POSTSTEP ∷ []) (suc n) ++ checkpoint setup (suc n)
+    Rotate ∷ bins step_bins (suc n) ++ checkpoint setup (suc n)
 
 abbrev pub from_analysis : Setup → ℕ → List Stage
 from_analysis setup n = Bin ANALYSIS n ∷ (if is_written setup n then Write n ∷ [] else [])
@@ -44,7 +44,7 @@ iteration setup n = before_analysis setup n ++ from_analysis setup n
 -- so many iterations behind this one, and the end of the run
 abbrev pub rest_behind : Setup → ℕ → ℕ → List Stage
 rest_behind setup c count =
-    flat_map (iteration setup) (range_with_len (c + 1) count) ++ bins (TERMINATE ∷ SHUTDOWN ∷ []) setup.itlast
+    flat_map (iteration setup) (range_with_len (c + 1) count) ++ bins end_bins setup.itlast
 
 -- the whole run
 abbrev pub stages : Setup → List Stage

@@ -39,7 +39,8 @@ swept_at setup rules x values iteration p =
 -- a Cell item: every point of the region, all windows from the state before
 abbrev pub cell_turn : Setup → List Rule → Item → State → ℕ → Option State
 cell_turn setup rules x state iteration =
-    sweep (whole setup.shape) (values_of setup state) (in_region setup.shape (region_of x.writes)) (swept_at setup rules x (values_of setup state) iteration) x.writes state
+    sweep (whole setup.shape) (values_of setup state) (in_region setup.shape (region_of x.writes))
+    (swept_at setup rules x (values_of setup state) iteration) x.writes state
 
 -- what Count counts
 abbrev pub is_not_zero : ℤ → Bool
