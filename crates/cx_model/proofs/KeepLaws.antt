@@ -181,6 +181,7 @@ each-there P (x ∷ xs) e ys each = each-there P xs e ys each.1
 pub keeps-states : (setup : Setup) (rules : List Rule) → ((b : ℕ) → b < run_bin_count → IsReadyTree setup (bin setup b)) → KeepsStates setup rules
 keeps-states setup rules trees =
     record {
+      begins = start_is_state setup;
       run = λ first is. all-each P _ (whole_run first is);
       continued = λ c state so_far is. all-each P _ (rest c state so_far is);
       reached = λ c state so_far r. each-there P r.earlier (Saved c state) r.later (subst (Each P) r.there (whole_run (start setup) (start_is_state setup)));

@@ -12,7 +12,7 @@ use Rattle.cx_plan.specs.Lookups.{item, is_scalar}
 use Rattle.cx_plan.specs.Regions.{Flags, Turns, Syncs, Tests, Rotates, cleared, has_shape, region_of, needs, leaves, output_needs}
 use Rattle.cx_rule.specs.Routine.{Rule}
 use Rattle.cx_rule.specs.States.{State, scalar_of, rotate}
-use Rattle.cx_model.specs.States.{IsState}
+use Rattle.cx_model.specs.States.{IsState, start}
 use Rattle.cx_rule.specs.Sweeps.{in_region, window_point}
 use Rattle.cx_model.specs.Turns.{turn}
 use Rattle.cx_model.specs.Traces.{Entry, Turned, Overflowed, Exchanged, Tested, Rotated, Wrote, Saved}
@@ -69,8 +69,10 @@ state_before (Rotated state) = state
 state_before (Wrote v iteration text state) = state
 state_before (Saved iteration state) = state
 
--- the states of a run that begins in a whole one are whole, those at checkpoint places among them
+-- the undivided run begins in a whole state; the states of a run that begins in a whole one are whole, those at checkpoint places
+-- among them
 pub record KeepsStates (setup : Setup) (rules : List Rule) : Type 0 where
+  pub begins : IsState setup (start setup)
   pub run : (first : State) → IsState setup first
       → All (λ e. IsState setup (state_before e)) (run_from setup rules first).entries
   pub continued : (c : ℕ) (state : State) (so_far : ℕ) → IsState setup state

@@ -28,10 +28,10 @@ pub fn run_continues(job: &Job)
     ensures { (rules : List Rule) → Continues (setup_of job.now) rules }
 {}
 
-/// A law of every whole job whose items have their shapes, and all rules: a run that begins in a whole state, or is continued
-/// from one, has only whole states, those at its checkpoint places among them. In a whole state each variable has its stored
-/// levels, each level of a grid variable a number for each point, and each scalar one number. It does nothing; its clause is
-/// the law.
+/// A law of every whole job whose items have their shapes, and all rules: the undivided run begins in a whole state, and a run
+/// that begins in a whole state, or is continued from one, has only whole states, those at its checkpoint places among them. In
+/// a whole state each variable has its stored levels, each level of a grid variable a number for each point, and each scalar
+/// one number. It does nothing; its clause is the law.
 pub fn run_keeps_states(job: &Job)
     requires whole { IsWhole job.now }
     requires shapes { HasShapes (setup_of job.now) }
