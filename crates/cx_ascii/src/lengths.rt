@@ -5,7 +5,7 @@ ghost use Rattle.std.specs.List.{flat_map, range_with_len};
 ghost use Rattle.std.specs.Fmt.{decimal, signed_decimal};
 ghost use Rattle.cx_grid.specs.Boxes.{point_count};
 ghost use Rattle.cx_grid.specs.Grid.{IsShape, whole};
-ghost use Rattle.cx_ascii.specs.Output.{section, line, size_of, after_blank};
+ghost use Rattle.cx_ascii.specs.Output.{section, line, head_text, sizes_text, size_of, after_blank};
 
 use crate::rows::size;
 use cx_grid::Shape;
@@ -29,7 +29,7 @@ pub fn line_length(full: &Text, iteration: u64, value: i64) -> u64
 }
 
 fn head_length(full: &Text, iteration: u64) -> u64
-    ensures value { result ≡ length (codes "# " ++ full.now ++ codes " iteration " ++ decimal iteration) }
+    ensures value { result ≡ length (head_text full.now iteration) }
     ensures few { result ≤ 2 ^ 63 + 40 }
 {
     full.as_slice().len() as u64 + digits(iteration) + 13
@@ -37,7 +37,7 @@ fn head_length(full: &Text, iteration: u64) -> u64
 
 fn sizes_length(shape: &Shape) -> u64
     requires { shape.now.dims ≤ 3 }
-    ensures value { result ≡ length (flat_map (size_of shape.now) (range_with_len 0 shape.now.dims)) }
+    ensures value { result ≡ length (sizes_text shape.now) }
     ensures few { result ≤ 63 }
 {
     let mut total = 0;

@@ -4,7 +4,7 @@ ghost use Rattle.std.specs.Prelude.{◌≡◌, ◌++◌, codes, length, IfOk, On
 ghost use Rattle.std.specs.Fmt.{decimal};
 ghost use Rattle.cx_grid.specs.Boxes.{point_count};
 ghost use Rattle.cx_grid.specs.Grid.{IsShape, whole};
-ghost use Rattle.cx_ascii.specs.Output.{section, line};
+ghost use Rattle.cx_ascii.specs.Output.{section, line, head_text};
 
 use crate::numbers::{push_count, push_value};
 use crate::rows::{push_level, push_sizes};
@@ -46,7 +46,7 @@ pub fn scalar_line(alloc: Global, full: &Text, iteration: u64, value: i64) -> Re
 }
 
 fn head(alloc: Global, full: &Text, iteration: u64) -> Result<Text, Memory>
-    ensures { IfOk result (λ text. text ≡ codes "# " ++ full.now ++ codes " iteration " ++ decimal iteration) }
+    ensures { IfOk result (λ text. text ≡ head_text full.now iteration) }
 {
     let mut text = Text::from_slice(alloc, b"# ")?;
     text.push_slice(full.as_slice())?;

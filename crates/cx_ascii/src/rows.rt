@@ -5,7 +5,7 @@ ghost use Rattle.std.specs.List.{flat_map, range_with_len};
 ghost use Rattle.std.specs.Fmt.{decimal};
 ghost use Rattle.cx_grid.specs.Boxes.{along, extent};
 ghost use Rattle.cx_grid.specs.Grid.{IsShape, whole};
-ghost use Rattle.cx_ascii.specs.Output.{size_of, row_of, row_in, values_of, after_blank};
+ghost use Rattle.cx_ascii.specs.Output.{size_of, sizes_text, row_of, row_in, rows_in, rows_text, values_of, after_blank};
 
 use crate::numbers::{push_count, push_value};
 use cx_grid::Shape;
@@ -26,7 +26,7 @@ pub(crate) fn size(shape: &Shape, direction: u8) -> u32
 /// The sizes of the grid's directions, a blank before each.
 #[tactic(auto, using(crate::proofs::MoreRows::grown))]
 pub(crate) fn push_sizes(alloc: Global, text: &mut Text, shape: &Shape) -> Result<(), Memory>
-    ensures { OnOk result (text.new ≡ text.old ++ flat_map (size_of shape.now) (range_with_len 0 shape.now.dims)) }
+    ensures { OnOk result (text.new ≡ text.old ++ sizes_text shape.now) }
 {
     'sizes: for direction in 0..shape.dims {
         push_size(alloc, text, size(shape, direction))?;
@@ -78,7 +78,7 @@ fn push_rows(
     count: u64,
     values: &[i64],
 ) -> Result<(), Memory>
-    ensures { OnOk result (text.new ≡ text.old ++ flat_map (row_in width values.now) (range_with_len 0 count)) }
+    ensures { OnOk result (text.new ≡ text.old ++ rows_in width values.now count) }
 {
     let mut rest = values;
     'rows: for _ in 0..count {
@@ -97,7 +97,7 @@ pub(crate) fn push_level(
     values: &[i64],
 ) -> Result<(), Memory>
     requires { IsShape shape.now }
-    ensures { OnOk result (text.new ≡ text.old ++ flat_map (row_of shape.now values.now) (range_with_len 0 (extent (whole shape.now) 1 * extent (whole shape.now) 2))) }
+    ensures { OnOk result (text.new ≡ text.old ++ rows_text shape.now values.now) }
 {
     let width = size(shape, 0) as usize;
     let count = row_count(size(shape, 1), size(shape, 2));
