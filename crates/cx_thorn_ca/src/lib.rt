@@ -8,8 +8,6 @@ mod ca_step;
 mod count;
 mod life_init;
 mod life_step;
-#[cfg(test)]
-mod tests;
 mod zero;
 
 pub use ca_init::CaInit;

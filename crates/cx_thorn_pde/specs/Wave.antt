@@ -5,7 +5,7 @@ use Rattle.cx_plan.specs.declared.item.Region.TheVariants.{Everywhere, Interior,
 use Rattle.cx_plan.specs.declared.item.ItemKind.TheVariants.{Cell, Sum}
 use Rattle.cx_rule.specs.Place.{param_of}
 use Rattle.cx_rule.specs.Routine.{Rule}
-use Rattle.cx_rule.specs.Seen.{value_of}
+use Rattle.cx_rule.specs.Seen.{Seen, value_of}
 use Rattle.cx_rule.specs.Single.{here, one_number, want_of, read_rule, param_rule}
 use Rattle.cx_rule.specs.declared.spec.Spec.{Spec}
 use Rattle.cx_rule.specs.declared.spec.Want.{Want}
@@ -27,8 +27,11 @@ abbrev pub wave_init1_rule : Rule
 wave_init1_rule w at = one_number (start_at at)
 
 -- twice the last level, minus the one before it, and the factor's share of the last level's bend
+abbrev pub next_wave : Seen → ℤ → ℤ
+next_wave w factor = pos 2 *ℤ value_of w 0 here -ℤ value_of w 1 here +ℤ scaled factor (lap w)
+
 abbrev pub wave_step_rule : Rule
-wave_step_rule w at = one_number (in_64_bits (pos 2 *ℤ value_of w 0 here -ℤ value_of w 1 here +ℤ scaled (param_of at 0) (lap w)))
+wave_step_rule w at = one_number (in_64_bits (next_wave w (param_of at 0)))
 
 -- the edge: the nearest value inside, the one of the last level, or a parameter
 abbrev pub wave_flat_rule : Rule

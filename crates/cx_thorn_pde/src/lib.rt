@@ -8,8 +8,6 @@ mod edges;
 mod exact;
 mod start;
 mod sums;
-#[cfg(test)]
-mod tests;
 mod wave_init;
 mod wave_step;
 

@@ -98,6 +98,7 @@ fn set_both(out: &mut Cells, value: Option<i64>) -> Result<(), Overflow>
     requires { length out.old ≡ 2 }
     ensures numbers { OnOk result (number_twice value ≡ Some out.new) }
     ensures overflow { OnErr result (number_twice value ≡ None) }
+    ensures unchanged { OnErr result (out.new ≡ out.old) }
     ensures room { length out.new ≡ length out.old }
 {
     match value {

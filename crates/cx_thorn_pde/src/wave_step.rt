@@ -4,7 +4,7 @@ ghost use Rattle.cx_rule.specs.Seen.{value_of};
 ghost use Rattle.cx_rule.specs.Single.{here};
 ghost use Rattle.cx_thorn_pde.specs.Around.{lap};
 ghost use Rattle.cx_thorn_pde.specs.Exact.{in_64_bits, scaled};
-ghost use Rattle.cx_thorn_pde.specs.Wave.{wave_step_spec, wave_step_rule};
+ghost use Rattle.cx_thorn_pde.specs.Wave.{wave_step_spec, wave_step_rule, next_wave};
 
 use crate::around::lap;
 use crate::exact::plus_scaled;
@@ -60,7 +60,7 @@ fn next(w: &Window, dims: u8, factor: i64) -> Option<i64>
     requires some { 1 ≤ dims }
     requires most { dims ≤ 3 }
     requires reads { w.now.seen.reaches ≡ 1 ∷ 0 ∷ [] }
-    ensures { result ≡ in_64_bits (pos 2 *ℤ value_of w.now.seen 0 here -ℤ value_of w.now.seen 1 here +ℤ scaled factor (lap w.now.seen)) }
+    ensures { result ≡ in_64_bits (next_wave w.now.seen factor) }
 {
     let bend = lap(w, dims);
     stepped(w.here(0), w.here(1), factor, bend)
