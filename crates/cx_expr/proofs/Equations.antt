@@ -1,6 +1,6 @@
 -- The value of an operator's expression by those of its parts.
 use Rattle.std.proofs.Common.{sym, ◌∙◌, ap}
-use Rattle.std.specs.Prelude.{◌≡◌, refl, ℤ, Option, Some, None, Result, Ok, Err}
+use Rattle.std.specs.Prelude.{◌≡◌, refl, ℤ, Option, Some, None, Ok, Err}
 use Rattle.cx_expr.specs.declared.tree.ExprFault.{ExprFault}
 use Rattle.cx_expr.specs.declared.tree.Sign.{Sign}
 use Rattle.cx_expr.specs.declared.tree.Expr.{Expr, Not, Negative, Pair}

@@ -1,18 +1,18 @@
 -- Behind an expression each token may follow, or the expression goes on with it.
-use Rattle.std.proofs.Common.{◌≡◌, ℕ, zero, suc, Bool, true, false, ◌&&◌, ◌||◌, cond, List, [], ◌∷◌, ◌++◌, Option, Some, None, refl, sym, ap, subst, ◌∙◌, inl, inr}
+use Rattle.std.proofs.Common.{◌≡◌, ℕ, zero, suc, Bool, true, false, ◌&&◌, List, [], Option, Some, None, refl}
 use Rattle.std.specs.Prelude.{is_some}
 use Rattle.cx_text.specs.declared.token.Token.{Token}
-use Rattle.cx_text.specs.Rules.{Rule, nothing, ◌>>=◌, choice, loop, if_is, is_sign, name}
+use Rattle.cx_text.specs.Rules.{Rule, is_sign}
 use Rattle.cx_text.specs.Lexemes.{same_name, beyond, is_number, number_of, decimal_from}
 use Rattle.std.specs.Prelude.{codes}
 use Rattle.cx_text.proofs.Laws.{Means}
-use Rattle.cx_text.proofs.RuleLaws.{Good, Part, Tail, Any, Not, before_part, part_end, part_then, tail_option, lexeme_then, lexeme_last, lexeme_alone, empty_ends}
+use Rattle.cx_text.proofs.RuleLaws.{Part, Any, Not, before_part, part_end, part_then, lexeme_then, lexeme_last, lexeme_alone, empty_ends}
 use Rattle.cx_text.proofs.LexemeLaws.{Ended, a_sign, a_name, a_number, a_quoted, sign_is, beyond_part}
 use Rattle.cx_expr.specs.declared.tree.Sign.{Sign}
 use Rattle.cx_expr.specs.declared.tree.Expr.{Expr}
 use Rattle.cx_expr.specs.Exprs.{sign_among, is_among, joined, chain, once_joined, products, sums, tests, ands, ors, number, index, equals, opens_equals, behind, named, parens, zero_, atom, is_unary, negation, negative, unary, product, sum_, comparison, conjunction, disjunction, operand, expr}
 use Rattle.cx_expr.proofs.OpenLaws.{Open, Starts, nothing_open, also_open, choice_open, loop_open, lexeme_open, lexeme_then_open, lexeme_last_open, lexeme_then_starts, lexeme_last_starts, if_means}
-use Rattle.cx_expr.proofs.ExprLaws.{times_is, plus_is, below_is, and_is, or_is, unary_is, AfterOperand, AfterProduct, AfterSum, AfterComparison, AfterAnd, AfterExpr, number_part, index_part, equals_part, behind_tail, named_part, atom_part, unary_part, joined_part, product_part, sum_part, comparison_part, conjunction_part, disjunction_part, parens_part, operand_part}
+use Rattle.cx_expr.proofs.ExprLaws.{times_is, plus_is, below_is, and_is, or_is, unary_is, AfterOperand, AfterExpr, behind_tail, unary_part, joined_part, product_part, sum_part, comparison_part, conjunction_part, disjunction_part, parens_part, operand_part}
 
 -- ---- atoms
 

@@ -5,7 +5,7 @@ use Rattle.std.proofs.lemmas.List.{append-nil}
 use Rattle.cx_text.specs.declared.stop.Mark.{Mark}
 use Rattle.cx_text.specs.declared.token.Token.{Token}
 use Rattle.cx_text.specs.Tokens.{is_line_end}
-use Rattle.cx_text.specs.Grammar.{Item, Grammar, next_of, passes, many}
+use Rattle.cx_text.specs.Grammar.{Item, next_of, passes}
 use Rattle.cx_text.specs.Rules.{Rule, token, nothing, ◌>>=◌, choice, turns, loop, if_is, one_line_end, line_ends, lexeme}
 use Rattle.cx_text.proofs.Laws.{Means}
 use Rattle.cx_text.proofs.Choice.{at_test, at_other}

@@ -1,9 +1,9 @@
 -- Worked rows of expressions.
-use Rattle.std.specs.Prelude.{◌≡◌, refl, ℕ, pos, codes, List, None, Ok, Err}
-use Rattle.cx_expr.specs.declared.tree.ExprFault.TheVariants.{UnknownName, NotNumber, NotText, Range}
+use Rattle.std.specs.Prelude.{◌≡◌, refl, pos, codes, None, Ok, Err}
+use Rattle.cx_expr.specs.declared.tree.ExprFault.TheVariants.{NotNumber, Range}
 use Rattle.cx_expr.specs.declared.tree.Sign.TheVariants.{Equal, Plus, Times, Over}
 use Rattle.cx_expr.specs.declared.tree.Expr.{Expr, Number, Named, Equals, Pair}
-use Rattle.cx_expr.specs.Known.{Known, NumberOf, TextOf, Nothing, Names}
+use Rattle.cx_expr.specs.Known.{TextOf, Names}
 use Rattle.cx_expr.specs.Evaluation.{eval}
 
 abbrev names : Names

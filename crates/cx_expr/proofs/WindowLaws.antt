@@ -1,9 +1,8 @@
 -- Reading in a window on the tokens up to the first that is one too many.
 use Rattle.std.proofs.Common.{◌≡◌, ℕ, ◌+◌, ◌-◌, ◌<◌, ◌≤◌, List, [], ◌∷◌, ◌++◌, length, take, drop, Option, Result, Ok, Err, refl, sym, ap, subst, ◌∙◌, append_assoc, arith}
-use Rattle.std.proofs.lemmas.List.{append-nil, length-append}
+use Rattle.std.proofs.lemmas.List.{length-append}
 use Rattle.std.proofs.Math.Seq.{take-append-add, drop-append-add, drop-append_seam}
 use Rattle.cx_text.specs.declared.stop.Mark.TheVariants.{Limit}
-use Rattle.cx_text.specs.declared.stop.Why.{Why}
 use Rattle.cx_text.specs.declared.stop.Why.TheVariants.{Marked}
 use Rattle.cx_text.specs.declared.stop.Stop.{Stop}
 use Rattle.cx_text.specs.declared.stop.Stop.TheVariants as stops
@@ -12,8 +11,7 @@ use Rattle.cx_text.specs.Reading.{Answer, Gives}
 use Rattle.cx_text.specs.Rules.{Rule}
 use Rattle.cx_text.proofs.RuleLaws.{Good}
 use Rattle.cx_text.proofs.Never.{Never}
-use Rattle.cx_text.proofs.Laws.{Taken, Stopped}
-use Rattle.cx_expr.specs.AtMost.{past, at_most, until, cut_short}
+use Rattle.cx_expr.specs.AtMost.{past, at_most, cut_short}
 use Rattle.cx_expr.proofs.AtMostLaws.{left_of, moved, passed, window_kept, window_passed, until_kept}
 
 -- what an answer is, where memory didn't run out

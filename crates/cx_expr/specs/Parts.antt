@@ -1,5 +1,5 @@
 -- What is read of a list from a place on: the longest part that begins what a grammar derives.
-use Rattle.std.specs.Prelude.{◌≡◌, ℕ, ◌+◌, List, [], ◌∷◌, ◌++◌, length, drop, Option, Some, None, Result, Ok, Err, MatchResult}
+use Rattle.std.specs.Prelude.{◌≡◌, ℕ, ◌+◌, List, [], ◌∷◌, ◌++◌, length, drop, None, Result, Ok, Err, MatchResult}
 use Rattle.cx_text.specs.declared.fault.CclFault.{CclFault}
 use Rattle.cx_text.specs.declared.fault.CclFault.TheVariants as faults
 use Rattle.cx_text.specs.declared.stop.Mark.TheVariants as marks

@@ -63,9 +63,13 @@ abbrev pub index_tokens : Option ℕ → List Token
 index_tokens None = []
 index_tokens (Some k) = sign 91 ∷ number (decimal k) ∷ sign 93 ∷ []
 
+-- Word "(" Word "," Quoted ")"
+abbrev pub call_tokens : List ℕ → List ℕ → List ℕ → List Token
+call_tokens keyword name text = word keyword ∷ sign 40 ∷ word name ∷ sign 44 ∷ quoted text ∷ sign 41 ∷ []
+
 -- CCTK_Equals "(" Word "," Quoted ")"
 abbrev pub equals_tokens : List ℕ → List ℕ → List Token
-equals_tokens name text = word (codes "CCTK_Equals") ∷ sign 40 ∷ word name ∷ sign 44 ∷ quoted text ∷ sign 41 ∷ []
+equals_tokens name text = call_tokens (codes "CCTK_Equals") name text
 
 -- in parentheses or not
 abbrev pub in_parens : Bool → List Token → List Token

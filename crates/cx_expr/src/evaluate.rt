@@ -2,7 +2,7 @@
 
 ghost use Rattle.std.specs.Prelude.{◌≡◌, ℕ, List, Option, None};
 ghost use Rattle.cx_expr.specs.Known.{Known, known};
-ghost use Rattle.cx_expr.specs.Evaluation.{eval as value_of, not_of, negative_of, both, decided as decided_by, combined as combined_by};
+ghost use Rattle.cx_expr.specs.Evaluation.{eval, not_of, negative_of, both, decided, combined};
 ghost use Rattle.cx_expr.specs.Seen.{seen, or_range};
 
 use crate::{Expr, ExprFault, Operator, Sign};
@@ -54,7 +54,7 @@ fn negative<'e>(
 
 /// What the left side decides alone.
 fn decided(sign: Sign, a: i64) -> Option<i64>
-    ensures { result ≡ decided_by sign a }
+    ensures { result ≡ decided sign a }
 {
     match sign {
         Sign::Or if a != 0 => Some(1),
@@ -72,7 +72,7 @@ fn decided(sign: Sign, a: i64) -> Option<i64>
 /// The first fault, operands being evaluated from left to right: `UnknownName`, `NotNumber` and `NotText` with the
 /// name, without its index, and `Range` with the operator's sign for a result outside 64 bits or a divisor of 0.
 pub fn eval<'e, L: Lookup>(e: &'e Expr, names: &L) -> Result<i64, &'e ExprFault>
-    ensures { seen result ≡ value_of (L.finds names.now) e.now }
+    ensures { seen result ≡ eval (L.finds names.now) e.now }
 {
     match e {
         Expr::Number(n) => Ok(*n),
@@ -117,7 +117,7 @@ fn combined<'e>(
 
 /// The number that an operator gives of two, or none where it doesn't fit.
 fn number_of(sign: Sign, a: i64, b: i64) -> Option<i64>
-    ensures { or_range sign result ≡ combined_by sign a b }
+    ensures { or_range sign result ≡ combined sign a b }
 {
     match sign {
         Sign::Or | Sign::And => Some(i64::from(b != 0)),

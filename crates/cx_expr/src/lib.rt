@@ -5,8 +5,6 @@ mod evaluate;
 mod part;
 mod printer;
 mod read;
-#[cfg(test)]
-mod tests;
 mod tree;
 
 pub use evaluate::{Found, Lookup, eval};

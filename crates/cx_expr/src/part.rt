@@ -1,13 +1,13 @@
 //! An expression within a list of tokens.
 
 ghost use Rattle.std.specs.Prelude.{◌≡◌, ◌≤◌, length};
-ghost use Rattle.cx_text.specs.Reading.{Gives};
 ghost use Rattle.cx_expr.specs.AtMost.{past, left_behind, is_over, cut_short};
 ghost use Rattle.cx_expr.specs.Exprs.{expression};
 ghost use Rattle.cx_expr.specs.Parts.{AnswersFrom, AnswersFromOnly};
+ghost use Rattle.cx_text.specs.Rules.{Obeys};
 
 use crate::Expr;
-use crate::read::{Level, TOO_DEEP, chained};
+use crate::read::{Level, TOO_DEEP, chain_at};
 use cx_text::{CclFault, List, Reader, Stop, Token};
 use std::alloc::Global;
 
@@ -65,17 +65,17 @@ fn cut_short(answer: Result<Expr, Stop>) -> Result<Expr, Stop>
 
 /// Reads an expression, for the readers of files in which one stands.
 pub fn expression(reader: &mut Reader, alloc: Global) -> Result<Expr, Stop>
-    ensures { Gives (λ x. x) result reader.new.rest.now (expression.reads reader.old.rest.now) }
+    ensures { Obeys expression result reader.old reader.new }
 {
     let tokens = reader.rest;
     let over = past(tokens, MAX_TOKENS);
     if over.is_empty() {
-        return chained(reader, alloc, Level::Or, MAX_PARENTHESES, MAX_SIGNS);
+        return chain_at(reader, alloc, Level::Or, MAX_PARENTHESES, MAX_SIGNS);
     }
     // The tokens up to the first that is one too many are enough to tell how reading goes on.
     let (window, after) = tokens.split_at(tokens.len() - over.len() + 1);
     reader.rest = window;
-    let answer = chained(reader, alloc, Level::Or, MAX_PARENTHESES, MAX_SIGNS);
+    let answer = chain_at(reader, alloc, Level::Or, MAX_PARENTHESES, MAX_SIGNS);
     if reader.rest.is_empty() {
         reader.rest = over;
         return cut_short(answer);

@@ -4,9 +4,9 @@ ghost use Rattle.std.specs.Prelude.{◌≡◌, ◌++◌, ◌∷◌, [], nat_lt, 
 ghost use Rattle.cx_text.specs.declared.token.Style.TheVariants as styles;
 ghost use Rattle.cx_text.specs.Printing.{printed, HasSpelling, TextSpells};
 ghost use Rattle.cx_text.specs.Written.{word, number, quoted, sign};
-ghost use Rattle.std.specs.Fmt.{decimal, signed_decimal};
+ghost use Rattle.std.specs.Fmt.{signed_decimal};
 ghost use Rattle.cx_expr.specs.Exprs.{expression};
-ghost use Rattle.cx_expr.specs.Printed.{level, level_of, left_level, right_level, operator_token, index_tokens, equals_tokens, in_parens, expr_tokens, expr_line};
+ghost use Rattle.cx_expr.specs.Printed.{level, level_of, left_level, right_level, operator_token, index_tokens, call_tokens, equals_tokens, in_parens, expr_tokens, expr_line};
 
 use crate::{Expr, Sign};
 use cx_text::{Kind, List, Memory, Text, Token, write_tokens};
@@ -59,19 +59,8 @@ fn is_looser(e: &Expr, most: u8) -> bool
     }
 }
 
-fn push_number(alloc: Global, tokens: &mut List<Token>, value: i64) -> Result<(), Memory>
+fn push_value(alloc: Global, tokens: &mut List<Token>, value: i64) -> Result<(), Memory>
     ensures { OnOk result (tokens.new ≡ tokens.old ++ number (signed_decimal value) ∷ []) }
-{
-    let digits = value.to_string(alloc)?;
-    tokens.push(Token {
-        kind: Kind::Number,
-        text: Text::from_slice(alloc, digits.as_bytes())?,
-        line: 0,
-    })
-}
-
-fn push_place(alloc: Global, tokens: &mut List<Token>, value: u32) -> Result<(), Memory>
-    ensures { OnOk result (tokens.new ≡ tokens.old ++ number (decimal value) ∷ []) }
 {
     let digits = value.to_string(alloc)?;
     tokens.push(Token {
@@ -103,7 +92,7 @@ fn named(
     match index {
         Some(place) => {
             tokens.push_sign(alloc, b'[')?;
-            push_place(alloc, tokens, place)?;
+            tokens.push_number(alloc, u64::from(place))?;
             tokens.push_sign(alloc, b']')
         }
         None => Ok(()),
@@ -118,13 +107,13 @@ fn call(
     name: &Text,
     text: &Text,
 ) -> Result<(), Memory>
-    ensures { OnOk result (tokens.new ≡ tokens.old ++ (word keyword.now ∷ sign 40 ∷ word name.now ∷ sign 44 ∷ quoted text.now ∷ sign 41 ∷ [])) }
+    ensures { OnOk result (tokens.new ≡ tokens.old ++ call_tokens keyword.now name.now text.now) }
 {
     tokens.push_word(alloc, keyword)?;
     tokens.push_sign(alloc, b'(')?;
     tokens.push_word(alloc, name.as_slice())?;
     tokens.push_sign(alloc, b',')?;
-    tokens.push_quoted(alloc, text.as_slice())?;
+    tokens.push_quoted_text(alloc, text.as_slice())?;
     tokens.push_sign(alloc, b')')
 }
 
@@ -140,7 +129,7 @@ pub fn expr_tokens(alloc: Global, e: &Expr, tokens: &mut List<Token>) -> Result<
     ensures { OnOk result (tokens.new ≡ tokens.old ++ expr_tokens e.now) }
 {
     match e {
-        Expr::Number(n) => push_number(alloc, tokens, *n),
+        Expr::Number(n) => push_value(alloc, tokens, *n),
         Expr::Named(name, index) => named(alloc, tokens, name.text(), *index),
         Expr::Equals(name, text) => equals(alloc, tokens, name.text(), text),
         Expr::Not(one) => {
@@ -163,7 +152,8 @@ pub fn expr_tokens(alloc: Global, e: &Expr, tokens: &mut List<Token>) -> Result<
 /// An expression beside an operator, where operators up to a level may stand without parentheses.
 #[cycle(print)]
 fn side(alloc: Global, e: &Expr, most: u8, tokens: &mut List<Token>) -> Result<(), Memory>
-    ensures { OnOk result (tokens.new ≡ tokens.old ++ in_parens (nat_lt most (level e.now)) (expr_tokens e.now)) }
+    ensures { let printed = in_parens (nat_lt most (level e.now)) (expr_tokens e.now) in
+        OnOk result (tokens.new ≡ tokens.old ++ printed) }
 {
     if is_looser(e, most) {
         tokens.push_sign(alloc, b'(')?;

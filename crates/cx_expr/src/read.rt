@@ -2,8 +2,7 @@
 
 ghost use Rattle.std.specs.Prelude.{◌≡◌, ◌^◌, ◌-◌, ◌≤◌, IfOk};
 ghost use Rattle.cx_text.specs.Grammar.{passes, head};
-ghost use Rattle.cx_text.specs.Reading.{Gives};
-ghost use Rattle.cx_text.specs.Rules.{loop, token, unmarked};
+ghost use Rattle.cx_text.specs.Rules.{Obeys, loop, token, unmarked};
 ghost use Rattle.cx_text.specs.Lexemes.{number_in};
 ghost use Rattle.cx_expr.specs.Exprs.{is_written, sign_among, is_among, operator, joined, chain, once_joined, number, index, equals, opens_equals, behind, named, parens, negation, negative, operand, expr, signs_of, under, tests};
 ghost use Rattle.cx_expr.specs.declared.read.Level.TheVariants as level;
@@ -75,7 +74,7 @@ fn at_operator(reader: &Reader, level: Level) -> bool
 }
 
 fn operator_here(reader: &mut Reader, level: Level) -> Result<Sign, Stop>
-    ensures { Gives (λ x. x) result reader.new.rest.now ((token (sign_among (signs_of level)) unmarked).reads reader.old.rest.now) }
+    ensures { Obeys (token (sign_among (signs_of level)) unmarked) result reader.old reader.new }
 {
     match reader.rest {
         [token, rest @ ..] => match sign_among(token, level.signs()) {
@@ -90,7 +89,7 @@ fn operator_here(reader: &mut Reader, level: Level) -> Result<Sign, Stop>
 }
 
 fn operator(reader: &mut Reader, level: Level) -> Result<Sign, Stop>
-    ensures { Gives (λ x. x) result reader.new.rest.now ((operator (signs_of level)).reads reader.old.rest.now) }
+    ensures { Obeys (operator (signs_of level)) result reader.old reader.new }
 {
     let sign = operator_here(reader, level)?;
     reader.skip_line_ends();
@@ -98,21 +97,21 @@ fn operator(reader: &mut Reader, level: Level) -> Result<Sign, Stop>
 }
 
 fn number_up_to(reader: &mut Reader, high: u64) -> Result<u64, Stop>
-    ensures reads { Gives (λ n. n) result reader.new.rest.now ((number_in 0 high).reads reader.old.rest.now) }
+    ensures reads { Obeys (number_in 0 high) result reader.old reader.new }
     ensures most { IfOk result (λ n. n ≤ high) }
 {
     reader.number_in(0, high)
 }
 
 fn number(reader: &mut Reader) -> Result<Expr, Stop>
-    ensures { Gives (λ x. x) result reader.new.rest.now (number.reads reader.old.rest.now) }
+    ensures { Obeys number result reader.old reader.new }
 {
     let value = number_up_to(reader, i64::MAX as u64)?;
     Ok(Expr::Number(value as i64))
 }
 
 fn index(reader: &mut Reader, alloc: Global, name: &Text) -> Result<Expr, Stop>
-    ensures { Gives (λ x. x) result reader.new.rest.now ((index name.now).reads reader.old.rest.now) }
+    ensures { Obeys (index name.now) result reader.old reader.new }
 {
     reader.sign(b'[')?;
     let place = number_up_to(reader, u32::MAX as u64)?;
@@ -121,12 +120,12 @@ fn index(reader: &mut Reader, alloc: Global, name: &Text) -> Result<Expr, Stop>
 }
 
 fn equals(reader: &mut Reader, alloc: Global) -> Result<Expr, Stop>
-    ensures { Gives (λ x. x) result reader.new.rest.now (equals.reads reader.old.rest.now) }
+    ensures { Obeys equals result reader.old reader.new }
 {
     reader.sign(b'(')?;
     let name = reader.name(alloc)?;
     reader.sign(b',')?;
-    let text = reader.quoted(alloc)?;
+    let text = reader.quoted_text(alloc)?;
     reader.sign(b')')?;
     Ok(Expr::Equals(Name::new(alloc, name.as_slice())?, text))
 }
@@ -141,7 +140,7 @@ fn opens_equals(reader: &Reader, name: &Text) -> bool
 }
 
 fn behind(reader: &mut Reader, alloc: Global, name: &Text) -> Result<Expr, Stop>
-    ensures { Gives (λ x. x) result reader.new.rest.now ((behind name.now).reads reader.old.rest.now) }
+    ensures { Obeys (behind name.now) result reader.old reader.new }
 {
     if opens_equals(reader, name) {
         equals(reader, alloc)
@@ -153,7 +152,7 @@ fn behind(reader: &mut Reader, alloc: Global, name: &Text) -> Result<Expr, Stop>
 }
 
 fn named(reader: &mut Reader, alloc: Global) -> Result<Expr, Stop>
-    ensures { Gives (λ x. x) result reader.new.rest.now (named.reads reader.old.rest.now) }
+    ensures { Obeys named result reader.old reader.new }
 {
     let name = reader.name(alloc)?;
     behind(reader, alloc, &name)
@@ -182,17 +181,17 @@ fn pair_of(alloc: Global, sign: Sign, left: Expr, right: Expr) -> Result<Expr, M
 
 #[cycle(expr)]
 fn parens(reader: &mut Reader, alloc: Global, depth: u32, signs: u32) -> Result<Expr, Stop>
-    ensures { Gives (λ x. x) result reader.new.rest.now ((parens (expr depth signs)).reads reader.old.rest.now) }
+    ensures { Obeys (parens (expr depth signs)) result reader.old reader.new }
 {
     reader.sign(b'(')?;
-    let inner = chained(reader, alloc, Level::Or, depth, signs)?;
+    let inner = chain_at(reader, alloc, Level::Or, depth, signs)?;
     reader.sign(b')')?;
     Ok(inner)
 }
 
 #[cycle(expr)]
 fn negation(reader: &mut Reader, alloc: Global, depth: u32, signs: u32) -> Result<Expr, Stop>
-    ensures { Gives (λ x. x) result reader.new.rest.now ((negation (operand depth signs)).reads reader.old.rest.now) }
+    ensures { Obeys (negation (operand depth signs)) result reader.old reader.new }
 {
     reader.sign(b'!')?;
     let inner = operand(reader, alloc, depth, signs)?;
@@ -202,7 +201,7 @@ fn negation(reader: &mut Reader, alloc: Global, depth: u32, signs: u32) -> Resul
 
 #[cycle(expr)]
 fn negative(reader: &mut Reader, alloc: Global, depth: u32, signs: u32) -> Result<Expr, Stop>
-    ensures { Gives (λ x. x) result reader.new.rest.now ((negative (operand depth signs)).reads reader.old.rest.now) }
+    ensures { Obeys (negative (operand depth signs)) result reader.old reader.new }
 {
     reader.sign(b'-')?;
     let inner = operand(reader, alloc, depth, signs)?;
@@ -213,7 +212,7 @@ fn negative(reader: &mut Reader, alloc: Global, depth: u32, signs: u32) -> Resul
 /// What stands between operators, where so many parentheses and so many signs may still stand round one another.
 #[cycle(expr)]
 fn operand(reader: &mut Reader, alloc: Global, depth: u32, signs: u32) -> Result<Expr, Stop>
-    ensures { Gives (λ x. x) result reader.new.rest.now ((operand depth signs).reads reader.old.rest.now) }
+    ensures { Obeys (operand depth signs) result reader.old reader.new }
 {
     if reader.at_sign(b'!') {
         if signs == 0 {
@@ -246,13 +245,13 @@ fn under(
     depth: u32,
     signs: u32,
 ) -> Result<Expr, Stop>
-    ensures { Gives (λ x. x) result reader.new.rest.now ((under level (operand depth signs)).reads reader.old.rest.now) }
+    ensures { Obeys (under level (operand depth signs)) result reader.old reader.new }
 {
     match level {
-        Level::Or => chained(reader, alloc, Level::And, depth, signs),
+        Level::Or => chain_at(reader, alloc, Level::And, depth, signs),
         Level::And => compared(reader, alloc, depth, signs),
-        Level::Test => chained(reader, alloc, Level::Sum, depth, signs),
-        Level::Sum => chained(reader, alloc, Level::Product, depth, signs),
+        Level::Test => chain_at(reader, alloc, Level::Sum, depth, signs),
+        Level::Sum => chain_at(reader, alloc, Level::Product, depth, signs),
         Level::Product => operand(reader, alloc, depth, signs),
     }
 }
@@ -267,7 +266,8 @@ fn joined(
     signs: u32,
     left: Expr,
 ) -> Result<Expr, Stop>
-    ensures { Gives (λ x. x) result reader.new.rest.now ((joined (signs_of level) (under level (operand depth signs)) left).reads reader.old.rest.now) }
+    ensures { let part = under level (operand depth signs) in
+        Obeys (joined (signs_of level) part left) result reader.old reader.new }
 {
     let sign = operator(reader, level)?;
     let right = under(reader, alloc, level, depth, signs)?;
@@ -284,7 +284,8 @@ fn more(
     signs: u32,
     first: Expr,
 ) -> Result<Expr, Stop>
-    ensures { Gives (λ x. x) result reader.new.rest.now ((loop (is_among (signs_of level)) (joined (signs_of level) (under level (operand depth signs))) first).reads reader.old.rest.now) }
+    ensures { let joins = joined (signs_of level) (under level (operand depth signs)) in
+        Obeys (loop (is_among (signs_of level)) joins first) result reader.old reader.new }
 {
     let mut left = first;
     'more: while at_operator(reader, level) {
@@ -296,14 +297,15 @@ fn more(
 /// A level's operators, any number of them: the first two parts are joined first.
 #[cycle(expr)]
 #[tactic(auto, unfolding(crate::specs::Exprs::chain))]
-pub fn chained(
+pub fn chain_at(
     reader: &mut Reader,
     alloc: Global,
     level: Level,
     depth: u32,
     signs: u32,
 ) -> Result<Expr, Stop>
-    ensures { Gives (λ x. x) result reader.new.rest.now ((chain (signs_of level) (under level (operand depth signs))).reads reader.old.rest.now) }
+    ensures { let part = under level (operand depth signs) in
+        Obeys (chain (signs_of level) part) result reader.old reader.new }
 {
     let first = under(reader, alloc, level, depth, signs)?;
     more(reader, alloc, level, depth, signs, first)
@@ -313,7 +315,8 @@ pub fn chained(
 #[cycle(expr)]
 #[tactic(auto, unfolding(crate::specs::Exprs::once_joined))]
 fn compared(reader: &mut Reader, alloc: Global, depth: u32, signs: u32) -> Result<Expr, Stop>
-    ensures { Gives (λ x. x) result reader.new.rest.now ((once_joined tests (under level.Test (operand depth signs))).reads reader.old.rest.now) }
+    ensures { let part = under level.Test (operand depth signs) in
+        Obeys (once_joined tests part) result reader.old reader.new }
 {
     let left = under(reader, alloc, Level::Test, depth, signs)?;
     if at_operator(reader, Level::Test) {

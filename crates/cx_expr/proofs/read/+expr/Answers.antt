@@ -8,8 +8,8 @@ use Rattle.cx_expr.proofs.read.+expr.Goals as goal
 
 -- ---- a token is taken before the next call
 
-pub parens-chained-requires : goal.parens-chained-requires
-parens-chained-requires t c =
+pub parens-chain_at-requires : goal.parens-chain_at-requires
+parens-chain_at-requires t c =
     let less : length c.sign.new.self.rest.now < length c.args.reader.now.rest.now = (sign_short 40 refl).law c.args.reader.now.rest.now tt c.sign.new.self.rest.now c.in_ok-sign.ensures in
     (omega arith, tt)
 
@@ -29,8 +29,8 @@ joined-under-requires t c =
     let most : rank c.args.level ≤ 8 = rank_most c.args.level in
     (omega arith, tt)
 
-pub chained-more-requires : goal.chained-more-requires
-chained-more-requires t c =
+pub chain_at-more-requires : goal.chain_at-more-requires
+chain_at-more-requires t c =
     let less : length c.under.new.reader.rest.now < length c.args.reader.now.rest.now = (under_short c.args.level c.args.depth c.args.signs).law c.args.reader.now.rest.now c.in_ok-first.first c.under.new.reader.rest.now c.in_ok-first.ensures in
     (omega arith, tt)
 

@@ -27,8 +27,8 @@ decreases-operand l = 16 * length l.reader.now.rest.now + 1
 abbrev pub decreases-under : goal.decreases-under
 decreases-under l = 16 * length l.reader.now.rest.now + (rank l.level + 2)
 
-abbrev pub decreases-chained : goal.decreases-chained
-decreases-chained l = 16 * length l.reader.now.rest.now + (rank l.level + 3)
+abbrev pub decreases-chain_at : goal.decreases-chain_at
+decreases-chain_at l = 16 * length l.reader.now.rest.now + (rank l.level + 3)
 
 abbrev pub decreases-compared : goal.decreases-compared
 decreases-compared l = 16 * length l.reader.now.rest.now + 7
