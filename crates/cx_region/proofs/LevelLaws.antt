@@ -3,18 +3,18 @@ use Rattle.std.proofs.Common.{◌≡◌, ℕ, suc, ◌+◌, ◌<◌, ◌≤◌, 
 use Rattle.std.specs.List.{All, list_all, range_with_len}
 use Rattle.std.proofs.lemmas.List.Elements.{All-head, All-tail}
 use Rattle.std.proofs.lemmas.List.FromFn.{get_or-range_with_len, length-range_with_len}
-use Rattle.cx_region.specs.declared.way.Way.{Way}
-use Rattle.cx_region.specs.declared.way.Followed.{Followed}
-use Rattle.cx_region.specs.Cells.{flags_in}
-use Rattle.cx_region.specs.Ways.{IsAmong, is_cleared_on, covers_one, covers, Joins}
-use Rattle.cx_region.proofs.WayLaws.{cleared-from, cleared-to}
+use Rattle.cx_region.specs.declared.witness.Witness.{Witness}
+use Rattle.cx_region.specs.declared.witness.Followed.{Followed}
+use Rattle.cx_flags.specs.Cells.{flags_in}
+use Rattle.cx_region.specs.Witnesses.{IsAmong, is_cleared_on, covers_one, covers, Joins}
+use Rattle.cx_region.proofs.WitnessLaws.{cleared-from, cleared-to}
 
 -- how many numbers don't pass
 abbrev failing : (ℕ → Bool) → List ℕ → ℕ
 failing p [] = 0
 failing p (l ∷ ls) = cond (p l) (failing p ls) (suc (failing p ls))
 
-pub set_everywhere : Followed → List Way → ℕ
+pub set_everywhere : Followed → List Witness → ℕ
 set_everywhere x ways = failing (is_cleared_on x ways) (range_with_len 0 8)
 
 no_less : (a b : Bool) (m n : ℕ) → (a ≡ true → b ≡ true) → m ≤ n → cond b m (suc m) ≤ cond a n (suc n)
@@ -65,17 +65,17 @@ in_range P each = λ i d below.
     each (get_or (range_with_len 0 8) i d) (omega (arith, length-range_with_len 0 8))
 
 -- one that doesn't pass, where not all do
-fails_at : (p : Way → Bool) (ways : List Way) → list_all p ways ≡ false → (way : Way) × IsAmong ways way × (p way ≡ false)
+fails_at : (p : Witness → Bool) (ways : List Witness) → list_all p ways ≡ false → (way : Witness) × IsAmong ways way × (p way ≡ false)
 fails_at p [] e = absurd (cc)
 fails_at p (way ∷ ways) e = by (p way) refl e (λ h. fails_at p ways h)
   where
-    by : (t : Bool) → p way ≡ t → (t && list_all p ways) ≡ false → (list_all p ways ≡ false → (one : Way) × IsAmong ways one × (p one ≡ false)) → (one : Way) × IsAmong (way ∷ ways) one × (p one ≡ false)
+    by : (t : Bool) → p way ≡ t → (t && list_all p ways) ≡ false → (list_all p ways ≡ false → (one : Witness) × IsAmong ways one × (p one ≡ false)) → (one : Witness) × IsAmong (way ∷ ways) one × (p one ≡ false)
     by false at e later = (way, (0, refl), at)
     by true at e later =
         let one = later e in
         (one.0, (suc one.1.0, one.1.1), one.2)
 
-pub fewer_set : (x : Followed) (first second new : List Way) → covers x first second ≡ false → Joins x first second new → set_everywhere x new < set_everywhere x first
+pub fewer_set : (x : Followed) (first second new : List Witness) → covers x first second ≡ false → Joins x first second new → set_everywhere x new < set_everywhere x first
 unfolding set_everywhere
 fewer_set x first second new e joins =
     let one = fails_at (covers_one x first) second e in
@@ -90,10 +90,10 @@ fewer_set x first second new e joins =
     one.2
 
 -- the same, as the code has it
-pub fewer_after : (x : Followed) (first lent_first second lent_second new : List Way) (covered : Bool) → lent_first ≡ first → lent_second ≡ second → covered ≡ covers x lent_first lent_second → covered ≡ false → Joins x first second new → set_everywhere x new < set_everywhere x first
+pub fewer_after : (x : Followed) (first lent_first second lent_second new : List Witness) (covered : Bool) → lent_first ≡ first → lent_second ≡ second → covered ≡ covers x lent_first lent_second → covered ≡ false → Joins x first second new → set_everywhere x new < set_everywhere x first
 fewer_after x first lent_first second lent_second new covered same same_second told e joins =
-    fewer_set x first second new (ap (λ (ways : List Way). covers x ways second) (sym same) ∙ ap (λ (ways : List Way). covers x lent_first ways) (sym same_second) ∙ sym told ∙ e) joins
+    fewer_set x first second new (ap (λ (ways : List Witness). covers x ways second) (sym same) ∙ ap (λ (ways : List Witness). covers x lent_first ways) (sym same_second) ∙ sym told ∙ e) joins
 
-pub covered-after : (x : Followed) (first lent_first second lent_second : List Way) (covered : Bool) → lent_first ≡ first → lent_second ≡ second → covered ≡ covers x lent_first lent_second → covered ≡ true → covers x first second ≡ true
+pub covered-after : (x : Followed) (first lent_first second lent_second : List Witness) (covered : Bool) → lent_first ≡ first → lent_second ≡ second → covered ≡ covers x lent_first lent_second → covered ≡ true → covers x first second ≡ true
 covered-after x first lent_first second lent_second covered same same_second told e =
-    ap (λ (ways : List Way). covers x ways second) (sym same) ∙ ap (λ (ways : List Way). covers x lent_first ways) (sym same_second) ∙ sym told ∙ e
+    ap (λ (ways : List Witness). covers x ways second) (sym same) ∙ ap (λ (ways : List Witness). covers x lent_first ways) (sym same_second) ∙ sym told ∙ e

@@ -17,24 +17,24 @@ use Rattle.cx_plan.specs.Lookups.{item, is_scalar, levels_of}
 use Rattle.cx_plan.specs.Regions.{Flags, Act, Turns, Syncs, Tests, Rotates, Outputs, Need, needs, leaves, is_met, is_B, is_G, is_among, same_var, has_boundary, after_scalar, after_write, written, all_written}
 use Rattle.cx_plan.specs.Paths.{Meets, Just, or_go_on}
 use Rattle.cx_plan.specs.Whole.{IsWhole, IsStored}
-use Rattle.cx_region.specs.declared.flags.LevelFlags.{LevelFlags}
-use Rattle.cx_region.specs.declared.way.Way.{Way}
-use Rattle.cx_region.specs.declared.way.Followed.{Followed}
-use Rattle.cx_region.specs.declared.way.WayStop.{WayStop}
-use Rattle.cx_region.specs.declared.way.WayStop.TheVariants.{Unset, Memory}
-use Rattle.cx_region.specs.Agreeing.{IsAct}
-use Rattle.cx_region.specs.Cells.{none_set, flag_of, place, flags_in, Holds}
-use Rattle.cx_region.specs.Flows.{flags_after}
-use Rattle.cx_region.specs.Unmet.{seen, first_unmet_of}
-use Rattle.cx_region.specs.Ways.{Comes, IsTaken, Takes, same_flag, is_followed, AreMet, IsAmong, IsClearedOn, IsCovered, GoOn, Stop}
-use Rattle.cx_region.proofs.TableLaws.{flag-none}
-use Rattle.cx_region.proofs.AgreeLaws.{agrees-leaves, IsStoredNeed, needs_stored, unmet-same}
-use Rattle.cx_region.proofs.WayLaws.{stored_few}
+use Rattle.cx_flags.specs.declared.flags.LevelFlags.{LevelFlags}
+use Rattle.cx_region.specs.declared.witness.Witness.{Witness}
+use Rattle.cx_region.specs.declared.witness.Followed.{Followed}
+use Rattle.cx_region.specs.declared.witness.WitnessStop.{WitnessStop}
+use Rattle.cx_region.specs.declared.witness.WitnessStop.TheVariants.{Unset, Memory}
+use Rattle.cx_flags.specs.Agreeing.{IsAct}
+use Rattle.cx_flags.specs.Cells.{none_set, flag_of, place, flags_in, Holds}
+use Rattle.cx_flags.specs.AllPaths.{flags_after}
+use Rattle.cx_flags.specs.Unmet.{seen, first_unmet_of}
+use Rattle.cx_region.specs.Witnesses.{Comes, IsTaken, Takes, same_flag, is_followed, AreMet, IsAmong, IsClearedOn, IsCovered, GoOn, Stop}
+use Rattle.cx_flags.proofs.TableLaws.{flag-none}
+use Rattle.cx_flags.proofs.AgreeLaws.{agrees-leaves, IsStoredNeed, needs_stored, unmet-same}
+use Rattle.cx_region.proofs.WitnessLaws.{stored_few}
 
 -- ---- one way
 
 -- a way that has taken a step goes on by it, and one that stops stops at it
-pub comes-takes : (job : Job) (act : Act) (old : Way) (result : Result Way WayStop) → IsWhole job → IsAct job act → Takes job act old result → Comes job (Just (Meets act ∷ [])) old result
+pub comes-takes : (job : Job) (act : Act) (old : Witness) (result : Result Witness WitnessStop) → IsWhole job → IsAct job act → Takes job act old result → Comes job (Just (Meets act ∷ [])) old result
 comes-takes job act old (Ok new) is there taken =
     record {
       marks = Meets act ∷ [];
@@ -154,23 +154,23 @@ cleared-leaves job act old new v level f few holds cleared = by (cases_lt (place
 -- ---- several ways
 
 -- each of the new ways is the old one after a step
-abbrev pub AllTaken : Job → Act → List Way → List Way → Type 0
+abbrev pub AllTaken : Job → Act → List Witness → List Witness → Type 0
 AllTaken job act [] [] = Unit {0}
 AllTaken job act [] (new ∷ news) = ⊥
 AllTaken job act (old ∷ olds) [] = ⊥
 AllTaken job act (old ∷ olds) (new ∷ news) = IsTaken job act old new × AllTaken job act olds news
 
-taken-more : (job : Job) (act : Act) (olds news : List Way) (old new : Way) → AllTaken job act olds news → IsTaken job act old new → AllTaken job act (olds ++ old ∷ []) (news ++ new ∷ [])
+taken-more : (job : Job) (act : Act) (olds news : List Witness) (old new : Witness) → AllTaken job act olds news → IsTaken job act old new → AllTaken job act (olds ++ old ∷ []) (news ++ new ∷ [])
 taken-more job act [] [] old new all one = (one, tt)
 taken-more job act [] (n ∷ news) old new all one = absurd all
 taken-more job act (o ∷ olds) [] old new all one = absurd all
 taken-more job act (o ∷ olds) (n ∷ news) old new all one = (all.0, taken-more job act olds news old new all.1 one)
 
-pub taken-pushed : (job : Job) (act : Act) (olds news pushed : List Way) (old new : Way) → pushed ≡ news ++ new ∷ [] → AllTaken job act olds news → IsTaken job act old new → AllTaken job act (olds ++ old ∷ []) pushed
+pub taken-pushed : (job : Job) (act : Act) (olds news pushed : List Witness) (old new : Witness) → pushed ≡ news ++ new ∷ [] → AllTaken job act olds news → IsTaken job act old new → AllTaken job act (olds ++ old ∷ []) pushed
 taken-pushed job act olds news pushed old new items all one = subst (AllTaken job act (olds ++ old ∷ [])) (sym items) (taken-more job act olds news old new all one)
 
 -- the old one of a new way
-taken-back : (job : Job) (act : Act) (olds news : List Way) (new : Way) → AllTaken job act olds news → IsAmong news new → (old : Way) × IsAmong olds old × IsTaken job act old new
+taken-back : (job : Job) (act : Act) (olds news : List Witness) (new : Witness) → AllTaken job act olds news → IsAmong news new → (old : Witness) × IsAmong olds old × IsTaken job act old new
 taken-back job act [] [] new all (k, at) = absurd (cc)
 taken-back job act [] (n ∷ news) new all among = absurd all
 taken-back job act (o ∷ olds) [] new all among = absurd all
@@ -182,7 +182,7 @@ taken-back job act (o ∷ olds) (n ∷ news) new all (suc k, at) =
     (later.0, (suc later.1.0, later.1.1), later.2)
 
 -- the new one of an old way
-taken-on : (job : Job) (act : Act) (olds news : List Way) (old : Way) → AllTaken job act olds news → IsAmong olds old → (new : Way) × IsAmong news new × IsTaken job act old new
+taken-on : (job : Job) (act : Act) (olds news : List Witness) (old : Witness) → AllTaken job act olds news → IsAmong olds old → (new : Witness) × IsAmong news new × IsTaken job act old new
 taken-on job act [] [] old all (k, at) = absurd (cc)
 taken-on job act [] (n ∷ news) old all among = absurd all
 taken-on job act (o ∷ olds) [] old all among = absurd all
@@ -196,19 +196,19 @@ taken-on job act (o ∷ olds) (n ∷ news) old all (suc k, at) =
 -- ---- coverage
 
 -- where a step leaves a followed flag cleared, it is cleared on a new way
-taken-covered : (job : Job) (x : Followed) (act : Act) (olds news : List Way) (F : Flags) → IsWhole job → 1 ≤ length olds → AllTaken job act olds news → IsCovered job x olds F → IsCovered job x news (leaves (setup_of job) act F)
+taken-covered : (job : Job) (x : Followed) (act : Act) (olds news : List Witness) (F : Flags) → IsWhole job → 1 ≤ length olds → AllTaken job act olds news → IsCovered job x olds F → IsCovered job x news (leaves (setup_of job) act F)
 taken-covered job x act olds news F is some all covered = λ level stored cleared.
     by level stored cleared (fate-of job act x.variable level x.flag stored)
   where
     false_true : true ≡ false → ⊥
     false_true e = absurd (cc)
 
-    on_new : (level : ℕ) (old : Way) → IsStored job x.variable level → IsAmong olds old → leaves (setup_of job) act (flags_in old.flags) x.variable level x.flag ≡ false → IsClearedOn x news level
+    on_new : (level : ℕ) (old : Witness) → IsStored job x.variable level → IsAmong olds old → leaves (setup_of job) act (flags_in old.flags) x.variable level x.flag ≡ false → IsClearedOn x news level
     on_new level old stored among cleared =
         let on = taken-on job act olds news old all among in
         (on.0, on.1, cleared-leaves job act old.flags on.0.flags x.variable level x.flag (stored_few job x.variable level is stored) on.2.flags cleared)
 
-    first : (ways : List Way) → 1 ≤ length ways → (way : Way) × IsAmong ways way
+    first : (ways : List Witness) → 1 ≤ length ways → (way : Witness) × IsAmong ways way
     first [] some = absurd (omega arith)
     first (way ∷ ways) some = (way, (0, refl))
 
@@ -252,7 +252,7 @@ abbrev variable_of : ℕ → VarId
 variable_of k = record { 0 = k }
 
 -- where each way has met its needs, those of the followed flag are met from all flags that the ways cover
-taken-met : (job : Job) (x : Followed) (act : Act) (olds news : List Way) (F : Flags) → IsWhole job → IsAct job act → AllTaken job act olds news → IsCovered job x olds F → All (λ n. is_followed x n ≡ true → is_met (setup_of job) F n ≡ true) (needs (setup_of job) act)
+taken-met : (job : Job) (x : Followed) (act : Act) (olds news : List Witness) (F : Flags) → IsWhole job → IsAct job act → AllTaken job act olds news → IsCovered job x olds F → All (λ n. is_followed x n ≡ true → is_met (setup_of job) F n ≡ true) (needs (setup_of job) act)
 taken-met job x act olds news F is there all covered = λ k d below.
     let n = get_or (needs (setup_of job) act) k d in
     one k d below n refl (F n.var n.level n.flag) refl
@@ -283,7 +283,7 @@ taken-met job x act olds news F is there all covered = λ k d below.
         ap (λ t. t || empty) cleared ∙ met_later (flags_in on.0.flags n.var n.level n.flag) empty cleared_there met_there
 
 -- ways that have all taken a step go on by it
-pub goes-taken : (job : Job) (x : Followed) (act : Act) (old new : List Way) → IsWhole job → IsAct job act → 1 ≤ length old → AllTaken job act old new → GoOn job x (Just (Meets act ∷ [])) old new
+pub goes-taken : (job : Job) (x : Followed) (act : Act) (old new : List Witness) → IsWhole job → IsAct job act → 1 ≤ length old → AllTaken job act old new → GoOn job x (Just (Meets act ∷ [])) old new
 goes-taken job x act old new is there some all =
     record {
       each = λ new_way among.
@@ -295,6 +295,6 @@ goes-taken job x act old new is there some all =
     }
 
 -- where one of the ways can't take a step, they stop
-pub goes-stopped : (job : Job) (act : Act) (old : List Way) (way : Way) (stop : WayStop) → IsWhole job → IsAct job act → IsAmong old way → Takes job act way (Err stop) → Stop job (Just (Meets act ∷ [])) old stop
+pub goes-stopped : (job : Job) (act : Act) (old : List Witness) (way : Witness) (stop : WitnessStop) → IsWhole job → IsAct job act → IsAmong old way → Takes job act way (Err stop) → Stop job (Just (Meets act ∷ [])) old stop
 goes-stopped job act old way Memory is there among stops = tt
 goes-stopped job act old way (Unset letters unmet) is there among stops = (way, among, comes-takes job act way (Err (Unset letters unmet)) is there stops)

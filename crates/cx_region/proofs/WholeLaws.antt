@@ -1,28 +1,20 @@
--- Whole jobs: their trees call items that are there, and their stored levels have cells.
-use Rattle.std.proofs.Common.{◌≡◌, ℕ, ◌+◌, ◌*◌, ◌<◌, ◌≤◌, Bool, true, false, not, ◌&&◌, cond, eqb, refl, sym, ap, ◌∙◌, List, [], ◌∷◌, length, get_or, replicate, ◌⊎◌, inl, inr, Some, None, arith}
+-- Whole jobs: their trees call items that are there.
+use Rattle.std.proofs.Common.{◌≡◌, ℕ, ◌+◌, ◌<◌, Bool, true, false, not, ◌&&◌, cond, eqb, refl, sym, ap, ◌∙◌, List, [], ◌∷◌, length, get_or, Some, None, arith}
 use Rattle.std.specs.Prelude.{flat_map}
 use Rattle.std.specs.List.{All, find, range_with_len}
-use Rattle.std.proofs.lemmas.Bool.{eq-eqb, eqb-true, cases_lt}
-use Rattle.std.proofs.lemmas.List.{get_or-replicate, get_or_past}
-use Rattle.std.proofs.Math.ListN.{length-replicate}
+use Rattle.std.proofs.lemmas.Bool.{eq-eqb, eqb-true}
 use Rattle.std.proofs.lemmas.List.Elements.{All-nil, All-cons, All-head, All-tail, All-append, All-get_or}
 use Rattle.std.proofs.lemmas.List.Folds.{list_any_at, Any-from_list_any}
 use Rattle.std.proofs.lemmas.List.FromFn.{get_or-range_with_len, length-range_with_len}
-use Rattle.cx_plan.specs.declared.variable.VarId.{VarId}
-use Rattle.cx_plan.specs.declared.flag.Flag.{Flag}
 use Rattle.cx_plan.specs.declared.job.Job.{Job}
 use Rattle.cx_plan.specs.declared.tree.Tree.{Tree, Seq, Seq', Call, Sync, If', While', Row_of-Tree, end_of-Tree, more_of-Tree}
 use Rattle.cx_plan.specs.Setups.{Setup, setup_of}
-use Rattle.cx_plan.specs.Lookups.{bin, item, called, called_in, levels_of, no_variable}
-use Rattle.cx_plan.specs.declared.variable.VarInfo.{VarInfo}
-use Rattle.cx_plan.specs.Regions.{run_items, has_shape, HasShapes, cleared}
-use Rattle.cx_plan.specs.Whole.{IsWhole, IsTree, IsRow, IsStored}
-use Rattle.cx_region.specs.declared.flags.LevelFlags.{LevelFlags}
+use Rattle.cx_plan.specs.Lookups.{bin, item, called, called_in}
+use Rattle.cx_plan.specs.Regions.{run_items, has_shape, HasShapes}
+use Rattle.cx_plan.specs.Whole.{IsWhole, IsTree, IsRow}
 use Rattle.cx_region.specs.Marks.{is_among_items}
 use Rattle.cx_region.specs.Shapes.{lacks_shape, first_shapeless}
-use Rattle.cx_region.specs.Cells.{none_set, flag_of, place, flags_in, IsKept}
-use Rattle.cx_region.proofs.RangeLaws.{none_of_range}
-use Rattle.cx_region.proofs.TableLaws.{flag-none}
+use Rattle.cx_flags.proofs.RangeLaws.{none_of_range}
 
 abbrev IsThere : Job → ℕ → Type 0
 IsThere job k = k < length job.items
@@ -89,23 +81,3 @@ none_from_shapes setup shapes = none_of_range (lacks_shape setup) (length setup.
         let at : get_or (run_items setup) any.0 any.1 ≡ k = any.3 ∙ eqb-true any.1 k any.4 in
         let has : has_shape setup (item setup k) ≡ true = ap (λ j. has_shape setup (item setup j)) (sym at) ∙ shapes any.0 any.1 any.2 in
         ap (λ t. t && not (has_shape setup (item setup k))) e ∙ ap not has
-
--- ---- stored levels
-
-pub stored_kept : (job : Job) (cells : List LevelFlags) (v : VarId) (level : ℕ) → IsWhole job → length cells ≡ 8 * length job.vars → IsStored job v level → IsKept cells v level
-stored_kept job cells v level is size stored =
-    let most : levels_of (setup_of job) v ≤ 8 = All-get_or (λ (x : VarInfo). x.levels ≤ 8) job.vars v.0 no_variable stored.0 is.levels_limit in
-    let few : level < 8 = omega (arith, stored.1, most) in
-    let named : v.0 < length job.vars = stored.0 in
-    record { few = few; there = omega (arith, few, size, named) }
-
-same_everywhere : (n i : ℕ) (x : LevelFlags) → get_or (replicate n x) i x ≡ x
-same_everywhere n i x = by (cases_lt i n)
-  where
-    by : (i < n) ⊎ (n ≤ i) → get_or (replicate n x) i x ≡ x
-    by (inl below) = get_or-replicate n i x x below
-    by (inr past) = get_or_past (replicate n x) i x (omega (arith, length-replicate n x))
-
--- no flag is set at first
-pub cleared_at_first : (n : ℕ) (v : VarId) (level : ℕ) (f : Flag) → flags_in (replicate n none_set) v level f ≡ cleared v level f
-cleared_at_first n v level f = ap (λ (x : LevelFlags). flag_of x f) (same_everywhere n (place v level) none_set) ∙ flag-none f

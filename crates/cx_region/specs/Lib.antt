@@ -1,11 +1,5 @@
-pub mod Agreeing
-pub mod Cells
-pub mod Faces
-pub mod Flows
-pub mod Follows
-pub mod Marks
-pub mod Samples
-pub mod Shapes
-pub mod Unmet
-pub mod Ways
 pub mod Checks
+pub mod Marks
+pub mod OneFlag
+pub mod Shapes
+pub mod Witnesses

@@ -1,5 +1,5 @@
 -- The first item without a shape.
-use Rattle.std.specs.Prelude.{ℕ, ◌≡◌, Bool, not, ◌&&◌, List, [], ◌∷◌, length, find, Option, None, Some, option_map, Result, Ok, Err, ◌⊎◌}
+use Rattle.std.specs.Prelude.{ℕ, Bool, not, ◌&&◌, List, [], ◌∷◌, length, find, Option, option_map}
 use Rattle.std.specs.List.{range_with_len}
 use Rattle.cx_plan.specs.declared.item.Touch.{Touch}
 use Rattle.cx_plan.specs.declared.item.Item.{Item}
@@ -7,7 +7,7 @@ use Rattle.cx_plan.specs.Setups.{Setup}
 use Rattle.cx_plan.specs.Lookups.{variable, item}
 use Rattle.cx_plan.specs.Regions.{run_items, has_shape}
 use Rattle.cx_region.specs.declared.fault.RegionFault.{RegionFault}
-use Rattle.cx_region.specs.declared.fault.RegionFault.TheVariants.{Shape, Memory}
+use Rattle.cx_region.specs.declared.fault.RegionFault.TheVariants.{Shape}
 use Rattle.cx_region.specs.Marks.{is_among_items}
 
 -- whether an item is called by a bin that is run, and has no shape
@@ -28,8 +28,3 @@ no_shape setup x = Shape x.path (first_written setup x.writes)
 
 abbrev pub shape_fault : Setup → Option RegionFault
 shape_fault setup = option_map (λ k. no_shape setup (item setup k)) (first_shapeless setup)
-
--- A test tells a fault, or its want of memory, and passes where there is none.
-abbrev pub Tells : {X : Type 0} → Option RegionFault → Result X RegionFault → Type 0
-Tells fault (Ok x) = fault ≡ None
-Tells fault (Err e) = (e ≡ Memory) ⊎ (fault ≡ Some e)

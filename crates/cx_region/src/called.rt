@@ -1,18 +1,15 @@
 //! The items that are run.
 
-ghost use Rattle.std.specs.Prelude.{◌≡◌, ◌<◌, ◌∷◌, [], ℕ, length, IfOk};
+ghost use Rattle.std.specs.Prelude.{◌≡◌, ◌∷◌, [], length, IfOk};
 ghost use Rattle.std.specs.List.{flat_map};
 ghost use Rattle.cx_plan.specs.Setups.{setup_of};
 ghost use Rattle.cx_plan.specs.Lookups.{bin, called};
 ghost use Rattle.cx_plan.specs.Regions.{run_items};
-ghost use Rattle.cx_region.specs.Marks.{is_marked, is_among_items, Marks};
+ghost use Rattle.cx_region.specs.Marks.{Marks, AreRunItems};
 
-use cx_plan::{Job, Tree};
+use cx_plan::{Bin, Job, Tree};
 use cx_text::Memory;
 use std::alloc::Global;
-
-/// How many bins are run: the first ones.
-const RUN_BINS: usize = 13;
 
 fn mark(marks: &mut [bool], item: u32)
     ensures { Marks (item ∷ []) marks.old marks.new }
@@ -57,7 +54,7 @@ fn mark_bin(marks: &mut [bool], job: &Job, number: usize)
 fn mark_bins(marks: &mut [bool], job: &Job)
     ensures { Marks (run_items (setup_of job.now)) marks.old marks.new }
 {
-    for number in 0..RUN_BINS {
+    for number in 0..Bin::RUN.len() {
         mark_bin(marks, job, number);
     }
 }
@@ -65,7 +62,7 @@ fn mark_bins(marks: &mut [bool], job: &Job)
 /// Per item whether a bin that is run calls it.
 pub(crate) fn called_items(alloc: Global, job: &Job) -> Result<Vec<bool>, Memory>
     ensures length { IfOk result (λ marks. length marks.items ≡ length job.now.items) }
-    ensures marked { IfOk result (λ marks. (k : ℕ) → k < length job.now.items → is_marked marks.items k ≡ is_among_items (run_items (setup_of job.now)) k) }
+    ensures marked { IfOk result (λ marks. AreRunItems job.now marks.items) }
 {
     let mut marks = vec![in alloc; false; job.items.len()]?;
     mark_bins(&mut marks, job);

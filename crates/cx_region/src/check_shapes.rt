@@ -1,17 +1,17 @@
 //! Whether each item that is run has a shape of the table.
 
-ghost use Rattle.std.specs.Prelude.{◌≡◌, ℕ, ◌<◌, ◌&&◌, not, length, option_map, IfOk};
+ghost use Rattle.std.specs.Prelude.{◌≡◌, ◌&&◌, not, option_map, IfOk};
 ghost use Rattle.std.specs.Option.{option_copied};
+ghost use Rattle.cx_text.specs.Telling.{Tells};
 ghost use Rattle.cx_plan.specs.Setups.{setup_of};
 ghost use Rattle.cx_plan.specs.Lookups.{variable, item};
-ghost use Rattle.cx_plan.specs.Regions.{run_items, has_shape};
-ghost use Rattle.cx_region.specs.Marks.{is_marked, is_among_items};
-ghost use Rattle.cx_region.specs.Shapes.{lacks_shape, first_shapeless, first_written, no_shape, shape_fault, Tells};
+ghost use Rattle.cx_plan.specs.Regions.{has_shape};
+ghost use Rattle.cx_region.specs.Marks.{is_marked, AreRunItems};
+ghost use Rattle.cx_region.specs.Shapes.{lacks_shape, first_shapeless, first_written, no_shape, shape_fault};
 
 use crate::RegionFault;
 use crate::called::called_items;
-use crate::shapes::has_shape;
-use crate::variables::full_name;
+use cx_flags::{full_name, has_shape};
 use cx_plan::{Item, Job, Touch};
 use cx_text::{Memory, Text};
 use std::alloc::Global;
@@ -33,8 +33,9 @@ fn lacks_shape(job: &Job, is_called: bool, item: &Item) -> bool
 
 /// The first item that is run and has no shape.
 fn first_shapeless<'a>(job: &'a Job, called: &[bool]) -> Option<&'a Item>
-    requires { (k : ℕ) → k < length job.now.items → is_marked called.now k ≡ is_among_items (run_items (setup_of job.now)) k }
-    ensures { option_copied result ≡ option_map (item (setup_of job.now)) (first_shapeless (setup_of job.now)) }
+    requires { AreRunItems job.now called.now }
+    ensures { option_copied result
+        ≡ option_map (item (setup_of job.now)) (first_shapeless (setup_of job.now)) }
 {
     'items: for (number, item) in job.items.as_slice().iter().enumerate() {
         if lacks_shape(job, is_marked(called, number), item) {
@@ -65,7 +66,7 @@ fn no_shape(alloc: Global, job: &Job, item: &Item) -> Result<RegionFault, Memory
 
 /// Tests that each item that is run has a shape, in the order of items.
 pub(crate) fn check_shapes(alloc: Global, job: &Job) -> Result<(), RegionFault>
-    ensures { Tells (shape_fault (setup_of job.now)) result }
+    ensures { Tells RegionFault.Memory (shape_fault (setup_of job.now)) result }
 {
     let called = called_items(alloc, job)?;
     match first_shapeless(job, called.as_slice()) {

@@ -5,17 +5,14 @@ ghost use Rattle.cx_plan.specs.Paths.{Sound};
 ghost use Rattle.cx_plan.specs.Setups.{setup_of};
 ghost use Rattle.cx_plan.specs.Whole.{IsWhole};
 ghost use Rattle.cx_region.specs.Checks.{unset, Checks, Finds};
-ghost use Rattle.cx_region.specs.Follows.{IsAlwaysMet};
-ghost use Rattle.cx_region.specs.Unmet.{seen};
+ghost use Rattle.cx_region.specs.OneFlag.{IsAlwaysMet, AreAlwaysMet};
+ghost use Rattle.cx_flags.specs.Unmet.{seen};
 
 use crate::RegionFault;
 use crate::check_shapes::check_shapes;
-use crate::job_follow::follow_job;
-use crate::job_walk::walk_job;
-use crate::unmet::Unmet;
-use crate::variables::full_name;
-use crate::walk::Stop;
-use crate::way::{Followed, WayStop};
+use crate::one_flag_job::follow_job;
+use crate::witness::{Followed, WitnessStop};
+use cx_flags::{Stop, Unmet, full_name, walk_job};
 use cx_plan::{Flag, Job, VarId};
 use cx_text::{Memory, Text};
 use std::alloc::Global;
@@ -36,19 +33,20 @@ fn unset(alloc: Global, job: &Job, letters: Text, unmet: &Unmet<'_>) -> Result<R
 /// Follows one flag along all ways.
 fn check_flag(alloc: Global, job: &Job, variable: VarId, flag: Flag) -> Result<(), RegionFault>
     requires { IsWhole job.now }
-    ensures { Finds (setup_of job.now) (IsAlwaysMet (setup_of job.now) (record { variable = variable; flag = flag })) result }
+    ensures { Finds (setup_of job.now)
+        (IsAlwaysMet (setup_of job.now) (record { variable = variable; flag = flag })) result }
 {
     match follow_job(alloc, job, Followed { variable, flag }) {
         Ok(()) => Ok(()),
-        Err(WayStop::Unset(letters, unmet)) => Err(unset(alloc, job, letters, &unmet)?),
-        Err(WayStop::Memory) => Err(RegionFault::Memory),
+        Err(WitnessStop::Unset(letters, unmet)) => Err(unset(alloc, job, letters, &unmet)?),
+        Err(WitnessStop::Memory) => Err(RegionFault::Memory),
     }
 }
 
 /// Follows each flag of a variable.
 fn check_flags(alloc: Global, job: &Job, variable: VarId) -> Result<(), RegionFault>
     requires { IsWhole job.now }
-    ensures { Finds (setup_of job.now) ((f : Flag) → IsAlwaysMet (setup_of job.now) (record { variable = variable; flag = f })) result }
+    ensures { Finds (setup_of job.now) (AreAlwaysMet (setup_of job.now) variable) result }
 {
     check_flag(alloc, job, variable, Flag::I)?;
     check_flag(alloc, job, variable, Flag::B)?;

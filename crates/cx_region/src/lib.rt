@@ -5,21 +5,10 @@ mod called;
 mod check_shapes;
 mod checking;
 mod fault;
-mod flag_table;
-mod flags;
-mod flow;
-mod follow;
-mod job_follow;
-mod job_walk;
-mod left;
-mod shapes;
-#[cfg(test)]
-mod tests;
-mod unmet;
-mod variables;
-mod walk;
-mod way;
-mod ways;
+mod one_flag_job;
+mod one_flag_tree;
+mod witness;
+mod witnesses;
 
 pub use checking::check;
 pub use cx_plan::Flag;

@@ -2,7 +2,7 @@
 use Rattle.std.proofs.Common.{ℕ, ◌<◌}
 use Rattle.cx_plan.specs.declared.flag.Flag.{Flag}
 use Rattle.cx_plan.specs.Setups.{setup_of}
-use Rattle.cx_region.specs.Follows.{IsAlwaysMet}
+use Rattle.cx_region.specs.OneFlag.{IsAlwaysMet}
 use Rattle.cx_region.proofs.ActLaws.{flag_at}
 use Rattle.cx_region.proofs.checking.check_variables.Given as goal
 

@@ -1,0 +1,12 @@
+pub mod AgreeLaws
+pub mod AllPathsJobLaws
+pub mod AllPathsLaws
+pub mod BoundaryLaws
+pub mod FallLaws
+pub mod MeetLaws
+pub mod PathLaws
+pub mod RangeLaws
+pub mod StoredLaws
+pub mod SureLaws
+pub mod TableLaws
+pub mod UnmetLaws

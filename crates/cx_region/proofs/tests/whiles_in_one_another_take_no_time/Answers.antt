@@ -1,6 +1,0 @@
-use Rattle.cx_region.proofs.SampleLaws.{turns-whole}
-use Rattle.cx_region.proofs.tests.whiles_in_one_another_take_no_time.Goals as goal
-
-pub is_sound-requires : goal.is_sound-requires
-is_sound-requires g c =
-    turns-whole c.in_ok-first.first c.in_ok-turns.turns c.in_ok-evol.evol c.in_ok-first.ensures c.in_ok-turns.ensures c.in_ok-evol.ensures

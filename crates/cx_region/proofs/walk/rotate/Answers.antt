@@ -1,7 +1,0 @@
-use Rattle.std.proofs.Common.{refl}
-use Rattle.cx_plan.specs.Regions.{Rotates}
-use Rattle.cx_region.proofs.FlowLaws.{leads-act}
-use Rattle.cx_region.proofs.walk.rotate.Goals as goal
-
-pub returns : goal.returns
-returns c = leads-act c.args.job.now Rotates c.args.table.now c.rotate.new.self c.requires tt refl c.rotate.ensures

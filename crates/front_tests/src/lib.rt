@@ -1,0 +1,5 @@
+//! Tests of the front: from trees to plans that are checked.
+#![tactic(auto)]
+
+#[cfg(test)]
+mod region;
