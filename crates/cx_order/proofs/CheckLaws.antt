@@ -6,8 +6,9 @@ use Rattle.cx_plan.specs.declared.tree.Tree.{Tree, Seq}
 use Rattle.cx_order.specs.declared.fault.OrderFault.{OrderFault}
 use Rattle.cx_order.specs.declared.sizes.Sizes.{Sizes}
 use Rattle.cx_order.specs.declared.summary.Summary.{Summary}
-use Rattle.cx_order.specs.Bins.{bin_name}
-use Rattle.cx_order.specs.Entries.{Tells}
+use Rattle.cx_plan.specs.Lookups.{bin_name}
+use Rattle.cx_text.specs.Telling.{Tells}
+use Rattle.cx_order.specs.declared.fault.OrderFault.TheVariants.{Memory}
 use Rattle.cx_order.specs.Meanings.{World}
 use Rattle.cx_order.specs.Plans.{Forest, entry_fault, trees, bin_trees, calls}
 use Rattle.cx_order.specs.Summaries.{told, AreBinSummaries}
@@ -94,5 +95,5 @@ pub first-of-two : (a b : Option OrderFault) (none e : OrderFault) → (e ≡ no
 first-of-two a b none e (inl same) = inl same
 first-of-two a b none e (inr some) = inr (ap (λ (o : Option OrderFault). or_else o b) some)
 
-pub second-of-two : {X : Type 0} (a b : Option OrderFault) (r : Result X OrderFault) → a ≡ None → Tells b r → Tells (or_else a b) r
-second-of-two {X} a b r none tells = let P : Option OrderFault → Type 0 = λ o. Tells (or_else o b) r in subst P (sym none) tells
+pub second-of-two : {X : Type 0} (a b : Option OrderFault) (r : Result X OrderFault) → a ≡ None → Tells Memory b r → Tells Memory (or_else a b) r
+second-of-two {X} a b r none tells = let P : Option OrderFault → Type 0 = λ o. Tells Memory (or_else o b) r in subst P (sym none) tells

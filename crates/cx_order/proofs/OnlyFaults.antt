@@ -1,17 +1,18 @@
 -- Where ordering has a fault, it is one, but for the cycle that is shown.
-use Rattle.std.proofs.Common.{◌≡◌, sym, ◌∙◌, ap, subst, Option, None, Some, Result, Ok, Err}
+use Rattle.std.proofs.Common.{◌≡◌, sym, ◌∙◌, ap, subst, Option, option_map, None, Some, Result, Ok, Err}
 use Rattle.cx_plan.specs.Lists.{or_else}
 use Rattle.cx_scope.specs.Sight.{Sight}
 use Rattle.cx_order.specs.declared.ordered.Ordered.{Ordered}
 use Rattle.cx_order.specs.declared.fault.OrderFault.{OrderFault}
-use Rattle.cx_order.specs.Counted.{Counted}
+use Rattle.cx_entries.specs.Counted.{Counted}
 use Rattle.cx_order.specs.Files.{Input, all_counted}
-use Rattle.cx_order.specs.Entries.{bin_fault, names_fault}
-use Rattle.cx_order.specs.Places.{Orders, AreLeast}
-use Rattle.cx_order.specs.Cycles.{NoGroupCycle}
+use Rattle.cx_entries.specs.Entries.{bin_fault, names_fault}
+use Rattle.cx_entries.specs.PlaceNumbers.{Orders, AreLeast}
+use Rattle.cx_entries.specs.Cycles.{NoGroupCycle}
 use Rattle.cx_order.specs.Plans.{limit_fault}
-use Rattle.cx_order.specs.Ordering.{planned, scope_fault, AreEntries, AreOrders, IsEntryFault, IsOfGroups, IsOfEntries, IsScopeFault, IsLimitFault, IsFault, of_expression, of_entry, of_groups, of_entries, of_scope, of_limit, without_cycle}
-use Rattle.cx_order.proofs.OnlyOrders.{no-entry-cycle}
+use Rattle.cx_order.specs.Faults.{from_entry}
+use Rattle.cx_order.specs.Ordering.{planned, scope_fault, entries_fault, AreEntries, AreOrders, IsEntryFault, IsOfGroups, IsOfEntries, IsScopeFault, IsLimitFault, IsFault, of_expression, of_entry, of_groups, of_entries, of_scope, of_limit, without_cycle}
+use Rattle.cx_entries.proofs.OnlyOrders.{no-entry-cycle}
 use Rattle.cx_order.proofs.OnlyPlan.{one-counted, same, none-and-some, ok-and-err}
 
 err-is : (r : Result Counted OrderFault) (a b : OrderFault) → r ≡ Err a → r ≡ Err b → a ≡ b
@@ -22,14 +23,14 @@ some-is o a b h k = cc (h, k)
 
 module _ (input : Input) where
   abbrev first : Counted → Option OrderFault
-  first c = or_else (bin_fault c.entries) (names_fault c.entries)
+  first c = entries_fault c.entries
 
   not-counted : (e : OrderFault) (c : Counted) → all_counted input ≡ Err e → all_counted input ≡ Ok c → ⊥
   not-counted e c h k = ok-and-err input (all_counted input) c e k h
 
   no-entry-fault : (e : OrderFault) → IsEntryFault input e → (c : Counted) → AreEntries input c → ⊥
   no-entry-fault e f c are =
-      let none : first c ≡ None = ap (λ o. or_else o (names_fault c.entries)) are.bins ∙ are.names in
+      let none : first c ≡ None = ap (option_map from_entry) (ap (λ o. or_else o (names_fault c.entries)) are.bins ∙ are.names) in
       none-and-some input (first f.c) e (ap first (one-counted input f.c c f.counted are.counted) ∙ none) f.first
 
   one-entry : (a b : OrderFault) → IsEntryFault input a → IsEntryFault input b → a ≡ b

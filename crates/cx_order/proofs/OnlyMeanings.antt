@@ -15,15 +15,16 @@ use Rattle.cx_sched.specs.declared.tree.Ref.{Ref}
 use Rattle.cx_bind.specs.declared.thorns.Thorn.{Thorn}
 use Rattle.cx_bind.specs.Variables.{variable_infos}
 use Rattle.cx_scope.specs.declared.fault.ScopeFault.{ScopeFault}
-use Rattle.cx_scope.specs.Sight.{Sight, Tells}
+use Rattle.cx_scope.specs.Sight.{Sight, IsSightOf}
 use Rattle.cx_order.specs.declared.fault.OrderFault.TheVariants.{Scope}
 use Rattle.cx_order.specs.declared.meaning.Meaning.{Meaning}
-use Rattle.cx_order.specs.Counted.{Entry, Line}
-use Rattle.cx_order.specs.Entries.{Place, Bin, Group, stands_at, entries_at}
-use Rattle.cx_order.specs.Places.{Orders, bin_count, place_count}
+use Rattle.cx_entries.specs.Counted.{Entry, Line}
+use Rattle.cx_entries.specs.Entries.{Place, Bin, Group, stands_at, entries_at}
+use Rattle.cx_entries.specs.PlaceNumbers.{Orders, place_count}
+use Rattle.cx_plan.specs.Lookups.{bin_count}
 use Rattle.cx_order.specs.Storage.{error_of, line_fault, storage_fault, given, given_by, greatest, storage}
 use Rattle.cx_order.specs.Files.{thorn_name}
-use Rattle.cx_order.specs.Bins.{bin_name, run_bins}
+use Rattle.cx_plan.specs.Lookups.{bin_name, run_bin_count}
 use Rattle.cx_order.specs.Meanings.{World, Levels, meant, one_scalar, tested, all_grid, all_joined, once_each, synced, touches_of, touches, and_then, unless_group, meaning, meaning_or_none, names_of}
 use Rattle.cx_order.specs.Plans.{Forest, Done, Then, in_order, path_of, row_of, contents, bin_forest, forests, forest_fault, entry_fault, item_of, forest_items, calls, sync_tree, call_tree, wrapped, trees, bin_trees}
 use Rattle.cx_order.specs.Texts.{line_feed, touches_text, name_text, test_text, sync_text, head_text, text_by, entry_text, blanks, forest_text, bin_text, bins_text, schedule_text}
@@ -177,13 +178,13 @@ module _ (thorns : List Thorn) (a b : Sight) (stored : List ℕ) where
     bins-text : (n : ℕ) (fs : List Forest) → Each fs (Grows P) → bins_text w n fs ≡ bins_text v n fs
     bins-text n [] h = refl
     bins-text n (f ∷ fs) h =
-        ap (λ x. codes "bin " ++ bin_name n ++ (if nat_lt n run_bins then [] else codes " not run") ++ line_feed ++ x ++ bins_text w (suc n) fs) (text-agree 1 f h.0)
+        ap (λ x. codes "bin " ++ bin_name n ++ (if nat_lt n run_bin_count then [] else codes " not run") ++ line_feed ++ x ++ bins_text w (suc n) fs) (text-agree 1 f h.0)
         ∙ ap (λ x. bin_text v n f ++ x) (bins-text (suc n) fs h.1)
 
     pub same-text : (fs : List Forest) → Each fs (Grows P) → schedule_text w fs ≡ schedule_text v fs
     same-text fs h = bins-text 0 fs h
 
-  module _ (told : Tells thorns a) (again : Tells thorns b) where
+  module _ (told : IsSightOf thorns a) (again : IsSightOf thorns b) where
     module _ (t : ℕ) (there : IsThere thorns t) where
       meant-agree : (r : Ref) → meant w t r ≡ meant v t r
       meant-agree r = same-levels thorns a b told again t there stored r
@@ -217,7 +218,7 @@ module _ (thorns : List Thorn) (a b : Sight) (stored : List ℕ) where
 
 -- ---- storage
 
-module _ (thorns : List Thorn) (a b : Sight) (told : Tells thorns a) (again : Tells thorns b) (lines : List Line) (there : Each lines (λ (l : Line). IsThere thorns l.thorn)) where
+module _ (thorns : List Thorn) (a b : Sight) (told : IsSightOf thorns a) (again : IsSightOf thorns b) (lines : List Line) (there : Each lines (λ (l : Line). IsThere thorns l.thorn)) where
   pub same-storage : storage thorns a lines ≡ storage thorns b lines
   same-storage =
       ap (λ (f : ℕ → ℕ). map f (range_with_len 0 (length (variable_infos thorns))))

@@ -1,5 +1,5 @@
 -- There is one plan, or there is a fault.
-use Rattle.std.proofs.Common.{◌≡◌, ◌⊎◌, inl, inr, sym, ◌∙◌, ap, subst, ℕ, List, Option, None, Some, Result, Ok, Err}
+use Rattle.std.proofs.Common.{◌≡◌, ◌⊎◌, inl, inr, sym, ◌∙◌, ap, subst, ℕ, List, Option, option_map, None, Some, Result, Ok, Err}
 use Rattle.std.specs.Prelude.{MatchResult, IfOk, IfErr}
 use Rattle.std.specs.List.{flat_map}
 use Rattle.cx_plan.specs.Lists.{or_else}
@@ -7,23 +7,24 @@ use Rattle.cx_sched.specs.declared.tree.ScheduleFile.{ScheduleFile}
 use Rattle.cx_bind.specs.declared.thorns.Thorn.{Thorn}
 use Rattle.cx_values.specs.declared.values.Values.{Values}
 use Rattle.cx_values.specs.Assigned.{thorn_finds}
-use Rattle.cx_scope.specs.Sight.{Sight, Tells}
+use Rattle.cx_scope.specs.Sight.{Sight, IsSightOf}
 use Rattle.cx_order.specs.declared.ordered.Ordered.{Ordered}
 use Rattle.cx_order.specs.declared.fault.OrderFault.{OrderFault}
 use Rattle.cx_order.specs.declared.fault.OrderFault.TheVariants.{Memory}
-use Rattle.cx_order.specs.Counted.{Counted, Entry, Line}
+use Rattle.cx_entries.specs.Counted.{Counted, Entry, Line}
 use Rattle.cx_order.specs.Files.{Input, input_of, all_counted}
-use Rattle.cx_order.specs.Entries.{bin_fault, names_fault}
-use Rattle.cx_order.specs.Places.{Orders, AreLeast}
-use Rattle.cx_order.specs.Cycles.{NoGroupCycle}
+use Rattle.cx_entries.specs.Entries.{bin_fault, names_fault}
+use Rattle.cx_entries.specs.PlaceNumbers.{Orders, AreLeast}
+use Rattle.cx_entries.specs.Cycles.{NoGroupCycle}
 use Rattle.cx_order.specs.Storage.{storage, storage_fault}
 use Rattle.cx_order.specs.Meanings.{World, meaning}
 use Rattle.cx_order.specs.Plans.{Forest, forests, forest_items, entry_fault, bin_trees, limit_fault}
 use Rattle.cx_order.specs.Texts.{schedule_text}
-use Rattle.cx_order.specs.Ordering.{planned, scope_fault, AreEntries, AreOrders, IsPlan, IsFault, of_expression, of_entry, of_groups, of_entries, of_scope, of_limit, OrderAnswers}
+use Rattle.cx_order.specs.Faults.{from_entry}
+use Rattle.cx_order.specs.Ordering.{planned, scope_fault, entries_fault, AreEntries, AreOrders, IsPlan, IsFault, of_expression, of_entry, of_groups, of_entries, of_scope, of_limit, OrderAnswers}
 use Rattle.cx_order.proofs.FileLaws.{counted-below}
 use Rattle.cx_order.proofs.OrderingLaws.{memory-or, same-ordered}
-use Rattle.cx_order.proofs.OnlyOrders.{same-orders, no-entry-cycle}
+use Rattle.cx_entries.proofs.OnlyOrders.{same-orders, no-entry-cycle}
 use Rattle.cx_order.proofs.OnlySights.{Each, IsThere}
 use Rattle.cx_order.proofs.OnlyMeanings.{each-of, Grows, forests-grow, same-fault, same-items, same-trees, same-text, same-meaning, same-storage, same-storage-fault}
 
@@ -32,7 +33,7 @@ pub record Same (input : Input) (c : Counted) (a : Sight) (o : Orders) (d : Coun
   pub plans : planned input c a o ≡ planned input d b q
   pub faults : scope_fault input c a o ≡ scope_fault input d b q
 
-module _ (input : Input) (c : Counted) (a b : Sight) (orders : Orders) (are : AreEntries input c) (told : Tells input.thorns a) (again : Tells input.thorns b) where
+module _ (input : Input) (c : Counted) (a b : Sight) (orders : Orders) (are : AreEntries input c) (told : IsSightOf input.thorns a) (again : IsSightOf input.thorns b) where
   abbrev HasThorn : Entry → Type 0
   HasThorn e = IsThere input.thorns e.thorn
 
@@ -104,8 +105,8 @@ module _ (input : Input) where
   never-both ordered e p (of_expression h) = ok-and-err (all_counted input) p.c e p.are_orders.are_entries.counted h
   never-both ordered e p (of_entry f) =
       let are = p.are_orders.are_entries in
-      let first : Counted → Option OrderFault = λ z. or_else (bin_fault z.entries) (names_fault z.entries) in
-      let none : first p.c ≡ None = ap (λ o. or_else o (names_fault p.c.entries)) are.bins ∙ are.names in
+      let first : Counted → Option OrderFault = λ z. entries_fault z.entries in
+      let none : first p.c ≡ None = ap (option_map from_entry) (ap (λ o. or_else o (names_fault p.c.entries)) are.bins ∙ are.names) in
       none-and-some (first f.c) e (sym (ap first (one-counted p.c f.c are.counted f.counted)) ∙ none) f.first
   never-both ordered e p (of_groups f) =
       let N : Counted → Type 0 = λ z. NoGroupCycle z.entries in

@@ -9,7 +9,7 @@ use Rattle.cx_sched.specs.declared.tree.Ref.{Ref}
 use Rattle.cx_bind.specs.declared.thorns.Thorn.{Thorn}
 use Rattle.cx_bind.specs.Variables.{copies}
 use Rattle.cx_scope.specs.Names.{named_group, groups_of, named_groups, named_copy, copies_of, variables_in, variables_of, named_variables}
-use Rattle.cx_scope.specs.Sight.{Sight, Tells, is_public, is_protected, is_in, seen}
+use Rattle.cx_scope.specs.Sight.{Sight, IsSightOf, is_public, is_protected, is_in, seen}
 use Rattle.cx_scope.specs.Naming.{Level, names_level, names_group, variable_at, variable_named, group_named}
 use Rattle.cx_scope.specs.Resolving.{group_levels, levels, group_members, resolve, group_of}
 
@@ -92,7 +92,7 @@ module _ (thorns : List Thorn) where
       (λ name. each-map (named_copy (named_group t g) name) (copies g.1.copies) (λ v. IsThere v.group.thorn) (λ copy. there))))
       (numbered (length thorns) 0 thorns (omega arith))
 
-  module _ (a b : Sight) (told : Tells thorns a) (again : Tells thorns b) (t : ℕ) (there : IsThere t) where
+  module _ (a b : Sight) (told : IsSightOf thorns a) (again : IsSightOf thorns b) (t : ℕ) (there : IsThere t) where
     ancestors-agree : (u : ℕ) → IsThere u → a.is_ancestor t u ≡ b.is_ancestor t u
     ancestors-agree u q =
         let x = thorn_at thorns t there in

@@ -7,14 +7,14 @@ use Rattle.cx_plan.specs.declared.tree.Tree.{Tree, Seq}
 use Rattle.cx_plan.specs.declared.item.Item.{Item}
 use Rattle.cx_order.specs.declared.meaning.Meaning.{Meaning}
 use Rattle.cx_order.specs.declared.planning.Made.{Made}
-use Rattle.cx_order.specs.Bins.{bin_name, run_bins}
-use Rattle.cx_order.specs.Counted.{Entry}
+use Rattle.cx_plan.specs.Lookups.{bin_name, run_bin_count}
+use Rattle.cx_entries.specs.Counted.{Entry}
 use Rattle.cx_order.specs.Meanings.{World, names_of}
 use Rattle.cx_order.specs.Plans.{Forest, Done, Then, calls, trees, forest_items, sync_tree, call_tree, item_of, wrapped, path_of, bin_trees}
 use Rattle.cx_order.specs.Texts.{blanks, entry_text, line_feed, forest_text, bin_text, bins_text, schedule_text}
-use Rattle.cx_order.specs.Places.{Orders}
-use Rattle.cx_order.specs.Members.{entries_of}
-use Rattle.cx_order.specs.Planning.{inside_of, row_with, Makes, Works, MakesBin, MakesBins, HasRoom, calls_of}
+use Rattle.cx_entries.specs.PlaceNumbers.{Orders}
+use Rattle.cx_entries.specs.Members.{entries_of}
+use Rattle.cx_order.specs.PlanSteps.{inside_of, row_with, Makes, Works, MakesBin, MakesBins, HasRoom, calls_of}
 
 -- ---- how many items there are
 
@@ -141,13 +141,13 @@ row-next n es orders path members i d e h there =
 
 -- ---- bins
 
-pub bin-made : (w : World) (b : ℕ) (f other : Forest) (old mid new : Made) (contents : List Tree) (tree : Tree) → mid.items ≡ old.items → mid.text ≡ old.text ++ (codes "bin " ++ bin_name b ++ (if nat_lt b run_bins then [] else codes " not run") ++ line_feed) → other ≡ f → Makes w 1 other mid new contents → tree ≡ Seq contents → MakesBin w b f old new tree
+pub bin-made : (w : World) (b : ℕ) (f other : Forest) (old mid new : Made) (contents : List Tree) (tree : Tree) → mid.items ≡ old.items → mid.text ≡ old.text ++ (codes "bin " ++ bin_name b ++ (if nat_lt b run_bin_count then [] else codes " not run") ++ line_feed) → other ≡ f → Makes w 1 other mid new contents → tree ≡ Seq contents → MakesBin w b f old new tree
 bin-made w b f other old mid new contents tree items line same makes is =
     let made : Makes w 1 f mid new contents = let A : Forest → Type 0 = λ f. Makes w 1 f mid new contents in subst A same makes in
     record {
       of_tree = is ∙ (ap (λ ts. Seq ts) made.of_trees ∙ ap (λ n. Seq (trees w n f)) (ap length items));
       of_items = made.of_items ∙ ap (λ xs. xs ++ forest_items w f) items;
-      of_text = made.of_text ∙ (ap (λ t. t ++ forest_text w 1 f) line ∙ append_assoc old.text (codes "bin " ++ bin_name b ++ (if nat_lt b run_bins then [] else codes " not run") ++ line_feed) (forest_text w 1 f));
+      of_text = made.of_text ∙ (ap (λ t. t ++ forest_text w 1 f) line ∙ append_assoc old.text (codes "bin " ++ bin_name b ++ (if nat_lt b run_bin_count then [] else codes " not run") ++ line_feed) (forest_text w 1 f));
     }
 
 -- Some bins were passed: with the rest, what is there is what all bins make.

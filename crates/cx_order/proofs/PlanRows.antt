@@ -13,12 +13,13 @@ use Rattle.cx_bind.proofs.Samples.{thorn, elem_ca}
 use Rattle.cx_scope.specs.declared.fault.ScopeFault.TheVariants.{NotFound, NotGrid, NotScalar}
 use Rattle.cx_scope.specs.Sight.{Sight}
 use Rattle.cx_order.specs.declared.fault.OrderFault.{OrderFault}
-use Rattle.cx_order.specs.declared.fault.OrderFault.TheVariants.{TwoNames, UnknownBin, Scope}
-use Rattle.cx_order.specs.Counted.{Counted, Entry, nothing}
+use Rattle.cx_order.specs.declared.fault.OrderFault.TheVariants.{Scope}
+use Rattle.cx_entries.specs.declared.fault.EntryFault.TheVariants.{TwoNames, UnknownBin}
+use Rattle.cx_entries.specs.Counted.{Counted, Entry, nothing}
 use Rattle.cx_order.specs.Files.{Input, all_counted}
-use Rattle.cx_order.specs.Entries.{Place, Bin, Group, entries_at, entry_name, bin_fault, names_fault}
-use Rattle.cx_order.specs.Places.{Orders}
-use Rattle.cx_order.specs.Cycles.{IsGroupCycle}
+use Rattle.cx_entries.specs.Entries.{Place, Bin, Group, entries_at, entry_name, bin_fault, names_fault}
+use Rattle.cx_entries.specs.PlaceNumbers.{Orders}
+use Rattle.cx_entries.specs.Cycles.{IsGroupCycle}
 use Rattle.cx_order.specs.Ordering.{planned, scope_fault}
 
 abbrev bare : List ℕ → Ref
@@ -97,7 +98,7 @@ nested =
     ∷ [])
 
 row_nested : IsGroupCycle (entries nested) (codes "P" ∷ codes "Q" ∷ [])
-row_nested = record { cycle = refl; differ = (refl, (refl, _)); begins = refl }
+row_nested = record { cycle = refl; differ = (refl, (refl, _)); begins = refl; spelled = (refl, (refl, _)) }
 
 -- two thorns, one entry each
 abbrev one : Thorn

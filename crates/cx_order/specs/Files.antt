@@ -6,8 +6,16 @@ use Rattle.cx_bind.specs.declared.thorns.Thorn.{Thorn}
 use Rattle.cx_values.specs.declared.values.Values.{Values}
 use Rattle.cx_values.specs.Assigned.{thorn_finds}
 use Rattle.cx_order.specs.declared.fault.OrderFault.{OrderFault}
-use Rattle.cx_order.specs.Counted.{Counted, nothing, joined, counted_of}
+use Rattle.cx_entries.specs.Counted.{Counted, nothing, joined, counted_of}
 use Rattle.cx_order.specs.Blocks.{by_thorn}
+
+-- what names mean in a thorn's expressions
+abbrev pub thorn_names : Values → ℕ → Names
+thorn_names values n name index = thorn_finds values n name index
+
+-- what counts of a thorn's file
+abbrev pub counted_in : Values → ℕ → Thorn → ScheduleFile → Result Counted OrderFault
+counted_in values n thorn file = by_thorn thorn.name (counted_of n (thorn_names values n) file.items)
 
 -- Of thorns that are numbered from one on, each with its file, by what names mean in a thorn's expressions.
 abbrev pub counted_from : (ℕ → Names) → ℕ → List Thorn → List ScheduleFile → Result Counted OrderFault
@@ -26,7 +34,7 @@ input_of thorns files values = record { thorns = thorns; files = files; values =
 
 -- what counts, in the order of activation and of the files, or the first fault
 abbrev pub all_counted : Input → Result Counted OrderFault
-all_counted input = counted_from (λ n name index. thorn_finds input.values n name index) 0 input.thorns input.files
+all_counted input = counted_from (thorn_names input.values) 0 input.thorns input.files
 
 abbrev pub name_in : Option Thorn → List ℕ
 name_in None = []

@@ -1,16 +1,20 @@
 -- What ordering answers.
-use Rattle.std.specs.Prelude.{◌≡◌, ◌⊎◌, ℕ, List, [], Option, Some, None, Result, Ok, Err}
+use Rattle.std.specs.Prelude.{◌≡◌, ◌⊎◌, ℕ, List, [], Option, Some, None, option_map, Result, Ok, Err}
 use Rattle.std.specs.List.{flat_map}
 use Rattle.cx_plan.specs.Lists.{or_else}
-use Rattle.cx_scope.specs.Sight.{Sight, Tells}
+use Rattle.cx_sched.specs.declared.tree.ScheduleFile.{ScheduleFile}
+use Rattle.cx_bind.specs.declared.thorns.Thorn.{Thorn}
+use Rattle.cx_values.specs.declared.values.Values.{Values}
+use Rattle.cx_scope.specs.Sight.{Sight, IsSightOf}
 use Rattle.cx_order.specs.declared.ordered.Ordered.{Ordered}
 use Rattle.cx_order.specs.declared.fault.OrderFault.{OrderFault}
 use Rattle.cx_order.specs.declared.fault.OrderFault.TheVariants.{Expr, UnknownBin, TwoNames, GroupCycle, Cycle, Scope, Limit, Memory}
-use Rattle.cx_order.specs.Counted.{Counted}
-use Rattle.cx_order.specs.Files.{Input, all_counted}
-use Rattle.cx_order.specs.Entries.{bin_fault, names_fault}
-use Rattle.cx_order.specs.Places.{Orders, AreLeast}
-use Rattle.cx_order.specs.Cycles.{IsGroupCycle, NoGroupCycle, IsEntryCycle}
+use Rattle.cx_entries.specs.Counted.{Counted, Entry}
+use Rattle.cx_order.specs.Files.{Input, input_of, all_counted}
+use Rattle.cx_order.specs.Faults.{from_entry}
+use Rattle.cx_entries.specs.Entries.{bin_fault, names_fault}
+use Rattle.cx_entries.specs.PlaceNumbers.{Orders, AreLeast}
+use Rattle.cx_entries.specs.Cycles.{IsGroupCycle, NoGroupCycle, IsEntryCycle}
 use Rattle.cx_order.specs.Storage.{storage, storage_fault}
 use Rattle.cx_order.specs.Meanings.{World}
 use Rattle.cx_order.specs.Plans.{forests, forest_items, entry_fault, bin_trees, limit_fault}
@@ -45,7 +49,7 @@ pub record AreOrders (input : Input) (c : Counted) (sight : Sight) (orders : Ord
   pub are_entries : AreEntries input c
   pub groups : NoGroupCycle c.entries
   pub least : AreLeast c.entries orders
-  pub told : Tells input.thorns sight
+  pub told : IsSightOf input.thorns sight
 
 pub record IsPlan (input : Input) (ordered : Ordered) : Type 0 where
   pub c : Counted
@@ -57,10 +61,14 @@ pub record IsPlan (input : Input) (ordered : Ordered) : Type 0 where
   pub is_planned : ordered ≡ planned input c sight orders
 
 -- a fault of bins, or else of names
+abbrev pub entries_fault : List Entry → Option OrderFault
+entries_fault es = option_map from_entry (or_else (bin_fault es) (names_fault es))
+
+-- what counts has such a fault
 pub record IsEntryFault (input : Input) (fault : OrderFault) : Type 0 where
   pub c : Counted
   pub counted : all_counted input ≡ Ok c
-  pub first : or_else (bin_fault c.entries) (names_fault c.entries) ≡ Some fault
+  pub first : entries_fault c.entries ≡ Some fault
 
 pub record IsOfGroups (input : Input) (fault : OrderFault) : Type 0 where
   pub c : Counted
@@ -111,6 +119,13 @@ without_cycle (TwoNames name) = TwoNames name
 without_cycle (Scope path fault) = Scope path fault
 without_cycle (Limit name count) = Limit name count
 without_cycle Memory = Memory
+
+-- a plan, and a fault, whatever the files and values are of which this counts
+abbrev pub IsPlanFrom : List Thorn → Counted → Ordered → Type 0
+IsPlanFrom thorns c ordered = (files : List ScheduleFile) (values : Values) → AreEntries (input_of thorns files values) c → IsPlan (input_of thorns files values) ordered
+
+abbrev pub IsFaultFrom : List Thorn → Counted → OrderFault → Type 0
+IsFaultFrom thorns c e = (files : List ScheduleFile) (values : Values) → AreEntries (input_of thorns files values) c → IsFault (input_of thorns files values) e
 
 abbrev pub OrderAnswers : Input → Result Ordered OrderFault → Type 0
 OrderAnswers input (Ok ordered) = IsPlan input ordered

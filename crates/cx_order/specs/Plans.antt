@@ -1,5 +1,5 @@
 -- The plan: per bin its entries in order, each group with its contents.
-use Rattle.std.specs.Prelude.{ℕ, zero, suc, ◌+◌, ◌^◌, ◌-◌, nat_lt, min, List, [], ◌∷◌, ◌++◌, map, filter_map, codes, slice_get, Option, Some, None, option_map, if◌then◌else◌}
+use Rattle.std.specs.Prelude.{ℕ, zero, suc, Bool, ◌+◌, ◌^◌, ◌-◌, nat_lt, min, List, [], ◌∷◌, ◌++◌, map, filter_map, codes, slice_get, Option, Some, None, option_map, if◌then◌else◌}
 use Rattle.std.specs.List.{range_with_len}
 use Rattle.cx_plan.specs.Lists.{or_else, first_of_each}
 use Rattle.cx_plan.specs.Sizes.{all_nodes, greatest_depth}
@@ -9,10 +9,11 @@ use Rattle.cx_plan.specs.declared.item.Item.{Item}
 use Rattle.cx_plan.specs.declared.tree.Tree.{Tree, Seq, Call, Sync, If, While}
 use Rattle.cx_order.specs.declared.fault.OrderFault.{OrderFault}
 use Rattle.cx_order.specs.declared.fault.OrderFault.TheVariants.{Scope, Limit}
-use Rattle.cx_order.specs.Bins.{bin_name}
-use Rattle.cx_order.specs.Counted.{Entry}
-use Rattle.cx_order.specs.Entries.{Place, Bin, Group, entries_at, entry_name}
-use Rattle.cx_order.specs.Places.{Orders, bin_count, place_count}
+use Rattle.cx_plan.specs.Lookups.{bin_name}
+use Rattle.cx_entries.specs.Counted.{Entry}
+use Rattle.cx_entries.specs.Entries.{Place, Bin, Group, entries_at, entry_name}
+use Rattle.cx_entries.specs.PlaceNumbers.{Orders, place_count}
+use Rattle.cx_plan.specs.Lookups.{bin_count}
 use Rattle.cx_order.specs.Storage.{error_of}
 use Rattle.cx_order.specs.declared.meaning.Meaning.{Meaning}
 use Rattle.cx_order.specs.Meanings.{World, meaning, names_of}
@@ -92,6 +93,14 @@ abbrev pub call_tree : List ℕ → List VarId → ℕ → Tree
 call_tree path [] k = Call k
 call_tree path (v ∷ vs) k = Seq (Call k ∷ Sync (v ∷ vs) path ∷ [])
 
+-- a group's contents, and its SYNC behind them
+abbrev pub group_tree : List ℕ → List VarId → List Tree → Tree
+group_tree path vars contents = Seq (contents ++ sync_tree path vars)
+
+-- a group with these contents, or a call of this number
+abbrev pub work_tree : Bool → List ℕ → List VarId → List Tree → ℕ → Tree
+work_tree group path vars contents k = if group then group_tree path vars contents else call_tree path vars k
+
 abbrev pub with_while : List ℕ → Option VarId → Tree → Tree
 with_while path None tree = tree
 with_while path (Some v) tree = While v path tree
@@ -108,7 +117,7 @@ wrapped m path work = with_if path m.test (with_while path m.turn work)
 abbrev pub trees : World → ℕ → Forest → List Tree
 trees w k Done = []
 trees w k (Then e path inside rest) =
-    wrapped (names_of w e) path (if e.block.group then Seq (trees w k inside ++ sync_tree path (names_of w e).sync) else call_tree path (names_of w e).sync k)
+    wrapped (names_of w e) path (work_tree e.block.group path (names_of w e).sync (trees w k inside) k)
     ∷ trees w (k + (if e.block.group then calls inside else 1)) rest
 
 abbrev pub bin_trees : World → ℕ → List Forest → List Tree
@@ -121,5 +130,16 @@ bin_trees w k (f ∷ fs) = Seq (trees w k f) ∷ bin_trees w (k + calls f) fs
 abbrev pub over : List ℕ → ℕ → ℕ → Option OrderFault
 over what number limit = if nat_lt limit number then Some (Limit what (min number (2 ^ 64 - 1))) else None
 
+-- a plan has at most so many nodes, and goes at most so deep
+abbrev pub most_nodes : ℕ
+most_nodes = 4096
+
+abbrev pub most_depth : ℕ
+most_depth = 32
+
 abbrev pub limit_fault : List Tree → Option OrderFault
-limit_fault ts = or_else (over (codes "depth") (greatest_depth ts) 32) (over (codes "nodes") (all_nodes ts) 4096)
+limit_fault ts = or_else (over (codes "depth") (greatest_depth ts) most_depth) (over (codes "nodes") (all_nodes ts) most_nodes)
+
+-- first names that stand for nothing, then limits
+abbrev pub plan_fault : World → List Forest → Option OrderFault
+plan_fault w fs = or_else (entry_fault w fs) (limit_fault (bin_trees w 0 fs))

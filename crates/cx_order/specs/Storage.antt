@@ -1,5 +1,5 @@
 -- The levels that are stored, by the STORAGE lines that count.
-use Rattle.std.specs.Prelude.{ℕ, ◌==◌, Bool, false, List, [], ◌∷◌, map, min, max, length, slice_get, Option, Some, None, option_map, Result, Ok, Err, if◌then◌else◌}
+use Rattle.std.specs.Prelude.{◌≡◌, ℕ, ◌==◌, Bool, false, List, [], ◌∷◌, map, min, max, length, slice_get, slice_index, Option, Some, None, option_map, Result, Ok, Err, if◌then◌else◌}
 use Rattle.std.specs.List.{list_any, range_with_len}
 use Rattle.cx_plan.specs.Lists.{first_of_each}
 use Rattle.cx_plan.specs.declared.variable.VarId.{VarId}
@@ -11,7 +11,7 @@ use Rattle.cx_scope.specs.Sight.{Sight}
 use Rattle.cx_scope.specs.Resolving.{group_of}
 use Rattle.cx_order.specs.declared.fault.OrderFault.{OrderFault}
 use Rattle.cx_order.specs.declared.fault.OrderFault.TheVariants.{Scope}
-use Rattle.cx_order.specs.Counted.{Line}
+use Rattle.cx_entries.specs.Counted.{Line}
 use Rattle.cx_order.specs.Files.{thorn_name}
 
 abbrev pub error_of : {X E : Type 0} → Result X E → Option E
@@ -50,6 +50,14 @@ given infos levels group v = if has_variable v group then granted (declared_leve
 abbrev pub given_by : List Thorn → Sight → ℕ → Line → ℕ
 given_by thorns sight v l = given (variable_infos thorns) l.levels (group_of thorns sight l.thorn l.group) v
 
+-- the greatest number of levels that a line gives a variable
+abbrev pub stored_by : List Thorn → Sight → List Line → ℕ → ℕ
+stored_by thorns sight lines v = greatest (map (given_by thorns sight v) lines)
+
+-- each variable has what it had, or what it is given, if that is more
+abbrev pub IsRaised : (old new : List ℕ) → (ℕ → ℕ) → Type 0
+IsRaised old new more = (v : ℕ) → slice_index new v ≡ max (slice_index old v) (more v)
+
 -- per variable the greatest number of levels that a line gives it
 abbrev pub storage : List Thorn → Sight → List Line → List ℕ
-storage thorns sight lines = map (λ v. greatest (map (given_by thorns sight v) lines)) (range_with_len 0 (length (variable_infos thorns)))
+storage thorns sight lines = map (stored_by thorns sight lines) (range_with_len 0 (length (variable_infos thorns)))

@@ -1,15 +1,13 @@
 -- The schedule as text.
 use Rattle.std.specs.Prelude.{ℕ, zero, suc, ◌==◌, nat_lt, List, [], ◌∷◌, ◌++◌, take, drop, length, position, codes, slice_get, unwrap_or, Option, Some, None, if◌then◌else◌}
 use Rattle.std.specs.List.{flat_map}
-use Rattle.cx_plan.specs.Names.{full_name}
-use Rattle.cx_plan.specs.declared.item.Region.{Region}
-use Rattle.cx_plan.specs.declared.item.Region.TheVariants.{Interior, Boundary, Everywhere}
+use Rattle.cx_plan.specs.Names.{full_name, region_text, level_text}
 use Rattle.cx_plan.specs.declared.variable.VarId.{VarId}
 use Rattle.cx_plan.specs.declared.variable.VarInfo.{VarInfo}
 use Rattle.cx_plan.specs.declared.item.Touch.{Touch}
 use Rattle.cx_bind.specs.Variables.{variable_infos}
-use Rattle.cx_order.specs.Bins.{bin_name, run_bins}
-use Rattle.cx_order.specs.Counted.{Entry}
+use Rattle.cx_plan.specs.Lookups.{bin_name, run_bin_count}
+use Rattle.cx_entries.specs.Counted.{Entry}
 use Rattle.cx_order.specs.declared.meaning.Meaning.{Meaning}
 use Rattle.cx_order.specs.Meanings.{World, names_of}
 use Rattle.cx_order.specs.Plans.{Forest, Done, Then}
@@ -17,24 +15,6 @@ use Rattle.cx_order.specs.Files.{thorn_name}
 
 abbrev pub line_feed : List ℕ
 line_feed = 10 ∷ []
-
-abbrev pub region_text : Region → List ℕ
-region_text Interior = codes "interior"
-region_text Boundary = codes "boundary"
-region_text Everywhere = codes "everywhere"
-
--- `_p` once for each past level
-abbrev pub past : ℕ → List ℕ
-past zero = []
-past (suc level) = codes "_p" ++ past level
-
--- where the bracket of a copy begins, or the end
-abbrev pub bracket_of : List ℕ → ℕ
-bracket_of full = unwrap_or (position (λ c. c == 91) full) (length full)
-
--- a variable's full name with a level's `_p` before the bracket of a copy
-abbrev pub level_text : List ℕ → ℕ → List ℕ
-level_text full level = take (bracket_of full) full ++ past level ++ drop (bracket_of full) full
 
 abbrev pub level_in : Option VarInfo → ℕ → List ℕ
 level_in None level = []
@@ -84,7 +64,7 @@ forest_text w depth Done = []
 forest_text w depth (Then e path inside rest) = blanks depth ++ entry_text w e ++ line_feed ++ forest_text w (suc depth) inside ++ forest_text w depth rest
 
 abbrev pub bin_text : World → ℕ → Forest → List ℕ
-bin_text w b f = codes "bin " ++ bin_name b ++ (if nat_lt b run_bins then [] else codes " not run") ++ line_feed ++ forest_text w 1 f
+bin_text w b f = codes "bin " ++ bin_name b ++ (if nat_lt b run_bin_count then [] else codes " not run") ++ line_feed ++ forest_text w 1 f
 
 abbrev pub bins_text : World → ℕ → List Forest → List ℕ
 bins_text w b [] = []

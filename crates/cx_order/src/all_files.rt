@@ -1,15 +1,13 @@
 //! What counts of the files of all thorns.
 
 ghost use Rattle.std.specs.Prelude.{◌≡◌, ◌<◌, ◌≤◌, length, All, IfOk};
-ghost use Rattle.cx_values.specs.Assigned.{thorn_finds};
-ghost use Rattle.cx_order.specs.Blocks.{by_thorn, AddsOr, CountsOr};
-ghost use Rattle.cx_order.specs.Counted.{counted_of};
-ghost use Rattle.cx_order.specs.Files.{all_counted};
+ghost use Rattle.cx_order.specs.Blocks.{AddsOr, CountsOr};
+ghost use Rattle.cx_order.specs.Files.{all_counted, counted_in, input_of};
 
-use crate::counted::Counted;
 use crate::fault::OrderFault;
 use crate::files::push_file;
 use cx_bind::{Bound, Thorn};
+use cx_entries::Counted;
 use cx_sched::ScheduleFile;
 use cx_values::Values;
 use std::alloc::Global;
@@ -31,7 +29,8 @@ fn push_thorn<'a>(
     values: &Values,
     file: &'a ScheduleFile,
 ) -> Result<(), OrderFault>
-    ensures { AddsOr (by_thorn thorn.now.name (counted_of number (λ name index. thorn_finds values.now number name index) file.now.items)) counted.old counted.new result }
+    ensures { let told = counted_in values.now number thorn.now file.now in
+        AddsOr told counted.old counted.new result }
 {
     push_file(
         counted,
@@ -51,9 +50,12 @@ pub(crate) fn count_all<'a>(
     values: &Values,
 ) -> Result<Counted<'a>, OrderFault>
     requires { length files.now ≡ length bound.now }
-    ensures told { CountsOr (all_counted (record { thorns = bound.now; files = files.now; values = values.now })) result }
-    ensures lines { IfOk result (λ counted. All (λ line. line.thorn < length bound.now) counted.lines.items) }
-    ensures entries { IfOk result (λ counted. All (λ entry. entry.thorn < length bound.now) counted.entries.items) }
+    ensures told { let input = input_of bound.now files.now values.now in
+        CountsOr (all_counted input) result }
+    ensures lines { IfOk result
+        (λ counted. All (λ line. line.thorn < length bound.now) counted.lines.items) }
+    ensures entries { IfOk result
+        (λ counted. All (λ entry. entry.thorn < length bound.now) counted.entries.items) }
 {
     let thorns = few_thorns(bound);
     let mut counted = Counted {

@@ -2,29 +2,32 @@
 
 ghost use Rattle.std.specs.Prelude.{◌≡◌, ℕ, ◌-◌, ◌^◌, ◌<◌, min, List, map, length, option_map, IfOk};
 ghost use Rattle.cx_order.specs.declared.fault.OrderFault.TheVariants as faults;
-ghost use Rattle.cx_order.specs.Bins.{bin_name};
-ghost use Rattle.cx_order.specs.Entries.{Tells};
-ghost use Rattle.cx_plan.specs.Lists.{or_else};
+ghost use Rattle.cx_plan.specs.Lookups.{bin_name};
+ghost use Rattle.cx_text.specs.Telling.{Tells};
 ghost use Rattle.cx_order.specs.Meanings.{World, meaning};
-ghost use Rattle.cx_order.specs.Placed.{IsPlaced};
-ghost use Rattle.cx_order.specs.Planning.{forests_in};
-ghost use Rattle.cx_order.specs.Seen.{seen_entry};
-ghost use Rattle.cx_order.specs.Plans.{Forest, entry_fault, bin_trees, over, limit_fault};
+ghost use Rattle.cx_entries.specs.Placement.{IsPlaced};
+ghost use Rattle.cx_order.specs.PlanSteps.{forests_in};
+ghost use Rattle.cx_entries.specs.Seen.{seen_entries};
+ghost use Rattle.cx_order.specs.Plans.{Forest, entry_fault, bin_trees, over, limit_fault, plan_fault};
 ghost use Rattle.cx_order.specs.Summaries.{told, AreBinSummaries};
 ghost use Rattle.cx_order.specs.TreeSizes.{AreSizes};
 
-use crate::bins::bin_name;
+use crate::all_places::bin_summaries;
 use crate::copies::copy_scope_fault;
-use crate::counted::Entry;
 use crate::fault::OrderFault;
 use crate::meaning::Meaning;
-use crate::placed::Placed;
 use crate::sizes::Sizes;
-use crate::summaries::bin_summaries;
 use crate::summary::{Found, Summary};
+use cx_entries::{Entry, Placed, bin_name};
 use cx_scope::ScopeFault;
 use cx_text::{Memory, Text};
 use std::alloc::Global;
+
+/// The greatest depth of a plan.
+const MAX_DEPTH: u64 = 32;
+
+/// The most nodes of a plan.
+const MAX_NODES: u64 = 4096;
 
 /// The fault that was found in a bin.
 fn fault_in_bin(alloc: Global, bin: usize, found: &Found<'_>) -> Result<OrderFault, Memory>
@@ -36,7 +39,7 @@ fn fault_in_bin(alloc: Global, bin: usize, found: &Found<'_>) -> Result<OrderFau
 }
 
 fn check_bin(alloc: Global, bin: usize, summary: &Summary<'_>) -> Result<(), OrderFault>
-    ensures { Tells (option_map (told (bin_name bin)) summary.now.fault) result }
+    ensures { Tells faults.Memory (option_map (told (bin_name bin)) summary.now.fault) result }
 {
     match &summary.fault {
         Some(found) => Err(fault_in_bin(alloc, bin, found)?),
@@ -46,7 +49,8 @@ fn check_bin(alloc: Global, bin: usize, summary: &Summary<'_>) -> Result<(), Ord
 
 /// Tests that the names of all entries that run stand for something.
 fn check_entries(alloc: Global, bins: &[Summary<'_>]) -> Result<(), OrderFault>
-    ensures { (w : World) (forests : List Forest) → AreBinSummaries w 0 forests bins.now → Tells (entry_fault w forests) result }
+    ensures { (w : World) (forests : List Forest) → AreBinSummaries w 0 forests bins.now
+        → Tells faults.Memory (entry_fault w forests) result }
 {
     for (bin, summary) in bins.iter().enumerate() {
         check_bin(alloc, bin, summary)?;
@@ -56,7 +60,8 @@ fn check_entries(alloc: Global, bins: &[Summary<'_>]) -> Result<(), OrderFault>
 
 /// How large all trees are.
 fn plan_sizes(bins: &[Summary<'_>]) -> Sizes
-    ensures { (w : World) (b k : ℕ) (forests : List Forest) → AreBinSummaries w b forests bins.now → AreSizes (bin_trees w k forests) result }
+    ensures { (w : World) (b k : ℕ) (forests : List Forest) → AreBinSummaries w b forests bins.now
+        → AreSizes (bin_trees w k forests) result }
 {
     let mut sizes = Sizes::none();
     for at in (0..bins.len()).rev() {
@@ -73,7 +78,8 @@ fn limit_fault(alloc: Global, what: &[u8], number: u64) -> Result<OrderFault, Me
 
 fn check_limit(alloc: Global, what: &[u8], number: u64, limit: u64) -> Result<(), OrderFault>
     requires { limit < 2 ^ 64 - 1 }
-    ensures { (count : ℕ) → number ≡ min count (2 ^ 64 - 1) → Tells (over what.now count limit) result }
+    ensures { (count : ℕ) → number ≡ min count (2 ^ 64 - 1)
+        → Tells faults.Memory (over what.now count limit) result }
 {
     if number > limit {
         return Err(limit_fault(alloc, what, number)?);
@@ -83,11 +89,12 @@ fn check_limit(alloc: Global, what: &[u8], number: u64, limit: u64) -> Result<()
 
 /// Tests that the plan isn't too deep or too large.
 fn check_limits(alloc: Global, bins: &[Summary<'_>]) -> Result<(), OrderFault>
-    ensures { (w : World) (forests : List Forest) → AreBinSummaries w 0 forests bins.now → Tells (limit_fault (bin_trees w 0 forests)) result }
+    ensures { (w : World) (forests : List Forest) → AreBinSummaries w 0 forests bins.now
+        → Tells faults.Memory (limit_fault (bin_trees w 0 forests)) result }
 {
     let sizes = plan_sizes(bins);
-    check_limit(alloc, b"depth", sizes.depth, 32)?;
-    check_limit(alloc, b"nodes", sizes.nodes, 4096)
+    check_limit(alloc, b"depth", sizes.depth, MAX_DEPTH)?;
+    check_limit(alloc, b"nodes", sizes.nodes, MAX_NODES)
 }
 
 /// Tests that the names of all entries that run stand for something, and then that the plan isn't too deep or too large.
@@ -97,9 +104,11 @@ pub(crate) fn check_plan(
     placed: &Placed,
     meanings: &[Result<Meaning, ScopeFault>],
 ) -> Result<(), OrderFault>
-    requires placed { IsPlaced (map seen_entry entries.now) placed.now }
+    requires placed { IsPlaced (seen_entries entries.now) placed.now }
     requires meanings { length meanings.now ≡ length entries.now }
-    ensures { (w : World) → let es = map seen_entry entries.now in meanings.now ≡ map (meaning w) es → Tells (or_else (entry_fault w (forests_in es placed.now)) (limit_fault (bin_trees w 0 (forests_in es placed.now)))) result }
+    ensures { let es = seen_entries entries.now in
+        (w : World) → meanings.now ≡ map (meaning w) es
+        → Tells faults.Memory (plan_fault w (forests_in es placed.now)) result }
 {
     let bins = bin_summaries(alloc, entries, placed, meanings)?;
     check_entries(alloc, &bins)?;

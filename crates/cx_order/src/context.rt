@@ -4,7 +4,8 @@ ghost use Rattle.std.specs.Prelude.{◌≡◌, ◌<◌, length, slice_get, optio
 ghost use Rattle.cx_bind.specs.Variables.{variable_infos};
 ghost use Rattle.cx_order.specs.Meanings.{is_scalar, meant};
 ghost use Rattle.cx_order.specs.Worlds.{world_of, IsOfBound};
-ghost use Rattle.cx_scope.specs.Resolving.{Answers};
+ghost use Rattle.cx_scope.specs.declared.fault.ScopeFault.TheVariants as faults;
+ghost use Rattle.cx_text.specs.Telling.{Answers};
 
 use cx_bind::Bound;
 use cx_plan::{VarId, VarInfo};
@@ -16,6 +17,7 @@ use std::alloc::Global;
 /// What names are looked up in.
 #[derive(Drop)]
 pub(crate) struct Context<'a> {
+    pub alloc: Global,
     pub bound: &'a Bound,
     /// What the bound thorns see.
     pub scope: &'a Scope<'a>,
@@ -41,16 +43,11 @@ impl<'a> Context<'a> {
     }
 
     /// The levels that a name of a thorn means.
-    pub(crate) fn meant(
-        &self,
-        alloc: Global,
-        thorn: u32,
-        name: &Ref,
-    ) -> Result<List<(VarId, u8)>, ScopeFault>
+    pub(crate) fn meant(&self, thorn: u32, name: &Ref) -> Result<List<(VarId, u8)>, ScopeFault>
         requires scope { IsOfBound self.now }
         requires thorn { thorn < length self.now.bound.now }
-        ensures { Answers (meant (world_of self.now) thorn name.now) result }
+        ensures { Answers faults.Memory (meant (world_of self.now) thorn name.now) result }
     {
-        self.scope.resolve(alloc, self.storage, thorn, name)
+        self.scope.resolve(self.alloc, self.storage, thorn, name)
     }
 }

@@ -1,75 +1,18 @@
 //! The text of an entry.
 
-ghost use Rattle.std.specs.Prelude.{◌≡◌, ◌≤◌, ◌<◌, ◌++◌, ◌==◌, length, codes, position, IfOk, IfSome, OnOk};
+ghost use Rattle.std.specs.Prelude.{◌≡◌, ◌++◌, codes, OnOk};
 ghost use Rattle.std.specs.List.{flat_map};
 ghost use Rattle.cx_plan.specs.Names.{full_name};
 ghost use Rattle.cx_order.specs.Files.{thorn_name};
-ghost use Rattle.cx_order.specs.Seen.{seen_entry};
-ghost use Rattle.cx_order.specs.Texts.{region_text, past, bracket_of, level_text, level_name, touch_text, touches_text, name_text, test_text, sync_text, head_text, text_by};
+ghost use Rattle.cx_entries.specs.Seen.{seen_entry};
+ghost use Rattle.cx_order.specs.Texts.{level_name, touch_text, touches_text, name_text, test_text, sync_text, head_text, text_by};
 ghost use Rattle.cx_order.specs.Worlds.{world_of};
 
 use crate::context::Context;
-use crate::counted::Entry;
 use crate::meaning::Meaning;
-use cx_plan::{Region, Touch, VarId};
+use cx_entries::Entry;
+use cx_plan::{Touch, VarId, level_text, region_text};
 use cx_text::{Memory, Text};
-use std::alloc::Global;
-
-/// A region's word in schedule texts.
-pub fn region_text(region: Region) -> &'static [u8]
-    ensures { result.now ≡ region_text region }
-{
-    match region {
-        Region::Interior => b"interior",
-        Region::Boundary => b"boundary",
-        Region::Everywhere => b"everywhere",
-    }
-}
-
-/// Adds `_p` once for each past level.
-fn push_past(text: &mut Text, level: u8) -> Result<(), Memory>
-    ensures { OnOk result (text.new ≡ text.old ++ past level) }
-{
-    'levels: for _ in 0..level {
-        text.push_slice(b"_p")?;
-    }
-    Ok(())
-}
-
-fn first_bracket(full: &[u8]) -> Option<usize>
-    ensures place { result ≡ position (λ c. c == 91) full.now }
-    ensures within { IfSome result (λ place. place < length full.now) }
-{
-    full.iter().position(|byte| *byte == b'[')
-}
-
-/// Where the bracket of a copy begins, or the end.
-fn bracket_of(full: &[u8]) -> usize
-    ensures bracket { result ≡ bracket_of full.now }
-    ensures within { result ≤ length full.now }
-{
-    first_bracket(full).unwrap_or(full.len())
-}
-
-/// Adds a variable's full name with a level's `_p`.
-fn push_level(text: &mut Text, full: &[u8], level: u8) -> Result<(), Memory>
-    ensures { OnOk result (text.new ≡ text.old ++ level_text full.now level) }
-{
-    let bracket = bracket_of(full);
-    text.push_slice(&full[..bracket])?;
-    push_past(text, level)?;
-    text.push_slice(&full[bracket..])
-}
-
-/// A variable's full name with `_p` once for each past level, before the bracket of a copy, as schedule texts have it: `wave::phi_p`
-/// is `wave::phi` one level back.
-pub fn level_text(alloc: Global, full: &[u8], level: u8) -> Result<Text, Memory>
-    ensures { IfOk result (λ text. text ≡ level_text full.now level) }
-{
-    let mut text = Text::new(Vec::new(alloc));
-    push_level(&mut text, full, level)?;
-    Ok(text)
-}
 
 fn push_level_name(
     text: &mut Text,
@@ -77,10 +20,14 @@ fn push_level_name(
     variable: VarId,
     level: u8,
 ) -> Result<(), Memory>
-    ensures { OnOk result (text.new ≡ text.old ++ level_name (world_of context.now) variable level) }
+    ensures { let w = world_of context.now in
+        OnOk result (text.new ≡ text.old ++ level_name w variable level) }
 {
     match context.variable(variable) {
-        Some(info) => push_level(text, info.full.as_slice(), level),
+        Some(info) => {
+            let name = level_text(context.alloc, info.full.as_slice(), level)?;
+            text.push_slice(name.as_slice())
+        }
         None => Ok(()),
     }
 }
@@ -96,7 +43,8 @@ fn push_touch(text: &mut Text, context: &Context<'_>, touch: &Touch) -> Result<(
 }
 
 fn push_each_touch(text: &mut Text, context: &Context<'_>, touches: &[Touch]) -> Result<(), Memory>
-    ensures { OnOk result (text.new ≡ text.old ++ flat_map (touch_text (world_of context.now)) touches.now) }
+    ensures { let w = world_of context.now in
+        OnOk result (text.new ≡ text.old ++ flat_map (touch_text w) touches.now) }
 {
     'touches: for touch in touches {
         push_touch(text, context, touch)?;
@@ -111,7 +59,8 @@ fn push_touches(
     word: &[u8],
     touches: &[Touch],
 ) -> Result<(), Memory>
-    ensures { OnOk result (text.new ≡ text.old ++ touches_text word.now (world_of context.now) touches.now) }
+    ensures { let w = world_of context.now in
+        OnOk result (text.new ≡ text.old ++ touches_text word.now w touches.now) }
 {
     if touches.is_empty() {
         return Ok(());
@@ -139,7 +88,8 @@ fn push_test(
     word: &[u8],
     scalar: Option<VarId>,
 ) -> Result<(), Memory>
-    ensures { OnOk result (text.new ≡ text.old ++ test_text word.now (world_of context.now) scalar) }
+    ensures { let w = world_of context.now in
+        OnOk result (text.new ≡ text.old ++ test_text word.now w scalar) }
 {
     match scalar {
         Some(variable) => {
@@ -151,14 +101,17 @@ fn push_test(
 }
 
 fn push_variable(text: &mut Text, context: &Context<'_>, variable: VarId) -> Result<(), Memory>
-    ensures { OnOk result (text.new ≡ text.old ++ (codes " " ++ level_name (world_of context.now) variable 0)) }
+    ensures { let w = world_of context.now in
+        OnOk result (text.new ≡ text.old ++ (codes " " ++ level_name w variable 0)) }
 {
     text.push_slice(b" ")?;
     push_level_name(text, context, variable, 0)
 }
 
 fn push_variables(text: &mut Text, context: &Context<'_>, variables: &[VarId]) -> Result<(), Memory>
-    ensures { OnOk result (text.new ≡ text.old ++ flat_map (λ v. codes " " ++ level_name (world_of context.now) v 0) variables.now) }
+    ensures { let w = world_of context.now in
+        OnOk result (text.new
+        ≡ text.old ++ flat_map (λ v. codes " " ++ level_name w v 0) variables.now) }
 {
     'variables: for variable in variables {
         push_variable(text, context, *variable)?;
@@ -187,7 +140,9 @@ fn push_thorn_name(text: &mut Text, context: &Context<'_>, thorn: u32) -> Result
 
 /// Adds a call's routine, behind its thorn.
 fn push_call(text: &mut Text, context: &Context<'_>, entry: &Entry<'_>) -> Result<(), Memory>
-    ensures { OnOk result (text.new ≡ text.old ++ (codes "call " ++ full_name (thorn_name context.now.bound.now entry.now.thorn) entry.now.block.now.name)) }
+    ensures { let name = thorn_name context.now.bound.now entry.now.thorn in
+        let called = full_name name entry.now.block.now.name in
+        OnOk result (text.new ≡ text.old ++ (codes "call " ++ called)) }
 {
     text.push_slice(b"call ")?;
     push_thorn_name(text, context, entry.thorn)?;
@@ -197,7 +152,8 @@ fn push_call(text: &mut Text, context: &Context<'_>, entry: &Entry<'_>) -> Resul
 
 /// Adds what an entry is, and its own name.
 fn push_head(text: &mut Text, context: &Context<'_>, entry: &Entry<'_>) -> Result<(), Memory>
-    ensures { OnOk result (text.new ≡ text.old ++ head_text (world_of context.now) (seen_entry entry.now)) }
+    ensures { let w = world_of context.now in
+        OnOk result (text.new ≡ text.old ++ head_text w (seen_entry entry.now)) }
 {
     if !entry.block.group {
         return push_call(text, context, entry);
@@ -213,7 +169,8 @@ pub(crate) fn push_entry_text(
     entry: &Entry<'_>,
     meaning: &Meaning,
 ) -> Result<(), Memory>
-    ensures { OnOk result (text.new ≡ text.old ++ text_by (world_of context.now) (seen_entry entry.now) meaning.now) }
+    ensures { let w = world_of context.now in
+        OnOk result (text.new ≡ text.old ++ text_by w (seen_entry entry.now) meaning.now) }
 {
     push_head(text, context, entry)?;
     push_name(text, b" as ", &entry.block.alias)?;

@@ -2,7 +2,9 @@
 
 ghost use Rattle.std.specs.Prelude.{◌≡◌};
 ghost use Rattle.cx_order.specs.declared.fault.OrderFault.TheVariants as faults;
+ghost use Rattle.cx_order.specs.Faults.{from_entry, from_place};
 
+use cx_entries::{EntryFault, PlaceFault};
 use cx_expr::ExprFault;
 use cx_scope::ScopeFault;
 use cx_text::{List, Memory, Text};
@@ -50,5 +52,29 @@ impl<T: Drop> From<AllocFailed<T>> for OrderFault {
 
     fn from(_: AllocFailed<T>) -> Self {
         OrderFault::Memory
+    }
+}
+
+impl From<EntryFault> for OrderFault {
+    ghost from_gives = { λ fault e. e ≡ from_entry fault };
+
+    fn from(fault: EntryFault) -> Self {
+        match fault {
+            EntryFault::UnknownBin(name) => OrderFault::UnknownBin(name),
+            EntryFault::TwoNames(name) => OrderFault::TwoNames(name),
+            EntryFault::Memory => OrderFault::Memory,
+        }
+    }
+}
+
+impl From<PlaceFault> for OrderFault {
+    ghost from_gives = { λ fault e. e ≡ from_place fault };
+
+    fn from(fault: PlaceFault) -> Self {
+        match fault {
+            PlaceFault::GroupCycle(names) => OrderFault::GroupCycle(names),
+            PlaceFault::Cycle(names) => OrderFault::Cycle(names),
+            PlaceFault::Memory => OrderFault::Memory,
+        }
     }
 }

@@ -2,12 +2,12 @@
 
 ghost use Rattle.std.specs.Prelude.{◌≡◌, ◌⊎◌, IfOk};
 ghost use Rattle.cx_order.specs.declared.fault.OrderFault.TheVariants as faults;
-ghost use Rattle.cx_order.specs.Counted.{counted_of};
+ghost use Rattle.cx_entries.specs.Counted.{counted_of};
 ghost use Rattle.cx_order.specs.Blocks.{by_thorn, AddsOr};
 
-use crate::copies::{copy_fault, copy_text};
-use crate::counted::{Counted, Uncounted, push_nodes};
+use crate::copies::copy_fault;
 use crate::fault::OrderFault;
+use cx_entries::{Counted, Uncounted, push_nodes};
 use cx_expr::{ExprFault, Lookup};
 use cx_sched::ScheduleFile;
 use cx_text::{Memory, Text};
@@ -17,7 +17,7 @@ use std::alloc::Global;
 fn fault_of(alloc: Global, thorn: &Text, fault: &ExprFault) -> Result<OrderFault, Memory>
     ensures { IfOk result (λ e. e ≡ faults.Expr thorn.now fault.now) }
 {
-    let thorn = copy_text(alloc, thorn)?;
+    let thorn = thorn.copy(alloc)?;
     let fault = copy_fault(alloc, fault)?;
     Ok(OrderFault::Expr(thorn, fault))
 }
@@ -41,7 +41,9 @@ pub(crate) fn push_file<'a, L: Lookup>(
     names: &L,
     file: &'a ScheduleFile,
 ) -> Result<(), OrderFault>
-    ensures { AddsOr (by_thorn thorn.now (counted_of number (L.finds names.now) file.now.items)) counted.old counted.new result }
+    ensures { let counts = counted_of number (L.finds names.now) file.now.items in
+        let told = by_thorn thorn.now counts in
+        AddsOr told counted.old counted.new result }
 {
     match push_nodes(counted, number, names, file.items.as_slice()) {
         Ok(()) => Ok(()),

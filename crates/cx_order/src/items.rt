@@ -4,14 +4,13 @@ ghost use Rattle.std.specs.Prelude.{◌≡◌, IfOk};
 ghost use Rattle.cx_order.specs.Files.{thorn_name};
 ghost use Rattle.cx_order.specs.Meanings.{names_of};
 ghost use Rattle.cx_order.specs.Plans.{item_of};
-ghost use Rattle.cx_order.specs.Seen.{seen_entry};
+ghost use Rattle.cx_entries.specs.Seen.{seen_entry};
 ghost use Rattle.cx_order.specs.Worlds.{world_of};
 
 use crate::context::Context;
-use crate::copies::copy_text;
-use crate::counted::Entry;
 use crate::meaning::Meaning;
 use cx_bind::Thorn;
+use cx_entries::Entry;
 use cx_plan::{Item, ItemKind, Touch};
 use cx_text::{List, Memory, Text};
 use std::alloc::Global;
@@ -28,7 +27,7 @@ fn copy_thorn(alloc: Global, thorns: &List<Thorn>, number: u32) -> Result<Text, 
     ensures { IfOk result (λ name. name ≡ thorn_name thorns.now number) }
 {
     match thorns.as_slice().get(number as usize) {
-        Some(thorn) => copy_text(alloc, &thorn.name),
+        Some(thorn) => thorn.name.copy(alloc),
         None => Ok(Text::new(Vec::new(alloc))),
     }
 }
@@ -42,11 +41,12 @@ pub(crate) fn item_of(
     path: &Text,
 ) -> Result<Item, Memory>
     requires { meaning.now ≡ names_of (world_of context.now) (seen_entry entry.now) }
-    ensures { IfOk result (λ item. item ≡ item_of (world_of context.now) (seen_entry entry.now) path.now) }
+    ensures { let wanted = item_of (world_of context.now) (seen_entry entry.now) path.now in
+        IfOk result (λ item. item ≡ wanted) }
 {
     let thorn = copy_thorn(alloc, context.bound.thorns(), entry.thorn)?;
-    let name = copy_text(alloc, &entry.block.name)?;
-    let path = copy_text(alloc, path)?;
+    let name = entry.block.name.copy(alloc)?;
+    let path = path.copy(alloc)?;
     let reads = copy_touches(alloc, &meaning.reads)?;
     let writes = copy_touches(alloc, &meaning.writes)?;
     Ok(Item {

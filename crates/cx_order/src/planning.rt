@@ -1,28 +1,22 @@
 //! The plan: per bin its entries in order, each group with its contents.
 
 ghost use Rattle.std.specs.Prelude.{◌≡◌, suc, ◌+◌, ◌<◌, ◌≤◌, ◌∷◌, [], ◌++◌, filter_map, length, slice_get, codes, All, Some, IfOk, IfSome, OnOk, ◌^◌, nat_lt, if◌then◌else◌};
-ghost use Rattle.std.specs.List.{flat_map};
-ghost use Rattle.cx_order.specs.Bins.{run_bins, bin_name as name_of_bin};
-ghost use Rattle.cx_order.specs.Meanings.{names_of};
-ghost use Rattle.cx_order.specs.Places.{place_count};
-ghost use Rattle.cx_order.specs.Members.{entries_of};
-ghost use Rattle.cx_order.specs.Plans.{path_of, item_of, call_tree, bin_forest, forests, forest_items, calls};
-ghost use Rattle.cx_order.specs.Texts.{blanks, entry_text, line_feed};
-ghost use Rattle.cx_order.specs.Seen.{seen_entry};
+ghost use Rattle.cx_plan.specs.Lookups.{bin_count, run_bin_count};
+ghost use Rattle.cx_entries.specs.PlaceNumbers.{place_count};
+ghost use Rattle.cx_entries.specs.Members.{entries_of};
+ghost use Rattle.cx_order.specs.Plans.{most_nodes, path_of, item_of, call_tree, calls};
+ghost use Rattle.cx_order.specs.Texts.{blanks};
+ghost use Rattle.cx_entries.specs.Seen.{seen_entry};
 ghost use Rattle.cx_order.specs.Worlds.{world_of};
-ghost use Rattle.cx_order.specs.Planning.{world_in, entries_in, orders_in, IsSource, IsMember, ordered, inside_of, row_with, contents_at, Makes, Works, MakesBin, MakesBins, IsPlanOf, HasRoom, calls_of};
+ghost use Rattle.cx_order.specs.PlanSteps.{bin_forest_of, world_in, entries_in, IsSource, IsMember, ordered, Makes, Works, MakesBin, MakesBins, IsPlanOf, HasRoom, calls_of, numbers_of, IsNamed, entry_line, member_of, bin_line, forests_of, items_of, contents_of, place_of};
 
-use crate::bins::{BINS, RUN_BINS, bin_name};
 use crate::context::Context;
-use crate::counted::Entry;
 use crate::entry_text::push_entry_text;
 use crate::items::item_of;
-use crate::keys::entry_name;
 use crate::meaning::Meaning;
-use crate::names::joined;
-use crate::placed::Placed;
-use crate::tree_parts::{call_tree, group_tree, wrapped};
-use cx_plan::{Item, Schedule, Tree};
+use crate::tree_parts::{call_tree, group_tree, wrapped_tree};
+use cx_entries::{BINS, Entry, Placed, bin_name, entry_name, join_names};
+use cx_plan::{Bin, Item, Schedule, Tree};
 use cx_text::{List, Memory, Text};
 use std::alloc::{AllocError, Global};
 
@@ -65,7 +59,7 @@ pub(crate) struct Planned {
 fn path_of(alloc: Global, path: &Text, entry: &Entry<'_>) -> Result<Text, Memory>
     ensures { IfOk result (λ inner. inner ≡ path_of path.now (seen_entry entry.now)) }
 {
-    joined(alloc, path.as_slice(), entry_name(entry).as_slice())
+    join_names(alloc, path.as_slice(), entry_name(entry).as_slice())
 }
 
 /// Two blanks for each bin or group around a line.
@@ -85,8 +79,9 @@ fn push_line(
     member: &Member<'_>,
     depth: usize,
 ) -> Result<(), Memory>
-    requires { member.now.meaning.now ≡ names_of (world_of context.now) (seen_entry member.now.entry.now) }
-    ensures { OnOk result (text.new ≡ text.old ++ (blanks depth ++ entry_text (world_of context.now) (seen_entry member.now.entry.now) ++ line_feed)) }
+    requires { IsNamed (world_of context.now) member.now }
+    ensures { let e = seen_entry member.now.entry.now in
+        OnOk result (text.new ≡ text.old ++ entry_line (world_of context.now) depth e) }
 {
     push_blanks(text, depth)?;
     push_entry_text(text, context, member.entry, member.meaning)?;
@@ -96,7 +91,7 @@ fn push_line(
 
 /// The number of the next item.
 fn next_number(items: &List<Item>) -> u32
-    requires few { length items.now ≤ 4096 }
+    requires few { length items.now ≤ most_nodes }
     ensures { result ≡ length items.now }
 {
     items.len() as u32
@@ -110,10 +105,13 @@ fn plan_call(
     member: &Member<'_>,
     path: &Text,
 ) -> Result<Tree, Memory>
-    requires meaning { member.now.meaning.now ≡ names_of (world_of context.now) (seen_entry member.now.entry.now) }
+    requires meaning { IsNamed (world_of context.now) member.now }
     requires few { HasRoom made.old 1 }
-    ensures tree { IfOk result (λ tree. tree ≡ call_tree path.now member.now.meaning.now.sync (length made.old.items)) }
-    ensures items { OnOk result (made.new.items ≡ made.old.items ++ item_of (world_of context.now) (seen_entry member.now.entry.now) path.now ∷ []) }
+    ensures tree { let number = length made.old.items in
+        IfOk result (λ tree. tree ≡ call_tree path.now member.now.meaning.now.sync number) }
+    ensures items { let e = seen_entry member.now.entry.now in
+        let item = item_of (world_of context.now) e path.now in
+        OnOk result (made.new.items ≡ made.old.items ++ item ∷ []) }
     ensures text { made.new.text ≡ made.old.text }
 {
     let number = next_number(&made.items);
@@ -130,12 +128,13 @@ fn picked_one(members: &[usize], place: usize) -> Option<usize>
 }
 
 /// The entries at these places of a list.
-pub(crate) fn picked(
+pub(crate) fn picked_numbers(
     alloc: Global,
     members: &[usize],
     order: &[usize],
 ) -> Result<Vec<usize>, AllocError>
-    ensures { IfOk result (λ picked. picked.items ≡ filter_map (λ k. slice_get members.now k) order.now) }
+    ensures { IfOk result
+        (λ picked. picked.items ≡ filter_map (λ k. slice_get members.now k) order.now) }
 {
     order
         .iter()
@@ -159,19 +158,22 @@ impl<'a> Source<'a> {
     }
 
     /// The entries of a place in order, by their numbers; none without a place.
-    fn members(&self, alloc: Global, place: Option<usize>) -> Result<Vec<usize>, Memory>
+    fn members(&self, place: Option<usize>) -> Result<Vec<usize>, Memory>
         requires source { IsSource self.now }
         requires place { IfSome place (λ k. k < place_count (entries_in self.now)) }
-        ensures entries { IfOk result (λ members. entries_of (entries_in self.now) members.items ≡ ordered (entries_in self.now) self.now.placed.now.orders place) }
-        ensures within { IfOk result (λ members. All (λ i. i < length self.now.entries.now) members.items) }
+        ensures entries { let es = entries_in self.now in
+            let wanted = ordered es self.now.placed.now.orders place in
+            IfOk result (λ members. entries_of es members.items ≡ wanted) }
+        ensures within { let count = length self.now.entries.now in
+            IfOk result (λ members. All (λ i. i < count) members.items) }
     {
         match place {
             Some(place) => {
                 let members = self.placed.members.row(place);
                 let order = self.placed.orders.row(place);
-                Ok(picked(alloc, members, order)?)
+                Ok(picked_numbers(self.context.alloc, members, order)?)
             }
-            None => Ok(Vec::new(alloc)),
+            None => Ok(Vec::new(self.context.alloc)),
         }
     }
 }
@@ -179,7 +181,6 @@ impl<'a> Source<'a> {
 /// Plans what a place contains, at most `nesting` groups deep; `around` groups stand around it.
 #[cycle(plan)]
 fn plan_place(
-    alloc: Global,
     source: &Source<'_>,
     made: &mut Made,
     nesting: usize,
@@ -190,19 +191,20 @@ fn plan_place(
     requires source { IsSource source.now }
     requires place { IfSome place (λ k. k < place_count (entries_in source.now)) }
     requires deep { around + nesting < 2 ^ 64 }
-    requires few { HasRoom made.old (calls (contents_at nesting (entries_in source.now) source.now.placed.now.orders path.now place)) }
-    ensures { IfOk result (λ trees. Makes (world_in source.now) (suc around) (contents_at nesting (entries_in source.now) source.now.placed.now.orders path.now place) made.old made.new trees.items) }
+    requires few { HasRoom made.old (calls (place_of source.now nesting path.now place)) }
+    ensures { let f = place_of source.now nesting path.now place in
+        let w = world_in source.now in
+        IfOk result (λ trees. Makes w (suc around) f made.old made.new trees.items) }
 {
     if nesting == 0 {
-        return Ok(Vec::new(alloc));
+        return Ok(Vec::new(source.context.alloc));
     }
-    let members = source.members(alloc, place)?;
-    plan_members(alloc, source, made, nesting - 1, &members, path, around)
+    let members = source.members(place)?;
+    plan_members(source, made, nesting - 1, &members, path, around)
 }
 
 #[cycle(plan)]
 fn plan_members(
-    alloc: Global,
     source: &Source<'_>,
     made: &mut Made,
     nesting: usize,
@@ -213,13 +215,15 @@ fn plan_members(
     requires source { IsSource source.now }
     requires within { All (λ i. i < length source.now.entries.now) members.now }
     requires deep { around + nesting + 1 < 2 ^ 64 }
-    requires few { HasRoom made.old (calls (row_with nesting (entries_in source.now) (orders_in source.now) path.now (entries_of (entries_in source.now) members.now))) }
-    ensures { IfOk result (λ trees. Makes (world_in source.now) (suc around) (row_with nesting (entries_in source.now) (orders_in source.now) path.now (entries_of (entries_in source.now) members.now)) made.old made.new trees.items) }
+    requires few { HasRoom made.old (calls (numbers_of source.now nesting path.now members.now)) }
+    ensures { let f = numbers_of source.now nesting path.now members.now in
+        let w = world_in source.now in
+        IfOk result (λ trees. Makes w (suc around) f made.old made.new trees.items) }
 {
-    let mut trees = Vec::new(alloc);
+    let mut trees = Vec::new(source.context.alloc);
     'members: for index in members {
         let member = source.member(*index);
-        let tree = plan_member(alloc, source, made, nesting, &member, path, around)?;
+        let tree = plan_member(source, made, nesting, &member, path, around)?;
         trees.push(tree)?;
     }
     Ok(trees)
@@ -227,7 +231,6 @@ fn plan_members(
 
 #[cycle(plan)]
 fn plan_member(
-    alloc: Global,
     source: &Source<'_>,
     made: &mut Made,
     nesting: usize,
@@ -238,19 +241,21 @@ fn plan_member(
     requires source { IsSource source.now }
     requires member { IsMember source.now member.now }
     requires deep { around + nesting + 1 < 2 ^ 64 }
-    requires few { HasRoom made.old (calls (row_with nesting (entries_in source.now) (orders_in source.now) path.now (seen_entry member.now.entry.now ∷ []))) }
-    ensures { IfOk result (λ tree. Makes (world_in source.now) (suc around) (row_with nesting (entries_in source.now) (orders_in source.now) path.now (seen_entry member.now.entry.now ∷ [])) made.old made.new (tree ∷ [])) }
+    requires few { let e = seen_entry member.now.entry.now in
+        HasRoom made.old (calls (member_of source.now nesting path.now e)) }
+    ensures { let f = member_of source.now nesting path.now (seen_entry member.now.entry.now) in
+        let w = world_in source.now in
+        IfOk result (λ tree. Makes w (suc around) f made.old made.new (tree ∷ [])) }
 {
-    let inner = path_of(alloc, path, member.entry)?;
+    let inner = path_of(source.context.alloc, path, member.entry)?;
     push_line(&mut made.text, source.context, member, around + 1)?;
-    let work = plan_work(alloc, source, made, nesting, member, &inner, around + 1)?;
-    wrapped(alloc, member.meaning, &inner, work)
+    let work = plan_work(source, made, nesting, member, &inner, around + 1)?;
+    wrapped_tree(source.context.alloc, member.meaning, &inner, work)
 }
 
 /// Plans a group's contents or a routine's call, without IF and WHILE.
 #[cycle(plan)]
 fn plan_work(
-    alloc: Global,
     source: &Source<'_>,
     made: &mut Made,
     nesting: usize,
@@ -261,26 +266,34 @@ fn plan_work(
     requires source { IsSource source.now }
     requires member { IsMember source.now member.now }
     requires deep { around + nesting < 2 ^ 64 }
-    requires few { HasRoom made.old (calls_of (seen_entry member.now.entry.now) (inside_of nesting (entries_in source.now) (orders_in source.now) (seen_entry member.now.entry.now) path.now)) }
-    ensures { IfOk result (λ work. Works (world_in source.now) (suc around) (seen_entry member.now.entry.now) path.now (inside_of nesting (entries_in source.now) (orders_in source.now) (seen_entry member.now.entry.now) path.now) made.old made.new work) }
+    requires few { let e = seen_entry member.now.entry.now in
+        HasRoom made.old (calls_of e (contents_of source.now nesting path.now e)) }
+    ensures { let e = seen_entry member.now.entry.now in
+        let f = contents_of source.now nesting path.now e in
+        let w = world_in source.now in
+        IfOk result (λ work. Works w (suc around) e path.now f made.old made.new work) }
 {
     if !member.entry.block.group {
-        return plan_call(alloc, source.context, made, member, path);
+        return plan_call(source.context.alloc, source.context, made, member, path);
     }
-    let contents = plan_place(alloc, source, made, nesting, member.inside, path, around)?;
-    group_tree(alloc, path, &member.meaning.sync, contents)
+    let contents = plan_place(source, made, nesting, member.inside, path, around)?;
+    group_tree(source.context.alloc, path, &member.meaning.sync, contents)
 }
 
 /// What stands behind the name of a bin.
 fn bin_note(bin: usize) -> &'static [u8]
-    ensures { result.now ≡ (if nat_lt bin run_bins then [] else codes " not run") }
+    ensures { result.now ≡ (if nat_lt bin run_bin_count then [] else codes " not run") }
 {
-    if bin < RUN_BINS { b"" } else { b" not run" }
+    if bin < Bin::RUN.len() {
+        b""
+    } else {
+        b" not run"
+    }
 }
 
 /// Adds a bin's line.
 fn push_bin(text: &mut Text, bin: usize) -> Result<(), Memory>
-    ensures { OnOk result (text.new ≡ text.old ++ (codes "bin " ++ name_of_bin bin ++ (if nat_lt bin run_bins then [] else codes " not run") ++ line_feed)) }
+    ensures { OnOk result (text.new ≡ text.old ++ bin_line bin) }
 {
     text.push_slice(b"bin ")?;
     text.push_slice(bin_name(bin))?;
@@ -290,43 +303,45 @@ fn push_bin(text: &mut Text, bin: usize) -> Result<(), Memory>
 }
 
 /// Plans a bin.
-fn plan_bin(alloc: Global, source: &Source<'_>, made: &mut Made, bin: usize) -> Result<Tree, Memory>
+fn plan_bin(source: &Source<'_>, made: &mut Made, bin: usize) -> Result<Tree, Memory>
     requires source { IsSource source.now }
-    requires bin { bin < 17 }
-    requires few { HasRoom made.old (calls (bin_forest (entries_in source.now) (orders_in source.now) bin)) }
-    ensures { IfOk result (λ tree. MakesBin (world_in source.now) bin (bin_forest (entries_in source.now) (orders_in source.now) bin) made.old made.new tree) }
+    requires bin { bin < bin_count }
+    requires few { HasRoom made.old (calls (bin_forest_of source.now bin)) }
+    ensures { let f = bin_forest_of source.now bin in
+        IfOk result (λ tree. MakesBin (world_in source.now) bin f made.old made.new tree) }
 {
     push_bin(&mut made.text, bin)?;
-    let path = Text::from_slice(alloc, bin_name(bin))?;
+    let path = Text::from_slice(source.context.alloc, bin_name(bin))?;
     let places = source.placed.members.len();
-    let trees = plan_place(alloc, source, made, places, Some(bin), &path, 0)?;
+    let trees = plan_place(source, made, places, Some(bin), &path, 0)?;
     Ok(Tree::Seq(List::new(trees)))
 }
 
-fn plan_bins(alloc: Global, source: &Source<'_>, made: &mut Made) -> Result<Vec<Tree>, Memory>
+fn plan_bins(source: &Source<'_>, made: &mut Made) -> Result<Vec<Tree>, Memory>
     requires source { IsSource source.now }
-    requires few { HasRoom made.old (length (flat_map (forest_items (world_in source.now)) (forests (entries_in source.now) (orders_in source.now)))) }
-    ensures { IfOk result (λ trees. MakesBins (world_in source.now) (forests (entries_in source.now) (orders_in source.now)) made.old made.new trees.items) }
+    requires few { HasRoom made.old (length (items_of source.now)) }
+    ensures { let fs = forests_of source.now in
+        IfOk result (λ trees. MakesBins (world_in source.now) fs made.old made.new trees.items) }
 {
-    let mut trees = Vec::new(alloc);
+    let mut trees = Vec::new(source.context.alloc);
     'bins: for bin in 0..BINS {
-        let tree = plan_bin(alloc, source, made, bin)?;
+        let tree = plan_bin(source, made, bin)?;
         trees.push(tree)?;
     }
     Ok(trees)
 }
 
 /// Plans all bins.
-pub(crate) fn plan(alloc: Global, source: &Source<'_>) -> Result<Planned, Memory>
+pub(crate) fn plan(source: &Source<'_>) -> Result<Planned, Memory>
     requires source { IsSource source.now }
-    requires few { length (flat_map (forest_items (world_in source.now)) (forests (entries_in source.now) (orders_in source.now))) ≤ 4096 }
-    ensures { IfOk result (IsPlanOf (world_in source.now) (forests (entries_in source.now) (orders_in source.now))) }
+    requires few { length (items_of source.now) ≤ most_nodes }
+    ensures { IfOk result (IsPlanOf (world_in source.now) (forests_of source.now)) }
 {
     let mut made = Made {
-        items: List::empty(alloc),
-        text: Text::new(Vec::new(alloc)),
+        items: List::empty(source.context.alloc),
+        text: Text::new(Vec::new(source.context.alloc)),
     };
-    let trees = plan_bins(alloc, source, &mut made)?;
+    let trees = plan_bins(source, &mut made)?;
     Ok(Planned {
         plan: Schedule {
             bins: List::new(trees),

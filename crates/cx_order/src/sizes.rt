@@ -1,9 +1,9 @@
 //! How large trees are, without the trees.
 
-ghost use Rattle.std.specs.Prelude.{◌≡◌, ℕ, List, [], ◌∷◌, ◌++◌, if◌then◌else◌};
+ghost use Rattle.std.specs.Prelude.{◌≡◌, ℕ, List, [], ◌∷◌, ◌++◌};
 ghost use Rattle.cx_plan.specs.declared.tree.Tree.{Tree, Seq, If, While};
 ghost use Rattle.cx_plan.specs.declared.variable.VarId as variables;
-ghost use Rattle.cx_order.specs.Plans.{sync_tree, call_tree, with_if, with_while, wrapped};
+ghost use Rattle.cx_order.specs.Plans.{sync_tree, call_tree, with_if, with_while, wrapped, work_tree, group_tree};
 ghost use Rattle.cx_order.specs.Meanings.{meaning_or_none};
 ghost use Rattle.cx_order.specs.TreeSizes.{AreSizes, is_synced};
 
@@ -28,7 +28,8 @@ impl Sizes {
 
     /// Those of a tree and further ones behind it.
     pub(crate) fn before(self, rest: Sizes) -> Self
-        ensures { (tree : Tree) (trees : List Tree) → AreSizes (tree ∷ []) self → AreSizes trees rest → AreSizes (tree ∷ trees) result }
+        ensures { (tree : Tree) (trees : List Tree)
+            → AreSizes (tree ∷ []) self → AreSizes trees rest → AreSizes (tree ∷ trees) result }
     {
         Sizes {
             nodes: self.nodes.saturating_add(rest.nodes),
@@ -38,9 +39,12 @@ impl Sizes {
 
     /// Those of one tree around these.
     pub(crate) fn around(self) -> Self
-        ensures sequence { (trees : List Tree) → AreSizes trees self → AreSizes (Seq trees ∷ []) result }
-        ensures if_tree { (v : variables.VarId) (path : List ℕ) (tree : Tree) → AreSizes (tree ∷ []) self → AreSizes (If v path tree ∷ []) result }
-        ensures while_tree { (v : variables.VarId) (path : List ℕ) (tree : Tree) → AreSizes (tree ∷ []) self → AreSizes (While v path tree ∷ []) result }
+        ensures sequence { (trees : List Tree)
+            → AreSizes trees self → AreSizes (Seq trees ∷ []) result }
+        ensures if_tree { (v : variables.VarId) (path : List ℕ) (tree : Tree)
+            → AreSizes (tree ∷ []) self → AreSizes (If v path tree ∷ []) result }
+        ensures while_tree { (v : variables.VarId) (path : List ℕ) (tree : Tree)
+            → AreSizes (tree ∷ []) self → AreSizes (While v path tree ∷ []) result }
     {
         Sizes {
             nodes: self.nodes.saturating_add(1),
@@ -50,7 +54,9 @@ impl Sizes {
 
     /// Those of these trees with a SYNC behind them.
     fn with_sync(self) -> Self
-        ensures { (v : variables.VarId) (vars : List variables.VarId) (path : List ℕ) (trees : List Tree) → AreSizes trees self → AreSizes (trees ++ sync_tree path (v ∷ vars)) result }
+        ensures { (v : variables.VarId) (vars : List variables.VarId) (path : List ℕ)
+            (trees : List Tree)
+            → AreSizes trees self → AreSizes (trees ++ sync_tree path (v ∷ vars)) result }
     {
         Sizes {
             nodes: self.nodes.saturating_add(1),
@@ -60,8 +66,10 @@ impl Sizes {
 
     /// Those of a tree under a test, where there is one.
     fn under(self, test: Option<VarId>) -> Self
-        ensures if_tree { (path : List ℕ) (tree : Tree) → AreSizes (tree ∷ []) self → AreSizes (with_if path test tree ∷ []) result }
-        ensures while_tree { (path : List ℕ) (tree : Tree) → AreSizes (tree ∷ []) self → AreSizes (with_while path test tree ∷ []) result }
+        ensures if_tree { (path : List ℕ) (tree : Tree)
+            → AreSizes (tree ∷ []) self → AreSizes (with_if path test tree ∷ []) result }
+        ensures while_tree { (path : List ℕ) (tree : Tree)
+            → AreSizes (tree ∷ []) self → AreSizes (with_while path test tree ∷ []) result }
     {
         match test {
             Some(_) => self.around(),
@@ -72,7 +80,9 @@ impl Sizes {
 
 /// Those of a group with these contents.
 fn group_sizes(synced: bool, inside: Sizes) -> Sizes
-    ensures { (vars : List variables.VarId) (path : List ℕ) (trees : List Tree) → is_synced vars ≡ synced → AreSizes trees inside → AreSizes (Seq (trees ++ sync_tree path vars) ∷ []) result }
+    ensures { (vars : List variables.VarId) (path : List ℕ) (trees : List Tree)
+        → is_synced vars ≡ synced → AreSizes trees inside
+        → AreSizes (group_tree path vars trees ∷ []) result }
 {
     let contents = if synced { inside.with_sync() } else { inside };
     contents.around()
@@ -80,7 +90,8 @@ fn group_sizes(synced: bool, inside: Sizes) -> Sizes
 
 /// Those of a call.
 fn call_sizes(synced: bool) -> Sizes
-    ensures { (vars : List variables.VarId) (path : List ℕ) (k : ℕ) → is_synced vars ≡ synced → AreSizes (call_tree path vars k ∷ []) result }
+    ensures { (vars : List variables.VarId) (path : List ℕ) (k : ℕ)
+        → is_synced vars ≡ synced → AreSizes (call_tree path vars k ∷ []) result }
 {
     if synced {
         Sizes { nodes: 3, depth: 2 }
@@ -91,7 +102,9 @@ fn call_sizes(synced: bool) -> Sizes
 
 /// Those of a group with these contents, or of a call.
 fn work_sizes(group: bool, synced: bool, inside: Sizes) -> Sizes
-    ensures { (vars : List variables.VarId) (path : List ℕ) (k : ℕ) (trees : List Tree) → is_synced vars ≡ synced → AreSizes trees inside → AreSizes ((if group then Seq (trees ++ sync_tree path vars) else call_tree path vars k) ∷ []) result }
+    ensures { (vars : List variables.VarId) (path : List ℕ) (k : ℕ) (trees : List Tree)
+        → is_synced vars ≡ synced → AreSizes trees inside
+        → AreSizes (work_tree group path vars trees k ∷ []) result }
 {
     if group {
         group_sizes(synced, inside)
@@ -113,7 +126,9 @@ pub(crate) fn entry_sizes(
     meaning: &Result<Meaning, ScopeFault>,
     inside: Sizes,
 ) -> Sizes
-    ensures { (path : List ℕ) (k : ℕ) (trees : List Tree) → AreSizes trees inside → let m = meaning_or_none meaning.now in AreSizes (wrapped m path (if group then Seq (trees ++ sync_tree path m.sync) else call_tree path m.sync k) ∷ []) result }
+    ensures { let m = meaning_or_none meaning.now in
+        (path : List ℕ) (k : ℕ) (trees : List Tree) → AreSizes trees inside
+        → AreSizes (wrapped m path (work_tree group path m.sync trees k) ∷ []) result }
 {
     match meaning {
         Ok(meaning) => work_sizes(group, is_synced(meaning), inside)

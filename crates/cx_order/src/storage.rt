@@ -1,20 +1,18 @@
 //! How many levels each variable stores.
 
-ghost use Rattle.std.specs.Prelude.{◌≡◌, ◌⊎◌, ℕ, ◌<◌, ◌∷◌, [], map, max, replicate, length, slice_index, All, Ok, IfOk, OnOk};
+ghost use Rattle.std.specs.Prelude.{◌≡◌, ◌⊎◌, ◌<◌, ◌∷◌, [], map, replicate, length, All, Ok, IfOk, OnOk};
 ghost use Rattle.cx_bind.specs.Variables.{variable_infos};
 ghost use Rattle.cx_scope.specs.Closures.{thorns_in, sight_in};
-ghost use Rattle.cx_scope.specs.Resolving.{group_of};
 ghost use Rattle.cx_scope.specs.declared.fault.ScopeFault.TheVariants as scope_faults;
 ghost use Rattle.cx_order.specs.declared.fault.OrderFault.TheVariants as faults;
-ghost use Rattle.cx_order.specs.Entries.{Tells};
+ghost use Rattle.cx_text.specs.Telling.{Tells};
 ghost use Rattle.cx_order.specs.Files.{thorn_name};
-ghost use Rattle.cx_order.specs.Seen.{seen_line};
-ghost use Rattle.cx_order.specs.Storage.{line_fault, storage_fault, granted, greatest, given, given_by, storage};
+ghost use Rattle.cx_entries.specs.Seen.{seen_line};
+ghost use Rattle.cx_order.specs.Storage.{line_fault, storage_fault, granted, given, given_by, storage, IsRaised, stored_by};
 
-use crate::copies::copy_text;
-use crate::counted::Line;
 use crate::fault::OrderFault;
 use cx_bind::Bound;
+use cx_entries::Line;
 use cx_plan::{VarId, VarInfo};
 use cx_scope::{Scope, ScopeFault};
 use cx_text::{List, Text};
@@ -34,7 +32,8 @@ fn granted(declared: u8, levels: Option<u32>) -> u8
 fn raise(stored: &mut [u8], variables: &[VarInfo], variable: VarId, levels: Option<u32>)
     requires { length stored.old ≡ length variables.now }
     ensures length { length stored.new ≡ length stored.old }
-    ensures levels { (v : ℕ) → slice_index stored.new v ≡ max (slice_index stored.old v) (given variables.now levels (Ok (variable ∷ [])) v) }
+    ensures levels { let more = given variables.now levels (Ok (variable ∷ [])) in
+        IsRaised stored.old stored.new more }
 {
     let place = variable.0 as usize;
     if let Some(info) = variables.get(place) {
@@ -46,7 +45,7 @@ fn raise(stored: &mut [u8], variables: &[VarInfo], variable: VarId, levels: Opti
 fn raise_group(stored: &mut [u8], variables: &[VarInfo], group: &[VarId], levels: Option<u32>)
     requires { length stored.old ≡ length variables.now }
     ensures length { length stored.new ≡ length stored.old }
-    ensures levels { (v : ℕ) → slice_index stored.new v ≡ max (slice_index stored.old v) (given variables.now levels (Ok group.now) v) }
+    ensures levels { IsRaised stored.old stored.new (given variables.now levels (Ok group.now)) }
 {
     'group: for variable in group {
         raise(stored, variables, *variable, levels);
@@ -60,7 +59,7 @@ fn name_fault(alloc: Global, thorn: &Text, fault: ScopeFault) -> OrderFault
 {
     match fault {
         ScopeFault::Memory => OrderFault::Memory,
-        fault => match copy_text(alloc, thorn) {
+        fault => match thorn.copy(alloc) {
             Ok(thorn) => OrderFault::Scope(thorn, fault),
             Err(_) => OrderFault::Memory,
         },
@@ -86,9 +85,11 @@ fn raise_line(
     requires thorns { thorns_in scope.now ≡ bound.now }
     requires within { line.now.thorn < length bound.now }
     requires length { length stored.old ≡ length (variable_infos bound.now) }
-    ensures told { Tells (line_fault bound.now (sight_in scope.now) (seen_line line.now)) result }
+    ensures told { let fault = line_fault bound.now (sight_in scope.now) (seen_line line.now) in
+        Tells faults.Memory fault result }
     ensures length { length stored.new ≡ length stored.old }
-    ensures levels { OnOk result ((v : ℕ) → slice_index stored.new v ≡ max (slice_index stored.old v) (given_by bound.now (sight_in scope.now) v (seen_line line.now))) }
+    ensures levels { OnOk result (IsRaised stored.old stored.new
+        (λ v. given_by bound.now (sight_in scope.now) v (seen_line line.now))) }
 {
     match scope.group_of(alloc, line.thorn, line.group) {
         Ok(group) => {
@@ -111,9 +112,12 @@ fn raise_lines(
     requires thorns { thorns_in scope.now ≡ bound.now }
     requires within { All (λ line. line.thorn < length bound.now) lines.now }
     requires length { length stored.old ≡ length (variable_infos bound.now) }
-    ensures told { Tells (storage_fault bound.now (sight_in scope.now) (map seen_line lines.now)) result }
+    ensures told { let lines = map seen_line lines.now in
+        let fault = storage_fault bound.now (sight_in scope.now) lines in
+        Tells faults.Memory fault result }
     ensures length { length stored.new ≡ length stored.old }
-    ensures levels { OnOk result ((v : ℕ) → slice_index stored.new v ≡ max (slice_index stored.old v) (greatest (map (given_by bound.now (sight_in scope.now) v) (map seen_line lines.now)))) }
+    ensures levels { OnOk result (IsRaised stored.old stored.new
+        (stored_by bound.now (sight_in scope.now) (map seen_line lines.now))) }
 {
     'lines: for line in lines {
         raise_line(stored, alloc, scope, bound, line)?;
@@ -137,8 +141,12 @@ pub(crate) fn stored_levels(
 ) -> Result<List<u8>, OrderFault>
     requires thorns { thorns_in scope.now ≡ bound.now }
     requires within { All (λ line. line.thorn < length bound.now) lines.now }
-    ensures told { Tells (storage_fault bound.now (sight_in scope.now) (map seen_line lines.now)) result }
-    ensures levels { IfOk result (λ levels. levels ≡ storage bound.now (sight_in scope.now) (map seen_line lines.now)) }
+    ensures told { let lines = map seen_line lines.now in
+        let fault = storage_fault bound.now (sight_in scope.now) lines in
+        Tells faults.Memory fault result }
+    ensures levels { let lines = map seen_line lines.now in
+        let wanted = storage bound.now (sight_in scope.now) lines in
+        IfOk result (λ levels. levels ≡ wanted) }
 {
     let mut stored = no_levels(alloc, bound.variables().len())?;
     raise_lines(&mut stored, alloc, scope, bound, lines)?;

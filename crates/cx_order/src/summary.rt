@@ -1,21 +1,18 @@
 //! What is known of the trees of some entries.
 
 ghost use Rattle.std.specs.Prelude.{◌≡◌, ℕ, List, ◌++◌, codes, option_map, option_copied, IfOk};
-ghost use Rattle.cx_plan.specs.Lists.{or_else};
 ghost use Rattle.cx_order.specs.declared.fault.OrderFault.TheVariants as faults;
-ghost use Rattle.cx_order.specs.Counted as blocks;
-ghost use Rattle.cx_order.specs.Entries.{entry_name};
-ghost use Rattle.cx_order.specs.Meanings.{World, meaning as meaning_of};
+ghost use Rattle.cx_entries.specs.Counted as blocks;
+ghost use Rattle.cx_entries.specs.Entries.{entry_name};
+ghost use Rattle.cx_order.specs.Meanings.{World};
 ghost use Rattle.cx_order.specs.Plans.{Forest, Done, Then, path_of, trees};
-ghost use Rattle.cx_order.specs.Seen.{seen_entry};
-ghost use Rattle.cx_order.specs.Storage.{error_of};
+ghost use Rattle.cx_entries.specs.Seen.{seen_entry};
 ghost use Rattle.cx_order.specs.TreeSizes.{AreSizes};
-ghost use Rattle.cx_order.specs.Summaries.{told, fault_in, IsSummary, IsInside};
+ghost use Rattle.cx_order.specs.Summaries.{told, fault_in, IsSummary, IsInside, first_found, IsEntrySummary};
 
-use crate::counted::Entry;
-use crate::keys::entry_name;
 use crate::meaning::Meaning;
 use crate::sizes::{Sizes, entry_sizes};
+use cx_entries::{Entry, entry_name};
 use cx_scope::ScopeFault;
 use cx_text::{Memory, Text};
 use std::alloc::Global;
@@ -45,7 +42,8 @@ fn entry_path(alloc: Global, entry: &Entry<'_>) -> Result<Text, Memory>
 
 /// A fault in an entry's contents, seen from the entry's place.
 fn fault_below<'m>(alloc: Global, entry: &Entry<'_>, found: &Found<'m>) -> Result<Found<'m>, Memory>
-    ensures { IfOk result (λ below. (path : List ℕ) → told path below ≡ told (path_of path (seen_entry entry.now)) found.now) }
+    ensures { let e = seen_entry entry.now in
+        IfOk result (λ below. (path : List ℕ) → told path below ≡ told (path_of path e) found.now) }
 {
     let mut path = entry_path(alloc, entry)?;
     path.push_slice(found.path.as_slice())?;
@@ -61,7 +59,9 @@ fn own_fault<'m>(
     entry: &Entry<'_>,
     fault: &'m ScopeFault,
 ) -> Result<Found<'m>, Memory>
-    ensures { IfOk result (λ own. (path : List ℕ) → told path own ≡ faults.Scope (path_of path (seen_entry entry.now)) fault.now) }
+    ensures { let e = seen_entry entry.now in
+        IfOk result
+        (λ own. (path : List ℕ) → told path own ≡ faults.Scope (path_of path e) fault.now) }
 {
     Ok(Found {
         path: entry_path(alloc, entry)?,
@@ -86,7 +86,10 @@ fn first_fault<'m>(
     meaning: &'m Result<Meaning, ScopeFault>,
     inside: Option<&Summary<'m>>,
 ) -> Result<Option<Found<'m>>, Memory>
-    ensures { IfOk result (λ first. (path : List ℕ) → let inner = path_of path (seen_entry entry.now) in option_map (told path) first ≡ or_else (option_map (λ e. faults.Scope inner e) (error_of meaning.now)) (option_map (told inner) (fault_in (option_copied inside.entry)))) }
+    ensures { let e = seen_entry entry.now in
+        let inside = option_copied inside.entry in
+        IfOk result (λ first. (path : List ℕ)
+        → option_map (told path) first ≡ first_found (path_of path e) meaning.now inside) }
 {
     match meaning {
         Err(fault) => Ok(Some(own_fault(alloc, entry, fault)?)),
@@ -99,7 +102,9 @@ fn first_fault<'m>(
 
 /// How large the trees of what is known of an entry's contents are.
 fn sizes_in(inside: Option<&Summary<'_>>) -> Sizes
-    ensures { (w : World) (path : List ℕ) (f : Forest) (k : ℕ) → IsInside w path f (option_copied inside.entry) → AreSizes (trees w k f) result }
+    ensures { (w : World) (path : List ℕ) (f : Forest) (k : ℕ)
+        → IsInside w path f (option_copied inside.entry)
+        → AreSizes (trees w k f) result }
 {
     match inside {
         Some(summary) => summary.sizes,
@@ -114,7 +119,8 @@ pub(crate) fn entry_summary<'m>(
     meaning: &'m Result<Meaning, ScopeFault>,
     inside: Option<&Summary<'m>>,
 ) -> Result<Summary<'m>, Memory>
-    ensures { IfOk result (λ s. (w : World) (path : List ℕ) (f : Forest) → let e = seen_entry entry.now in meaning.now ≡ meaning_of w e → IsInside w (path_of path e) f (option_copied inside.entry) → IsSummary w path (Then e (path_of path e) f Done) s) }
+    ensures { let e = seen_entry entry.now in
+        IfOk result (IsEntrySummary meaning.now e (option_copied inside.entry)) }
 {
     Ok(Summary {
         sizes: entry_sizes(entry.block.group, meaning, sizes_in(inside)),
@@ -135,7 +141,11 @@ impl<'m> Summary<'m> {
 
     /// What is known of an entry and of those behind it.
     pub(crate) fn before(self, rest: Summary<'m>) -> Self
-        ensures { (w : World) (path : List ℕ) (e : blocks.Entry) (inner : List ℕ) (inside behind : Forest) → IsSummary w path (Then e inner inside Done) self.entry → IsSummary w path behind rest.entry → IsSummary w path (Then e inner inside behind) result }
+        ensures { (w : World) (path : List ℕ) (e : blocks.Entry) (inner : List ℕ)
+            (inside behind : Forest)
+            → IsSummary w path (Then e inner inside Done) self.entry
+            → IsSummary w path behind rest.entry
+            → IsSummary w path (Then e inner inside behind) result }
     {
         Summary {
             sizes: self.sizes.before(rest.sizes),

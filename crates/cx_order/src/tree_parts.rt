@@ -2,9 +2,8 @@
 
 ghost use Rattle.std.specs.Prelude.{◌≡◌, ◌++◌, IfOk, OnOk};
 ghost use Rattle.cx_plan.specs.declared.tree.Tree as trees;
-ghost use Rattle.cx_order.specs.Plans.{sync_tree, call_tree, with_while, with_if, wrapped};
+ghost use Rattle.cx_order.specs.Plans.{sync_tree, call_tree, with_while, with_if, wrapped, group_tree};
 
-use crate::copies::copy_text;
 use crate::meaning::Meaning;
 use cx_plan::{Tree, VarId};
 use cx_text::{Boxed, List, Memory, Text};
@@ -30,7 +29,7 @@ fn push_sync(
         return Ok(());
     }
     let variables = copy_variables(alloc, sync)?;
-    let path = copy_text(alloc, path)?;
+    let path = path.copy(alloc)?;
     trees.push(Tree::Sync(variables, path))?;
     Ok(())
 }
@@ -42,7 +41,7 @@ pub(crate) fn group_tree(
     sync: &List<VarId>,
     mut contents: Vec<Tree>,
 ) -> Result<Tree, Memory>
-    ensures { IfOk result (λ tree. tree ≡ trees.Seq (contents.items ++ sync_tree path.now sync.now)) }
+    ensures { IfOk result (λ tree. tree ≡ group_tree path.now sync.now contents.items) }
 {
     push_sync(&mut contents, alloc, path, sync)?;
     Ok(Tree::Seq(List::new(contents)))
@@ -71,7 +70,7 @@ fn with_while(alloc: Global, path: &Text, turn: Option<VarId>, work: Tree) -> Re
 {
     match turn {
         Some(variable) => {
-            let path = copy_text(alloc, path)?;
+            let path = path.copy(alloc)?;
             let work = Boxed::new(alloc, work)?;
             Ok(Tree::While(variable, path, work))
         }
@@ -84,7 +83,7 @@ fn with_if(alloc: Global, path: &Text, test: Option<VarId>, work: Tree) -> Resul
 {
     match test {
         Some(variable) => {
-            let path = copy_text(alloc, path)?;
+            let path = path.copy(alloc)?;
             let work = Boxed::new(alloc, work)?;
             Ok(Tree::If(variable, path, work))
         }
@@ -93,7 +92,7 @@ fn with_if(alloc: Global, path: &Text, test: Option<VarId>, work: Tree) -> Resul
 }
 
 /// WHILE around an entry's work, and IF outside.
-pub(crate) fn wrapped(
+pub(crate) fn wrapped_tree(
     alloc: Global,
     meaning: &Meaning,
     path: &Text,

@@ -2,4 +2,8 @@
 #![tactic(auto)]
 
 #[cfg(test)]
+mod least;
+#[cfg(test)]
+mod order;
+#[cfg(test)]
 mod region;

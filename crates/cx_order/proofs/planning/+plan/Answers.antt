@@ -1,10 +1,10 @@
 use Rattle.std.proofs.Common.{◌≡◌, ◌∙◌, sym, ap, subst, refl, ℕ, suc, ◌+◌, ◌++◌, ◌∷◌, [], List, drop, add-one, true, rules}
 use Rattle.cx_plan.specs.declared.tree.Tree.{Tree, Seq}
 use Rattle.cx_order.specs.declared.planning.Made.{Made}
-use Rattle.cx_order.specs.Members.{entries_of}
+use Rattle.cx_entries.specs.Members.{entries_of}
 use Rattle.cx_order.specs.Plans.{Done, Then, path_of, sync_tree, wrapped}
-use Rattle.cx_order.specs.Seen.{seen_entry}
-use Rattle.cx_order.specs.Planning.{world_in, entries_in, orders_in, inside_of, row_with, contents_at, Makes, Works}
+use Rattle.cx_entries.specs.Seen.{seen_entry}
+use Rattle.cx_order.specs.PlanSteps.{world_in, entries_in, orders_in, inside_of, row_with, contents_at, Makes, Works}
 use Rattle.cx_order.proofs.PlanLaws.{Passed, passed-next, room-next, room-inside, makes-member, works-group, if_ok, row-next}
 use Rattle.cx_order.proofs.MemberLaws.{group_contents}
 use Rattle.cx_order.proofs.planning.+plan.Goals as goal
@@ -22,11 +22,11 @@ plan_member-returns t c =
     let mid : Made = record { items = c.args.made.now.items; text = c.push_line.new.text } in
     let work = c.in_ok-work.work in
     let P : Tree → List ℕ → Type 0 = λ tree path. Makes w (suc c.args.around) (Then e path (inside_of n es (orders_in s) e path) Done) c.args.made.now c.plan_work.new.made (tree ∷ []) in
-    if_ok c.wrapped.result (λ tree. tree ≡ wrapped m.meaning.now inner work) (λ tree. P tree (path_of c.args.path.now e))
+    if_ok c.wrapped_tree.result (λ tree. tree ≡ wrapped m.meaning.now inner work) (λ tree. P tree (path_of c.args.path.now e))
     (λ tree is. subst (P tree) c.in_ok-inner.ensures
     (makes-member w depth (suc c.args.around) (suc depth) e m.meaning.now inner (inside_of n es (orders_in s) e inner) c.args.made.now mid c.plan_work.new.made work tree
     c.requires.member.meaning (add-one c.args.around) (ap suc (add-one c.args.around)) refl c.in_ok-push_line.ensures c.in_ok-work.ensures is))
-    c.wrapped.ensures
+    c.wrapped_tree.ensures
 
 pub plan_members-members-preserved : goal.plan_members-members-preserved
 plan_members-members-preserved t c =

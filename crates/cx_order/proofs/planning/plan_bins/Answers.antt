@@ -1,8 +1,8 @@
 use Rattle.std.proofs.Common.{sym, subst, ℕ, ◌+◌, List, add-one}
 use Rattle.cx_plan.specs.declared.tree.Tree.{Tree}
-use Rattle.cx_order.specs.Places.{bin_count}
+use Rattle.cx_plan.specs.Lookups.{bin_count}
 use Rattle.cx_order.specs.Plans.{Forest, bin_forest, forests}
-use Rattle.cx_order.specs.Planning.{world_in, entries_in, orders_in}
+use Rattle.cx_order.specs.PlanSteps.{world_in, entries_in, orders_in}
 use Rattle.cx_order.proofs.PlanLaws.{BinsPassed, bins-next, bins-room, bins_from, bins_from-next}
 use Rattle.cx_order.proofs.planning.plan_bins.Goals as goal
 

@@ -1,7 +1,7 @@
 -- what is there, with the rest, is what all bins make
-use Rattle.cx_order.specs.Places.{bin_count}
+use Rattle.cx_plan.specs.Lookups.{bin_count}
 use Rattle.cx_order.specs.Plans.{bin_forest, forests}
-use Rattle.cx_order.specs.Planning.{world_in, entries_in, orders_in}
+use Rattle.cx_order.specs.PlanSteps.{world_in, entries_in, orders_in}
 use Rattle.cx_order.proofs.PlanLaws.{BinsPassed, bins_from}
 use Rattle.cx_order.proofs.planning.plan_bins.Given as goal
 

@@ -1,0 +1,17 @@
+pub mod BinLaws
+pub mod CountedLaws
+pub mod KeyLaws
+pub mod NameLaws
+pub mod OnceLaws
+pub mod GroupLaws
+pub mod RowLaws
+pub mod PairLaws
+pub mod DifferLaws
+pub mod OrderLaws
+pub mod PlaceLaws
+pub mod NestedLaws
+pub mod GroupCycles
+pub mod FirstGroups
+pub mod PlacedLaws
+pub mod PlacedForms
+pub mod OnlyOrders

@@ -1,0 +1,10 @@
+pub mod Counted
+pub mod Seen
+pub mod Bins
+pub mod Entries
+pub mod Keys
+pub mod PlaceNumbers
+pub mod Cycles
+pub mod Members
+pub mod Nested
+pub mod Placement

@@ -1,0 +1,11 @@
+pub mod Counts
+pub mod LeastOrders
+pub mod Rest
+pub mod Steps
+pub mod CycleWalks
+pub mod WalkSteps
+pub mod LinkLaws
+pub mod CandidateLaws
+pub mod GraphLaws
+pub mod NoCycle
+pub mod Nestings

@@ -1,6 +1,0 @@
-use Rattle.std.proofs.Common.{◌≡◌, ◌++◌, take}
-use Rattle.cx_order.specs.Keys.{folded}
-use Rattle.cx_order.proofs.keys.push_folded.Given as goal
-
-abbrev pub invariant-name : goal.invariant-name
-invariant-name l = l.bytes.items ≡ l.fn.bytes.items ++ folded (take l.byte-index l.name)

@@ -1,8 +1,0 @@
-use Rattle.std.proofs.Common.{◌≡◌, map, take}
-use Rattle.cx_order.specs.Meanings.{meaning}
-use Rattle.cx_order.specs.Seen.{seen_entry}
-use Rattle.cx_order.specs.Worlds.{world_of}
-use Rattle.cx_order.proofs.meanings.meanings.Given as goal
-
-abbrev pub invariant-entries : goal.invariant-entries
-invariant-entries l = l.meanings.items ≡ map (meaning (world_of l.context)) (map seen_entry (take l.entry-index l.entries))
