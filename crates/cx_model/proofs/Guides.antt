@@ -1,7 +1,7 @@
 -- A path that a run follows: where no need on the path is unmet, each need of the run's entries is met, and where the run goes
 -- on, it leaves the flags that the path leaves.
 use Rattle.std.proofs.Common.{◌≡◌, ℕ, refl, sym, ap, subst, ◌∙◌, Bool, true, false, not, cond, List, [], ◌∷◌, ◌++◌, Option, Some, None, append-nil}
-use Rattle.std.specs.List.{All, find}
+use Rattle.std.specs.List.{find}
 use Rattle.std.proofs.lemmas.List.{append_assoc}
 use Rattle.std.proofs.lemmas.List.Elements.{All-nil, All-cons}
 use Rattle.cx_plan.specs.Setups.{Setup}

@@ -1,17 +1,12 @@
 -- Where a checkpoint place stands among a run's entries.
-use Rattle.std.proofs.Common.{◌≡◌, ℕ, zero, suc, ◌+◌, ◌≤◌, ℤ, pos, negsuc, refl, sym, ap, subst, ◌∙◌, Bool, true, false, nat_le, List, [], ◌∷◌, ◌++◌, length, append_assoc, length-append, Option, Some, None, add-zero, arith, if◌then◌else◌}
+use Rattle.std.proofs.Common.{◌≡◌, ℕ, ◌+◌, ◌≤◌, refl, sym, ap, subst, ◌∙◌, Bool, true, false, nat_le, List, [], ◌∷◌, ◌++◌, length, append_assoc, length-append, Option, Some, None, add-zero, arith, if◌then◌else◌}
 use Rattle.cx_plan.specs.declared.variable.VarId.{VarId}
-use Rattle.cx_plan.specs.declared.item.Item.{Item}
-use Rattle.cx_plan.specs.declared.tree.Tree.{Tree, Seq', Call, Sync, If', While', Row_of-Tree, end_of-Tree, more_of-Tree}
 use Rattle.cx_plan.specs.Setups.{Setup}
-use Rattle.cx_plan.specs.Lookups.{item, bin}
+use Rattle.cx_plan.specs.Lookups.{bin}
 use Rattle.cx_rule.specs.Routine.{Rule}
-use Rattle.cx_rule.specs.States.{State, scalar_of, rotate}
-use Rattle.cx_model.specs.Turns.{turn}
-use Rattle.cx_model.specs.declared.ends.End.{End}
-use Rattle.cx_model.specs.declared.ends.End.TheVariants.{WhileLimit}
-use Rattle.cx_model.specs.Traces.{Entry, Turned, Overflowed, Exchanged, Tested, Rotated, Wrote, Saved, Outcome, Goes, Ends, Trace, stays, ends, after, follow, then_go}
-use Rattle.cx_model.specs.Trees.{at_zero, test, turn_trace, loop, run_tree, run_row}
+use Rattle.cx_rule.specs.States.{State, rotate}
+use Rattle.cx_model.specs.Traces.{Entry, Turned, Overflowed, Exchanged, Tested, Rotated, Wrote, Saved, Outcome, Goes, Ends, Trace, after, follow}
+use Rattle.cx_model.specs.Trees.{run_tree}
 use Rattle.cx_model.specs.Stages.{Stage, Bin, Rotate, Save, Write}
 use Rattle.cx_model.specs.Runs.{all_written, run_stages, text_added, output_of, passing, stop_or, within_limit, limited, greatest_output}
 use Rattle.cx_model.proofs.ListLaws.{heads, tails, nothing_there}

@@ -1,18 +1,14 @@
 -- Parts of a run that write no text.
-use Rattle.std.proofs.Common.{◌≡◌, ◌≢◌, ℕ, zero, suc, ℤ, pos, negsuc, ◌+◌, refl, ap, ◌∙◌, Bool, true, false, cond, List, [], ◌∷◌, ◌++◌, Option, Some, None, length, add-zero}
-use Rattle.cx_plan.specs.declared.variable.VarId.{VarId}
-use Rattle.cx_plan.specs.declared.item.Item.{Item}
-use Rattle.cx_plan.specs.declared.tree.Tree.{Tree, Seq', Call, Sync, If', While', Row_of-Tree, end_of-Tree, more_of-Tree}
+use Rattle.std.proofs.Common.{◌≡◌, ◌≢◌, ℕ, zero, suc, ◌+◌, refl, ap, ◌∙◌, Bool, true, false, cond, List, [], ◌∷◌, ◌++◌, None, length, add-zero}
 use Rattle.cx_plan.specs.Setups.{Setup}
 use Rattle.cx_plan.specs.Dues.{is_due}
-use Rattle.cx_plan.specs.Lookups.{item, bin, CHECKPOINT, ANALYSIS}
+use Rattle.cx_plan.specs.Lookups.{bin, CHECKPOINT, ANALYSIS}
 use Rattle.cx_rule.specs.Routine.{Rule}
-use Rattle.cx_rule.specs.States.{State, scalar_of, rotate}
-use Rattle.cx_model.specs.Turns.{turn}
+use Rattle.cx_rule.specs.States.{State, rotate}
 use Rattle.cx_model.specs.declared.ends.End.{End}
-use Rattle.cx_model.specs.declared.ends.End.TheVariants.{Done, WhileLimit}
-use Rattle.cx_model.specs.Traces.{Entry, Turned, Overflowed, Exchanged, Tested, Rotated, Wrote, Saved, Outcome, Goes, Ends, Trace, stays, ends, after, follow, then_go}
-use Rattle.cx_model.specs.Trees.{at_zero, test, turn_trace, loop, run_tree, run_row}
+use Rattle.cx_model.specs.declared.ends.End.TheVariants.{Done}
+use Rattle.cx_model.specs.Traces.{Entry, Turned, Overflowed, Exchanged, Tested, Rotated, Wrote, Saved, Outcome, Goes, Trace, stays, after, then_go}
+use Rattle.cx_model.specs.Trees.{run_tree}
 use Rattle.cx_model.specs.Stages.{Stage, Bin, Rotate, Save, Write, bins, before_analysis}
 use Rattle.cx_model.proofs.WalkLaws.{Each, OfEnd, Throughout, OfTrees, throughout-stays, throughout-then, walk-tree}
 use Rattle.cx_model.specs.Runs.{run_stages, text_added, output_of, passing, stop_or, within_limit}
