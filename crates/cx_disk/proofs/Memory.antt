@@ -4,7 +4,7 @@ use Rattle.std.proofs.Common.{refl, sym, ◌∙◌, ap, subst, arith, inl, inr, 
 use Rattle.std.proofs.lemmas.List.{get_or-set_same, get_or-set_other, length-set, take_all, take-append-le}
 use Rattle.std.proofs.lemmas.Bool.{cases_eq}
 use Rattle.std.proofs.lemmas.Bool.Decides.{nat_tests}
-use Rattle.cx_disk.specs.Disk.{Files, SameFiles, Passes, IsSettled}
+use Rattle.cx_disk.specs.Disk.{no_folders, Files, SameFiles, Passes, IsSettled}
 use Rattle.cx_disk.specs.MemoryLaws.{cases_le}
 use Rattle.cx_disk.specs.Memory.{History, noted, file_of, changed, after_note, replay, reading, left_by, images_from, images_at, view_at, view_of, IsKept}
 use Rattle.cx_disk.specs.declared.note.Change.{Change}
@@ -103,10 +103,10 @@ kept_more mounted first files notes more note next is_mounted is_kept lt pushed 
     }
   where
     disk : History
-    disk = record { mounted = mounted; first = first; notes = notes }
+    disk = record { mounted = mounted; folders = no_folders; first = first; notes = notes }
 
     new : History
-    new = record { mounted = mounted; first = first; notes = more }
+    new = record { mounted = mounted; folders = no_folders; first = first; notes = more }
 
     grows : new ≡ noted disk note
-    grows = ap (λ (l : List Note). record { mounted = mounted; first = first; notes = l }) pushed
+    grows = ap (λ (l : List Note). record { mounted = mounted; folders = no_folders; first = first; notes = l }) pushed

@@ -44,6 +44,21 @@ pub record CutShort (count : ℕ) (old new : List ℕ) : Type 0 where
   pub no_shorter : min count (length old) ≤ length new
   pub front : new ≡ take (length new) old
 
+-- ---- folders
+
+-- The folders of the output and of the checkpoints that the last mount named.
+pub record Folders : Type 0 where
+  pub output : List ℕ
+  pub checkpoints : List ℕ
+
+-- A mount named these two.
+abbrev pub IsNamed : List ℕ → List ℕ → Folders → Type 0
+IsNamed output checkpoints folders = folders ≡ record { output = output; checkpoints = checkpoints }
+
+-- Before any mount.
+abbrev pub no_folders : Folders
+no_folders = record { output = []; checkpoints = [] }
+
 -- ---- moments
 
 -- A disk as contracts see it: how its files read, the images of them that a crash may leave now, the moment, which is a

@@ -1,7 +1,9 @@
 -- An adapter of a device, which tells nothing of what the device holds.
 use Rattle.std.specs.Prelude.{ℕ, Bool}
+use Rattle.cx_disk.specs.Disk.{Folders}
 
--- Whether it has been mounted, and how often it has failed.
+-- Whether it has been mounted, and on which folders, and how often it has failed.
 pub record Adapter : Type 0 where
   pub mounted : Bool
+  pub folders : Folders
   pub faults : ℕ

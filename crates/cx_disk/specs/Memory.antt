@@ -1,23 +1,24 @@
 -- A disk in memory, which notes each change, so that what a crash may leave at each moment can be told.
 use Rattle.std.specs.Prelude.{ℕ, ◌+◌, ◌≤◌, ◌≡◌, nat_eq, List, [], ◌∷◌, ◌++◌, length, take, drop, slice_index_or, if◌then◌else◌, Bool, true, false}
-use Rattle.cx_disk.specs.Disk.{Files, SameFiles, Changes, Torn, CutShort, View}
+use Rattle.cx_disk.specs.Disk.{Folders, no_folders, Files, SameFiles, Changes, Torn, CutShort, View}
 use Rattle.cx_disk.specs.declared.note.Change.{Change}
 use Rattle.cx_disk.specs.declared.note.Change.TheVariants.{Wrote, Cut, Synced, StoppedWrite, StoppedCut}
 use Rattle.cx_disk.specs.declared.note.Note.{Note}
 
--- Whether the disk is mounted, its files at the beginning, the first being file 0, and each change since then.
+-- Whether the disk is mounted, and on which folders, its files at the beginning, the first being file 0, and each change since then.
 pub record History : Type 0 where
   pub mounted : Bool
+  pub folders : Folders
   pub first : List (List ℕ)
   pub notes : List Note
 
 -- A disk of these files, which isn't mounted and hasn't been changed.
 abbrev pub fresh : List (List ℕ) → History
-fresh files = record { mounted = false; first = files; notes = [] }
+fresh files = record { mounted = false; folders = no_folders; first = files; notes = [] }
 
 -- The same disk after one change more.
 abbrev pub noted : History → Note → History
-noted disk note = record { mounted = disk.mounted; first = disk.first; notes = disk.notes ++ note ∷ [] }
+noted disk note = record disk { notes = disk.notes ++ note ∷ [] }
 
 -- A file of a list of files. One that isn't there is empty.
 abbrev pub file_of : List (List ℕ) → Files

@@ -1,7 +1,7 @@
 //! What the calls of a disk do to its files, and to what a crash may leave of them.
 ghost use Rattle.std.specs.Prelude.{◌≡◌, ◌≤◌, ◌<◌, ◌+◌, ℕ, Bool, length, slice_range, IsTrue, OnOk, OnErr, IfOk, IfErr};
 ghost use Rattle.cx_disk.specs.Cause.{HasCause};
-ghost use Rattle.cx_disk.specs.Disk.{View, IsView, SameFiles, OthersSame, Changes, Holds, Torn, Front, CutShort, Passes, IsSettled};
+ghost use Rattle.cx_disk.specs.Disk.{Folders, IsNamed, View, IsView, SameFiles, OthersSame, Changes, Holds, Torn, Front, CutShort, Passes, IsSettled};
 
 use cx_text::Text;
 use std::alloc::{AllocError, AllocFailed};
@@ -50,6 +50,9 @@ pub trait Disk {
     /// Whether a `mount` has answered Ok.
     ghost mounted: { Self → Bool };
 
+    /// The folders that the last `mount` named. They are known whether or not it tells what its files hold.
+    ghost folders: { Self → Folders };
+
     /// Its files are those below this number.
     ghost file_count: { Self → ℕ };
 
@@ -62,10 +65,12 @@ pub trait Disk {
     /// Names the folders of the output and of the checkpoints (`IO::out_dir` and `IO::checkpoint_dir` of the Cactus 4
     /// Users' Guide). It changes no file's bytes, and comes before every other call.
     ///
-    /// `Failed`: the device failed, and is mounted if it was.
+    /// `Failed`: the device failed, and is mounted if it was, with the folders that it had. So it is after `Memory`.
     fn mount(&mut self, output: &Text, checkpoints: &Text) -> Result<(), DiskFault>
         ensures mounted { OnOk result (IsTrue (mounted self.new)) }
         ensures stays { IsTrue (mounted self.old) → IsTrue (mounted self.new) }
+        ensures named { OnOk result (IsNamed output.now checkpoints.now (folders self.new)) }
+        ensures unnamed { OnErr result (folders self.new ≡ folders self.old) }
         ensures count { file_count self.new ≡ 9 }
         ensures same { tells → SameFiles (view self.old).seen (view self.new).seen }
         ensures after { tells → Passes SameFiles (view self.old) (view self.new) }
@@ -79,6 +84,7 @@ pub trait Disk {
         requires file { file < file_count self.old }
         ensures length { tells → IfOk result (λ count. count ≡ length ((view self.old).seen file)) }
         ensures mounted { IsTrue (mounted self.new) }
+        ensures folders { folders self.new ≡ folders self.old }
         ensures count { file_count self.new ≡ file_count self.old }
         ensures same { tells → SameFiles (view self.old).seen (view self.new).seen }
         ensures after { tells → Passes SameFiles (view self.old) (view self.new) }
@@ -94,6 +100,7 @@ pub trait Disk {
         requires range { tells → at + length into.old ≤ length ((view self.old).seen file) }
         ensures read { tells → OnOk result (into.new ≡ slice_range ((view self.old).seen file) at (at + length into.old)) }
         ensures mounted { IsTrue (mounted self.new) }
+        ensures folders { folders self.new ≡ folders self.old }
         ensures count { file_count self.new ≡ file_count self.old }
         ensures same { tells → SameFiles (view self.old).seen (view self.new).seen }
         ensures after { tells → Passes SameFiles (view self.old) (view self.new) }
@@ -113,6 +120,7 @@ pub trait Disk {
         ensures stopped { tells → OnErr result (Torn at (length bytes.now) ((view self.old).seen file) ((view self.new).seen file)) }
         ensures others { tells → OthersSame file (view self.old).seen (view self.new).seen }
         ensures mounted { IsTrue (mounted self.new) }
+        ensures folders { folders self.new ≡ folders self.old }
         ensures count { file_count self.new ≡ file_count self.old }
         ensures after { tells → Passes (Changes (Torn at (length bytes.now)) file) (view self.old) (view self.new) }
         ensures cause { HasCause DiskFault.Failed (faults self.old) (faults self.new) result };
@@ -130,6 +138,7 @@ pub trait Disk {
         ensures stopped { tells → OnErr result (CutShort to ((view self.old).seen file) ((view self.new).seen file)) }
         ensures others { tells → OthersSame file (view self.old).seen (view self.new).seen }
         ensures mounted { IsTrue (mounted self.new) }
+        ensures folders { folders self.new ≡ folders self.old }
         ensures count { file_count self.new ≡ file_count self.old }
         ensures after { tells → Passes (Changes (CutShort to) file) (view self.old) (view self.new) }
         ensures cause { HasCause DiskFault.Failed (faults self.old) (faults self.new) result };
@@ -142,6 +151,7 @@ pub trait Disk {
         requires file { file < file_count self.old }
         ensures settled { tells → OnOk result (IsSettled (view self.new) file) }
         ensures mounted { IsTrue (mounted self.new) }
+        ensures folders { folders self.new ≡ folders self.old }
         ensures count { file_count self.new ≡ file_count self.old }
         ensures same { tells → SameFiles (view self.old).seen (view self.new).seen }
         ensures after { tells → Passes SameFiles (view self.old) (view self.new) }

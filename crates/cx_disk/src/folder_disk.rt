@@ -1,7 +1,7 @@
 //! Two folders, as a disk that tells nothing of what its files hold.
 ghost use Rattle.std.specs.Prelude.{◌≡◌, ◌<◌, false, vec_len, IsTrue, IfOk, IfErr};
 ghost use Rattle.cx_disk.specs.Cause.{HasCause};
-ghost use Rattle.cx_disk.specs.Disk.{untold};
+ghost use Rattle.cx_disk.specs.Disk.{untold, no_folders};
 ghost use Rattle.cx_disk.specs.Folder.{Adapter};
 
 use crate::{Disk, DiskFault};
@@ -15,8 +15,8 @@ use std::rt::Files;
 const OUTPUT: u32 = 8;
 
 /// Two folders as a disk: file 8 is `output.asc` in the folder of the output, and the files 0 to 7 are
-/// `checkpoint.chkpt.0` to `checkpoint.chkpt.7` in the folder of the checkpoints. Contracts see whether it is mounted
-/// and how often it has failed.
+/// `checkpoint.chkpt.0` to `checkpoint.chkpt.7` in the folder of the checkpoints. Contracts see whether it is mounted, and
+/// on which folders, and how often it has failed.
 ///
 /// `mount` makes folders that are missing. An empty name stands for the current folder, and one that isn't UTF-8 is a
 /// failure, as is a range that isn't there. Only `write_at` makes a file.
@@ -26,6 +26,8 @@ pub struct FolderDisk<R> {
     alloc: Global,
     paths: Vec<String>,
     mounted: bool,
+    output: Text,
+    checkpoints: Text,
     faults: u64,
 }
 
@@ -35,7 +37,11 @@ impl<R> Model for FolderDisk<R> {
 
     ghost Value = { Adapter };
 
-    ghost view = { λ disk. record { mounted = disk.mounted; faults = disk.faults } };
+    ghost view = { λ disk. record {
+      mounted = disk.mounted;
+      folders = record { output = disk.output; checkpoints = disk.checkpoints };
+      faults = disk.faults;
+    } };
 
     ghost invariant = { λ disk. disk.mounted ≡ true → vec_len disk.paths ≡ 9 };
 }
@@ -43,13 +49,15 @@ impl<R> Model for FolderDisk<R> {
 impl<R: Files + Drop> FolderDisk<R> {
     /// The disk below the current folder, which isn't mounted and hasn't failed.
     pub fn new(rt: R, alloc: Global) -> Self
-        ensures { result ≡ record { mounted = false; faults = 0 } }
+        ensures { result ≡ record { mounted = false; folders = no_folders; faults = 0 } }
     {
         FolderDisk {
             rt,
             alloc,
             paths: Vec::new(alloc),
             mounted: false,
+            output: Text::new(Vec::new(alloc)),
+            checkpoints: Text::new(Vec::new(alloc)),
             faults: 0,
         }
     }
@@ -67,6 +75,7 @@ impl<R> FolderDisk<R> {
     // What a call gave, with a failure counted.
     fn counted<T>(&mut self, done: io::Result<T>) -> Result<T, DiskFault>
         ensures mounted { self.new.mounted ≡ self.old.mounted }
+        ensures folders { self.new.folders ≡ self.old.folders }
         ensures cause { HasCause DiskFault.Failed self.old.faults self.new.faults result }
         ensures takes_no_memory { IfErr result (λ fault. fault ≡ DiskFault.Failed) }
     {
@@ -180,6 +189,8 @@ impl<R: Files + Drop> Disk for FolderDisk<R> {
 
     ghost mounted = { λ disk. disk.mounted };
 
+    ghost folders = { λ disk. disk.folders };
+
     ghost file_count = { λ _. 9 };
 
     ghost view = { λ _. untold };
@@ -189,11 +200,16 @@ impl<R: Files + Drop> Disk for FolderDisk<R> {
     ghost sound = { λ _ tells. absurd tells };
 
     fn mount(&mut self, output: &Text, checkpoints: &Text) -> Result<(), DiskFault> {
-        let output = self.counted(folder(output))?;
-        let checkpoints = self.counted(folder(checkpoints))?;
-        let made = make_folders(&self.rt, output, checkpoints);
+        let output_path = self.counted(folder(output))?;
+        let checkpoint_path = self.counted(folder(checkpoints))?;
+        let made = make_folders(&self.rt, output_path, checkpoint_path);
         self.counted(made)?;
-        self.paths = paths(self.alloc, output, checkpoints)?;
+        let paths = paths(self.alloc, output_path, checkpoint_path)?;
+        let output = Text::new(output.as_slice().to_vec(self.alloc)?);
+        let checkpoints = Text::new(checkpoints.as_slice().to_vec(self.alloc)?);
+        self.paths = paths;
+        self.output = output;
+        self.checkpoints = checkpoints;
         self.mounted = true;
         Ok(())
     }

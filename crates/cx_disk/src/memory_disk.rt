@@ -1,5 +1,5 @@
 //! A disk in memory.
-ghost use Rattle.std.specs.Prelude.{◌≡◌, ◌≤◌, ◌<◌, ◌+◌, ◌++◌, ℕ, length, take, drop, vec_len, IsTrue, OnOk, OnErr, IfOk, false};
+ghost use Rattle.std.specs.Prelude.{◌≡◌, ◌≤◌, ◌<◌, ◌+◌, ◌++◌, ℕ, length, take, drop, vec_len, IsTrue, OnOk, OnErr, IfOk, true, false};
 ghost use Rattle.cx_disk.specs.Disk.{Files, SameFiles};
 ghost use Rattle.cx_disk.specs.Memory.{fresh, noted, file_of, changed, view_of};
 ghost use Rattle.cx_disk.specs.MemoryLaws.{sound_of};
@@ -12,7 +12,8 @@ use std::marker::Model;
 const FILES: usize = 9;
 
 /// A disk in memory. It tells what its files hold, never fails, and notes each change, so that what a crash at each
-/// moment may leave can be told. Contracts see whether it is mounted, its files at the beginning, and the notes.
+/// moment may leave can be told. Contracts see whether it is mounted, and on which folders, its files at the
+/// beginning, and the notes.
 #[derive(Debug, Drop)]
 pub struct MemoryDisk {
     alloc: Global,
@@ -20,6 +21,8 @@ pub struct MemoryDisk {
     files: Vec<Text>,
     notes: Vec<Note>,
     mounted: bool,
+    output: Text,
+    checkpoints: Text,
 }
 
 impl Model for MemoryDisk {
@@ -27,7 +30,12 @@ impl Model for MemoryDisk {
 
     ghost Value = { History };
 
-    ghost view = { λ disk. record { mounted = disk.mounted; first = disk.first; notes = disk.notes.items } };
+    ghost view = { λ disk. record {
+      mounted = disk.mounted;
+      folders = record { output = disk.output; checkpoints = disk.checkpoints };
+      first = disk.first;
+      notes = disk.notes.items;
+    } };
 
     ghost invariant = { λ disk. IsKept disk.mounted disk.first disk.files.items disk.notes.items };
 }
@@ -46,6 +54,8 @@ impl MemoryDisk {
             files: Vec::new(alloc),
             notes: Vec::new(alloc),
             mounted: false,
+            output: Text::new(Vec::new(alloc)),
+            checkpoints: Text::new(Vec::new(alloc)),
         }
     }
 
@@ -58,6 +68,20 @@ impl MemoryDisk {
         } else {
             bytes_of(self.first.as_slice(), file)
         }
+    }
+
+    // Keeps the files as they read, from the first mount on.
+    fn keep_files(&mut self) -> Result<(), AllocError>
+        ensures mounted { OnOk result (self.new ≡ record self.old { mounted = true }) }
+        ensures err { OnErr result (self.new ≡ self.old) }
+    {
+        if !self.mounted {
+            let mut files = copied(self.alloc, self.first.as_slice())?;
+            fill(self.alloc, &mut files)?;
+            self.files = files;
+            self.mounted = true;
+        }
+        Ok(())
     }
 
     // Notes a change, after which the file has these bytes.
@@ -126,6 +150,8 @@ impl Disk for MemoryDisk {
 
     ghost mounted = { λ disk. disk.mounted };
 
+    ghost folders = { λ disk. disk.folders };
+
     ghost file_count = { λ _. 9 };
 
     ghost view = { view_of };
@@ -134,13 +160,12 @@ impl Disk for MemoryDisk {
 
     ghost sound = { λ disk _. sound_of disk };
 
-    fn mount(&mut self, _output: &Text, _checkpoints: &Text) -> Result<(), DiskFault> {
-        if !self.mounted {
-            let mut files = copied(self.alloc, self.first.as_slice())?;
-            fill(self.alloc, &mut files)?;
-            self.files = files;
-            self.mounted = true;
-        }
+    fn mount(&mut self, output: &Text, checkpoints: &Text) -> Result<(), DiskFault> {
+        let output = Text::new(output.as_slice().to_vec(self.alloc)?);
+        let checkpoints = Text::new(checkpoints.as_slice().to_vec(self.alloc)?);
+        self.keep_files()?;
+        self.output = output;
+        self.checkpoints = checkpoints;
         Ok(())
     }
 

@@ -17,6 +17,7 @@ pub fn put<D: Disk>(disk: &mut D, file: u32, at: u64, bytes: &[u8]) -> Result<()
     ensures done { D.tells → OnOk result (IsDone (Holds at bytes.now) file (D.view disk.old) (D.view disk.new)) }
     ensures after { D.tells → Stepped (Torn at (length bytes.now)) file (D.view disk.old) (D.view disk.new) }
     ensures mounted { IsTrue (D.mounted disk.new) }
+    ensures folders { D.folders disk.new ≡ D.folders disk.old }
     ensures count { D.file_count disk.new ≡ D.file_count disk.old }
     ensures cause { HasCause DiskFault.Failed (D.faults disk.old) (D.faults disk.new) result }
 {
@@ -35,6 +36,7 @@ pub fn trim<D: Disk>(disk: &mut D, file: u32, to: u64) -> Result<(), DiskFault>
     ensures done { D.tells → OnOk result (IsDone (Front to) file (D.view disk.old) (D.view disk.new)) }
     ensures after { D.tells → Stepped (CutShort to) file (D.view disk.old) (D.view disk.new) }
     ensures mounted { IsTrue (D.mounted disk.new) }
+    ensures folders { D.folders disk.new ≡ D.folders disk.old }
     ensures count { D.file_count disk.new ≡ D.file_count disk.old }
     ensures cause { HasCause DiskFault.Failed (D.faults disk.old) (D.faults disk.new) result }
 {
