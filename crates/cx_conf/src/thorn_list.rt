@@ -41,10 +41,8 @@ fn has_slash(text: &[u8]) -> bool
 
 /// The two names round the one slash.
 fn place_in(text: &[u8]) -> Option<(&[u8], &[u8])>
-    ensures {
-        let told = place_in text.now in
-        MatchOption result (told ≡ None) (λ p. told ≡ Some (p.0.now, p.1.now))
-    }
+    ensures { let told = place_in text.now in
+        MatchOption result (told ≡ None) (λ p. told ≡ Some (p.0.now, p.1.now)) }
 {
     let slash = slash_at(text)?;
     let (_, thorn) = text.split_at(slash + 1);
