@@ -1,0 +1,210 @@
+//! The automata's routines at a point: what they read and take, and their numbers, worked out by hand.
+
+ghost use Rattle.std.specs.Prelude.{◌≤◌, ◌<◌};
+
+use crate::points::{around, beside, in_ring, in_sheet, nothing, number, read, unread};
+use cx_thorn_ca::{CaCount, CaInit, CaStep, CaZero, LifeCount, LifeInit, LifeStep, LifeZero};
+use std::test::Fail;
+
+/// The seed and the start; and the first row.
+const FIRST_ROWS: &[(i64, i64, [i64; 8])] = &[
+    (-1, 3, [0, 0, 0, 1, 0, 0, 0, 0]),
+    (i64::MIN, i64::MIN, [0; 8]),
+    (1, 0, [1, 1, 1, 0, 1, 1, 0, 1]),
+    (7, 0, [0, 1, 0, 0, 1, 0, 1, 0]),
+    (i64::MAX, 0, [1, 1, 1, 0, 1, 1, 1, 1]),
+];
+
+/// The first cell at a place of the ring.
+fn first_cell(rt: &HostRuntime, x: u8, seed: i64, start: i64) -> Result<i64, Fail> {
+    let first = CaInit::new(rt.alloc())?;
+    let w = nothing(rt.alloc(), 1)?;
+    let at = in_ring(rt.alloc(), x % 8, &[seed, start])?;
+    Ok(number(rt, &first, &w, &at)?.unwrap_or(-1))
+}
+
+fn first_row(rt: &HostRuntime, seed: i64, start: i64) -> Result<Vec<i64>, Fail> {
+    let mut row = Vec::new(rt.alloc());
+    for x in 0..8u8 {
+        row.push(first_cell(rt, x, seed, start)?)?;
+    }
+    Ok(row)
+}
+
+#[test]
+fn rows_start_by_their_seeds(rt: HostRuntime) -> Result<(), Fail> {
+    for (seed, start, row) in FIRST_ROWS {
+        assert_eq!(rt; first_row(&rt, *seed, *start)?.as_slice(), row.as_slice());
+    }
+    Ok(())
+}
+
+/// The rule's number, and a cell between its neighbours; and the next cell.
+const STEPS: &[(i64, [i64; 3], i64)] = &[
+    (90, [0, 0, 1], 1),
+    (90, [0, 1, 0], 0),
+    (90, [1, 0, 0], 1),
+    (90, [1, 0, 1], 0),
+    (90, [1, 1, 0], 1),
+    (2, [0, 0, 1], 1),
+    (255 - 32, [i64::MIN, 0, i64::MAX], 0),
+    (i64::MIN, [1, 1, 1], 0),
+    (-1, [0, 0, 0], 1),
+];
+
+/// The next of a cell between its neighbours.
+fn next_in_row(rt: &HostRuntime, rule: i64, row: [i64; 3]) -> Result<Option<i64>, Fail> {
+    let step = CaStep::new(rt.alloc())?;
+    let w = beside(rt.alloc(), row)?;
+    let at = in_ring(rt.alloc(), 0, &[rule])?;
+    number(rt, &step, &w, &at)
+}
+
+#[test]
+fn rows_step_by_their_rules(rt: HostRuntime) -> Result<(), Fail> {
+    for (rule, row, want) in STEPS {
+        assert_eq!(rt; next_in_row(&rt, *rule, *row)?, Some(*want));
+    }
+    Ok(())
+}
+
+/// A cell of a sheet amid its neighbours; and the next cell by births at 3 and survivals at 2 and 3.
+const LIVES: &[([[i64; 3]; 3], i64)] = &[
+    ([[1, 1, 1], [0, 0, 0], [0, 0, 0]], 1),
+    ([[0, 0, 0], [1, 1, 1], [0, 0, 0]], 1),
+    ([[1, 1, 1], [1, 1, 0], [0, 0, 0]], 0),
+    ([[1, 0, 0], [0, 0, 0], [0, 0, 1]], 0),
+    ([[i64::MIN, 0, 0], [-1, 0, 0], [0, 0, i64::MAX]], 1),
+    ([[0, 0, 0], [0, i64::MIN, 0], [0, 0, 1]], 0),
+];
+
+/// The next of a cell amid its neighbours.
+fn next_cell(rt: &HostRuntime, rows: [[i64; 3]; 3]) -> Result<Option<i64>, Fail> {
+    let step = LifeStep::new(rt.alloc())?;
+    let w = around(rt.alloc(), rows)?;
+    let at = in_sheet(rt.alloc(), 0, 0, [12, 8])?;
+    number(rt, &step, &w, &at)
+}
+
+#[test]
+fn sheets_step_by_births_and_survivals(rt: HostRuntime) -> Result<(), Fail> {
+    for (rows, want) in LIVES {
+        assert_eq!(rt; next_cell(&rt, *rows)?, Some(*want));
+    }
+    Ok(())
+}
+
+/// The cell at a point of a sheet that closes round itself.
+fn cell(sheet: &[i64], x: u8, y: u8) -> i64 {
+    let place = 8 * (y % 8) + x % 8;
+    sheet.get(place as usize).copied().unwrap_or(0)
+}
+
+/// Three cells of a sheet in a row, the first of them at a point.
+fn three(sheet: &[i64], x: u8, y: u8) -> [i64; 3]
+    requires { x ≤ 16 }
+{
+    [
+        cell(sheet, x, y),
+        cell(sheet, x + 1, y),
+        cell(sheet, x + 2, y),
+    ]
+}
+
+/// The cells of a sheet around a point.
+fn rows_around(sheet: &[i64], x: u8, y: u8) -> [[i64; 3]; 3]
+    requires columns { x < 8 }
+    requires rows { y < 8 }
+{
+    [
+        three(sheet, x + 7, y + 7),
+        three(sheet, x + 7, y),
+        three(sheet, x + 7, y + 1),
+    ]
+}
+
+/// The next of a sheet's cells at a place.
+fn next_at(rt: &HostRuntime, sheet: &[i64], place: u8) -> Result<i64, Fail> {
+    let rows = rows_around(sheet, place % 8, place / 8 % 8);
+    Ok(next_cell(rt, rows)?.unwrap_or(-1))
+}
+
+fn next_sheet(rt: &HostRuntime, sheet: &[i64]) -> Result<Vec<i64>, Fail> {
+    let mut next = Vec::new(rt.alloc());
+    for place in 0..64u8 {
+        next.push(next_at(rt, sheet, place)?)?;
+    }
+    Ok(next)
+}
+
+/// The first cell at a place of the sheet.
+fn first_life(rt: &HostRuntime, place: u8, pattern: i64, seed: i64) -> Result<i64, Fail> {
+    let first = LifeInit::new(rt.alloc())?;
+    let w = nothing(rt.alloc(), 2)?;
+    let at = in_sheet(rt.alloc(), place % 8, place / 8 % 8, [pattern, seed])?;
+    Ok(number(rt, &first, &w, &at)?.unwrap_or(-1))
+}
+
+fn first_sheet(rt: &HostRuntime, pattern: i64, seed: i64) -> Result<Vec<i64>, Fail> {
+    let mut sheet = Vec::new(rt.alloc());
+    for place in 0..64u8 {
+        sheet.push(first_life(rt, place, pattern, seed)?)?;
+    }
+    Ok(sheet)
+}
+
+/// The glider four steps on, one cell to the right and down.
+const GLIDER: [i64; 64] = [
+    0, 0, 0, 0, 0, 0, 0, 0, //
+    0, 0, 1, 0, 0, 0, 0, 0, //
+    0, 0, 0, 1, 0, 0, 0, 0, //
+    0, 1, 1, 1, 0, 0, 0, 0, //
+    0, 0, 0, 0, 0, 0, 0, 0, //
+    0, 0, 0, 0, 0, 0, 0, 0, //
+    0, 0, 0, 0, 0, 0, 0, 0, //
+    0, 0, 0, 0, 0, 0, 0, 0, //
+];
+
+#[test]
+fn a_glider_moves_by_one_cell_in_four_steps(rt: HostRuntime) -> Result<(), Fail> {
+    let mut sheet = first_sheet(&rt, 0, 0)?;
+    for _ in 0..4 {
+        sheet = next_sheet(&rt, &sheet)?;
+    }
+    assert_eq!(rt; sheet.as_slice(), GLIDER.as_slice());
+    Ok(())
+}
+
+#[test]
+fn sheets_start_at_random_by_their_seeds(rt: HostRuntime) -> Result<(), Fail> {
+    let sheet = first_sheet(&rt, 1, -1)?;
+    let row = sheet.get(..8).unwrap_or(&[]);
+    assert_eq!(rt; row, [1, 0, 1, 1, 0, 0, 1, 1].as_slice());
+    Ok(())
+}
+
+#[test]
+fn edges_are_0(rt: HostRuntime) -> Result<(), Fail> {
+    let row = unread(&rt, &CaZero::new(rt.alloc())?)?;
+    let sheet = unread(&rt, &LifeZero::new(rt.alloc())?)?;
+    assert_eq!(rt; (row, sheet), (Some(0), Some(0)));
+    Ok(())
+}
+
+/// Cells as counts see them.
+const CELLS: &[i64] = &[i64::MIN, -1, 0, 1, i64::MAX];
+
+/// What is counted of a row's cell and of a sheet's.
+fn counted(rt: &HostRuntime, value: i64) -> Result<[Option<i64>; 2], Fail> {
+    let row = CaCount::new(rt.alloc())?;
+    let sheet = LifeCount::new(rt.alloc())?;
+    Ok([read(rt, &row, value)?, read(rt, &sheet, value)?])
+}
+
+#[test]
+fn counts_look_at_cells(rt: HostRuntime) -> Result<(), Fail> {
+    for value in CELLS {
+        assert_eq!(rt; counted(&rt, *value)?, [Some(*value); 2]);
+    }
+    Ok(())
+}

@@ -1,0 +1,17 @@
+//! Tests of the grid, of plans, of routines, of the thorns and of the output's text, through what their crates hand out.
+#![tactic(auto)]
+
+#[cfg(test)]
+mod ascii;
+#[cfg(test)]
+mod ca;
+#[cfg(test)]
+mod grid;
+#[cfg(test)]
+mod pde;
+#[cfg(test)]
+mod plan;
+#[cfg(test)]
+mod points;
+#[cfg(test)]
+mod rule;
