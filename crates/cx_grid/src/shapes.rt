@@ -77,7 +77,8 @@ pub fn clamp(shape: &Shape, p: Point) -> Point
     ensures value { result ≡ source shape.now p }
     ensures interior { HasInterior shape.now → is_boundary shape.now result ≡ false }
     ensures near { HasInterior shape.now → IsNearGrid shape.now result }
-    ensures inside { HasInterior shape.now → IsIn (whole shape.now) p → IsIn (whole shape.now) result }
+    ensures inside { HasInterior shape.now → IsIn (whole shape.now) p
+        → IsIn (whole shape.now) result }
 {
     Point {
         x: clamped(shape.periodic[0], shape.n.x, shape.ghost_.x, p.x),
@@ -89,7 +90,8 @@ pub fn clamp(shape: &Shape, p: Point) -> Point
 fn clamped(periodic: bool, n: i32, ghosts: i32, c: i32) -> i32
     requires ghosts { (pos 0 ≤ℤ ghosts) × (ghosts ≤ℤ pos 8) }
     requires n { (pos 1 ≤ℤ n) × (n ≤ℤ pos 16777216) }
-    ensures value { result ≡ (if periodic then c else int_max ghosts (int_min c (n -ℤ ghosts -ℤ pos 1))) }
+    ensures value { result ≡ (if periodic then c
+        else int_max ghosts (int_min c (n -ℤ ghosts -ℤ pos 1))) }
 {
     if periodic {
         c

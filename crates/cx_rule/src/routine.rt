@@ -74,7 +74,8 @@ pub fn apply(
 pub fn object(routines: &[Box<dyn Routine>], k: usize) -> &Box<dyn Routine>
     requires { k < length routines.now }
     ensures rule { rule result.now ≡ rule_at (map rule routines.now) k }
-    ensures spec { spec_of result.now ≡ slice_index_or (map spec_of routines.now) k (spec_of result.now) }
+    ensures spec { spec_of result.now
+        ≡ slice_index_or (map spec_of routines.now) k (spec_of result.now) }
 {
     &routines[k]
 }
