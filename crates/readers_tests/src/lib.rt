@@ -1,0 +1,18 @@
+//! Tests of the readers, through their public names: texts from outside and what they say, files cut anywhere, and tables of
+//! rules with which the readers are compared.
+#![tactic(auto)]
+
+#[cfg(test)]
+mod configuration_rules;
+#[cfg(test)]
+mod configurations;
+#[cfg(test)]
+mod derivations;
+#[cfg(test)]
+mod expressions;
+#[cfg(test)]
+mod parameter_files;
+#[cfg(test)]
+mod samples;
+#[cfg(test)]
+mod texts;
