@@ -13,7 +13,7 @@ use Rattle.cx_text.specs.Tokens.{is_word, is_line_end, is_word_kind, is_line_end
 use Rattle.cx_text.specs.Grammar.{head, passes}
 use Rattle.cx_text.specs.Reading.{Answer, go_on, found}
 use Rattle.cx_text.specs.Rules.{loop, is_named}
-use Rattle.cx_text.specs.Lexemes.{names, kept, more_kept}
+use Rattle.cx_text.specs.Lexemes.{names, kept, more_kept, in_line}
 use Rattle.cx_text.specs.Written.{word, words, quoted, sign, line_end}
 use Rattle.cx_text.proofs.Printing.{loop_step, loop_stop, no_skip, one_skip, IsShortName, some_names_again}
 use Rattle.cx_iface.specs.declared.tree.Access.{Access}
@@ -27,7 +27,7 @@ use Rattle.cx_iface.specs.declared.attributes.Attributes.{Attributes}
 use Rattle.cx_iface.specs.Words.{IMPLEMENTS, INHERITS, FRIEND, FUNCTION, TYPE, DIM, TIMELEVELS, is_line_word, begins_with}
 use Rattle.cx_iface.specs.Attributes.{no_attributes, is_attribute, attribute}
 use Rattle.cx_iface.specs.Groups.{group, block_or_name}
-use Rattle.cx_iface.specs.File.{nobody, in_line, line, kept_line, worded, again_mark, function, part, item, grouped, file}
+use Rattle.cx_iface.specs.File.{nobody, line, kept_line, worded, again_mark, function, part, item, grouped, file}
 use Rattle.cx_iface.specs.Printed as printed
 use Rattle.cx_iface.proofs.AttributeLaws.{attribute_short}
 use Rattle.cx_iface.proofs.FileLaws.{item_short, more_kept_in_line_short}

@@ -7,7 +7,7 @@ use Rattle.cx_text.specs.Grammar.{Item, head, next_of, passes}
 use Rattle.cx_text.specs.Reading.{Answer, found}
 use Rattle.cx_text.specs.Tokens.{is_word, is_line_end}
 use Rattle.cx_text.specs.Rules.{Rule, nothing, ◌>>=◌, is_named, line_ends, sign_here, line_end}
-use Rattle.cx_text.specs.Lexemes.{first_mark, names, kept_if, kept, more_kept}
+use Rattle.cx_text.specs.Lexemes.{first_mark, names, kept_if, kept, more_kept, in_line}
 use Rattle.cx_text.proofs.Choice.{at_test, at_other}
 use Rattle.cx_text.proofs.Lookahead.{Goes, Lifts, lookahead_part}
 use Rattle.cx_text.proofs.Laws.{Means, Beyond, beyond_also}
@@ -19,7 +19,7 @@ use Rattle.cx_iface.specs.declared.interface.Read.{Read}
 use Rattle.cx_iface.specs.declared.words.First.{First}
 use Rattle.cx_iface.specs.declared.words.First.TheVariants as firsts
 use Rattle.cx_iface.specs.Words.{FUNCTION, IMPLEMENTS, INHERITS, FRIEND, is_line_word, begins_with}
-use Rattle.cx_iface.specs.File.{implements, inherits, friends, access, grouped, in_line, line, kept_line, function, or_function, part, is_again, again_mark, worded, item, file}
+use Rattle.cx_iface.specs.File.{implements, inherits, friends, access, grouped, line, kept_line, function, or_function, part, is_again, again_mark, worded, item, file}
 use Rattle.cx_iface.proofs.AttributeLaws.{Is}
 use Rattle.cx_iface.proofs.GroupLaws.{AfterGroup, at_end, group_part}
 use Rattle.cx_text.specs.declared.ctype.CType.{CType}

@@ -13,7 +13,7 @@ use Rattle.cx_text.specs.declared.token.Token.{Token}
 use Rattle.cx_text.specs.Tokens.{is_word, is_line_end}
 use Rattle.cx_text.specs.Grammar.{passes, Spells}
 use Rattle.cx_text.specs.Rules.{Rule, nothing, choice, is_named, is_sign, name_of, name_mark, line_ends, line_end, sign, sign_here}
-use Rattle.cx_text.specs.Lexemes.{first_mark, among, new_name, comma, is_comma_or_word, is_quoted, names, kept, kept_if, more_kept}
+use Rattle.cx_text.specs.Lexemes.{first_mark, among, new_name, comma, is_comma_or_word, is_quoted, names, kept, kept_if, more_kept, in_line}
 use Rattle.cx_text.specs.Lexemes as lexemes
 use Rattle.cx_text.specs.Written.{word}
 use Rattle.cx_text.proofs.Printing.{IsShortName}
@@ -25,7 +25,7 @@ use Rattle.cx_iface.specs.declared.words.First.{First}
 use Rattle.cx_iface.specs.declared.words.First.TheVariants as firsts
 use Rattle.cx_iface.specs.Words.{FUNCTION, is_line_word, begins_with}
 use Rattle.cx_iface.specs.Groups.{group_name_of, group_name, copies, variables, block_or_name, group}
-use Rattle.cx_iface.specs.File.{implements, inherits, friends, access, grouped, in_line, line, kept_line, function, part, again_mark, worded, item, file, interface}
+use Rattle.cx_iface.specs.File.{implements, inherits, friends, access, grouped, line, kept_line, function, part, again_mark, worded, item, file, interface}
 use Rattle.cx_iface.proofs.PrintLaws.{CopiesFit, Distinct}
 use Rattle.cx_iface.proofs.FileAgain.{FitsGroup, FitsLine, InLine, Fits}
 use Rattle.cx_iface.proofs.AttributesFit.{Every, both, named_is, ends_no_line, KeptToken, is_kept, InRange, FitsAttributes, number_fits, attribute_fits, none_fit}

@@ -12,7 +12,7 @@ use Rattle.cx_text.specs.declared.fault.CclFault.{CclFault}
 use Rattle.cx_text.specs.declared.fault.CclFault.TheVariants as faults
 use Rattle.cx_text.specs.declared.token.Token.{Token}
 use Rattle.cx_text.specs.Tokens.{is_word}
-use Rattle.cx_text.specs.Grammar.{Item, next_of, passes, many, Spells, IsWrong, IsFirstFault, IsFault, Answers, AnswersOnly, line_at}
+use Rattle.cx_text.specs.Grammar.{Item, next_of, passes, many, Spells, IsWrong, IsFirstFault, IsFault, ReadsBy, AnswersOnly, line_at}
 use Rattle.cx_text.specs.Reading.{Answer, go_on, read_end, Fails, Gives, fault_of}
 use Rattle.cx_text.specs.Rules.{last, line_ends, is_named}
 use Rattle.cx_text.specs.Lexemes.{finished}
@@ -117,13 +117,13 @@ still_fails : (e : Stop) (rest : List Token) (read : Answer Read) → Fails e re
 still_fails stops.Memory rest read h = tt
 still_fails (stops.Fault w) rest read h = rw h refl
 
-answered : (ts : List Token) (s : Read) (b : Bool) → s.implements ≡ b → file.reads ts ≡ Ok (s, []) → Answers interface (λ x. x) ts (cond b (Ok s.tree) (Err (faults.Unexpected (line_at ts []))))
+answered : (ts : List Token) (s : Read) (b : Bool) → s.implements ≡ b → file.reads ts ≡ Ok (s, []) → ReadsBy interface (λ x. x) ts (cond b (Ok s.tree) (Err (faults.Unexpected (line_at ts []))))
 answered ts s true h e =
     let f = checked_found file.reads file.derives _ file_good.law (refl, at_end) (λ x. x.implements) ts s [] (rw (e, h) refl) in
     (s, f.0, f.1, refl)
 answered ts s false h e = fault_answer ts [] (stops.Fault Unexpected) (rw (e, h) refl)
 
-pub answers : (ts rest : List Token) (answer : Result Read Stop) → Gives (λ s. s) answer rest (file.reads ts) → Answers interface (λ x. x) ts (implemented (line_at ts rest) (finished ts rest answer))
+pub answers : (ts rest : List Token) (answer : Result Read Stop) → Gives (λ s. s) answer rest (file.reads ts) → ReadsBy interface (λ x. x) ts (implemented (line_at ts rest) (finished ts rest answer))
 answers ts [] (Ok s) h = answered ts s s.implements refl h
 answers ts (t ∷ rest) (Ok s) h = fault_answer ts (t ∷ rest) (stops.Fault Unexpected) (rw h refl)
 answers ts [] (Err e) h = fault_answer ts [] e (still_fails e [] (file.reads ts) h)

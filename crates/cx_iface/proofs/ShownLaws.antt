@@ -11,7 +11,7 @@ use Rattle.cx_text.specs.Tokens.{is_word, is_line_end}
 use Rattle.cx_text.specs.Grammar.{Spells}
 use Rattle.cx_text.specs.Pieces.{Spelled}
 use Rattle.cx_text.specs.Rules.{Rule, nothing, choice, lexeme, unmarked, is_named, is_sign, line_ends, line_end, sign, sign_here}
-use Rattle.cx_text.specs.Lexemes.{first_mark, new_name, number_in, comma, once, is_quoted, names, kept, kept_if, more_kept}
+use Rattle.cx_text.specs.Lexemes.{first_mark, new_name, number_in, comma, once, is_quoted, names, kept, kept_if, more_kept, in_line}
 use Rattle.cx_text.specs.Lexemes as lexemes
 use Rattle.cx_text.specs.Written.{word}
 use Rattle.cx_text.proofs.PrintLaws.{Printable, printable_kept, all_printable}
@@ -27,7 +27,7 @@ use Rattle.cx_iface.specs.declared.words.First.TheVariants as firsts
 use Rattle.cx_iface.specs.Words.{FUNCTION, TYPE, DIM, TIMELEVELS, DISTRIB, SIZE, GHOSTSIZE, TAGS, is_line_word, gtype_of, begins_with}
 use Rattle.cx_iface.specs.Attributes.{keep, is_distribution, is_size, sizes, type_, dim, levels, distrib, size, ghostsize, tags, attribute}
 use Rattle.cx_iface.specs.Groups.{group_name, copies, variables, block_or_name, group}
-use Rattle.cx_iface.specs.File.{implements, inherits, friends, access, grouped, in_line, line, kept_line, function, part, again_mark, worded, item, file, interface}
+use Rattle.cx_iface.specs.File.{implements, inherits, friends, access, grouped, line, kept_line, function, part, again_mark, worded, item, file, interface}
 use Rattle.cx_iface.proofs.AttributesFit.{named_is, ends_no_line, sign_ended, size_ended, quoted_ended, distribution_ended, kept_at}
 use Rattle.cx_iface.proofs.FileAgain.{word_stays}
 use Rattle.cx_iface.proofs.FitLaws.{not_true, group_name_is, line_word_is_word}

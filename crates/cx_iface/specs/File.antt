@@ -9,7 +9,7 @@ use Rattle.cx_text.specs.declared.token.Token.{Token}
 use Rattle.cx_text.specs.Tokens.{is_word, is_line_end}
 use Rattle.cx_text.specs.Grammar.{Grammar}
 use Rattle.cx_text.specs.Rules.{Rule, token, nothing, ◌>>=◌, lookahead, choice, loop, is_named, line_ends, sign, name_here, sign_here, line_end}
-use Rattle.cx_text.specs.Lexemes.{first_mark, names, kept_if, more_kept}
+use Rattle.cx_text.specs.Lexemes.{first_mark, names, kept_if, more_kept, in_line}
 use Rattle.cx_iface.specs.declared.tree.Access.{Access}
 use Rattle.cx_iface.specs.declared.tree.Access.TheVariants.{Private}
 use Rattle.cx_iface.specs.declared.tree.Interface.{Interface}
@@ -67,9 +67,6 @@ grouped c s = do
   nothing (record s { groups = s.groups - 1; tree = record s.tree { groups = s.tree.groups ++ g ∷ [] } })
 
 -- ---- lines that are kept as they stand
-
-abbrev pub in_line : Token → Bool
-in_line t = not (is_line_end t)
 
 -- what follows these tokens up to LineEnd
 abbrev pub line : List Token → Read → Rule Read

@@ -2,8 +2,7 @@
 
 ghost use Rattle.std.specs.Prelude.{◌≡◌, ◌||◌};
 ghost use Rattle.cx_text.specs.Grammar.{passes, head};
-ghost use Rattle.cx_text.specs.Reading.{Gives};
-ghost use Rattle.cx_text.specs.Rules.{token, lexeme, loop, unmarked, is_sign, is_named};
+ghost use Rattle.cx_text.specs.Rules.{Obeys, Builds, token, lexeme, loop, unmarked, is_sign, is_named};
 ghost use Rattle.cx_text.specs.Lexemes.{first_mark, kept_if, number_in};
 ghost use Rattle.cx_text.specs.declared.stop.Mark.TheVariants as marks;
 ghost use Rattle.cx_iface.specs.Words.{gtype_of};
@@ -66,11 +65,11 @@ fn has_form(form: Kept, token: &Token) -> bool
 }
 
 fn kept_here(reader: &mut Reader, alloc: Global, form: Kept) -> Result<Token, Stop>
-    ensures { Gives (λ t. t) result reader.new.rest.now ((token (kept_if (has_form form)) unmarked).reads reader.old.rest.now) }
+    ensures { Obeys (token (kept_if (has_form form)) unmarked) result reader.old reader.new }
 {
     match reader.rest {
         [token, rest @ ..] if has_form(form, token) => {
-            let kept = token.kept(alloc)?;
+            let kept = token.kept_copy(alloc)?;
             reader.rest = rest;
             Ok(kept)
         }
@@ -85,7 +84,8 @@ fn keep(
     form: Kept,
     tokens: &mut List<Token>,
 ) -> Result<(), Stop>
-    ensures { Gives (λ x. tokens.new) result reader.new.rest.now ((keep (has_form form) unmarked tokens.old).reads reader.old.rest.now) }
+    ensures { Builds (keep (has_form form) unmarked tokens.old) tokens.new
+        result reader.old reader.new }
 {
     let token = kept_here(reader, alloc, form)?;
     reader.skip_line_ends();
@@ -94,14 +94,15 @@ fn keep(
 }
 
 fn once_here(reader: &mut Reader, alloc: Global, name: &[u8], seen: bool) -> Result<Token, Stop>
-    ensures { Gives (λ t. t) result reader.new.rest.now ((token (kept_if (is_named name.now)) (λ t. first_mark seen marks.Repeated None)).reads reader.old.rest.now) }
+    ensures { Obeys (token (kept_if (is_named name.now)) (λ t. first_mark seen marks.Repeated None))
+        result reader.old reader.new }
 {
     match reader.rest {
         [token, rest @ ..] if token.is_named(name) => {
             if seen {
                 return Err(Stop::Fault(Why::Marked(Mark::Repeated)));
             }
-            let kept = token.kept(alloc)?;
+            let kept = token.kept_copy(alloc)?;
             reader.rest = rest;
             Ok(kept)
         }
@@ -117,7 +118,7 @@ fn keep_once(
     seen: bool,
     tokens: &mut List<Token>,
 ) -> Result<(), Stop>
-    ensures { Gives (λ x. tokens.new) result reader.new.rest.now ((keep_once name.now seen tokens.old).reads reader.old.rest.now) }
+    ensures { Builds (keep_once name.now seen tokens.old) tokens.new result reader.old reader.new }
 {
     let token = once_here(reader, alloc, name, seen)?;
     reader.skip_line_ends();
@@ -126,14 +127,15 @@ fn keep_once(
 }
 
 fn more_sizes(reader: &mut Reader, alloc: Global, tokens: &mut List<Token>) -> Result<(), Stop>
-    ensures { Gives (λ x. tokens.new) result reader.new.rest.now ((more_sizes tokens.old).reads reader.old.rest.now) }
+    ensures { Builds (more_sizes tokens.old) tokens.new result reader.old reader.new }
 {
     keep(reader, alloc, Kept::Sign(b','), tokens)?;
     keep(reader, alloc, Kept::Size, tokens)
 }
 
 fn sizes_after(reader: &mut Reader, alloc: Global, tokens: &mut List<Token>) -> Result<(), Stop>
-    ensures { Gives (λ x. tokens.new) result reader.new.rest.now ((loop (is_sign 44) more_sizes tokens.old).reads reader.old.rest.now) }
+    ensures { Builds (loop (is_sign 44) more_sizes tokens.old) tokens.new
+        result reader.old reader.new }
 {
     'sizes: while reader.at_sign(b',') {
         more_sizes(reader, alloc, tokens)?;
@@ -143,14 +145,14 @@ fn sizes_after(reader: &mut Reader, alloc: Global, tokens: &mut List<Token>) -> 
 
 /// Words or numbers with commas between, kept behind the others.
 fn sizes(reader: &mut Reader, alloc: Global, tokens: &mut List<Token>) -> Result<(), Stop>
-    ensures { Gives (λ x. tokens.new) result reader.new.rest.now ((sizes tokens.old).reads reader.old.rest.now) }
+    ensures { Builds (sizes tokens.old) tokens.new result reader.old reader.new }
 {
     keep(reader, alloc, Kept::Size, tokens)?;
     sizes_after(reader, alloc, tokens)
 }
 
 fn gtype_here(reader: &mut Reader) -> Result<GType, Stop>
-    ensures { Gives (λ g. g) result reader.new.rest.now ((token gtype_of unmarked).reads reader.old.rest.now) }
+    ensures { Obeys (token gtype_of unmarked) result reader.old reader.new }
 {
     match reader.rest {
         [token, rest @ ..] => match gtype_of(token) {
@@ -165,7 +167,7 @@ fn gtype_here(reader: &mut Reader) -> Result<GType, Stop>
 }
 
 fn gtype(reader: &mut Reader) -> Result<GType, Stop>
-    ensures { Gives (λ g. g) result reader.new.rest.now ((lexeme gtype_of unmarked).reads reader.old.rest.now) }
+    ensures { Obeys (lexeme gtype_of unmarked) result reader.old reader.new }
 {
     let gtype = gtype_here(reader)?;
     reader.skip_line_ends();
@@ -174,14 +176,14 @@ fn gtype(reader: &mut Reader) -> Result<GType, Stop>
 
 /// A number from 1 to `high`.
 pub fn small(reader: &mut Reader, high: u8) -> Result<u8, Stop>
-    ensures { Gives (λ n. n) result reader.new.rest.now ((number_in 1 high).reads reader.old.rest.now) }
+    ensures { Obeys (number_in 1 high) result reader.old reader.new }
 {
     let number = reader.number_in(1, u64::from(high))?;
     Ok(number as u8)
 }
 
 fn type_(reader: &mut Reader, attributes: &mut Attributes) -> Result<(), Stop>
-    ensures { Gives (λ x. attributes.new) result reader.new.rest.now ((type_ attributes.old).reads reader.old.rest.now) }
+    ensures { Builds (type_ attributes.old) attributes.new result reader.old reader.new }
 {
     reader.once(b"TYPE", attributes.gtype.is_some())?;
     reader.sign(b'=')?;
@@ -190,7 +192,7 @@ fn type_(reader: &mut Reader, attributes: &mut Attributes) -> Result<(), Stop>
 }
 
 fn dim(reader: &mut Reader, attributes: &mut Attributes) -> Result<(), Stop>
-    ensures { Gives (λ x. attributes.new) result reader.new.rest.now ((dim attributes.old).reads reader.old.rest.now) }
+    ensures { Builds (dim attributes.old) attributes.new result reader.old reader.new }
 {
     reader.once(b"DIM", attributes.dim.is_some())?;
     reader.sign(b'=')?;
@@ -199,7 +201,7 @@ fn dim(reader: &mut Reader, attributes: &mut Attributes) -> Result<(), Stop>
 }
 
 fn levels(reader: &mut Reader, attributes: &mut Attributes) -> Result<(), Stop>
-    ensures { Gives (λ x. attributes.new) result reader.new.rest.now ((levels attributes.old).reads reader.old.rest.now) }
+    ensures { Builds (levels attributes.old) attributes.new result reader.old reader.new }
 {
     reader.once(b"TIMELEVELS", attributes.levels.is_some())?;
     reader.sign(b'=')?;
@@ -208,7 +210,7 @@ fn levels(reader: &mut Reader, attributes: &mut Attributes) -> Result<(), Stop>
 }
 
 fn distrib(reader: &mut Reader, alloc: Global, attributes: &mut Attributes) -> Result<(), Stop>
-    ensures { Gives (λ x. attributes.new) result reader.new.rest.now ((distrib attributes.old).reads reader.old.rest.now) }
+    ensures { Builds (distrib attributes.old) attributes.new result reader.old reader.new }
 {
     keep_once(
         reader,
@@ -224,7 +226,7 @@ fn distrib(reader: &mut Reader, alloc: Global, attributes: &mut Attributes) -> R
 }
 
 fn size(reader: &mut Reader, alloc: Global, attributes: &mut Attributes) -> Result<(), Stop>
-    ensures { Gives (λ x. attributes.new) result reader.new.rest.now ((size attributes.old).reads reader.old.rest.now) }
+    ensures { Builds (size attributes.old) attributes.new result reader.old reader.new }
 {
     keep_once(
         reader,
@@ -240,7 +242,7 @@ fn size(reader: &mut Reader, alloc: Global, attributes: &mut Attributes) -> Resu
 }
 
 fn ghostsize(reader: &mut Reader, alloc: Global, attributes: &mut Attributes) -> Result<(), Stop>
-    ensures { Gives (λ x. attributes.new) result reader.new.rest.now ((ghostsize attributes.old).reads reader.old.rest.now) }
+    ensures { Builds (ghostsize attributes.old) attributes.new result reader.old reader.new }
 {
     keep_once(
         reader,
@@ -256,7 +258,7 @@ fn ghostsize(reader: &mut Reader, alloc: Global, attributes: &mut Attributes) ->
 }
 
 fn tags(reader: &mut Reader, alloc: Global, attributes: &mut Attributes) -> Result<(), Stop>
-    ensures { Gives (λ x. attributes.new) result reader.new.rest.now ((tags attributes.old).reads reader.old.rest.now) }
+    ensures { Builds (tags attributes.old) attributes.new result reader.old reader.new }
 {
     keep_once(
         reader,
@@ -305,7 +307,7 @@ fn at_attribute(reader: &Reader) -> bool
 }
 
 fn effective(reader: &mut Reader, attributes: &mut Attributes) -> Result<(), Stop>
-    ensures { Gives (λ x. attributes.new) result reader.new.rest.now ((effective attributes.old).reads reader.old.rest.now) }
+    ensures { Builds (effective attributes.old) attributes.new result reader.old reader.new }
 {
     if reader.at_keyword(b"TYPE") {
         type_(reader, attributes)
@@ -317,7 +319,7 @@ fn effective(reader: &mut Reader, attributes: &mut Attributes) -> Result<(), Sto
 }
 
 fn idle(reader: &mut Reader, alloc: Global, attributes: &mut Attributes) -> Result<(), Stop>
-    ensures { Gives (λ x. attributes.new) result reader.new.rest.now ((idle attributes.old).reads reader.old.rest.now) }
+    ensures { Builds (idle attributes.old) attributes.new result reader.old reader.new }
 {
     if reader.at_keyword(b"DISTRIB") {
         distrib(reader, alloc, attributes)
@@ -331,7 +333,7 @@ fn idle(reader: &mut Reader, alloc: Global, attributes: &mut Attributes) -> Resu
 }
 
 fn attribute(reader: &mut Reader, alloc: Global, attributes: &mut Attributes) -> Result<(), Stop>
-    ensures { Gives (λ x. attributes.new) result reader.new.rest.now ((attribute attributes.old).reads reader.old.rest.now) }
+    ensures { Builds (attribute attributes.old) attributes.new result reader.old reader.new }
 {
     if at_effective(reader) {
         effective(reader, attributes)
@@ -346,7 +348,8 @@ pub fn read_attributes(
     alloc: Global,
     attributes: &mut Attributes,
 ) -> Result<(), Stop>
-    ensures { Gives (λ x. attributes.new) result reader.new.rest.now ((loop is_attribute attribute attributes.old).reads reader.old.rest.now) }
+    ensures { Builds (loop is_attribute attribute attributes.old) attributes.new
+        result reader.old reader.new }
 {
     'attributes: while at_attribute(reader) {
         attribute(reader, alloc, attributes)?;

@@ -1,8 +1,7 @@
 //! The groups of variables.
 
 ghost use Rattle.std.specs.Prelude.{◌≡◌, ◌∷◌, []};
-ghost use Rattle.cx_text.specs.Reading.{Gives};
-ghost use Rattle.cx_text.specs.Rules.{token, loop, name_mark, choice, is_sign, nothing};
+ghost use Rattle.cx_text.specs.Rules.{Obeys, Builds, token, loop, name_mark, choice, is_sign, nothing};
 ghost use Rattle.cx_text.specs.Lexemes.{first_mark, is_comma_or_word, is_quoted, quoted};
 ghost use Rattle.cx_text.specs.Tokens.{is_word};
 ghost use Rattle.cx_text.specs.declared.stop.Mark.TheVariants as marks;
@@ -22,7 +21,8 @@ struct Contents {
 }
 
 fn group_name_here(reader: &mut Reader, alloc: Global, full: bool) -> Result<Text, Stop>
-    ensures { Gives (λ n. n) result reader.new.rest.now ((token group_name_of (λ t. first_mark full marks.Limit (name_mark t))).reads reader.old.rest.now) }
+    ensures { Obeys (token group_name_of (λ t. first_mark full marks.Limit (name_mark t)))
+        result reader.old reader.new }
 {
     match reader.rest {
         [token, rest @ ..] if token.is_word() && !token.is_named(b"FUNCTION") => {
@@ -39,7 +39,7 @@ fn group_name_here(reader: &mut Reader, alloc: Global, full: bool) -> Result<Tex
 
 /// A group's name, which is past the limit where as many groups as may stand are there already.
 fn group_name(reader: &mut Reader, alloc: Global, full: bool) -> Result<Text, Stop>
-    ensures { Gives (λ n. n) result reader.new.rest.now ((group_name full).reads reader.old.rest.now) }
+    ensures { Obeys (group_name full) result reader.old reader.new }
 {
     let name = group_name_here(reader, alloc, full)?;
     reader.skip_line_ends();
@@ -48,7 +48,7 @@ fn group_name(reader: &mut Reader, alloc: Global, full: bool) -> Result<Text, St
 
 /// The number of copies in brackets, if one stands here.
 fn copies(reader: &mut Reader) -> Result<Option<u32>, Stop>
-    ensures { Gives (λ k. k) result reader.new.rest.now ((choice (is_sign 91) copies (nothing None)).reads reader.old.rest.now) }
+    ensures { Obeys (choice (is_sign 91) copies (nothing None)) result reader.old reader.new }
 {
     if !reader.at_sign(b'[') {
         return Ok(None);
@@ -64,7 +64,7 @@ fn more_variables(
     alloc: Global,
     variables: &mut List<Text>,
 ) -> Result<(), Stop>
-    ensures { Gives (λ x. variables.new) result reader.new.rest.now ((more_variables variables.old).reads reader.old.rest.now) }
+    ensures { Builds (more_variables variables.old) variables.new result reader.old reader.new }
 {
     reader.comma()?;
     let variable = reader.new_name(alloc, variables.as_slice())?;
@@ -77,7 +77,8 @@ fn variables_after(
     alloc: Global,
     variables: &mut List<Text>,
 ) -> Result<(), Stop>
-    ensures { Gives (λ x. variables.new) result reader.new.rest.now ((loop is_comma_or_word more_variables variables.old).reads reader.old.rest.now) }
+    ensures { Builds (loop is_comma_or_word more_variables variables.old) variables.new
+        result reader.old reader.new }
 {
     'variables: while reader.at_comma_or_word() {
         more_variables(reader, alloc, variables)?;
@@ -87,7 +88,7 @@ fn variables_after(
 
 /// The variables in a block.
 fn variables(reader: &mut Reader, alloc: Global) -> Result<List<Text>, Stop>
-    ensures { Gives (λ vs. vs) result reader.new.rest.now ((choice is_word variables (nothing [])).reads reader.old.rest.now) }
+    ensures { Obeys (choice is_word variables (nothing [])) result reader.old reader.new }
 {
     let mut variables = List::empty(alloc);
     if reader.at_word() {
@@ -100,17 +101,17 @@ fn variables(reader: &mut Reader, alloc: Global) -> Result<List<Text>, Stop>
 
 /// A quoted text, if one stands here, else the text so far.
 fn text_after(reader: &mut Reader, alloc: Global, text: Text) -> Result<Text, Stop>
-    ensures { Gives (λ s. s) result reader.new.rest.now ((choice is_quoted quoted (nothing text)).reads reader.old.rest.now) }
+    ensures { Obeys (choice is_quoted quoted (nothing text)) result reader.old reader.new }
 {
-    if reader.at_quoted() {
-        reader.quoted(alloc)
+    if reader.at_quoted_text() {
+        reader.quoted_text(alloc)
     } else {
         Ok(text)
     }
 }
 
 fn block(reader: &mut Reader, alloc: Global, text: Text) -> Result<Contents, Stop>
-    ensures { Gives (λ c. c) result reader.new.rest.now ((block text).reads reader.old.rest.now) }
+    ensures { Obeys (block text) result reader.old reader.new }
 {
     reader.sign(b'{')?;
     let variables = variables(reader, alloc)?;
@@ -126,7 +127,7 @@ fn block_or_name(
     name: &Text,
     text: Text,
 ) -> Result<Contents, Stop>
-    ensures { Gives (λ c. c) result reader.new.rest.now ((block_or_name name.now text).reads reader.old.rest.now) }
+    ensures { Obeys (block_or_name name.now text) result reader.old reader.new }
 {
     if reader.at_sign(b'{') {
         return block(reader, alloc, text);
@@ -144,7 +145,7 @@ pub fn group(
     ctype: CType,
     full: bool,
 ) -> Result<Group, Stop>
-    ensures { Gives (λ g. g) result reader.new.rest.now ((group access ctype full).reads reader.old.rest.now) }
+    ensures { Obeys (group access ctype full) result reader.old reader.new }
 {
     reader.skip_line_ends();
     let name = group_name(reader, alloc, full)?;

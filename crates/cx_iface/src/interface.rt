@@ -1,14 +1,14 @@
 //! The interface file of a thorn.
 
 ghost use Rattle.std.specs.Prelude.{◌≡◌, ◌∷◌, [], nat_eq, None};
-ghost use Rattle.cx_text.specs.Grammar.{passes, head, line_at, Answers, AnswersOnly};
+ghost use Rattle.cx_text.specs.Grammar.{passes, head, line_at, ReadsBy, AnswersOnly};
 ghost use Rattle.cx_text.specs.Reading.{Gives, read_marked};
-ghost use Rattle.cx_text.specs.Rules.{token, loop, is_named};
+ghost use Rattle.cx_text.specs.Rules.{Obeys, Builds, token, loop, is_named};
 ghost use Rattle.cx_text.specs.Tokens.{is_word};
-ghost use Rattle.cx_text.specs.Lexemes.{first_mark, kept_if, more_kept};
+ghost use Rattle.cx_text.specs.Lexemes.{first_mark, kept_if, more_kept, in_line};
 ghost use Rattle.cx_text.specs.declared.stop.Mark.TheVariants as marks;
 ghost use Rattle.cx_iface.specs.Words.{FUNCTION, is_line_word, begins_with};
-ghost use Rattle.cx_iface.specs.File.{nobody, implements, inherits, friends, access, grouped, in_line, line, kept_line, function, part, is_again, again_mark, worded, item, file, interface, implemented};
+ghost use Rattle.cx_iface.specs.File.{nobody, implements, inherits, friends, access, grouped, line, kept_line, function, part, is_again, again_mark, worded, item, file, interface, implemented};
 
 use crate::group::group;
 use crate::words::{First, begins_with, is_line_word};
@@ -32,7 +32,7 @@ struct Read {
 }
 
 fn implements(reader: &mut Reader, alloc: Global, read: &mut Read) -> Result<(), Stop>
-    ensures { Gives (λ x. read.new) result reader.new.rest.now ((implements read.old).reads reader.old.rest.now) }
+    ensures { Builds (implements read.old) read.new result reader.old reader.new }
 {
     reader.skip_line_ends();
     reader.sign(b':')?;
@@ -44,7 +44,7 @@ fn implements(reader: &mut Reader, alloc: Global, read: &mut Read) -> Result<(),
 }
 
 fn inherits(reader: &mut Reader, alloc: Global, read: &mut Read) -> Result<(), Stop>
-    ensures { Gives (λ x. read.new) result reader.new.rest.now ((inherits read.old).reads reader.old.rest.now) }
+    ensures { Builds (inherits read.old) read.new result reader.old reader.new }
 {
     let mut names = List::empty(alloc);
     reader.skip_line_ends();
@@ -57,7 +57,7 @@ fn inherits(reader: &mut Reader, alloc: Global, read: &mut Read) -> Result<(), S
 }
 
 fn friends(reader: &mut Reader, alloc: Global, read: &mut Read) -> Result<(), Stop>
-    ensures { Gives (λ x. read.new) result reader.new.rest.now ((friends read.old).reads reader.old.rest.now) }
+    ensures { Builds (friends read.old) read.new result reader.old reader.new }
 {
     let mut names = List::empty(alloc);
     reader.skip_line_ends();
@@ -70,7 +70,7 @@ fn friends(reader: &mut Reader, alloc: Global, read: &mut Read) -> Result<(), St
 }
 
 fn access(reader: &mut Reader, level: Access, read: &mut Read) -> Result<(), Stop>
-    ensures { Gives (λ x. read.new) result reader.new.rest.now ((access level read.old).reads reader.old.rest.now) }
+    ensures { Builds (access level read.old) read.new result reader.old reader.new }
 {
     reader.skip_line_ends();
     reader.sign(b':')?;
@@ -79,7 +79,7 @@ fn access(reader: &mut Reader, level: Access, read: &mut Read) -> Result<(), Sto
 }
 
 fn grouped(reader: &mut Reader, alloc: Global, ctype: CType, read: &mut Read) -> Result<(), Stop>
-    ensures { Gives (λ x. read.new) result reader.new.rest.now ((grouped ctype read.old).reads reader.old.rest.now) }
+    ensures { Builds (grouped ctype read.old) read.new result reader.old reader.new }
 {
     let group = group(reader, alloc, read.access, ctype, read.groups == 0)?;
     read.tree.groups.push(group)?;
@@ -87,21 +87,12 @@ fn grouped(reader: &mut Reader, alloc: Global, ctype: CType, read: &mut Read) ->
     Ok(())
 }
 
-fn at_in_line(reader: &Reader) -> bool
-    ensures { result ≡ passes in_line (head reader.now.rest.now) }
-{
-    match reader.rest {
-        [token, ..] => !token.is_line_end(),
-        [] => false,
-    }
-}
-
 fn more_kept(reader: &mut Reader, alloc: Global, tokens: &mut List<Token>) -> Result<(), Stop>
-    ensures { Gives (λ x. tokens.new) result reader.new.rest.now ((more_kept in_line tokens.old).reads reader.old.rest.now) }
+    ensures { Builds (more_kept in_line tokens.old) tokens.new result reader.old reader.new }
 {
     match reader.rest {
         [token, rest @ ..] if !token.is_line_end() => {
-            let kept = token.kept(alloc)?;
+            let kept = token.kept_copy(alloc)?;
             reader.rest = rest;
             tokens.push(kept)?;
             Ok(())
@@ -115,9 +106,10 @@ fn kept_up_to_line_end(
     alloc: Global,
     tokens: &mut List<Token>,
 ) -> Result<(), Stop>
-    ensures { Gives (λ x. tokens.new) result reader.new.rest.now ((loop in_line (more_kept in_line) tokens.old).reads reader.old.rest.now) }
+    ensures { Builds (loop in_line (more_kept in_line) tokens.old) tokens.new
+        result reader.old reader.new }
 {
-    'kept: while at_in_line(reader) {
+    'kept: while reader.at_in_line() {
         more_kept(reader, alloc, tokens)?;
     }
     Ok(())
@@ -130,7 +122,7 @@ fn line(
     mut tokens: List<Token>,
     read: &mut Read,
 ) -> Result<(), Stop>
-    ensures { Gives (λ x. read.new) result reader.new.rest.now ((line tokens read.old).reads reader.old.rest.now) }
+    ensures { Builds (line tokens read.old) read.new result reader.old reader.new }
 {
     kept_up_to_line_end(reader, alloc, &mut tokens)?;
     reader.line_end()?;
@@ -140,14 +132,15 @@ fn line(
 }
 
 fn line_word(reader: &mut Reader, alloc: Global, full: bool) -> Result<Token, Stop>
-    ensures { Gives (λ w. w) result reader.new.rest.now ((token (kept_if is_line_word) (λ t. first_mark full marks.Limit None)).reads reader.old.rest.now) }
+    ensures { Obeys (token (kept_if is_line_word) (λ t. first_mark full marks.Limit None))
+        result reader.old reader.new }
 {
     match reader.rest {
         [token, rest @ ..] if is_line_word(token) => {
             if full {
                 return Err(Stop::Fault(Why::Marked(Mark::Limit)));
             }
-            let kept = token.kept(alloc)?;
+            let kept = token.kept_copy(alloc)?;
             reader.rest = rest;
             Ok(kept)
         }
@@ -156,7 +149,7 @@ fn line_word(reader: &mut Reader, alloc: Global, full: bool) -> Result<Token, St
 }
 
 fn kept_line(reader: &mut Reader, alloc: Global, read: &mut Read) -> Result<(), Stop>
-    ensures { Gives (λ x. read.new) result reader.new.rest.now ((kept_line read.old).reads reader.old.rest.now) }
+    ensures { Builds (kept_line read.old) read.new result reader.old reader.new }
 {
     let word = line_word(reader, alloc, read.lines == 0)?;
     let mut tokens = List::empty(alloc);
@@ -165,14 +158,15 @@ fn kept_line(reader: &mut Reader, alloc: Global, read: &mut Read) -> Result<(), 
 }
 
 fn function_word(reader: &mut Reader, alloc: Global, full: bool) -> Result<Token, Stop>
-    ensures { Gives (λ w. w) result reader.new.rest.now ((token (kept_if (is_named FUNCTION)) (λ t. first_mark full marks.Limit None)).reads reader.old.rest.now) }
+    ensures { Obeys (token (kept_if (is_named FUNCTION)) (λ t. first_mark full marks.Limit None))
+        result reader.old reader.new }
 {
     match reader.rest {
         [token, rest @ ..] if token.is_named(b"FUNCTION") => {
             if full {
                 return Err(Stop::Fault(Why::Marked(Mark::Limit)));
             }
-            let kept = token.kept(alloc)?;
+            let kept = token.kept_copy(alloc)?;
             reader.rest = rest;
             Ok(kept)
         }
@@ -182,7 +176,7 @@ fn function_word(reader: &mut Reader, alloc: Global, full: bool) -> Result<Token
 
 /// A function's declaration behind its first word.
 fn function(reader: &mut Reader, alloc: Global, word: Token, read: &mut Read) -> Result<(), Stop>
-    ensures { Gives (λ x. read.new) result reader.new.rest.now ((function word read.old).reads reader.old.rest.now) }
+    ensures { Builds (function word read.old) read.new result reader.old reader.new }
 {
     let function = function_word(reader, alloc, read.lines == 0)?;
     let mut tokens = List::empty(alloc);
@@ -193,7 +187,7 @@ fn function(reader: &mut Reader, alloc: Global, word: Token, read: &mut Read) ->
 
 /// What a word begins, behind it.
 fn part(reader: &mut Reader, alloc: Global, word: Token, read: &mut Read) -> Result<(), Stop>
-    ensures { Gives (λ x. read.new) result reader.new.rest.now ((part (begins_with word) word read.old).reads reader.old.rest.now) }
+    ensures { Builds (part (begins_with word) word read.old) read.new result reader.old reader.new }
 {
     if reader.at_keyword(b"FUNCTION") {
         return function(reader, alloc, word, read);
@@ -227,20 +221,23 @@ fn is_function(rest: &[Token]) -> bool
 
 /// Whether a word before these tokens is the first one of a header of which one stands already.
 fn is_repeated(read: &Read, token: &Token, rest: &[Token]) -> bool
-    ensures { again_mark read.now (passes (is_named FUNCTION) (head rest.now)) token.now ≡ first_mark result marks.Repeated None }
+    ensures { again_mark read.now (passes (is_named FUNCTION) (head rest.now)) token.now
+        ≡ first_mark result marks.Repeated None }
 {
     !is_function(rest) && is_again(read, token)
 }
 
 fn first_word(reader: &mut Reader, alloc: Global, read: &Read) -> Result<Token, Stop>
-    ensures { Gives (λ w. w) result reader.new.rest.now (read_marked (kept_if is_word) (is_named FUNCTION) (again_mark read.now) reader.old.rest.now) }
+    ensures { Gives (λ w. w) result reader.new.rest.now
+        (read_marked (kept_if is_word) (is_named FUNCTION) (again_mark read.now)
+        reader.old.rest.now) }
 {
     match reader.rest {
         [token, rest @ ..] if token.is_word() => {
             if is_repeated(read, token, rest) {
                 return Err(Stop::Fault(Why::Marked(Mark::Repeated)));
             }
-            let kept = token.kept(alloc)?;
+            let kept = token.kept_copy(alloc)?;
             reader.rest = rest;
             Ok(kept)
         }
@@ -249,7 +246,7 @@ fn first_word(reader: &mut Reader, alloc: Global, read: &Read) -> Result<Token, 
 }
 
 fn worded(reader: &mut Reader, alloc: Global, read: &mut Read) -> Result<(), Stop>
-    ensures { Gives (λ x. read.new) result reader.new.rest.now ((worded read.old).reads reader.old.rest.now) }
+    ensures { Builds (worded read.old) read.new result reader.old reader.new }
 {
     let word = first_word(reader, alloc, read)?;
     part(reader, alloc, word, read)
@@ -265,7 +262,7 @@ fn at_line_word(reader: &Reader) -> bool
 }
 
 fn item(reader: &mut Reader, alloc: Global, read: &mut Read) -> Result<(), Stop>
-    ensures { Gives (λ x. read.new) result reader.new.rest.now ((item read.old).reads reader.old.rest.now) }
+    ensures { Builds (item read.old) read.new result reader.old reader.new }
 {
     if at_line_word(reader) {
         kept_line(reader, alloc, read)
@@ -275,7 +272,7 @@ fn item(reader: &mut Reader, alloc: Global, read: &mut Read) -> Result<(), Stop>
 }
 
 fn items(reader: &mut Reader, alloc: Global, read: &mut Read) -> Result<(), Stop>
-    ensures { Gives (λ x. read.new) result reader.new.rest.now ((loop is_word item read.old).reads reader.old.rest.now) }
+    ensures { Builds (loop is_word item read.old) read.new result reader.old reader.new }
 {
     'items: while reader.at_word() {
         item(reader, alloc, read)?;
@@ -284,7 +281,7 @@ fn items(reader: &mut Reader, alloc: Global, read: &mut Read) -> Result<(), Stop
 }
 
 fn whole(reader: &mut Reader, alloc: Global) -> Result<Read, Stop>
-    ensures { Gives (λ s. s) result reader.new.rest.now (file.reads reader.old.rest.now) }
+    ensures { Obeys file result reader.old reader.new }
 {
     let mut read = Read {
         access: Access::Private,
@@ -340,7 +337,7 @@ fn implemented(
 ///   is kept, or the word FUNCTION in it.
 pub fn read_interface(alloc: Global, tokens: &List<Token>) -> Result<Interface, CclFault>
     // The answer is what the tokens spell, or the first fault.
-    ensures answers { Answers interface (λ x. x) tokens.now result }
+    ensures answers { ReadsBy interface (λ x. x) tokens.now result }
     // What is spelled is answered, unless memory runs out.
     ensures only { AnswersOnly interface (λ x. x) tokens.now result }
 {

@@ -2,17 +2,11 @@
 #![tactic(auto)]
 
 mod attributes;
-#[cfg(test)]
-mod enumeration;
 mod group;
 mod interface;
-mod printer;
-#[cfg(test)]
-mod tests;
 mod tree;
 mod words;
 
 pub use cx_text::CType;
 pub use interface::read_interface;
-pub use printer::print_interface;
 pub use tree::{Access, GType, Group, Interface};

@@ -23,7 +23,9 @@ pub enum GType {
 pub struct Group {
     /// That of the last access line before it, and private before any.
     pub access: Access,
+    /// The type of its variables.
     pub ctype: CType,
+    /// Its name.
     pub name: Text,
     /// How many copies each variable has, from 1 to 64, where a number stands in brackets behind the name.
     pub copies: Option<u32>,

@@ -13,10 +13,11 @@ use Rattle.cx_text.proofs.Blind.{unlined}
 use Rattle.cx_text.proofs.Printing.{loop_step, loop_stop, no_skip}
 use Rattle.cx_param.specs.declared.declarations.PType.{PType}
 use Rattle.cx_param.specs.declared.declarations.PType.TheVariants.{Boolean, Int, Keyword, String, Real}
-use Rattle.cx_param.specs.Defaults.{plain_default, is_printed, more_printed, real_default, default_of}
+use Rattle.cx_param.specs.Defaults.{plain_default, more_printed, real_default, default_of}
 use Rattle.cx_param.specs.Printed as printed
 use Rattle.cx_param.proofs.DefaultLaws.{more_printed_short}
 use Rattle.cx_param.proofs.NumberAgain.{one_skipped}
+use Rattle.cx_text.specs.Lexemes.{in_line}
 use Rattle.cx_param.proofs.TokenLaws.{InLine, all_printable, all_end, all_same, a_quoted}
 
 -- the tokens as which a default is read again
@@ -52,15 +53,15 @@ pub record RealFits (text : List ℕ) : Type 0 where
   pub fits : InLine first
   pub each : AllByRecursion InLine more
 
-more_again : (ts : List Token) (old : List ℕ) (rest : List Token) → AllByRecursion InLine ts → (loop is_printed more_printed old).reads (ts ++ line_end ∷ rest) ≡ Ok (joined old ts, line_end ∷ rest)
-more_again [] old rest h = loop_stop is_printed more_printed more_printed_short old (line_end ∷ rest) refl
+more_again : (ts : List Token) (old : List ℕ) (rest : List Token) → AllByRecursion InLine ts → (loop in_line more_printed old).reads (ts ++ line_end ∷ rest) ≡ Ok (joined old ts, line_end ∷ rest)
+more_again [] old rest h = loop_stop in_line more_printed more_printed_short old (line_end ∷ rest) refl
 more_again (t ∷ ts) old rest h =
     let inside = h.0.stays in
     let us : List Token = ts ++ line_end ∷ rest in
     let next : List ℕ = old ++ 32 ∷ spelling t.kind t.text in
-    let go : passes is_printed (head (t ∷ us)) ≡ true = rw inside refl in
+    let go : passes in_line (head (t ∷ us)) ≡ true = rw inside refl in
     let one : (more_printed old).reads (t ∷ us) ≡ Ok (next, us) = rw inside refl in
-    loop_step is_printed more_printed more_printed_short old next (t ∷ us) us go one
+    loop_step in_line more_printed more_printed_short old next (t ∷ us) us go one
     ∙ more_again ts next rest h.1
 
 real_again : (first : Token) (more : List Token) (rest : List Token) → InLine first → AllByRecursion InLine more → passes is_line_end (head rest) ≡ false → real_default.reads (first ∷ (more ++ line_end ∷ rest)) ≡ Ok (joined (spelling first.kind first.text) more, rest)

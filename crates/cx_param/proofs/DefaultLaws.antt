@@ -3,11 +3,11 @@ use Rattle.std.proofs.Common.{ℕ, List, [], ◌∷◌, Option, None, refl}
 use Rattle.cx_text.specs.declared.token.Token.{Token}
 use Rattle.cx_text.specs.Tokens.{is_word}
 use Rattle.cx_text.specs.Rules.{is_sign}
-use Rattle.cx_text.specs.Lexemes.{is_quoted}
+use Rattle.cx_text.specs.Lexemes.{is_quoted, in_line}
 use Rattle.cx_param.specs.declared.declarations.PType.{PType}
 use Rattle.cx_param.specs.declared.declarations.PType.TheVariants.{Boolean, Int, Keyword, String, Real}
 use Rattle.cx_param.specs.Numbers.{begins_number}
-use Rattle.cx_param.specs.Defaults.{plain_default, is_printed, printed_of, more_printed, real_default, default_of, unused_default}
+use Rattle.cx_param.specs.Defaults.{plain_default, printed_of, more_printed, real_default, default_of, unused_default}
 use Rattle.cx_text.proofs.Laws.{Means}
 use Rattle.cx_text.proofs.Loops.{Short}
 use Rattle.cx_text.proofs.RuleLaws.{Good, Full, Part, Tail, Any, Not, short_part, before_part, weaker_part, part_choice, part_end, tail_option, tail_choice, token_good, token_is_full, nothing_good, nothing_ends, fits_any, also_good, also_is_full, token_then, empty_then, loop_good, loop_empty, lexeme_last, lexeme_alone, a_line_end}
@@ -42,8 +42,8 @@ more_printed_short text = short_part (more_printed_good text) (more_printed_full
 
 real_part : Part real_default Ended Ended
 real_part =
-    token_then {G = Not is_printed} a_printed refl (λ t.
-    empty_then {G = Not is_printed}
+    token_then {G = Not in_line} a_printed refl (λ t.
+    empty_then {G = Not in_line}
     (loop_good {G = Any} more_printed_good more_printed_full (λ n h. h) (λ n h. tt) None refl)
     (loop_empty more_printed t) (λ n h. (h, h))
     (λ text. lexeme_last a_line_end refl))

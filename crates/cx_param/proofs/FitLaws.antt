@@ -13,7 +13,7 @@ use Rattle.cx_text.specs.Grammar.{Item, tokens}
 use Rattle.cx_text.specs.Grammar as grammar
 use Rattle.cx_text.specs.Printing.{spelling}
 use Rattle.cx_text.specs.Rules.{last, sign, sign_here, line_ends, line_end, keyword}
-use Rattle.cx_text.specs.Lexemes.{first_mark, decimal_from, number_of, number_in, is_number, quoted, is_inside, kept, more_kept, kept_while}
+use Rattle.cx_text.specs.Lexemes.{first_mark, decimal_from, number_of, number_in, is_number, quoted, is_inside, kept, more_kept, kept_while, in_line}
 use Rattle.cx_text.proofs.PrintLaws.{Printable, AllPrintable, printable_kept}
 use Rattle.cx_text.proofs.WrittenLaws.{printable_name}
 use Rattle.cx_text.proofs.Holds.{Holds, Unmarked, NamesAre, holds_any, holds_token, holds_lexeme, holds_also, holds_nothing, holds_choice, holds_loop, weaker_holds, name_holds, counted_holds, name_is_short, each-append}
@@ -31,7 +31,7 @@ use Rattle.cx_param.specs.declared.params.Read.{Read}
 use Rattle.cx_param.specs.Numbers.{number, step}
 use Rattle.cx_param.specs.Blocks.{description, Open, opened, begun, one_or, range_of, bracket, close_bracket, end, bound, closing, closed, ended, upper, stepped, next_span, further, uppers, behind_low, ints, number_range, text_range, one_text, texts, number_block, or_any, text_block, kept_block, block}
 use Rattle.cx_param.specs.Headings.{ptype, counted_ptype, length_of, comment, alias_of, steering, heading}
-use Rattle.cx_param.specs.Defaults.{plain_default, is_printed, printed_of, printed, more_printed, real_default, default_of, unused_default}
+use Rattle.cx_param.specs.Defaults.{plain_default, printed_of, printed, more_printed, real_default, default_of, unused_default}
 use Rattle.cx_param.specs.Params.{decl, shared_scope, shared_ranges, shared, declared, section, access_line, opening, declaring, entry, params}
 use Rattle.cx_param.proofs.NumberAgain.{IntFits, negative_fits}
 use Rattle.cx_param.proofs.TokenLaws.{InLine, Calm}
@@ -273,7 +273,7 @@ Written t text = (text ≡ spelling t.kind t.text) × InLine t
 
 written_as : (t : Token) (x : List ℕ) → Fine t → printed_of t ≡ Some x → Written (kept t) x
 written_as t x h v =
-    let k = some_at (is_printed t) (spelling t.kind t.text) x v in
+    let k = some_at (in_line t) (spelling t.kind t.text) x v in
     (sym k.1, record { stays = line_stays (is_line_end t) k.0; same = refl; printable = printable_kept h })
 
 printed_holds : Holds Fine printed (λ n x. (t : Token) × Written t x)

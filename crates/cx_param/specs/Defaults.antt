@@ -3,7 +3,7 @@ use Rattle.std.specs.Prelude.{ℕ, Bool, cond, not, List, ◌∷◌, ◌++◌, O
 use Rattle.cx_text.specs.declared.token.Token.{Token}
 use Rattle.cx_text.specs.Tokens.{is_word, is_line_end}
 use Rattle.cx_text.specs.Rules.{Rule, token, nothing, ◌>>=◌, choice, loop, unmarked, line_end}
-use Rattle.cx_text.specs.Lexemes.{word, is_quoted, quoted}
+use Rattle.cx_text.specs.Lexemes.{word, is_quoted, quoted, in_line}
 use Rattle.cx_param.specs.declared.declarations.PType.{PType}
 use Rattle.cx_param.specs.declared.declarations.PType.TheVariants.{Boolean, Int, Keyword, String, Real}
 use Rattle.cx_param.specs.Numbers.{begins_number, number, number_text}
@@ -14,11 +14,8 @@ abbrev pub plain_default : Rule (List ℕ)
 plain_default = choice is_quoted quoted (choice is_word word number_text)
 
 -- a token that isn't LineEnd, as printing writes it
-abbrev pub is_printed : Token → Bool
-is_printed t = not (is_line_end t)
-
 abbrev pub printed_of : Token → Option (List ℕ)
-printed_of t = cond (is_printed t) (Some (spelling t.kind t.text)) None
+printed_of t = cond (in_line t) (Some (spelling t.kind t.text)) None
 
 abbrev pub printed : Rule (List ℕ)
 printed = token printed_of unmarked
@@ -33,7 +30,7 @@ more_printed text = do
 abbrev pub real_default : Rule (List ℕ)
 real_default = do
   t ← printed
-  text ← loop is_printed more_printed t
+  text ← loop in_line more_printed t
   u ← line_end
   nothing text
 

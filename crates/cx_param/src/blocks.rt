@@ -2,10 +2,9 @@
 
 ghost use Rattle.std.specs.Prelude.{◌≡◌, IfOk};
 ghost use Rattle.cx_text.specs.Grammar.{passes, head};
-ghost use Rattle.cx_text.specs.Reading.{Gives};
-ghost use Rattle.cx_text.specs.Rules.{loop, is_sign};
+ghost use Rattle.cx_text.specs.Rules.{Obeys, Builds, loop, is_sign};
 ghost use Rattle.cx_text.specs.Lexemes.{is_quoted, is_inside, more_kept, kept_while};
-ghost use Rattle.cx_param.specs.Blocks.{description, opened, begun as begun_span, range_of, is_colon, is_bracket, is_close, is_end, bracket, close_bracket, end, bound, closing, closed, upper, is_step, stepped, next_span, further, uppers, behind_low, bracketed, from_low, from_colon, from_close, ints, is_ints, number_range, text_range, one_text, more_text, texts, number_block, or_any, text_block, kept_block, block};
+ghost use Rattle.cx_param.specs.Blocks.{description, opened, begun, range_of, is_colon, is_bracket, is_close, is_end, bracket, close_bracket, end, bound, closing, closed, upper, is_step, stepped, next_span, further, uppers, behind_low, bracketed, from_low, from_colon, from_close, ints, is_ints, number_range, string_range, text_range, one_text, more_text, texts, number_block, or_any, text_block, kept_block, block};
 
 use crate::numbers::{at_number, number, step};
 use crate::{PType, Range};
@@ -24,7 +23,7 @@ struct Span {
 
 /// A range behind whose low end nothing is read yet.
 fn begun(low: Option<i64>, low_in: bool) -> Span
-    ensures { result ≡ begun_span low low_in }
+    ensures { result ≡ begun low low_in }
 {
     Span {
         low,
@@ -48,42 +47,58 @@ fn range_of(span: Span) -> Range
 }
 
 fn description(reader: &mut Reader, alloc: Global) -> Result<(), Stop>
-    ensures { Gives (λ x. x) result reader.new.rest.now (description.reads reader.old.rest.now) }
+    ensures { Obeys description result reader.old reader.new }
 {
     if reader.at_sign_pair(b':', b':') {
         reader.sign_pair(b':', b':')?;
-        reader.quoted(alloc)?;
+        reader.quoted_text(alloc)?;
         Ok(())
     } else {
         Ok(())
     }
 }
 
+fn is_bracket(token: &Token) -> bool
+    ensures { result ≡ is_bracket token.now }
+{
+    token.is_sign(b'(') || token.is_sign(b'[')
+}
+
 fn at_bracket(reader: &Reader) -> bool
     ensures { result ≡ passes is_bracket (head reader.now.rest.now) }
 {
     match reader.rest {
-        [token, ..] => token.is_sign(b'(') || token.is_sign(b'['),
+        [token, ..] => is_bracket(token),
         [] => false,
     }
+}
+
+fn is_close(token: &Token) -> bool
+    ensures { result ≡ is_close token.now }
+{
+    token.is_sign(b')') || token.is_sign(b']')
 }
 
 fn at_close(reader: &Reader) -> bool
     ensures { result ≡ passes is_close (head reader.now.rest.now) }
 {
     match reader.rest {
-        [token, ..] => token.is_sign(b')') || token.is_sign(b']'),
+        [token, ..] => is_close(token),
         [] => false,
     }
+}
+
+fn is_end(token: &Token) -> bool
+    ensures { result ≡ is_end token.now }
+{
+    token.is_sign(b'*') || token.is_sign(b'-') || matches!(token.kind, Kind::Number)
 }
 
 fn at_end(reader: &Reader) -> bool
     ensures { result ≡ passes is_end (head reader.now.rest.now) }
 {
     match reader.rest {
-        [token, ..] => {
-            token.is_sign(b'*') || token.is_sign(b'-') || matches!(token.kind, Kind::Number)
-        }
+        [token, ..] => is_end(token),
         [] => false,
     }
 }
@@ -102,14 +117,7 @@ fn at_ints(reader: &Reader) -> bool
 {
     match reader.rest {
         [token, ..] => {
-            token.is_sign(b'(')
-                || token.is_sign(b'[')
-                || token.is_sign(b':')
-                || token.is_sign(b')')
-                || token.is_sign(b']')
-                || token.is_sign(b'*')
-                || token.is_sign(b'-')
-                || matches!(token.kind, Kind::Number)
+            is_bracket(token) || token.is_sign(b':') || is_close(token) || is_end(token)
         }
         [] => false,
     }
@@ -117,7 +125,7 @@ fn at_ints(reader: &Reader) -> bool
 
 /// An opening bracket: whether the end behind it is in the range.
 fn bracket(reader: &mut Reader) -> Result<bool, Stop>
-    ensures { Gives (λ x. x) result reader.new.rest.now (bracket.reads reader.old.rest.now) }
+    ensures { Obeys bracket result reader.old reader.new }
 {
     if reader.at_sign(b'(') {
         reader.sign(b'(')?;
@@ -130,7 +138,7 @@ fn bracket(reader: &mut Reader) -> Result<bool, Stop>
 
 /// A closing bracket: whether the end before it is in the range.
 fn close_bracket(reader: &mut Reader) -> Result<bool, Stop>
-    ensures { Gives (λ x. x) result reader.new.rest.now (close_bracket.reads reader.old.rest.now) }
+    ensures { Obeys close_bracket result reader.old reader.new }
 {
     if reader.at_sign(b')') {
         reader.sign(b')')?;
@@ -143,7 +151,7 @@ fn close_bracket(reader: &mut Reader) -> Result<bool, Stop>
 
 /// An end of a range: a number, or `*` for none.
 fn end(reader: &mut Reader) -> Result<Option<i64>, Stop>
-    ensures { Gives (λ x. x) result reader.new.rest.now (end.reads reader.old.rest.now) }
+    ensures { Obeys end result reader.old reader.new }
 {
     if reader.at_sign(b'*') {
         reader.sign(b'*')?;
@@ -154,7 +162,7 @@ fn end(reader: &mut Reader) -> Result<Option<i64>, Stop>
 }
 
 fn bound(reader: &mut Reader) -> Result<Option<i64>, Stop>
-    ensures { Gives (λ x. x) result reader.new.rest.now (bound.reads reader.old.rest.now) }
+    ensures { Obeys bound result reader.old reader.new }
 {
     if at_end(reader) {
         end(reader)
@@ -164,7 +172,7 @@ fn bound(reader: &mut Reader) -> Result<Option<i64>, Stop>
 }
 
 fn closing(reader: &mut Reader) -> Result<bool, Stop>
-    ensures { Gives (λ x. x) result reader.new.rest.now (closing.reads reader.old.rest.now) }
+    ensures { Obeys closing result reader.old reader.new }
 {
     if at_close(reader) {
         close_bracket(reader)
@@ -174,7 +182,7 @@ fn closing(reader: &mut Reader) -> Result<bool, Stop>
 }
 
 fn closed(reader: &mut Reader, ranges: &mut List<Range>, span: Span) -> Result<(), Stop>
-    ensures { Gives (λ x. ranges.new) result reader.new.rest.now ((closed (opened ranges.old span)).reads reader.old.rest.now) }
+    ensures { Builds (closed (opened ranges.old span)) ranges.new result reader.old reader.new }
 {
     let high_in = closing(reader)?;
     ranges.push(range_of(Span { high_in, ..span }))?;
@@ -182,7 +190,8 @@ fn closed(reader: &mut Reader, ranges: &mut List<Range>, span: Span) -> Result<(
 }
 
 fn upper(reader: &mut Reader, span: &mut Span) -> Result<(), Stop>
-    ensures { (rs : _) → Gives (λ x. opened rs span.new) result reader.new.rest.now ((upper (opened rs span.old)).reads reader.old.rest.now) }
+    ensures { (rs : _) → Builds (upper (opened rs span.old)) (opened rs span.new)
+        result reader.old reader.new }
 {
     reader.sign(b':')?;
     span.high = bound(reader)?;
@@ -191,7 +200,8 @@ fn upper(reader: &mut Reader, span: &mut Span) -> Result<(), Stop>
 
 /// The range ends before the colon that was read, and another begins with it.
 fn next_span(reader: &mut Reader, ranges: &mut List<Range>, span: &mut Span) -> Result<(), Stop>
-    ensures { Gives (λ x. opened ranges.new span.new) result reader.new.rest.now ((next_span (opened ranges.old span.old)).reads reader.old.rest.now) }
+    ensures { Builds (next_span (opened ranges.old span.old)) (opened ranges.new span.new)
+        result reader.old reader.new }
 {
     let high = bound(reader)?;
     ranges.push(range_of(*span))?;
@@ -206,7 +216,8 @@ fn next_span(reader: &mut Reader, ranges: &mut List<Range>, span: &mut Span) -> 
 }
 
 fn stepped(reader: &mut Reader, span: &mut Span) -> Result<(), Stop>
-    ensures { (rs : _) → Gives (λ x. opened rs span.new) result reader.new.rest.now ((stepped (opened rs span.old)).reads reader.old.rest.now) }
+    ensures { (rs : _) → Builds (stepped (opened rs span.old)) (opened rs span.new)
+        result reader.old reader.new }
 {
     let step = step(reader, span.low)?;
     span.step = Some(step);
@@ -214,7 +225,8 @@ fn stepped(reader: &mut Reader, span: &mut Span) -> Result<(), Stop>
 }
 
 fn further(reader: &mut Reader, ranges: &mut List<Range>, span: &mut Span) -> Result<(), Stop>
-    ensures { Gives (λ x. opened ranges.new span.new) result reader.new.rest.now ((further (opened ranges.old span.old)).reads reader.old.rest.now) }
+    ensures { Builds (further (opened ranges.old span.old)) (opened ranges.new span.new)
+        result reader.old reader.new }
 {
     reader.sign(b':')?;
     if at_step(reader, span) {
@@ -225,7 +237,8 @@ fn further(reader: &mut Reader, ranges: &mut List<Range>, span: &mut Span) -> Re
 }
 
 fn furthers(reader: &mut Reader, ranges: &mut List<Range>, span: &mut Span) -> Result<(), Stop>
-    ensures { Gives (λ x. opened ranges.new span.new) result reader.new.rest.now ((loop is_colon further (opened ranges.old span.old)).reads reader.old.rest.now) }
+    ensures { Builds (loop is_colon further (opened ranges.old span.old))
+        (opened ranges.new span.new) result reader.old reader.new }
 {
     'turns: while reader.at_sign(b':') {
         further(reader, ranges, span)?;
@@ -234,14 +247,15 @@ fn furthers(reader: &mut Reader, ranges: &mut List<Range>, span: &mut Span) -> R
 }
 
 fn uppers(reader: &mut Reader, ranges: &mut List<Range>, span: &mut Span) -> Result<(), Stop>
-    ensures { Gives (λ x. opened ranges.new span.new) result reader.new.rest.now ((uppers (opened ranges.old span.old)).reads reader.old.rest.now) }
+    ensures { Builds (uppers (opened ranges.old span.old)) (opened ranges.new span.new)
+        result reader.old reader.new }
 {
     upper(reader, span)?;
     furthers(reader, ranges, span)
 }
 
 fn behind_low(reader: &mut Reader, ranges: &mut List<Range>, span: Span) -> Result<(), Stop>
-    ensures { Gives (λ x. ranges.new) result reader.new.rest.now ((behind_low (opened ranges.old span)).reads reader.old.rest.now) }
+    ensures { Builds (behind_low (opened ranges.old span)) ranges.new result reader.old reader.new }
 {
     let mut span = span;
     if reader.at_sign(b':') {
@@ -253,7 +267,7 @@ fn behind_low(reader: &mut Reader, ranges: &mut List<Range>, span: Span) -> Resu
 }
 
 fn bracketed(reader: &mut Reader, ranges: &mut List<Range>) -> Result<(), Stop>
-    ensures { Gives (λ x. ranges.new) result reader.new.rest.now ((bracketed ranges.old).reads reader.old.rest.now) }
+    ensures { Builds (bracketed ranges.old) ranges.new result reader.old reader.new }
 {
     let low_in = bracket(reader)?;
     let low = bound(reader)?;
@@ -261,14 +275,14 @@ fn bracketed(reader: &mut Reader, ranges: &mut List<Range>) -> Result<(), Stop>
 }
 
 fn from_low(reader: &mut Reader, ranges: &mut List<Range>) -> Result<(), Stop>
-    ensures { Gives (λ x. ranges.new) result reader.new.rest.now ((from_low ranges.old).reads reader.old.rest.now) }
+    ensures { Builds (from_low ranges.old) ranges.new result reader.old reader.new }
 {
     let low = end(reader)?;
     behind_low(reader, ranges, begun(low, true))
 }
 
 fn from_colon(reader: &mut Reader, ranges: &mut List<Range>) -> Result<(), Stop>
-    ensures { Gives (λ x. ranges.new) result reader.new.rest.now ((from_colon ranges.old).reads reader.old.rest.now) }
+    ensures { Builds (from_colon ranges.old) ranges.new result reader.old reader.new }
 {
     let mut span = begun(None, true);
     uppers(reader, ranges, &mut span)?;
@@ -276,7 +290,7 @@ fn from_colon(reader: &mut Reader, ranges: &mut List<Range>) -> Result<(), Stop>
 }
 
 fn from_close(reader: &mut Reader, ranges: &mut List<Range>) -> Result<(), Stop>
-    ensures { Gives (λ x. ranges.new) result reader.new.rest.now ((from_close ranges.old).reads reader.old.rest.now) }
+    ensures { Builds (from_close ranges.old) ranges.new result reader.old reader.new }
 {
     let high_in = close_bracket(reader)?;
     ranges.push(range_of(Span {
@@ -287,7 +301,7 @@ fn from_close(reader: &mut Reader, ranges: &mut List<Range>) -> Result<(), Stop>
 }
 
 fn ints(reader: &mut Reader, ranges: &mut List<Range>) -> Result<(), Stop>
-    ensures { Gives (λ x. ranges.new) result reader.new.rest.now ((ints ranges.old).reads reader.old.rest.now) }
+    ensures { Builds (ints ranges.old) ranges.new result reader.old reader.new }
 {
     if at_bracket(reader) {
         bracketed(reader, ranges)
@@ -301,14 +315,15 @@ fn ints(reader: &mut Reader, ranges: &mut List<Range>) -> Result<(), Stop>
 }
 
 fn number_range(reader: &mut Reader, alloc: Global, ranges: &mut List<Range>) -> Result<(), Stop>
-    ensures { Gives (λ x. ranges.new) result reader.new.rest.now ((number_range ranges.old).reads reader.old.rest.now) }
+    ensures { Builds (number_range ranges.old) ranges.new result reader.old reader.new }
 {
     ints(reader, ranges)?;
     description(reader, alloc)
 }
 
 fn number_ranges(reader: &mut Reader, alloc: Global, ranges: &mut List<Range>) -> Result<(), Stop>
-    ensures { Gives (λ x. ranges.new) result reader.new.rest.now ((loop is_ints number_range ranges.old).reads reader.old.rest.now) }
+    ensures { Builds (loop is_ints number_range ranges.old) ranges.new
+        result reader.old reader.new }
 {
     'turns: while at_ints(reader) {
         number_range(reader, alloc, ranges)?;
@@ -317,7 +332,7 @@ fn number_ranges(reader: &mut Reader, alloc: Global, ranges: &mut List<Range>) -
 }
 
 fn number_block(reader: &mut Reader, alloc: Global) -> Result<List<Range>, Stop>
-    ensures { Gives (λ x. x) result reader.new.rest.now (number_block.reads reader.old.rest.now) }
+    ensures { Obeys number_block result reader.old reader.new }
 {
     reader.sign(b'{')?;
     let mut ranges = List::empty(alloc);
@@ -326,20 +341,24 @@ fn number_block(reader: &mut Reader, alloc: Global) -> Result<List<Range>, Stop>
     Ok(ranges)
 }
 
+fn string_range(text: Text) -> Range
+    ensures { result ≡ string_range text }
+{
+    let bytes = text.as_slice();
+    if bytes == b"".as_slice() || bytes == b".*".as_slice() {
+        Range::AnyText
+    } else if bytes == b".+".as_slice() {
+        Range::SomeText
+    } else {
+        Range::Word(text)
+    }
+}
+
 fn text_range(ptype: PType, text: Text) -> Range
     ensures { result ≡ text_range ptype text }
 {
     match ptype {
-        PType::String => {
-            let bytes = text.as_slice();
-            if bytes == b"".as_slice() || bytes == b".*".as_slice() {
-                Range::AnyText
-            } else if bytes == b".+".as_slice() {
-                Range::SomeText
-            } else {
-                Range::Word(text)
-            }
-        }
+        PType::String => string_range(text),
         PType::Boolean | PType::Int | PType::Keyword | PType::Real => Range::Word(text),
     }
 }
@@ -350,9 +369,9 @@ fn one_text(
     ptype: PType,
     ranges: &mut List<Range>,
 ) -> Result<(), Stop>
-    ensures { Gives (λ x. ranges.new) result reader.new.rest.now ((one_text ptype ranges.old).reads reader.old.rest.now) }
+    ensures { Builds (one_text ptype ranges.old) ranges.new result reader.old reader.new }
 {
-    let text = reader.quoted(alloc)?;
+    let text = reader.quoted_text(alloc)?;
     ranges.push(text_range(ptype, text))?;
     Ok(())
 }
@@ -363,7 +382,7 @@ fn more_text(
     ptype: PType,
     ranges: &mut List<Range>,
 ) -> Result<(), Stop>
-    ensures { Gives (λ x. ranges.new) result reader.new.rest.now ((more_text ptype ranges.old).reads reader.old.rest.now) }
+    ensures { Builds (more_text ptype ranges.old) ranges.new result reader.old reader.new }
 {
     reader.sign(b',')?;
     one_text(reader, alloc, ptype, ranges)
@@ -375,7 +394,8 @@ fn more_texts(
     ptype: PType,
     ranges: &mut List<Range>,
 ) -> Result<(), Stop>
-    ensures { Gives (λ x. ranges.new) result reader.new.rest.now ((loop (is_sign 44) (more_text ptype) ranges.old).reads reader.old.rest.now) }
+    ensures { Builds (loop (is_sign 44) (more_text ptype) ranges.old) ranges.new
+        result reader.old reader.new }
 {
     'turns: while reader.at_sign(b',') {
         more_text(reader, alloc, ptype, ranges)?;
@@ -389,7 +409,7 @@ fn texts(
     ptype: PType,
     ranges: &mut List<Range>,
 ) -> Result<(), Stop>
-    ensures { Gives (λ x. ranges.new) result reader.new.rest.now ((texts ptype ranges.old).reads reader.old.rest.now) }
+    ensures { Builds (texts ptype ranges.old) ranges.new result reader.old reader.new }
 {
     one_text(reader, alloc, ptype, ranges)?;
     more_texts(reader, alloc, ptype, ranges)?;
@@ -402,9 +422,10 @@ fn text_ranges(
     ptype: PType,
     ranges: &mut List<Range>,
 ) -> Result<(), Stop>
-    ensures { Gives (λ x. ranges.new) result reader.new.rest.now ((loop is_quoted (texts ptype) ranges.old).reads reader.old.rest.now) }
+    ensures { Builds (loop is_quoted (texts ptype) ranges.old) ranges.new
+        result reader.old reader.new }
 {
-    'turns: while reader.at_quoted() {
+    'turns: while reader.at_quoted_text() {
         texts(reader, alloc, ptype, ranges)?;
     }
     Ok(())
@@ -424,7 +445,7 @@ fn or_any(ptype: PType, ranges: List<Range>) -> Result<List<Range>, Memory>
 }
 
 fn text_block(reader: &mut Reader, alloc: Global, ptype: PType) -> Result<List<Range>, Stop>
-    ensures { Gives (λ x. x) result reader.new.rest.now ((text_block ptype).reads reader.old.rest.now) }
+    ensures { Obeys (text_block ptype) result reader.old reader.new }
 {
     reader.sign(b'{')?;
     let mut ranges = List::empty(alloc);
@@ -433,21 +454,12 @@ fn text_block(reader: &mut Reader, alloc: Global, ptype: PType) -> Result<List<R
     Ok(or_any(ptype, ranges)?)
 }
 
-fn at_inside(reader: &Reader) -> bool
-    ensures { result ≡ passes is_inside (head reader.now.rest.now) }
-{
-    match reader.rest {
-        [token, ..] => !token.is_sign(b'}'),
-        [] => false,
-    }
-}
-
 fn keep(reader: &mut Reader, alloc: Global, tokens: &mut List<Token>) -> Result<(), Stop>
-    ensures { Gives (λ x. tokens.new) result reader.new.rest.now ((more_kept is_inside tokens.old).reads reader.old.rest.now) }
+    ensures { Builds (more_kept is_inside tokens.old) tokens.new result reader.old reader.new }
 {
     match reader.rest {
         [token, rest @ ..] if !token.is_sign(b'}') => {
-            let kept = token.kept(alloc)?;
+            let kept = token.kept_copy(alloc)?;
             tokens.push(kept)?;
             reader.rest = rest;
             Ok(())
@@ -457,16 +469,17 @@ fn keep(reader: &mut Reader, alloc: Global, tokens: &mut List<Token>) -> Result<
 }
 
 fn keep_all(reader: &mut Reader, alloc: Global, tokens: &mut List<Token>) -> Result<(), Stop>
-    ensures { Gives (λ x. tokens.new) result reader.new.rest.now ((loop is_inside (more_kept is_inside) tokens.old).reads reader.old.rest.now) }
+    ensures { Builds (loop is_inside (more_kept is_inside) tokens.old) tokens.new
+        result reader.old reader.new }
 {
-    'turns: while at_inside(reader) {
+    'turns: while reader.at_inside() {
         keep(reader, alloc, tokens)?;
     }
     Ok(())
 }
 
 fn kept_block(reader: &mut Reader, alloc: Global) -> Result<List<Range>, Stop>
-    ensures { Gives (λ x. x) result reader.new.rest.now (kept_block.reads reader.old.rest.now) }
+    ensures { Obeys kept_block result reader.old reader.new }
 {
     reader.sign_here(b'{')?;
     let mut tokens = List::empty(alloc);
@@ -479,7 +492,7 @@ fn kept_block(reader: &mut Reader, alloc: Global) -> Result<List<Range>, Stop>
 
 /// The ranges in a block of a parameter of this type.
 pub fn block(reader: &mut Reader, alloc: Global, ptype: PType) -> Result<List<Range>, Stop>
-    ensures { Gives (λ x. x) result reader.new.rest.now ((block ptype).reads reader.old.rest.now) }
+    ensures { Obeys (block ptype) result reader.old reader.new }
 {
     match ptype {
         PType::Int => number_block(reader, alloc),

@@ -39,13 +39,17 @@ pub enum Scope {
 /// A declaration, a use or an extension of a parameter.
 #[derive(Debug, Drop)]
 pub struct ParamDecl {
+    /// Who may name it.
     pub scope: Scope,
+    /// Its type.
     pub ptype: PType,
+    /// Its name.
     pub name: Text,
     /// The number of its elements, if it is an array: 1 to 1,024.
     pub length: Option<u32>,
     /// Another name for it.
     pub alias: Option<Text>,
+    /// When it may be steered, and never by default.
     pub steer: Steer,
     /// The values that it may have, as they stand in its block. A `STRING` block without texts is one `AnyText`.
     pub ranges: List<Range>,

@@ -2,8 +2,7 @@
 
 ghost use Rattle.std.specs.Prelude.{◌≡◌, None};
 ghost use Rattle.cx_text.specs.Grammar.{passes, head};
-ghost use Rattle.cx_text.specs.Reading.{Gives};
-ghost use Rattle.cx_text.specs.Rules.{token, unmarked};
+ghost use Rattle.cx_text.specs.Rules.{Obeys, token, unmarked};
 ghost use Rattle.cx_text.specs.Lexemes.{first_mark, number_of, number_mark};
 ghost use Rattle.cx_text.specs.declared.stop.Mark.TheVariants as marks;
 ghost use Rattle.cx_param.specs.Headings.{is_boolean, is_int, is_keyword, is_string, is_real, ptype_of, is_ptype, counted_ptype, ptype, steer_of, in_brackets, length_of, comment, other_name, alias_of, steered, steering, heading};
@@ -84,7 +83,8 @@ pub fn is_ptype(token: &Token) -> bool
 }
 
 fn ptype_here(reader: &mut Reader, full: bool) -> Result<PType, Stop>
-    ensures { Gives (λ x. x) result reader.new.rest.now ((token ptype_of (λ t. first_mark full marks.Limit None)).reads reader.old.rest.now) }
+    ensures { Obeys (token ptype_of (λ t. first_mark full marks.Limit None))
+        result reader.old reader.new }
 {
     match reader.rest {
         [token, rest @ ..] => match ptype_of(token) {
@@ -103,7 +103,7 @@ fn ptype_here(reader: &mut Reader, full: bool) -> Result<PType, Stop>
 
 /// A type that begins a declaration, where it is `full` if as many as may stand are there already.
 pub fn counted_ptype(reader: &mut Reader, full: bool) -> Result<PType, Stop>
-    ensures { Gives (λ x. x) result reader.new.rest.now ((counted_ptype full).reads reader.old.rest.now) }
+    ensures { Obeys (counted_ptype full) result reader.old reader.new }
 {
     let ptype = ptype_here(reader, full)?;
     reader.skip_line_ends();
@@ -112,13 +112,13 @@ pub fn counted_ptype(reader: &mut Reader, full: bool) -> Result<PType, Stop>
 
 /// A type.
 pub fn ptype(reader: &mut Reader) -> Result<PType, Stop>
-    ensures { Gives (λ x. x) result reader.new.rest.now (ptype.reads reader.old.rest.now) }
+    ensures { Obeys ptype result reader.old reader.new }
 {
     counted_ptype(reader, false)
 }
 
 fn length_here(reader: &mut Reader) -> Result<u32, Stop>
-    ensures { Gives (λ x. x) result reader.new.rest.now ((token number_of (number_mark 1 1024)).reads reader.old.rest.now) }
+    ensures { Obeys (token number_of (number_mark 1 1024)) result reader.old reader.new }
 {
     match reader.rest {
         [token, rest @ ..] if matches!(token.kind, Kind::Number) => {
@@ -135,7 +135,7 @@ fn length_here(reader: &mut Reader) -> Result<u32, Stop>
 }
 
 fn in_brackets(reader: &mut Reader) -> Result<Option<u32>, Stop>
-    ensures { Gives (λ x. x) result reader.new.rest.now (in_brackets.reads reader.old.rest.now) }
+    ensures { Obeys in_brackets result reader.old reader.new }
 {
     reader.sign(b'[')?;
     let length = length_here(reader)?;
@@ -145,7 +145,7 @@ fn in_brackets(reader: &mut Reader) -> Result<Option<u32>, Stop>
 }
 
 fn length(reader: &mut Reader) -> Result<Option<u32>, Stop>
-    ensures { Gives (λ x. x) result reader.new.rest.now (length_of.reads reader.old.rest.now) }
+    ensures { Obeys length_of result reader.old reader.new }
 {
     if reader.at_sign(b'[') {
         in_brackets(reader)
@@ -155,10 +155,10 @@ fn length(reader: &mut Reader) -> Result<Option<u32>, Stop>
 }
 
 fn comment(reader: &mut Reader, alloc: Global) -> Result<(), Stop>
-    ensures { Gives (λ x. x) result reader.new.rest.now (comment.reads reader.old.rest.now) }
+    ensures { Obeys comment result reader.old reader.new }
 {
-    if reader.at_quoted() {
-        reader.quoted(alloc)?;
+    if reader.at_quoted_text() {
+        reader.quoted_text(alloc)?;
         Ok(())
     } else {
         Ok(())
@@ -166,7 +166,7 @@ fn comment(reader: &mut Reader, alloc: Global) -> Result<(), Stop>
 }
 
 fn other_name(reader: &mut Reader, alloc: Global) -> Result<Option<Text>, Stop>
-    ensures { Gives (λ x. x) result reader.new.rest.now (other_name.reads reader.old.rest.now) }
+    ensures { Obeys other_name result reader.old reader.new }
 {
     reader.keyword(b"AS")?;
     let name = reader.name(alloc)?;
@@ -174,7 +174,7 @@ fn other_name(reader: &mut Reader, alloc: Global) -> Result<Option<Text>, Stop>
 }
 
 fn alias(reader: &mut Reader, alloc: Global) -> Result<Option<Text>, Stop>
-    ensures { Gives (λ x. x) result reader.new.rest.now (alias_of.reads reader.old.rest.now) }
+    ensures { Obeys alias_of result reader.old reader.new }
 {
     if reader.at_keyword(b"AS") {
         other_name(reader, alloc)
@@ -198,7 +198,7 @@ fn steer_of(token: &Token) -> Option<Steer>
 }
 
 fn steer_here(reader: &mut Reader) -> Result<Steer, Stop>
-    ensures { Gives (λ x. x) result reader.new.rest.now ((token steer_of unmarked).reads reader.old.rest.now) }
+    ensures { Obeys (token steer_of unmarked) result reader.old reader.new }
 {
     match reader.rest {
         [token, rest @ ..] => match steer_of(token) {
@@ -213,7 +213,7 @@ fn steer_here(reader: &mut Reader) -> Result<Steer, Stop>
 }
 
 fn steered(reader: &mut Reader) -> Result<Steer, Stop>
-    ensures { Gives (λ x. x) result reader.new.rest.now (steered.reads reader.old.rest.now) }
+    ensures { Obeys steered result reader.old reader.new }
 {
     reader.keyword(b"STEERABLE")?;
     reader.sign(b'=')?;
@@ -223,7 +223,7 @@ fn steered(reader: &mut Reader) -> Result<Steer, Stop>
 }
 
 fn steering(reader: &mut Reader) -> Result<Steer, Stop>
-    ensures { Gives (λ x. x) result reader.new.rest.now (steering.reads reader.old.rest.now) }
+    ensures { Obeys steering result reader.old reader.new }
 {
     if reader.at_keyword(b"STEERABLE") {
         steered(reader)
@@ -234,7 +234,7 @@ fn steering(reader: &mut Reader) -> Result<Steer, Stop>
 
 /// What stands between the type of a parameter and its block.
 pub fn read_heading(reader: &mut Reader, alloc: Global) -> Result<Heading, Stop>
-    ensures { Gives (λ x. x) result reader.new.rest.now (heading.reads reader.old.rest.now) }
+    ensures { Obeys heading result reader.old reader.new }
 {
     let name = reader.name(alloc)?;
     let length = length(reader)?;

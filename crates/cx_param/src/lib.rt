@@ -4,17 +4,11 @@
 mod blocks;
 mod declarations;
 mod defaults;
-#[cfg(test)]
-mod enumeration;
 mod headings;
 mod numbers;
 mod params;
-mod printer;
 mod ranges;
-#[cfg(test)]
-mod tests;
 
 pub use declarations::{PType, ParamDecl, Scope, Steer};
 pub use params::read_params;
-pub use printer::print_params;
 pub use ranges::{Range, Value, allows};

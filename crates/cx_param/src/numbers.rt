@@ -2,12 +2,11 @@
 
 ghost use Rattle.std.specs.Prelude.{◌≡◌, ◌≤◌, ◌^◌, pos, neg_ℤ};
 ghost use Rattle.cx_text.specs.Grammar.{passes, head};
-ghost use Rattle.cx_text.specs.Reading.{Gives};
-ghost use Rattle.cx_text.specs.Rules.{token};
+ghost use Rattle.cx_text.specs.Rules.{Obeys, token};
 ghost use Rattle.cx_text.specs.Lexemes.{number_of};
-ghost use Rattle.cx_param.specs.Numbers.{lowest, highest, too_high, positive_of, negative_of, digits_of, begins_number, number, below_zero as below, number_text, step_mark, step};
+ghost use Rattle.cx_param.specs.Numbers.{lowest, highest, too_high, positive_of, negative_of, digits_of, begins_number, number, below_zero, number_text, step_mark, step};
 
-use cx_text::{Kind, Mark, Reader, Stop, Text, Why, decimal};
+use cx_text::{Kind, Mark, Reader, Stop, Text, Why, decimal, negative};
 use std::alloc::Global;
 
 /// How far a number of 64 signed bits reaches above 0, and below it.
@@ -17,17 +16,7 @@ const LOWEST: u64 = 9_223_372_036_854_775_808;
 
 const BAD_NUMBER: Stop = Stop::Fault(Why::Marked(Mark::BadNumber));
 
-/// The number that lies so far below 0.
-fn negated(n: u64) -> i64
-    requires { n ≤ 2 ^ 63 }
-    ensures { result ≡ neg_ℤ (pos n) }
-{
-    match i64::try_from(n) {
-        Ok(n) => -n,
-        Err(_) => i64::MIN,
-    }
-}
-
+/// Whether a number begins here, with its sign or without one.
 pub fn at_number(reader: &Reader) -> bool
     ensures { result ≡ passes begins_number (head reader.now.rest.now) }
 {
@@ -38,7 +27,7 @@ pub fn at_number(reader: &Reader) -> bool
 }
 
 fn positive_here(reader: &mut Reader) -> Result<i64, Stop>
-    ensures { Gives (λ x. x) result reader.new.rest.now ((token positive_of (too_high highest)).reads reader.old.rest.now) }
+    ensures { Obeys (token positive_of (too_high highest)) result reader.old reader.new }
 {
     match reader.rest {
         [token, rest @ ..] if matches!(token.kind, Kind::Number) => {
@@ -55,14 +44,14 @@ fn positive_here(reader: &mut Reader) -> Result<i64, Stop>
 }
 
 fn negative_here(reader: &mut Reader) -> Result<i64, Stop>
-    ensures { Gives (λ x. x) result reader.new.rest.now ((token negative_of (too_high lowest)).reads reader.old.rest.now) }
+    ensures { Obeys (token negative_of (too_high lowest)) result reader.old reader.new }
 {
     match reader.rest {
         [token, rest @ ..] if matches!(token.kind, Kind::Number) => {
             match decimal(token.text.as_slice(), LOWEST) {
                 Some(n) => {
                     reader.rest = rest;
-                    Ok(negated(n))
+                    Ok(negative(n))
                 }
                 None => Err(BAD_NUMBER),
             }
@@ -73,7 +62,7 @@ fn negative_here(reader: &mut Reader) -> Result<i64, Stop>
 
 /// A number of 64 signed bits.
 pub fn number(reader: &mut Reader) -> Result<i64, Stop>
-    ensures { Gives (λ x. x) result reader.new.rest.now (number.reads reader.old.rest.now) }
+    ensures { Obeys number result reader.old reader.new }
 {
     if reader.at_sign(b'-') {
         reader.sign(b'-')?;
@@ -88,7 +77,7 @@ pub fn number(reader: &mut Reader) -> Result<i64, Stop>
 }
 
 fn digits_here(reader: &mut Reader, alloc: Global, high: u64) -> Result<Text, Stop>
-    ensures { Gives (λ x. x) result reader.new.rest.now ((token digits_of (too_high high)).reads reader.old.rest.now) }
+    ensures { Obeys (token digits_of (too_high high)) result reader.old reader.new }
 {
     match reader.rest {
         [token, rest @ ..] if matches!(token.kind, Kind::Number) => {
@@ -106,7 +95,7 @@ fn digits_here(reader: &mut Reader, alloc: Global, high: u64) -> Result<Text, St
 }
 
 fn below_zero(reader: &mut Reader, alloc: Global) -> Result<Text, Stop>
-    ensures { Gives (λ x. x) result reader.new.rest.now (below.reads reader.old.rest.now) }
+    ensures { Obeys below_zero result reader.old reader.new }
 {
     reader.sign(b'-')?;
     let digits = digits_here(reader, alloc, LOWEST)?;
@@ -118,7 +107,7 @@ fn below_zero(reader: &mut Reader, alloc: Global) -> Result<Text, Stop>
 
 /// A number of 64 signed bits, as it is written.
 pub fn number_text(reader: &mut Reader, alloc: Global) -> Result<Text, Stop>
-    ensures { Gives (λ x. x) result reader.new.rest.now (number_text.reads reader.old.rest.now) }
+    ensures { Obeys number_text result reader.old reader.new }
 {
     if reader.at_sign(b'-') {
         below_zero(reader, alloc)
@@ -130,7 +119,7 @@ pub fn number_text(reader: &mut Reader, alloc: Global) -> Result<Text, Stop>
 }
 
 fn step_here(reader: &mut Reader, low: Option<i64>) -> Result<u64, Stop>
-    ensures { Gives (λ x. x) result reader.new.rest.now ((token number_of (step_mark low)).reads reader.old.rest.now) }
+    ensures { Obeys (token number_of (step_mark low)) result reader.old reader.new }
 {
     match reader.rest {
         [token, rest @ ..] if matches!(token.kind, Kind::Number) => {
@@ -148,7 +137,7 @@ fn step_here(reader: &mut Reader, low: Option<i64>) -> Result<u64, Stop>
 
 /// A step, which needs a low end from which it counts.
 pub fn step(reader: &mut Reader, low: Option<i64>) -> Result<u64, Stop>
-    ensures { Gives (λ x. x) result reader.new.rest.now ((step low).reads reader.old.rest.now) }
+    ensures { Obeys (step low) result reader.old reader.new }
 {
     let n = step_here(reader, low)?;
     reader.skip_line_ends();

@@ -1,9 +1,8 @@
 //! The param file.
 
 ghost use Rattle.std.specs.Prelude.{◌≡◌};
-ghost use Rattle.cx_text.specs.Grammar.{passes, head, Answers, AnswersOnly};
-ghost use Rattle.cx_text.specs.Reading.{Gives};
-ghost use Rattle.cx_text.specs.Rules.{loop};
+ghost use Rattle.cx_text.specs.Grammar.{passes, head, ReadsBy, AnswersOnly};
+ghost use Rattle.cx_text.specs.Rules.{Obeys, Builds, loop};
 ghost use Rattle.cx_param.specs.Params.{decl, shared_scope, shared_block, shared_ranges, shared, declared, is_access, section, shares, access_line, is_entry, opening, declaring, entry, params};
 
 use crate::blocks::block;
@@ -34,7 +33,7 @@ struct Read {
 }
 
 fn decl(reader: &mut Reader, alloc: Global, scope: Scope, full: bool) -> Result<ParamDecl, Stop>
-    ensures { Gives (λ x. x) result reader.new.rest.now ((decl scope full).reads reader.old.rest.now) }
+    ensures { Obeys (decl scope full) result reader.old reader.new }
 {
     let ptype = counted_ptype(reader, full)?;
     let heading = read_heading(reader, alloc)?;
@@ -58,7 +57,7 @@ fn shared_scope(
     implementation: &Text,
     full: bool,
 ) -> Result<Scope, Stop>
-    ensures { Gives (λ x. x) result reader.new.rest.now ((shared_scope implementation.now full).reads reader.old.rest.now) }
+    ensures { Obeys (shared_scope implementation.now full) result reader.old reader.new }
 {
     if reader.at_keyword(b"USES") {
         reader.counted_keyword(b"USES", full)?;
@@ -72,7 +71,7 @@ fn shared_scope(
 }
 
 fn shared_block(reader: &mut Reader, alloc: Global, ptype: PType) -> Result<List<Range>, Stop>
-    ensures { Gives (λ x. x) result reader.new.rest.now ((shared_block ptype).reads reader.old.rest.now) }
+    ensures { Obeys (shared_block ptype) result reader.old reader.new }
 {
     let ranges = block(reader, alloc, ptype)?;
     unused_default(reader, alloc)?;
@@ -80,7 +79,7 @@ fn shared_block(reader: &mut Reader, alloc: Global, ptype: PType) -> Result<List
 }
 
 fn shared_ranges(reader: &mut Reader, alloc: Global, ptype: PType) -> Result<List<Range>, Stop>
-    ensures { Gives (λ x. x) result reader.new.rest.now ((shared_ranges ptype).reads reader.old.rest.now) }
+    ensures { Obeys (shared_ranges ptype) result reader.old reader.new }
 {
     if reader.at_sign(b'{') {
         shared_block(reader, alloc, ptype)
@@ -95,7 +94,7 @@ fn shared(
     implementation: &Text,
     full: bool,
 ) -> Result<ParamDecl, Stop>
-    ensures { Gives (λ x. x) result reader.new.rest.now ((shared implementation.now full).reads reader.old.rest.now) }
+    ensures { Obeys (shared implementation.now full) result reader.old reader.new }
 {
     let scope = shared_scope(reader, alloc, implementation, full)?;
     let ptype = ptype(reader)?;
@@ -119,7 +118,7 @@ fn declared(
     access: &Access,
     full: bool,
 ) -> Result<ParamDecl, Stop>
-    ensures { Gives (λ x. x) result reader.new.rest.now ((declared access.now full).reads reader.old.rest.now) }
+    ensures { Obeys (declared access.now full) result reader.old reader.new }
 {
     match access {
         Access::Private => decl(reader, alloc, Scope::Private, full),
@@ -162,7 +161,7 @@ fn at_entry(reader: &Reader) -> bool
 }
 
 fn section(reader: &mut Reader, name: &[u8], access: Access) -> Result<Access, Stop>
-    ensures { Gives (λ x. x) result reader.new.rest.now ((section name.now access).reads reader.old.rest.now) }
+    ensures { Obeys (section name.now access) result reader.old reader.new }
 {
     reader.keyword(name)?;
     reader.sign(b':')?;
@@ -170,7 +169,7 @@ fn section(reader: &mut Reader, name: &[u8], access: Access) -> Result<Access, S
 }
 
 fn shares(reader: &mut Reader, alloc: Global) -> Result<Access, Stop>
-    ensures { Gives (λ x. x) result reader.new.rest.now (shares.reads reader.old.rest.now) }
+    ensures { Obeys shares result reader.old reader.new }
 {
     reader.keyword(b"SHARES")?;
     reader.sign(b':')?;
@@ -179,7 +178,7 @@ fn shares(reader: &mut Reader, alloc: Global) -> Result<Access, Stop>
 }
 
 fn access_line(reader: &mut Reader, alloc: Global) -> Result<Access, Stop>
-    ensures { Gives (λ x. x) result reader.new.rest.now (access_line.reads reader.old.rest.now) }
+    ensures { Obeys access_line result reader.old reader.new }
 {
     if reader.at_keyword(b"PRIVATE") {
         section(reader, b"PRIVATE", Access::Private)
@@ -193,14 +192,14 @@ fn access_line(reader: &mut Reader, alloc: Global) -> Result<Access, Stop>
 }
 
 fn opening(reader: &mut Reader, alloc: Global, read: &mut Read) -> Result<(), Stop>
-    ensures { Gives (λ x. read.new) result reader.new.rest.now ((opening read.old).reads reader.old.rest.now) }
+    ensures { Builds (opening read.old) read.new result reader.old reader.new }
 {
     read.access = access_line(reader, alloc)?;
     Ok(())
 }
 
 fn declaring(reader: &mut Reader, alloc: Global, read: &mut Read) -> Result<(), Stop>
-    ensures { Gives (λ x. read.new) result reader.new.rest.now ((declaring read.old).reads reader.old.rest.now) }
+    ensures { Builds (declaring read.old) read.new result reader.old reader.new }
 {
     let decl = declared(reader, alloc, &read.access, read.left == 0)?;
     read.decls.push(decl)?;
@@ -209,7 +208,7 @@ fn declaring(reader: &mut Reader, alloc: Global, read: &mut Read) -> Result<(), 
 }
 
 fn entry(reader: &mut Reader, alloc: Global, read: &mut Read) -> Result<(), Stop>
-    ensures { Gives (λ x. read.new) result reader.new.rest.now ((entry read.old).reads reader.old.rest.now) }
+    ensures { Builds (entry read.old) read.new result reader.old reader.new }
 {
     if at_access(reader) {
         opening(reader, alloc, read)
@@ -219,7 +218,7 @@ fn entry(reader: &mut Reader, alloc: Global, read: &mut Read) -> Result<(), Stop
 }
 
 fn entries(reader: &mut Reader, alloc: Global, read: &mut Read) -> Result<(), Stop>
-    ensures { Gives (λ x. read.new) result reader.new.rest.now ((loop is_entry entry read.old).reads reader.old.rest.now) }
+    ensures { Builds (loop is_entry entry read.old) read.new result reader.old reader.new }
 {
     'turns: while at_entry(reader) {
         entry(reader, alloc, read)?;
@@ -228,7 +227,7 @@ fn entries(reader: &mut Reader, alloc: Global, read: &mut Read) -> Result<(), St
 }
 
 fn whole(reader: &mut Reader, alloc: Global) -> Result<List<ParamDecl>, Stop>
-    ensures { Gives (λ x. x) result reader.new.rest.now (params.reads reader.old.rest.now) }
+    ensures { Obeys params result reader.old reader.new }
 {
     let mut read = Read {
         left: MAX_DECLS,
@@ -254,7 +253,7 @@ fn whole(reader: &mut Reader, alloc: Global) -> Result<List<ParamDecl>, Stop>
 /// first; each with the token's line.
 pub fn read_params(alloc: Global, tokens: &List<Token>) -> Result<List<ParamDecl>, CclFault>
     // The answer is what the tokens spell, or the first fault.
-    ensures answers { Answers params.derives (λ x. x) tokens.now result }
+    ensures answers { ReadsBy params.derives (λ x. x) tokens.now result }
     // What is spelled is answered, unless memory runs out.
     ensures only { AnswersOnly params.derives (λ x. x) tokens.now result }
 {

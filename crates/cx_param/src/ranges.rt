@@ -1,7 +1,7 @@
 //! The values that ranges hold.
 
 ghost use Rattle.std.specs.Prelude.{◌≡◌};
-ghost use Rattle.cx_param.specs.Ranges.{is_above as above, is_below as below, is_on_step as on_step, holds, any_holds, allows};
+ghost use Rattle.cx_param.specs.Ranges.{is_above, is_below, is_on_step, holds, any_holds, allows};
 
 use cx_text::{List, Text, Token, same_name};
 
@@ -36,7 +36,7 @@ pub enum Value {
 }
 
 fn is_above(low: Option<i64>, low_in: bool, n: i64) -> bool
-    ensures { result ≡ above low low_in n }
+    ensures { result ≡ is_above low low_in n }
 {
     match low {
         None => true,
@@ -45,7 +45,7 @@ fn is_above(low: Option<i64>, low_in: bool, n: i64) -> bool
 }
 
 fn is_below(high: Option<i64>, high_in: bool, n: i64) -> bool
-    ensures { result ≡ below high high_in n }
+    ensures { result ≡ is_below high high_in n }
 {
     match high {
         None => true,
@@ -54,7 +54,7 @@ fn is_below(high: Option<i64>, high_in: bool, n: i64) -> bool
 }
 
 fn is_on_step(low: Option<i64>, step: u64, n: i64) -> bool
-    ensures { result ≡ on_step low step n }
+    ensures { result ≡ is_on_step low step n }
 {
     match low {
         None => true,

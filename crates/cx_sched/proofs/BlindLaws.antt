@@ -13,7 +13,7 @@ use Rattle.cx_sched.specs.declared.block.Clauses.{Clauses}
 use Rattle.cx_sched.specs.declared.node.Read.{Read}
 use Rattle.cx_sched.specs.declared.tree.Ref.{Ref}
 use Rattle.cx_sched.specs.Words.{GROUP, line_of}
-use Rattle.cx_sched.specs.Refs.{behind_word, reference, bracketed, region, store, synced, touched, behind_word_here, bracketed_here, comma_here, more_stores, stores}
+use Rattle.cx_sched.specs.Refs.{behind_word, reference, bracketed, region, store, sync_name, access, behind_word_here, bracketed_here, comma_here, more_stores, stores}
 use Rattle.cx_sched.specs.Lines.{no_lines, begin, begin_or, first, begun_by, kept as kept_entry, item, named, entry_in, lines}
 use Rattle.cx_sched.specs.Blocks.{is_way_name, placed, either, behind_group, behind_name, head, no_clauses, name_list, clause, block}
 use Rattle.cx_sched.specs.Nodes.{nobody, storage, otherwise, condition, node, braced, body, schedule}
@@ -42,11 +42,11 @@ comma_same = same_choice (λ t. refl) (same_lexeme (λ t. refl) (λ t. refl)) sa
 store_same : (w : List ℕ) → Same (store w)
 store_same w = same_also (behind_word_same w) (λ r. same_also bracketed_same (λ k. same_also comma_same (λ u. same_nothing)))
 
-synced_same : (w : List ℕ) → Same (synced w)
-synced_same w = same_also (behind_word_same w) (λ r. same_also comma_same (λ u. same_nothing))
+sync_name_same : (w : List ℕ) → Same (sync_name w)
+sync_name_same w = same_also (behind_word_same w) (λ r. same_also comma_same (λ u. same_nothing))
 
-touched_same : (w : List ℕ) → Same (touched w)
-touched_same w = same_also (behind_word_same w) (λ r. same_also bracketed_same (λ k. same_also region_same (λ g. same_also comma_same (λ u. same_nothing))))
+access_same : (w : List ℕ) → Same (access w)
+access_same w = same_also (behind_word_same w) (λ r. same_also bracketed_same (λ k. same_also region_same (λ g. same_also comma_same (λ u. same_nothing))))
 
 behind_word_here_same : (w : List ℕ) → Same (behind_word_here w)
 behind_word_here_same w = same_choice (λ t. refl) (same_also (same_lexeme (λ t. refl) (λ t. refl)) (λ u. same_also (same_token (λ t. refl) (λ t. refl)) (λ n. same_nothing))) same_nothing
@@ -81,9 +81,9 @@ kept_same false s = same_also (same_lexeme (λ t. refl) (λ t. refl)) (λ t. beg
 
 item_same : (k : Kind) (w : List ℕ) (s : Lines) → Same (item k w s)
 item_same Storage w s = same_also (store_same w) (λ r. same_nothing)
-item_same Sync w s = same_also (synced_same w) (λ r. same_nothing)
-item_same Reads w s = same_also (touched_same w) (λ r. same_nothing)
-item_same Writes w s = same_also (touched_same w) (λ r. same_nothing)
+item_same Sync w s = same_also (sync_name_same w) (λ r. same_nothing)
+item_same Reads w s = same_also (access_same w) (λ r. same_nothing)
+item_same Writes w s = same_also (access_same w) (λ r. same_nothing)
 
 named_same : (k : Kind) (s : Lines) → Same (named k s)
 named_same k s = same_also (same_lexeme (λ t. refl) (λ t. refl)) (λ w. begin_or_same (line_of w) w s (item_same k w s))

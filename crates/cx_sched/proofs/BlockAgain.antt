@@ -74,7 +74,7 @@ block_tokens b rest =
     let close : List Token = sign 125 ∷ (printed.description b.text ++ line_end ∷ rest) in
     let w = word (codes "schedule") in
     four (printed.heading b) (printed.clauses b) (sign 123 ∷ printed.lines b) (sign 125 ∷ printed.description b.text) (line_end ∷ []) rest
-    ∙ ap (λ (ts : List Token). printed.heading b ++ (printed.clauses b ++ sign 123 ∷ ts)) (five b.rest (printed.storage_line b.storage) (printed.sync_line b.sync) (printed.touched_line (codes "READS") b.reads) (printed.touched_line (codes "WRITES") b.writes) close)
+    ∙ ap (λ (ts : List Token). printed.heading b ++ (printed.clauses b ++ sign 123 ∷ ts)) (five b.rest (printed.storage_line b.storage) (printed.sync_line b.sync) (printed.access_line (codes "READS") b.reads) (printed.access_line (codes "WRITES") b.writes) close)
     ∙ ap (λ (ts : List Token). printed.heading b ++ ts) (five (printed.alias b.alias) (printed.scalar IF b.test) (printed.scalar WHILE b.turn) (printed.others BEFORE b.before) (printed.others AFTER b.after) (sign 123 ∷ inner b rest))
     ∙ ap (λ (ts : List Token). w ∷ ts) (append_assoc (printed.group_word b.group) (word b.name ∷ printed.spot b.spot) (behind_spot b rest))
 
@@ -104,8 +104,8 @@ block_written b used f =
     let c4 = each-append IsWritten (printed.alias b.alias ++ printed.scalar IF b.test ++ printed.scalar WHILE b.turn ++ printed.others BEFORE b.before) (printed.others AFTER b.after) c3 (others_written AFTER b.after an_after f.clauses.after) in
     let l1 = each-append IsWritten b.rest (printed.storage_line b.storage) f.rest (storage_written b.storage f.lists.storage) in
     let l2 = each-append IsWritten (b.rest ++ printed.storage_line b.storage) (printed.sync_line b.sync) l1 (sync_written b.sync f.lists.sync) in
-    let l3 = each-append IsWritten (b.rest ++ printed.storage_line b.storage ++ printed.sync_line b.sync) (printed.touched_line (codes "READS") b.reads) l2 (line_written (codes "READS") b.reads a_reads f.lists.reads) in
-    let l4 = each-append IsWritten (b.rest ++ printed.storage_line b.storage ++ printed.sync_line b.sync ++ printed.touched_line (codes "READS") b.reads) (printed.touched_line (codes "WRITES") b.writes) l3 (line_written (codes "WRITES") b.writes a_writes f.lists.writes) in
+    let l3 = each-append IsWritten (b.rest ++ printed.storage_line b.storage ++ printed.sync_line b.sync) (printed.access_line (codes "READS") b.reads) l2 (line_written (codes "READS") b.reads a_reads f.lists.reads) in
+    let l4 = each-append IsWritten (b.rest ++ printed.storage_line b.storage ++ printed.sync_line b.sync ++ printed.access_line (codes "READS") b.reads) (printed.access_line (codes "WRITES") b.writes) l3 (line_written (codes "WRITES") b.writes a_writes f.lists.writes) in
     let h1 = each-append IsWritten (printed.heading b) (printed.clauses b) heading c4 in
     let h2 = each-append IsWritten (printed.heading b ++ printed.clauses b) (sign 123 ∷ printed.lines b) h1 (a_sign 123 (λ g. refl), l4) in
     each-append IsWritten (printed.heading b ++ printed.clauses b ++ sign 123 ∷ printed.lines b) (sign 125 ∷ printed.description b.text) h2 (a_sign 125 (λ g. refl), description_written b.text)

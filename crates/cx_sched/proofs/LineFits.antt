@@ -23,7 +23,7 @@ use Rattle.cx_sched.specs.declared.lines.Line.{Line}
 use Rattle.cx_sched.specs.declared.lines.Line.TheVariants.{Start, Tokens, Word, Names}
 use Rattle.cx_sched.specs.declared.lines.Lines.{Lines}
 use Rattle.cx_sched.specs.Words.{line_of}
-use Rattle.cx_sched.specs.Refs.{behind_word, reference, bracketed, region, store, synced, touched, behind_word_here, bracketed_here, comma_here, more_stores, stores}
+use Rattle.cx_sched.specs.Refs.{behind_word, reference, bracketed, region, store, sync_name, access, behind_word_here, bracketed_here, comma_here, more_stores, stores}
 use Rattle.cx_sched.specs.Lines.{no_lines, beginning, begin, begin_or, with_word, first, begun_by, keep, kept_after, kept as kept_entry, item, named, entry_in, lines}
 use Rattle.cx_sched.proofs.RefAgain.{IsName, IsPlace, PlainFits, StoreFits}
 use Rattle.cx_sched.proofs.LinesAgain.{IsFree, Kept, nothing_kept, line_kept, line_at, line_behind, token_kept, TouchedFits, ListsFit, count}
@@ -94,11 +94,11 @@ store_sees w h =
     sees_also bracketed_sees (λ k g.
     sees_also comma_sees (λ u p. sees_nothing (λ m e. (record { ref = f; place = g }, e)))))
 
-synced_sees : (w : List ℕ) → IsName w → Sees Ended (synced w) (λ r n. PlainFits r × Ended n)
-synced_sees w h = sees_also (behind_word_sees w h) (λ r f. sees_also comma_sees (λ u p. sees_nothing (λ m e. (f, e))))
+sync_name_sees : (w : List ℕ) → IsName w → Sees Ended (sync_name w) (λ r n. PlainFits r × Ended n)
+sync_name_sees w h = sees_also (behind_word_sees w h) (λ r f. sees_also comma_sees (λ u p. sees_nothing (λ m e. (f, e))))
 
-touched_sees : (w : List ℕ) → IsName w → Sees Ended (touched w) (λ t n. TouchedFits t × Ended n)
-touched_sees w h =
+access_sees : (w : List ℕ) → IsName w → Sees Ended (access w) (λ t n. TouchedFits t × Ended n)
+access_sees w h =
     sees_also (behind_word_sees w h) (λ r f.
     sees_also bracketed_sees (λ k g.
     sees_also region_sees (λ i p.
@@ -330,21 +330,21 @@ item_sees limit Storage w s is h f =
       e,
     )))
 item_sees limit Sync w s is h f =
-    sees_also (synced_sees w h) (λ r g. sees_nothing (λ n e. (
+    sees_also (sync_name_sees w h) (λ r g. sees_nothing (λ n e. (
       let some : 1 ≤ f.b = subst (λ (l : Line). Counts l f.a f.b f.c f.d) is f.named in
           let most = count_most (s.sync ++ r ∷ []) in
           record { idle = f.idle; at = f.at; kept = f.kept; same = f.same; rest = f.rest; lists = record { storage = f.lists.storage; sync = each-append PlainFits s.sync (r ∷ []) f.lists.sync (g, tt); reads = f.lists.reads; writes = f.lists.writes }; a = f.a; b = f.b; c = f.c; d = f.d; named = f.named; storage = f.storage; sync = omega (arith, some, most); reads = f.reads; writes = f.writes; size = f.size },
       e,
     )))
 item_sees limit Reads w s is h f =
-    sees_also (touched_sees w h) (λ r g. sees_nothing (λ n e. (
+    sees_also (access_sees w h) (λ r g. sees_nothing (λ n e. (
       let some : 1 ≤ f.c = subst (λ (l : Line). Counts l f.a f.b f.c f.d) is f.named in
           let most = count_most (s.reads ++ r ∷ []) in
           record { idle = f.idle; at = f.at; kept = f.kept; same = f.same; rest = f.rest; lists = record { storage = f.lists.storage; sync = f.lists.sync; reads = each-append TouchedFits s.reads (r ∷ []) f.lists.reads (g, tt); writes = f.lists.writes }; a = f.a; b = f.b; c = f.c; d = f.d; named = f.named; storage = f.storage; sync = f.sync; reads = omega (arith, some, most); writes = f.writes; size = f.size },
       e,
     )))
 item_sees limit Writes w s is h f =
-    sees_also (touched_sees w h) (λ r g. sees_nothing (λ n e. (
+    sees_also (access_sees w h) (λ r g. sees_nothing (λ n e. (
       let some : 1 ≤ f.d = subst (λ (l : Line). Counts l f.a f.b f.c f.d) is f.named in
           let most = count_most (s.writes ++ r ∷ []) in
           record { idle = f.idle; at = f.at; kept = f.kept; same = f.same; rest = f.rest; lists = record { storage = f.lists.storage; sync = f.lists.sync; reads = f.lists.reads; writes = each-append TouchedFits s.writes (r ∷ []) f.lists.writes (g, tt) }; a = f.a; b = f.b; c = f.c; d = f.d; named = f.named; storage = f.storage; sync = f.sync; reads = f.reads; writes = omega (arith, some, most); size = f.size },

@@ -14,7 +14,7 @@ use Rattle.cx_text.proofs.Laws.{Means}
 use Rattle.cx_text.proofs.Loops.{Short}
 use Rattle.cx_text.proofs.RuleLaws.{Part, Tail, Any, Not, before_part, weaker_part, weaker_good, weaker_empty, short_part, lexeme_then, lexeme_last, lexeme_alone, loop_good, loop_empty, empty_then, part_then_tail, tail_then, tail_choice, tail_end}
 use Rattle.cx_text.proofs.LexemeLaws.{a_word, a_sign, a_name, sign_is, Ended}
-use Rattle.cx_sched.proofs.RefLaws.{AfterRef, ref_end, store_tail, synced_tail, touched_tail}
+use Rattle.cx_sched.proofs.RefLaws.{AfterRef, ref_end, store_tail, sync_name_tail, access_tail}
 
 -- what follows an entry
 pub record AfterEntry (n : Option Token) : Type 0 where
@@ -50,9 +50,9 @@ weaker_tail one h tail weaker = record { good = weaker_good tail.good weaker; em
 
 item_tail : (k : Kind) (w : List ℕ) (s : Lines) → Tail (item k w s) AfterEntry
 item_tail Storage w s = tail_then (weaker_tail None entry_end (store_tail w) (λ n h. h.name)) (λ r. tail_end None entry_end)
-item_tail Sync w s = tail_then (weaker_tail None entry_end (synced_tail w) (λ n h. h.name)) (λ r. tail_end None entry_end)
-item_tail Reads w s = tail_then (weaker_tail None entry_end (touched_tail w) (λ n h. h.name)) (λ r. tail_end None entry_end)
-item_tail Writes w s = tail_then (weaker_tail None entry_end (touched_tail w) (λ n h. h.name)) (λ r. tail_end None entry_end)
+item_tail Sync w s = tail_then (weaker_tail None entry_end (sync_name_tail w) (λ n h. h.name)) (λ r. tail_end None entry_end)
+item_tail Reads w s = tail_then (weaker_tail None entry_end (access_tail w) (λ n h. h.name)) (λ r. tail_end None entry_end)
+item_tail Writes w s = tail_then (weaker_tail None entry_end (access_tail w) (λ n h. h.name)) (λ r. tail_end None entry_end)
 
 named_part : (k : Kind) (s : Lines) → Part (named k s) Ended AfterEntry
 named_part k s = part_then_tail (lexeme_alone a_name refl) (λ n h. h.name.name.ended) None entry_end (λ w. begin_or_tail (line_of w) w s (item_tail k w s))

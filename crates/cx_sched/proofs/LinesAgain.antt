@@ -3,6 +3,7 @@ use Rattle.std.proofs.Common.{◌≡◌, ◌<◌, ◌≤◌, ◌+◌, ◌-◌, �
 use Rattle.std.specs.List.{AllByRecursion}
 use Rattle.std.proofs.lemmas.Bool.{le-ltb, ne_eqb}
 use Rattle.std.proofs.lemmas.List.{append-nil}
+use Rattle.cx_plan.specs.Names.{region_text}
 use Rattle.cx_plan.specs.declared.item.Region.{Region}
 use Rattle.cx_text.specs.declared.token.Token.{Token}
 use Rattle.cx_text.specs.Tokens.{is_word, is_line_end}
@@ -22,7 +23,7 @@ use Rattle.cx_sched.specs.Words.{STORAGE, line_of}
 use Rattle.cx_sched.specs.Lines.{no_lines, beginning, begin_or, begun_by, keep, kept_after, item, named, entry_in, entry, lines}
 use Rattle.cx_sched.specs.Printed as printed
 use Rattle.cx_sched.proofs.LineLaws.{entry_short}
-use Rattle.cx_sched.proofs.RefAgain.{Next, next_word, next_close, RefFits, PlainFits, StoreFits, first, more, made, ref_parts, first_short, with_region, store_read, synced_read, touched_read}
+use Rattle.cx_sched.proofs.RefAgain.{Next, next_word, next_close, RefFits, PlainFits, StoreFits, first, more, made, ref_parts, first_short, with_region, store_read, sync_name_read, access_read}
 
 -- LineEnds are skipped from here up to there
 pub record Skips (more rest : List Token) : Type 0 where
@@ -238,7 +239,7 @@ sync_again (x ∷ xs) left st sy rs rest h e =
     let next = next_refs xs rest e in
     let ts : List Token = more o n ++ more_ in
     let behind = more_behind o n more_ (next.ended, next.colon) in
-    let read = synced_read o n more_ fits.owner fits.name next in
+    let read = sync_name_read o n more_ fits.owner fits.name next in
     let inner : (item Sync (first o n) s).reads ts ≡ Ok (state left (Names Sync) st (sy ++ made o n None ∷ []) [] [] rs, more_) = rw read refl in
     let one : (entry s).reads (word (first o n) ∷ ts) ≡ Ok (state left (Names Sync) st (sy ++ x ∷ []) [] [] rs, more_) =
     named_read Sync (first o n) s ts (first_short o n fits.owner fits.name) behind.0 behind.1
@@ -254,53 +255,53 @@ sync_again (x ∷ xs) left st sy rs rest h e =
 abbrev pub TouchedFits : Ref × Region → Type 0
 TouchedFits t = RefFits t.0
 
-touched_parts : (t : Ref × Region) (ts : List (Ref × Region)) (rest : List Token) → printed.all_touched (t ∷ ts) ++ rest ≡ word (first t.0.owner t.0.name) ∷ (more t.0.owner t.0.name ++ (printed.bracketed t.0.copy ++ with_region t.1 (printed.all_touched ts ++ rest)))
-touched_parts t ts rest =
-    append_assoc (printed.touched t) (printed.all_touched ts) rest
-    ∙ parts (printed.ref t.0) (printed.bracketed t.0.copy) (sign 40 ∷ word (printed.region_name t.1) ∷ sign 41 ∷ []) (printed.all_touched ts ++ rest)
-    ∙ ap (λ (us : List Token). us ++ (printed.bracketed t.0.copy ++ with_region t.1 (printed.all_touched ts ++ rest))) (ref_parts t.0.owner t.0.name)
+access_parts : (t : Ref × Region) (ts : List (Ref × Region)) (rest : List Token) → printed.accesses (t ∷ ts) ++ rest ≡ word (first t.0.owner t.0.name) ∷ (more t.0.owner t.0.name ++ (printed.bracketed t.0.copy ++ with_region t.1 (printed.accesses ts ++ rest)))
+access_parts t ts rest =
+    append_assoc (printed.access t) (printed.accesses ts) rest
+    ∙ parts (printed.ref t.0) (printed.bracketed t.0.copy) (sign 40 ∷ word (region_text t.1) ∷ sign 41 ∷ []) (printed.accesses ts ++ rest)
+    ∙ ap (λ (us : List Token). us ++ (printed.bracketed t.0.copy ++ with_region t.1 (printed.accesses ts ++ rest))) (ref_parts t.0.owner t.0.name)
   where
     parts : (a b c d : List Token) → ((a ++ b) ++ c) ++ d ≡ a ++ (b ++ (c ++ d))
     parts a b c d = simp append_assoc
 
-next_touched : (ts : List (Ref × Region)) (rest : List Token) → Next rest → Next (printed.all_touched ts ++ rest)
-next_touched [] rest e = e
-next_touched (t ∷ ts) rest e = rw (touched_parts t ts rest) (next_word _ _)
+next_access : (ts : List (Ref × Region)) (rest : List Token) → Next rest → Next (printed.accesses ts ++ rest)
+next_access [] rest e = e
+next_access (t ∷ ts) rest e = rw (access_parts t ts rest) (next_word _ _)
 
-reads_again : (xs : List (Ref × Region)) (left : ℕ) (st : List (Ref × Option ℕ)) (sy : List Ref) (re : List (Ref × Region)) (rs rest : List Token) → AllByRecursion TouchedFits xs → Next rest → (loop is_inside entry (state left (Names Reads) st sy re [] rs)).reads (printed.all_touched xs ++ rest) ≡ (loop is_inside entry (state left (Names Reads) st sy (re ++ xs) [] rs)).reads rest
+reads_again : (xs : List (Ref × Region)) (left : ℕ) (st : List (Ref × Option ℕ)) (sy : List Ref) (re : List (Ref × Region)) (rs rest : List Token) → AllByRecursion TouchedFits xs → Next rest → (loop is_inside entry (state left (Names Reads) st sy re [] rs)).reads (printed.accesses xs ++ rest) ≡ (loop is_inside entry (state left (Names Reads) st sy (re ++ xs) [] rs)).reads rest
 reads_again [] left st sy re rs rest h e = ap (λ (ys : List (Ref × Region)). (loop is_inside entry (state left (Names Reads) st sy ys [] rs)).reads rest) (sym (append-nil re))
 reads_again (x ∷ xs) left st sy re rs rest h e =
     let s : Lines = state left (Names Reads) st sy re [] rs in
     let o = x.0.owner in
     let n = x.0.name in
-    let more_ : List Token = printed.all_touched xs ++ rest in
-    let next = next_touched xs rest e in
+    let more_ : List Token = printed.accesses xs ++ rest in
+    let next = next_access xs rest e in
     let ts : List Token = more o n ++ (printed.bracketed x.0.copy ++ with_region x.1 more_) in
     let behind = more_behind o n (printed.bracketed x.0.copy ++ with_region x.1 more_) (bracket_behind x.0.copy (with_region x.1 more_) (refl, refl)) in
-    let read = touched_read o n x.0.copy x.1 more_ h.0.owner h.0.name h.0.copy next in
+    let read = access_read o n x.0.copy x.1 more_ h.0.owner h.0.name h.0.copy next in
     let inner : (item Reads (first o n) s).reads ts ≡ Ok (state left (Names Reads) st sy (re ++ x ∷ []) [] rs, more_) = rw read refl in
     let one : (entry s).reads (word (first o n) ∷ ts) ≡ Ok (state left (Names Reads) st sy (re ++ x ∷ []) [] rs, more_) =
     named_read Reads (first o n) s ts (first_short o n h.0.owner h.0.name) behind.0 behind.1 ∙ inner in
-    ap (loop is_inside entry s).reads (touched_parts x xs rest)
+    ap (loop is_inside entry s).reads (access_parts x xs rest)
     ∙ loop_step is_inside entry entry_short s (state left (Names Reads) st sy (re ++ x ∷ []) [] rs) (word (first o n) ∷ ts) more_ refl one
     ∙ reads_again xs left st sy (re ++ x ∷ []) rs rest h.1 e
     ∙ ap (λ (ys : List (Ref × Region)). (loop is_inside entry (state left (Names Reads) st sy ys [] rs)).reads rest) (append_assoc re (x ∷ []) xs)
 
-writes_again : (xs : List (Ref × Region)) (left : ℕ) (st : List (Ref × Option ℕ)) (sy : List Ref) (re wr : List (Ref × Region)) (rs rest : List Token) → AllByRecursion TouchedFits xs → Next rest → (loop is_inside entry (state left (Names Writes) st sy re wr rs)).reads (printed.all_touched xs ++ rest) ≡ (loop is_inside entry (state left (Names Writes) st sy re (wr ++ xs) rs)).reads rest
+writes_again : (xs : List (Ref × Region)) (left : ℕ) (st : List (Ref × Option ℕ)) (sy : List Ref) (re wr : List (Ref × Region)) (rs rest : List Token) → AllByRecursion TouchedFits xs → Next rest → (loop is_inside entry (state left (Names Writes) st sy re wr rs)).reads (printed.accesses xs ++ rest) ≡ (loop is_inside entry (state left (Names Writes) st sy re (wr ++ xs) rs)).reads rest
 writes_again [] left st sy re wr rs rest h e = ap (λ (ys : List (Ref × Region)). (loop is_inside entry (state left (Names Writes) st sy re ys rs)).reads rest) (sym (append-nil wr))
 writes_again (x ∷ xs) left st sy re wr rs rest h e =
     let s : Lines = state left (Names Writes) st sy re wr rs in
     let o = x.0.owner in
     let n = x.0.name in
-    let more_ : List Token = printed.all_touched xs ++ rest in
-    let next = next_touched xs rest e in
+    let more_ : List Token = printed.accesses xs ++ rest in
+    let next = next_access xs rest e in
     let ts : List Token = more o n ++ (printed.bracketed x.0.copy ++ with_region x.1 more_) in
     let behind = more_behind o n (printed.bracketed x.0.copy ++ with_region x.1 more_) (bracket_behind x.0.copy (with_region x.1 more_) (refl, refl)) in
-    let read = touched_read o n x.0.copy x.1 more_ h.0.owner h.0.name h.0.copy next in
+    let read = access_read o n x.0.copy x.1 more_ h.0.owner h.0.name h.0.copy next in
     let inner : (item Writes (first o n) s).reads ts ≡ Ok (state left (Names Writes) st sy re (wr ++ x ∷ []) rs, more_) = rw read refl in
     let one : (entry s).reads (word (first o n) ∷ ts) ≡ Ok (state left (Names Writes) st sy re (wr ++ x ∷ []) rs, more_) =
     named_read Writes (first o n) s ts (first_short o n h.0.owner h.0.name) behind.0 behind.1 ∙ inner in
-    ap (loop is_inside entry s).reads (touched_parts x xs rest)
+    ap (loop is_inside entry s).reads (access_parts x xs rest)
     ∙ loop_step is_inside entry entry_short s (state left (Names Writes) st sy re (wr ++ x ∷ []) rs) (word (first o n) ∷ ts) more_ refl one
     ∙ writes_again xs left st sy re (wr ++ x ∷ []) rs rest h.1 e
     ∙ ap (λ (ys : List (Ref × Region)). (loop is_inside entry (state left (Names Writes) st sy re ys rs)).reads rest) (append_assoc wr (x ∷ []) xs)
@@ -334,16 +335,16 @@ sync_line_again (x ∷ xs) left l st rs rest h e c =
     line_step (codes "SYNC") Sync left l st [] [] [] rs (printed.refs (x ∷ xs) ++ rest) (omega arith) refl c (next_refs (x ∷ xs) rest e).ended
     ∙ sync_again (x ∷ xs) (left - 1) st [] rs rest h e
 
-reads_line_again : (xs : List (Ref × Region)) (left : ℕ) (l : Line) (st : List (Ref × Option ℕ)) (sy : List Ref) (rs rest : List Token) → AllByRecursion TouchedFits xs → Next rest → count xs ≤ left → (loop is_inside entry (state left l st sy [] [] rs)).reads (printed.touched_line (codes "READS") xs ++ rest) ≡ (loop is_inside entry (state (left - count xs) (then_at l Reads xs) st sy xs [] rs)).reads rest
+reads_line_again : (xs : List (Ref × Region)) (left : ℕ) (l : Line) (st : List (Ref × Option ℕ)) (sy : List Ref) (rs rest : List Token) → AllByRecursion TouchedFits xs → Next rest → count xs ≤ left → (loop is_inside entry (state left l st sy [] [] rs)).reads (printed.access_line (codes "READS") xs ++ rest) ≡ (loop is_inside entry (state (left - count xs) (then_at l Reads xs) st sy xs [] rs)).reads rest
 reads_line_again [] left l st sy rs rest h e c = ap (λ (k : ℕ). (loop is_inside entry (state k l st sy [] [] rs)).reads rest) (omega arith)
 reads_line_again (x ∷ xs) left l st sy rs rest h e c =
-    line_step (codes "READS") Reads left l st sy [] [] rs (printed.all_touched (x ∷ xs) ++ rest) (omega arith) refl c (next_touched (x ∷ xs) rest e).ended
+    line_step (codes "READS") Reads left l st sy [] [] rs (printed.accesses (x ∷ xs) ++ rest) (omega arith) refl c (next_access (x ∷ xs) rest e).ended
     ∙ reads_again (x ∷ xs) (left - 1) st sy [] rs rest h e
 
-writes_line_again : (xs : List (Ref × Region)) (left : ℕ) (l : Line) (st : List (Ref × Option ℕ)) (sy : List Ref) (re : List (Ref × Region)) (rs rest : List Token) → AllByRecursion TouchedFits xs → Next rest → count xs ≤ left → (loop is_inside entry (state left l st sy re [] rs)).reads (printed.touched_line (codes "WRITES") xs ++ rest) ≡ (loop is_inside entry (state (left - count xs) (then_at l Writes xs) st sy re xs rs)).reads rest
+writes_line_again : (xs : List (Ref × Region)) (left : ℕ) (l : Line) (st : List (Ref × Option ℕ)) (sy : List Ref) (re : List (Ref × Region)) (rs rest : List Token) → AllByRecursion TouchedFits xs → Next rest → count xs ≤ left → (loop is_inside entry (state left l st sy re [] rs)).reads (printed.access_line (codes "WRITES") xs ++ rest) ≡ (loop is_inside entry (state (left - count xs) (then_at l Writes xs) st sy re xs rs)).reads rest
 writes_line_again [] left l st sy re rs rest h e c = ap (λ (k : ℕ). (loop is_inside entry (state k l st sy re [] rs)).reads rest) (omega arith)
 writes_line_again (x ∷ xs) left l st sy re rs rest h e c =
-    line_step (codes "WRITES") Writes left l st sy re [] rs (printed.all_touched (x ∷ xs) ++ rest) (omega arith) refl c (next_touched (x ∷ xs) rest e).ended
+    line_step (codes "WRITES") Writes left l st sy re [] rs (printed.accesses (x ∷ xs) ++ rest) (omega arith) refl c (next_access (x ∷ xs) rest e).ended
     ∙ writes_again (x ∷ xs) (left - 1) st sy re [] rs rest h e
 
 next_storage_line : (ss : List (Ref × Option ℕ)) (rest : List Token) → Next rest → Next (printed.storage_line ss ++ rest)
@@ -354,9 +355,9 @@ next_sync_line : (rs : List Ref) (rest : List Token) → Next rest → Next (pri
 next_sync_line [] rest e = e
 next_sync_line (r ∷ rs) rest e = next_word _ _
 
-next_touched_line : (w : List ℕ) (ts : List (Ref × Region)) (rest : List Token) → Next rest → Next (printed.touched_line w ts ++ rest)
-next_touched_line w [] rest e = e
-next_touched_line w (t ∷ ts) rest e = next_word _ _
+next_access_line : (w : List ℕ) (ts : List (Ref × Region)) (rest : List Token) → Next rest → Next (printed.access_line w ts ++ rest)
+next_access_line w [] rest e = e
+next_access_line w (t ∷ ts) rest e = next_word _ _
 
 goes_next : (l : Line) (ts : List Token) → Next ts → Goes l ts
 goes_next Word ts e = e.colon
@@ -368,7 +369,7 @@ goes_next (Names k) ts e = tt
 
 -- what is printed of the lists of names, and then
 abbrev pub listed : List (Ref × Option ℕ) → List Ref → List (Ref × Region) → List (Ref × Region) → List Token → List Token
-listed ss sy re wr ts = printed.storage_line ss ++ (printed.sync_line sy ++ (printed.touched_line (codes "READS") re ++ (printed.touched_line (codes "WRITES") wr ++ ts)))
+listed ss sy re wr ts = printed.storage_line ss ++ (printed.sync_line sy ++ (printed.access_line (codes "READS") re ++ (printed.access_line (codes "WRITES") wr ++ ts)))
 
 pub record ListsFit (ss : List (Ref × Option ℕ)) (sy : List Ref) (re wr : List (Ref × Region)) : Type 0 where
   pub storage : AllByRecursion StoreFits ss
@@ -381,17 +382,17 @@ abbrev pub total : ℕ → List (Ref × Option ℕ) → List Ref → List (Ref �
 total used ss sy re wr = used + (count ss + (count sy + (count re + count wr)))
 
 pub next_listed : (ss : List (Ref × Option ℕ)) (sy : List Ref) (re wr : List (Ref × Region)) (ts : List Token) → Next ts → Next (listed ss sy re wr ts)
-next_listed ss sy re wr ts e = next_storage_line ss _ (next_sync_line sy _ (next_touched_line (codes "READS") re _ (next_touched_line (codes "WRITES") wr _ e)))
+next_listed ss sy re wr ts e = next_storage_line ss _ (next_sync_line sy _ (next_access_line (codes "READS") re _ (next_access_line (codes "WRITES") wr _ e)))
 
 entries_again : (used : ℕ) (l : Line) (rs : List Token) (ss : List (Ref × Option ℕ)) (sy : List Ref) (re wr : List (Ref × Region)) (left : ℕ) (more_ : List Token) → Kept rs used l → ListsFit ss sy re wr → total used ss sy re wr ≤ left
     → (at : Line) × ((loop is_inside entry (no_lines left)).reads (rs ++ listed ss sy re wr (sign 125 ∷ more_)) ≡ Ok (state (left - total used ss sy re wr) at ss sy re wr rs, sign 125 ∷ more_))
 entries_again used l rs ss sy re wr left more_ k f h =
     let d : List Token = sign 125 ∷ more_ in
-    let c : List Token = printed.touched_line (codes "WRITES") wr ++ d in
-    let b : List Token = printed.touched_line (codes "READS") re ++ c in
+    let c : List Token = printed.access_line (codes "WRITES") wr ++ d in
+    let b : List Token = printed.access_line (codes "READS") re ++ c in
     let a : List Token = printed.sync_line sy ++ b in
-    let next_c = next_touched_line (codes "WRITES") wr d (next_close more_) in
-    let next_b = next_touched_line (codes "READS") re c next_c in
+    let next_c = next_access_line (codes "WRITES") wr d (next_close more_) in
+    let next_b = next_access_line (codes "READS") re c next_c in
     let next_a = next_sync_line sy b next_b in
     let next = next_storage_line ss a next_a in
     let l1 = then_at l Storage ss in

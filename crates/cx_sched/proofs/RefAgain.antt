@@ -4,6 +4,7 @@ use Rattle.std.specs.List.{AllByRecursion}
 use Rattle.std.specs.Fmt.{decimal}
 use Rattle.std.proofs.lemmas.Bool.{le-ltb}
 use Rattle.std.proofs.lemmas.List.{append-nil}
+use Rattle.cx_plan.specs.Names.{region_text}
 use Rattle.cx_plan.specs.declared.item.Region.{Region}
 use Rattle.cx_plan.specs.declared.item.Region.TheVariants.{Interior, Boundary, Everywhere}
 use Rattle.cx_text.specs.declared.token.Token.{Token}
@@ -18,7 +19,7 @@ use Rattle.cx_text.proofs.PrintLaws.{Printable}
 use Rattle.cx_text.proofs.Printing.{loop_step, loop_stop, no_skip, IsShortName}
 use Rattle.cx_text.proofs.DecimalLaws.{number_again}
 use Rattle.cx_sched.specs.declared.tree.Ref.{Ref}
-use Rattle.cx_sched.specs.Refs.{behind_word, reference, bracketed, region, store, synced, touched, behind_word_here, bracketed_here, more_stores, stores}
+use Rattle.cx_sched.specs.Refs.{behind_word, reference, bracketed, region, store, sync_name, access, behind_word_here, bracketed_here, more_stores, stores}
 use Rattle.cx_sched.specs.Printed as printed
 use Rattle.cx_sched.proofs.RefLaws.{more_stores_short}
 
@@ -106,10 +107,10 @@ bracketed_again (Some k) rest f ended bracket =
     let one = number_again 0 (2 ^ 32 - 1) k tail (omega arith) f (omega (arith, f)) refl in
     rw (no_skip (written.number (decimal k) ∷ tail) refl, one, no_skip rest ended) refl
 
-pub region_again : (g : Region) (rest : List Token) → passes is_line_end (head rest) ≡ false → region.reads (sign 40 ∷ word (printed.region_name g) ∷ sign 41 ∷ rest) ≡ Ok (g, rest)
-region_again Interior rest ended = rw (no_skip (word (printed.region_name Interior) ∷ sign 41 ∷ rest) refl, no_skip (sign 41 ∷ rest) refl, no_skip rest ended) refl
-region_again Boundary rest ended = rw (no_skip (word (printed.region_name Boundary) ∷ sign 41 ∷ rest) refl, no_skip (sign 41 ∷ rest) refl, no_skip rest ended) refl
-region_again Everywhere rest ended = rw (no_skip (word (printed.region_name Everywhere) ∷ sign 41 ∷ rest) refl, no_skip (sign 41 ∷ rest) refl, no_skip rest ended) refl
+pub region_again : (g : Region) (rest : List Token) → passes is_line_end (head rest) ≡ false → region.reads (sign 40 ∷ word (region_text g) ∷ sign 41 ∷ rest) ≡ Ok (g, rest)
+region_again Interior rest ended = rw (no_skip (word (region_text Interior) ∷ sign 41 ∷ rest) refl, no_skip (sign 41 ∷ rest) refl, no_skip rest ended) refl
+region_again Boundary rest ended = rw (no_skip (word (region_text Boundary) ∷ sign 41 ∷ rest) refl, no_skip (sign 41 ∷ rest) refl, no_skip rest ended) refl
+region_again Everywhere rest ended = rw (no_skip (word (region_text Everywhere) ∷ sign 41 ∷ rest) refl, no_skip (sign 41 ∷ rest) refl, no_skip rest ended) refl
 
 pub no_comma : (rest : List Token) → passes (is_sign 44) (head rest) ≡ false → comma.reads rest ≡ Ok (tt, rest)
 no_comma rest e = rw e refl
@@ -129,16 +130,16 @@ store_read o n k rest a b f e =
     let two = bracketed_again k rest f e.ended e.bracket in
     rw (one, two, no_comma rest e.comma) refl
 
-pub synced_read : (o : Option (List ℕ)) (n : List ℕ) (rest : List Token) → IsMaybe o → IsName n → Next rest → (synced (first o n)).reads (more o n ++ rest) ≡ Ok (made o n None, rest)
-synced_read o n rest a b e =
+pub sync_name_read : (o : Option (List ℕ)) (n : List ℕ) (rest : List Token) → IsMaybe o → IsName n → Next rest → (sync_name (first o n)).reads (more o n ++ rest) ≡ Ok (made o n None, rest)
+sync_name_read o n rest a b e =
     let one = behind_again o n rest a b e.ended e.pair in
     rw (one, no_comma rest e.comma) refl
 
 abbrev pub with_region : Region → List Token → List Token
-with_region g ts = sign 40 ∷ word (printed.region_name g) ∷ sign 41 ∷ ts
+with_region g ts = sign 40 ∷ word (region_text g) ∷ sign 41 ∷ ts
 
-pub touched_read : (o : Option (List ℕ)) (n : List ℕ) (k : Option ℕ) (g : Region) (rest : List Token) → IsMaybe o → IsName n → IsPlace k → Next rest → (touched (first o n)).reads (more o n ++ (printed.bracketed k ++ with_region g rest)) ≡ Ok ((made o n k, g), rest)
-touched_read o n k g rest a b f e =
+pub access_read : (o : Option (List ℕ)) (n : List ℕ) (k : Option ℕ) (g : Region) (rest : List Token) → IsMaybe o → IsName n → IsPlace k → Next rest → (access (first o n)).reads (more o n ++ (printed.bracketed k ++ with_region g rest)) ≡ Ok ((made o n k, g), rest)
+access_read o n k g rest a b f e =
     let starts = starts_bracket k (with_region g rest) (refl, refl) in
     let one = behind_again o n (printed.bracketed k ++ with_region g rest) a b starts.0 starts.1 in
     let two = bracketed_again k (with_region g rest) f refl refl in

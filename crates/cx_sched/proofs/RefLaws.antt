@@ -8,7 +8,7 @@ use Rattle.cx_text.specs.Rules.{token, is_sign}
 use Rattle.cx_text.specs.Lexemes.{is_sign_pair, comma}
 use Rattle.cx_sched.specs.declared.tree.Ref.{Ref}
 use Rattle.cx_sched.specs.Words.{region_of}
-use Rattle.cx_sched.specs.Refs.{owned, behind_word, reference, bracket, bracketed, parens, region, store, synced, touched, owned_here, behind_word_here, bracket_here, bracketed_here, comma_here, more_stores, stores}
+use Rattle.cx_sched.specs.Refs.{owned, behind_word, reference, bracket, bracketed, parens, region, store, sync_name, access, owned_here, behind_word_here, bracket_here, bracketed_here, comma_here, more_stores, stores}
 use Rattle.cx_text.proofs.Laws.{Means}
 use Rattle.cx_text.proofs.Loops.{Short}
 use Rattle.cx_text.proofs.RuleLaws.{Part, Tail, Any, Not, short_part, token_last, lexeme_then, lexeme_last, lexeme_alone, part_then_tail, tail_option, tail_then, tail_end, tail_loop, token_good, token_is_full, token_ends}
@@ -67,11 +67,11 @@ comma_tail = tail_option None ref_end (lexeme_alone {F = Any} (sign_is 44 refl) 
 pub store_tail : (w : List ℕ) → Tail (store w) AfterRef
 store_tail w = tail_then (ref_tail w) (λ r. tail_then bracketed_tail (λ k. tail_then comma_tail (λ u. tail_end None ref_end)))
 
-pub synced_tail : (w : List ℕ) → Tail (synced w) AfterRef
-synced_tail w = tail_then (ref_tail w) (λ r. tail_then comma_tail (λ u. tail_end None ref_end))
+pub sync_name_tail : (w : List ℕ) → Tail (sync_name w) AfterRef
+sync_name_tail w = tail_then (ref_tail w) (λ r. tail_then comma_tail (λ u. tail_end None ref_end))
 
-pub touched_tail : (w : List ℕ) → Tail (touched w) AfterRef
-touched_tail w = tail_then (ref_tail w) (λ r. tail_then bracketed_tail (λ k. tail_then region_tail (λ g. tail_then comma_tail (λ u. tail_end None ref_end))))
+pub access_tail : (w : List ℕ) → Tail (access w) AfterRef
+access_tail w = tail_then (ref_tail w) (λ r. tail_then bracketed_tail (λ k. tail_then region_tail (λ g. tail_then comma_tail (λ u. tail_end None ref_end))))
 
 -- ---- where LineEnd may come next
 

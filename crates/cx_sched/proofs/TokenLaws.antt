@@ -1,6 +1,7 @@
 -- Tokens that are printed within a line: each can be printed, is no LineEnd, and is on no line.
 use Rattle.std.proofs.Common.{◌≡◌, ℕ, Bool, true, false, List, [], ◌∷◌, ◌++◌, codes, Option, Some, None, refl, arith}
 use Rattle.std.specs.List.{AllByRecursion, list_all}
+use Rattle.cx_plan.specs.Names.{region_text}
 use Rattle.cx_plan.specs.declared.item.Region.{Region}
 use Rattle.cx_plan.specs.declared.item.Region.TheVariants.{Interior, Boundary, Everywhere}
 use Rattle.cx_text.specs.declared.token.Token.{Token}
@@ -61,7 +62,7 @@ bracketed_written : (k : Option ℕ) → IsPlace k → Written (printed.brackete
 bracketed_written None f = tt
 bracketed_written (Some k) f = (a_sign 91 (λ g. refl), ((decimal_printable k (omega (arith, f)), refl, refl), (a_sign 93 (λ g. refl), tt)))
 
-region_written : (g : Region) → IsWritten (word (printed.region_name g))
+region_written : (g : Region) → IsWritten (word (region_text g))
 region_written Interior = a_word 105 (codes "nterior") (λ f. refl) refl
 region_written Boundary = a_word 98 (codes "oundary") (λ f. refl) refl
 region_written Everywhere = a_word 101 (codes "verywhere") (λ f. refl) refl
@@ -77,14 +78,14 @@ refs_written : (rs : List Ref) → AllByRecursion PlainFits rs → Written (prin
 refs_written [] h = tt
 refs_written (r ∷ rs) h = each-append IsWritten (printed.ref r) (printed.refs rs) (ref_written r h.0.fits) (refs_written rs h.1)
 
-touched_written : (ts : List (Ref × Region)) → AllByRecursion TouchedFits ts → Written (printed.all_touched ts)
-touched_written [] h = tt
-touched_written (t ∷ ts) h =
-    each-append IsWritten (printed.touched t) (printed.all_touched ts)
-    (each-append IsWritten (printed.ref t.0 ++ printed.bracketed t.0.copy) (sign 40 ∷ word (printed.region_name t.1) ∷ sign 41 ∷ [])
+access_written : (ts : List (Ref × Region)) → AllByRecursion TouchedFits ts → Written (printed.accesses ts)
+access_written [] h = tt
+access_written (t ∷ ts) h =
+    each-append IsWritten (printed.access t) (printed.accesses ts)
+    (each-append IsWritten (printed.ref t.0 ++ printed.bracketed t.0.copy) (sign 40 ∷ word (region_text t.1) ∷ sign 41 ∷ [])
     (each-append IsWritten (printed.ref t.0) (printed.bracketed t.0.copy) (ref_written t.0 h.0) (bracketed_written t.0.copy h.0.copy))
     (a_sign 40 (λ f. refl), (region_written t.1, (a_sign 41 (λ f. refl), tt))))
-    (touched_written ts h.1)
+    (access_written ts h.1)
 
 -- ---- lines
 
@@ -102,9 +103,9 @@ pub sync_written : (rs : List Ref) → AllByRecursion PlainFits rs → Written (
 sync_written [] h = tt
 sync_written (r ∷ rs) h = (a_word 83 (codes "YNC") (λ f. refl) refl, (a_colon, refs_written (r ∷ rs) h))
 
-pub line_written : (w : List ℕ) (ts : List (Ref × Region)) → IsWritten (word w) → AllByRecursion TouchedFits ts → Written (printed.touched_line w ts)
+pub line_written : (w : List ℕ) (ts : List (Ref × Region)) → IsWritten (word w) → AllByRecursion TouchedFits ts → Written (printed.access_line w ts)
 line_written w [] a h = tt
-line_written w (t ∷ ts) a h = (a, (a_colon, touched_written (t ∷ ts) h))
+line_written w (t ∷ ts) a h = (a, (a_colon, access_written (t ∷ ts) h))
 
 pub a_reads : IsWritten (word (codes "READS"))
 a_reads = a_word 82 (codes "EADS") (λ f. refl) refl

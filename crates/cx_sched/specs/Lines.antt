@@ -12,7 +12,7 @@ use Rattle.cx_sched.specs.declared.lines.Line.{Line}
 use Rattle.cx_sched.specs.declared.lines.Line.TheVariants.{Start, Tokens, Word, Names}
 use Rattle.cx_sched.specs.declared.lines.Lines.{Lines}
 use Rattle.cx_sched.specs.Words.{line_of}
-use Rattle.cx_sched.specs.Refs.{store, synced, touched}
+use Rattle.cx_sched.specs.Refs.{store, sync_name, access}
 
 -- before the first line of a block, where so many lines may still stand
 abbrev pub no_lines : ℕ → Lines
@@ -76,13 +76,13 @@ item Storage w s = do
   r ← store w
   nothing (record s { storage = s.storage ++ r ∷ [] })
 item Sync w s = do
-  r ← synced w
+  r ← sync_name w
   nothing (record s { sync = s.sync ++ r ∷ [] })
 item Reads w s = do
-  r ← touched w
+  r ← access w
   nothing (record s { reads = s.reads ++ r ∷ [] })
 item Writes w s = do
-  r ← touched w
+  r ← access w
   nothing (record s { writes = s.writes ++ r ∷ [] })
 
 abbrev pub named : Kind → Lines → Rule Lines

@@ -2,7 +2,7 @@
 use Rattle.std.specs.Prelude.{ℕ, Bool, true, false, List, [], ◌∷◌, ◌++◌, codes, Option, Some, None}
 use Rattle.std.specs.Fmt.{decimal}
 use Rattle.cx_plan.specs.declared.item.Region.{Region}
-use Rattle.cx_plan.specs.declared.item.Region.TheVariants.{Interior, Boundary, Everywhere}
+use Rattle.cx_plan.specs.Names.{region_text}
 use Rattle.cx_text.specs.declared.token.Token.{Token}
 use Rattle.cx_text.specs.Written.{word, words, quoted, sign, sign_pair, line_end}
 use Rattle.cx_text.specs.Written as written
@@ -33,14 +33,9 @@ bracketed (Some k) = sign 91 ∷ written.number (decimal k) ∷ sign 93 ∷ []
 abbrev pub store : Ref × Option ℕ → List Token
 store s = ref s.0 ++ bracketed s.1
 
-abbrev pub region_name : Region → List ℕ
-region_name Interior = codes "interior"
-region_name Boundary = codes "boundary"
-region_name Everywhere = codes "everywhere"
-
 -- with its region
-abbrev pub touched : Ref × Region → List Token
-touched t = ref t.0 ++ bracketed t.0.copy ++ sign 40 ∷ word (region_name t.1) ∷ sign 41 ∷ []
+abbrev pub access : Ref × Region → List Token
+access t = ref t.0 ++ bracketed t.0.copy ++ sign 40 ∷ word (region_text t.1) ∷ sign 41 ∷ []
 
 abbrev pub stores : List (Ref × Option ℕ) → List Token
 stores [] = []
@@ -50,9 +45,9 @@ abbrev pub refs : List Ref → List Token
 refs [] = []
 refs (r ∷ rs) = ref r ++ refs rs
 
-abbrev pub all_touched : List (Ref × Region) → List Token
-all_touched [] = []
-all_touched (t ∷ ts) = touched t ++ all_touched ts
+abbrev pub accesses : List (Ref × Region) → List Token
+accesses [] = []
+accesses (t ∷ ts) = access t ++ accesses ts
 
 -- ---- the lines of a block: no line that names nothing
 
@@ -64,13 +59,13 @@ abbrev pub sync_line : List Ref → List Token
 sync_line [] = []
 sync_line (r ∷ rs) = word (codes "SYNC") ∷ sign 58 ∷ refs (r ∷ rs)
 
-abbrev pub touched_line : List ℕ → List (Ref × Region) → List Token
-touched_line name [] = []
-touched_line name (t ∷ ts) = word name ∷ sign 58 ∷ all_touched (t ∷ ts)
+abbrev pub access_line : List ℕ → List (Ref × Region) → List Token
+access_line name [] = []
+access_line name (t ∷ ts) = word name ∷ sign 58 ∷ accesses (t ∷ ts)
 
 -- lines without effect stand first, as they are kept
 abbrev pub lines : BlockOf → List Token
-lines b = b.rest ++ storage_line b.storage ++ sync_line b.sync ++ touched_line (codes "READS") b.reads ++ touched_line (codes "WRITES") b.writes
+lines b = b.rest ++ storage_line b.storage ++ sync_line b.sync ++ access_line (codes "READS") b.reads ++ access_line (codes "WRITES") b.writes
 
 -- ---- what stands before a block's lines
 

@@ -63,15 +63,15 @@ store w = do
   nothing (r, k)
 
 -- [ "::" Word ] [","], behind a Word
-abbrev pub synced : List ℕ → Rule Ref
-synced w = do
+abbrev pub sync_name : List ℕ → Rule Ref
+sync_name w = do
   r ← behind_word w
   u ← comma
   nothing r
 
 -- [ "::" Word ] [ "[" Number "]" ] [ "(" Word ")" ] [","], behind a Word
-abbrev pub touched : List ℕ → Rule (Ref × Region)
-touched w = do
+abbrev pub access : List ℕ → Rule (Ref × Region)
+access w = do
   r ← behind_word w
   k ← bracketed
   g ← region

@@ -2,8 +2,7 @@
 
 ghost use Rattle.std.specs.Prelude.{◌≡◌, []};
 ghost use Rattle.cx_text.specs.Grammar.{passes, head as next};
-ghost use Rattle.cx_text.specs.Reading.{Gives};
-ghost use Rattle.cx_text.specs.Rules.{token, loop, unmarked, choice, nothing};
+ghost use Rattle.cx_text.specs.Rules.{Obeys, Builds, token, loop, unmarked, choice, nothing};
 ghost use Rattle.cx_text.specs.Lexemes.{is_quoted, quoted};
 ghost use Rattle.cx_sched.specs.Blocks.{is_way, way_of, way, is_way_name, spot, placed, place, group_place, either, behind_group, behind_name, head, no_clauses, names_in_parens, one_name, name_list, alias, tested, turning, before, after, is_clause, clause, block_of, behind_head, block};
 
@@ -54,7 +53,7 @@ fn at_way(reader: &Reader) -> bool
 }
 
 fn way_here(reader: &mut Reader, alloc: Global) -> Result<Text, Stop>
-    ensures { Gives (λ w. w) result reader.new.rest.now ((token way_of unmarked).reads reader.old.rest.now) }
+    ensures { Obeys (token way_of unmarked) result reader.old reader.new }
 {
     match reader.rest {
         [token, rest @ ..] if is_way(token) => {
@@ -68,7 +67,7 @@ fn way_here(reader: &mut Reader, alloc: Global) -> Result<Text, Stop>
 
 /// AT or IN.
 fn way(reader: &mut Reader, alloc: Global) -> Result<Text, Stop>
-    ensures { Gives (λ w. w) result reader.new.rest.now (way.reads reader.old.rest.now) }
+    ensures { Obeys way result reader.old reader.new }
 {
     let word = way_here(reader, alloc)?;
     reader.skip_line_ends();
@@ -92,7 +91,7 @@ fn spot(word: &Text, place: Text) -> Spot
 }
 
 fn placed(reader: &mut Reader, alloc: Global, group: bool, name: Text) -> Result<Head, Stop>
-    ensures { Gives (λ h. h) result reader.new.rest.now ((placed group name).reads reader.old.rest.now) }
+    ensures { Obeys (placed group name) result reader.old reader.new }
 {
     let word = way(reader, alloc)?;
     let place = reader.name(alloc)?;
@@ -105,7 +104,7 @@ fn placed(reader: &mut Reader, alloc: Global, group: bool, name: Text) -> Result
 
 /// The head behind GROUP as a name and AT or IN.
 fn place(reader: &mut Reader, alloc: Global, name: Text, word: &Text) -> Result<Head, Stop>
-    ensures { Gives (λ h. h) result reader.new.rest.now ((place name word.now).reads reader.old.rest.now) }
+    ensures { Obeys (place name word.now) result reader.old reader.new }
 {
     let place = reader.name(alloc)?;
     Ok(Head {
@@ -117,7 +116,7 @@ fn place(reader: &mut Reader, alloc: Global, name: Text, word: &Text) -> Result<
 
 /// The head behind the keyword GROUP, a name and AT or IN.
 fn group_place(reader: &mut Reader, alloc: Global, name: Text, word: &Text) -> Result<Head, Stop>
-    ensures { Gives (λ h. h) result reader.new.rest.now ((group_place name word.now).reads reader.old.rest.now) }
+    ensures { Obeys (group_place name word.now) result reader.old reader.new }
 {
     let place = reader.name(alloc)?;
     Ok(Head {
@@ -129,7 +128,7 @@ fn group_place(reader: &mut Reader, alloc: Global, name: Text, word: &Text) -> R
 
 /// The head behind GROUP and AT or IN, where AT or IN follows again.
 fn either(reader: &mut Reader, alloc: Global, group: Text, name: Text) -> Result<Head, Stop>
-    ensures { Gives (λ h. h) result reader.new.rest.now ((either group name).reads reader.old.rest.now) }
+    ensures { Obeys (either group name) result reader.old reader.new }
 {
     let word = way(reader, alloc)?;
     if reader.at_word() {
@@ -151,7 +150,7 @@ fn behind_group(
     group: Text,
     name: Text,
 ) -> Result<Head, Stop>
-    ensures { Gives (λ h. h) result reader.new.rest.now ((behind_group is_way group name).reads reader.old.rest.now) }
+    ensures { Obeys (behind_group is_way group name) result reader.old reader.new }
 {
     if !is_way {
         placed(reader, alloc, true, name)
@@ -164,7 +163,7 @@ fn behind_group(
 
 /// The head behind a word, which may be GROUP.
 fn behind_name(reader: &mut Reader, alloc: Global, is_group: bool, name: Text) -> Result<Head, Stop>
-    ensures { Gives (λ h. h) result reader.new.rest.now ((behind_name is_group name).reads reader.old.rest.now) }
+    ensures { Obeys (behind_name is_group name) result reader.old reader.new }
 {
     if is_group {
         let second = reader.name(alloc)?;
@@ -177,7 +176,7 @@ fn behind_name(reader: &mut Reader, alloc: Global, is_group: bool, name: Text) -
 
 /// What stands before the clauses, behind SCHEDULE.
 fn heading(reader: &mut Reader, alloc: Global) -> Result<Head, Stop>
-    ensures { Gives (λ h. h) result reader.new.rest.now (head.reads reader.old.rest.now) }
+    ensures { Obeys head result reader.old reader.new }
 {
     let name = reader.name(alloc)?;
     let is_group = same_name(name.as_slice(), b"GROUP");
@@ -185,15 +184,15 @@ fn heading(reader: &mut Reader, alloc: Global) -> Result<Head, Stop>
 }
 
 fn names_in_parens(reader: &mut Reader, alloc: Global, names: &mut List<Text>) -> Result<(), Stop>
-    ensures { Gives (λ x. names.new) result reader.new.rest.now ((names_in_parens names.old).reads reader.old.rest.now) }
+    ensures { Builds (names_in_parens names.old) names.new result reader.old reader.new }
 {
     reader.sign(b'(')?;
-    reader.listed(alloc, names)?;
+    reader.name_list(alloc, names)?;
     reader.sign(b')')
 }
 
 fn one_name(reader: &mut Reader, alloc: Global, names: &mut List<Text>) -> Result<(), Stop>
-    ensures { Gives (λ x. names.new) result reader.new.rest.now ((one_name names.old).reads reader.old.rest.now) }
+    ensures { Builds (one_name names.old) names.new result reader.old reader.new }
 {
     let name = reader.name(alloc)?;
     names.push(name)?;
@@ -201,7 +200,7 @@ fn one_name(reader: &mut Reader, alloc: Global, names: &mut List<Text>) -> Resul
 }
 
 fn name_list(reader: &mut Reader, alloc: Global, names: &mut List<Text>) -> Result<(), Stop>
-    ensures { Gives (λ x. names.new) result reader.new.rest.now ((name_list names.old).reads reader.old.rest.now) }
+    ensures { Builds (name_list names.old) names.new result reader.old reader.new }
 {
     if reader.at_sign(b'(') {
         names_in_parens(reader, alloc, names)
@@ -211,7 +210,7 @@ fn name_list(reader: &mut Reader, alloc: Global, names: &mut List<Text>) -> Resu
 }
 
 fn alias(reader: &mut Reader, alloc: Global, clauses: &mut Clauses) -> Result<(), Stop>
-    ensures { Gives (λ x. clauses.new) result reader.new.rest.now ((alias clauses.old).reads reader.old.rest.now) }
+    ensures { Builds (alias clauses.old) clauses.new result reader.old reader.new }
 {
     reader.once(b"AS", clauses.alias.is_some())?;
     let name = reader.name(alloc)?;
@@ -220,7 +219,7 @@ fn alias(reader: &mut Reader, alloc: Global, clauses: &mut Clauses) -> Result<()
 }
 
 fn tested(reader: &mut Reader, alloc: Global, clauses: &mut Clauses) -> Result<(), Stop>
-    ensures { Gives (λ x. clauses.new) result reader.new.rest.now ((tested clauses.old).reads reader.old.rest.now) }
+    ensures { Builds (tested clauses.old) clauses.new result reader.old reader.new }
 {
     reader.once(b"IF", clauses.test.is_some())?;
     let scalar = reference(reader, alloc)?;
@@ -229,7 +228,7 @@ fn tested(reader: &mut Reader, alloc: Global, clauses: &mut Clauses) -> Result<(
 }
 
 fn turning(reader: &mut Reader, alloc: Global, clauses: &mut Clauses) -> Result<(), Stop>
-    ensures { Gives (λ x. clauses.new) result reader.new.rest.now ((turning clauses.old).reads reader.old.rest.now) }
+    ensures { Builds (turning clauses.old) clauses.new result reader.old reader.new }
 {
     reader.once(b"WHILE", clauses.turn.is_some())?;
     let scalar = reference(reader, alloc)?;
@@ -238,14 +237,14 @@ fn turning(reader: &mut Reader, alloc: Global, clauses: &mut Clauses) -> Result<
 }
 
 fn before(reader: &mut Reader, alloc: Global, clauses: &mut Clauses) -> Result<(), Stop>
-    ensures { Gives (λ x. clauses.new) result reader.new.rest.now ((before clauses.old).reads reader.old.rest.now) }
+    ensures { Builds (before clauses.old) clauses.new result reader.old reader.new }
 {
     reader.keyword(b"BEFORE")?;
     name_list(reader, alloc, &mut clauses.before)
 }
 
 fn after(reader: &mut Reader, alloc: Global, clauses: &mut Clauses) -> Result<(), Stop>
-    ensures { Gives (λ x. clauses.new) result reader.new.rest.now ((after clauses.old).reads reader.old.rest.now) }
+    ensures { Builds (after clauses.old) clauses.new result reader.old reader.new }
 {
     reader.keyword(b"AFTER")?;
     name_list(reader, alloc, &mut clauses.after)
@@ -271,7 +270,7 @@ fn at_clause(reader: &Reader) -> bool
 }
 
 fn clause(reader: &mut Reader, alloc: Global, clauses: &mut Clauses) -> Result<(), Stop>
-    ensures { Gives (λ x. clauses.new) result reader.new.rest.now ((clause clauses.old).reads reader.old.rest.now) }
+    ensures { Builds (clause clauses.old) clauses.new result reader.old reader.new }
 {
     if reader.at_keyword(b"AS") {
         alias(reader, alloc, clauses)
@@ -287,7 +286,7 @@ fn clause(reader: &mut Reader, alloc: Global, clauses: &mut Clauses) -> Result<(
 }
 
 fn clauses_after(reader: &mut Reader, alloc: Global, clauses: &mut Clauses) -> Result<(), Stop>
-    ensures { Gives (λ x. clauses.new) result reader.new.rest.now ((loop is_clause clause clauses.old).reads reader.old.rest.now) }
+    ensures { Builds (loop is_clause clause clauses.old) clauses.new result reader.old reader.new }
 {
     'clauses: while at_clause(reader) {
         clause(reader, alloc, clauses)?;
@@ -296,7 +295,7 @@ fn clauses_after(reader: &mut Reader, alloc: Global, clauses: &mut Clauses) -> R
 }
 
 fn all_clauses(reader: &mut Reader, alloc: Global) -> Result<Clauses, Stop>
-    ensures { Gives (λ x. x) result reader.new.rest.now ((loop is_clause clause no_clauses).reads reader.old.rest.now) }
+    ensures { Obeys (loop is_clause clause no_clauses) result reader.old reader.new }
 {
     let mut clauses = Clauses {
         alias: None,
@@ -311,10 +310,10 @@ fn all_clauses(reader: &mut Reader, alloc: Global) -> Result<Clauses, Stop>
 
 /// A quoted text, if one stands here, else an empty one.
 fn description(reader: &mut Reader, alloc: Global) -> Result<Text, Stop>
-    ensures { Gives (λ t. t) result reader.new.rest.now ((choice is_quoted quoted (nothing [])).reads reader.old.rest.now) }
+    ensures { Obeys (choice is_quoted quoted (nothing [])) result reader.old reader.new }
 {
-    if reader.at_quoted() {
-        reader.quoted(alloc)
+    if reader.at_quoted_text() {
+        reader.quoted_text(alloc)
     } else {
         Ok(Text::new(Vec::new(alloc)))
     }
@@ -343,7 +342,7 @@ fn block_of(head: Head, clauses: Clauses, lines: Lines, text: Text) -> Block
 
 /// A block behind its head, in which so many lines may stand.
 fn behind_head(reader: &mut Reader, alloc: Global, head: Head, left: usize) -> Result<Made, Stop>
-    ensures { Gives (λ m. m) result reader.new.rest.now ((behind_head head left).reads reader.old.rest.now) }
+    ensures { Obeys (behind_head head left) result reader.old reader.new }
 {
     let clauses = all_clauses(reader, alloc)?;
     let lines = all_lines(reader, alloc, left)?;
@@ -356,7 +355,7 @@ fn behind_head(reader: &mut Reader, alloc: Global, head: Head, left: usize) -> R
 
 /// A block, which is past the limit where `full` holds, and in which so many lines may stand.
 pub fn block(reader: &mut Reader, alloc: Global, full: bool, left: usize) -> Result<Made, Stop>
-    ensures { Gives (λ m. m) result reader.new.rest.now ((block full left).reads reader.old.rest.now) }
+    ensures { Obeys (block full left) result reader.old reader.new }
 {
     reader.counted_keyword(b"SCHEDULE", full)?;
     let head = heading(reader, alloc)?;

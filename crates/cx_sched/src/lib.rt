@@ -2,16 +2,10 @@
 #![tactic(auto)]
 
 mod block;
-#[cfg(test)]
-mod enumeration;
 mod lines;
 mod node;
-mod printer;
 mod reference;
-#[cfg(test)]
-mod tests;
 mod tree;
 
 pub use node::read_schedule;
-pub use printer::print_schedule;
 pub use tree::{Block, Node, Ref, ScheduleFile, Spot};

@@ -2,8 +2,7 @@
 
 ghost use Rattle.std.specs.Prelude.{◌≡◌, ◌++◌, IfOk, OnOk, None};
 ghost use Rattle.cx_text.specs.Grammar.{passes, head};
-ghost use Rattle.cx_text.specs.Reading.{Gives};
-ghost use Rattle.cx_text.specs.Rules.{token, loop, if_is, unmarked, is_sign, lexeme};
+ghost use Rattle.cx_text.specs.Rules.{Obeys, Builds, token, loop, if_is, unmarked, is_sign, lexeme};
 ghost use Rattle.cx_text.specs.Lexemes.{first_mark, kept_if, is_inside};
 ghost use Rattle.cx_text.specs.Written as written;
 ghost use Rattle.cx_text.specs.declared.stop.Mark.TheVariants as marks;
@@ -11,7 +10,7 @@ ghost use Rattle.cx_sched.specs.Words.{is_idle, line_of};
 ghost use Rattle.cx_sched.specs.Lines.{no_lines, beginning, begin, line_word, first, begun_by, keep, kept_after, kept, item, named, entry, lines};
 
 use crate::Ref;
-use crate::reference::{store, synced, touched};
+use crate::reference::{access, store, sync_name};
 use cx_plan::Region;
 use cx_text::{Kind as TokenKind, List, Mark, Memory, Reader, Stop, Text, Token, Why, same_name};
 use std::alloc::Global;
@@ -116,7 +115,8 @@ fn keep_beginning(
 }
 
 fn colon_here(reader: &mut Reader, full: bool) -> Result<(), Stop>
-    ensures { Gives (λ x. x) result reader.new.rest.now ((token (if_is (is_sign 58)) (λ t. first_mark full marks.Limit None)).reads reader.old.rest.now) }
+    ensures { Obeys (token (if_is (is_sign 58)) (λ t. first_mark full marks.Limit None))
+        result reader.old reader.new }
 {
     match reader.rest {
         [token, rest @ ..] if token.is_sign(b':') => {
@@ -132,7 +132,8 @@ fn colon_here(reader: &mut Reader, full: bool) -> Result<(), Stop>
 
 /// The colon of a line, which is past the limit where as many lines as may stand are there already.
 fn colon(reader: &mut Reader, full: bool) -> Result<(), Stop>
-    ensures { Gives (λ x. x) result reader.new.rest.now ((lexeme (if_is (is_sign 58)) (λ t. first_mark full marks.Limit None)).reads reader.old.rest.now) }
+    ensures { Obeys (lexeme (if_is (is_sign 58)) (λ t. first_mark full marks.Limit None))
+        result reader.old reader.new }
 {
     colon_here(reader, full)?;
     reader.skip_line_ends();
@@ -147,7 +148,7 @@ fn begin(
     word: &Text,
     lines: &mut Lines,
 ) -> Result<(), Stop>
-    ensures { Gives (λ x. lines.new) result reader.new.rest.now ((begin line word.now lines.old).reads reader.old.rest.now) }
+    ensures { Builds (begin line word.now lines.old) lines.new result reader.old reader.new }
 {
     colon(reader, lines.left == 0)?;
     keep_beginning(alloc, line, word, &mut lines.rest)?;
@@ -157,7 +158,7 @@ fn begin(
 }
 
 fn line_word_here(reader: &mut Reader, alloc: Global) -> Result<(Line, Text), Stop>
-    ensures { Gives (λ l. l) result reader.new.rest.now ((token line_word unmarked).reads reader.old.rest.now) }
+    ensures { Obeys (token line_word unmarked) result reader.old reader.new }
 {
     match reader.rest {
         [token, rest @ ..] if token.is_word() => match line_of(token.text.as_slice()) {
@@ -173,7 +174,7 @@ fn line_word_here(reader: &mut Reader, alloc: Global) -> Result<(Line, Text), St
 }
 
 fn line_word(reader: &mut Reader, alloc: Global) -> Result<(Line, Text), Stop>
-    ensures { Gives (λ l. l) result reader.new.rest.now ((lexeme line_word unmarked).reads reader.old.rest.now) }
+    ensures { Obeys (lexeme line_word unmarked) result reader.old reader.new }
 {
     let line = line_word_here(reader, alloc)?;
     reader.skip_line_ends();
@@ -182,7 +183,7 @@ fn line_word(reader: &mut Reader, alloc: Global) -> Result<(Line, Text), Stop>
 
 /// The first line of a block.
 fn first(reader: &mut Reader, alloc: Global, lines: &mut Lines) -> Result<(), Stop>
-    ensures { Gives (λ x. lines.new) result reader.new.rest.now ((first lines.old).reads reader.old.rest.now) }
+    ensures { Builds (first lines.old) lines.new result reader.old reader.new }
 {
     let (line, word) = line_word(reader, alloc)?;
     begin(reader, alloc, line, &word, lines)
@@ -196,11 +197,11 @@ fn is_kept(token: &Token, behind: bool) -> bool
 }
 
 fn kept_here(reader: &mut Reader, alloc: Global, behind: bool) -> Result<Token, Stop>
-    ensures { Gives (λ t. t) result reader.new.rest.now ((token (kept_if (kept_after behind)) unmarked).reads reader.old.rest.now) }
+    ensures { Obeys (token (kept_if (kept_after behind)) unmarked) result reader.old reader.new }
 {
     match reader.rest {
         [token, rest @ ..] if is_kept(token, behind) => {
-            let kept = token.kept(alloc)?;
+            let kept = token.kept_copy(alloc)?;
             reader.rest = rest;
             Ok(kept)
         }
@@ -209,7 +210,7 @@ fn kept_here(reader: &mut Reader, alloc: Global, behind: bool) -> Result<Token, 
 }
 
 fn kept_token(reader: &mut Reader, alloc: Global, behind: bool) -> Result<Token, Stop>
-    ensures { Gives (λ t. t) result reader.new.rest.now ((lexeme (kept_if (kept_after behind)) unmarked).reads reader.old.rest.now) }
+    ensures { Obeys (lexeme (kept_if (kept_after behind)) unmarked) result reader.old reader.new }
 {
     let kept = kept_here(reader, alloc, behind)?;
     reader.skip_line_ends();
@@ -240,7 +241,7 @@ fn keep(token: Token, lines: &mut Lines) -> Result<(), Memory>
 
 /// A token of a line without effect, or the beginning of the next line.
 fn kept(reader: &mut Reader, alloc: Global, behind: bool, lines: &mut Lines) -> Result<(), Stop>
-    ensures { Gives (λ x. lines.new) result reader.new.rest.now ((kept behind lines.old).reads reader.old.rest.now) }
+    ensures { Builds (kept behind lines.old) lines.new result reader.old reader.new }
 {
     let token = kept_token(reader, alloc, behind)?;
     match begun_by(&token) {
@@ -260,20 +261,20 @@ fn item(
     word: Text,
     lines: &mut Lines,
 ) -> Result<(), Stop>
-    ensures { Gives (λ x. lines.new) result reader.new.rest.now ((item kind word lines.old).reads reader.old.rest.now) }
+    ensures { Builds (item kind word lines.old) lines.new result reader.old reader.new }
 {
     match kind {
         Kind::Storage => lines.storage.push(store(reader, alloc, word)?)?,
-        Kind::Sync => lines.sync.push(synced(reader, alloc, word)?)?,
-        Kind::Reads => lines.reads.push(touched(reader, alloc, word)?)?,
-        Kind::Writes => lines.writes.push(touched(reader, alloc, word)?)?,
+        Kind::Sync => lines.sync.push(sync_name(reader, alloc, word)?)?,
+        Kind::Reads => lines.reads.push(access(reader, alloc, word)?)?,
+        Kind::Writes => lines.writes.push(access(reader, alloc, word)?)?,
     }
     Ok(())
 }
 
 /// A name in a list, or the beginning of the next line.
 fn named(reader: &mut Reader, alloc: Global, kind: Kind, lines: &mut Lines) -> Result<(), Stop>
-    ensures { Gives (λ x. lines.new) result reader.new.rest.now ((named kind lines.old).reads reader.old.rest.now) }
+    ensures { Builds (named kind lines.old) lines.new result reader.old reader.new }
 {
     let word = reader.name(alloc)?;
     match line_of(word.as_slice()) {
@@ -283,7 +284,7 @@ fn named(reader: &mut Reader, alloc: Global, kind: Kind, lines: &mut Lines) -> R
 }
 
 fn entry(reader: &mut Reader, alloc: Global, lines: &mut Lines) -> Result<(), Stop>
-    ensures { Gives (λ x. lines.new) result reader.new.rest.now ((entry lines.old).reads reader.old.rest.now) }
+    ensures { Builds (entry lines.old) lines.new result reader.old reader.new }
 {
     match lines.line {
         Line::Start => first(reader, alloc, lines),
@@ -293,19 +294,10 @@ fn entry(reader: &mut Reader, alloc: Global, lines: &mut Lines) -> Result<(), St
     }
 }
 
-fn at_inside(reader: &Reader) -> bool
-    ensures { result ≡ passes is_inside (head reader.now.rest.now) }
-{
-    match reader.rest {
-        [token, ..] => !token.is_sign(b'}'),
-        [] => false,
-    }
-}
-
 fn entries(reader: &mut Reader, alloc: Global, lines: &mut Lines) -> Result<(), Stop>
-    ensures { Gives (λ x. lines.new) result reader.new.rest.now ((loop is_inside entry lines.old).reads reader.old.rest.now) }
+    ensures { Builds (loop is_inside entry lines.old) lines.new result reader.old reader.new }
 {
-    'entries: while at_inside(reader) {
+    'entries: while reader.at_inside() {
         entry(reader, alloc, lines)?;
     }
     Ok(())
@@ -313,7 +305,7 @@ fn entries(reader: &mut Reader, alloc: Global, lines: &mut Lines) -> Result<(), 
 
 /// The lines of a block in their braces, where so many lines may still stand.
 pub fn all_lines(reader: &mut Reader, alloc: Global, left: usize) -> Result<Lines, Stop>
-    ensures { Gives (λ x. x) result reader.new.rest.now ((lines left).reads reader.old.rest.now) }
+    ensures { Obeys (lines left) result reader.old reader.new }
 {
     let mut read = Lines {
         left,

@@ -1,9 +1,8 @@
 //! The nodes of a schedule file, and bodies of nodes within one another.
 
 ghost use Rattle.std.specs.Prelude.{◌≡◌, ◌∷◌, ◌++◌, [], OnOk};
-ghost use Rattle.cx_text.specs.Grammar.{passes, head, Answers, AnswersOnly};
-ghost use Rattle.cx_text.specs.Reading.{Gives};
-ghost use Rattle.cx_text.specs.Rules.{loop};
+ghost use Rattle.cx_text.specs.Grammar.{passes, head, ReadsBy, AnswersOnly};
+ghost use Rattle.cx_text.specs.Rules.{Obeys, Builds, loop};
 ghost use Rattle.cx_sched.specs.declared.tree.Node.{Cond};
 ghost use Rattle.cx_sched.specs.Nodes.{nobody, is_node, is_body, storage, blocked, otherwise, condition, conditional, node, braced, body, schedule};
 
@@ -56,7 +55,7 @@ fn at_body(reader: &Reader) -> bool
 }
 
 fn storage(reader: &mut Reader, alloc: Global, read: &mut Read) -> Result<(), Stop>
-    ensures { Gives (λ x. read.new) result reader.new.rest.now ((storage read.old).reads reader.old.rest.now) }
+    ensures { Builds (storage read.old) read.new result reader.old reader.new }
 {
     reader.counted_keyword(b"STORAGE", read.nodes == 0)?;
     reader.sign_here(b':')?;
@@ -68,7 +67,7 @@ fn storage(reader: &mut Reader, alloc: Global, read: &mut Read) -> Result<(), St
 }
 
 fn blocked(reader: &mut Reader, alloc: Global, read: &mut Read) -> Result<(), Stop>
-    ensures { Gives (λ x. read.new) result reader.new.rest.now ((blocked read.old).reads reader.old.rest.now) }
+    ensures { Builds (blocked read.old) read.new result reader.old reader.new }
 {
     let made = block(reader, alloc, read.nodes == 0, read.lines)?;
     read.tree.push(Node::Block(made.block))?;
@@ -79,7 +78,7 @@ fn blocked(reader: &mut Reader, alloc: Global, read: &mut Read) -> Result<(), St
 
 /// The condition of a node, behind its keyword.
 fn condition(reader: &mut Reader, alloc: Global, full: bool) -> Result<Expr, Stop>
-    ensures { Gives (λ e. e) result reader.new.rest.now ((condition full).reads reader.old.rest.now) }
+    ensures { Obeys (condition full) result reader.old reader.new }
 {
     reader.counted_keyword(b"IF", full)?;
     reader.sign(b'(')?;
@@ -89,7 +88,11 @@ fn condition(reader: &mut Reader, alloc: Global, full: bool) -> Result<Expr, Sto
 }
 
 fn push_cond(read: &mut Read, test: Expr, yes: List<Node>, no: Read) -> Result<(), Memory>
-    ensures { OnOk result (read.new ≡ record { nodes = no.nodes; lines = no.lines; tree = read.old.tree ++ Cond test yes no.tree ∷ [] }) }
+    ensures { OnOk result (read.new ≡ record {
+      nodes = no.nodes;
+      lines = no.lines;
+      tree = read.old.tree ++ Cond test yes no.tree ∷ [];
+    }) }
 {
     let Read { nodes, lines, tree } = no;
     read.tree.push(Node::Cond {
@@ -121,7 +124,7 @@ fn otherwise(
     nodes: usize,
     lines: usize,
 ) -> Result<Read, Stop>
-    ensures { Gives (λ x. x) result reader.new.rest.now ((otherwise (body depth) nodes lines).reads reader.old.rest.now) }
+    ensures { Obeys (otherwise (body depth) nodes lines) result reader.old reader.new }
 {
     if reader.at_keyword(b"ELSE") {
         reader.keyword(b"ELSE")?;
@@ -133,7 +136,7 @@ fn otherwise(
 
 #[cycle(node)]
 fn conditional(reader: &mut Reader, alloc: Global, depth: u32, read: &mut Read) -> Result<(), Stop>
-    ensures { Gives (λ x. read.new) result reader.new.rest.now ((conditional (body depth) read.old).reads reader.old.rest.now) }
+    ensures { Builds (conditional (body depth) read.old) read.new result reader.old reader.new }
 {
     let test = condition(reader, alloc, read.nodes == 0)?;
     let yes = body(
@@ -151,7 +154,7 @@ fn conditional(reader: &mut Reader, alloc: Global, depth: u32, read: &mut Read) 
 /// A node, in whose bodies so many bodies may still stand within one another.
 #[cycle(node)]
 fn node(reader: &mut Reader, alloc: Global, depth: u32, read: &mut Read) -> Result<(), Stop>
-    ensures { Gives (λ x. read.new) result reader.new.rest.now ((node (body depth) read.old).reads reader.old.rest.now) }
+    ensures { Builds (node (body depth) read.old) read.new result reader.old reader.new }
 {
     if reader.at_keyword(b"STORAGE") {
         storage(reader, alloc, read)
@@ -164,7 +167,8 @@ fn node(reader: &mut Reader, alloc: Global, depth: u32, read: &mut Read) -> Resu
 
 #[cycle(node)]
 fn nodes(reader: &mut Reader, alloc: Global, depth: u32, read: &mut Read) -> Result<(), Stop>
-    ensures { Gives (λ x. read.new) result reader.new.rest.now ((loop is_node (node (body depth)) read.old).reads reader.old.rest.now) }
+    ensures { Builds (loop is_node (node (body depth)) read.old) read.new
+        result reader.old reader.new }
 {
     'nodes: while at_node(reader) {
         node(reader, alloc, depth, read)?;
@@ -180,7 +184,7 @@ fn braced(
     left: usize,
     lines: usize,
 ) -> Result<Read, Stop>
-    ensures { Gives (λ x. x) result reader.new.rest.now ((braced (body depth) left lines).reads reader.old.rest.now) }
+    ensures { Obeys (braced (body depth) left lines) result reader.old reader.new }
 {
     let mut read = nothing_yet(alloc, left, lines);
     reader.sign(b'{')?;
@@ -197,7 +201,7 @@ fn single(
     left: usize,
     lines: usize,
 ) -> Result<Read, Stop>
-    ensures { Gives (λ x. x) result reader.new.rest.now ((node (body depth) (nobody left lines)).reads reader.old.rest.now) }
+    ensures { Obeys (node (body depth) (nobody left lines)) result reader.old reader.new }
 {
     let mut read = nothing_yet(alloc, left, lines);
     node(reader, alloc, depth, &mut read)?;
@@ -213,7 +217,7 @@ fn body(
     left: usize,
     lines: usize,
 ) -> Result<Read, Stop>
-    ensures { Gives (λ x. x) result reader.new.rest.now ((body depth left lines).reads reader.old.rest.now) }
+    ensures { Obeys (body depth left lines) result reader.old reader.new }
 {
     if depth == 0 {
         if at_body(reader) {
@@ -229,7 +233,7 @@ fn body(
 }
 
 fn whole(reader: &mut Reader, alloc: Global) -> Result<ScheduleFile, Stop>
-    ensures { Gives (λ x. x) result reader.new.rest.now (schedule.reads reader.old.rest.now) }
+    ensures { Obeys schedule result reader.old reader.new }
 {
     let mut read = nothing_yet(alloc, MAX_NODES, MAX_LINES);
     reader.skip_line_ends();
@@ -251,7 +255,7 @@ fn whole(reader: &mut Reader, alloc: Global) -> Result<ScheduleFile, Stop>
 /// 33rd parenthesis or sign of those round one another.
 pub fn read_schedule(alloc: Global, tokens: &List<Token>) -> Result<ScheduleFile, CclFault>
     // The answer is what the tokens spell, or the first fault.
-    ensures answers { Answers schedule.derives (λ x. x) tokens.now result }
+    ensures answers { ReadsBy schedule.derives (λ x. x) tokens.now result }
     // What is spelled is answered, unless memory runs out.
     ensures only { AnswersOnly schedule.derives (λ x. x) tokens.now result }
 {

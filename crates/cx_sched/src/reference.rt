@@ -1,12 +1,11 @@
 //! Names of variables and groups, with what may stand behind them.
 
 ghost use Rattle.std.specs.Prelude.{◌≡◌, ◌≤◌, None, IfOk};
-ghost use Rattle.cx_text.specs.Reading.{Gives};
-ghost use Rattle.cx_text.specs.Rules.{token, loop, unmarked, lexeme};
+ghost use Rattle.cx_text.specs.Rules.{Obeys, Builds, token, loop, unmarked, lexeme};
 ghost use Rattle.cx_text.specs.Tokens.{is_word};
 ghost use Rattle.cx_text.specs.Lexemes.{number_in};
 ghost use Rattle.cx_sched.specs.Words.{region_of};
-ghost use Rattle.cx_sched.specs.Refs.{owned, behind_word, reference, bracket, bracketed, parens, region, store, synced, touched, owned_here, behind_word_here, bracket_here, bracketed_here, comma_here, more_stores, stores};
+ghost use Rattle.cx_sched.specs.Refs.{owned, behind_word, reference, bracket, bracketed, parens, region, store, sync_name, access, owned_here, behind_word_here, bracket_here, bracketed_here, comma_here, more_stores, stores};
 
 use crate::Ref;
 use cx_plan::Region;
@@ -14,14 +13,14 @@ use cx_text::{List, Reader, Stop, Text, Token, Why};
 use std::alloc::Global;
 
 fn number_up_to(reader: &mut Reader, high: u64) -> Result<u64, Stop>
-    ensures reads { Gives (λ n. n) result reader.new.rest.now ((number_in 0 high).reads reader.old.rest.now) }
+    ensures reads { Obeys (number_in 0 high) result reader.old reader.new }
     ensures most { IfOk result (λ n. n ≤ high) }
 {
     reader.number_in(0, high)
 }
 
 fn owned(reader: &mut Reader, alloc: Global, owner: Text) -> Result<Ref, Stop>
-    ensures { Gives (λ r. r) result reader.new.rest.now ((owned owner).reads reader.old.rest.now) }
+    ensures { Obeys (owned owner) result reader.old reader.new }
 {
     reader.sign_pair(b':', b':')?;
     let name = reader.name(alloc)?;
@@ -34,7 +33,7 @@ fn owned(reader: &mut Reader, alloc: Global, owner: Text) -> Result<Ref, Stop>
 
 /// The name that begins with this word.
 fn behind_word(reader: &mut Reader, alloc: Global, word: Text) -> Result<Ref, Stop>
-    ensures { Gives (λ r. r) result reader.new.rest.now ((behind_word word).reads reader.old.rest.now) }
+    ensures { Obeys (behind_word word) result reader.old reader.new }
 {
     if reader.at_sign_pair(b':', b':') {
         owned(reader, alloc, word)
@@ -49,14 +48,14 @@ fn behind_word(reader: &mut Reader, alloc: Global, word: Text) -> Result<Ref, St
 
 /// A name, alone or behind its owner's.
 pub fn reference(reader: &mut Reader, alloc: Global) -> Result<Ref, Stop>
-    ensures { Gives (λ r. r) result reader.new.rest.now (reference.reads reader.old.rest.now) }
+    ensures { Obeys reference result reader.old reader.new }
 {
     let word = reader.name(alloc)?;
     behind_word(reader, alloc, word)
 }
 
 fn bracket(reader: &mut Reader) -> Result<Option<u32>, Stop>
-    ensures { Gives (λ k. k) result reader.new.rest.now (bracket.reads reader.old.rest.now) }
+    ensures { Obeys bracket result reader.old reader.new }
 {
     reader.sign(b'[')?;
     let number = number_up_to(reader, u32::MAX as u64)?;
@@ -65,7 +64,7 @@ fn bracket(reader: &mut Reader) -> Result<Option<u32>, Stop>
 }
 
 fn bracketed(reader: &mut Reader) -> Result<Option<u32>, Stop>
-    ensures { Gives (λ k. k) result reader.new.rest.now (bracketed.reads reader.old.rest.now) }
+    ensures { Obeys bracketed result reader.old reader.new }
 {
     if reader.at_sign(b'[') {
         bracket(reader)
@@ -90,7 +89,7 @@ fn region_of(token: &Token) -> Option<Region>
 }
 
 fn region_here(reader: &mut Reader) -> Result<Region, Stop>
-    ensures { Gives (λ g. g) result reader.new.rest.now ((token region_of unmarked).reads reader.old.rest.now) }
+    ensures { Obeys (token region_of unmarked) result reader.old reader.new }
 {
     match reader.rest {
         [word, rest @ ..] => match region_of(word) {
@@ -105,7 +104,7 @@ fn region_here(reader: &mut Reader) -> Result<Region, Stop>
 }
 
 fn region_word(reader: &mut Reader) -> Result<Region, Stop>
-    ensures { Gives (λ g. g) result reader.new.rest.now ((lexeme region_of unmarked).reads reader.old.rest.now) }
+    ensures { Obeys (lexeme region_of unmarked) result reader.old reader.new }
 {
     let region = region_here(reader)?;
     reader.skip_line_ends();
@@ -113,7 +112,7 @@ fn region_word(reader: &mut Reader) -> Result<Region, Stop>
 }
 
 fn parens(reader: &mut Reader) -> Result<Region, Stop>
-    ensures { Gives (λ g. g) result reader.new.rest.now (parens.reads reader.old.rest.now) }
+    ensures { Obeys parens result reader.old reader.new }
 {
     reader.sign(b'(')?;
     let region = region_word(reader)?;
@@ -123,7 +122,7 @@ fn parens(reader: &mut Reader) -> Result<Region, Stop>
 
 /// A region in parentheses, or else everywhere.
 fn region(reader: &mut Reader) -> Result<Region, Stop>
-    ensures { Gives (λ g. g) result reader.new.rest.now (region.reads reader.old.rest.now) }
+    ensures { Obeys region result reader.old reader.new }
 {
     if reader.at_sign(b'(') {
         parens(reader)
@@ -134,7 +133,7 @@ fn region(reader: &mut Reader) -> Result<Region, Stop>
 
 /// A group that has storage, behind the first word of its name.
 pub fn store(reader: &mut Reader, alloc: Global, word: Text) -> Result<(Ref, Option<u32>), Stop>
-    ensures { Gives (λ r. r) result reader.new.rest.now ((store word).reads reader.old.rest.now) }
+    ensures { Obeys (store word) result reader.old reader.new }
 {
     let name = behind_word(reader, alloc, word)?;
     let levels = bracketed(reader)?;
@@ -143,8 +142,8 @@ pub fn store(reader: &mut Reader, alloc: Global, word: Text) -> Result<(Ref, Opt
 }
 
 /// What is synchronised, behind the first word of its name.
-pub fn synced(reader: &mut Reader, alloc: Global, word: Text) -> Result<Ref, Stop>
-    ensures { Gives (λ r. r) result reader.new.rest.now ((synced word).reads reader.old.rest.now) }
+pub fn sync_name(reader: &mut Reader, alloc: Global, word: Text) -> Result<Ref, Stop>
+    ensures { Obeys (sync_name word) result reader.old reader.new }
 {
     let name = behind_word(reader, alloc, word)?;
     reader.comma()?;
@@ -152,8 +151,8 @@ pub fn synced(reader: &mut Reader, alloc: Global, word: Text) -> Result<Ref, Sto
 }
 
 /// What is read or written, behind the first word of its name.
-pub fn touched(reader: &mut Reader, alloc: Global, word: Text) -> Result<(Ref, Region), Stop>
-    ensures { Gives (λ r. r) result reader.new.rest.now ((touched word).reads reader.old.rest.now) }
+pub fn access(reader: &mut Reader, alloc: Global, word: Text) -> Result<(Ref, Region), Stop>
+    ensures { Obeys (access word) result reader.old reader.new }
 {
     let Ref { owner, name, .. } = behind_word(reader, alloc, word)?;
     let copy = bracketed(reader)?;
@@ -163,7 +162,7 @@ pub fn touched(reader: &mut Reader, alloc: Global, word: Text) -> Result<(Ref, R
 }
 
 fn owned_here(reader: &mut Reader, alloc: Global, owner: Text) -> Result<Ref, Stop>
-    ensures { Gives (λ r. r) result reader.new.rest.now ((owned_here owner).reads reader.old.rest.now) }
+    ensures { Obeys (owned_here owner) result reader.old reader.new }
 {
     reader.sign_pair(b':', b':')?;
     let name = reader.name_here(alloc)?;
@@ -176,7 +175,7 @@ fn owned_here(reader: &mut Reader, alloc: Global, owner: Text) -> Result<Ref, St
 
 /// The name that begins with this word, and what follows it on its line.
 fn behind_word_here(reader: &mut Reader, alloc: Global, word: Text) -> Result<Ref, Stop>
-    ensures { Gives (λ r. r) result reader.new.rest.now ((behind_word_here word).reads reader.old.rest.now) }
+    ensures { Obeys (behind_word_here word) result reader.old reader.new }
 {
     if reader.at_sign_pair(b':', b':') {
         owned_here(reader, alloc, word)
@@ -190,7 +189,7 @@ fn behind_word_here(reader: &mut Reader, alloc: Global, word: Text) -> Result<Re
 }
 
 fn bracket_here(reader: &mut Reader) -> Result<Option<u32>, Stop>
-    ensures { Gives (λ k. k) result reader.new.rest.now (bracket_here.reads reader.old.rest.now) }
+    ensures { Obeys bracket_here result reader.old reader.new }
 {
     reader.sign(b'[')?;
     let number = number_up_to(reader, u32::MAX as u64)?;
@@ -199,7 +198,7 @@ fn bracket_here(reader: &mut Reader) -> Result<Option<u32>, Stop>
 }
 
 fn bracketed_here(reader: &mut Reader) -> Result<Option<u32>, Stop>
-    ensures { Gives (λ k. k) result reader.new.rest.now (bracketed_here.reads reader.old.rest.now) }
+    ensures { Obeys bracketed_here result reader.old reader.new }
 {
     if reader.at_sign(b'[') {
         bracket_here(reader)
@@ -209,7 +208,7 @@ fn bracketed_here(reader: &mut Reader) -> Result<Option<u32>, Stop>
 }
 
 fn comma_here(reader: &mut Reader) -> Result<(), Stop>
-    ensures { Gives (λ u. u) result reader.new.rest.now (comma_here.reads reader.old.rest.now) }
+    ensures { Obeys comma_here result reader.old reader.new }
 {
     if reader.at_sign(b',') {
         reader.sign_here(b',')
@@ -223,7 +222,7 @@ fn more_stores(
     alloc: Global,
     groups: &mut List<(Ref, Option<u32>)>,
 ) -> Result<(), Stop>
-    ensures { Gives (λ x. groups.new) result reader.new.rest.now ((more_stores groups.old).reads reader.old.rest.now) }
+    ensures { Builds (more_stores groups.old) groups.new result reader.old reader.new }
 {
     let word = reader.name_here(alloc)?;
     let name = behind_word_here(reader, alloc, word)?;
@@ -238,7 +237,7 @@ fn stores_after(
     alloc: Global,
     groups: &mut List<(Ref, Option<u32>)>,
 ) -> Result<(), Stop>
-    ensures { Gives (λ x. groups.new) result reader.new.rest.now ((loop is_word more_stores groups.old).reads reader.old.rest.now) }
+    ensures { Builds (loop is_word more_stores groups.old) groups.new result reader.old reader.new }
 {
     'groups: while reader.at_word() {
         more_stores(reader, alloc, groups)?;
@@ -248,7 +247,7 @@ fn stores_after(
 
 /// Groups that have storage, up to the end of the line.
 pub fn stores(reader: &mut Reader, alloc: Global) -> Result<List<(Ref, Option<u32>)>, Stop>
-    ensures { Gives (λ rs. rs) result reader.new.rest.now (stores.reads reader.old.rest.now) }
+    ensures { Obeys stores result reader.old reader.new }
 {
     let mut groups = List::empty(alloc);
     stores_after(reader, alloc, &mut groups)?;

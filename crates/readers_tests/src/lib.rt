@@ -11,8 +11,20 @@ mod derivations;
 #[cfg(test)]
 mod expressions;
 #[cfg(test)]
+mod interface_rules;
+#[cfg(test)]
+mod interfaces;
+#[cfg(test)]
+mod param_rules;
+#[cfg(test)]
 mod parameter_files;
 #[cfg(test)]
+mod params;
+#[cfg(test)]
 mod samples;
+#[cfg(test)]
+mod schedule_rules;
+#[cfg(test)]
+mod schedules;
 #[cfg(test)]
 mod texts;

@@ -1,7 +1,6 @@
 use Rattle.std.proofs.Common.{length}
 use Rattle.cx_text.specs.Rules.{loop}
-use Rattle.cx_text.specs.Lexemes.{more_kept}
-use Rattle.cx_iface.specs.File.{in_line}
+use Rattle.cx_text.specs.Lexemes.{more_kept, in_line}
 use Rattle.cx_text.proofs.Loops.{SoFar}
 use Rattle.cx_iface.proofs.interface.kept_up_to_line_end.Given as goal
 
