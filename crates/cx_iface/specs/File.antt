@@ -1,12 +1,12 @@
 -- The interface file of a thorn.
-use Rattle.std.specs.Prelude.{◌≡◌, ℕ, ◌-◌, Bool, true, false, not, ◌||◌, ◌&&◌, nat_eq, List, [], ◌∷◌, ◌++◌, Option, None, cond, Result, Ok, Err}
+use Rattle.std.specs.Prelude.{◌≡◌, ℕ, ◌-◌, Bool, true, false, ◌||◌, ◌&&◌, nat_eq, List, [], ◌∷◌, ◌++◌, Option, None, cond, Result, Ok, Err}
 use Rattle.cx_text.specs.declared.ctype.CType.{CType}
 use Rattle.cx_text.specs.declared.stop.Mark.{Mark}
 use Rattle.cx_text.specs.declared.stop.Mark.TheVariants.{Repeated, Limit}
 use Rattle.cx_text.specs.declared.fault.CclFault.{CclFault}
 use Rattle.cx_text.specs.declared.fault.CclFault.TheVariants as faults
 use Rattle.cx_text.specs.declared.token.Token.{Token}
-use Rattle.cx_text.specs.Tokens.{is_word, is_line_end}
+use Rattle.cx_text.specs.Tokens.{is_word}
 use Rattle.cx_text.specs.Grammar.{Grammar}
 use Rattle.cx_text.specs.Rules.{Rule, token, nothing, ◌>>=◌, lookahead, choice, loop, is_named, line_ends, sign, name_here, sign_here, line_end}
 use Rattle.cx_text.specs.Lexemes.{first_mark, names, kept_if, more_kept, in_line}

@@ -1,12 +1,11 @@
 //! The groups of variables.
 
-ghost use Rattle.std.specs.Prelude.{◌≡◌, ◌∷◌, []};
+ghost use Rattle.std.specs.Prelude.{[]};
 ghost use Rattle.cx_text.specs.Rules.{Obeys, Builds, token, loop, name_mark, choice, is_sign, nothing};
 ghost use Rattle.cx_text.specs.Lexemes.{first_mark, is_comma_or_word, is_quoted, quoted};
 ghost use Rattle.cx_text.specs.Tokens.{is_word};
 ghost use Rattle.cx_text.specs.declared.stop.Mark.TheVariants as marks;
 ghost use Rattle.cx_iface.specs.Groups.{group_name_of, group_name, copies, more_variables, variables, block, block_or_name, group};
-ghost use Rattle.cx_iface.specs.Attributes.{no_attributes, is_attribute, attribute};
 
 use crate::attributes::{Attributes, read_attributes, small};
 use crate::{Access, GType, Group};

@@ -1,6 +1,6 @@
 //! The interface file of a thorn.
 
-ghost use Rattle.std.specs.Prelude.{◌≡◌, ◌∷◌, [], nat_eq, None};
+ghost use Rattle.std.specs.Prelude.{◌≡◌, [], None};
 ghost use Rattle.cx_text.specs.Grammar.{passes, head, line_at, ReadsBy, AnswersOnly};
 ghost use Rattle.cx_text.specs.Reading.{Gives, read_marked};
 ghost use Rattle.cx_text.specs.Rules.{Obeys, Builds, token, loop, is_named};
@@ -8,7 +8,7 @@ ghost use Rattle.cx_text.specs.Tokens.{is_word};
 ghost use Rattle.cx_text.specs.Lexemes.{first_mark, kept_if, more_kept, in_line};
 ghost use Rattle.cx_text.specs.declared.stop.Mark.TheVariants as marks;
 ghost use Rattle.cx_iface.specs.Words.{FUNCTION, is_line_word, begins_with};
-ghost use Rattle.cx_iface.specs.File.{nobody, implements, inherits, friends, access, grouped, line, kept_line, function, part, is_again, again_mark, worded, item, file, interface, implemented};
+ghost use Rattle.cx_iface.specs.File.{implements, inherits, friends, access, grouped, line, kept_line, function, part, is_again, again_mark, worded, item, file, interface, implemented};
 
 use crate::group::group;
 use crate::words::{First, begins_with, is_line_word};

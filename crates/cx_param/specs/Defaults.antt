@@ -1,7 +1,7 @@
 -- The defaults of parameters.
-use Rattle.std.specs.Prelude.{ℕ, Bool, cond, not, List, ◌∷◌, ◌++◌, Option, Some, None}
+use Rattle.std.specs.Prelude.{ℕ, cond, List, ◌∷◌, ◌++◌, Option, Some, None}
 use Rattle.cx_text.specs.declared.token.Token.{Token}
-use Rattle.cx_text.specs.Tokens.{is_word, is_line_end}
+use Rattle.cx_text.specs.Tokens.{is_word}
 use Rattle.cx_text.specs.Rules.{Rule, token, nothing, ◌>>=◌, choice, loop, unmarked, line_end}
 use Rattle.cx_text.specs.Lexemes.{word, is_quoted, quoted, in_line}
 use Rattle.cx_param.specs.declared.declarations.PType.{PType}

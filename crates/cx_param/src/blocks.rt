@@ -3,10 +3,10 @@
 ghost use Rattle.std.specs.Prelude.{◌≡◌, IfOk};
 ghost use Rattle.cx_text.specs.Grammar.{passes, head};
 ghost use Rattle.cx_text.specs.Rules.{Obeys, Builds, loop, is_sign};
-ghost use Rattle.cx_text.specs.Lexemes.{is_quoted, is_inside, more_kept, kept_while};
+ghost use Rattle.cx_text.specs.Lexemes.{is_quoted, is_inside, more_kept};
 ghost use Rattle.cx_param.specs.Blocks.{description, opened, begun, range_of, is_colon, is_bracket, is_close, is_end, bracket, close_bracket, end, bound, closing, closed, upper, is_step, stepped, next_span, further, uppers, behind_low, bracketed, from_low, from_colon, from_close, ints, is_ints, number_range, string_range, text_range, one_text, more_text, texts, number_block, or_any, text_block, kept_block, block};
 
-use crate::numbers::{at_number, number, step};
+use crate::numbers::{number, step};
 use crate::{PType, Range};
 use cx_text::{Kind, List, Memory, Reader, Stop, Text, Token, Why};
 use std::alloc::Global;

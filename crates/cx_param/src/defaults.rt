@@ -1,7 +1,6 @@
 //! The defaults of parameters.
 
 ghost use Rattle.std.specs.Prelude.{◌≡◌, IfOk};
-ghost use Rattle.cx_text.specs.Grammar.{passes, head};
 ghost use Rattle.cx_text.specs.Rules.{Obeys, Builds, loop};
 ghost use Rattle.cx_text.specs.Printing.{spelling};
 ghost use Rattle.cx_text.specs.Lexemes.{in_line};

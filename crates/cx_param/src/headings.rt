@@ -1,7 +1,6 @@
 //! The types of parameters, and what stands before a parameter's block.
 
 ghost use Rattle.std.specs.Prelude.{◌≡◌, None};
-ghost use Rattle.cx_text.specs.Grammar.{passes, head};
 ghost use Rattle.cx_text.specs.Rules.{Obeys, token, unmarked};
 ghost use Rattle.cx_text.specs.Lexemes.{first_mark, number_of, number_mark};
 ghost use Rattle.cx_text.specs.declared.stop.Mark.TheVariants as marks;

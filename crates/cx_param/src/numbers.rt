@@ -1,6 +1,6 @@
 //! Numbers of ranges and of defaults.
 
-ghost use Rattle.std.specs.Prelude.{◌≡◌, ◌≤◌, ◌^◌, pos, neg_ℤ};
+ghost use Rattle.std.specs.Prelude.{◌≡◌};
 ghost use Rattle.cx_text.specs.Grammar.{passes, head};
 ghost use Rattle.cx_text.specs.Rules.{Obeys, token};
 ghost use Rattle.cx_text.specs.Lexemes.{number_of};

@@ -1,17 +1,15 @@
 //! Interface files as text.
 
-ghost use Rattle.std.specs.Prelude.{◌≡◌, ◌++◌, ◌∷◌, [], IfOk, OnOk, map};
+ghost use Rattle.std.specs.Prelude.{◌≡◌, ◌++◌, IfOk, OnOk, map};
 ghost use Rattle.std.specs.List.{flat_map};
-ghost use Rattle.std.specs.Fmt.{decimal};
 ghost use Rattle.cx_text.specs.declared.token.Style.TheVariants as styles;
 ghost use Rattle.cx_text.specs.Lexemes.{kept};
 ghost use Rattle.cx_text.specs.Printing.{printed, HasSpelling, TextSpells};
-ghost use Rattle.cx_text.specs.Written.{word, words, number};
 ghost use Rattle.cx_iface.specs.File.{interface};
 ghost use Rattle.cx_iface.specs.Printed.{access_word, ctype_word, gtype_word, header, name_line, headers, opening, copies, numbered, effects, block, group, line, interface_tokens};
 
 use cx_iface::{Access, GType, Group, Interface};
-use cx_text::{CType, Kind, List, Memory, Text, Token, write_tokens};
+use cx_text::{CType, List, Memory, Text, Token, write_tokens};
 use std::alloc::Global;
 
 fn push_kept(tokens: &mut List<Token>, alloc: Global, others: &[Token]) -> Result<(), Memory>

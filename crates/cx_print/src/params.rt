@@ -6,10 +6,10 @@ ghost use Rattle.cx_text.specs.declared.token.Style.TheVariants as styles;
 ghost use Rattle.cx_text.specs.Printing.{printed, HasSpelling, TextSpells};
 ghost use Rattle.cx_param.specs.declared.declarations.Scope.TheVariants.{Uses, Extends};
 ghost use Rattle.cx_param.specs.Params.{params};
-ghost use Rattle.cx_param.specs.Printed.{number, signed, bound, step, opening, closing, range, each_range, block, shared_block, type_name, length, alias, steer_name, steering, heading, access, default, body, decl, decls as decl_tokens};
+ghost use Rattle.cx_param.specs.Printed.{signed, bound, step, opening, closing, range, each_range, block, shared_block, type_name, length, alias, steer_name, steering, heading, access, default, body, decl, decls as decl_tokens};
 
 use cx_param::{PType, ParamDecl, Range, Scope, Steer};
-use cx_text::{Kind, List, Memory, Text, Token, write_tokens};
+use cx_text::{List, Memory, Text, Token, write_tokens};
 use std::alloc::Global;
 
 fn push_signed(tokens: &mut List<Token>, alloc: Global, n: i64) -> Result<(), Memory>

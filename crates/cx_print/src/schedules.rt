@@ -1,20 +1,19 @@
 //! Schedule files as text.
 
 ghost use Rattle.std.specs.Prelude.{◌≡◌, [], ◌∷◌, ◌++◌, IfOk, codes};
-ghost use Rattle.std.specs.Fmt.{decimal};
-ghost use Rattle.cx_text.specs.Written.{word, words, sign, sign_pair, line_end, number};
+ghost use Rattle.cx_text.specs.Written.{word, sign, sign_pair, line_end};
 ghost use Rattle.cx_text.specs.declared.token.Style.TheVariants as styles;
 ghost use Rattle.cx_text.specs.Printing.{printed, HasSpelling, TextSpells};
 ghost use Rattle.cx_plan.specs.Names.{region_text};
 ghost use Rattle.cx_expr.specs.Printed.{expr_tokens};
 ghost use Rattle.cx_sched.specs.Words.{STORAGE};
 ghost use Rattle.cx_sched.specs.Nodes.{schedule};
-ghost use Rattle.cx_sched.specs.Printed.{ref_from, ref, bracketed, store, access, stores, refs, accesses, storage_line, sync_line, access_line, lines, group_word, spot, heading, alias, scalar, others, clauses, description, block, node, nodes, otherwise_nodes, file_tokens};
+ghost use Rattle.cx_sched.specs.Printed.{ref, bracketed, store, access, stores, refs, accesses, storage_line, sync_line, access_line, lines, group_word, spot, heading, alias, scalar, others, clauses, description, block, node, nodes, otherwise_nodes, file_tokens};
 
 use cx_expr::{Expr, expr_tokens};
 use cx_plan::{Region, region_text};
 use cx_sched::{Block, Node, Ref, ScheduleFile, Spot};
-use cx_text::{Kind, List, Memory, Text, Token, write_tokens};
+use cx_text::{List, Memory, Text, Token, write_tokens};
 use std::alloc::Global;
 
 fn push_owned(

@@ -1,13 +1,12 @@
 //! The lines of a block. A list ends before a word that a colon follows, so the word is read first.
 
 ghost use Rattle.std.specs.Prelude.{◌≡◌, ◌++◌, IfOk, OnOk, None};
-ghost use Rattle.cx_text.specs.Grammar.{passes, head};
 ghost use Rattle.cx_text.specs.Rules.{Obeys, Builds, token, loop, if_is, unmarked, is_sign, lexeme};
 ghost use Rattle.cx_text.specs.Lexemes.{first_mark, kept_if, is_inside};
 ghost use Rattle.cx_text.specs.Written as written;
 ghost use Rattle.cx_text.specs.declared.stop.Mark.TheVariants as marks;
 ghost use Rattle.cx_sched.specs.Words.{is_idle, line_of};
-ghost use Rattle.cx_sched.specs.Lines.{no_lines, beginning, begin, line_word, first, begun_by, keep, kept_after, kept, item, named, entry, lines};
+ghost use Rattle.cx_sched.specs.Lines.{beginning, begin, line_word, first, begun_by, keep, kept_after, kept, item, named, entry, lines};
 
 use crate::Ref;
 use crate::reference::{access, store, sync_name};

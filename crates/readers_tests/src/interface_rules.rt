@@ -11,7 +11,7 @@ use std::test::Fail;
 
 /// What each capital letter derives. Every other byte is a token: `5` a number, `q` a quoted text, `x` a sign that no
 /// rule names, a line feed a LineEnd, a small letter a word (see `WORDS`), `w` where it is none of those.
-const RULES: &Rules = &[
+const RULES: Rules = &[
     // file: skipped LineEnds, items before the implementation's header, that header, items behind it
     (b'C', &[b"SA"]),
     (b'A', &[b"OA", b"iS:SWLZ"]),

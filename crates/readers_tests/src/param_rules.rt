@@ -13,7 +13,7 @@ use std::test::Fail;
 /// SHARES, `s` SHARES, `u` USES or EXTENDS, `b`, `i`, `k` and `r` types, `k` those of texts, `a` AS, `e` STEERABLE, `n` how a
 /// parameter is steered, `w` another word, `5` a number, `q` a quoted text, `~` two colons, `?` another sign, a line feed a
 /// LineEnd.
-const RULES: &Rules = &[
+const RULES: Rules = &[
     // the file, and what stands in it before and behind SHARES
     (b'C', &[b"SF"]),
     (

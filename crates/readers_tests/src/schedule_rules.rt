@@ -12,7 +12,7 @@ use std::test::Fail;
 /// `a`, `h`, `b`, `f`, `l`, `y` and `r` the keywords STORAGE, IF, ELSE, SCHEDULE, GROUP, AT, IN, AS, WHILE, BEFORE,
 /// AFTER, LANG, SYNC and READS, `o` a region, `w` another word, `d` two colons, `5` a number, `q` a quoted text, `=` an
 /// operator, a line feed a LineEnd.
-const RULES: &Rules = &[
+const RULES: Rules = &[
     // skipped LineEnds, nodes
     (b'C', &[b"SF"]),
     (b'F', &[b"", b"NF"]),
