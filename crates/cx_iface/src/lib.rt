@@ -4,9 +4,11 @@
 mod attributes;
 mod group;
 mod interface;
+mod printer;
 mod tree;
 mod words;
 
 pub use cx_text::CType;
 pub use interface::read_interface;
+pub use printer::print_interface;
 pub use tree::{Access, GType, Group, Interface};

@@ -7,8 +7,10 @@ mod defaults;
 mod headings;
 mod numbers;
 mod params;
+mod printer;
 mod ranges;
 
 pub use declarations::{PType, ParamDecl, Scope, Steer};
 pub use params::read_params;
+pub use printer::print_params;
 pub use ranges::{Range, Value, allows};

@@ -4,8 +4,10 @@
 mod block;
 mod lines;
 mod node;
+mod printer;
 mod reference;
 mod tree;
 
 pub use node::read_schedule;
+pub use printer::print_schedule;
 pub use tree::{Block, Node, Ref, ScheduleFile, Spot};

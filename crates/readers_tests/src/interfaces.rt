@@ -5,8 +5,7 @@ ghost use Rattle.cx_text.specs.declared.token.Style.TheVariants as styles;
 ghost use Rattle.cx_text.specs.Printing.{HasSpelling};
 ghost use Rattle.cx_iface.specs.File.{interface};
 
-use cx_iface::{Access, GType, Group, Interface, read_interface};
-use cx_print::print_interface;
+use cx_iface::{Access, GType, Group, Interface, print_interface, read_interface};
 use cx_text::{CType, CclFault, Style, tokens};
 use std::alloc::Global;
 use std::process::Abort;

@@ -5,8 +5,7 @@ ghost use Rattle.cx_text.specs.declared.token.Style.TheVariants as styles;
 ghost use Rattle.cx_text.specs.Printing.{HasSpelling};
 ghost use Rattle.cx_param.specs.Params.{params};
 
-use cx_param::{ParamDecl, Steer, Value, allows, read_params};
-use cx_print::print_params;
+use cx_param::{ParamDecl, Steer, Value, allows, print_params, read_params};
 use cx_text::{CclFault, List, Style, Text, tokens};
 use std::alloc::Global;
 use std::test::Fail;

@@ -6,8 +6,7 @@ ghost use Rattle.cx_text.specs.Printing.{HasSpelling};
 ghost use Rattle.cx_sched.specs.Nodes.{schedule};
 
 use cx_plan::Region;
-use cx_print::print_schedule;
-use cx_sched::{Block, Node, Ref, ScheduleFile, Spot, read_schedule};
+use cx_sched::{Block, Node, Ref, ScheduleFile, Spot, print_schedule, read_schedule};
 use cx_text::{CclFault, List, Style, Text, tokens};
 use std::alloc::Global;
 use std::process::Abort;
