@@ -1,5 +1,5 @@
 -- What binding answers.
-use Rattle.std.specs.Prelude.{◌≡◌, ◌⊎◌, List, [], ◌∷◌, length, codes, Option, Some, None, Result, Ok, Err}
+use Rattle.std.specs.Prelude.{◌≡◌, ◌⊎◌, ℕ, List, [], ◌∷◌, length, codes, Option, Some, None, Result, Ok, Err}
 use Rattle.cx_plan.specs.Lists.{first_some}
 use Rattle.cx_plan.specs.declared.variable.VarInfo.{VarInfo}
 use Rattle.cx_bind.specs.declared.known.Known.{Known}
@@ -9,6 +9,13 @@ use Rattle.cx_bind.specs.declared.thorns.BindFault.TheVariants.{Memory}
 use Rattle.cx_bind.specs.Variables.{variable_infos}
 use Rattle.cx_bind.specs.Parameters.{known}
 use Rattle.cx_bind.specs.Faults.{providers, two_providers, missing_implementation, missing_capability, missing_thorn, no_parameter, wrong_type, two_variables, two_parameters, unsupported, two_dims, over}
+
+-- the most active thorns beside the built-in ones, and the most variables
+abbrev pub max_thorns : ℕ
+max_thorns = 64
+
+abbrev pub max_variables : ℕ
+max_variables = 256
 
 -- The first fault of thorns, or none where they fit each other: kind by kind, each over all thorns.
 abbrev pub needs_fault : List Thorn → Option BindFault
@@ -34,8 +41,8 @@ kinds_fault infos thorns =
     first_some
     (unsupported thorns
     ∷ two_dims thorns
-    ∷ over (codes "thorns") (length thorns) 64
-    ∷ over (codes "variables") (length infos) 256
+    ∷ over (codes "thorns") (length thorns) max_thorns
+    ∷ over (codes "variables") (length infos) max_variables
     ∷ [])
 
 unfoldable pub bind_fault : List Thorn → Option BindFault
@@ -45,11 +52,6 @@ bind_fault thorns =
     ∷ names_fault (known thorns) (variable_infos thorns) thorns
     ∷ kinds_fault (variable_infos thorns) thorns
     ∷ [])
-
--- A test tells a fault, or its want of memory, and passes where there is none.
-abbrev pub Tells : {X : Type 0} → Option BindFault → Result X BindFault → Type 0
-Tells fault (Ok x) = fault ≡ None
-Tells fault (Err e) = (e ≡ Memory) ⊎ (fault ≡ Some e)
 
 -- Thorns without a fault are bound as they are.
 abbrev pub Binds : List Thorn → Result (List Thorn) BindFault → Type 0

@@ -24,6 +24,7 @@ use Rattle.cx_bind.specs.declared.providers.Provider.{Provider}
 use Rattle.cx_bind.specs.declared.known.Known.{Known}
 use Rattle.cx_bind.specs.BuiltIn.{provider, built_in}
 use Rattle.cx_bind.specs.Variables.{group_full}
+use Rattle.cx_bind.specs.NameSets.{has, first_absent}
 use Rattle.cx_bind.specs.Parameters.{shared_by, shared_parameter}
 
 -- ---- what is active
@@ -46,6 +47,10 @@ is_provided thorns capability = list_any (λ t. among t.conf.provides capability
 
 -- ---- the faults
 
+-- a fault where a condition holds
+abbrev pub fault_if : Bool → BindFault → Option BindFault
+fault_if holds fault = if holds then Some fault else None
+
 -- the first provider that a later one repeats, and the first that does
 abbrev pub repeated : Provider → Option Provider → Option BindFault
 repeated a None = None
@@ -61,27 +66,37 @@ told_by None = None
 told_by (Some pair) = repeated pair.0.now (Some pair.1.now)
 
 abbrev pub missing : (List ℕ → BindFault) → (List ℕ → Bool) → List (List ℕ) → Option BindFault
-missing fault there names = option_map fault (find (λ name. not (there name)) names)
+missing fault there names = option_map fault (first_absent there names)
 
 -- a line of a param file names an implementation that isn't active
 abbrev pub missing_shared : List Provider → Thorn → Option (List ℕ) → Option BindFault
 missing_shared ps t None = None
 missing_shared ps t (Some i) = if is_implemented ps i then None else Some (MissingImplementation t.name i)
 
+abbrev pub missing_by_line : List Provider → Thorn → ParamDecl → Option BindFault
+missing_by_line ps t d = missing_shared ps t (shared_by d.scope)
+
+abbrev pub missing_inherited : List Provider → Thorn → Option BindFault
+missing_inherited ps t = missing (λ i. MissingImplementation t.name i) (is_implemented ps) t.interface.inherits
+
 abbrev pub missing_implementation_of : List Provider → Thorn → Option BindFault
-missing_implementation_of ps t =
-    or_else
-    (missing (λ i. MissingImplementation t.name i) (is_implemented ps) t.interface.inherits)
-    (first_of_each (λ d. missing_shared ps t (shared_by d.scope)) t.params)
+missing_implementation_of ps t = or_else (missing_inherited ps t) (first_of_each (missing_by_line ps t) t.params)
 
 abbrev pub missing_implementation : List Provider → List Thorn → Option BindFault
 missing_implementation ps thorns = first_of_each (missing_implementation_of ps) thorns
 
+-- a thorn's, by a test of what is provided
+abbrev pub missing_capability_of : (List ℕ → Bool) → Thorn → Option BindFault
+missing_capability_of there t = missing (λ c. MissingCapability t.name c) there t.conf.requires_
+
 abbrev pub missing_capability : List Thorn → List Thorn → Option BindFault
-missing_capability all thorns = first_of_each (λ t. missing (λ c. MissingCapability t.name c) (is_provided all) t.conf.requires_) thorns
+missing_capability all thorns = first_of_each (missing_capability_of (is_provided all)) thorns
+
+abbrev pub missing_thorn_of : List Provider → Thorn → Option BindFault
+missing_thorn_of ps t = missing (λ other. MissingThorn t.name other) (is_active ps) t.conf.thorns
 
 abbrev pub missing_thorn : List Provider → List Thorn → Option BindFault
-missing_thorn ps thorns = first_of_each (λ t. missing (λ other. MissingThorn t.name other) (is_active ps) t.conf.thorns) thorns
+missing_thorn ps thorns = first_of_each (missing_thorn_of ps) thorns
 
 -- a use or an extension names no parameter that thorns can use
 abbrev pub no_parameter_at : Thorn → ParamDecl → List ℕ → Option Known → Option BindFault
@@ -92,8 +107,11 @@ abbrev pub no_parameter_by : List Known → Thorn → ParamDecl → Option (List
 no_parameter_by knowns t d None = None
 no_parameter_by knowns t d (Some i) = no_parameter_at t d i (shared_parameter knowns (full_name i d.name))
 
+abbrev pub no_parameter_in : List Known → Thorn → ParamDecl → Option BindFault
+no_parameter_in knowns t d = no_parameter_by knowns t d (shared_by d.scope)
+
 abbrev pub no_parameter : List Known → List Thorn → Option BindFault
-no_parameter knowns thorns = first_of_each (λ t. first_of_each (λ d. no_parameter_by knowns t d (shared_by d.scope)) t.params) thorns
+no_parameter knowns thorns = first_of_each (λ t. first_of_each (no_parameter_in knowns t) t.params) thorns
 
 abbrev pub type_number : PType → ℕ
 type_number Boolean = 0
@@ -114,8 +132,11 @@ abbrev pub wrong_type_by : List Known → Thorn → ParamDecl → Option (List �
 wrong_type_by knowns t d None = None
 wrong_type_by knowns t d (Some i) = wrong_type_at t d (shared_parameter knowns (full_name i d.name))
 
+abbrev pub wrong_type_in : List Known → Thorn → ParamDecl → Option BindFault
+wrong_type_in knowns t d = wrong_type_by knowns t d (shared_by d.scope)
+
 abbrev pub wrong_type : List Known → List Thorn → Option BindFault
-wrong_type knowns thorns = first_of_each (λ t. first_of_each (λ d. wrong_type_by knowns t d (shared_by d.scope)) t.params) thorns
+wrong_type knowns thorns = first_of_each (λ t. first_of_each (wrong_type_in knowns t) t.params) thorns
 
 -- the first variable that has the full name of one before it
 abbrev pub is_same_variable : VarInfo → VarInfo → Bool
@@ -127,6 +148,10 @@ two_variables infos = option_map (λ v. TwoVariables v.full) (first_again is_sam
 -- the first parameter that has the full name of one before it, or, both being global, its name
 abbrev pub clash : Known → Known → Bool
 clash a b = same_name a.full b.full || (a.global && (b.global && same_name a.name b.name))
+
+-- whether a parameter clashes with one before it, by the names of those and by the names of the global ones among them
+abbrev pub is_clashing : List (List ℕ) → List (List ℕ) → Known → Bool
+is_clashing names globals k = has names k.full || (k.global && has globals k.name)
 
 abbrev pub two_parameters : List Known → Option BindFault
 two_parameters knowns = option_map (λ k. TwoParameters k.full) (first_again clash knowns)
@@ -165,12 +190,18 @@ is_unsupported_parameter Boolean ranges = false
 is_unsupported_parameter Int ranges = false
 is_unsupported_parameter Keyword ranges = false
 
+abbrev pub is_unsupported_line : ParamDecl → Bool
+is_unsupported_line d = is_unsupported_parameter d.ptype d.ranges
+
+abbrev pub unsupported_group : Thorn → Option BindFault
+unsupported_group t = option_map (λ g. Unsupported t.name g.name) (find is_unsupported_group t.interface.groups)
+
+abbrev pub unsupported_line : Thorn → Option BindFault
+unsupported_line t = option_map (λ d. Unsupported t.name d.name) (find is_unsupported_line t.params)
+
 -- a thorn's groups, and then its parameters
 abbrev pub unsupported_of : Thorn → Option BindFault
-unsupported_of t =
-    or_else
-    (option_map (λ g. Unsupported t.name g.name) (find is_unsupported_group t.interface.groups))
-    (option_map (λ d. Unsupported t.name d.name) (find (λ d. is_unsupported_parameter d.ptype d.ranges) t.params))
+unsupported_of t = or_else (unsupported_group t) (unsupported_line t)
 
 abbrev pub unsupported : List Thorn → Option BindFault
 unsupported thorns = first_of_each unsupported_of thorns

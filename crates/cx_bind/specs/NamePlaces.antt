@@ -1,9 +1,10 @@
 -- Places in lists, by names in small letters.
-use Rattle.std.specs.Prelude.{◌≡◌, ℕ, Bool, List, Option, find, count_by, nat_lt, slice_get, if◌then◌else◌}
+use Rattle.std.specs.Prelude.{◌≡◌, ℕ, Bool, List, Option, Some, find, count_by, nat_lt, slice_get, if◌then◌else◌}
 use Rattle.std.specs.Map.{lookup}
 use Rattle.std.specs.Option.{option_and_then}
 use Rattle.std.specs.Str.{bytes_eq}
 use Rattle.indexmap.specs.IndexMap.{insert_entry}
+use Rattle.cx_text.specs.Lexemes.{same_name}
 use Rattle.cx_bind.specs.declared.known.Known.{Known}
 use Rattle.cx_bind.specs.NameSets.{folded, HasThose}
 use Rattle.cx_bind.specs.Selecting.{Place, is_place_of}
@@ -11,6 +12,10 @@ use Rattle.cx_bind.specs.Selecting.{Place, is_place_of}
 -- the place of a name, in any case
 abbrev pub place_of : List (List ℕ × ℕ) → List ℕ → Option ℕ
 place_of places name = lookup (bytes_eq (folded name)) places
+
+-- A name gets a place, and each other name keeps what it has.
+abbrev pub Puts : List ℕ → ℕ → List (List ℕ × ℕ) → List (List ℕ × ℕ) → Type 0
+Puts name place old new = (other : List ℕ) → place_of new other ≡ (if same_name other name then Some place else place_of old other)
 
 module _ {X : Type 0} where
   -- what stands in a list at the place of a name

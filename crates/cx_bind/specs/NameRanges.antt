@@ -1,5 +1,5 @@
 -- Ranges by names in small letters.
-use Rattle.std.specs.Prelude.{◌≡◌, ℕ, List, []}
+use Rattle.std.specs.Prelude.{◌≡◌, ℕ, List, [], ◌++◌, if◌then◌else◌}
 use Rattle.std.specs.Map.{lookup}
 use Rattle.std.specs.Option.{unwrap_or}
 use Rattle.std.specs.Str.{bytes_eq}
@@ -11,6 +11,10 @@ use Rattle.cx_bind.specs.Parameters.{added}
 -- the ranges of a name, if it has any
 abbrev pub ranges_of : List ℕ → List (List ℕ × List Range) → List Range
 ranges_of name named = unwrap_or (lookup (bytes_eq name) named) []
+
+-- A name gets more ranges behind its own, and each other name keeps what it has.
+abbrev pub AddsRanges : List ℕ → List Range → List (List ℕ × List Range) → List (List ℕ × List Range) → Type 0
+AddsRanges name more old new = (other : List ℕ) → ranges_of other new ≡ ranges_of other old ++ (if bytes_eq other name then more else [])
 
 -- Each name's ranges are what extensions add to the parameter of the name.
 abbrev pub AreAdded : List Extension → List (List ℕ × List Range) → Type 0

@@ -73,6 +73,13 @@ known_by p =
 abbrev pub known : List Thorn → List Known
 known thorns = map known_by (declared thorns)
 
+-- what other thorns can know of the parameter that a line declares, if it declares one
+abbrev pub known_as : Thorn → ParamDecl → List Known
+known_as t d = map known_by (declared_as 0 t d)
+
+abbrev pub known_of : Thorn → List Known
+known_of t = flat_map (known_as t) t.params
+
 -- the restricted parameter of a full name that thorns can use
 abbrev pub is_shared_as : List ℕ → Known → Bool
 is_shared_as full k = k.restricted && same_name k.full full
@@ -88,8 +95,11 @@ extension_as d Private = []
 extension_as d Restricted = []
 extension_as d Global = []
 
+abbrev pub extension_by : ParamDecl → List Extension
+extension_by d = extension_as d d.scope
+
 abbrev pub extensions_in : Thorn → List Extension
-extensions_in t = flat_map (λ d. extension_as d d.scope) t.params
+extensions_in t = flat_map extension_by t.params
 
 abbrev pub extensions : List Thorn → List Extension
 extensions thorns = flat_map extensions_in thorns
@@ -104,6 +114,10 @@ added es full = flat_map (added_by full) es
 -- A thorn's parameter has the ranges of all its extensions too. To a built-in one nothing is added.
 abbrev pub extended : List Extension → Param → Param
 extended es p = record { full = p.full; thorn = p.thorn; decl = p.decl; ranges = p.ranges ++ added es p.full }
+
+-- the parameter that a line declares, if it declares one, with the ranges of all its extensions
+abbrev pub extended_as : List Extension → ℕ → Thorn → ParamDecl → List Param
+extended_as es number t d = map (extended es) (declared_as number t d)
 
 abbrev pub thorn_parameters : List Extension → List Thorn → List Param
 thorn_parameters es thorns = map (extended es) (flat_map declared_by (enumerate_from 0 thorns))

@@ -77,6 +77,13 @@ info_of t g name copy =
       levels = g.levels;
     }
 
+-- the copies of a variable, and all variables of a group
+abbrev pub copy_infos : Thorn → Group → List ℕ → List VarInfo
+copy_infos t g name = map (info_of t g name) (copies g.copies)
+
+abbrev pub group_infos : Thorn → Group → List VarInfo
+group_infos t g = flat_map (copy_infos t g) g.variables
+
 abbrev pub variable_info : Variable → VarInfo
 variable_info v = info_of v.owned.thorn v.owned.group v.name v.copy
 

@@ -1,8 +1,8 @@
 //! What is active, by names.
 
-ghost use Rattle.std.specs.Prelude.{◌≡◌, find, not, IfOk};
+ghost use Rattle.std.specs.Prelude.{◌≡◌, IfOk};
 ghost use Rattle.std.specs.Option.{option_copied};
-ghost use Rattle.cx_bind.specs.NameSets.{HasThose};
+ghost use Rattle.cx_bind.specs.NameSets.{HasThose, first_absent};
 ghost use Rattle.cx_bind.specs.Faults.{providers, is_implemented, is_active};
 
 use crate::Thorn;
@@ -30,7 +30,8 @@ impl Model for Active {
 
     ghost view = { λ a. a.providers };
 
-    ghost invariant = { λ a. HasThose (is_implemented a.providers) a.implementations × HasThose (is_active a.providers) a.thorns };
+    ghost invariant = { λ a. HasThose (is_implemented a.providers) a.implementations
+        × HasThose (is_active a.providers) a.thorns };
 }
 
 fn implementations(alloc: Global, providers: &[Provider]) -> Result<NameSet, Memory>
@@ -87,23 +88,26 @@ impl Active {
     }
 
     /// The first of these implementations that isn't active.
-    pub(crate) fn first_unimplemented<'a>(
+    pub(crate) fn find_unimplemented<'a>(
         &self,
         alloc: Global,
         names: &'a [Text],
     ) -> Result<Option<&'a Text>, Memory>
-        ensures { IfOk result (λ first. option_copied first ≡ find (λ name. not (is_implemented self.now name)) names.now) }
+        ensures { IfOk result
+            (λ first. option_copied first
+            ≡ first_absent (is_implemented self.now) names.now) }
     {
         self.implementations.first_missing(alloc, names)
     }
 
     /// The first of these thorns that isn't active.
-    pub(crate) fn first_inactive<'a>(
+    pub(crate) fn find_inactive<'a>(
         &self,
         alloc: Global,
         names: &'a [Text],
     ) -> Result<Option<&'a Text>, Memory>
-        ensures { IfOk result (λ first. option_copied first ≡ find (λ name. not (is_active self.now name)) names.now) }
+        ensures { IfOk result
+            (λ first. option_copied first ≡ first_absent (is_active self.now) names.now) }
     {
         self.thorns.first_missing(alloc, names)
     }

@@ -1,9 +1,11 @@
 //! Bound configurations.
 
 ghost use Rattle.std.specs.Prelude.{◌≡◌, ◌≤◌, None, length, IfOk, OnOk};
-ghost use Rattle.cx_bind.specs.Binding.{Tells, Binds, needs_fault, names_fault, kinds_fault, bind_fault};
-ghost use Rattle.cx_bind.specs.Parameters.{parameters as parameters_of};
-ghost use Rattle.cx_bind.specs.Variables.{variable_infos as infos_of};
+ghost use Rattle.cx_text.specs.Telling.{Tells};
+ghost use Rattle.cx_bind.specs.Binding.{Binds, max_thorns, max_variables, needs_fault, names_fault, kinds_fault, bind_fault};
+ghost use Rattle.cx_bind.specs.Parameters.{parameters};
+ghost use Rattle.cx_bind.specs.Variables.{variable_infos};
+ghost use Rattle.cx_bind.specs.declared.thorns.BindFault.TheVariants as faults;
 
 use crate::active::Active;
 use crate::clashes::{check_parameters, check_variables};
@@ -32,28 +34,30 @@ const MAX_VARIABLES: usize = 256;
 pub struct Bound {
     thorns: List<Thorn>,
     variables: List<VarInfo>,
-    parameters: List<Param>,
+    params: List<Param>,
 }
 
 impl Model for Bound {
     ghost use Rattle.std.specs.Prelude.{List, ◌≡◌, None};
     ghost use Rattle.cx_bind.specs.declared.thorns.Thorn.{Thorn};
     ghost use Rattle.cx_bind.specs.Variables.{variable_infos};
-    ghost use Rattle.cx_bind.specs.Parameters.{parameters as parameters_of};
+    ghost use Rattle.cx_bind.specs.Parameters.{parameters};
     ghost use Rattle.cx_bind.specs.Binding.{bind_fault};
 
     ghost Value = { List Thorn };
 
     ghost view = { λ b. b.thorns };
 
-    ghost invariant = { λ b. (b.variables ≡ variable_infos b.thorns) × (b.parameters ≡ parameters_of b.thorns) × (bind_fault b.thorns ≡ None) };
+    ghost invariant = { λ b. (b.variables ≡ variable_infos b.thorns)
+        × (b.params ≡ parameters b.thorns)
+        × (bind_fault b.thorns ≡ None) };
 }
 
 impl Bound {
     /// The variables, in the order of their numbers.
     pub fn variables(&self) -> &List<VarInfo>
-        ensures variables { result.now ≡ infos_of self.now }
-        ensures few { length (infos_of self.now) ≤ 256 }
+        ensures variables { result.now ≡ variable_infos self.now }
+        ensures few { length (variable_infos self.now) ≤ max_variables }
     {
         &self.variables
     }
@@ -63,21 +67,21 @@ impl Bound {
         ensures thorns { result.now ≡ self.now }
         // The thorns fit each other.
         ensures fit { bind_fault self.now ≡ None }
-        ensures few { length self.now ≤ 64 }
+        ensures few { length self.now ≤ max_thorns }
     {
         &self.thorns
     }
 
     /// The parameters: the built-in ones, and then the thorns', in the order of activation and of their files.
     pub fn parameters(&self) -> &List<Param>
-        ensures { result.now ≡ parameters_of self.now }
+        ensures { result.now ≡ parameters self.now }
     {
-        &self.parameters
+        &self.params
     }
 }
 
 fn check_needs(alloc: Global, thorns: &[Thorn]) -> Result<(), BindFault>
-    ensures { Tells (needs_fault thorns.now) result }
+    ensures { Tells faults.Memory (needs_fault thorns.now) result }
 {
     let active = Active::new(alloc, thorns)?;
     check_providers(alloc, active.providers())?;
@@ -92,7 +96,7 @@ fn check_names(
     variables: &[VarInfo],
     table: &KnownTable,
 ) -> Result<(), BindFault>
-    ensures { Tells (names_fault table.now variables.now thorns.now) result }
+    ensures { Tells faults.Memory (names_fault table.now variables.now thorns.now) result }
 {
     check_uses(alloc, table, thorns)?;
     check_types(alloc, table, thorns)?;
@@ -101,7 +105,7 @@ fn check_names(
 }
 
 fn check_kinds(alloc: Global, thorns: &[Thorn], variables: &[VarInfo]) -> Result<(), BindFault>
-    ensures { Tells (kinds_fault variables.now thorns.now) result }
+    ensures { Tells faults.Memory (kinds_fault variables.now thorns.now) result }
 {
     check_supported(alloc, thorns)?;
     check_dims(alloc, thorns)?;
@@ -111,9 +115,9 @@ fn check_kinds(alloc: Global, thorns: &[Thorn], variables: &[VarInfo]) -> Result
 
 /// The variables of thorns that fit each other.
 fn fitting_variables(alloc: Global, thorns: &[Thorn]) -> Result<List<VarInfo>, BindFault>
-    ensures told { Tells (bind_fault thorns.now) result }
-    ensures variables { IfOk result (λ variables. variables ≡ infos_of thorns.now) }
-    ensures few { OnOk result (length thorns.now ≤ 64) }
+    ensures told { Tells faults.Memory (bind_fault thorns.now) result }
+    ensures variables { IfOk result (λ variables. variables ≡ variable_infos thorns.now) }
+    ensures few { OnOk result (length thorns.now ≤ max_thorns) }
 {
     check_needs(alloc, thorns)?;
     let variables = variable_infos(alloc, thorns)?;
@@ -135,10 +139,10 @@ pub fn bind(alloc: Global, thorns: List<Thorn>) -> Result<Bound, BindFault>
     ensures { Binds thorns result }
 {
     let variables = fitting_variables(alloc, thorns.as_slice())?;
-    let parameters = all_parameters(alloc, thorns.as_slice())?;
+    let params = all_parameters(alloc, thorns.as_slice())?;
     Ok(Bound {
         thorns,
         variables,
-        parameters,
+        params,
     })
 }

@@ -1,15 +1,12 @@
 //! Full names that are there twice.
 
-ghost use Rattle.std.specs.Prelude.{◌≡◌, ◌++◌, ◌∷◌, [], ◌||◌, ◌&&◌, Some, None, Option, if◌then◌else◌, not, IsTrue, IfOk, OnOk};
-ghost use Rattle.std.specs.List.{list_any};
-ghost use Rattle.std.specs.Str.{bytes_eq};
-ghost use Rattle.cx_bind.specs.NameSets.{folded};
-ghost use Rattle.cx_bind.specs.Faults.{two_variables, two_parameters};
-ghost use Rattle.cx_bind.specs.Binding.{Tells};
+ghost use Rattle.std.specs.Prelude.{◌≡◌, ◌++◌, ◌∷◌, [], ◌&&◌, Some, not, IsTrue, IfOk, OnOk};
+ghost use Rattle.cx_bind.specs.NameSets.{folded, has, folded_if};
+ghost use Rattle.cx_bind.specs.Faults.{fault_if, is_clashing, two_variables, two_parameters};
+ghost use Rattle.cx_text.specs.Telling.{Tells};
 ghost use Rattle.cx_bind.specs.declared.thorns.BindFault.TheVariants as faults;
 
 use crate::BindFault;
-use crate::copies::copy_text;
 use crate::known::Known;
 use crate::name_set::NameSet;
 use cx_plan::VarInfo;
@@ -17,18 +14,19 @@ use cx_text::Memory;
 use std::alloc::Global;
 
 fn check_variable(alloc: Global, names: &mut NameSet, info: &VarInfo) -> Result<(), BindFault>
-    ensures told { Tells (if list_any (bytes_eq (folded info.now.full)) names.old then Some (faults.TwoVariables info.now.full) else None) result }
+    ensures told { Tells faults.Memory
+        (fault_if (has names.old info.now.full) (faults.TwoVariables info.now.full)) result }
     ensures kept { OnOk result (names.new ≡ names.old ++ folded info.now.full ∷ []) }
 {
     if names.insert(alloc, info.full.as_slice())? {
         return Ok(());
     }
-    Err(BindFault::TwoVariables(copy_text(alloc, &info.full)?))
+    Err(BindFault::TwoVariables(info.full.copy(alloc)?))
 }
 
 /// Tests that no two variables have one full name.
 pub(crate) fn check_variables(alloc: Global, infos: &[VarInfo]) -> Result<(), BindFault>
-    ensures { Tells (two_variables infos.now) result }
+    ensures { Tells faults.Memory (two_variables infos.now) result }
 {
     let mut names = NameSet::new(alloc);
     'infos: for info in infos {
@@ -38,15 +36,18 @@ pub(crate) fn check_variables(alloc: Global, infos: &[VarInfo]) -> Result<(), Bi
 }
 
 fn two_parameters(alloc: Global, known: &Known) -> Result<(), BindFault>
-    ensures { Tells (Some (faults.TwoParameters known.now.full)) result }
+    ensures { Tells faults.Memory (Some (faults.TwoParameters known.now.full)) result }
 {
-    Err(BindFault::TwoParameters(copy_text(alloc, &known.full)?))
+    Err(BindFault::TwoParameters(known.full.copy(alloc)?))
 }
 
 /// Adds the name of a global parameter, and says whether it wasn't there. Another parameter's isn't added.
 fn insert_global(alloc: Global, globals: &mut NameSet, known: &Known) -> Result<bool, Memory>
-    ensures new { IfOk result (λ new. new ≡ not (known.now.global && list_any (bytes_eq (folded known.now.name)) globals.old)) }
-    ensures kept { IfOk result (λ new. IsTrue new → globals.new ≡ globals.old ++ (if known.now.global then folded known.now.name ∷ [] else [])) }
+    ensures new { IfOk result
+        (λ new. new ≡ not (known.now.global && has globals.old known.now.name)) }
+    ensures kept { IfOk result
+        (λ new. IsTrue new → globals.new ≡ globals.old
+        ++ folded_if known.now.global known.now.name) }
 {
     if !known.global {
         return Ok(true);
@@ -60,9 +61,12 @@ fn check_parameter(
     globals: &mut NameSet,
     known: &Known,
 ) -> Result<(), BindFault>
-    ensures told { Tells (if list_any (bytes_eq (folded known.now.full)) names.old || (known.now.global && list_any (bytes_eq (folded known.now.name)) globals.old) then Some (faults.TwoParameters known.now.full) else None) result }
+    ensures told { Tells faults.Memory
+        (fault_if (is_clashing names.old globals.old known.now)
+        (faults.TwoParameters known.now.full)) result }
     ensures names { OnOk result (names.new ≡ names.old ++ folded known.now.full ∷ []) }
-    ensures globals { OnOk result (globals.new ≡ globals.old ++ (if known.now.global then folded known.now.name ∷ [] else [])) }
+    ensures globals { OnOk result
+        (globals.new ≡ globals.old ++ folded_if known.now.global known.now.name) }
 {
     if !names.insert(alloc, known.full.as_slice())? {
         return two_parameters(alloc, known);
@@ -75,7 +79,7 @@ fn check_parameter(
 
 /// Tests that no two parameters have one full name, and no two global ones one name.
 pub(crate) fn check_parameters(alloc: Global, knowns: &[Known]) -> Result<(), BindFault>
-    ensures { Tells (two_parameters knowns.now) result }
+    ensures { Tells faults.Memory (two_parameters knowns.now) result }
 {
     let mut names = NameSet::new(alloc);
     let mut globals = NameSet::new(alloc);

@@ -6,29 +6,11 @@ use cx_param::{ParamDecl, Range, Scope};
 use cx_text::{List, Memory, Text, Token};
 use std::alloc::Global;
 
-pub(crate) fn copy_text(alloc: Global, text: &Text) -> Result<Text, Memory>
-    ensures { IfOk result (λ copy. copy ≡ text.now) }
-{
-    Text::from_slice(alloc, text.as_slice())
-}
-
-fn copy_token(alloc: Global, token: &Token) -> Result<Token, Memory>
-    ensures { IfOk result (λ copy. copy ≡ token.now) }
-{
-    Ok(Token {
-        kind: token.kind,
-        text: copy_text(alloc, &token.text)?,
-        line: token.line,
-    })
-}
-
 fn copy_tokens(alloc: Global, tokens: &[Token]) -> Result<List<Token>, Memory>
     ensures { IfOk result (λ copy. copy ≡ tokens.now) }
 {
     let mut copy = List::empty(alloc);
-    'tokens: for token in tokens {
-        copy.push(copy_token(alloc, token)?)?;
-    }
+    copy.push_copies(alloc, tokens)?;
     Ok(copy)
 }
 
@@ -49,7 +31,7 @@ fn copy_range(alloc: Global, range: &Range) -> Result<Range, Memory>
             high_in: *high_in,
             step: *step,
         }),
-        Range::Word(word) => Ok(Range::Word(copy_text(alloc, word)?)),
+        Range::Word(word) => Ok(Range::Word(word.copy(alloc)?)),
         Range::AnyText => Ok(Range::AnyText),
         Range::SomeText => Ok(Range::SomeText),
         Range::Other(tokens) => Ok(Range::Other(copy_tokens(alloc, tokens.as_slice())?)),
@@ -85,8 +67,8 @@ fn copy_scope(alloc: Global, scope: &Scope) -> Result<Scope, Memory>
         Scope::Private => Ok(Scope::Private),
         Scope::Restricted => Ok(Scope::Restricted),
         Scope::Global => Ok(Scope::Global),
-        Scope::Uses(implementation) => Ok(Scope::Uses(copy_text(alloc, implementation)?)),
-        Scope::Extends(implementation) => Ok(Scope::Extends(copy_text(alloc, implementation)?)),
+        Scope::Uses(implementation) => Ok(Scope::Uses(implementation.copy(alloc)?)),
+        Scope::Extends(implementation) => Ok(Scope::Extends(implementation.copy(alloc)?)),
     }
 }
 
@@ -95,7 +77,7 @@ fn copy_if_any(alloc: Global, text: &Option<Text>) -> Result<Option<Text>, Memor
 {
     match text {
         None => Ok(None),
-        Some(text) => Ok(Some(copy_text(alloc, text)?)),
+        Some(text) => Ok(Some(text.copy(alloc)?)),
     }
 }
 
@@ -105,7 +87,7 @@ pub(crate) fn copy_decl(alloc: Global, decl: &ParamDecl) -> Result<ParamDecl, Me
     Ok(ParamDecl {
         scope: copy_scope(alloc, &decl.scope)?,
         ptype: decl.ptype,
-        name: copy_text(alloc, &decl.name)?,
+        name: decl.name.copy(alloc)?,
         length: decl.length,
         alias: copy_if_any(alloc, &decl.alias)?,
         steer: decl.steer,

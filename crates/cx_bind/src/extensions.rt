@@ -1,9 +1,8 @@
 //! What thorns add to the ranges of parameters, by their full names.
 
-ghost use Rattle.std.specs.Prelude.{◌≡◌, ◌++◌, ℕ, List, [], if◌then◌else◌, IfOk, OnOk};
-ghost use Rattle.std.specs.Str.{bytes_eq};
+ghost use Rattle.std.specs.Prelude.{◌≡◌, ◌++◌, IfOk, OnOk};
 ghost use Rattle.cx_bind.specs.NameSets.{folded};
-ghost use Rattle.cx_bind.specs.NameRanges.{ranges_of, AreAdded};
+ghost use Rattle.cx_bind.specs.NameRanges.{AddsRanges, AreAdded};
 ghost use Rattle.cx_bind.specs.Parameters.{added};
 
 use crate::copies::push_ranges;
@@ -38,7 +37,8 @@ fn add_extension(
     ranges: &mut NameRanges,
     extension: &Extension,
 ) -> Result<(), Memory>
-    ensures { OnOk result ((other : List ℕ) → ranges_of other ranges.new ≡ ranges_of other ranges.old ++ (if bytes_eq other (folded extension.now.full) then extension.now.ranges else [])) }
+    ensures { OnOk result
+        (AddsRanges (folded extension.now.full) extension.now.ranges ranges.old ranges.new) }
 {
     ranges.add(
         alloc,
@@ -67,7 +67,7 @@ impl ExtensionTable {
     }
 
     /// Adds what extensions add to the parameter of a full name.
-    pub(crate) fn push_added(
+    pub(crate) fn push_extra_ranges(
         &self,
         alloc: Global,
         ranges: &mut List<Range>,

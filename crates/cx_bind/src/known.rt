@@ -4,9 +4,8 @@ ghost use Rattle.std.specs.Prelude.{◌≡◌, ◌++◌, ◌∷◌, [], ◌||◌
 ghost use Rattle.std.specs.List.{flat_map};
 ghost use Rattle.cx_text.specs.Lexemes.{among};
 ghost use Rattle.cx_bind.specs.BuiltIn.{starred_of_driver, starred_of_io, starred};
-ghost use Rattle.cx_bind.specs.Parameters.{is_declaration, is_restricted, is_global, owner_by, declared_as, known_by, known};
+ghost use Rattle.cx_bind.specs.Parameters.{is_declaration, is_restricted, is_global, owner_by, known_by, known_as, known_of, known};
 
-use crate::copies::copy_text;
 use crate::names::full_name;
 use crate::table::table;
 use crate::{Param, Thorn};
@@ -70,14 +69,14 @@ fn push_known(
     thorn: &Thorn,
     decl: &ParamDecl,
 ) -> Result<(), Memory>
-    ensures { OnOk result (knowns.new ≡ knowns.old ++ map known_by (declared_as 0 thorn.now decl.now)) }
+    ensures { OnOk result (knowns.new ≡ knowns.old ++ known_as thorn.now decl.now) }
 {
     if !is_declaration(&decl.scope) {
         return Ok(());
     }
     knowns.push(Known {
         full: full_name(alloc, owner_by(&decl.scope, thorn), decl.name.as_slice())?,
-        name: copy_text(alloc, &decl.name)?,
+        name: decl.name.copy(alloc)?,
         restricted: is_restricted(&decl.scope),
         global: is_global(&decl.scope),
         ptype: decl.ptype,
@@ -90,7 +89,7 @@ fn push_lines(
     thorn: &Thorn,
     decls: &[ParamDecl],
 ) -> Result<(), Memory>
-    ensures { OnOk result (knowns.new ≡ knowns.old ++ flat_map (λ d. map known_by (declared_as 0 thorn.now d)) decls.now) }
+    ensures { OnOk result (knowns.new ≡ knowns.old ++ flat_map (known_as thorn.now) decls.now) }
 {
     'decls: for decl in decls {
         push_known(alloc, knowns, thorn, decl)?;
@@ -102,8 +101,8 @@ fn push_param(alloc: Global, knowns: &mut List<Known>, param: &Param) -> Result<
     ensures { OnOk result (knowns.new ≡ knowns.old ++ known_by param.now ∷ []) }
 {
     knowns.push(Known {
-        full: copy_text(alloc, &param.full)?,
-        name: copy_text(alloc, &param.decl.name)?,
+        full: param.full.copy(alloc)?,
+        name: param.decl.name.copy(alloc)?,
         restricted: is_restricted(&param.decl.scope),
         global: is_global(&param.decl.scope),
         ptype: param.decl.ptype,
@@ -121,7 +120,7 @@ fn known_params(alloc: Global, params: &[Param]) -> Result<List<Known>, Memory>
 }
 
 fn push_thorns(alloc: Global, knowns: &mut List<Known>, thorns: &[Thorn]) -> Result<(), Memory>
-    ensures { OnOk result (knowns.new ≡ knowns.old ++ flat_map (λ t. flat_map (λ d. map known_by (declared_as 0 t d)) t.params) thorns.now) }
+    ensures { OnOk result (knowns.new ≡ knowns.old ++ flat_map known_of thorns.now) }
 {
     'thorns: for thorn in thorns {
         push_lines(alloc, knowns, thorn, thorn.params.as_slice())?;

@@ -18,8 +18,6 @@ mod providers;
 mod selection;
 mod shared;
 mod table;
-#[cfg(test)]
-mod tests;
 mod thorns;
 mod unsupported;
 mod uses;
@@ -28,5 +26,8 @@ mod variables;
 pub use bound::{Bound, bind};
 pub use name_places::NamePlaces;
 pub use names::full_name;
+pub use needs::shared_by;
 pub use selection::select;
 pub use thorns::{BindFault, Param, Thorn};
+pub use unsupported::is_grid;
+pub use variables::{owner_by, with_copy};

@@ -1,14 +1,13 @@
 //! Where names stand, in any case.
 
-ghost use Rattle.std.specs.Prelude.{◌≡◌, ℕ, List, [], Some, if◌then◌else◌, IfOk, OnOk};
+ghost use Rattle.std.specs.Prelude.{◌≡◌, [], IfOk, OnOk};
 ghost use Rattle.std.specs.Option.{option_copied};
 ghost use Rattle.std.specs.Str.{bytes_eq};
 ghost use Rattle.indexmap.specs.IndexMap.{insert_entry};
-ghost use Rattle.cx_text.specs.Lexemes.{same_name};
 ghost use Rattle.cx_bind.specs.NameSets.{folded};
-ghost use Rattle.cx_bind.specs.NamePlaces.{place_of, at_name};
+ghost use Rattle.cx_bind.specs.NamePlaces.{place_of, at_name, Puts};
 
-use crate::name_set::folded;
+use crate::name_set::folded_name;
 use cx_text::Memory;
 use indexmap::IndexMap;
 use std::alloc::Global;
@@ -40,10 +39,11 @@ impl NamePlaces {
 
     /// Gives a name a place, in place of the one that it had.
     pub fn insert(&mut self, alloc: Global, name: &[u8], place: usize) -> Result<(), Memory>
-        ensures put { OnOk result (self.new ≡ insert_entry bytes_eq self.old (folded name.now) place) }
-        ensures places { OnOk result ((other : List ℕ) → place_of self.new other ≡ (if same_name other name.now then Some place else place_of self.old other)) }
+        ensures put { OnOk result
+            (self.new ≡ insert_entry bytes_eq self.old (folded name.now) place) }
+        ensures places { OnOk result (Puts name.now place self.old self.new) }
     {
-        self.places.insert(folded(alloc, name)?, place)?;
+        self.places.insert(folded_name(alloc, name)?, place)?;
         Ok(())
     }
 
@@ -51,7 +51,7 @@ impl NamePlaces {
     pub fn get(&self, alloc: Global, name: &[u8]) -> Result<Option<usize>, Memory>
         ensures { IfOk result (λ place. place ≡ place_of self.now name.now) }
     {
-        let key = folded(alloc, name)?;
+        let key = folded_name(alloc, name)?;
         Ok(self.places.get(&key).copied())
     }
 

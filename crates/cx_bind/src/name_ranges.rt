@@ -1,15 +1,15 @@
 //! Ranges by names, in any case.
 
-ghost use Rattle.std.specs.Prelude.{◌≡◌, ◌++◌, ℕ, List, [], if◌then◌else◌, IfOk, OnOk};
+ghost use Rattle.std.specs.Prelude.{◌≡◌, [], IfOk, OnOk};
 ghost use Rattle.std.specs.Map.{lookup};
 ghost use Rattle.std.specs.Option.{option_copied};
 ghost use Rattle.std.specs.Str.{bytes_eq};
 ghost use Rattle.indexmap.specs.IndexMap.{insert_entry};
 ghost use Rattle.cx_bind.specs.NameSets.{folded};
-ghost use Rattle.cx_bind.specs.NameRanges.{ranges_of};
+ghost use Rattle.cx_bind.specs.NameRanges.{ranges_of, AddsRanges};
 
 use crate::copies::push_ranges;
-use crate::name_set::folded;
+use crate::name_set::folded_name;
 use cx_param::Range;
 use cx_text::{List, Memory};
 use indexmap::IndexMap;
@@ -49,9 +49,10 @@ impl NameRanges {
         ranges: List<Range>,
     ) -> Result<Option<List<Range>>, Memory>
         ensures had { IfOk result (λ had. had ≡ lookup (bytes_eq (folded name.now)) self.old) }
-        ensures put { OnOk result (self.new ≡ insert_entry bytes_eq self.old (folded name.now) ranges) }
+        ensures put { OnOk result
+            (self.new ≡ insert_entry bytes_eq self.old (folded name.now) ranges) }
     {
-        let had = self.ranges.insert(folded(alloc, name)?, ranges)?;
+        let had = self.ranges.insert(folded_name(alloc, name)?, ranges)?;
         Ok(had)
     }
 
@@ -68,7 +69,7 @@ impl NameRanges {
 
     /// Adds copies of these ranges at the end of a name's.
     pub(crate) fn add(&mut self, alloc: Global, name: &[u8], more: &[Range]) -> Result<(), Memory>
-        ensures { OnOk result ((other : List ℕ) → ranges_of other self.new ≡ ranges_of other self.old ++ (if bytes_eq other (folded name.now) then more.now else [])) }
+        ensures { OnOk result (AddsRanges (folded name.now) more.now self.old self.new) }
     {
         let mut ranges = self.take(alloc, name)?;
         push_ranges(alloc, &mut ranges, more)?;
@@ -78,9 +79,10 @@ impl NameRanges {
 
     /// The ranges of a name that has been given some.
     pub(crate) fn get(&self, alloc: Global, name: &[u8]) -> Result<Option<&List<Range>>, Memory>
-        ensures { IfOk result (λ found. option_copied found ≡ lookup (bytes_eq (folded name.now)) self.now) }
+        ensures { IfOk result
+            (λ found. option_copied found ≡ lookup (bytes_eq (folded name.now)) self.now) }
     {
-        let key = folded(alloc, name)?;
+        let key = folded_name(alloc, name)?;
         Ok(self.ranges.get(&key))
     }
 }

@@ -1,11 +1,9 @@
 //! Sets of names, in any case.
 
-ghost use Rattle.std.specs.Prelude.{◌≡◌, ◌++◌, ◌∷◌, [], not, false, find, IsTrue, IfOk, OnOk};
-ghost use Rattle.std.specs.List.{list_any};
+ghost use Rattle.std.specs.Prelude.{◌≡◌, ◌++◌, ◌∷◌, [], not, false, IsTrue, IfOk, OnOk};
 ghost use Rattle.std.specs.Option.{option_copied};
-ghost use Rattle.std.specs.Str.{bytes_eq};
 ghost use Rattle.cx_text.specs.Lexemes.{same_name, among};
-ghost use Rattle.cx_bind.specs.NameSets.{folded, has, Adds};
+ghost use Rattle.cx_bind.specs.NameSets.{folded, has, first_absent, Adds};
 
 use cx_text::{Memory, Text};
 use indexmap::IndexSet;
@@ -13,7 +11,7 @@ use std::alloc::Global;
 use std::marker::Model;
 
 /// A name in small letters.
-pub(crate) fn folded(alloc: Global, name: &[u8]) -> Result<Vec<u8>, Memory>
+pub(crate) fn folded_name(alloc: Global, name: &[u8]) -> Result<Vec<u8>, Memory>
     ensures { IfOk result (λ bytes. bytes.items ≡ folded name.now) }
 {
     let mut bytes = Vec::with_capacity(alloc, name.len())?;
@@ -49,12 +47,13 @@ impl NameSet {
 
     /// Adds a name that isn't there, and says whether it wasn't.
     pub(crate) fn insert(&mut self, alloc: Global, name: &[u8]) -> Result<bool, Memory>
-        ensures new { IfOk result (λ new. new ≡ not (list_any (bytes_eq (folded name.now)) self.old)) }
-        ensures added { IfOk result (λ new. IsTrue new → self.new ≡ self.old ++ folded name.now ∷ []) }
+        ensures new { IfOk result (λ new. new ≡ not (has self.old name.now)) }
+        ensures added { IfOk result
+            (λ new. IsTrue new → self.new ≡ self.old ++ folded name.now ∷ []) }
         ensures kept { IfOk result (λ new. new ≡ false → self.new ≡ self.old) }
         ensures names { OnOk result (Adds self.old (same_name name.now) self.new) }
     {
-        let new = self.names.insert(folded(alloc, name)?)?;
+        let new = self.names.insert(folded_name(alloc, name)?)?;
         Ok(new)
     }
 
@@ -72,7 +71,7 @@ impl NameSet {
     pub(crate) fn has(&self, alloc: Global, name: &[u8]) -> Result<bool, Memory>
         ensures { IfOk result (λ there. there ≡ has self.now name.now) }
     {
-        let key = folded(alloc, name)?;
+        let key = folded_name(alloc, name)?;
         Ok(self.names.contains(&key))
     }
 
@@ -82,7 +81,8 @@ impl NameSet {
         alloc: Global,
         names: &'a [Text],
     ) -> Result<Option<&'a Text>, Memory>
-        ensures { IfOk result (λ first. option_copied first ≡ find (λ name. not (has self.now name)) names.now) }
+        ensures { IfOk result
+            (λ first. option_copied first ≡ first_absent (has self.now) names.now) }
     {
         'names: for name in names {
             if !self.has(alloc, name.as_slice())? {

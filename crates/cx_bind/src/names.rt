@@ -17,7 +17,7 @@ pub fn full_name(alloc: Global, owner: &[u8], name: &[u8]) -> Result<Text, Memor
 }
 
 /// The text `name[k]`.
-pub(crate) fn bracketed(alloc: Global, name: &[u8], k: u32) -> Result<Text, Memory>
+pub(crate) fn bracketed_name(alloc: Global, name: &[u8], k: u32) -> Result<Text, Memory>
     ensures { IfOk result (λ text. text ≡ bracketed name.now k) }
 {
     let mut text = Text::from_slice(alloc, name)?;

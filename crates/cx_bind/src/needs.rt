@@ -5,8 +5,8 @@ ghost use Rattle.std.specs.Option.{option_copied};
 ghost use Rattle.cx_plan.specs.Lists.{first_of_each};
 ghost use Rattle.cx_bind.specs.NameSets.{has, HasThose};
 ghost use Rattle.cx_bind.specs.Parameters.{shared_by};
-ghost use Rattle.cx_bind.specs.Faults.{is_implemented, is_active, is_provided, missing, missing_shared, missing_implementation_of, missing_implementation, missing_capability, missing_thorn};
-ghost use Rattle.cx_bind.specs.Binding.{Tells};
+ghost use Rattle.cx_bind.specs.Faults.{is_provided, missing_by_line, missing_inherited, missing_implementation_of, missing_implementation, missing_capability_of, missing_capability, missing_thorn_of, missing_thorn};
+ghost use Rattle.cx_text.specs.Telling.{Tells};
 ghost use Rattle.cx_bind.specs.declared.thorns.BindFault.TheVariants as faults;
 
 use crate::active::Active;
@@ -16,8 +16,8 @@ use cx_param::{ParamDecl, Scope};
 use cx_text::{Memory, Text};
 use std::alloc::Global;
 
-/// The implementation that a use or an extension names.
-pub(crate) fn shared_by(scope: &Scope) -> Option<&Text>
+/// The implementation that a use or an extension of a parameter names. A declaration names none.
+pub fn shared_by(scope: &Scope) -> Option<&Text>
     ensures { option_copied result ≡ shared_by scope.now }
 {
     match scope {
@@ -31,18 +31,16 @@ fn missing_implementation(
     thorn: &Thorn,
     implementation: &Text,
 ) -> Result<(), BindFault>
-    ensures { Tells (Some (faults.MissingImplementation thorn.now.name implementation.now)) result }
+    ensures { Tells faults.Memory
+        (Some (faults.MissingImplementation thorn.now.name implementation.now)) result }
 {
-    Err(BindFault::MissingImplementation(
-        Text::from_slice(alloc, thorn.name.as_slice())?,
-        Text::from_slice(alloc, implementation.as_slice())?,
-    ))
+    Err(BindFault::MissingImplementation(thorn.name.copy(alloc)?, implementation.copy(alloc)?))
 }
 
 fn check_inherited(alloc: Global, active: &Active, thorn: &Thorn) -> Result<(), BindFault>
-    ensures { Tells (missing (λ i. faults.MissingImplementation thorn.now.name i) (is_implemented active.now) thorn.now.interface.inherits) result }
+    ensures { Tells faults.Memory (missing_inherited active.now thorn.now) result }
 {
-    match active.first_unimplemented(alloc, thorn.interface.inherits.as_slice())? {
+    match active.find_unimplemented(alloc, thorn.interface.inherits.as_slice())? {
         None => Ok(()),
         Some(implementation) => missing_implementation(alloc, thorn, implementation),
     }
@@ -54,7 +52,7 @@ fn check_line(
     thorn: &Thorn,
     decl: &ParamDecl,
 ) -> Result<(), BindFault>
-    ensures { Tells (missing_shared active.now thorn.now (shared_by decl.now.scope)) result }
+    ensures { Tells faults.Memory (missing_by_line active.now thorn.now decl.now) result }
 {
     let Some(implementation) = shared_by(&decl.scope) else {
         return Ok(());
@@ -71,7 +69,8 @@ fn check_lines(
     thorn: &Thorn,
     decls: &[ParamDecl],
 ) -> Result<(), BindFault>
-    ensures { Tells (first_of_each (λ d. missing_shared active.now thorn.now (shared_by d.scope)) decls.now) result }
+    ensures { Tells faults.Memory (first_of_each (missing_by_line active.now thorn.now) decls.now)
+        result }
 {
     for decl in decls {
         check_line(alloc, active, thorn, decl)?;
@@ -80,7 +79,7 @@ fn check_lines(
 }
 
 fn check_implementations_of(alloc: Global, active: &Active, thorn: &Thorn) -> Result<(), BindFault>
-    ensures { Tells (missing_implementation_of active.now thorn.now) result }
+    ensures { Tells faults.Memory (missing_implementation_of active.now thorn.now) result }
 {
     check_inherited(alloc, active, thorn)?;
     check_lines(alloc, active, thorn, thorn.params.as_slice())
@@ -92,7 +91,7 @@ pub(crate) fn check_implementations(
     active: &Active,
     thorns: &[Thorn],
 ) -> Result<(), BindFault>
-    ensures { Tells (missing_implementation active.now thorns.now) result }
+    ensures { Tells faults.Memory (missing_implementation active.now thorns.now) result }
 {
     for thorn in thorns {
         check_implementations_of(alloc, active, thorn)?;
@@ -112,16 +111,14 @@ fn capabilities(alloc: Global, thorns: &[Thorn]) -> Result<NameSet, Memory>
 }
 
 fn missing_capability(alloc: Global, thorn: &Thorn, capability: &Text) -> Result<(), BindFault>
-    ensures { Tells (Some (faults.MissingCapability thorn.now.name capability.now)) result }
+    ensures { Tells faults.Memory (Some (faults.MissingCapability thorn.now.name capability.now))
+        result }
 {
-    Err(BindFault::MissingCapability(
-        Text::from_slice(alloc, thorn.name.as_slice())?,
-        Text::from_slice(alloc, capability.as_slice())?,
-    ))
+    Err(BindFault::MissingCapability(thorn.name.copy(alloc)?, capability.copy(alloc)?))
 }
 
 fn check_capabilities_of(alloc: Global, provided: &NameSet, thorn: &Thorn) -> Result<(), BindFault>
-    ensures { Tells (missing (λ c. faults.MissingCapability thorn.now.name c) (has provided.now) thorn.now.conf.requires_) result }
+    ensures { Tells faults.Memory (missing_capability_of (has provided.now) thorn.now) result }
 {
     match provided.first_missing(alloc, thorn.conf.requires_.as_slice())? {
         None => Ok(()),
@@ -130,7 +127,8 @@ fn check_capabilities_of(alloc: Global, provided: &NameSet, thorn: &Thorn) -> Re
 }
 
 fn check_provided(alloc: Global, provided: &NameSet, thorns: &[Thorn]) -> Result<(), BindFault>
-    ensures { Tells (first_of_each (λ t. missing (λ c. faults.MissingCapability t.name c) (has provided.now) t.conf.requires_) thorns.now) result }
+    ensures { Tells faults.Memory
+        (first_of_each (missing_capability_of (has provided.now)) thorns.now) result }
 {
     for thorn in thorns {
         check_capabilities_of(alloc, provided, thorn)?;
@@ -140,25 +138,22 @@ fn check_provided(alloc: Global, provided: &NameSet, thorns: &[Thorn]) -> Result
 
 /// Tests that each capability that a thorn requires is provided by a thorn.
 pub(crate) fn check_capabilities(alloc: Global, thorns: &[Thorn]) -> Result<(), BindFault>
-    ensures { Tells (missing_capability thorns.now thorns.now) result }
+    ensures { Tells faults.Memory (missing_capability thorns.now thorns.now) result }
 {
     let provided = capabilities(alloc, thorns)?;
     check_provided(alloc, &provided, thorns)
 }
 
 fn missing_thorn(alloc: Global, thorn: &Thorn, other: &Text) -> Result<(), BindFault>
-    ensures { Tells (Some (faults.MissingThorn thorn.now.name other.now)) result }
+    ensures { Tells faults.Memory (Some (faults.MissingThorn thorn.now.name other.now)) result }
 {
-    Err(BindFault::MissingThorn(
-        Text::from_slice(alloc, thorn.name.as_slice())?,
-        Text::from_slice(alloc, other.as_slice())?,
-    ))
+    Err(BindFault::MissingThorn(thorn.name.copy(alloc)?, other.copy(alloc)?))
 }
 
 fn check_thorns_of(alloc: Global, active: &Active, thorn: &Thorn) -> Result<(), BindFault>
-    ensures { Tells (missing (λ other. faults.MissingThorn thorn.now.name other) (is_active active.now) thorn.now.conf.thorns) result }
+    ensures { Tells faults.Memory (missing_thorn_of active.now thorn.now) result }
 {
-    match active.first_inactive(alloc, thorn.conf.thorns.as_slice())? {
+    match active.find_inactive(alloc, thorn.conf.thorns.as_slice())? {
         None => Ok(()),
         Some(other) => missing_thorn(alloc, thorn, other),
     }
@@ -170,7 +165,7 @@ pub(crate) fn check_thorns(
     active: &Active,
     thorns: &[Thorn],
 ) -> Result<(), BindFault>
-    ensures { Tells (missing_thorn active.now thorns.now) result }
+    ensures { Tells faults.Memory (missing_thorn active.now thorns.now) result }
 {
     for thorn in thorns {
         check_thorns_of(alloc, active, thorn)?;

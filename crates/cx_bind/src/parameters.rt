@@ -1,8 +1,9 @@
 //! The parameters of thorns, with all their ranges.
 
-ghost use Rattle.std.specs.Prelude.{◌≡◌, ◌≤◌, ◌++◌, ℕ, map, length, IfOk, OnOk};
+ghost use Rattle.std.specs.Prelude.{◌≡◌, ◌≤◌, ◌++◌, length, IfOk, OnOk};
 ghost use Rattle.std.specs.List.{flat_map};
-ghost use Rattle.cx_bind.specs.Parameters.{declared_as, extension_as, extensions_in, extensions, extended, thorn_parameters, parameters};
+ghost use Rattle.cx_bind.specs.Binding.{max_thorns};
+ghost use Rattle.cx_bind.specs.Parameters.{extension_by, extensions, extended_as, thorn_parameters, parameters};
 
 use crate::copies::{copy_decl, copy_ranges};
 use crate::extensions::ExtensionTable;
@@ -26,7 +27,7 @@ fn push_extension(
     extensions: &mut List<Extension>,
     decl: &ParamDecl,
 ) -> Result<(), Memory>
-    ensures { OnOk result (extensions.new ≡ extensions.old ++ extension_as decl.now decl.now.scope) }
+    ensures { OnOk result (extensions.new ≡ extensions.old ++ extension_by decl.now) }
 {
     match &decl.scope {
         Scope::Extends(implementation) => extensions.push(Extension {
@@ -42,7 +43,7 @@ fn push_extensions_of(
     extensions: &mut List<Extension>,
     decls: &[ParamDecl],
 ) -> Result<(), Memory>
-    ensures { OnOk result (extensions.new ≡ extensions.old ++ flat_map (λ d. extension_as d d.scope) decls.now) }
+    ensures { OnOk result (extensions.new ≡ extensions.old ++ flat_map extension_by decls.now) }
 {
     'decls: for decl in decls {
         push_extension(alloc, extensions, decl)?;
@@ -68,14 +69,15 @@ fn push_parameter(
     thorn: &Thorn,
     decl: &ParamDecl,
 ) -> Result<(), Memory>
-    ensures { OnOk result (params.new ≡ params.old ++ map (extended extensions.now) (declared_as number thorn.now decl.now)) }
+    ensures { OnOk result
+        (params.new ≡ params.old ++ extended_as extensions.now number thorn.now decl.now) }
 {
     if !is_declaration(&decl.scope) {
         return Ok(());
     }
     let full = full_name(alloc, owner_by(&decl.scope, thorn), decl.name.as_slice())?;
     let mut ranges = copy_ranges(alloc, decl.ranges.as_slice())?;
-    extensions.push_added(alloc, &mut ranges, full.as_slice())?;
+    extensions.push_extra_ranges(alloc, &mut ranges, full.as_slice())?;
     params.push(Param {
         full,
         thorn: number,
@@ -92,7 +94,9 @@ fn push_parameters_of(
     thorn: &Thorn,
     decls: &[ParamDecl],
 ) -> Result<(), Memory>
-    ensures { OnOk result (params.new ≡ params.old ++ flat_map (λ d. map (extended extensions.now) (declared_as number thorn.now d)) decls.now) }
+    ensures { OnOk result
+        (params.new ≡ params.old
+        ++ flat_map (extended_as extensions.now number thorn.now) decls.now) }
 {
     'decls: for decl in decls {
         push_parameter(alloc, params, extensions, number, thorn, decl)?;
@@ -106,7 +110,7 @@ fn push_all_parameters(
     extensions: &ExtensionTable,
     thorns: &[Thorn],
 ) -> Result<(), Memory>
-    requires { length thorns.now ≤ 64 }
+    requires { length thorns.now ≤ max_thorns }
     ensures { OnOk result (params.new ≡ params.old ++ thorn_parameters extensions.now thorns.now) }
 {
     'thorns: for (number, thorn) in thorns.iter().enumerate() {
@@ -118,7 +122,7 @@ fn push_all_parameters(
 
 /// All parameters: the built-in ones, and then the thorns', each with the ranges of all extensions.
 pub(crate) fn all_parameters(alloc: Global, thorns: &[Thorn]) -> Result<List<Param>, Memory>
-    requires { length thorns.now ≤ 64 }
+    requires { length thorns.now ≤ max_thorns }
     ensures { IfOk result (λ params. params ≡ parameters thorns.now) }
 {
     let found = all_extensions(alloc, thorns)?;

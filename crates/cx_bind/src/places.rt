@@ -36,7 +36,8 @@ fn is_noted(
 
 /// Notes that a thorn has several places, where it is noted again.
 fn note_again(alloc: Global, several: &mut NameSet, name: &[u8], again: bool) -> Result<(), Memory>
-    ensures { OnOk result (Adds several.old (λ other. again && same_name name.now other) several.new) }
+    ensures { OnOk result
+        (Adds several.old (λ other. again && same_name name.now other) several.new) }
 {
     if again {
         several.insert(alloc, name)?;
@@ -52,8 +53,10 @@ fn note(
     at: usize,
 ) -> Result<(), Memory>
     requires within { at < length places.now }
-    requires later { AreNamed places.now named.old.firsts named.old.several (drop (at + 1) places.now) }
-    ensures { OnOk result (AreNamed places.now named.new.firsts named.new.several (drop at places.now)) }
+    requires later { AreNamed places.now named.old.firsts named.old.several
+        (drop (at + 1) places.now) }
+    ensures { OnOk result
+        (AreNamed places.now named.new.firsts named.new.several (drop at places.now)) }
 {
     let place = &places[at];
     let name = place.1.as_slice();
@@ -87,7 +90,8 @@ impl NamedPlaces {
         name: &[u8],
     ) -> Result<Option<&'a (Text, Text)>, Memory>
         requires { AreNamed places.now self.now.firsts self.now.several places.now }
-        ensures { IfOk result (λ place. option_copied place ≡ find (is_place_of name.now) places.now) }
+        ensures { IfOk result
+            (λ place. option_copied place ≡ find (is_place_of name.now) places.now) }
     {
         self.firsts.at_name(alloc, places, name)
     }
@@ -100,7 +104,8 @@ impl NamedPlaces {
         name: &[u8],
     ) -> Result<bool, Memory>
         requires { AreNamed places.now self.now.firsts self.now.several places.now }
-        ensures { IfOk result (λ several. several ≡ nat_lt 1 (count_by (is_place_of name.now) places.now)) }
+        ensures { IfOk result
+            (λ several. several ≡ nat_lt 1 (count_by (is_place_of name.now) places.now)) }
     {
         self.several.has(alloc, name)
     }

@@ -5,7 +5,8 @@ ghost use Rattle.std.specs.Option.{option_copied};
 ghost use Rattle.cx_plan.specs.Lists.{or_else};
 ghost use Rattle.cx_bind.specs.BuiltIn.{provider};
 ghost use Rattle.cx_bind.specs.Faults.{providers, repeated, told_by, two_providers};
-ghost use Rattle.cx_bind.specs.Binding.{Tells};
+ghost use Rattle.cx_text.specs.Telling.{Tells};
+ghost use Rattle.cx_bind.specs.declared.thorns.BindFault.TheVariants as faults;
 
 use crate::name_places::NamePlaces;
 use crate::{BindFault, Thorn};
@@ -53,7 +54,7 @@ pub(crate) fn providers(alloc: Global, thorns: &[Thorn]) -> Result<List<Provider
 }
 
 fn two_providers(alloc: Global, provider: &Provider, other: &Provider) -> Result<(), BindFault>
-    ensures { Tells (repeated provider.now (Some other.now)) result }
+    ensures { Tells faults.Memory (repeated provider.now (Some other.now)) result }
 {
     Err(BindFault::TwoProviders(
         Text::from_slice(alloc, provider.implementation.as_slice())?,
@@ -68,7 +69,8 @@ fn or_pair<'a>(
     other: Option<&'a Provider>,
     pair: Option<(&'a Provider, &'a Provider)>,
 ) -> Option<(&'a Provider, &'a Provider)>
-    ensures { told_by result ≡ or_else (repeated provider.now (option_copied other.entry)) (told_by pair.entry) }
+    ensures { told_by result
+        ≡ or_else (repeated provider.now (option_copied other.entry)) (told_by pair.entry) }
 {
     match other {
         Some(other) => Some((provider, other)),
@@ -99,7 +101,7 @@ fn first_repeated(
 
 /// Tests that no two active thorns provide one implementation.
 pub(crate) fn check_providers(alloc: Global, active: &[Provider]) -> Result<(), BindFault>
-    ensures { Tells (two_providers active.now) result }
+    ensures { Tells faults.Memory (two_providers active.now) result }
 {
     match first_repeated(alloc, active)? {
         None => Ok(()),

@@ -1,12 +1,14 @@
 //! The thorns that are selected.
 
-ghost use Rattle.std.specs.Prelude.{◌≡◌, ◌++◌, ◌∷◌, [], ◌&&◌, not, false, map, IsTrue, IfOk};
+ghost use Rattle.std.specs.Prelude.{◌≡◌, ◌++◌, ◌∷◌, [], false, map, IsTrue, IfOk};
 ghost use Rattle.cx_text.specs.Lexemes.{among};
 ghost use Rattle.cx_plan.specs.Lists.{all_ok};
 ghost use Rattle.cx_bind.specs.BuiltIn.{built_in_thorns};
-ghost use Rattle.cx_bind.specs.NameSets.{folded, has};
+ghost use Rattle.cx_bind.specs.NameSets.{folded};
 ghost use Rattle.cx_bind.specs.NamePlaces.{AreNamed};
-ghost use Rattle.cx_bind.specs.Selecting.{place_of, chosen, select, Answers};
+ghost use Rattle.cx_text.specs.Telling.{Answers};
+ghost use Rattle.cx_bind.specs.Selecting.{place_of, chosen, is_next, select};
+ghost use Rattle.cx_bind.specs.declared.thorns.BindFault.TheVariants as faults;
 
 use crate::BindFault;
 use crate::name_set::NameSet;
@@ -24,8 +26,9 @@ fn is_built_in(name: &[u8]) -> bool
 
 /// Whether an active thorn isn't built in, and isn't there yet. Its name is added then.
 fn is_new(alloc: Global, there: &mut NameSet, name: &[u8]) -> Result<bool, Memory>
-    ensures new { IfOk result (λ new. new ≡ (not (among built_in_thorns name.now) && not (has there.old name.now))) }
-    ensures added { IfOk result (λ new. IsTrue new → there.new ≡ there.old ++ folded name.now ∷ []) }
+    ensures new { IfOk result (λ new. new ≡ is_next there.old name.now) }
+    ensures added { IfOk result
+        (λ new. IsTrue new → there.new ≡ there.old ++ folded name.now ∷ []) }
     ensures kept { IfOk result (λ new. new ≡ false → there.new ≡ there.old) }
 {
     if is_built_in(name) {
@@ -55,7 +58,7 @@ fn place_of(
     name: &[u8],
 ) -> Result<(Text, Text), BindFault>
     requires { AreNamed places.now named.now.firsts named.now.several places.now }
-    ensures { Answers (place_of places.now name.now) result }
+    ensures { Answers faults.Memory (place_of places.now name.now) result }
 {
     let Some(place) = named.first(alloc, places, name)? else {
         return Err(BindFault::UnknownThorn(Text::from_slice(alloc, name)?));
@@ -76,7 +79,7 @@ fn named_places_of(
     names: &[Text],
 ) -> Result<List<(Text, Text)>, BindFault>
     requires { AreNamed places.now named.now.firsts named.now.several places.now }
-    ensures { Answers (all_ok (map (place_of places.now) names.now)) result }
+    ensures { Answers faults.Memory (all_ok (map (place_of places.now) names.now)) result }
 {
     let mut found = List::empty(alloc);
     'names: for name in names {
@@ -90,7 +93,7 @@ fn places_of(
     places: &[(Text, Text)],
     names: &[Text],
 ) -> Result<List<(Text, Text)>, BindFault>
-    ensures { Answers (all_ok (map (place_of places.now) names.now)) result }
+    ensures { Answers faults.Memory (all_ok (map (place_of places.now) names.now)) result }
 {
     let named = NamedPlaces::new(alloc, places)?;
     named_places_of(alloc, places, &named, names)
@@ -106,7 +109,7 @@ pub fn select(
     list: &ThornList,
     active: &List<Text>,
 ) -> Result<List<(Text, Text)>, BindFault>
-    ensures { Answers (select list.now active.now) result }
+    ensures { Answers faults.Memory (select list.now active.now) result }
 {
     let names = chosen(alloc, active.as_slice())?;
     places_of(alloc, list.places.as_slice(), names.as_slice())

@@ -76,7 +76,8 @@ impl KnownTable {
     }
 
     fn first_shared(&self, alloc: Global, full: &[u8]) -> Result<Option<&Known>, Memory>
-        ensures { IfOk result (λ known. option_copied known ≡ find (is_shared_as full.now) self.now) }
+        ensures { IfOk result
+            (λ known. option_copied known ≡ find (is_shared_as full.now) self.now) }
     {
         self.shared.at_name(alloc, self.knowns.as_slice(), full)
     }

@@ -2,8 +2,6 @@
 
 ghost use Rattle.std.specs.Prelude.{◌≡◌, ◌++◌, ◌∷◌, [], codes, IfOk, OnOk, None, Some};
 ghost use Rattle.cx_param.specs.declared.declarations.PType.TheVariants as ptypes;
-ghost use Rattle.cx_param.specs.declared.declarations.Scope.TheVariants as scopes;
-ghost use Rattle.cx_param.specs.declared.declarations.Steer.TheVariants as steers;
 ghost use Rattle.cx_param.specs.declared.ranges.Range.TheVariants as kinds;
 ghost use Rattle.cx_bind.specs.BuiltIn.{from_to, parameter, int_parameter, unset_parameter, flag_parameter, text_parameter, terminate_parameter, cactus_parameters, grid_parameters, ghost_parameters, periodic_parameters, part_parameters, width_parameters, turn_parameters, output_parameters, checkpoint_parameters, recover_parameter, recover_parameters, driver_parameters, io_parameters, table};
 
@@ -30,20 +28,29 @@ fn from_to(ends: (i64, i64)) -> Range
     }
 }
 
+/// Whose a built-in parameter is: the number of its thorn, and the implementation before the `::` of its full name.
+#[derive(Clone, Copy)]
+struct Owner<'a> {
+    number: u32,
+    implementation: &'a [u8],
+}
+
 fn parameter(
     alloc: Global,
-    number: u32,
-    implementation: &[u8],
+    owner: &Owner<'_>,
     ptype: PType,
     name: &[u8],
     ranges: List<Range>,
     default: &[u8],
 ) -> Result<Param, Memory>
-    ensures { IfOk result (λ p. p ≡ parameter number implementation.now ptype name.now ranges default.now) }
+    ensures { IfOk result
+        (λ p. p
+        ≡ parameter owner.now.number owner.now.implementation.now ptype name.now ranges
+        default.now) }
 {
     Ok(Param {
-        full: full_name(alloc, implementation, name)?,
-        thorn: number,
+        full: full_name(alloc, owner.implementation, name)?,
+        thorn: owner.number,
         ranges: copy_ranges(alloc, ranges.as_slice())?,
         decl: ParamDecl {
             scope: Scope::Restricted,
@@ -61,96 +68,72 @@ fn parameter(
 fn push_int(
     alloc: Global,
     table: &mut List<Param>,
-    number: u32,
-    implementation: &[u8],
+    owner: &Owner<'_>,
     name: &[u8],
     ends: (i64, i64),
     default: &[u8],
 ) -> Result<(), Memory>
-    ensures { OnOk result (table.new ≡ table.old ++ int_parameter number implementation.now name.now ends.0 ends.1 default.now ∷ []) }
+    ensures { OnOk result
+        (table.new ≡ table.old
+        ++ int_parameter owner.now.number owner.now.implementation.now name.now ends.0 ends.1
+        default.now ∷ []) }
 {
     let mut ranges = List::empty(alloc);
     ranges.push(from_to(ends))?;
-    table.push(parameter(
-        alloc,
-        number,
-        implementation,
-        PType::Int,
-        name,
-        ranges,
-        default,
-    )?)
+    table.push(parameter(alloc, owner, PType::Int, name, ranges, default)?)
 }
 
 /// A number of a range, or -1.
 fn push_unset(
     alloc: Global,
     table: &mut List<Param>,
-    number: u32,
-    implementation: &[u8],
+    owner: &Owner<'_>,
     name: &[u8],
     ends: (i64, i64),
     default: &[u8],
 ) -> Result<(), Memory>
-    ensures { OnOk result (table.new ≡ table.old ++ unset_parameter number implementation.now name.now ends.0 ends.1 default.now ∷ []) }
+    ensures { OnOk result
+        (table.new ≡ table.old
+        ++ unset_parameter owner.now.number owner.now.implementation.now name.now ends.0
+        ends.1 default.now ∷ []) }
 {
     let mut ranges = List::empty(alloc);
     ranges.push(from_to((-1, -1)))?;
     ranges.push(from_to(ends))?;
-    table.push(parameter(
-        alloc,
-        number,
-        implementation,
-        PType::Int,
-        name,
-        ranges,
-        default,
-    )?)
+    table.push(parameter(alloc, owner, PType::Int, name, ranges, default)?)
 }
 
 fn push_flag(
     alloc: Global,
     table: &mut List<Param>,
-    number: u32,
-    implementation: &[u8],
+    owner: &Owner<'_>,
     name: &[u8],
     default: &[u8],
 ) -> Result<(), Memory>
-    ensures { OnOk result (table.new ≡ table.old ++ flag_parameter number implementation.now name.now default.now ∷ []) }
+    ensures { OnOk result
+        (table.new ≡ table.old
+        ++ flag_parameter owner.now.number owner.now.implementation.now name.now default.now
+        ∷ []) }
 {
     let ranges = List::empty(alloc);
-    table.push(parameter(
-        alloc,
-        number,
-        implementation,
-        PType::Boolean,
-        name,
-        ranges,
-        default,
-    )?)
+    table.push(parameter(alloc, owner, PType::Boolean, name, ranges, default)?)
 }
 
 fn push_text(
     alloc: Global,
     table: &mut List<Param>,
-    number: u32,
-    implementation: &[u8],
+    owner: &Owner<'_>,
     name: &[u8],
     default: &[u8],
 ) -> Result<(), Memory>
-    ensures { OnOk result (table.new ≡ table.old ++ text_parameter number implementation.now name.now default.now ∷ []) }
+    ensures { OnOk result
+        (table.new ≡ table.old
+        ++ text_parameter owner.now.number owner.now.implementation.now name.now default.now
+        ∷ []) }
 {
     let mut ranges = List::empty(alloc);
     ranges.push(Range::AnyText)?;
-    table.push(parameter(
-        alloc,
-        number,
-        implementation,
-        PType::String,
-        name,
-        ranges,
-        default,
-    )?)
+    table.push(parameter(alloc, owner, PType::String, name, ranges, default)?)
 }
 
 fn push_word(alloc: Global, words: &mut List<Range>, word: &[u8]) -> Result<(), Memory>
@@ -162,55 +145,41 @@ fn push_word(alloc: Global, words: &mut List<Range>, word: &[u8]) -> Result<(), 
 fn push_keyword(
     alloc: Global,
     table: &mut List<Param>,
-    number: u32,
-    implementation: &[u8],
+    owner: &Owner<'_>,
     name: &[u8],
     words: List<Range>,
     default: &[u8],
 ) -> Result<(), Memory>
-    ensures { OnOk result (table.new ≡ table.old ++ parameter number implementation.now ptypes.Keyword name.now words default.now ∷ []) }
+    ensures { OnOk result
+        (table.new ≡ table.old
+        ++ parameter owner.now.number owner.now.implementation.now ptypes.Keyword name.now
+        words default.now ∷ []) }
 {
-    table.push(parameter(
-        alloc,
-        number,
-        implementation,
-        PType::Keyword,
-        name,
-        words,
-        default,
-    )?)
+    table.push(parameter(alloc, owner, PType::Keyword, name, words, default)?)
 }
 
 /// The parameter that says when a run ends.
 fn push_terminate(alloc: Global, table: &mut List<Param>, n: u32) -> Result<(), Memory>
     ensures { OnOk result (table.new ≡ table.old ++ terminate_parameter n ∷ []) }
 {
+    let owner = Owner {
+        number: n,
+        implementation: b"Cactus",
+    };
     let mut words = List::empty(alloc);
     push_word(alloc, &mut words, b"iteration")?;
-    push_keyword(
-        alloc,
-        table,
-        n,
-        b"Cactus",
-        b"terminate",
-        words,
-        b"iteration",
-    )
+    push_keyword(alloc, table, &owner, b"terminate", words, b"iteration")
 }
 
 fn push_cactus(alloc: Global, table: &mut List<Param>, n: u32) -> Result<(), Memory>
     ensures { OnOk result (table.new ≡ table.old ++ cactus_parameters n) }
 {
-    push_int(
-        alloc,
-        table,
-        n,
-        b"Cactus",
-        b"cctk_itlast",
-        (0, 1_000_000),
-        b"10",
-    )?;
-    push_text(alloc, table, n, b"Cactus", b"cctk_run_title", b"")?;
+    let owner = Owner {
+        number: n,
+        implementation: b"Cactus",
+    };
+    push_int(alloc, table, &owner, b"cctk_itlast", (0, 1_000_000), b"10")?;
+    push_text(alloc, table, &owner, b"cctk_run_title", b"")?;
     push_terminate(alloc, table, n)?;
     Ok(())
 }
@@ -218,38 +187,17 @@ fn push_cactus(alloc: Global, table: &mut List<Param>, n: u32) -> Result<(), Mem
 fn push_grid(alloc: Global, table: &mut List<Param>, n: u32) -> Result<(), Memory>
     ensures { OnOk result (table.new ≡ table.old ++ grid_parameters n) }
 {
-    push_int(
-        alloc,
-        table,
-        n,
-        b"driver",
-        b"global_nx",
-        (1, MAX_POINTS),
-        b"10",
-    )?;
-    push_int(
-        alloc,
-        table,
-        n,
-        b"driver",
-        b"global_ny",
-        (1, MAX_POINTS),
-        b"10",
-    )?;
-    push_int(
-        alloc,
-        table,
-        n,
-        b"driver",
-        b"global_nz",
-        (1, MAX_POINTS),
-        b"10",
-    )?;
+    let owner = Owner {
+        number: n,
+        implementation: b"driver",
+    };
+    push_int(alloc, table, &owner, b"global_nx", (1, MAX_POINTS), b"10")?;
+    push_int(alloc, table, &owner, b"global_ny", (1, MAX_POINTS), b"10")?;
+    push_int(alloc, table, &owner, b"global_nz", (1, MAX_POINTS), b"10")?;
     push_unset(
         alloc,
         table,
-        n,
-        b"driver",
+        &owner,
         b"global_nsize",
         (1, MAX_POINTS),
         b"-1",
@@ -260,50 +208,69 @@ fn push_grid(alloc: Global, table: &mut List<Param>, n: u32) -> Result<(), Memor
 fn push_ghosts(alloc: Global, table: &mut List<Param>, n: u32) -> Result<(), Memory>
     ensures { OnOk result (table.new ≡ table.old ++ ghost_parameters n) }
 {
-    push_unset(alloc, table, n, b"driver", b"ghost_size", (0, 8), b"-1")?;
-    push_int(alloc, table, n, b"driver", b"ghost_size_x", (0, 8), b"1")?;
-    push_int(alloc, table, n, b"driver", b"ghost_size_y", (0, 8), b"1")?;
-    push_int(alloc, table, n, b"driver", b"ghost_size_z", (0, 8), b"1")?;
+    let owner = Owner {
+        number: n,
+        implementation: b"driver",
+    };
+    push_unset(alloc, table, &owner, b"ghost_size", (0, 8), b"-1")?;
+    push_int(alloc, table, &owner, b"ghost_size_x", (0, 8), b"1")?;
+    push_int(alloc, table, &owner, b"ghost_size_y", (0, 8), b"1")?;
+    push_int(alloc, table, &owner, b"ghost_size_z", (0, 8), b"1")?;
     Ok(())
 }
 
 fn push_periodic(alloc: Global, table: &mut List<Param>, n: u32) -> Result<(), Memory>
     ensures { OnOk result (table.new ≡ table.old ++ periodic_parameters n) }
 {
-    push_flag(alloc, table, n, b"driver", b"periodic", b"no")?;
-    push_flag(alloc, table, n, b"driver", b"periodic_x", b"yes")?;
-    push_flag(alloc, table, n, b"driver", b"periodic_y", b"yes")?;
-    push_flag(alloc, table, n, b"driver", b"periodic_z", b"yes")?;
+    let owner = Owner {
+        number: n,
+        implementation: b"driver",
+    };
+    push_flag(alloc, table, &owner, b"periodic", b"no")?;
+    push_flag(alloc, table, &owner, b"periodic_x", b"yes")?;
+    push_flag(alloc, table, &owner, b"periodic_y", b"yes")?;
+    push_flag(alloc, table, &owner, b"periodic_z", b"yes")?;
     Ok(())
 }
 
 fn push_parts(alloc: Global, table: &mut List<Param>, n: u32) -> Result<(), Memory>
     ensures { OnOk result (table.new ≡ table.old ++ part_parameters n) }
 {
-    push_int(alloc, table, n, b"driver", b"parts_x", (1, 512), b"1")?;
-    push_int(alloc, table, n, b"driver", b"parts_y", (1, 512), b"1")?;
-    push_int(alloc, table, n, b"driver", b"parts_z", (1, 512), b"1")?;
+    let owner = Owner {
+        number: n,
+        implementation: b"driver",
+    };
+    push_int(alloc, table, &owner, b"parts_x", (1, 512), b"1")?;
+    push_int(alloc, table, &owner, b"parts_y", (1, 512), b"1")?;
+    push_int(alloc, table, &owner, b"parts_z", (1, 512), b"1")?;
     Ok(())
 }
 
 fn push_widths(alloc: Global, table: &mut List<Param>, n: u32) -> Result<(), Memory>
     ensures { OnOk result (table.new ≡ table.old ++ width_parameters n) }
 {
-    push_text(alloc, table, n, b"driver", b"widths_x", b"")?;
-    push_text(alloc, table, n, b"driver", b"widths_y", b"")?;
-    push_text(alloc, table, n, b"driver", b"widths_z", b"")?;
+    let owner = Owner {
+        number: n,
+        implementation: b"driver",
+    };
+    push_text(alloc, table, &owner, b"widths_x", b"")?;
+    push_text(alloc, table, &owner, b"widths_y", b"")?;
+    push_text(alloc, table, &owner, b"widths_z", b"")?;
     Ok(())
 }
 
 fn push_turns(alloc: Global, table: &mut List<Param>, n: u32) -> Result<(), Memory>
     ensures { OnOk result (table.new ≡ table.old ++ turn_parameters n) }
 {
-    push_int(alloc, table, n, b"driver", b"lead", (0, 0), b"0")?;
+    let owner = Owner {
+        number: n,
+        implementation: b"driver",
+    };
+    push_int(alloc, table, &owner, b"lead", (0, 0), b"0")?;
     push_int(
         alloc,
         table,
-        n,
-        b"driver",
+        &owner,
         b"while_limit",
         (1, 1_000_000),
         b"1000",
@@ -314,32 +281,41 @@ fn push_turns(alloc: Global, table: &mut List<Param>, n: u32) -> Result<(), Memo
 fn push_output(alloc: Global, table: &mut List<Param>, n: u32) -> Result<(), Memory>
     ensures { OnOk result (table.new ≡ table.old ++ output_parameters n) }
 {
-    push_text(alloc, table, n, b"IO", b"out_dir", b".")?;
-    push_text(alloc, table, n, b"IO", b"out_vars", b"")?;
-    push_int(alloc, table, n, b"IO", b"out_every", (-1, 1_000_000), b"1")?;
+    let owner = Owner {
+        number: n,
+        implementation: b"IO",
+    };
+    push_text(alloc, table, &owner, b"out_dir", b".")?;
+    push_text(alloc, table, &owner, b"out_vars", b"")?;
+    push_int(alloc, table, &owner, b"out_every", (-1, 1_000_000), b"1")?;
     Ok(())
 }
 
 fn push_checkpoint(alloc: Global, table: &mut List<Param>, n: u32) -> Result<(), Memory>
     ensures { OnOk result (table.new ≡ table.old ++ checkpoint_parameters n) }
 {
+    let owner = Owner {
+        number: n,
+        implementation: b"IO",
+    };
     push_int(
         alloc,
         table,
-        n,
-        b"IO",
+        &owner,
         b"checkpoint_every",
         (-1, 1_000_000),
         b"-1",
     )?;
-    push_int(alloc, table, n, b"IO", b"checkpoint_keep", (1, 7), b"1")?;
-    push_flag(alloc, table, n, b"IO", b"checkpoint_on_terminate", b"no")?;
-    push_text(alloc, table, n, b"IO", b"checkpoint_dir", b".")?;
+    push_int(alloc, table, &owner, b"checkpoint_keep", (1, 7), b"1")?;
+    push_flag(alloc, table, &owner, b"checkpoint_on_terminate", b"no")?;
+    push_text(alloc, table, &owner, b"checkpoint_dir", b".")?;
     Ok(())
 }
 
 fn recover_words(alloc: Global) -> Result<List<Range>, Memory>
-    ensures { IfOk result (λ words. words ≡ kinds.Word (codes "no") ∷ kinds.Word (codes "auto") ∷ kinds.Word (codes "autoprobe") ∷ []) }
+    ensures { IfOk result
+        (λ words. words ≡ kinds.Word (codes "no") ∷ kinds.Word (codes "auto")
+        ∷ kinds.Word (codes "autoprobe") ∷ []) }
 {
     let mut words = List::empty(alloc);
     push_word(alloc, &mut words, b"no")?;
@@ -352,17 +328,25 @@ fn recover_words(alloc: Global) -> Result<List<Range>, Memory>
 fn push_mode(alloc: Global, table: &mut List<Param>, n: u32) -> Result<(), Memory>
     ensures { OnOk result (table.new ≡ table.old ++ recover_parameter n ∷ []) }
 {
+    let owner = Owner {
+        number: n,
+        implementation: b"IO",
+    };
     let words = recover_words(alloc)?;
-    push_keyword(alloc, table, n, b"IO", b"recover", words, b"no")?;
+    push_keyword(alloc, table, &owner, b"recover", words, b"no")?;
     Ok(())
 }
 
 fn push_recover(alloc: Global, table: &mut List<Param>, n: u32) -> Result<(), Memory>
     ensures { OnOk result (table.new ≡ table.old ++ recover_parameters n) }
 {
-    push_text(alloc, table, n, b"IO", b"recover_dir", b".")?;
+    let owner = Owner {
+        number: n,
+        implementation: b"IO",
+    };
+    push_text(alloc, table, &owner, b"recover_dir", b".")?;
     push_mode(alloc, table, n)?;
-    push_flag(alloc, table, n, b"IO", b"checkpoint_ID", b"no")?;
+    push_flag(alloc, table, &owner, b"checkpoint_ID", b"no")?;
     Ok(())
 }
 

@@ -1,13 +1,12 @@
 //! What is read, and no run serves; and limits.
 
-ghost use Rattle.std.specs.Prelude.{◌≡◌, ◌&&◌, not, ◌==◌, find, Some, None, Option};
+ghost use Rattle.std.specs.Prelude.{◌≡◌, ◌&&◌, find, Some, None, Option};
 ghost use Rattle.std.specs.List.{list_any};
-ghost use Rattle.std.specs.Option.{option_copied, option_map};
-ghost use Rattle.cx_bind.specs.Faults.{is_unsupported_type, is_unsupported_kind, is_unsupported_group, is_word, is_unsupported_parameter, unsupported_of, unsupported, is_grid, is_grid_but, first_group, lent, two_dims, over};
-ghost use Rattle.cx_bind.specs.Binding.{Tells};
+ghost use Rattle.std.specs.Option.{option_copied};
+ghost use Rattle.cx_bind.specs.Faults.{is_unsupported_type, is_unsupported_kind, is_unsupported_group, is_word, is_unsupported_line, unsupported_group, unsupported_line, unsupported_of, unsupported, is_grid, is_grid_but, first_group, lent, two_dims, over};
+ghost use Rattle.cx_text.specs.Telling.{Tells};
 ghost use Rattle.cx_bind.specs.declared.thorns.BindFault.TheVariants as faults;
 
-use crate::copies::copy_text;
 use crate::variables::group_full;
 use crate::{BindFault, Thorn};
 use cx_iface::{GType, Group};
@@ -62,7 +61,7 @@ fn has_word(ranges: &[Range]) -> bool
 }
 
 fn is_unsupported_parameter(decl: &ParamDecl) -> bool
-    ensures { result ≡ is_unsupported_parameter decl.now.ptype decl.now.ranges }
+    ensures { result ≡ is_unsupported_line decl.now }
 {
     match decl.ptype {
         PType::Real => true,
@@ -72,19 +71,19 @@ fn is_unsupported_parameter(decl: &ParamDecl) -> bool
 }
 
 fn first_unsupported_parameter(decls: &[ParamDecl]) -> Option<&ParamDecl>
-    ensures { option_copied result ≡ find (λ d. is_unsupported_parameter d.ptype d.ranges) decls.now }
+    ensures { option_copied result ≡ find is_unsupported_line decls.now }
 {
     decls.iter().find(|decl| is_unsupported_parameter(decl))
 }
 
 fn unsupported(alloc: Global, thorn: &Thorn, name: &Text) -> Result<(), BindFault>
-    ensures { Tells (Some (faults.Unsupported thorn.now.name name.now)) result }
+    ensures { Tells faults.Memory (Some (faults.Unsupported thorn.now.name name.now)) result }
 {
-    Err(BindFault::Unsupported(copy_text(alloc, &thorn.name)?, copy_text(alloc, name)?))
+    Err(BindFault::Unsupported(thorn.name.copy(alloc)?, name.copy(alloc)?))
 }
 
 fn check_groups_of(alloc: Global, thorn: &Thorn) -> Result<(), BindFault>
-    ensures { Tells (option_map (λ g. faults.Unsupported thorn.now.name g.name) (find is_unsupported_group thorn.now.interface.groups)) result }
+    ensures { Tells faults.Memory (unsupported_group thorn.now) result }
 {
     match first_unsupported_group(thorn.interface.groups.as_slice()) {
         None => Ok(()),
@@ -93,7 +92,7 @@ fn check_groups_of(alloc: Global, thorn: &Thorn) -> Result<(), BindFault>
 }
 
 fn check_parameters_of(alloc: Global, thorn: &Thorn) -> Result<(), BindFault>
-    ensures { Tells (option_map (λ d. faults.Unsupported thorn.now.name d.name) (find (λ d. is_unsupported_parameter d.ptype d.ranges) thorn.now.params)) result }
+    ensures { Tells faults.Memory (unsupported_line thorn.now) result }
 {
     match first_unsupported_parameter(thorn.params.as_slice()) {
         None => Ok(()),
@@ -102,7 +101,7 @@ fn check_parameters_of(alloc: Global, thorn: &Thorn) -> Result<(), BindFault>
 }
 
 fn check_supported_of(alloc: Global, thorn: &Thorn) -> Result<(), BindFault>
-    ensures { Tells (unsupported_of thorn.now) result }
+    ensures { Tells faults.Memory (unsupported_of thorn.now) result }
 {
     check_groups_of(alloc, thorn)?;
     check_parameters_of(alloc, thorn)
@@ -110,7 +109,7 @@ fn check_supported_of(alloc: Global, thorn: &Thorn) -> Result<(), BindFault>
 
 /// Tests that runs serve each group and each parameter.
 pub(crate) fn check_supported(alloc: Global, thorns: &[Thorn]) -> Result<(), BindFault>
-    ensures { Tells (unsupported thorns.now) result }
+    ensures { Tells faults.Memory (unsupported thorns.now) result }
 {
     for thorn in thorns {
         check_supported_of(alloc, thorn)?;
@@ -118,7 +117,8 @@ pub(crate) fn check_supported(alloc: Global, thorns: &[Thorn]) -> Result<(), Bin
     Ok(())
 }
 
-fn is_grid(gtype: GType) -> bool
+/// Whether a group is of grid functions.
+pub fn is_grid(gtype: GType) -> bool
     ensures { result ≡ is_grid gtype }
 {
     match gtype {
@@ -157,7 +157,7 @@ fn first_grid_of_all(dim: Option<u8>, thorns: &[Thorn]) -> Option<(&Thorn, &Grou
 
 /// Tests that all groups of grid functions have one number of directions.
 pub(crate) fn check_dims(alloc: Global, thorns: &[Thorn]) -> Result<(), BindFault>
-    ensures { Tells (two_dims thorns.now) result }
+    ensures { Tells faults.Memory (two_dims thorns.now) result }
 {
     let Some((thorn, group)) = first_grid_of_all(None, thorns) else {
         return Ok(());
@@ -178,7 +178,7 @@ pub(crate) fn check_limit(
     number: usize,
     limit: usize,
 ) -> Result<(), BindFault>
-    ensures { Tells (over what.now number limit) result }
+    ensures { Tells faults.Memory (over what.now number limit) result }
 {
     if number > limit {
         return Err(BindFault::Limit(Text::from_slice(alloc, what)?, number as u64));

@@ -1,14 +1,11 @@
 //! What thorns use and extend: parameters of the implementations that they share.
 
 ghost use Rattle.std.specs.Prelude.{◌≡◌, Some};
-ghost use Rattle.cx_plan.specs.Names.{full_name};
 ghost use Rattle.cx_plan.specs.Lists.{first_of_each};
-ghost use Rattle.cx_bind.specs.Parameters.{shared_by, shared_parameter};
-ghost use Rattle.cx_bind.specs.Faults.{no_parameter_by, no_parameter, is_same_type, wrong_type_at, wrong_type_by, wrong_type};
-ghost use Rattle.cx_bind.specs.Binding.{Tells};
+ghost use Rattle.cx_bind.specs.Faults.{no_parameter_in, no_parameter, is_same_type, wrong_type_at, wrong_type_in, wrong_type};
+ghost use Rattle.cx_text.specs.Telling.{Tells};
 ghost use Rattle.cx_bind.specs.declared.thorns.BindFault.TheVariants as faults;
 
-use crate::copies::copy_text;
 use crate::known::Known;
 use crate::names::full_name;
 use crate::needs::shared_by;
@@ -24,12 +21,13 @@ fn missing_parameter(
     implementation: &Text,
     decl: &ParamDecl,
 ) -> Result<(), BindFault>
-    ensures { Tells (Some (faults.NoParameter thorn.now.name implementation.now decl.now.name)) result }
+    ensures { Tells faults.Memory
+        (Some (faults.NoParameter thorn.now.name implementation.now decl.now.name)) result }
 {
     Err(BindFault::NoParameter(
-        copy_text(alloc, &thorn.name)?,
-        copy_text(alloc, implementation)?,
-        copy_text(alloc, &decl.name)?,
+        thorn.name.copy(alloc)?,
+        implementation.copy(alloc)?,
+        decl.name.copy(alloc)?,
     ))
 }
 
@@ -39,7 +37,7 @@ fn check_use(
     thorn: &Thorn,
     decl: &ParamDecl,
 ) -> Result<(), BindFault>
-    ensures { Tells (no_parameter_by table.now thorn.now decl.now (shared_by decl.now.scope)) result }
+    ensures { Tells faults.Memory (no_parameter_in table.now thorn.now decl.now) result }
 {
     let Some(implementation) = shared_by(&decl.scope) else {
         return Ok(());
@@ -57,7 +55,8 @@ fn check_uses_of(
     thorn: &Thorn,
     decls: &[ParamDecl],
 ) -> Result<(), BindFault>
-    ensures { Tells (first_of_each (λ d. no_parameter_by table.now thorn.now d (shared_by d.scope)) decls.now) result }
+    ensures { Tells faults.Memory (first_of_each (no_parameter_in table.now thorn.now) decls.now)
+        result }
 {
     for decl in decls {
         check_use(alloc, table, thorn, decl)?;
@@ -71,7 +70,7 @@ pub(crate) fn check_uses(
     table: &KnownTable,
     thorns: &[Thorn],
 ) -> Result<(), BindFault>
-    ensures { Tells (no_parameter table.now thorns.now) result }
+    ensures { Tells faults.Memory (no_parameter table.now thorns.now) result }
 {
     for thorn in thorns {
         check_uses_of(alloc, table, thorn, thorn.params.as_slice())?;
@@ -98,15 +97,12 @@ fn check_type_against(
     decl: &ParamDecl,
     known: &Known,
 ) -> Result<(), BindFault>
-    ensures { Tells (wrong_type_at thorn.now decl.now (Some known.now)) result }
+    ensures { Tells faults.Memory (wrong_type_at thorn.now decl.now (Some known.now)) result }
 {
     if is_same_type(decl.ptype, known.ptype) {
         return Ok(());
     }
-    Err(BindFault::WrongType(
-        copy_text(alloc, &thorn.name)?,
-        copy_text(alloc, &decl.name)?,
-    ))
+    Err(BindFault::WrongType(thorn.name.copy(alloc)?, decl.name.copy(alloc)?))
 }
 
 fn check_type(
@@ -115,7 +111,7 @@ fn check_type(
     thorn: &Thorn,
     decl: &ParamDecl,
 ) -> Result<(), BindFault>
-    ensures { Tells (wrong_type_by table.now thorn.now decl.now (shared_by decl.now.scope)) result }
+    ensures { Tells faults.Memory (wrong_type_in table.now thorn.now decl.now) result }
 {
     let Some(implementation) = shared_by(&decl.scope) else {
         return Ok(());
@@ -133,7 +129,8 @@ fn check_types_of(
     thorn: &Thorn,
     decls: &[ParamDecl],
 ) -> Result<(), BindFault>
-    ensures { Tells (first_of_each (λ d. wrong_type_by table.now thorn.now d (shared_by d.scope)) decls.now) result }
+    ensures { Tells faults.Memory (first_of_each (wrong_type_in table.now thorn.now) decls.now)
+        result }
 {
     for decl in decls {
         check_type(alloc, table, thorn, decl)?;
@@ -147,7 +144,7 @@ pub(crate) fn check_types(
     table: &KnownTable,
     thorns: &[Thorn],
 ) -> Result<(), BindFault>
-    ensures { Tells (wrong_type table.now thorns.now) result }
+    ensures { Tells faults.Memory (wrong_type table.now thorns.now) result }
 {
     for thorn in thorns {
         check_types_of(alloc, table, thorn, thorn.params.as_slice())?;

@@ -2,17 +2,18 @@
 
 ghost use Rattle.std.specs.Prelude.{◌≡◌, ◌++◌, map, Some, IfOk, OnOk};
 ghost use Rattle.std.specs.List.{flat_map, range_with_len};
-ghost use Rattle.cx_bind.specs.Variables.{owner_by, group_full, is_scalar, with_copy, copies, info_of, variable_infos};
+ghost use Rattle.cx_bind.specs.Variables.{owner_by, group_full, is_scalar, with_copy, info_of, copy_infos, group_infos, variable_infos};
 
 use crate::Thorn;
-use crate::names::{bracketed, full_name};
+use crate::names::{bracketed_name, full_name};
 use cx_iface::{Access, GType, Group};
 use cx_plan::VarInfo;
 use cx_text::{List, Memory, Text};
 use std::alloc::Global;
 
-/// What stands before the `::` of the full names of a group and its variables.
-fn owner_by<'a>(access: Access, thorn: &'a Thorn) -> &'a [u8]
+/// What stands before the `::` of the full names of a group and its variables: the thorn for a private group, else the
+/// implementation.
+pub fn owner_by<'a>(access: Access, thorn: &'a Thorn) -> &'a [u8]
     ensures { result.now ≡ owner_by access thorn.now }
 {
     match access {
@@ -37,12 +38,13 @@ fn is_scalar(gtype: GType) -> bool
     }
 }
 
-fn with_copy(alloc: Global, name: &Text, copy: Option<u32>) -> Result<Text, Memory>
+/// The name of a copy of a variable: `name[k]`, or the name alone where there is one copy without a number.
+pub fn with_copy(alloc: Global, name: &[u8], copy: Option<u32>) -> Result<Text, Memory>
     ensures { IfOk result (λ text. text ≡ with_copy name.now copy) }
 {
     match copy {
-        None => Text::from_slice(alloc, name.as_slice()),
-        Some(k) => bracketed(alloc, name.as_slice(), k),
+        None => Text::from_slice(alloc, name),
+        Some(k) => bracketed_name(alloc, name, k),
     }
 }
 
@@ -55,7 +57,7 @@ fn info_of(
 ) -> Result<VarInfo, Memory>
     ensures { IfOk result (λ info. info ≡ info_of thorn.now group.now name.now copy) }
 {
-    let name = with_copy(alloc, name, copy)?;
+    let name = with_copy(alloc, name.as_slice(), copy)?;
     Ok(VarInfo {
         full: full_name(alloc, owner_by(group.access, thorn), name.as_slice())?,
         ctype: group.ctype,
@@ -72,7 +74,10 @@ fn push_numbered(
     name: &Text,
     count: u32,
 ) -> Result<(), Memory>
-    ensures { OnOk result (infos.new ≡ infos.old ++ map (λ k. info_of thorn.now group.now name.now (Some k)) (range_with_len 0 count)) }
+    ensures { OnOk result
+        (infos.new ≡ infos.old
+        ++ map (λ k. info_of thorn.now group.now name.now (Some k))
+        (range_with_len 0 count)) }
 {
     'copies: for k in 0..count {
         infos.push(info_of(alloc, thorn, group, name, Some(k))?)?;
@@ -87,7 +92,7 @@ fn push_copies(
     group: &Group,
     name: &Text,
 ) -> Result<(), Memory>
-    ensures { OnOk result (infos.new ≡ infos.old ++ map (info_of thorn.now group.now name.now) (copies group.now.copies)) }
+    ensures { OnOk result (infos.new ≡ infos.old ++ copy_infos thorn.now group.now name.now) }
 {
     match group.copies {
         None => infos.push(info_of(alloc, thorn, group, name, None)?),
@@ -102,7 +107,8 @@ fn push_names(
     group: &Group,
     names: &[Text],
 ) -> Result<(), Memory>
-    ensures { OnOk result (infos.new ≡ infos.old ++ flat_map (λ name. map (info_of thorn.now group.now name) (copies group.now.copies)) names.now) }
+    ensures { OnOk result
+        (infos.new ≡ infos.old ++ flat_map (copy_infos thorn.now group.now) names.now) }
 {
     'names: for name in names {
         push_copies(alloc, infos, thorn, group, name)?;
@@ -116,7 +122,7 @@ fn push_groups(
     thorn: &Thorn,
     groups: &[Group],
 ) -> Result<(), Memory>
-    ensures { OnOk result (infos.new ≡ infos.old ++ flat_map (λ g. flat_map (λ name. map (info_of thorn.now g name) (copies g.copies)) g.variables) groups.now) }
+    ensures { OnOk result (infos.new ≡ infos.old ++ flat_map (group_infos thorn.now) groups.now) }
 {
     'groups: for group in groups {
         push_names(alloc, infos, thorn, group, group.variables.as_slice())?;
