@@ -1,5 +1,5 @@
 -- Why parameters have no values.
-use Rattle.std.specs.Prelude.{◌≡◌, ◌⊎◌, ℕ, Bool, false, ◌&&◌, List, [], ◌∷◌, ◌++◌, Option, Some, None, Result, Ok, Err, slice_get, if◌then◌else◌}
+use Rattle.std.specs.Prelude.{ℕ, Bool, false, ◌&&◌, List, [], ◌∷◌, ◌++◌, Option, Some, None, slice_get, if◌then◌else◌}
 use Rattle.std.specs.List.{list_any}
 use Rattle.std.specs.Option.{unwrap_or}
 use Rattle.cx_plan.specs.Lists.{or_else, first_of_each}
@@ -12,7 +12,7 @@ use Rattle.cx_bind.specs.declared.thorns.Thorn.{Thorn}
 use Rattle.cx_bind.specs.declared.thorns.Param.{Param}
 use Rattle.cx_bind.specs.Parameters.{parameters}
 use Rattle.cx_values.specs.declared.fault.ValueFault.{ValueFault}
-use Rattle.cx_values.specs.declared.fault.ValueFault.TheVariants.{BadDefault, UnknownParam, Index, BadSpelling, OutOfRange, Twice, Memory}
+use Rattle.cx_values.specs.declared.fault.ValueFault.TheVariants.{BadDefault, UnknownParam, Index, BadSpelling, OutOfRange, Twice}
 use Rattle.cx_values.specs.Spelling.{spelled}
 use Rattle.cx_values.specs.Naming.{Names, element, written, names}
 use Rattle.cx_values.specs.Special.{is_misspelled, sets, checkpoint_dir, is_stated}
@@ -84,8 +84,3 @@ fault_by ps names settings =
 
 unfoldable pub assign_fault : List Thorn → List Setting → Option ValueFault
 assign_fault thorns settings = fault_by (parameters thorns) (names thorns) settings
-
--- A test tells a fault, or its want of memory, and passes where there is none.
-abbrev pub Tells : {X : Type 0} → Option ValueFault → Result X ValueFault → Type 0
-Tells fault (Ok x) = fault ≡ None
-Tells fault (Err e) = (e ≡ Memory) ⊎ (fault ≡ Some e)

@@ -4,13 +4,13 @@ use Rattle.std.specs.List.{list_all, slice_split}
 use Rattle.std.specs.Option.{unwrap_or}
 use Rattle.std.specs.Str.{bytes_eq}
 use Rattle.cx_text.specs.Bytes.{is_blank}
+use Rattle.cx_text.specs.Digits.{natural_in}
 use Rattle.cx_text.specs.Lexemes.{same_name, among}
 use Rattle.cx_plan.specs.Lists.{first_of_each}
 use Rattle.cx_param.specs.declared.ranges.Value.{Value}
 use Rattle.cx_param.specs.declared.ranges.Value.TheVariants.{Number, Flag, Text}
 use Rattle.cx_parfile.specs.declared.settings.Setting.{Setting}
 use Rattle.cx_bind.specs.declared.thorns.Param.{Param}
-use Rattle.cx_values.specs.Spelling.{natural_in}
 use Rattle.cx_values.specs.Naming.{Names, Target, target}
 
 -- ---- the widths of parts: numbers from 0 to 16777216 with blanks between

@@ -1,9 +1,8 @@
 -- The values that texts spell, by the type of a parameter.
-use Rattle.std.specs.Prelude.{ℕ, ◌==◌, Bool, true, false, ◌&&◌, nat_le, ℤ, pos, neg_ℤ, List, [], ◌∷◌, codes, Option, Some, None, find, position, if◌then◌else◌}
-use Rattle.std.specs.List.{list_all}
+use Rattle.std.specs.Prelude.{ℕ, ◌==◌, Bool, true, false, ℤ, pos, neg_ℤ, List, [], ◌∷◌, codes, Option, Some, None, find, position, if◌then◌else◌}
 use Rattle.std.specs.Option.{option_map, unwrap_or}
-use Rattle.std.specs.Char.{is_ascii_digit}
-use Rattle.cx_text.specs.Lexemes.{same_name, among, decimal_from}
+use Rattle.cx_text.specs.Lexemes.{same_name, among}
+use Rattle.cx_text.specs.Digits.{natural_in}
 use Rattle.cx_param.specs.Numbers.{lowest, highest}
 use Rattle.cx_param.specs.declared.declarations.PType.{PType}
 use Rattle.cx_param.specs.declared.declarations.PType.TheVariants.{Boolean, Int, Keyword, String, Real}
@@ -14,14 +13,6 @@ use Rattle.cx_param.specs.declared.ranges.Value.TheVariants.{Number, Flag, Text}
 use Rattle.cx_values.specs.declared.values.Held.{Held}
 
 -- ---- numbers
-
-abbrev pub is_digits : List ℕ → Bool
-is_digits [] = false
-is_digits (b ∷ bs) = list_all is_ascii_digit (b ∷ bs)
-
--- the number of one digit or more, if it isn't above `high`
-abbrev pub natural_in : ℕ → List ℕ → Option ℕ
-natural_in high text = if is_digits text && nat_le (decimal_from 0 text) high then Some (decimal_from 0 text) else None
 
 -- a number of 64 signed bits: digits, or `-` and digits
 abbrev pub number_in : List ℕ → Option ℤ

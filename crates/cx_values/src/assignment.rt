@@ -2,8 +2,10 @@
 
 ghost use Rattle.std.specs.Prelude.{◌≡◌, IfOk};
 ghost use Rattle.cx_bind.specs.NamePlaces.{place_of};
-ghost use Rattle.cx_values.specs.Faults.{fault_by, Tells};
+ghost use Rattle.cx_text.specs.Telling.{Tells};
+ghost use Rattle.cx_values.specs.Faults.{fault_by};
 ghost use Rattle.cx_values.specs.Assigned.{assigned_by, Assigns};
+ghost use Rattle.cx_values.specs.declared.fault.ValueFault.TheVariants as faults;
 
 use crate::fault::ValueFault;
 use crate::given::all_given;
@@ -23,8 +25,11 @@ fn assign_by(
     thorns: &[Thorn],
     settings: &[Setting],
 ) -> Result<Values, ValueFault>
-    ensures told { Tells (fault_by params.now (place_of names.now) settings.now) result }
-    ensures values { IfOk result (λ values. values ≡ assigned_by params.now (place_of names.now) thorns.now settings.now) }
+    ensures told { Tells faults.Memory (fault_by params.now (place_of names.now) settings.now)
+        result }
+    ensures values { IfOk result
+        (λ values. values
+        ≡ assigned_by params.now (place_of names.now) thorns.now settings.now) }
 {
     check_defaults(alloc, params)?;
     let dir = checkpoint_dir(alloc, params, names, settings)?;

@@ -1,19 +1,20 @@
 //! What settings give, and their faults.
 
 ghost use Rattle.std.specs.Prelude.{◌≡◌, [], ◌∷◌, Some, IfOk};
-ghost use Rattle.std.specs.List.{list_any, flat_map};
-ghost use Rattle.std.specs.Option.{option_copied};
+ghost use Rattle.std.specs.List.{flat_map};
 ghost use Rattle.cx_bind.specs.NamePlaces.{place_of};
-ghost use Rattle.cx_values.specs.Spelling.{spelled as spelled_by, held_by};
+ghost use Rattle.cx_values.specs.Spelling.{spelled, held_by};
 ghost use Rattle.cx_values.specs.Naming.{target_in};
-ghost use Rattle.cx_values.specs.Faults.{range_fault, value_fault, element_fault, parameter_fault, setting_fault, settings_fault, twice_fault, Tells};
+ghost use Rattle.cx_text.specs.Telling.{Tells};
+ghost use Rattle.cx_values.specs.Faults.{range_fault, value_fault, element_fault, parameter_fault, setting_fault, settings_fault, twice_fault};
 ghost use Rattle.cx_values.specs.Assigned.{given_before, given_by, given_of};
+ghost use Rattle.cx_values.specs.declared.fault.ValueFault.TheVariants as faults;
 
 use crate::fault::ValueFault;
 use crate::lookups::element;
-use crate::settings::named;
+use crate::settings::find_parameter;
 use crate::special::{is_misspelled, is_stated};
-use crate::spelling::{held, spelled};
+use crate::spelling::{held_value, value_of_text};
 use crate::values::{Given, Held};
 use cx_bind::{NamePlaces, Param};
 use cx_param::{Value, allows};
@@ -23,7 +24,7 @@ use std::alloc::Global;
 
 /// Tests that a value lies in the ranges of a parameter.
 fn check_range(dir: &[u8], param: &Param, line: u32, value: &Value) -> Result<(), ValueFault>
-    ensures { Tells (range_fault dir.now param.now line value.now) result }
+    ensures { Tells faults.Memory (range_fault dir.now param.now line value.now) result }
 {
     if allows(&param.ranges, value) && is_stated(dir, param.full.as_slice(), value) {
         return Ok(());
@@ -32,20 +33,20 @@ fn check_range(dir: &[u8], param: &Param, line: u32, value: &Value) -> Result<()
 }
 
 /// The value that a text spells for a parameter.
-fn value_spelled(
+fn setting_value(
     alloc: Global,
     dir: &[u8],
     param: &Param,
     line: u32,
     text: &[u8],
 ) -> Result<Value, ValueFault>
-    ensures told { Tells (value_fault dir.now param.now line text.now) result }
-    ensures value { IfOk result (λ value. spelled_by param.now.decl.ptype text.now ≡ Some value) }
+    ensures told { Tells faults.Memory (value_fault dir.now param.now line text.now) result }
+    ensures value { IfOk result (λ value. spelled param.now.decl.ptype text.now ≡ Some value) }
 {
     if is_misspelled(alloc, param.full.as_slice(), text)? {
         return Err(ValueFault::BadSpelling(line));
     }
-    let Some(value) = spelled(alloc, param.decl.ptype, text)? else {
+    let Some(value) = value_of_text(alloc, param.decl.ptype, text)? else {
         return Err(ValueFault::BadSpelling(line));
     };
     check_range(dir, param, line, &value)?;
@@ -54,12 +55,14 @@ fn value_spelled(
 
 /// What a parameter holds that a setting sets.
 fn held_set(alloc: Global, dir: &[u8], param: &Param, setting: &Setting) -> Result<Held, ValueFault>
-    ensures told { Tells (value_fault dir.now param.now setting.now.line setting.now.value) result }
-    ensures held { IfOk result (λ one. one ≡ held_by param.now.decl.ptype param.now.ranges setting.now.value) }
+    ensures told { Tells faults.Memory
+        (value_fault dir.now param.now setting.now.line setting.now.value) result }
+    ensures held { IfOk result
+        (λ one. one ≡ held_by param.now.decl.ptype param.now.ranges setting.now.value) }
 {
     let text = setting.value.as_slice();
-    let value = value_spelled(alloc, dir, param, setting.line, text)?;
-    Ok(held(alloc, param.decl.ptype, param.ranges.as_slice(), value)?)
+    let value = setting_value(alloc, dir, param, setting.line, text)?;
+    Ok(held_value(alloc, param.decl.ptype, param.ranges.as_slice(), value)?)
 }
 
 /// Whether an element is set already.
@@ -72,7 +75,8 @@ fn is_set(given: &[Given], parameter: usize, element: u32) -> bool
 }
 
 fn check_new(given: &[Given], parameter: usize, element: u32, line: u32) -> Result<(), ValueFault>
-    ensures { Tells (twice_fault (given_before given.now parameter element) line) result }
+    ensures { Tells faults.Memory (twice_fault (given_before given.now parameter element) line)
+        result }
 {
     if is_set(given, parameter, element) {
         return Err(ValueFault::Twice(line));
@@ -80,24 +84,26 @@ fn check_new(given: &[Given], parameter: usize, element: u32, line: u32) -> Resu
     Ok(())
 }
 
-/// What a setting gives an element of a parameter.
+/// What a setting gives its target: an element of a parameter, by the parameter's place.
 fn given_element(
     alloc: Global,
     dir: &[u8],
     given: &[Given],
     setting: &Setting,
-    parameter: usize,
     param: &Param,
-    element: u32,
+    target: (usize, u32),
 ) -> Result<Given, ValueFault>
-    ensures told { Tells (element_fault dir.now (given_before given.now) setting.now parameter param.now (Some element)) result }
-    ensures given { IfOk result (λ one. one ∷ [] ≡ given_of setting.now.value (Some (parameter, element)) (Some param.now)) }
+    ensures told { Tells faults.Memory
+        (element_fault dir.now (given_before given.now) setting.now target.0 param.now
+        (Some target.1)) result }
+    ensures given { IfOk result
+        (λ one. one ∷ [] ≡ given_of setting.now.value (Some target) (Some param.now)) }
 {
     let held = held_set(alloc, dir, param, setting)?;
-    check_new(given, parameter, element, setting.line)?;
+    check_new(given, target.0, target.1, setting.line)?;
     Ok(Given {
-        parameter,
-        element,
+        parameter: target.0,
+        element: target.1,
         held,
     })
 }
@@ -111,12 +117,17 @@ fn given_parameter(
     parameter: usize,
     param: &Param,
 ) -> Result<Given, ValueFault>
-    ensures told { Tells (parameter_fault dir.now (given_before given.now) setting.now parameter (Some param.now)) result }
-    ensures given { IfOk result (λ one. one ∷ [] ≡ given_of setting.now.value (target_in setting.now.index parameter (Some param.now)) (Some param.now)) }
+    ensures told { Tells faults.Memory
+        (parameter_fault dir.now (given_before given.now) setting.now parameter
+        (Some param.now)) result }
+    ensures given { IfOk result
+        (λ one. one ∷ []
+        ≡ given_of setting.now.value (target_in setting.now.index parameter (Some param.now))
+        (Some param.now)) }
 {
     match element(param.decl.length, setting.index) {
         None => Err(ValueFault::Index(setting.line)),
-        Some(element) => { given_element(alloc, dir, given, setting, parameter, param, element) }
+        Some(element) => given_element(alloc, dir, given, setting, param, (parameter, element)),
     }
 }
 
@@ -129,10 +140,13 @@ fn given_next(
     given: &[Given],
     setting: &Setting,
 ) -> Result<Given, ValueFault>
-    ensures told { Tells (setting_fault params.now (place_of names.now) dir.now (given_before given.now) setting.now) result }
-    ensures given { IfOk result (λ one. one ∷ [] ≡ given_by params.now (place_of names.now) setting.now) }
+    ensures told { Tells faults.Memory
+        (setting_fault params.now (place_of names.now) dir.now (given_before given.now)
+        setting.now) result }
+    ensures given { IfOk result
+        (λ one. one ∷ [] ≡ given_by params.now (place_of names.now) setting.now) }
 {
-    let Some(parameter) = named(alloc, names, setting)? else {
+    let Some(parameter) = find_parameter(alloc, names, setting)? else {
         return Err(ValueFault::UnknownParam(setting.line));
     };
     match params.get(parameter) {
@@ -149,8 +163,10 @@ pub(crate) fn all_given(
     dir: &[u8],
     settings: &[Setting],
 ) -> Result<List<Given>, ValueFault>
-    ensures told { Tells (settings_fault params.now (place_of names.now) dir.now [] settings.now) result }
-    ensures given { IfOk result (λ given. given ≡ flat_map (given_by params.now (place_of names.now)) settings.now) }
+    ensures told { Tells faults.Memory
+        (settings_fault params.now (place_of names.now) dir.now [] settings.now) result }
+    ensures given { IfOk result
+        (λ given. given ≡ flat_map (given_by params.now (place_of names.now)) settings.now) }
 {
     let mut given = List::empty(alloc);
     'settings: for setting in settings {

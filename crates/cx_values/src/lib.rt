@@ -10,8 +10,6 @@ mod settings;
 mod slots;
 mod special;
 mod spelling;
-#[cfg(test)]
-mod tests;
 mod uses;
 mod values;
 

@@ -1,12 +1,12 @@
 //! What is told of values.
 
-ghost use Rattle.std.specs.Prelude.{◌≡◌, ◌++◌, Some, find, position};
+ghost use Rattle.std.specs.Prelude.{◌≡◌, Some, find, position};
 ghost use Rattle.std.specs.Option.{option_copied};
 ghost use Rattle.cx_text.specs.Lexemes.{same_name};
 ghost use Rattle.cx_plan.specs.Lists.{or_else};
 ghost use Rattle.cx_expr.specs.Known.{known};
-ghost use Rattle.cx_values.specs.Naming.{element as element_by};
-ghost use Rattle.cx_values.specs.Assigned.{is_given, held_in as told_in, held_at as told_at, holds, held_named as told_named, get as told, number as number_told, known_value, known_held, used_as as place_used, finds_in, thorn_finds};
+ghost use Rattle.cx_values.specs.Naming.{element};
+ghost use Rattle.cx_values.specs.Assigned.{is_given, held_in, holds, held_named, get, number, known_value, known_held, used_as, thorn_finds};
 
 use crate::values::{Given, Held, Slot, Use, Values};
 use cx_expr::{Found, Lookup};
@@ -15,7 +15,7 @@ use cx_text::{Text, same_name};
 
 /// The element that an index names.
 pub(crate) fn element(length: Option<u32>, index: Option<u32>) -> Option<u32>
-    ensures { result ≡ element_by length index }
+    ensures { result ≡ element length index }
 {
     match (length, index) {
         (None, None) => Some(0),
@@ -33,7 +33,7 @@ fn given_to(given: &[Given], parameter: usize, element: u32) -> Option<&Given>
 }
 
 fn held_in<'a>(given: &'a [Given], parameter: usize, slot: &'a Slot, element: u32) -> &'a Held
-    ensures { result.now ≡ told_in given.now parameter slot.now element }
+    ensures { result.now ≡ held_in given.now parameter slot.now element }
 {
     match given_to(given, parameter, element) {
         Some(one) => &one.held,
@@ -41,7 +41,7 @@ fn held_in<'a>(given: &'a [Given], parameter: usize, slot: &'a Slot, element: u3
     }
 }
 
-fn place_named(slots: &[Slot], full: &[u8]) -> Option<usize>
+fn find_place(slots: &[Slot], full: &[u8]) -> Option<usize>
     ensures { result ≡ position (λ s. same_name s.full full.now) slots.now }
 {
     slots
@@ -49,16 +49,16 @@ fn place_named(slots: &[Slot], full: &[u8]) -> Option<usize>
         .position(|slot| same_name(slot.full.as_slice(), full))
 }
 
-fn use_named<'a>(uses: &'a [Use], name: &[u8]) -> Option<&'a Use>
+fn find_use<'a>(uses: &'a [Use], name: &[u8]) -> Option<&'a Use>
     ensures { option_copied result ≡ find (λ u. same_name u.name name.now) uses.now }
 {
     uses.iter().find(|one| same_name(one.name.as_slice(), name))
 }
 
 fn used_as(uses: &[Use], name: &[u8]) -> Option<usize>
-    ensures { result ≡ place_used name.now uses.now }
+    ensures { result ≡ used_as name.now uses.now }
 {
-    match use_named(uses, name) {
+    match find_use(uses, name) {
         Some(one) => Some(one.parameter),
         None => None,
     }
@@ -66,7 +66,7 @@ fn used_as(uses: &[Use], name: &[u8]) -> Option<usize>
 
 /// The parameter that a name names among a thorn's own uses, else among those of all thorns.
 fn used_by_any(uses: &[Use], globals: &[Use], name: &[u8]) -> Option<usize>
-    ensures { result ≡ or_else (place_used name.now uses.now) (place_used name.now globals.now) }
+    ensures { result ≡ or_else (used_as name.now uses.now) (used_as name.now globals.now) }
 {
     match used_as(uses, name) {
         Some(parameter) => Some(parameter),
@@ -75,7 +75,7 @@ fn used_by_any(uses: &[Use], globals: &[Use], name: &[u8]) -> Option<usize>
 }
 
 impl Values {
-    fn held(&self, index: Option<u32>, parameter: usize) -> Option<&Held>
+    fn find_held(&self, index: Option<u32>, parameter: usize) -> Option<&Held>
         ensures { option_copied result ≡ holds self.now index parameter }
     {
         let slot = self.slots.as_slice().get(parameter)?;
@@ -83,11 +83,11 @@ impl Values {
         Some(held_in(self.given.as_slice(), parameter, slot, element))
     }
 
-    fn held_named(&self, full: &Text, index: Option<u32>) -> Option<&Held>
-        ensures { option_copied result ≡ told_named self.now full.now index }
+    fn find_by_name(&self, full: &Text, index: Option<u32>) -> Option<&Held>
+        ensures { option_copied result ≡ held_named self.now full.now index }
     {
-        let parameter = place_named(self.slots.as_slice(), full.as_slice())?;
-        self.held(index, parameter)
+        let parameter = find_place(self.slots.as_slice(), full.as_slice())?;
+        self.find_held(index, parameter)
     }
 
     /// The value of a parameter by its full name, or with an index that of an element of an array.
@@ -95,9 +95,9 @@ impl Values {
     /// None where no parameter has this full name, where an array is asked for without an index or another parameter
     /// with one, and where the index isn't below the array's length.
     pub fn get(&self, full: &Text, index: Option<u32>) -> Option<&Value>
-        ensures { option_copied result ≡ told self.now full.now index }
+        ensures { option_copied result ≡ get self.now full.now index }
     {
-        match self.held_named(full, index) {
+        match self.find_by_name(full, index) {
             Some(held) => Some(&held.value),
             None => None,
         }
@@ -108,9 +108,9 @@ impl Values {
     ///
     /// None where `get` answers None, and for a `STRING`.
     pub fn number(&self, full: &Text, index: Option<u32>) -> Option<i64>
-        ensures { result ≡ number_told self.now full.now index }
+        ensures { result ≡ number self.now full.now index }
     {
-        match self.held_named(full, index) {
+        match self.find_by_name(full, index) {
             Some(held) => held.number,
             None => None,
         }
@@ -137,7 +137,7 @@ pub struct ThornView<'a> {
     pub thorn: u32,
 }
 
-fn found(held: &Held) -> Found<'_>
+fn found_value(held: &Held) -> Found<'_>
     ensures { known result ≡ known_value held.now.value }
 {
     match &held.value {
@@ -148,13 +148,14 @@ fn found(held: &Held) -> Found<'_>
 }
 
 impl ThornView<'_> {
-    fn held(&self, name: &Text, index: Option<u32>) -> Option<&Held>
-        ensures { known_held (option_copied result) ≡ thorn_finds self.now.values.now self.now.thorn name.now index }
+    fn find_held(&self, name: &Text, index: Option<u32>) -> Option<&Held>
+        ensures { known_held (option_copied result)
+            ≡ thorn_finds self.now.values.now self.now.thorn name.now index }
     {
         let uses = self.values.uses.as_slice().get(self.thorn as usize)?;
         let globals = self.values.globals.as_slice();
         let parameter = used_by_any(uses.as_slice(), globals, name.as_slice())?;
-        self.values.held(index, parameter)
+        self.values.find_held(index, parameter)
     }
 }
 
@@ -162,8 +163,8 @@ impl Lookup for ThornView<'_> {
     ghost finds = { λ v name index. thorn_finds v.values.now v.thorn name index };
 
     fn find(&self, name: &Text, index: Option<u32>) -> Found<'_> {
-        match self.held(name, index) {
-            Some(held) => found(held),
+        match self.find_held(name, index) {
+            Some(held) => found_value(held),
             None => Found::Missing,
         }
     }

@@ -69,7 +69,9 @@ fn name_of_thorn(
     named: bool,
     param: &Param,
 ) -> Result<Option<Text>, Memory>
-    ensures { IfOk result (λ name. name ≡ name_if named (full_name (thorn_name thorns.now param.now) param.now.decl.name)) }
+    ensures { IfOk result
+        (λ name. name
+        ≡ name_if named (full_name (thorn_name thorns.now param.now) param.now.decl.name)) }
 {
     if !named {
         return Ok(None);
@@ -119,7 +121,8 @@ fn add_naming(
     param: &Param,
     place: usize,
 ) -> Result<(), Memory>
-    ensures { OnOk result (Adds (naming_of place (name_by thorns.now way param.now)) places.old places.new) }
+    ensures { OnOk result
+        (Adds (naming_of place (name_by thorns.now way param.now)) places.old places.new) }
 {
     match name_by(alloc, thorns, way, param)? {
         Some(name) => add_name(alloc, places, name.as_slice(), place),
@@ -134,7 +137,9 @@ fn add_namings(
     way: Way,
     params: &[Param],
 ) -> Result<(), Memory>
-    ensures { OnOk result (Adds (namings_by thorns.now (enumerate_from 0 params.now) way) places.old places.new) }
+    ensures { OnOk result
+        (Adds (namings_by thorns.now (enumerate_from 0 params.now) way) places.old
+        places.new) }
 {
     'params: for (place, param) in params.iter().enumerate() {
         add_naming(alloc, places, thorns, way, param, place)?;
@@ -148,7 +153,9 @@ pub(crate) fn all_names(
     thorns: &[Thorn],
     params: &[Param],
 ) -> Result<NamePlaces, Memory>
-    ensures { IfOk result (λ places. (name : List ℕ) → place_of places name ≡ names_by thorns.now params.now name) }
+    ensures { IfOk result
+        (λ places. (name : List ℕ) → place_of places name
+        ≡ names_by thorns.now params.now name) }
 {
     let mut places = NamePlaces::new(alloc);
     add_namings(alloc, &mut places, thorns, Way::Full, params)?;

@@ -4,8 +4,8 @@ ghost use Rattle.std.specs.Prelude.{◌≡◌, None, Some, codes, IfOk};
 ghost use Rattle.std.specs.Option.{option_copied, unwrap_or};
 ghost use Rattle.cx_plan.specs.Lists.{first_of_each};
 ghost use Rattle.cx_bind.specs.NamePlaces.{place_of};
-ghost use Rattle.cx_values.specs.Naming.{written as written_by, target_in, target as target_by};
-ghost use Rattle.cx_values.specs.Special.{is_target, sets as sets_by, text_by, checkpoint_dir};
+ghost use Rattle.cx_values.specs.Naming.{written, target_in, target};
+ghost use Rattle.cx_values.specs.Special.{is_target, sets, text_by, checkpoint_dir};
 
 use crate::lookups::element;
 use cx_bind::{NamePlaces, Param, full_name};
@@ -14,8 +14,8 @@ use cx_text::{Memory, Text};
 use std::alloc::Global;
 
 /// The name of a setting as it is written.
-fn written(alloc: Global, setting: &Setting) -> Result<Text, Memory>
-    ensures { IfOk result (λ name. name ≡ written_by setting.now.owner setting.now.name) }
+fn setting_name(alloc: Global, setting: &Setting) -> Result<Text, Memory>
+    ensures { IfOk result (λ name. name ≡ written setting.now.owner setting.now.name) }
 {
     match &setting.owner {
         None => Text::from_slice(alloc, setting.name.as_slice()),
@@ -24,14 +24,15 @@ fn written(alloc: Global, setting: &Setting) -> Result<Text, Memory>
 }
 
 /// The place of the parameter that a setting names.
-pub(crate) fn named(
+pub(crate) fn find_parameter(
     alloc: Global,
     names: &NamePlaces,
     setting: &Setting,
 ) -> Result<Option<usize>, Memory>
-    ensures { IfOk result (λ place. place ≡ place_of names.now (written_by setting.now.owner setting.now.name)) }
+    ensures { IfOk result
+        (λ place. place ≡ place_of names.now (written setting.now.owner setting.now.name)) }
 {
-    let name = written(alloc, setting)?;
+    let name = setting_name(alloc, setting)?;
     names.get(alloc, name.as_slice())
 }
 
@@ -55,9 +56,9 @@ fn target(
     names: &NamePlaces,
     setting: &Setting,
 ) -> Result<Option<(usize, u32)>, Memory>
-    ensures { IfOk result (λ at. at ≡ target_by params.now (place_of names.now) setting.now) }
+    ensures { IfOk result (λ at. at ≡ target params.now (place_of names.now) setting.now) }
 {
-    match named(alloc, names, setting)? {
+    match find_parameter(alloc, names, setting)? {
         None => Ok(None),
         Some(place) => Ok(target_in(setting.index, place, params.get(place))),
     }
@@ -80,7 +81,7 @@ fn sets(
     place: usize,
     setting: &Setting,
 ) -> Result<bool, Memory>
-    ensures { IfOk result (λ set. set ≡ sets_by params.now (place_of names.now) place 0 setting.now) }
+    ensures { IfOk result (λ set. set ≡ sets params.now (place_of names.now) place 0 setting.now) }
 {
     Ok(is_target(place, 0, target(alloc, params, names, setting)?))
 }
@@ -93,7 +94,9 @@ fn text_set<'a>(
     place: usize,
     settings: &'a [Setting],
 ) -> Result<Option<&'a Text>, Memory>
-    ensures { IfOk result (λ text. option_copied text ≡ first_of_each (text_by params.now (place_of names.now) place) settings.now) }
+    ensures { IfOk result
+        (λ text. option_copied text
+        ≡ first_of_each (text_by params.now (place_of names.now) place) settings.now) }
 {
     for setting in settings {
         if sets(alloc, params, names, place, setting)? {
@@ -119,7 +122,8 @@ pub(crate) fn checkpoint_dir(
     names: &NamePlaces,
     settings: &[Setting],
 ) -> Result<Text, Memory>
-    ensures { IfOk result (λ dir. dir ≡ checkpoint_dir params.now (place_of names.now) settings.now) }
+    ensures { IfOk result
+        (λ dir. dir ≡ checkpoint_dir params.now (place_of names.now) settings.now) }
 {
     match names.get(alloc, b"IO::checkpoint_dir")? {
         None => text_or_here(alloc, None),

@@ -2,12 +2,14 @@
 
 ghost use Rattle.std.specs.Prelude.{◌≡◌, map, IfOk};
 ghost use Rattle.cx_plan.specs.Lists.{first_of_each};
-ghost use Rattle.cx_values.specs.Faults.{default_text, is_allowed, default_fault, Tells};
-ghost use Rattle.cx_values.specs.Assigned.{default_of, slot as slot_of};
+ghost use Rattle.cx_text.specs.Telling.{Tells};
+ghost use Rattle.cx_values.specs.Faults.{default_text, is_allowed, default_fault};
+ghost use Rattle.cx_values.specs.Assigned.{default_of, slot};
+ghost use Rattle.cx_values.specs.declared.fault.ValueFault.TheVariants as faults;
 
 use crate::fault::ValueFault;
 use crate::special::is_recover_dir;
-use crate::spelling::{held_by, spelled};
+use crate::spelling::{held_by, value_of_text};
 use crate::values::Slot;
 use cx_bind::Param;
 use cx_param::{ParamDecl, Range, Value, allows};
@@ -33,9 +35,9 @@ fn is_allowed(ranges: &List<Range>, value: &Option<Value>) -> bool
 }
 
 fn check_default(alloc: Global, param: &Param) -> Result<(), ValueFault>
-    ensures { Tells (default_fault param.now) result }
+    ensures { Tells faults.Memory (default_fault param.now) result }
 {
-    let value = spelled(alloc, param.decl.ptype, default_text(&param.decl))?;
+    let value = value_of_text(alloc, param.decl.ptype, default_text(&param.decl))?;
     if is_allowed(&param.decl.ranges, &value) {
         return Ok(());
     }
@@ -44,7 +46,7 @@ fn check_default(alloc: Global, param: &Param) -> Result<(), ValueFault>
 
 /// Tests that each default is a value in the ranges of its declaration.
 pub(crate) fn check_defaults(alloc: Global, params: &[Param]) -> Result<(), ValueFault>
-    ensures { Tells (first_of_each default_fault params.now) result }
+    ensures { Tells faults.Memory (first_of_each default_fault params.now) result }
 {
     for param in params {
         check_default(alloc, param)?;
@@ -64,7 +66,7 @@ fn default_of<'a>(dir: &'a [u8], param: &'a Param) -> &'a [u8]
 }
 
 fn slot(alloc: Global, dir: &[u8], param: &Param) -> Result<Slot, Memory>
-    ensures { IfOk result (λ slot. slot ≡ slot_of dir.now param.now) }
+    ensures { IfOk result (λ one. one ≡ slot dir.now param.now) }
 {
     let text = default_of(dir, param);
     Ok(Slot {
@@ -76,7 +78,7 @@ fn slot(alloc: Global, dir: &[u8], param: &Param) -> Result<Slot, Memory>
 
 /// All parameters with their defaults.
 pub(crate) fn all_slots(alloc: Global, dir: &[u8], params: &[Param]) -> Result<List<Slot>, Memory>
-    ensures { IfOk result (λ slots. slots ≡ map (slot_of dir.now) params.now) }
+    ensures { IfOk result (λ slots. slots ≡ map (slot dir.now) params.now) }
 {
     let mut slots = List::empty(alloc);
     'params: for param in params {

@@ -1,36 +1,22 @@
 //! The built-in parameters whose values have rules of their own.
 
 ghost use Rattle.std.specs.Prelude.{◌≡◌, map, codes, IfOk};
-ghost use Rattle.std.specs.List.{list_all, slice_split};
-ghost use Rattle.cx_text.specs.Bytes.{is_blank};
+ghost use Rattle.std.specs.List.{list_all};
 ghost use Rattle.cx_text.specs.Lexemes.{same_name, among};
 ghost use Rattle.cx_values.specs.Special.{widths_names, is_width, is_widths, is_misspelled, is_text, is_off, is_stated};
 
-use crate::spelling::natural_in;
 use cx_param::Value;
-use cx_text::{Memory, same_name};
-use std::alloc::{AllocError, Global};
+use cx_text::{Memory, natural_in, parts_between_blanks, same_name};
+use std::alloc::Global;
 
 /// The greatest width of a part.
 const MAX_WIDTH: u64 = 16_777_216;
-
-fn is_blank(byte: u8) -> bool
-    ensures { result ≡ is_blank byte }
-{
-    byte == b' ' || byte == b'\t' || byte == b'\r'
-}
 
 /// Whether a part of a text between blanks is a width, or nothing.
 fn is_width(word: &[u8]) -> bool
     ensures { result ≡ is_width word.now }
 {
     word.is_empty() || natural_in(MAX_WIDTH, word).is_some()
-}
-
-fn parts_of(alloc: Global, text: &[u8]) -> Result<Vec<&[u8]>, AllocError>
-    ensures { IfOk result (λ parts. map (λ x. x.now) parts.items ≡ slice_split is_blank text.now) }
-{
-    text.split(|byte| is_blank(*byte)).collect(alloc)
 }
 
 fn are_widths(parts: &[&[u8]]) -> bool
@@ -47,7 +33,7 @@ fn are_widths(parts: &[&[u8]]) -> bool
 fn is_widths(alloc: Global, text: &[u8]) -> Result<bool, Memory>
     ensures { IfOk result (λ widths. widths ≡ is_widths text.now) }
 {
-    let parts = parts_of(alloc, text)?;
+    let parts = parts_between_blanks(alloc, text)?;
     Ok(are_widths(&parts))
 }
 

@@ -1,15 +1,13 @@
 //! The values that texts spell.
 
-ghost use Rattle.std.specs.Prelude.{◌≡◌, ◌≤◌, ◌<◌, ◌^◌, pos, neg_ℤ, length, find, position, IfOk};
-ghost use Rattle.std.specs.List.{list_all};
+ghost use Rattle.std.specs.Prelude.{◌≡◌, ◌<◌, ◌^◌, pos, length, find, position, IfOk};
 ghost use Rattle.std.specs.Option.{option_copied, option_map};
-ghost use Rattle.std.specs.Char.{is_ascii_digit};
 ghost use Rattle.cx_text.specs.Lexemes.{among};
-ghost use Rattle.cx_values.specs.Spelling.{is_digits, natural_in, number_in, yes_words, no_words, flag_in, spelled as spelled_by, is_word as is_word_of, word_or, as_declared, number_by, held, held_by};
+ghost use Rattle.cx_values.specs.Spelling.{number_in, yes_words, no_words, flag_in, spelled, is_word, word_or, as_declared, number_by, held, held_by};
 
 use crate::values::Held;
 use cx_param::{PType, Range, Value};
-use cx_text::{Memory, Text, decimal, same_name};
+use cx_text::{Memory, Text, natural_in, negative, same_name};
 use std::alloc::Global;
 
 /// How far a number of 64 signed bits reaches above 0, and below it.
@@ -17,49 +15,12 @@ const HIGHEST: u64 = 9_223_372_036_854_775_807;
 
 const LOWEST: u64 = 9_223_372_036_854_775_808;
 
-fn has_digits(text: &[u8]) -> bool
-    ensures { result ≡ list_all is_ascii_digit text.now }
-{
-    text.iter().all(|byte| byte.is_ascii_digit())
-}
-
-fn is_digits(text: &[u8]) -> bool
-    ensures { result ≡ is_digits text.now }
-{
-    match text {
-        [] => false,
-        [_, ..] => has_digits(text),
-    }
-}
-
-/// The number of one digit or more, if it isn't above `high`.
-pub(crate) fn natural_in(high: u64, text: &[u8]) -> Option<u64>
-    ensures { result ≡ natural_in high text.now }
-{
-    if is_digits(text) {
-        decimal(text, high)
-    } else {
-        None
-    }
-}
-
-/// The number that lies so far below 0.
-fn negated(n: u64) -> i64
-    requires { n ≤ 2 ^ 63 }
-    ensures { result ≡ neg_ℤ (pos n) }
-{
-    match i64::try_from(n) {
-        Ok(n) => -n,
-        Err(_) => i64::MIN,
-    }
-}
-
 fn number_in(text: &[u8]) -> Option<i64>
     ensures { result ≡ number_in text.now }
 {
     match text {
         [b'-', digits @ ..] => match natural_in(LOWEST, digits) {
-            Some(n) => Some(negated(n)),
+            Some(n) => Some(negative(n)),
             None => None,
         },
         _ => match natural_in(HIGHEST, text) {
@@ -102,8 +63,12 @@ fn flag_in(text: &[u8]) -> Option<bool>
 }
 
 /// The value that a text spells, if it spells one.
-pub(crate) fn spelled(alloc: Global, ptype: PType, text: &[u8]) -> Result<Option<Value>, Memory>
-    ensures { IfOk result (λ value. value ≡ spelled_by ptype text.now) }
+pub(crate) fn value_of_text(
+    alloc: Global,
+    ptype: PType,
+    text: &[u8],
+) -> Result<Option<Value>, Memory>
+    ensures { IfOk result (λ value. value ≡ spelled ptype text.now) }
 {
     match ptype {
         PType::Boolean => match flag_in(text) {
@@ -120,7 +85,7 @@ pub(crate) fn spelled(alloc: Global, ptype: PType, text: &[u8]) -> Result<Option
 }
 
 fn is_word(text: &[u8], range: &Range) -> bool
-    ensures { result ≡ is_word_of text.now range.now }
+    ensures { result ≡ is_word text.now range.now }
 {
     match range {
         Range::Word(word) => same_name(word.as_slice(), text),
@@ -129,20 +94,20 @@ fn is_word(text: &[u8], range: &Range) -> bool
 }
 
 fn word_in<'a>(text: &[u8], ranges: &'a [Range]) -> Option<&'a Range>
-    ensures { option_copied result ≡ find (is_word_of text.now) ranges.now }
+    ensures { option_copied result ≡ find (is_word text.now) ranges.now }
 {
     ranges.iter().find(|range| is_word(text, range))
 }
 
 fn place_of_word(text: &[u8], ranges: &[Range]) -> Option<usize>
-    ensures { result ≡ position (is_word_of text.now) ranges.now }
+    ensures { result ≡ position (is_word text.now) ranges.now }
 {
     ranges.iter().position(|range| is_word(text, range))
 }
 
 /// A word as it is declared.
 fn declared(alloc: Global, text: Text, ranges: &[Range]) -> Result<Text, Memory>
-    ensures { IfOk result (λ word. word ≡ word_or text (find (is_word_of text) ranges.now)) }
+    ensures { IfOk result (λ word. word ≡ word_or text (find (is_word text) ranges.now)) }
 {
     match word_in(text.as_slice(), ranges) {
         Some(Range::Word(word)) => Text::from_slice(alloc, word.as_slice()),
@@ -161,7 +126,7 @@ fn as_declared(alloc: Global, ptype: PType, ranges: &[Range], value: Value) -> R
 
 fn number_of_word(text: &[u8], ranges: &[Range]) -> Option<i64>
     requires { length ranges.now < 2 ^ 63 }
-    ensures { result ≡ option_map (λ k. pos k) (position (is_word_of text.now) ranges.now) }
+    ensures { result ≡ option_map (λ k. pos k) (position (is_word text.now) ranges.now) }
 {
     match place_of_word(text, ranges) {
         Some(place) => Some(place as i64),
@@ -182,7 +147,7 @@ fn number_by(ptype: PType, ranges: &[Range], value: &Value) -> Option<i64>
 }
 
 /// What a parameter holds that has this value.
-pub(crate) fn held(
+pub(crate) fn held_value(
     alloc: Global,
     ptype: PType,
     ranges: &[Range],
@@ -206,9 +171,9 @@ pub(crate) fn held_by(
 ) -> Result<Held, Memory>
     ensures { IfOk result (λ one. one ≡ held_by ptype ranges.now text.now) }
 {
-    match spelled(alloc, ptype, text)? {
-        Some(value) => held(alloc, ptype, ranges, value),
-        None => held(
+    match value_of_text(alloc, ptype, text)? {
+        Some(value) => held_value(alloc, ptype, ranges, value),
+        None => held_value(
             alloc,
             ptype,
             ranges,

@@ -2,15 +2,15 @@
 
 ghost use Rattle.std.specs.Prelude.{◌≡◌, [], ◌∷◌, ◌++◌, map, IfOk, OnOk};
 ghost use Rattle.std.specs.List.{flat_map, enumerate_from};
-ghost use Rattle.std.specs.Option.{option_copied, unwrap_or};
+ghost use Rattle.std.specs.Option.{unwrap_or};
 ghost use Rattle.cx_bind.specs.NamePlaces.{place_of};
 ghost use Rattle.cx_bind.specs.Parameters.{shared_by};
-ghost use Rattle.cx_values.specs.Assigned.{use_as, own_use, shared_use, used_by, uses_of, global_use};
+ghost use Rattle.cx_values.specs.Assigned.{use_as, own_use, used_by, uses_of, global_use};
 
 use crate::naming::is_global;
 use crate::values::Use;
-use cx_bind::{NamePlaces, Param, Thorn, full_name};
-use cx_param::{ParamDecl, Scope};
+use cx_bind::{NamePlaces, Param, Thorn, full_name, shared_by};
+use cx_param::ParamDecl;
 use cx_text::{List, Memory, Text};
 use std::alloc::Global;
 
@@ -50,7 +50,8 @@ fn push_all_own(
     thorn: usize,
     params: &[Param],
 ) -> Result<(), Memory>
-    ensures { OnOk result (uses.new ≡ uses.old ++ flat_map (own_use thorn) (enumerate_from 0 params.now)) }
+    ensures { OnOk result
+        (uses.new ≡ uses.old ++ flat_map (own_use thorn) (enumerate_from 0 params.now)) }
 {
     'params: for (parameter, param) in params.iter().enumerate() {
         push_own(alloc, uses, thorn, parameter, param)?;
@@ -58,18 +59,8 @@ fn push_all_own(
     Ok(())
 }
 
-/// The implementation whose parameter a thorn uses or extends.
-fn shared_by(scope: &Scope) -> Option<&Text>
-    ensures { option_copied result ≡ shared_by scope.now }
-{
-    match scope {
-        Scope::Uses(implementation) | Scope::Extends(implementation) => Some(implementation),
-        Scope::Private | Scope::Restricted | Scope::Global => None,
-    }
-}
-
 /// The name by which a thorn uses another's parameter.
-fn name_used(decl: &ParamDecl) -> &Text
+fn name_of_use(decl: &ParamDecl) -> &Text
     ensures { result.now ≡ unwrap_or decl.now.alias decl.now.name }
 {
     match &decl.alias {
@@ -84,7 +75,9 @@ fn push_shared(
     names: &NamePlaces,
     decl: &ParamDecl,
 ) -> Result<(), Memory>
-    ensures { OnOk result (uses.new ≡ uses.old ++ used_by (place_of names.now) decl.now (shared_by decl.now.scope)) }
+    ensures { OnOk result
+        (uses.new ≡ uses.old
+        ++ used_by (place_of names.now) decl.now (shared_by decl.now.scope)) }
 {
     let Some(implementation) = shared_by(&decl.scope) else {
         return Ok(());
@@ -92,7 +85,7 @@ fn push_shared(
     let full = full_name(alloc, implementation.as_slice(), decl.name.as_slice())?;
     match names.get(alloc, full.as_slice())? {
         None => Ok(()),
-        Some(parameter) => push_use(alloc, uses, name_used(decl), parameter),
+        Some(parameter) => push_use(alloc, uses, name_of_use(decl), parameter),
     }
 }
 
@@ -103,7 +96,9 @@ fn push_all_shared(
     names: &NamePlaces,
     decls: &[ParamDecl],
 ) -> Result<(), Memory>
-    ensures { OnOk result (uses.new ≡ uses.old ++ flat_map (λ d. used_by (place_of names.now) d (shared_by d.scope)) decls.now) }
+    ensures { OnOk result
+        (uses.new ≡ uses.old
+        ++ flat_map (λ d. used_by (place_of names.now) d (shared_by d.scope)) decls.now) }
 {
     'decls: for decl in decls {
         push_shared(alloc, uses, names, decl)?;
@@ -118,7 +113,8 @@ fn uses_of(
     number: usize,
     thorn: &Thorn,
 ) -> Result<List<Use>, Memory>
-    ensures { IfOk result (λ uses. uses ≡ uses_of params.now (place_of names.now) (number, thorn.now)) }
+    ensures { IfOk result
+        (λ uses. uses ≡ uses_of params.now (place_of names.now) (number, thorn.now)) }
 {
     let mut uses = List::empty(alloc);
     push_all_own(alloc, &mut uses, number, params)?;
@@ -133,7 +129,9 @@ pub(crate) fn all_uses(
     names: &NamePlaces,
     thorns: &[Thorn],
 ) -> Result<List<List<Use>>, Memory>
-    ensures { IfOk result (λ all. all ≡ map (uses_of params.now (place_of names.now)) (enumerate_from 0 thorns.now)) }
+    ensures { IfOk result
+        (λ all. all
+        ≡ map (uses_of params.now (place_of names.now)) (enumerate_from 0 thorns.now)) }
 {
     let mut all = List::empty(alloc);
     'thorns: for (number, thorn) in thorns.iter().enumerate() {
