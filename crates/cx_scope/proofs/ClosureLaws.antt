@@ -19,14 +19,16 @@ use Rattle.cx_scope.specs.Reach.{Edge, has_edge, Reach, edge, onward}
 use Rattle.cx_scope.specs.Relations as relations
 use Rattle.cx_scope.specs.Relations.{active_implementations, is_friend_line, Ancestor, inherited, through, Friend, line, back}
 use Rattle.cx_scope.specs.Closures.{inherits_by, name_at, is_tied, AreTies, Links, sight_of, AreOf}
-use Rattle.cx_scope.specs.Sight.{Sight, Tells, seen}
+use Rattle.cx_scope.specs.Sight.{Sight, IsSightOf, seen}
 use Rattle.cx_bind.specs.Binding.{bind_fault}
 use Rattle.cx_sched.specs.declared.tree.Ref.{Ref}
 use Rattle.cx_plan.specs.declared.variable.VarId.{VarId}
 use Rattle.cx_scope.specs.declared.fault.ScopeFault.{ScopeFault}
 use Rattle.cx_scope.specs.Names.{named_groups, named_variables}
 use Rattle.cx_scope.specs.Naming.{variable_named, group_named}
-use Rattle.cx_scope.specs.Resolving.{levels, group_members, resolve, group_of, Answers, BySight}
+use Rattle.cx_text.specs.Telling.{Answers}
+use Rattle.cx_scope.specs.declared.fault.ScopeFault.TheVariants.{Memory}
+use Rattle.cx_scope.specs.Resolving.{levels, group_members, resolve, group_of, BySight}
 use Rattle.cx_scope.proofs.NameLaws.{few}
 use Rattle.cx_scope.proofs.ReachLaws.{some-injective, or-left, or-right, or-cases}
 
@@ -190,7 +192,7 @@ module _ (thorns : List Thorn) where
 
 -- ---- what the tables tell
 
-pub tells : (thorns : List Thorn) (tables : Tables) → Links thorns Inherits tables.ancestors → Links thorns Friends tables.friends → Tells thorns (sight_of tables)
+pub tells : (thorns : List Thorn) (tables : Tables) → Links thorns Inherits tables.ancestors → Links thorns Friends tables.friends → IsSightOf thorns (sight_of tables)
 tells thorns tables inherits friends =
     record {
       ancestors = λ t u x y at at2. (let closes = inherits.1.1 t (thorn_below thorns t x at) u in (
@@ -216,24 +218,24 @@ are_of thorns tables fit groups variables inherits friends =
 
 -- ---- answers by what the tables tell
 
-pub by_sight : {X : Type 0} (thorns : List Thorn) (told : Sight → Result X ScopeFault) (sight : Sight) (result : Result X ScopeFault) → Tells thorns sight → Answers (told sight) result → BySight thorns told result
+pub by_sight : {X : Type 0} (thorns : List Thorn) (told : Sight → Result X ScopeFault) (sight : Sight) (result : Result X ScopeFault) → IsSightOf thorns sight → Answers Memory (told sight) result → BySight thorns told result
 by_sight thorns told sight (Ok x) tells is = inr (sight, (tells, is))
 by_sight thorns told sight (Err e) tells (inl memory) = inl (ap (λ e. Err e) memory)
 by_sight thorns told sight (Err e) tells (inr is) = inr (sight, (tells, is))
 
 module _ (thorns : List Thorn) (tables : Tables) (are : AreOf thorns tables) where
-  pub resolved : (storage : List ℕ) (t : ℕ) (r : Ref) (result : Result (List (VarId × ℕ)) ScopeFault) → Answers (levels tables.variables tables.groups (sight_of tables) t r storage (variable_named (sight_of tables) t seen tables.variables r)) result → Answers (resolve thorns (sight_of tables) storage t r) result
+  pub resolved : (storage : List ℕ) (t : ℕ) (r : Ref) (result : Result (List (VarId × ℕ)) ScopeFault) → Answers Memory (levels tables.variables tables.groups (sight_of tables) t r storage (variable_named (sight_of tables) t seen tables.variables r)) result → Answers Memory (resolve thorns (sight_of tables) storage t r) result
   resolved storage t r result told =
       let by : levels tables.variables tables.groups (sight_of tables) t r storage (variable_named (sight_of tables) t seen tables.variables r) ≡ resolve thorns (sight_of tables) storage t r =
       ap (λ vs. levels vs tables.groups (sight_of tables) t r storage (variable_named (sight_of tables) t seen vs r)) are.variables
       ∙ ap (λ gs. levels (named_variables thorns) gs (sight_of tables) t r storage (variable_named (sight_of tables) t seen (named_variables thorns) r)) are.groups in
-      let A : Result (List (VarId × ℕ)) ScopeFault → Type 0 = λ answer. Answers answer result in
+      let A : Result (List (VarId × ℕ)) ScopeFault → Type 0 = λ answer. Answers Memory answer result in
       subst A by told
 
-  pub grouped : (t : ℕ) (r : Ref) (result : Result (List VarId) ScopeFault) → Answers (group_members tables.variables tables.groups (sight_of tables) t r (group_named (sight_of tables) t seen tables.groups r)) result → Answers (group_of thorns (sight_of tables) t r) result
+  pub grouped : (t : ℕ) (r : Ref) (result : Result (List VarId) ScopeFault) → Answers Memory (group_members tables.variables tables.groups (sight_of tables) t r (group_named (sight_of tables) t seen tables.groups r)) result → Answers Memory (group_of thorns (sight_of tables) t r) result
   grouped t r result told =
       let by : group_members tables.variables tables.groups (sight_of tables) t r (group_named (sight_of tables) t seen tables.groups r) ≡ group_of thorns (sight_of tables) t r =
       ap (λ vs. group_members vs tables.groups (sight_of tables) t r (group_named (sight_of tables) t seen tables.groups r)) are.variables
       ∙ ap (λ gs. group_members (named_variables thorns) gs (sight_of tables) t r (group_named (sight_of tables) t seen gs r)) are.groups in
-      let A : Result (List VarId) ScopeFault → Type 0 = λ answer. Answers answer result in
+      let A : Result (List VarId) ScopeFault → Type 0 = λ answer. Answers Memory answer result in
       subst A by told

@@ -1,5 +1,5 @@
 -- How the tables of a scope tell ancestors and friends: by what is reached along edges between active implementations.
-use Rattle.std.specs.Prelude.{◌≡◌, ◌↔◌, ℕ, ◌<◌, ◌^◌, nat_lt, Bool, true, false, ◌&&◌, ◌||◌, List, [], length, slice_get, slice_index_or, Option, Some, None}
+use Rattle.std.specs.Prelude.{◌≡◌, ◌↔◌, ℕ, ◌<◌, ◌^◌, ◌==◌, nat_lt, Bool, true, false, ◌&&◌, ◌||◌, List, [], length, slice_get, slice_index_or, Option, Some, None}
 use Rattle.cx_text.specs.Lexemes.{among}
 use Rattle.cx_bind.specs.declared.thorns.Thorn.{Thorn}
 use Rattle.cx_scope.specs.declared.edges.Tie.{Tie}
@@ -8,7 +8,8 @@ use Rattle.cx_scope.specs.declared.tables.Tables.{Tables}
 use Rattle.cx_scope.specs.Reach.{Edge, has_edge, Reach, is_marked}
 use Rattle.cx_scope.specs.Relations.{active_implementations, is_friend_line}
 use Rattle.cx_scope.specs.Names.{named_groups, named_variables}
-use Rattle.cx_scope.specs.Sight.{Sight, Tells}
+use Rattle.cx_scope.specs.declared.names.NamedGroup.{NamedGroup}
+use Rattle.cx_scope.specs.Sight.{Sight, IsSightOf, is_public, is_protected}
 
 abbrev pub inherits_by : Option Thorn → List ℕ → Bool
 inherits_by None name = false
@@ -21,6 +22,15 @@ name_at names k = slice_index_or names k []
 abbrev pub is_tied : List Thorn → List (List ℕ) → Tie → ℕ → ℕ → Bool
 is_tied thorns names Inherits a b = inherits_by (slice_get thorns a) (name_at names b)
 is_tied thorns names Friends a b = is_friend_line thorns (name_at names a) (name_at names b) || is_friend_line thorns (name_at names b) (name_at names a)
+
+-- one more edge, if two numbers are tied
+abbrev pub AddsEdge : ℕ → ℕ → Bool → List Edge → List Edge → Type 0
+AddsEdge from to tied old new = (a b : ℕ) → has_edge new a b ≡ (has_edge old a b || (a == from && (b == to && tied)))
+
+-- the edges from one number are among the others
+abbrev pub AddsTies : List Thorn → List (List ℕ) → Tie → ℕ → List Edge → List Edge → Type 0
+AddsTies thorns names tie from old new =
+    (a b : ℕ) → has_edge new a b ≡ (has_edge old a b || (a == from && (nat_lt b (length names) && is_tied thorns names tie from b)))
 
 -- the edges are all of these
 abbrev pub AreTies : List Thorn → List (List ℕ) → Tie → List Edge → Type 0
@@ -41,11 +51,18 @@ Links thorns tie rows =
 abbrev pub sight_of : Tables → Sight
 sight_of tables = record { is_ancestor = λ t u. is_marked (row_of tables.ancestors t) u; is_friend = λ t u. is_marked (row_of tables.friends t) u }
 
+-- a public group of an ancestor, and a protected one of a friend
+abbrev pub is_of_ancestor : Tables → ℕ → NamedGroup → Bool
+is_of_ancestor tables t g = is_public g.access && is_marked (row_of tables.ancestors t) g.thorn
+
+abbrev pub is_of_friend : Tables → ℕ → NamedGroup → Bool
+is_of_friend tables t g = is_protected g.access && is_marked (row_of tables.friends t) g.thorn
+
 -- they are those of these thorns
 pub record AreOf (thorns : List Thorn) (tables : Tables) : Type 0 where
   pub groups : tables.groups ≡ named_groups thorns
   pub variables : tables.variables ≡ named_variables thorns
-  pub tells : Tells thorns (sight_of tables)
+  pub tells : IsSightOf thorns (sight_of tables)
   pub few : length tables.variables < 2 ^ 32
 
 -- What a scope is to those who ask it: the thorns, and per thorn which ones provide its ancestors and which provide its friends.

@@ -5,3 +5,4 @@ pub mod Sight
 pub mod Naming
 pub mod Resolving
 pub mod Closures
+pub mod Tabled

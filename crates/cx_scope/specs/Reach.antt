@@ -1,5 +1,5 @@
 -- What is reached along edges between numbers, as a least set, and the search for one more.
-use Rattle.std.specs.Prelude.{◌≡◌, ℕ, ◌==◌, nat_lt, Bool, true, false, not, ◌&&◌, ◌||◌, List, slice_index_or}
+use Rattle.std.specs.Prelude.{◌≡◌, ◌↔◌, ℕ, ◌==◌, nat_lt, Bool, true, false, not, ◌&&◌, ◌||◌, List, slice_index_or}
 use Rattle.std.specs.List.{list_any, list_all}
 
 abbrev pub Edge : Type 0
@@ -16,6 +16,10 @@ pub data Reach (edges : List Edge) : ℕ → ℕ → Type 0 where
 -- whether a number is marked
 abbrev pub is_marked : List Bool → ℕ → Bool
 is_marked marks k = slice_index_or marks k false
+
+-- what is marked is what is reached from a number
+abbrev pub MarksReach : List Edge → ℕ → List Bool → Type 0
+MarksReach edges from marks = (b : ℕ) → (is_marked marks b ≡ true) ↔ Reach edges from b
 
 -- an edge from the start or from a marked number to one that is not marked
 abbrev pub is_new : ℕ → List Bool → Edge → Bool

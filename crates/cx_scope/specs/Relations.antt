@@ -13,9 +13,12 @@ active_implementations thorns = map (λ t. t.interface.implements) thorns ++ map
 abbrev pub is_inherited_by : List Thorn → List ℕ → List ℕ → Bool
 is_inherited_by thorns i j = list_any (λ t. same_name t.interface.implements i && among t.interface.inherits j) thorns
 
+abbrev pub has_friend_line : List ℕ → List ℕ → Thorn → Bool
+has_friend_line i j t = same_name t.interface.implements i && among t.interface.friends j
+
 -- a thorn that provides the first one has a friend line for the second one
 abbrev pub is_friend_line : List Thorn → List ℕ → List ℕ → Bool
-is_friend_line thorns i j = list_any (λ t. same_name t.interface.implements i && among t.interface.friends j) thorns
+is_friend_line thorns i j = list_any (has_friend_line i j) thorns
 
 -- The least set that has what a thorn inherits and what the providers of those inherit.
 pub data Ancestor (thorns : List Thorn) (t : Thorn) : List ℕ → Type 0 where

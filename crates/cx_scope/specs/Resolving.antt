@@ -11,7 +11,7 @@ use Rattle.cx_scope.specs.declared.fault.ScopeFault.TheVariants.{NotFound, Hidde
 use Rattle.cx_scope.specs.declared.names.NamedGroup.{NamedGroup}
 use Rattle.cx_scope.specs.declared.names.NamedVariable.{NamedVariable}
 use Rattle.cx_scope.specs.Names.{named_groups, named_variables}
-use Rattle.cx_scope.specs.Sight.{Sight, Tells, seen, anyones}
+use Rattle.cx_scope.specs.Sight.{Sight, IsSightOf, seen, anyones}
 use Rattle.cx_scope.specs.Naming.{Level, variable_named, group_named, members_from}
 
 -- a name as it was written
@@ -82,14 +82,9 @@ abbrev pub Passes : Option ScopeFault → ℕ → Result ℕ ScopeFault → Type
 Passes fault level (Ok l) = (l ≡ level) × (fault ≡ None)
 Passes fault level (Err e) = (e ≡ Memory) ⊎ (fault ≡ Some e)
 
--- An answer is the one that is told, unless memory is wanting.
-abbrev pub Answers : {X : Type 0} → Result X ScopeFault → Result X ScopeFault → Type 0
-Answers told (Ok x) = told ≡ Ok x
-Answers told (Err e) = (e ≡ Memory) ⊎ (told ≡ Err e)
-
 -- Unless memory is wanting, the answer is this one by the least sets of ancestors and friends.
 abbrev pub BySight : {X : Type 0} → List Thorn → (Sight → Result X ScopeFault) → Result X ScopeFault → Type 0
-BySight thorns told result = (result ≡ Err Memory) ⊎ ((sight : Sight) × (Tells thorns sight × (told sight ≡ result)))
+BySight thorns told result = (result ≡ Err Memory) ⊎ ((sight : Sight) × (IsSightOf thorns sight × (told sight ≡ result)))
 
 abbrev pub ResolveAnswers : List Thorn → List ℕ → ℕ → Ref → Result (List (VarId × ℕ)) ScopeFault → Type 0
 ResolveAnswers thorns storage t r result = BySight thorns (λ sight. resolve thorns sight storage t r) result

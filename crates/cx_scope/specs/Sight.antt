@@ -14,7 +14,7 @@ pub record Sight : Type 0 where
   pub is_friend : ℕ → ℕ → Bool
 
 -- the answers are those of the least sets
-pub record Tells (thorns : List Thorn) (sight : Sight) : Type 0 where
+pub record IsSightOf (thorns : List Thorn) (sight : Sight) : Type 0 where
   pub ancestors : (t u : ℕ) (x y : Thorn) → slice_get thorns t ≡ Some x → slice_get thorns u ≡ Some y → IsTrue (sight.is_ancestor t u) ↔ Ancestor thorns x y.interface.implements
   pub friends : (t u : ℕ) (x y : Thorn) → slice_get thorns t ≡ Some x → slice_get thorns u ≡ Some y → IsTrue (sight.is_friend t u) ↔ Friend thorns x.interface.implements y.interface.implements
 

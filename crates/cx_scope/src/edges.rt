@@ -1,12 +1,11 @@
 //! Ancestors and friends as edges between active implementations, and what is reached along them.
 
-ghost use Rattle.std.specs.Prelude.{◌≡◌, ◌++◌, ◌∷◌, [], ◌||◌, ◌&&◌, ◌==◌, ℕ, map, nat_lt, length, slice_get, true, ◌↔◌, IfOk, OnOk};
-ghost use Rattle.cx_text.specs.Lexemes.{same_name, among};
-ghost use Rattle.cx_scope.specs.Relations.{active_implementations, is_friend_line};
-ghost use Rattle.cx_scope.specs.Closures.{inherits_by, name_at, is_tied, AreTies, Closes, Links};
-ghost use Rattle.cx_scope.specs.Reach.{has_edge, ends_below, is_marked, Reach};
+ghost use Rattle.std.specs.Prelude.{◌≡◌, ◌++◌, ◌∷◌, [], slice_get, true, IfOk, OnOk};
+ghost use Rattle.cx_scope.specs.Relations.{active_implementations, has_friend_line, is_friend_line};
+ghost use Rattle.cx_scope.specs.Closures.{inherits_by, name_at, is_tied, AddsEdge, AddsTies, AreTies, Closes, Links};
+ghost use Rattle.cx_scope.specs.Reach.{ends_below, MarksReach};
 
-use crate::reach::reached;
+use crate::reach::reach_from;
 use cx_bind::Thorn;
 use cx_text::{List, Memory, Text, among, same_name};
 use std::alloc::Global;
@@ -41,7 +40,7 @@ fn active_implementations(alloc: Global, thorns: &[Thorn]) -> Result<List<Text>,
 }
 
 fn is_line_of(thorn: &Thorn, from: &[u8], to: &[u8]) -> bool
-    ensures { result ≡ (same_name thorn.now.interface.implements from.now && among thorn.now.interface.friends to.now) }
+    ensures { result ≡ has_friend_line from.now to.now thorn.now }
 {
     same_name(thorn.interface.implements.as_slice(), from)
         && among(thorn.interface.friends.as_slice(), to)
@@ -90,7 +89,7 @@ fn push_edge(
     from: usize,
     to: usize,
 ) -> Result<(), Memory>
-    ensures { OnOk result ((a b : ℕ) → has_edge edges.new a b ≡ (has_edge edges.old a b || (a == from && (b == to && tied)))) }
+    ensures { OnOk result (AddsEdge from to tied edges.old edges.new) }
 {
     if !tied {
         return Ok(());
@@ -105,7 +104,7 @@ fn push_edges_from(
     edges: &mut List<(usize, usize)>,
     from: usize,
 ) -> Result<(), Memory>
-    ensures { OnOk result ((a b : ℕ) → has_edge edges.new a b ≡ (has_edge edges.old a b || (a == from && (nat_lt b (length names.now) && is_tied thorns.now names.now tie from b)))) }
+    ensures { OnOk result (AddsTies thorns.now names.now tie from edges.old edges.new) }
 {
     'to: for to in 0..names.len() {
         push_edge(edges, is_tied(thorns, names, tie, from, to), from, to)?;
@@ -136,9 +135,9 @@ fn row(
     from: usize,
 ) -> Result<List<bool>, Memory>
     requires { ends_below count edges.now ≡ true }
-    ensures { IfOk result (λ marks. (b : ℕ) → (is_marked marks b ≡ true) ↔ Reach edges.now from b) }
+    ensures { IfOk result (MarksReach edges.now from) }
 {
-    let marks = reached(alloc, count, edges, from)?;
+    let marks = reach_from(alloc, count, edges, from)?;
     Ok(List::new(marks))
 }
 

@@ -9,8 +9,7 @@ mod scope;
 mod sought;
 mod stored;
 mod tables;
-#[cfg(test)]
-mod tests;
 
 pub use fault::ScopeFault;
 pub use scope::{Scope, group_of, resolve};
+pub use stored::ref_text;

@@ -1,11 +1,10 @@
 //! The groups and variables of thorns, as names find them.
 
-ghost use Rattle.std.specs.Prelude.{◌≡◌, ◌++◌, ◌∷◌, [], map, Some, IfOk, OnOk};
+ghost use Rattle.std.specs.Prelude.{◌≡◌, ◌++◌, map, Some, IfOk, OnOk};
 ghost use Rattle.std.specs.List.{flat_map, range_with_len, enumerate_from};
-ghost use Rattle.cx_bind.specs.Variables.{owner_by};
-ghost use Rattle.cx_scope.specs.Names.{named_group, groups_of, named_groups, named_copy, copies_of, variables_in, variables_of, named_variables};
+ghost use Rattle.cx_scope.specs.Names.{named_group, named_groups, named_copy, copies_of, variables_in, named_variables};
 
-use cx_bind::Thorn;
+use cx_bind::{Thorn, owner_by};
 use cx_iface::{Access, Group};
 use cx_text::{List, Memory, Text};
 use std::alloc::Global;
@@ -45,15 +44,6 @@ pub(crate) struct NamedVariable {
     pub(crate) copy: Option<u32>,
 }
 
-fn owner_by<'a>(access: Access, thorn: &'a Thorn) -> &'a [u8]
-    ensures { result.now ≡ owner_by access thorn.now }
-{
-    match access {
-        Access::Private => thorn.name.as_slice(),
-        Access::Public | Access::Protected => thorn.interface.implements.as_slice(),
-    }
-}
-
 fn named_group(
     alloc: Global,
     number: usize,
@@ -79,7 +69,9 @@ fn push_groups(
     thorn: &Thorn,
     groups: &[Group],
 ) -> Result<(), Memory>
-    ensures { OnOk result (named.new ≡ named.old ++ map (named_group (number, thorn.now)) (enumerate_from 0 groups.now)) }
+    ensures { OnOk result
+        (named.new ≡ named.old
+        ++ map (named_group (number, thorn.now)) (enumerate_from 0 groups.now)) }
 {
     'groups: for (place, group) in groups.iter().enumerate() {
         named.push(named_group(alloc, number, thorn, place, group)?)?;
@@ -133,7 +125,9 @@ fn push_numbered(
     name: &Text,
     count: u32,
 ) -> Result<(), Memory>
-    ensures { OnOk result (named.new ≡ named.old ++ map (λ k. named_copy group.now name.now (Some k)) (range_with_len 0 count)) }
+    ensures { OnOk result
+        (named.new ≡ named.old
+        ++ map (λ k. named_copy group.now name.now (Some k)) (range_with_len 0 count)) }
 {
     'copies: for k in 0..count {
         named.push(named_variable(alloc, group, name, Some(k))?)?;
@@ -163,7 +157,8 @@ fn push_names(
     copies: Option<u32>,
     names: &[Text],
 ) -> Result<(), Memory>
-    ensures { OnOk result (named.new ≡ named.old ++ flat_map (copies_of group.now copies) names.now) }
+    ensures { OnOk result
+        (named.new ≡ named.old ++ flat_map (copies_of group.now copies) names.now) }
 {
     'names: for name in names {
         push_copies(alloc, named, group, copies, name)?;
@@ -179,7 +174,8 @@ fn push_variables_in(
     place: usize,
     group: &Group,
 ) -> Result<(), Memory>
-    ensures { OnOk result (named.new ≡ named.old ++ variables_in (number, thorn.now) (place, group.now)) }
+    ensures { OnOk result
+        (named.new ≡ named.old ++ variables_in (number, thorn.now) (place, group.now)) }
 {
     let known = named_group(alloc, number, thorn, place, group)?;
     push_names(
@@ -198,7 +194,9 @@ fn push_variables(
     thorn: &Thorn,
     groups: &[Group],
 ) -> Result<(), Memory>
-    ensures { OnOk result (named.new ≡ named.old ++ flat_map (variables_in (number, thorn.now)) (enumerate_from 0 groups.now)) }
+    ensures { OnOk result
+        (named.new ≡ named.old
+        ++ flat_map (variables_in (number, thorn.now)) (enumerate_from 0 groups.now)) }
 {
     'groups: for (place, group) in groups.iter().enumerate() {
         push_variables_in(alloc, named, number, thorn, place, group)?;

@@ -1,13 +1,13 @@
 //! What is reached along edges.
 
-ghost use Rattle.std.specs.Prelude.{◌≡◌, ◌↔◌, ◌<◌, ℕ, true, false, length, replicate, IfOk, find, option_map};
+ghost use Rattle.std.specs.Prelude.{◌≡◌, true, false, replicate, IfOk, find, option_map};
 ghost use Rattle.std.specs.Option.{option_copied};
-ghost use Rattle.cx_scope.specs.Reach.{Reach, is_marked as marked, is_new as new_edge, ends_below};
+ghost use Rattle.cx_scope.specs.Reach.{is_marked, is_new, ends_below, MarksReach};
 
 use std::alloc::{AllocError, Global};
 
 fn is_marked(marks: &[bool], k: usize) -> bool
-    ensures { result ≡ marked marks.now k }
+    ensures { result ≡ is_marked marks.now k }
 {
     match marks.get(k) {
         Some(mark) => *mark,
@@ -16,7 +16,7 @@ fn is_marked(marks: &[bool], k: usize) -> bool
 }
 
 fn is_new(from: usize, marks: &[bool], edge: (usize, usize)) -> bool
-    ensures { result ≡ new_edge from marks.now edge }
+    ensures { result ≡ is_new from marks.now edge }
 {
     (edge.0 == from || is_marked(marks, edge.0)) && !is_marked(marks, edge.1)
 }
@@ -27,14 +27,14 @@ fn next_edge<'a>(
     from: usize,
     marks: &[bool],
 ) -> Option<&'a (usize, usize)>
-    ensures { option_copied result ≡ find (new_edge from marks.now) edges.now }
+    ensures { option_copied result ≡ find (is_new from marks.now) edges.now }
 {
     edges.iter().find(|edge| is_new(from, marks, **edge))
 }
 
 /// The end of such an edge.
 fn next_end(edges: &[(usize, usize)], from: usize, marks: &[bool]) -> Option<usize>
-    ensures { result ≡ option_map (λ e. e.1) (find (new_edge from marks.now) edges.now) }
+    ensures { result ≡ option_map (λ e. e.1) (find (is_new from marks.now) edges.now) }
 {
     match next_edge(edges, from, marks) {
         Some(edge) => Some(edge.1),
@@ -49,14 +49,14 @@ fn no_marks(alloc: Global, count: usize) -> Result<Vec<bool>, AllocError>
 }
 
 /// Marks what is reached from a number along edges.
-pub(crate) fn reached(
+pub(crate) fn reach_from(
     alloc: Global,
     count: usize,
     edges: &[(usize, usize)],
     from: usize,
 ) -> Result<Vec<bool>, AllocError>
     requires { ends_below count edges.now ≡ true }
-    ensures { IfOk result (λ marks. (b : ℕ) → (marked marks.items b ≡ true) ↔ Reach edges.now from b) }
+    ensures { IfOk result (λ marks. MarksReach edges.now from marks.items) }
 {
     let mut marks = no_marks(alloc, count)?;
     'rounds: loop {

@@ -3,8 +3,10 @@
 ghost use Rattle.std.specs.Prelude.{◌≡◌, ◌<◌, None, length, IfOk};
 ghost use Rattle.cx_bind.specs.Binding.{bind_fault};
 ghost use Rattle.cx_scope.specs.Closures.{AreOf, thorns_in, sight_in};
-ghost use Rattle.cx_scope.specs.Sight.{Tells};
-ghost use Rattle.cx_scope.specs.Resolving.{resolve as told, group_of as told_group, Answers, ResolveAnswers, GroupAnswers};
+ghost use Rattle.cx_text.specs.Telling.{Answers};
+ghost use Rattle.cx_scope.specs.Sight.{IsSightOf};
+ghost use Rattle.cx_scope.specs.Resolving.{resolve, group_of, ResolveAnswers, GroupAnswers};
+ghost use Rattle.cx_scope.specs.declared.fault.ScopeFault.TheVariants as faults;
 
 use crate::ScopeFault;
 use crate::edges::{Tie, links};
@@ -57,7 +59,7 @@ impl<'a> Scope<'a> {
     /// Works out who sees what, once for all names.
     pub fn new(alloc: Global, bound: &'a Bound) -> Result<Self, Memory>
         ensures thorns { IfOk result (λ scope. thorns_in scope ≡ bound.now) }
-        ensures tells { IfOk result (λ scope. Tells bound.now (sight_in scope)) }
+        ensures tells { IfOk result (λ scope. IsSightOf bound.now (sight_in scope)) }
     {
         let tables = tables(alloc, bound.thorns().as_slice())?;
         Ok(Scope { bound, tables })
@@ -81,7 +83,9 @@ impl<'a> Scope<'a> {
         name: &Ref,
     ) -> Result<List<(VarId, u8)>, ScopeFault>
         requires { thorn < length (thorns_in self.now) }
-        ensures { Answers (told (thorns_in self.now) (sight_in self.now) storage.now thorn name.now) result }
+        ensures { Answers faults.Memory
+            (resolve (thorns_in self.now) (sight_in self.now) storage.now thorn name.now)
+            result }
     {
         self.tables
             .levels(alloc, storage.as_slice(), thorn as usize, name)
@@ -92,7 +96,8 @@ impl<'a> Scope<'a> {
     /// NotFound: no active thorn has a group of the name. Hidden: one has it, and this one doesn't see it.
     pub fn group_of(&self, alloc: Global, thorn: u32, name: &Ref) -> Result<List<VarId>, ScopeFault>
         requires { thorn < length (thorns_in self.now) }
-        ensures { Answers (told_group (thorns_in self.now) (sight_in self.now) thorn name.now) result }
+        ensures { Answers faults.Memory
+            (group_of (thorns_in self.now) (sight_in self.now) thorn name.now) result }
     {
         self.tables.group_members(alloc, thorn as usize, name)
     }

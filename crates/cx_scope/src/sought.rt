@@ -1,11 +1,10 @@
 //! The variables and groups that names mean.
 
-ghost use Rattle.std.specs.Prelude.{◌≡◌, ◌&&◌, ◌^◌, ◌<◌, length, IfOk};
+ghost use Rattle.std.specs.Prelude.{◌≡◌, ◌^◌, ◌<◌, length, IfOk};
 ghost use Rattle.std.specs.List.{position_from};
 ghost use Rattle.std.specs.Option.{option_copied};
-ghost use Rattle.cx_scope.specs.Closures.{sight_of};
-ghost use Rattle.cx_scope.specs.Sight.{is_in};
-ghost use Rattle.cx_scope.specs.Naming.{fits_owner, is_same_copy, names_level, names_group, without_suffix, variable_at, variable_named, group_named, is_same_group, members_from};
+ghost use Rattle.cx_scope.specs.Naming.{fits_owner, is_same_copy, names_level, names_group, without_suffix, is_same_group, members_from};
+ghost use Rattle.cx_scope.specs.Tabled.{with_base, has_variable, has_group, variable_of, level_meant, group_meant};
 
 use crate::names::{NamedGroup, NamedVariable, Tier};
 use crate::tables::Tables;
@@ -34,7 +33,7 @@ fn is_same_copy(a: Option<u32>, b: Option<u32>) -> bool
 
 /// Whether a variable has the name with this text in place of its own.
 fn names_variable(name: &Ref, base: &[u8], variable: &NamedVariable) -> bool
-    ensures { result ≡ names_level (record name.now { name = base.now }) 0 variable.now }
+    ensures { result ≡ names_level (with_base name.now base.now) 0 variable.now }
 {
     fits_owner(&name.owner, &variable.group)
         && same_name(base, variable.name.as_slice())
@@ -72,13 +71,16 @@ fn is_this_variable(
     base: &[u8],
     variable: &NamedVariable,
 ) -> bool
-    ensures { result ≡ (is_in (sight_of tables.now) thorn tier variable.now.group && names_level (record name.now { name = base.now }) 0 variable.now) }
+    ensures { result
+        ≡ has_variable tables.now thorn tier (with_base name.now base.now) variable.now }
 {
     tables.is_in(thorn, tier, &variable.group) && names_variable(name, base, variable)
 }
 
 fn variable_in(tables: &Tables, thorn: usize, tier: Tier, name: &Ref, base: &[u8]) -> Option<usize>
-    ensures { result ≡ position_from (λ v. is_in (sight_of tables.now) thorn tier v.group && names_level (record name.now { name = base.now }) 0 v) 0 tables.now.variables }
+    ensures { result
+        ≡ position_from (has_variable tables.now thorn tier (with_base name.now base.now)) 0
+        tables.now.variables }
 {
     tables.variables.as_slice().iter().position(|variable| is_this_variable(
         tables, thorn, tier, name, base, variable,
@@ -92,7 +94,7 @@ fn variable_at(
     name: &Ref,
     base: &[u8],
 ) -> Option<usize>
-    ensures { result ≡ variable_at (sight_of tables.now) thorn tiers.now tables.now.variables (record name.now { name = base.now }) 0 }
+    ensures { result ≡ variable_of tables.now thorn tiers.now (with_base name.now base.now) }
 {
     'tiers: for tier in tiers {
         if let Some(place) = variable_in(tables, thorn, *tier, name, base) {
@@ -103,13 +105,13 @@ fn variable_at(
 }
 
 /// The variable and the level that a name means.
-pub(crate) fn variable_named(
+pub(crate) fn find_variable(
     tables: &Tables,
     thorn: usize,
     tiers: &[Tier],
     name: &Ref,
 ) -> Option<(usize, usize)>
-    ensures { result ≡ variable_named (sight_of tables.now) thorn tiers.now tables.now.variables name.now }
+    ensures { result ≡ level_meant tables.now thorn tiers.now name.now }
 {
     let mut base = name.name.as_slice();
     let mut level = 0;
@@ -126,13 +128,14 @@ pub(crate) fn variable_named(
 }
 
 fn is_this_group(tables: &Tables, thorn: usize, tier: Tier, name: &Ref, group: &NamedGroup) -> bool
-    ensures { result ≡ (is_in (sight_of tables.now) thorn tier group.now && names_group name.now group.now) }
+    ensures { result ≡ has_group tables.now thorn tier name.now group.now }
 {
     tables.is_in(thorn, tier, group) && names_group(name, group)
 }
 
 fn group_in(tables: &Tables, thorn: usize, tier: Tier, name: &Ref) -> Option<usize>
-    ensures { result ≡ position_from (λ g. is_in (sight_of tables.now) thorn tier g && names_group name.now g) 0 tables.now.groups }
+    ensures { result
+        ≡ position_from (has_group tables.now thorn tier name.now) 0 tables.now.groups }
 {
     tables
         .groups
@@ -142,13 +145,8 @@ fn group_in(tables: &Tables, thorn: usize, tier: Tier, name: &Ref) -> Option<usi
 }
 
 /// The place of the group that a name means.
-pub(crate) fn group_named(
-    tables: &Tables,
-    thorn: usize,
-    tiers: &[Tier],
-    name: &Ref,
-) -> Option<usize>
-    ensures { result ≡ group_named (sight_of tables.now) thorn tiers.now tables.now.groups name.now }
+pub(crate) fn find_group(tables: &Tables, thorn: usize, tiers: &[Tier], name: &Ref) -> Option<usize>
+    ensures { result ≡ group_meant tables.now thorn tiers.now name.now }
 {
     'tiers: for tier in tiers {
         if let Some(place) = group_in(tables, thorn, *tier, name) {

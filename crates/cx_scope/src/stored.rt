@@ -1,17 +1,16 @@
 //! What names stand for, with the levels that are stored.
 
-ghost use Rattle.std.specs.Prelude.{◌≡◌, ◌<◌, ◌^◌, ◌++◌, map, length, slice_get, slice_index_or, Result, Ok, Err, Some, None, ◌∷◌, [], IfOk, IfSome};
-ghost use Rattle.cx_bind.specs.Variables.{with_copy};
-ghost use Rattle.cx_plan.specs.Names.{full_name};
-ghost use Rattle.cx_scope.specs.Closures.{sight_of};
-ghost use Rattle.cx_scope.specs.Sight.{seen, anyones};
-ghost use Rattle.cx_scope.specs.Naming.{members_from, variable_named, group_named};
-ghost use Rattle.cx_scope.specs.Resolving.{with_owner, ref_text, unseen, var_id, level_fault, stored, Passes, is_anyones_group, is_anyones, members_at, group_levels, levels, group_members, Answers};
+ghost use Rattle.std.specs.Prelude.{◌≡◌, ◌<◌, ◌^◌, map, length, slice_index_or, ◌∷◌, [], IfOk};
+ghost use Rattle.cx_text.specs.Telling.{Answers};
+ghost use Rattle.cx_scope.specs.Resolving.{ref_text, unseen, var_id, level_fault, stored, Passes};
+ghost use Rattle.cx_scope.specs.Tabled.{is_group_of_any, is_of_any, members_of, group_levels_meant, levels_meant, members_meant};
+ghost use Rattle.cx_scope.specs.declared.fault.ScopeFault.TheVariants as faults;
 
 use crate::ScopeFault;
-use crate::names::{NamedGroup, Tier};
-use crate::sought::{group_named, members, variable_named};
+use crate::names::Tier;
+use crate::sought::{find_group, find_variable, members};
 use crate::tables::Tables;
+use cx_bind::{full_name, with_copy};
 use cx_plan::VarId;
 use cx_sched::Ref;
 use cx_text::{List, Memory, Text};
@@ -20,30 +19,8 @@ use std::alloc::Global;
 /// What a thorn sees, in the order in which names are sought.
 const SEEN: &[Tier] = &[Tier::Own, Tier::Inherited, Tier::Friends];
 
-/// The name `name[k]`, or the name alone.
-fn with_copy(alloc: Global, name: &[u8], copy: Option<u32>) -> Result<Text, Memory>
-    ensures { IfOk result (λ text. text ≡ with_copy name.now copy) }
-{
-    let mut text = Text::from_slice(alloc, name)?;
-    if let Some(k) = copy {
-        text.push_slice(b"[")?;
-        text.push_slice(k.to_string(alloc)?.as_bytes())?;
-        text.push_slice(b"]")?;
-    }
-    Ok(text)
-}
-
-fn full_name(alloc: Global, owner: &[u8], name: &[u8]) -> Result<Text, Memory>
-    ensures { IfOk result (λ text. text ≡ full_name owner.now name.now) }
-{
-    let mut full = Text::from_slice(alloc, owner)?;
-    full.push_slice(b"::")?;
-    full.push_slice(name)?;
-    Ok(full)
-}
-
-/// A name as it was written.
-fn ref_text(alloc: Global, name: &Ref) -> Result<Text, Memory>
+/// A name as it was written, with `owner::` and `[copy]`.
+pub fn ref_text(alloc: Global, name: &Ref) -> Result<Text, Memory>
     ensures { IfOk result (λ text. text ≡ ref_text name.now) }
 {
     let text = with_copy(alloc, name.name.as_slice(), name.copy)?;
@@ -98,7 +75,7 @@ fn one_level(
     place: u32,
     level: usize,
 ) -> Result<List<(VarId, u8)>, ScopeFault>
-    ensures { Answers (stored storage.now name.now ((place, level) ∷ [])) result }
+    ensures { Answers faults.Memory (stored storage.now name.now ((place, level) ∷ [])) result }
 {
     let level = check_level(alloc, storage, name, place as usize, level)?;
     let mut levels = List::empty(alloc);
@@ -113,7 +90,8 @@ fn current_levels(
     name: &Ref,
     places: &[u32],
 ) -> Result<List<(VarId, u8)>, ScopeFault>
-    ensures { Answers (stored storage.now name.now (map (λ v. (v, 0)) places.now)) result }
+    ensures { Answers faults.Memory (stored storage.now name.now (map (λ v. (v, 0)) places.now))
+        result }
 {
     let mut levels = List::empty(alloc);
     'places: for place in places {
@@ -135,22 +113,22 @@ fn var_ids(alloc: Global, places: &[u32]) -> Result<List<VarId>, Memory>
 
 impl Tables {
     fn is_anyones_group(&self, thorn: usize, name: &Ref) -> bool
-        ensures { result ≡ is_anyones_group self.now.groups (sight_of self.now) thorn name.now }
+        ensures { result ≡ is_group_of_any self.now thorn name.now }
     {
-        group_named(self, thorn, &[Tier::Any], name).is_some()
+        find_group(self, thorn, &[Tier::Any], name).is_some()
     }
 
     fn is_anyones(&self, thorn: usize, name: &Ref) -> bool
-        ensures { result ≡ is_anyones self.now.variables self.now.groups (sight_of self.now) thorn name.now }
+        ensures { result ≡ is_of_any self.now thorn name.now }
     {
-        variable_named(self, thorn, &[Tier::Any], name).is_some()
+        find_variable(self, thorn, &[Tier::Any], name).is_some()
             || self.is_anyones_group(thorn, name)
     }
 
     /// The numbers of the variables of the group at a place.
     fn members_at(&self, alloc: Global, place: usize) -> Result<List<u32>, Memory>
         requires { length self.now.variables < 2 ^ 32 }
-        ensures { IfOk result (λ places. places ≡ members_at self.now.variables (slice_get self.now.groups place)) }
+        ensures { IfOk result (λ places. places ≡ members_of self.now place) }
     {
         match self.groups.as_slice().get(place) {
             Some(group) => members(alloc, self.variables.as_slice(), group),
@@ -166,9 +144,10 @@ impl Tables {
         name: &Ref,
     ) -> Result<List<(VarId, u8)>, ScopeFault>
         requires { length self.now.variables < 2 ^ 32 }
-        ensures { Answers (group_levels self.now.variables self.now.groups (sight_of self.now) thorn name.now storage.now (group_named (sight_of self.now) thorn seen self.now.groups name.now)) result }
+        ensures { Answers faults.Memory (group_levels_meant self.now storage.now thorn name.now)
+            result }
     {
-        match group_named(self, thorn, SEEN, name) {
+        match find_group(self, thorn, SEEN, name) {
             Some(place) => {
                 let places = self.members_at(alloc, place)?;
                 current_levels(alloc, storage, name, places.as_slice())
@@ -186,9 +165,9 @@ impl Tables {
         name: &Ref,
     ) -> Result<List<(VarId, u8)>, ScopeFault>
         requires { length self.now.variables < 2 ^ 32 }
-        ensures { Answers (levels self.now.variables self.now.groups (sight_of self.now) thorn name.now storage.now (variable_named (sight_of self.now) thorn seen self.now.variables name.now)) result }
+        ensures { Answers faults.Memory (levels_meant self.now storage.now thorn name.now) result }
     {
-        match variable_named(self, thorn, SEEN, name) {
+        match find_variable(self, thorn, SEEN, name) {
             Some((place, level)) => one_level(alloc, storage, name, place as u32, level),
             None => self.group_levels(alloc, storage, thorn, name),
         }
@@ -202,9 +181,9 @@ impl Tables {
         name: &Ref,
     ) -> Result<List<VarId>, ScopeFault>
         requires { length self.now.variables < 2 ^ 32 }
-        ensures { Answers (group_members self.now.variables self.now.groups (sight_of self.now) thorn name.now (group_named (sight_of self.now) thorn seen self.now.groups name.now)) result }
+        ensures { Answers faults.Memory (members_meant self.now thorn name.now) result }
     {
-        match group_named(self, thorn, SEEN, name) {
+        match find_group(self, thorn, SEEN, name) {
             Some(place) => {
                 let places = self.members_at(alloc, place)?;
                 Ok(var_ids(alloc, places.as_slice())?)

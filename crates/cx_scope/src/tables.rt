@@ -1,7 +1,7 @@
 //! Tables of what is asked again and again.
 
-ghost use Rattle.std.specs.Prelude.{◌≡◌, ◌&&◌};
-ghost use Rattle.cx_scope.specs.Closures.{sight_of, row_of};
+ghost use Rattle.std.specs.Prelude.{◌≡◌};
+ghost use Rattle.cx_scope.specs.Closures.{sight_of, row_of, is_of_ancestor, is_of_friend};
 ghost use Rattle.cx_scope.specs.Reach.{is_marked};
 ghost use Rattle.cx_scope.specs.Sight.{is_in, is_public, is_protected};
 
@@ -46,13 +46,13 @@ fn is_protected(access: Access) -> bool
 }
 
 fn is_of_ancestor(tables: &Tables, thorn: usize, group: &NamedGroup) -> bool
-    ensures { result ≡ (is_public group.now.access && is_marked (row_of tables.now.ancestors thorn) group.now.thorn) }
+    ensures { result ≡ is_of_ancestor tables.now thorn group.now }
 {
     is_public(group.access) && is_marked(tables.ancestors.as_slice(), thorn, group.thorn)
 }
 
 fn is_of_friend(tables: &Tables, thorn: usize, group: &NamedGroup) -> bool
-    ensures { result ≡ (is_protected group.now.access && is_marked (row_of tables.now.friends thorn) group.now.thorn) }
+    ensures { result ≡ is_of_friend tables.now thorn group.now }
 {
     is_protected(group.access) && is_marked(tables.friends.as_slice(), thorn, group.thorn)
 }

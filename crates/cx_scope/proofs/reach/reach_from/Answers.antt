@@ -1,7 +1,7 @@
 -- Each round marks the end of a new edge; where there is none, what is reached is marked.
 use Rattle.std.proofs.Common.{◌∙◌, arith}
 use Rattle.cx_scope.proofs.ReachLaws.{end-sound, end-below, end-falls, all-reached, marks-length}
-use Rattle.cx_scope.proofs.reach.reached.Goals as goal
+use Rattle.cx_scope.proofs.reach.reach_from.Goals as goal
 
 pub returns-in-None : goal.returns-in-None
 returns-in-None c =

@@ -2,7 +2,7 @@
 use Rattle.std.proofs.Common.{◌≡◌, ℕ, true, length}
 use Rattle.cx_scope.specs.Reach.{Reach, is_marked}
 use Rattle.cx_scope.proofs.ReachLaws.{unmarked}
-use Rattle.cx_scope.proofs.reach.reached.Given as goal
+use Rattle.cx_scope.proofs.reach.reach_from.Given as goal
 
 abbrev pub invariant-rounds : goal.invariant-rounds
 invariant-rounds l =

@@ -1,7 +1,7 @@
 use Rattle.std.proofs.Common.{◌≤◌, ◌+◌, length}
 use Rattle.cx_scope.specs.Closures.{sight_of}
 use Rattle.cx_scope.proofs.SuffixLaws.{Left}
-use Rattle.cx_scope.proofs.sought.variable_named.Given as goal
+use Rattle.cx_scope.proofs.sought.find_variable.Given as goal
 
 abbrev pub invariant-levels : goal.invariant-levels
 invariant-levels l = record {

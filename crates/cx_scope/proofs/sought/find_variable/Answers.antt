@@ -1,7 +1,7 @@
 use Rattle.std.proofs.Common.{◌∙◌, ap, sym, subst, ℕ, List, length, arith}
 use Rattle.cx_scope.specs.Closures.{sight_of}
 use Rattle.cx_scope.proofs.SuffixLaws.{Left, begins, ends_empty, goes_on, gets_shorter}
-use Rattle.cx_scope.proofs.sought.variable_named.Goals as goal
+use Rattle.cx_scope.proofs.sought.find_variable.Goals as goal
 
 pub levels-init : goal.levels-init
 levels-init c = record {
