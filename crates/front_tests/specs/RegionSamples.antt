@@ -1,5 +1,5 @@
 -- The jobs of tests: a wave on a line of six points, and a scalar.
-use Rattle.std.specs.Prelude.{ℕ, zero, suc, ◌∷◌, [], List, false, true, pos, negsuc, codes}
+use Rattle.std.specs.Prelude.{ℕ, zero, suc, ◌∷◌, [], List, Bool, false, true, pos, negsuc, codes}
 use Rattle.cx_text.specs.declared.ctype.CType.TheVariants.{Int8}
 use Rattle.cx_plan.specs.declared.variable.VarId.{VarId}
 use Rattle.cx_plan.specs.declared.variable.VarInfo.{VarInfo}
@@ -26,9 +26,13 @@ abbrev pub item_of : ItemKind → List Touch → List Touch → Item
 item_of kind reads writes =
     record { thorn = codes "W"; name = codes "w"; path = codes "EVOL/w"; kind = kind; routine = 0; reads = reads; writes = writes; params = [] }
 
+-- what is known of a variable of bytes
+abbrev pub info_of : List ℕ → Bool → ℕ → VarInfo
+info_of full scalar levels = record { full = full; ctype = Int8; scalar = scalar; levels = levels }
+
 abbrev pub sample_variables : List VarInfo
 sample_variables =
-    record { full = codes "phi"; ctype = Int8; scalar = false; levels = 3 } ∷ record { full = codes "on"; ctype = Int8; scalar = true; levels = 1 } ∷ []
+    info_of (codes "phi") false 3 ∷ info_of (codes "on") true 1 ∷ []
 
 -- the switch is set; the wave begins; it takes a step; its boundary is set by what is within, and alone
 abbrev pub sample_items : List Item

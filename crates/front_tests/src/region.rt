@@ -3,7 +3,7 @@
 ghost use Rattle.std.specs.Prelude.{◌≡◌, ◌∷◌, [], IfOk, codes};
 ghost use Rattle.cx_plan.specs.Whole.{IsWhole};
 ghost use Rattle.cx_plan.specs.declared.tree.Tree.TheVariants as trees;
-ghost use Rattle.front_tests.specs.RegionSamples.{sample, sample_items, sample_variables, item_of, touch, switch as on, wave, whiles, nothing};
+ghost use Rattle.front_tests.specs.RegionSamples.{info_of, sample, sample_items, sample_variables, item_of, touch, switch as on, wave, whiles, nothing};
 
 use cx_grid::{Point, Shape};
 use cx_plan::{
@@ -25,12 +25,7 @@ fn text(alloc: Global, bytes: &[u8]) -> Result<Text, Fail>
 }
 
 fn variable(alloc: Global, full: &[u8], scalar: bool, levels: u8) -> Result<VarInfo, Fail>
-    ensures { let info = record {
-      full = full.now;
-      ctype = CType.Int8;
-      scalar = scalar;
-      levels = levels;
-    } in IfOk result (λ v. v ≡ info) }
+    ensures { IfOk result (λ v. v ≡ info_of full.now scalar levels) }
 {
     Ok(VarInfo {
         full: text(alloc, full)?,
