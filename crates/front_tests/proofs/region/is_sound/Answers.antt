@@ -2,5 +2,5 @@ use Rattle.std.proofs.Common.{sym, subst}
 use Rattle.cx_plan.specs.Whole.{IsWhole}
 use Rattle.front_tests.proofs.region.is_sound.Goals as goal
 
-pub walk_job-requires : goal.walk_job-requires
-walk_job-requires c = subst IsWhole (sym c.in_ok-job.ensures) c.requires
+pub check-requires : goal.check-requires
+check-requires c = subst IsWhole (sym c.in_ok-job.ensures) c.requires
