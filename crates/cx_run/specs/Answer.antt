@@ -42,6 +42,14 @@ status_of a.Memory = 5
 abbrev pub IsStatus : ℕ → Type 0
 IsStatus status = (status ≡ 0) ⊎ ((status ≡ 1) ⊎ ((status ≡ 2) ⊎ ((status ≡ 3) ⊎ ((status ≡ 4) ⊎ (status ≡ 5)))))
 
+-- What a status says of the words: where they ask for nothing it is 1, unless the sink failed or memory is wanting, and
+-- only there; 0, 2 and 3 come where they ask for a command.
+pub record IsStatusFor (words : List (List ℕ)) (status : ℕ) : Type 0 where
+  pub known : IsStatus status
+  pub wrong_use : IsUsage words → (status ≡ 1) ⊎ ((status ≡ 4) ⊎ (status ≡ 5))
+  pub usage : status ≡ 1 → IsUsage words
+  pub asked : (status ≡ 0) ⊎ ((status ≡ 2) ⊎ (status ≡ 3)) → (command : Command) × (file : List ℕ) × Asks words command file
+
 -- the text of an answer for a file
 abbrev pub text_of : Answer → List ℕ → List ℕ
 text_of (a.Done iteration) file = done_text iteration

@@ -26,7 +26,7 @@ use crate::driver::{RunFault, run_job};
 use crate::reply::{Answer, answer_of, reply};
 use crate::sink::Sink;
 use crate::texts::{describe, schedule_text};
-use crate::words::{Command, asked, second_word};
+use crate::words::{Command, request_of, second_word};
 use cx_disk::{Disk, DiskFault};
 use cx_job::{Shelf, make_job};
 use cx_model::End;
@@ -235,7 +235,7 @@ fn answer_to<H: Shelf, D: Disk>(
     ensures shelf_count { H.faults shelf.old ≤ H.faults shelf.new }
     ensures disk_count { D.faults disk.old ≤ D.faults disk.new }
 {
-    let Some((command, file)) = asked(words) else {
+    let Some((command, file)) = request_of(words) else {
         return Answer::Usage;
     };
     match make_job(alloc, shelf, file, routines) {

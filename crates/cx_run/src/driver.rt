@@ -45,11 +45,13 @@ pub(crate) fn run_job<D: Disk>(
     requires shapes { HasShapes (setup_of job.now) }
     requires fit { FitJob (map spec_of routines.now) (setup_of job.now) }
     ensures end { IfOk result (λ end. end_of (setup_of job.now) (map rule routines.now) ≡ end) }
-    ensures output { D.tells → OnOk result ((D.view disk.new).seen 8 ≡ output (setup_of job.now) (map rule routines.now)) }
-    ensures settled { D.tells → OnOk result (IsSettled (D.view disk.new) 8) }
-    ensures others { D.tells → OthersSame 8 (D.view disk.old).seen (D.view disk.new).seen }
-    ensures meter { IfOk result (λ end. end ≡ End.Done → meter.new ≡ raised meter.old
-        (points_computed (setup_of job.now) (undivided_run (setup_of job.now) (map rule routines.now)).entries)) }
+    ensures output { let text = output (setup_of job.now) (map rule routines.now) in
+        D.tells → OnOk result ((D.view disk.new).seen OUTPUT ≡ text) }
+    ensures settled { D.tells → OnOk result (IsSettled (D.view disk.new) OUTPUT) }
+    ensures others { D.tells → OthersSame OUTPUT (D.view disk.old).seen (D.view disk.new).seen }
+    ensures meter { let run = undivided_run (setup_of job.now) (map rule routines.now) in
+        IfOk result (λ end. end ≡ End.Done
+        → meter.new ≡ raised meter.old (points_computed (setup_of job.now) run.entries)) }
     ensures later { D.faults disk.old ≤ D.faults disk.new }
     ensures failed { IsErrOf result RunFault.Disk → Rose (D.faults disk.old) (D.faults disk.new) }
 {
@@ -73,11 +75,13 @@ fn write_all<D: Disk>(
     requires shapes { HasShapes (setup_of job.now) }
     requires fit { FitJob (map spec_of routines.now) (setup_of job.now) }
     ensures end { IfOk result (λ end. end_of (setup_of job.now) (map rule routines.now) ≡ end) }
-    ensures output { D.tells → OnOk result
-        ((D.view disk.new).seen 8 ≡ (D.view disk.old).seen 8 ++ output (setup_of job.now) (map rule routines.now)) }
-    ensures others { D.tells → OthersSame 8 (D.view disk.old).seen (D.view disk.new).seen }
-    ensures meter { IfOk result (λ end. end ≡ End.Done → meter.new ≡ raised meter.old
-        (points_computed (setup_of job.now) (undivided_run (setup_of job.now) (map rule routines.now)).entries)) }
+    ensures output { let text = output (setup_of job.now) (map rule routines.now) in
+        D.tells
+        → OnOk result ((D.view disk.new).seen OUTPUT ≡ (D.view disk.old).seen OUTPUT ++ text) }
+    ensures others { D.tells → OthersSame OUTPUT (D.view disk.old).seen (D.view disk.new).seen }
+    ensures meter { let run = undivided_run (setup_of job.now) (map rule routines.now) in
+        IfOk result (λ end. end ≡ End.Done
+        → meter.new ≡ raised meter.old (points_computed (setup_of job.now) run.entries)) }
     ensures mounted { IsTrue (D.mounted disk.new) }
     ensures files { D.file_count disk.new ≡ 9 }
     ensures later { D.faults disk.old ≤ D.faults disk.new }
@@ -96,8 +100,9 @@ fn write_all<D: Disk>(
 fn append<D: Disk>(disk: &mut D, piece: &[u8]) -> Result<(), DiskFault>
     requires mounted { IsTrue (D.mounted disk.old) }
     requires files { D.file_count disk.old ≡ 9 }
-    ensures added { D.tells → OnOk result ((D.view disk.new).seen 8 ≡ (D.view disk.old).seen 8 ++ piece.now) }
-    ensures others { D.tells → OthersSame 8 (D.view disk.old).seen (D.view disk.new).seen }
+    ensures added { D.tells
+        → OnOk result ((D.view disk.new).seen OUTPUT ≡ (D.view disk.old).seen OUTPUT ++ piece.now) }
+    ensures others { D.tells → OthersSame OUTPUT (D.view disk.old).seen (D.view disk.new).seen }
     ensures mounted { IsTrue (D.mounted disk.new) }
     ensures files { D.file_count disk.new ≡ 9 }
     ensures cause { HasCause DiskFault.Failed (D.faults disk.old) (D.faults disk.new) result }

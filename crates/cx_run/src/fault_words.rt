@@ -3,7 +3,7 @@
 ghost use Rattle.std.specs.Prelude.{◌≡◌, [], ◌∷◌, ◌++◌, codes, IfOk, OnOk};
 ghost use Rattle.std.specs.List.{flat_map};
 ghost use Rattle.std.specs.Fmt.{decimal};
-ghost use Rattle.cx_run.specs.FaultWords.{spaced, or_dash, listed, flag_letter as letter_of, text_fault_words, tree_fault_words, bind_fault_words, value_fault_words, expr_fault_words, scope_fault_words, order_fault_words, region_fault_words, fault_words as words_of, refused_text as text_of};
+ghost use Rattle.cx_run.specs.FaultWords.{spaced, or_dash, listed, flag_letter, text_fault_words, tree_fault_words, bind_fault_words, value_fault_words, expr_fault_words, scope_fault_words, order_fault_words, region_fault_words, fault_words, refused_text};
 
 use cx_bind::BindFault;
 use cx_expr::ExprFault;
@@ -60,7 +60,8 @@ fn push_one(text: &mut Text, fault: &[u8], name: &Text) -> Result<(), Memory>
 
 /// Adds the name of a fault and the two texts that it keeps.
 fn push_two(text: &mut Text, fault: &[u8], first: &Text, second: &Text) -> Result<(), Memory>
-    ensures { OnOk result (text.new ≡ text.old ++ spaced (fault.now ∷ or_dash first.now ∷ or_dash second.now ∷ [])) }
+    ensures { OnOk result
+        (text.new ≡ text.old ++ spaced (fault.now ∷ or_dash first.now ∷ or_dash second.now ∷ [])) }
 {
     push_one(text, fault, first)?;
     push_name(text, second.as_slice())
@@ -74,7 +75,9 @@ fn push_three(
     second: &Text,
     third: &Text,
 ) -> Result<(), Memory>
-    ensures { OnOk result (text.new ≡ text.old ++ spaced (fault.now ∷ or_dash first.now ∷ or_dash second.now ∷ or_dash third.now ∷ [])) }
+    ensures { OnOk result
+        (text.new ≡ text.old
+        ++ spaced (fault.now ∷ or_dash first.now ∷ or_dash second.now ∷ or_dash third.now ∷ [])) }
 {
     push_two(text, fault, first, second)?;
     push_name(text, third.as_slice())
@@ -90,7 +93,8 @@ fn push_line(text: &mut Text, alloc: Global, fault: &[u8], line: u32) -> Result<
 
 /// Adds a limit, of what it is, and the number that is above it.
 fn push_limit(text: &mut Text, alloc: Global, of: &Text, number: u64) -> Result<(), Memory>
-    ensures { OnOk result (text.new ≡ text.old ++ spaced (codes "Limit" ∷ or_dash of.now ∷ decimal number ∷ [])) }
+    ensures { OnOk result
+        (text.new ≡ text.old ++ spaced (codes "Limit" ∷ or_dash of.now ∷ decimal number ∷ [])) }
 {
     push_one(text, b"Limit", of)?;
     push_number(text, alloc, number)
@@ -105,7 +109,8 @@ fn push_further(text: &mut Text, name: &Text) -> Result<(), Memory>
 }
 
 fn push_each_further(text: &mut Text, names: &[Text]) -> Result<(), Memory>
-    ensures { OnOk result (text.new ≡ text.old ++ flat_map (λ name. codes "," ++ or_dash name) names.now) }
+    ensures { OnOk result
+        (text.new ≡ text.old ++ flat_map (λ name. codes "," ++ or_dash name) names.now) }
 {
     'names: for name in names {
         push_further(text, name)?;
@@ -232,7 +237,8 @@ fn push_scope_fault(text: &mut Text, fault: &ScopeFault) -> Result<(), Memory>
 
 /// Adds a fault of an expression behind the thorn that has it.
 fn push_expr_of(text: &mut Text, thorn: &Text, fault: &ExprFault) -> Result<(), Memory>
-    ensures { OnOk result (text.new ≡ text.old ++ spaced (or_dash thorn.now ∷ expr_fault_words fault.now ∷ [])) }
+    ensures { OnOk result
+        (text.new ≡ text.old ++ spaced (or_dash thorn.now ∷ expr_fault_words fault.now ∷ [])) }
 {
     push_outer(text, thorn)?;
     push_expr_fault(text, fault)
@@ -240,7 +246,8 @@ fn push_expr_of(text: &mut Text, thorn: &Text, fault: &ExprFault) -> Result<(), 
 
 /// Adds a fault of a name behind the thorn or the path where it stands.
 fn push_scope_of(text: &mut Text, place: &Text, fault: &ScopeFault) -> Result<(), Memory>
-    ensures { OnOk result (text.new ≡ text.old ++ spaced (or_dash place.now ∷ scope_fault_words fault.now ∷ [])) }
+    ensures { OnOk result
+        (text.new ≡ text.old ++ spaced (or_dash place.now ∷ scope_fault_words fault.now ∷ [])) }
 {
     push_outer(text, place)?;
     push_scope_fault(text, fault)
@@ -264,7 +271,7 @@ fn push_order_fault(text: &mut Text, alloc: Global, fault: &OrderFault) -> Resul
 
 /// The letter of a flag.
 fn flag_letter(flag: Flag) -> &'static [u8]
-    ensures { result.now ≡ letter_of flag }
+    ensures { result.now ≡ flag_letter flag }
 {
     match flag {
         Flag::I => b"I",
@@ -274,13 +281,21 @@ fn flag_letter(flag: Flag) -> &'static [u8]
     }
 }
 
+/// A level of a variable, and the flag that isn't set there.
+#[derive(Clone, Copy)]
+struct LevelFlag {
+    level: u8,
+    flag: Flag,
+}
+
 /// Adds a level and a flag, each behind a blank.
-fn push_place(text: &mut Text, alloc: Global, level: u8, flag: Flag) -> Result<(), Memory>
-    ensures { OnOk result (text.new ≡ text.old ++ 32 ∷ spaced (decimal level ∷ letter_of flag ∷ [])) }
+fn push_level_flag(text: &mut Text, alloc: Global, at: LevelFlag) -> Result<(), Memory>
+    ensures { OnOk result
+        (text.new ≡ text.old ++ 32 ∷ spaced (decimal at.level ∷ flag_letter at.flag ∷ [])) }
 {
-    push_number(text, alloc, u64::from(level))?;
+    push_number(text, alloc, u64::from(at.level))?;
     text.push_slice(b" ")?;
-    text.push_slice(flag_letter(flag))
+    text.push_slice(flag_letter(at.flag))
 }
 
 /// Adds a need that isn't met.
@@ -290,13 +305,14 @@ fn push_unset(
     path: &Text,
     item: &Text,
     var: &Text,
-    level: u8,
-    flag: Flag,
+    at: LevelFlag,
 ) -> Result<(), Memory>
-    ensures { OnOk result (text.new ≡ text.old ++ spaced (codes "Unset" ∷ or_dash path.now ∷ or_dash item.now ∷ or_dash var.now ∷ decimal level ∷ letter_of flag ∷ [])) }
+    ensures { let where_ = or_dash path.now ∷ or_dash item.now ∷ or_dash var.now ∷ [] in
+        let what = decimal at.level ∷ flag_letter at.flag ∷ [] in
+        OnOk result (text.new ≡ text.old ++ spaced (codes "Unset" ∷ where_ ++ what)) }
 {
     push_three(text, b"Unset", path, item, var)?;
-    push_place(text, alloc, level, flag)
+    push_level_flag(text, alloc, at)
 }
 
 /// Adds a fault of regions.
@@ -311,14 +327,21 @@ fn push_region_fault(text: &mut Text, alloc: Global, fault: &RegionFault) -> Res
             var,
             level,
             flag,
-        } => push_unset(text, alloc, path, item, var, *level, *flag),
+        } => {
+            let at = LevelFlag {
+                level: *level,
+                flag: *flag,
+            };
+            push_unset(text, alloc, path, item, var, at)
+        }
         RegionFault::Memory => text.push_slice(b"Memory"),
     }
 }
 
 /// Adds a fault of a text behind its file's name.
 fn push_text_of(text: &mut Text, alloc: Global, file: &Text, fault: TextFault) -> Result<(), Memory>
-    ensures { OnOk result (text.new ≡ text.old ++ spaced (or_dash file.now ∷ text_fault_words fault ∷ [])) }
+    ensures { OnOk result
+        (text.new ≡ text.old ++ spaced (or_dash file.now ∷ text_fault_words fault ∷ [])) }
 {
     push_outer(text, file)?;
     push_text_fault(text, alloc, fault)
@@ -326,7 +349,8 @@ fn push_text_of(text: &mut Text, alloc: Global, file: &Text, fault: TextFault) -
 
 /// Adds a fault of tokens behind their file's name.
 fn push_tree_of(text: &mut Text, alloc: Global, file: &Text, fault: CclFault) -> Result<(), Memory>
-    ensures { OnOk result (text.new ≡ text.old ++ spaced (or_dash file.now ∷ tree_fault_words fault ∷ [])) }
+    ensures { OnOk result
+        (text.new ≡ text.old ++ spaced (or_dash file.now ∷ tree_fault_words fault ∷ [])) }
 {
     push_outer(text, file)?;
     push_tree_fault(text, alloc, fault)
@@ -334,7 +358,7 @@ fn push_tree_of(text: &mut Text, alloc: Global, file: &Text, fault: CclFault) ->
 
 /// Adds the words of a fault.
 pub(crate) fn push_fault(text: &mut Text, alloc: Global, fault: &JobFault) -> Result<(), Memory>
-    ensures { OnOk result (text.new ≡ text.old ++ words_of fault.now) }
+    ensures { OnOk result (text.new ≡ text.old ++ fault_words fault.now) }
 {
     match fault {
         JobFault::Shelf => text.push_slice(b"Shelf"),
@@ -356,7 +380,7 @@ pub(crate) fn push_fault(text: &mut Text, alloc: Global, fault: &JobFault) -> Re
 
 /// What is printed of a job that is refused.
 pub(crate) fn refused_text(alloc: Global, fault: &JobFault) -> Result<Text, Memory>
-    ensures { IfOk result (λ text. text ≡ text_of fault.now) }
+    ensures { IfOk result (λ text. text ≡ refused_text fault.now) }
 {
     let mut text = Text::from_slice(alloc, b"refused: ")?;
     push_fault(&mut text, alloc, fault)?;

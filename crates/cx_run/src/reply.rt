@@ -113,7 +113,8 @@ fn push_stop(
     iteration: u64,
     path: &Text,
 ) -> Result<(), Memory>
-    ensures { OnOk result (text.new ≡ text.old ++ spaced (name.now ∷ decimal iteration ∷ or_dash path.now ∷ [])) }
+    ensures { OnOk result
+        (text.new ≡ text.old ++ spaced (name.now ∷ decimal iteration ∷ or_dash path.now ∷ [])) }
 {
     text.push_slice(name)?;
     push_number(text, alloc, iteration)?;
@@ -152,7 +153,8 @@ fn ended_text(alloc: Global, end: &End) -> Result<Text, Memory>
 
 /// Prints an answer for a file and gives its status; want of memory in its place; 4 where the sink fails.
 pub(crate) fn reply<O: Sink>(alloc: Global, answer: Answer, file: &[u8], out: &mut O) -> u8
-    ensures said { WasSaid O.tells file.now answer result (O.written out.old) (O.written out.new) (O.faults out.old) (O.faults out.new) }
+    ensures said { WasSaid O.tells file.now answer result
+        (O.written out.old) (O.written out.new) (O.faults out.old) (O.faults out.new) }
     ensures later { O.faults out.old ≤ O.faults out.new }
 {
     let status = answer.status();
@@ -164,8 +166,10 @@ pub(crate) fn reply<O: Sink>(alloc: Global, answer: Answer, file: &[u8], out: &m
 
 /// Prints a text. Where the sink fails the status is 4.
 fn say<O: Sink>(out: &mut O, text: &[u8], status: u8) -> u8
-    ensures printed { Says O.tells status text.now result (O.written out.old) (O.written out.new) (O.faults out.old) (O.faults out.new)
-        ⊎ IsCutOff O.tells text.now result (O.written out.old) (O.written out.new) (O.faults out.old) (O.faults out.new) }
+    ensures printed { Says O.tells status text.now result
+        (O.written out.old) (O.written out.new) (O.faults out.old) (O.faults out.new)
+        ⊎ IsCutOff O.tells text.now result
+        (O.written out.old) (O.written out.new) (O.faults out.old) (O.faults out.new) }
     ensures later { O.faults out.old ≤ O.faults out.new }
 {
     match out.put(text) {

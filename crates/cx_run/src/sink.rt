@@ -2,7 +2,7 @@
 ghost use Rattle.std.specs.Prelude.{◌≡◌, ◌≤◌, ◌<◌, ◌-◌, ◌+◌, ◌^◌, ◌↔◌, [], ℕ, List as ListOf, OnOk, OnErr, IfOk, IsOk, IsErr, IsTrue, min, length, take, ◌++◌};
 ghost use Rattle.cx_run.specs.Sink.{Adds, AddsFront};
 ghost use Rattle.cx_disk.specs.Cause.{HasCause};
-ghost use Rattle.cx_run.specs.MemorySink.{FailsNext, HasRoom};
+ghost use Rattle.cx_run.specs.MemorySink.{FailsNext, HasRoom, empty_sink, next_count, fitting};
 
 use cx_text::{List, Memory};
 use std::alloc::Global;
@@ -29,7 +29,8 @@ pub trait Sink {
     /// Writes a piece at the end. Where it answers `Failed` the count of faults rose, and only a front of the piece was written.
     fn put(&mut self, bytes: &[u8]) -> Result<(), SinkFault>
         ensures added { tells → OnOk result (Adds bytes.now (written self.old) (written self.new)) }
-        ensures front { tells → OnErr result (AddsFront bytes.now (written self.old) (written self.new)) }
+        ensures front { tells
+            → OnErr result (AddsFront bytes.now (written self.old) (written self.new)) }
         ensures cause { HasCause SinkFault.Failed (faults self.old) (faults self.new) result }
         ensures count { OnOk result (faults self.new ≡ faults self.old) };
 }
@@ -50,7 +51,13 @@ impl Model for MemorySink {
 
     ghost Value = { Written };
 
-    ghost view = { λ s. record { bytes = s.bytes.items; room = s.room; fail = s.fail; calls = s.calls; faults = s.faults } };
+    ghost view = { λ s. record {
+      bytes = s.bytes.items;
+      room = s.room;
+      fail = s.fail;
+      calls = s.calls;
+      faults = s.faults;
+    } };
 
     ghost invariant = { λ s. (length s.bytes.items ≤ s.room) × (s.room ≤ vec_capacity s.bytes) };
 }
@@ -58,7 +65,7 @@ impl Model for MemorySink {
 impl MemorySink {
     /// An empty sink that holds at most `room` bytes, and whose calls of the numbers in `fail` fail.
     pub fn new(alloc: Global, room: u32, fail: List<u64>) -> Result<Self, Memory>
-        ensures { IfOk result (λ sink. sink ≡ record { bytes = []; room = room; fail = fail; calls = 0; faults = 0 }) }
+        ensures { IfOk result (λ sink. sink ≡ empty_sink room fail) }
     {
         Ok(MemorySink {
             bytes: Vec::with_capacity(alloc, room as usize)?,
@@ -79,7 +86,7 @@ impl MemorySink {
     // A failure, counted.
     fn failed(&mut self) -> Result<(), SinkFault>
         ensures fails { IsErr result }
-        ensures next { self.new ≡ record self.old { faults = min (self.old.faults + 1) (2 ^ 64 - 1) } }
+        ensures next { self.new ≡ record self.old { faults = next_count self.old.faults } }
     {
         self.faults = self.faults.saturating_add(1);
         Err(SinkFault::Failed)
@@ -88,7 +95,8 @@ impl MemorySink {
     // Writes as much of the front of a piece as there is room for, and tells whether that is all of it.
     fn fill(&mut self, piece: &[u8]) -> bool
         ensures all { IsTrue result ↔ HasRoom self.old piece.now }
-        ensures next { self.new ≡ record self.old { bytes = self.old.bytes ++ take (self.old.room - length self.old.bytes) piece.now } }
+        ensures next { self.new
+            ≡ record self.old { bytes = self.old.bytes ++ fitting self.old piece.now } }
     {
         let room = self.room as usize - self.bytes.len();
         let count = room.min(piece.len());
@@ -111,9 +119,12 @@ impl Sink for MemorySink {
         ensures front { OnErr result (AddsFront bytes.now self.old.bytes self.new.bytes) }
         ensures cause { HasCause SinkFault.Failed self.old.faults self.new.faults result }
         ensures count { OnOk result (self.new.faults ≡ self.old.faults) }
-        ensures fails_by_number { FailsNext self.old → IsErr result × (self.new.bytes ≡ self.old.bytes) }
-        ensures fails_by_room { (FailsNext self.old → ⊥) → (IsOk result ↔ HasRoom self.old bytes.now) × (self.new.bytes ≡ self.old.bytes ++ take (self.old.room - length self.old.bytes) bytes.now) }
-        ensures calls { self.new.calls ≡ min (self.old.calls + 1) (2 ^ 64 - 1) }
+        ensures fails_by_number { FailsNext self.old
+            → IsErr result × (self.new.bytes ≡ self.old.bytes) }
+        ensures fails_by_room { (FailsNext self.old → ⊥)
+            → (IsOk result ↔ HasRoom self.old bytes.now)
+            × (self.new.bytes ≡ self.old.bytes ++ fitting self.old bytes.now) }
+        ensures calls { self.new.calls ≡ next_count self.old.calls }
         ensures same { (self.new.room ≡ self.old.room) × (self.new.fail ≡ self.old.fail) }
     {
         let call = self.calls;

@@ -19,7 +19,7 @@ pub enum Command {
 }
 
 /// The command and the file that the words ask for, if they ask for any.
-pub(crate) fn asked(words: &[Text]) -> Option<(Command, &Text)>
+pub(crate) fn request_of(words: &[Text]) -> Option<(Command, &Text)>
     ensures some { IfSome result (λ ask. Asks words.now ask.0 ask.1.now) }
     ensures second { IfSome result (λ ask. ask.1.now ≡ slice_index_or words.now 1 []) }
     ensures none { IfNone result (IsUsage words.now) }
