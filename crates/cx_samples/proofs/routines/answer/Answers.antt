@@ -4,14 +4,14 @@ use Rattle.cx_thorn_ca.specs.Life.{life_init_rule, life_step_rule, life_zero_rul
 use Rattle.cx_thorn_pde.specs.Control.{control_set_rule, control_spin_rule, control_set_spec, control_spin_spec}
 use Rattle.cx_thorn_pde.specs.Heat.{diff_init_rule, diff_step_rule, diff_flat_rule, diff_scalar_rule, diff_sum_rule, diff_init_spec, diff_step_spec, diff_flat_spec, diff_scalar_spec, diff_sum_spec}
 use Rattle.cx_thorn_pde.specs.Wave.{wave_init_rule, wave_init1_rule, wave_step_rule, wave_copy_rule, wave_flat_rule, wave_scalar_rule, wave_sum_rule, wave_init_spec, wave_init1_spec, wave_step_spec, wave_copy_spec, wave_flat_spec, wave_scalar_spec, wave_sum_spec}
-use Rattle.cactus.specs.contracts.called.{dyn-1-ghosts}
-use Rattle.cactus.proofs.answered.OwnLists.{own-1, lawful-own-1}
-use Rattle.cactus.specs.Samples.{sample_rules, sample_specs}
-use Rattle.cactus.proofs.Handed.{Handed, none_yet, pushed, rules_of, specs_of}
-use Rattle.cactus.proofs.answered.Given.{Over}
-use Rattle.cactus.proofs.answered.Goals as goal
+use Rattle.cx_samples.specs.contracts.routines.answer_with.{dyn-1-ghosts}
+use Rattle.cx_samples.proofs.routines.answer.OwnLists.{own-1, lawful-own-1}
+use Rattle.cx_samples.specs.Samples.{sample_rules, sample_specs}
+use Rattle.cx_samples.proofs.Handed.{Handed, none_yet, pushed, rules_of, specs_of}
+use Rattle.cx_samples.proofs.routines.answer.Given.{Over}
+use Rattle.cx_samples.proofs.routines.answer.Goals as goal
 
-handed : (g : Over) (c : goal.After-called-arg-4-1 g) → Handed c.push-22.new.self.items (λ z. ((dyn-1-ghosts g.row.H g.row.D g.row.O g.H.Shelf g.H.Shelf-dict g.D.Disk g.D.Disk-dict g.O.Sink g.O.Sink-dict (own-1, lawful-own-1)).0.entry z.vtable).1.rule z.value) (λ z. ((dyn-1-ghosts g.row.H g.row.D g.row.O g.H.Shelf g.H.Shelf-dict g.D.Disk g.D.Disk-dict g.O.Sink g.O.Sink-dict (own-1, lawful-own-1)).0.entry z.vtable).1.spec_of z.value) sample_rules sample_specs
+handed : (g : Over) (c : goal.After-answer_with-arg-4-1 g) → Handed c.push-22.new.self.items (λ z. ((dyn-1-ghosts g.row.H g.row.D g.row.O g.H.Shelf g.H.Shelf-dict g.D.Disk g.D.Disk-dict g.O.Sink g.O.Sink-dict (own-1, lawful-own-1)).0.entry z.vtable).1.rule z.value) (λ z. ((dyn-1-ghosts g.row.H g.row.D g.row.O g.H.Shelf g.H.Shelf-dict g.D.Disk g.D.Disk-dict g.O.Sink g.O.Sink-dict (own-1, lawful-own-1)).0.entry z.vtable).1.spec_of z.value) sample_rules sample_specs
 handed g c =
     let h0 = none_yet c.new-routines.result.items (λ z. ((dyn-1-ghosts g.row.H g.row.D g.row.O g.H.Shelf g.H.Shelf-dict g.D.Disk g.D.Disk-dict g.O.Sink g.O.Sink-dict (own-1, lawful-own-1)).0.entry z.vtable).1.rule z.value) (λ z. ((dyn-1-ghosts g.row.H g.row.D g.row.O g.H.Shelf g.H.Shelf-dict g.D.Disk g.D.Disk-dict g.O.Sink g.O.Sink-dict (own-1, lawful-own-1)).0.entry z.vtable).1.spec_of z.value) c.new-routines.ensures.items in
     let more = pushed c.new-routines.result.items
@@ -41,8 +41,8 @@ handed g c =
     let h22 = more _ _ _ _ _ _ control_spin_rule control_spin_spec h21 c.in_ok-push-22.ensures.items c.into_dyn_box-in_ok-new-44.ensures.0 (λ h. refl) (λ h. refl) in
     h22
 
-pub called-requires-clause-rules : goal.called-requires-clause-rules
-called-requires-clause-rules g c = rules_of _ _ _ _ _ _ (handed g c) c.deref.ensures.value
+pub answer_with-requires-clause-rules : goal.answer_with-requires-clause-rules
+answer_with-requires-clause-rules g c = rules_of _ _ _ _ _ _ (handed g c) c.deref.ensures.value
 
-pub called-requires-clause-specs : goal.called-requires-clause-specs
-called-requires-clause-specs g c = specs_of _ _ _ _ _ _ (handed g c) c.deref.ensures.value
+pub answer_with-requires-clause-specs : goal.answer_with-requires-clause-specs
+answer_with-requires-clause-specs g c = specs_of _ _ _ _ _ _ (handed g c) c.deref.ensures.value

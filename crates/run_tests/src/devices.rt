@@ -1,4 +1,4 @@
-// Devices that fail in one call, and tell nothing.
+//! Devices that fail in one call, and tell nothing.
 ghost use Rattle.std.specs.Prelude.{◌≡◌, IfErr, false};
 ghost use Rattle.cx_disk.specs.Cause.{HasCause};
 ghost use Rattle.cx_disk.specs.Disk.{untold};
@@ -27,8 +27,8 @@ impl LateShelf {
     /// The bytes of the first file of a name.
     fn find(&self, name: &[u8]) -> Option<&'static [u8]> {
         for file in self.files {
-            if file.0 == name {
-                return Some(file.1);
+            if file.name == name {
+                return Some(file.bytes);
             }
         }
         None

@@ -1,86 +1,250 @@
-// The top call over objects in memory and over devices that fail.
-mod runs;
+//! The top call over objects in memory and over devices that fail.
 
-use crate::answered;
 use crate::devices::{HollowDisk, LateShelf};
 use crate::faults::{FAULTS, IF_AROUND, IF_NOWHERE, PLAIN, SAMPLE_FAULTS};
+use crate::jobs::{CA_OUTPUT, RUNS};
 use crate::samples::{BOX, CA, CONTROL, File, GLIDER, HEAT, LIFE, SAMPLES, WAVE};
 use cx_disk::{Disk, MemoryDisk};
 use cx_rule::Meter;
 use cx_run::{FolderShelf, MemoryShelf, MemorySink, Shelf, Sink};
+use cx_samples::answer;
 use cx_text::{List, Memory, Text};
-use runs::{CA_OUTPUT, RUNS};
 use std::alloc::Global;
 use std::fs;
 use std::test::Fail;
 
 const PARAMETER_FILES: &[File] = &[
-    (b"life.par", LIFE),
-    (b"wave.par", WAVE),
-    (b"heat.par", HEAT),
-    (b"control.par", CONTROL),
-    (b"glider.par", GLIDER),
-    (b"box.par", BOX),
-    (b"byte.par", b"a = 1\nb = \x01\n"),
-    (b"open.par", b"a = \"1\nb = 2\n"),
-    (b"sign.par", b"ca::start 3\n"),
-    (b"index.par", b"a[1023] = 1\na[1024] = 1\n"),
+    File {
+        name: b"life.par",
+        bytes: LIFE,
+    },
+    File {
+        name: b"wave.par",
+        bytes: WAVE,
+    },
+    File {
+        name: b"heat.par",
+        bytes: HEAT,
+    },
+    File {
+        name: b"control.par",
+        bytes: CONTROL,
+    },
+    File {
+        name: b"glider.par",
+        bytes: GLIDER,
+    },
+    File {
+        name: b"box.par",
+        bytes: BOX,
+    },
+    File {
+        name: b"byte.par",
+        bytes: b"a = 1\nb = \x01\n",
+    },
+    File {
+        name: b"open.par",
+        bytes: b"a = \"1\nb = 2\n",
+    },
+    File {
+        name: b"sign.par",
+        bytes: b"ca::start 3\n",
+    },
+    File {
+        name: b"index.par",
+        bytes: b"a[1023] = 1\na[1024] = 1\n",
+    },
 ];
 
-const USAGE: &[u8] =
-    b"usage: cactus run FILE\n       cactus check FILE\n       cactus schedule FILE\n       cactus describe FILE\n";
+const USAGE: &[u8] = b"usage: cactus run FILE\n\
+        \x20      cactus check FILE\n\
+        \x20      cactus schedule FILE\n\
+        \x20      cactus describe FILE\n";
 
-const SCHEDULE: &[u8] =
-    b"bin STARTUP\nbin WRAGH\nbin PARAMCHECK\nbin BASEGRID\nbin INITIAL\n  call ElemCA::ca_init writes ca::cell(everywhere)\nbin POSTINITIAL\nbin PRESTEP\nbin EVOL\n  call ElemCA::ca_step reads ca::cell(everywhere) writes ca::cell(interior) sync ca::cell\n  call ElemCA::ca_zero writes ca::cell(boundary)\nbin POSTSTEP\n  call ElemCA::ca_count reads ca::cell(everywhere) writes ca::live(everywhere)\nbin CHECKPOINT\nbin ANALYSIS\nbin TERMINATE\nbin SHUTDOWN\nbin CPINITIAL not run\nbin RECOVER_PARAMETERS not run\nbin RECOVER_VARIABLES not run\nbin POST_RECOVER_VARIABLES not run\n";
+const SCHEDULE: &[u8] = b"bin STARTUP\n\
+        bin WRAGH\n\
+        bin PARAMCHECK\n\
+        bin BASEGRID\n\
+        bin INITIAL\n\
+        \x20 call ElemCA::ca_init writes ca::cell(everywhere)\n\
+        bin POSTINITIAL\n\
+        bin PRESTEP\n\
+        bin EVOL\n\
+        \x20 call ElemCA::ca_step reads ca::cell(everywhere) writes ca::cell(interior) sync ca::cell\n\
+        \x20 call ElemCA::ca_zero writes ca::cell(boundary)\n\
+        bin POSTSTEP\n\
+        \x20 call ElemCA::ca_count reads ca::cell(everywhere) writes ca::live(everywhere)\n\
+        bin CHECKPOINT\n\
+        bin ANALYSIS\n\
+        bin TERMINATE\n\
+        bin SHUTDOWN\n\
+        bin CPINITIAL not run\n\
+        bin RECOVER_PARAMETERS not run\n\
+        bin RECOVER_VARIABLES not run\n\
+        bin POST_RECOVER_VARIABLES not run\n";
 
 /// What `describe` prints before the schedule text.
-const KEY_BEGINS: &[u8] =
-    b"thorn Integer/ElemCA ca\ndirection x points 8 ghost 1 periodic\nvariable 0 ca::cell BYTE GF levels 1\nvariable 1 ca::live INT SCALAR levels 1\nparameter Cactus::cctk_itlast = \"2\"\nparameter Cactus::cctk_run_title = \"\"\nparameter Cactus::terminate = \"iteration\" 0\nparameter driver::global_nx = \"8\"\nparameter driver::global_ny = \"10\"\nparameter driver::global_nz = \"10\"\nparameter driver::global_nsize = \"-1\"\nparameter driver::ghost_size = \"-1\"\nparameter driver::ghost_size_x = \"1\"\nparameter driver::ghost_size_y = \"1\"\nparameter driver::ghost_size_z = \"1\"\nparameter driver::periodic = \"yes\"\nparameter driver::periodic_x = \"yes\"\nparameter driver::periodic_y = \"yes\"\nparameter driver::periodic_z = \"yes\"\nparameter driver::while_limit = \"1000\"\nparameter IO::out_vars = \"ca::cell\"\nparameter IO::out_every = \"1\"\nparameter IO::checkpoint_every = \"-1\"\nparameter IO::checkpoint_keep = \"1\"\nparameter IO::checkpoint_on_terminate = \"no\"\nparameter IO::checkpoint_ID = \"no\"\nparameter ca::rule = \"90\"\nparameter ca::start = \"3\"\nparameter ca::seed = \"-1\"\n";
+const KEY_BEGINS: &[u8] = b"thorn Integer/ElemCA ca\n\
+        direction x points 8 ghost 1 periodic\n\
+        variable 0 ca::cell BYTE GF levels 1\n\
+        variable 1 ca::live INT SCALAR levels 1\n\
+        parameter Cactus::cctk_itlast = \"2\"\n\
+        parameter Cactus::cctk_run_title = \"\"\n\
+        parameter Cactus::terminate = \"iteration\" 0\n\
+        parameter driver::global_nx = \"8\"\n\
+        parameter driver::global_ny = \"10\"\n\
+        parameter driver::global_nz = \"10\"\n\
+        parameter driver::global_nsize = \"-1\"\n\
+        parameter driver::ghost_size = \"-1\"\n\
+        parameter driver::ghost_size_x = \"1\"\n\
+        parameter driver::ghost_size_y = \"1\"\n\
+        parameter driver::ghost_size_z = \"1\"\n\
+        parameter driver::periodic = \"yes\"\n\
+        parameter driver::periodic_x = \"yes\"\n\
+        parameter driver::periodic_y = \"yes\"\n\
+        parameter driver::periodic_z = \"yes\"\n\
+        parameter driver::while_limit = \"1000\"\n\
+        parameter IO::out_vars = \"ca::cell\"\n\
+        parameter IO::out_every = \"1\"\n\
+        parameter IO::checkpoint_every = \"-1\"\n\
+        parameter IO::checkpoint_keep = \"1\"\n\
+        parameter IO::checkpoint_on_terminate = \"no\"\n\
+        parameter IO::checkpoint_ID = \"no\"\n\
+        parameter ca::rule = \"90\"\n\
+        parameter ca::start = \"3\"\n\
+        parameter ca::seed = \"-1\"\n";
 
 /// What it prints behind it.
-const STARRED: &[u8] =
-    b"parameter driver::parts_x = \"1\"\nparameter driver::parts_y = \"1\"\nparameter driver::parts_z = \"1\"\nparameter driver::widths_x = \"\"\nparameter driver::widths_y = \"\"\nparameter driver::widths_z = \"\"\nparameter driver::lead = \"0\"\nparameter IO::out_dir = \".\"\nparameter IO::checkpoint_dir = \".\"\nparameter IO::recover_dir = \".\"\nparameter IO::recover = \"no\" 0\n";
+const STARRED: &[u8] = b"parameter driver::parts_x = \"1\"\n\
+        parameter driver::parts_y = \"1\"\n\
+        parameter driver::parts_z = \"1\"\n\
+        parameter driver::widths_x = \"\"\n\
+        parameter driver::widths_y = \"\"\n\
+        parameter driver::widths_z = \"\"\n\
+        parameter driver::lead = \"0\"\n\
+        parameter IO::out_dir = \".\"\n\
+        parameter IO::checkpoint_dir = \".\"\n\
+        parameter IO::recover_dir = \".\"\n\
+        parameter IO::recover = \"no\" 0\n";
 
 /// Words, the status that they give and the text that is printed.
-const ANSWERS: &[(&[&[u8]], u8, &[u8])] = &[
-    (&[], 1, USAGE),
-    (&[b"run"], 1, USAGE),
-    (&[b"run", b"-x"], 1, USAGE),
-    (&[b"check", b""], 1, USAGE),
-    (&[b"walk", b"ca.par"], 1, USAGE),
-    (
-        &[b"run", b"a", b"--turns", b"1", b"--turns", b"2"],
-        1,
-        USAGE,
-    ),
-    (&[b"make", b"1", b"7"], 1, USAGE),
-    (&[b"run", b"no.par"], 2, b"refused: NoFile no.par\n"),
-    (&[b"check", b"no.par"], 2, b"refused: NoFile no.par\n"),
-    (&[b"run", b"byte.par"], 2, b"refused: byte.par BadByte 2\n"),
-    (
-        &[b"run", b"open.par"],
-        2,
-        b"refused: open.par OpenQuote 1\n",
-    ),
-    (
-        &[b"run", b"sign.par"],
-        2,
-        b"refused: sign.par Unexpected 1\n",
-    ),
-    (
-        &[b"run", b"index.par"],
-        2,
-        b"refused: index.par BadNumber 2\n",
-    ),
-    (&[b"run", b"ca.par"], 0, b"done: iteration 2\n"),
-    (&[b"check", b"ca.par"], 0, b"accepted\n"),
-    (&[b"check", b"life.par"], 0, b"accepted\n"),
-    (&[b"check", b"wave.par"], 0, b"accepted\n"),
-    (&[b"check", b"heat.par"], 0, b"accepted\n"),
-    (&[b"check", b"control.par"], 0, b"accepted\n"),
-    (&[b"check", b"glider.par"], 0, b"accepted\n"),
-    (&[b"check", b"box.par"], 0, b"accepted\n"),
-    (&[b"schedule", b"ca.par"], 0, SCHEDULE),
+struct Asked {
+    words: &'static [&'static [u8]],
+    status: u8,
+    printed: &'static [u8],
+}
+
+const ANSWERS: &[Asked] = &[
+    Asked {
+        words: &[],
+        status: 1,
+        printed: USAGE,
+    },
+    Asked {
+        words: &[b"run"],
+        status: 1,
+        printed: USAGE,
+    },
+    Asked {
+        words: &[b"run", b"-x"],
+        status: 1,
+        printed: USAGE,
+    },
+    Asked {
+        words: &[b"check", b""],
+        status: 1,
+        printed: USAGE,
+    },
+    Asked {
+        words: &[b"walk", b"ca.par"],
+        status: 1,
+        printed: USAGE,
+    },
+    Asked {
+        words: &[b"run", b"a", b"--turns", b"1", b"--turns", b"2"],
+        status: 1,
+        printed: USAGE,
+    },
+    Asked {
+        words: &[b"make", b"1", b"7"],
+        status: 1,
+        printed: USAGE,
+    },
+    Asked {
+        words: &[b"run", b"no.par"],
+        status: 2,
+        printed: b"refused: NoFile no.par\n",
+    },
+    Asked {
+        words: &[b"check", b"no.par"],
+        status: 2,
+        printed: b"refused: NoFile no.par\n",
+    },
+    Asked {
+        words: &[b"run", b"byte.par"],
+        status: 2,
+        printed: b"refused: byte.par BadByte 2\n",
+    },
+    Asked {
+        words: &[b"run", b"open.par"],
+        status: 2,
+        printed: b"refused: open.par OpenQuote 1\n",
+    },
+    Asked {
+        words: &[b"run", b"sign.par"],
+        status: 2,
+        printed: b"refused: sign.par Unexpected 1\n",
+    },
+    Asked {
+        words: &[b"run", b"index.par"],
+        status: 2,
+        printed: b"refused: index.par BadNumber 2\n",
+    },
+    Asked {
+        words: &[b"run", b"ca.par"],
+        status: 0,
+        printed: b"done: iteration 2\n",
+    },
+    Asked {
+        words: &[b"check", b"ca.par"],
+        status: 0,
+        printed: b"accepted\n",
+    },
+    Asked {
+        words: &[b"check", b"life.par"],
+        status: 0,
+        printed: b"accepted\n",
+    },
+    Asked {
+        words: &[b"check", b"wave.par"],
+        status: 0,
+        printed: b"accepted\n",
+    },
+    Asked {
+        words: &[b"check", b"heat.par"],
+        status: 0,
+        printed: b"accepted\n",
+    },
+    Asked {
+        words: &[b"check", b"control.par"],
+        status: 0,
+        printed: b"accepted\n",
+    },
+    Asked {
+        words: &[b"check", b"glider.par"],
+        status: 0,
+        printed: b"accepted\n",
+    },
+    Asked {
+        words: &[b"check", b"box.par"],
+        status: 0,
+        printed: b"accepted\n",
+    },
+    Asked {
+        words: &[b"schedule", b"ca.par"],
+        status: 0,
+        printed: SCHEDULE,
+    },
 ];
 
 /// Lines of jobs that `run` doesn't run yet: checkpoints, and other beginnings than afresh.
@@ -92,14 +256,28 @@ const UNBUILT: &[&[u8]] = &[
 ];
 
 /// Jobs, each with how many calls of the disk its run makes, its status, and what two runs print whose disk fails once.
-const WRITERS: &[(&[u8], u64, u8, &[u8])] = &[
-    (CA, 10, 0, b"device: disk\ndone: iteration 2\n"),
-    (
-        b"ActiveThorns = \"Control\"\ncontrol::drop = 0\nIO::out_vars = \"control::count\"\n",
-        6,
-        3,
-        b"device: disk\nended: WhileLimit 1 EVOL/control_spin\n",
-    ),
+struct Writer {
+    file: &'static [u8],
+    calls: u64,
+    status: u8,
+    printed: &'static [u8],
+}
+
+const WRITERS: &[Writer] = &[
+    Writer {
+        file: CA,
+        calls: 10,
+        status: 0,
+        printed: b"device: disk\ndone: iteration 2\n",
+    },
+    Writer {
+        file: b"ActiveThorns = \"Control\"\n\
+        control::drop = 0\n\
+        IO::out_vars = \"control::count\"\n",
+        calls: 6,
+        status: 3,
+        printed: b"device: disk\nended: WhileLimit 1 EVOL/control_spin\n",
+    },
 ];
 
 /// Thorns, each with the grids' directions that it has.
@@ -126,8 +304,8 @@ fn texts(alloc: Global, words: &[&[u8]]) -> Result<Vec<Text>, Memory> {
 fn push_files(alloc: Global, list: &mut Vec<(Text, Text)>, files: &[File]) -> Result<(), Memory> {
     for file in files {
         list.push((
-            Text::from_slice(alloc, file.0)?,
-            Text::from_slice(alloc, file.1)?,
+            Text::from_slice(alloc, file.name)?,
+            Text::from_slice(alloc, file.bytes)?,
         ))?;
     }
     Ok(())
@@ -162,7 +340,7 @@ fn answer_to(rt: &HostRuntime, words: &[&[u8]], shelf: &mut MemoryShelf) -> Resu
     let mut disk = MemoryDisk::new(alloc, List::empty(alloc));
     let mut out = sink(alloc, &[])?;
     let mut meter = Meter::new(rt);
-    let status = answered(alloc, &words, shelf, &mut disk, &mut out, &mut meter)?;
+    let status = answer(alloc, &words, shelf, &mut disk, &mut out, &mut meter)?;
     Ok(Outcome {
         status,
         printed: out.bytes().to_vec(alloc)?,
@@ -191,10 +369,10 @@ fn shelf_with(
 fn answers(rt: HostRuntime) -> Result<(), Fail> {
     let alloc = rt.alloc();
     let mut shelf = shelf(alloc, PARAMETER_FILES, SAMPLES)?;
-    for answer in ANSWERS {
-        let came = answer_to(&rt, answer.0, &mut shelf)?;
-        assert_eq!(rt; came.status, answer.1);
-        assert_eq!(rt; came.printed.as_slice(), answer.2);
+    for asked in ANSWERS {
+        let came = answer_to(&rt, asked.words, &mut shelf)?;
+        assert_eq!(rt; came.status, asked.status);
+        assert_eq!(rt; came.printed.as_slice(), asked.printed);
     }
     Ok(())
 }
@@ -245,8 +423,8 @@ fn checked(rt: &HostRuntime, files: &[File], more: &[File]) -> Result<Vec<u8>, F
 #[test]
 fn faults_of_plain_thorns(rt: HostRuntime) -> Result<(), Fail> {
     for fault in FAULTS {
-        let printed = checked(&rt, fault.0, PLAIN)?;
-        assert_eq!(rt; printed.as_slice(), fault.1);
+        let printed = checked(&rt, fault.files, PLAIN)?;
+        assert_eq!(rt; printed.as_slice(), fault.printed);
     }
     let printed = checked(&rt, &[], PLAIN)?;
     assert_eq!(rt; printed.as_slice(), b"accepted\n".as_slice());
@@ -256,8 +434,8 @@ fn faults_of_plain_thorns(rt: HostRuntime) -> Result<(), Fail> {
 #[test]
 fn faults_of_sample_thorns(rt: HostRuntime) -> Result<(), Fail> {
     for fault in SAMPLE_FAULTS {
-        let printed = checked(&rt, fault.0, SAMPLES)?;
-        assert_eq!(rt; printed.as_slice(), fault.1);
+        let printed = checked(&rt, fault.files, SAMPLES)?;
+        assert_eq!(rt; printed.as_slice(), fault.printed);
     }
     Ok(())
 }
@@ -363,9 +541,9 @@ fn run_twice(rt: &HostRuntime, file: &[u8], fail: u64) -> Result<Twice, Fail> {
     let mut disk = HollowDisk::new(fail);
     let mut out = sink(alloc, &[])?;
     let mut meter = Meter::new(rt);
-    let first = answered(alloc, &words, &mut shelf, &mut disk, &mut out, &mut meter)?;
+    let first = answer(alloc, &words, &mut shelf, &mut disk, &mut out, &mut meter)?;
     let first_calls = disk.calls();
-    let second = answered(alloc, &words, &mut shelf, &mut disk, &mut out, &mut meter)?;
+    let second = answer(alloc, &words, &mut shelf, &mut disk, &mut out, &mut meter)?;
     Ok(Twice {
         first,
         first_calls,
@@ -378,13 +556,13 @@ fn run_twice(rt: &HostRuntime, file: &[u8], fail: u64) -> Result<Twice, Fail> {
 #[test]
 fn disk_that_fails_once(rt: HostRuntime) -> Result<(), Fail> {
     for writer in WRITERS {
-        for fail in 0..writer.1 {
-            let came = run_twice(&rt, writer.0, fail)?;
+        for fail in 0..writer.calls {
+            let came = run_twice(&rt, writer.file, fail)?;
             assert_eq!(rt; came.first, 4);
             assert_eq!(rt; came.first_calls, fail + 1);
-            assert_eq!(rt; came.second, writer.2);
-            assert_eq!(rt; came.calls, came.first_calls.saturating_add(writer.1));
-            assert_eq!(rt; came.printed.as_slice(), writer.3);
+            assert_eq!(rt; came.second, writer.status);
+            assert_eq!(rt; came.calls, came.first_calls.saturating_add(writer.calls));
+            assert_eq!(rt; came.printed.as_slice(), writer.printed);
         }
     }
     Ok(())
@@ -399,7 +577,7 @@ fn shelf_and_sink_that_fail_once(rt: HostRuntime) -> Result<(), Fail> {
     let mut out = sink(alloc, &[1])?;
     let mut meter = Meter::new(&rt);
     for status in [4, 4, 0] {
-        let given = answered(alloc, &words, &mut shelf, &mut disk, &mut out, &mut meter)?;
+        let given = answer(alloc, &words, &mut shelf, &mut disk, &mut out, &mut meter)?;
         assert_eq!(rt; given, status);
     }
     assert_eq!(rt;

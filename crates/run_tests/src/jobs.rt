@@ -384,9 +384,9 @@ pub const RUNS: &[Run] = &[
             wave::sum = yes\n\
             IO::out_vars = \"wave::phi wave::total\"\n",
         more: b"",
-        others: &[(
-            b"arrangements/Integer/WaveInt/schedule.ccl",
-            b"STORAGE: evolved[3] sums[1]\n\
+        others: &[File {
+            name: b"arrangements/Integer/WaveInt/schedule.ccl",
+            bytes: b"STORAGE: evolved[3] sums[1]\n\
                 schedule wave_init AT INITIAL\n\
                 { LANG: C WRITES: wave::phi(everywhere) wave::phi_p(everywhere) } \"start\"\n\
                 schedule wave_scalar AT INITIAL AFTER wave_init { LANG: C WRITES: wave::phi(boundary) } \"edge\"\n\
@@ -404,7 +404,7 @@ pub const RUNS: &[Run] = &[
                 \x20 schedule wave_sum AT ANALYSIS\n\
                 \x20 { LANG: C READS: wave::phi(everywhere) WRITES: wave::total } \"sum\"\n\
                 }\n",
-        )],
+        }],
         status: 0,
         printed: b"done: iteration 0\n",
         output: b"# wave::phi iteration 0 size 5\n\
@@ -425,13 +425,13 @@ pub const RUNS: &[Run] = &[
             diff::start = 2\n\
             IO::out_vars = \"diff::u\"\n",
         more: b"",
-        others: &[(
-            b"arrangements/Integer/DiffInt/interface.ccl",
-            b"implements: diff\n\
+        others: &[File {
+            name: b"arrangements/Integer/DiffInt/interface.ccl",
+            bytes: b"implements: diff\n\
                 public:\n\
                 CCTK_INT2 evolved TYPE=GF DIM=1 { u } \"field\"\n\
                 CCTK_INT sums TYPE=SCALAR { total } \"sum\"\n",
-        )],
+        }],
         status: 3,
         printed: b"ended: Overflow 7 EVOL/diff_step\n",
         output: b"# diff::u iteration 0 size 16\n\
@@ -539,8 +539,14 @@ pub const RUNS: &[Run] = &[
             IO::out_vars = \"diff::u\"\n",
         more: b"",
         others: &[
-            (b"arrangements/Integer/DiffInt/interface.ccl", SEEING),
-            (b"arrangements/Integer/DiffInt/schedule.ccl", STEP_IF),
+            File {
+                name: b"arrangements/Integer/DiffInt/interface.ccl",
+                bytes: SEEING,
+            },
+            File {
+                name: b"arrangements/Integer/DiffInt/schedule.ccl",
+                bytes: STEP_IF,
+            },
         ],
         status: 0,
         printed: b"done: iteration 2\n",
@@ -565,8 +571,14 @@ pub const RUNS: &[Run] = &[
             IO::out_vars = \"diff::u control::count\"\n",
         more: b"",
         others: &[
-            (b"arrangements/Integer/DiffInt/interface.ccl", SEEING),
-            (b"arrangements/Integer/DiffInt/schedule.ccl", STEP_IF),
+            File {
+                name: b"arrangements/Integer/DiffInt/interface.ccl",
+                bytes: SEEING,
+            },
+            File {
+                name: b"arrangements/Integer/DiffInt/schedule.ccl",
+                bytes: STEP_IF,
+            },
         ],
         status: 0,
         printed: b"done: iteration 2\n",
@@ -600,13 +612,13 @@ pub const RUNS: &[Run] = &[
             IO::out_vars = \"diff::u\"\n\
             IO::out_every = 2\n",
         more: b"",
-        others: &[(
-            b"arrangements/Integer/DiffInt/interface.ccl",
-            b"implements: diff\n\
+        others: &[File {
+            name: b"arrangements/Integer/DiffInt/interface.ccl",
+            bytes: b"implements: diff\n\
                 public:\n\
                 CCTK_INT evolved TYPE=GF DIM=3 { u } \"field\"\n\
                 CCTK_INT sums TYPE=SCALAR { total } \"sum\"\n",
-        )],
+        }],
         status: 0,
         printed: b"done: iteration 2\n",
         output: b"# diff::u iteration 0 size 4 4 2\n\

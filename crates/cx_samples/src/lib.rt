@@ -1,0 +1,8 @@
+//! The program with the sample thorns' routines: its words, its devices and its exit code.
+#![tactic(auto)]
+
+mod program;
+mod routines;
+
+pub use program::run_program;
+pub use routines::answer;

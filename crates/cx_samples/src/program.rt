@@ -1,0 +1,69 @@
+//! The program over the current folder and standard output.
+
+ghost use Rattle.std.specs.Prelude.{◌≡◌, IfOk};
+ghost use Rattle.std.specs.Process.{exit_status};
+ghost use Rattle.cx_run.specs.Answer.{IsStatusFor};
+
+use crate::routines::answer;
+use cx_disk::FolderDisk;
+use cx_rule::Meter;
+use cx_run::{FolderShelf, StdoutSink};
+use cx_text::{Memory, Text};
+use std::env;
+use std::io::{self, ErrorKind};
+use std::process::ExitCode;
+
+/// Does what the words of the command line ask of a parameter file in the current folder, prints the answer, and gives the
+/// program's exit code: the status of the top call, or 5 where memory is wanting.
+pub fn run_program(rt: &HostRuntime) -> ExitCode {
+    match words(rt) {
+        Ok(words) => exit_code(rt, &words),
+        Err(_) => wanting(rt),
+    }
+}
+
+/// Does what the words ask, and gives the exit code.
+#[tactic(auto, using(crate::proofs::Statuses::same_status, crate::proofs::Statuses::wanting_status))]
+fn exit_code(rt: &HostRuntime, words: &[Text]) -> ExitCode
+    ensures { IsStatusFor words.now (exit_status result) }
+{
+    match in_folder(rt, words) {
+        Ok(status) => ExitCode::from(status),
+        Err(Memory) => wanting(rt),
+    }
+}
+
+/// The exit code where memory is wanting.
+fn wanting(rt: &HostRuntime) -> ExitCode
+    ensures { exit_status result ≡ 5 }
+{
+    let _ = rt.write_all(b"memory\n");
+    ExitCode::from(5)
+}
+
+/// What the top call answers over the current folder and standard output.
+fn in_folder(rt: &HostRuntime, words: &[Text]) -> Result<u8, Memory>
+    ensures { IfOk result (IsStatusFor words.now) }
+{
+    let alloc = rt.alloc();
+    let mut shelf = FolderShelf::new(rt.clone()?);
+    let mut disk = FolderDisk::new(rt.clone()?, alloc);
+    let mut out = StdoutSink::new(rt.clone()?);
+    let mut meter = Meter::new(rt);
+    answer(alloc, words, &mut shelf, &mut disk, &mut out, &mut meter)
+}
+
+/// The words after the program's name. Words that aren't text are those of no command, as no words are.
+fn words(rt: &HostRuntime) -> io::Result<Vec<Text>> {
+    let mut words = Vec::new(rt.alloc());
+    match env::args(rt) {
+        Ok(args) => {
+            for word in args.skip(1) {
+                words.push(Text::new(word.into_bytes()))?;
+            }
+            Ok(words)
+        }
+        Err(error) if error.kind() == ErrorKind::InvalidData => Ok(words),
+        Err(error) => Err(error),
+    }
+}

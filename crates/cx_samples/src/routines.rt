@@ -1,0 +1,89 @@
+//! The routines of the sample thorns, handed to the top call.
+
+ghost use Rattle.std.specs.Prelude.{◌≡◌, ℕ, List as ListOf, Ok, IfOk, map};
+ghost use Rattle.cx_job.specs.Making.{Made};
+ghost use Rattle.cx_plan.specs.declared.job.Job.{Job};
+ghost use Rattle.cx_run.specs.Answer.{IsStatusFor};
+ghost use Rattle.cx_run.specs.Words.{Asks};
+ghost use Rattle.cx_run.specs.declared.words.Command.{Command};
+ghost use Rattle.cx_samples.specs.Samples.{sample_rules, sample_specs};
+
+use cx_disk::Disk;
+use cx_rule::{Meter, Routine};
+use cx_run::{Shelf, Sink, cactus};
+use cx_text::{Memory, Text};
+use cx_thorn_ca::{CaCount, CaInit, CaStep, CaZero, LifeCount, LifeInit, LifeStep, LifeZero};
+use cx_thorn_pde::{
+    ControlSet, ControlSpin, DiffFlat, DiffInit, DiffScalar, DiffStep, DiffSum, WaveCopy, WaveFlat,
+    WaveInit, WaveInit1, WaveScalar, WaveStep, WaveSum,
+};
+use std::alloc::Global;
+
+/// The words of the command line, and where the memory for their answer comes from.
+#[derive(Clone, Copy)]
+struct CommandLine<'a> {
+    alloc: Global,
+    words: &'a [Text],
+}
+
+/// What the top call answers over these devices, with the routines of all sample thorns.
+///
+/// # Errors
+///
+/// `Memory` where there is no room for the routines.
+pub fn answer<H: Shelf, D: Disk, O: Sink>(
+    alloc: Global,
+    words: &[Text],
+    shelf: &mut H,
+    disk: &mut D,
+    out: &mut O,
+    meter: &mut Meter,
+) -> Result<u8, Memory>
+    ensures { IfOk result (IsStatusFor words.now) }
+{
+    let mut routines: Vec<Box<dyn Routine>> = Vec::new(alloc);
+    routines.push(Box::new(alloc, CaInit::new(alloc)?)?)?;
+    routines.push(Box::new(alloc, CaStep::new(alloc)?)?)?;
+    routines.push(Box::new(alloc, CaZero::new(alloc)?)?)?;
+    routines.push(Box::new(alloc, CaCount::new(alloc)?)?)?;
+    routines.push(Box::new(alloc, LifeInit::new(alloc)?)?)?;
+    routines.push(Box::new(alloc, LifeStep::new(alloc)?)?)?;
+    routines.push(Box::new(alloc, LifeZero::new(alloc)?)?)?;
+    routines.push(Box::new(alloc, LifeCount::new(alloc)?)?)?;
+    routines.push(Box::new(alloc, WaveInit::new(alloc)?)?)?;
+    routines.push(Box::new(alloc, WaveInit1::new(alloc)?)?)?;
+    routines.push(Box::new(alloc, WaveStep::new(alloc)?)?)?;
+    routines.push(Box::new(alloc, WaveCopy::new(alloc)?)?)?;
+    routines.push(Box::new(alloc, WaveFlat::new(alloc)?)?)?;
+    routines.push(Box::new(alloc, WaveScalar::new(alloc)?)?)?;
+    routines.push(Box::new(alloc, WaveSum::new(alloc)?)?)?;
+    routines.push(Box::new(alloc, DiffInit::new(alloc)?)?)?;
+    routines.push(Box::new(alloc, DiffStep::new(alloc)?)?)?;
+    routines.push(Box::new(alloc, DiffFlat::new(alloc)?)?)?;
+    routines.push(Box::new(alloc, DiffScalar::new(alloc)?)?)?;
+    routines.push(Box::new(alloc, DiffSum::new(alloc)?)?)?;
+    routines.push(Box::new(alloc, ControlSet::new(alloc)?)?)?;
+    routines.push(Box::new(alloc, ControlSpin::new(alloc)?)?)?;
+    let line = CommandLine { alloc, words };
+    Ok(answer_with(line, shelf, disk, out, &routines, meter))
+}
+
+/// The top call with the sample thorns' routines.
+fn answer_with<H: Shelf, D: Disk, O: Sink>(
+    line: CommandLine<'_>,
+    shelf: &mut H,
+    disk: &mut D,
+    out: &mut O,
+    routines: &[Box<dyn Routine>],
+    meter: &mut Meter,
+) -> u8
+    requires rules { map rule routines.now ≡ sample_rules }
+    requires specs { map spec_of routines.now ≡ sample_specs }
+    ensures status { IsStatusFor line.entry.words.now result }
+    // The command is done only where the file makes a job with the sample thorns' routines.
+    ensures done { result ≡ 0 → (command : Command) × (file : ListOf ℕ) × (job : Job)
+        × Asks line.entry.words.now command file
+        × (H.tells → Made file sample_specs (H.held shelf.old) (Ok job)) }
+{
+    cactus(line.alloc, line.words, shelf, disk, out, routines, meter)
+}

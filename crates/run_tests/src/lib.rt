@@ -1,0 +1,13 @@
+//! Tests of the top call with the sample thorns, and of the folder as a shelf.
+#![tactic(auto)]
+
+#[cfg(test)]
+mod calls;
+#[cfg(test)]
+mod devices;
+#[cfg(test)]
+mod faults;
+#[cfg(test)]
+mod jobs;
+#[cfg(test)]
+mod samples;
