@@ -1,6 +1,7 @@
 -- From what stands behind an answer, and what was said, to what the top call ensures.
 use Rattle.std.proofs.Common.{◌≡◌, ◌≢◌, ◌∙◌, ◌⊎◌, ℕ, ◌<◌, List, [], ◌∷◌, Ok, Err, inl, inr, sym, ap, subst, refl, arith}
 use Rattle.cx_disk.specs.Cause.{Rose}
+use Rattle.cx_disk.specs.Disk.{IsNamed}
 use Rattle.cx_job.specs.Making.{without_witness}
 use Rattle.cx_job.specs.declared.fault.JobFault.{JobFault}
 use Rattle.cx_job.specs.declared.fault.JobFault.TheVariants as faults
@@ -83,10 +84,11 @@ Did w command job =
     (command ≡ commands.Run) × IsBuilt job × (end_of (setup_of job) w.rules ≡ ends.Done)
     × (w.told_disk → IsOutput (output (setup_of job) w.rules) w.disk_before w.disk_after)
     × (w.meter_after ≡ raised w.meter_before (points_computed (setup_of job) (undivided_run (setup_of job) w.rules).entries))
+    × IsNamed job.out_dir job.chk_dir w.folders_after
     ⊎ (command ≢ commands.Run) × w.same_disk × (w.meter_after ≡ w.meter_before)
 
 did : (w : Work) (command : Command) (job : Job) → (command ≡ commands.Run) × HasRun w job ends.Done ⊎ (command ≢ commands.Run) × Untouched w → Did w command job
-did w command job (inl p) = inl (p.0, p.1.built, p.1.end_is, p.1.written, p.1.meter refl)
+did w command job (inl p) = inl (p.0, p.1.built, p.1.end_is, p.1.written, p.1.meter refl, p.1.folders)
 did w command job (inr p) = inr (p.0, p.1.disk, p.1.meter)
 
 abbrev Done : Call → Type 0 → List ℕ → List ℕ → Type 0
@@ -198,12 +200,13 @@ Ended c told old new = (file : List ℕ) × (job : Job) × (stop : End) × Asks 
     × IsBuilt job × (stop ≢ ends.Done) × (end_of (setup_of job) c.work.rules ≡ stop)
     × (told → Adds (ended_text stop) old new)
     × (c.work.told_disk → IsOutput (output (setup_of job) c.work.rules) c.work.disk_before c.work.disk_after)
+    × IsNamed job.out_dir job.chk_dir c.work.folders_after
 
 ended_with : (c : Call) (file : List ℕ) (end : End) (told : Type 0) (old new : List ℕ) → IsAsked c file (a.Ended end) → (told → Adds (ended_text end) old new) → Ended c told old new
 ended_with c file end told old new x said =
     let p = unfailed x.cause in
     let run = p.2.has_run in
-    (file, p.0, end, subst (λ (command : Command). Asks c.words command file) p.2.run x.words, p.1.made, p.1.whole, p.1.fit, run.built, p.2.not_done, run.end_is, said, run.written)
+    (file, p.0, end, subst (λ (command : Command). Asks c.words command file) p.2.run x.words, p.1.made, p.1.whole, p.1.fit, run.built, p.2.not_done, run.end_is, said, run.written, run.folders)
 
 ended_by : (c : Call) (file : List ℕ) (answer : Answer) (told : Type 0) (old new : List ℕ) → IsAsked c file answer → status_of answer ≡ 3 → (told → Adds (text_of answer file) old new) → Ended c told old new
 ended_by c file (a.Done i) told old new x e said = absurd cc

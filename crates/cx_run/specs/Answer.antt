@@ -1,7 +1,7 @@
 -- The answers of a call: their statuses and texts, and what stands behind each.
 use Rattle.std.specs.Prelude.{◌≡◌, ◌≢◌, ℕ, List, ◌⊎◌, Result, Ok, Err}
 use Rattle.cx_disk.specs.Cause.{Rose}
-use Rattle.cx_disk.specs.Disk.{View, IsSettled, OthersSame}
+use Rattle.cx_disk.specs.Disk.{View, Folders, IsNamed, IsSettled, OthersSame}
 use Rattle.cx_job.specs.Making.{without_witness}
 use Rattle.cx_job.specs.declared.fault.JobFault.{JobFault}
 use Rattle.cx_job.specs.declared.fault.JobFault.TheVariants as faults
@@ -82,8 +82,8 @@ pub record IsOutput (text : List ℕ) (old new : View) : Type 0 where
   pub settled : IsSettled new 8
   pub others : OthersSame 8 old.seen new.seen
 
--- what a call does to the disk and the meter: by these rules; that the disk is as it was; what the disk's telling is; and before and
--- after the call the disk, the meter and the count of the disk's faults
+-- what a call does to the disk and the meter: by these rules; that the disk is as it was; what the disk's telling is; before and
+-- after the call the disk, the meter and the count of the disk's faults; and the folders that the disk has after it
 pub record Work : Type 1 where
   pub rules : List Rule
   pub same_disk : Type 0
@@ -94,6 +94,7 @@ pub record Work : Type 1 where
   pub meter_after : ℕ
   pub disk_faults_before : ℕ
   pub disk_faults_after : ℕ
+  pub folders_after : Folders
 
 -- a call as its answers see it: the words, the objects' Specs, what a file's name makes, where the shelf tells, that the shelf is as
 -- it was, before and after the call the count of its faults, and what became of the disk and the meter
@@ -125,10 +126,11 @@ pub record IsMade (c : Call) (file : List ℕ) (job : Job) : Type 0 where
   pub whole : IsWhole job
   pub fit : FitJob c.specs (setup_of job)
 
--- the job's run came to this end, and its output is written; where it is done, its points are counted
+-- the job's run came to this end, and its output is written, in the job's folders; where it is done, its points are counted
 pub record HasRun (w : Work) (job : Job) (end : End) : Type 0 where
   pub built : IsBuilt job
   pub end_is : end_of (setup_of job) w.rules ≡ end
+  pub folders : IsNamed job.out_dir job.chk_dir w.folders_after
   pub written : w.told_disk → IsOutput (output (setup_of job) w.rules) w.disk_before w.disk_after
   pub meter : end ≡ Done → w.meter_after ≡ raised w.meter_before (points_computed (setup_of job) (undivided_run (setup_of job) w.rules).entries)
 

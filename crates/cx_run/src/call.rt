@@ -1,7 +1,7 @@
 //! The top call.
 ghost use Rattle.std.specs.Prelude.{◌≡◌, ◌≢◌, ◌≤◌, ◌<◌, ◌^◌, ◌⊎◌, ◌↔◌, [], ℕ, List as ListOf, Ok, Err, IsTrue, length, map, slice_index_or};
 ghost use Rattle.cx_disk.specs.Cause.{Rose};
-ghost use Rattle.cx_disk.specs.Disk.{OthersSame};
+ghost use Rattle.cx_disk.specs.Disk.{IsNamed, OthersSame};
 ghost use Rattle.cx_job.specs.Making.{Made, without_witness};
 ghost use Rattle.cx_job.specs.declared.fault.JobFault.{JobFault};
 ghost use Rattle.cx_model.specs.Runs.{end, output, undivided_run};
@@ -73,7 +73,7 @@ pub fn cactus<H: Shelf, D: Disk, O: Sink>(
     requires few { length routines.now ≤ 2 ^ 32 }
     ensures statuses { IsStatus result }
     // 0: the words ask for a command with a file, which makes a job. Its text is printed; a run's output is that of the
-    // undivided run, which is done, and its points are counted; the other commands leave disk and meter as they were.
+    // undivided run, which is done, in the job's folders, and its points are counted; the other commands leave disk and meter as they were.
     ensures done { result ≡ 0 → (command : Command) × (file : ListOf ℕ) × (job : Job) × Asks words.now command file
         × (H.tells → Made file (map spec_of routines.now) (H.held shelf.old) (Ok job))
         × IsWhole job × FitJob (map spec_of routines.now) (setup_of job)
@@ -82,6 +82,7 @@ pub fn cactus<H: Shelf, D: Disk, O: Sink>(
         × (D.tells → IsOutput (output (setup_of job) (map rule routines.now)) (D.view disk.old) (D.view disk.new))
         × (meter.new ≡ raised meter.old
         (points_computed (setup_of job) (undivided_run (setup_of job) (map rule routines.now)).entries))
+        × IsNamed job.out_dir job.chk_dir (D.folders disk.new)
         ⊎ (command ≢ Command.Run) × (disk.new ≡ disk.old) × (meter.new ≡ meter.old)) }
     // 1: the words ask for nothing that there is.
     ensures usage { result ≡ 1 → IsUsage words.now × (O.tells → Adds usage_text (O.written out.old) (O.written out.new)) }
@@ -101,7 +102,8 @@ pub fn cactus<H: Shelf, D: Disk, O: Sink>(
         × IsWhole job × FitJob (map spec_of routines.now) (setup_of job)
         × IsBuilt job × (stop ≢ End.Done) × (end (setup_of job) (map rule routines.now) ≡ stop)
         × (O.tells → Adds (ended_text stop) (O.written out.old) (O.written out.new))
-        × (D.tells → IsOutput (output (setup_of job) (map rule routines.now)) (D.view disk.old) (D.view disk.new)) }
+        × (D.tells → IsOutput (output (setup_of job) (map rule routines.now)) (D.view disk.old) (D.view disk.new))
+        × IsNamed job.out_dir job.chk_dir (D.folders disk.new) }
     // 4: the count of the device that is named has risen in this call, or stands at its last value. The sink isn't named.
     ensures device { result ≡ 4 →
         Rose (H.faults shelf.old) (H.faults shelf.new) × (O.tells → Adds shelf_text (O.written out.old) (O.written out.new))
@@ -128,6 +130,7 @@ pub fn cactus<H: Shelf, D: Disk, O: Sink>(
             meter_after = meter.new;
             disk_faults_before = D.faults disk.old;
             disk_faults_after = D.faults disk.new;
+            folders_after = D.folders disk.new;
           };
         }) file answer
         × WasSaid O.tells file answer result (O.written out.old) (O.written out.new) (O.faults out.old) (O.faults out.new) }
@@ -214,6 +217,7 @@ fn answer_to<H: Shelf, D: Disk>(
         meter_after = meter.new;
         disk_faults_before = D.faults disk.old;
         disk_faults_after = D.faults disk.new;
+        folders_after = D.folders disk.new;
       };
     }) (slice_index_or words.now 1 []) result }
     ensures job_given { H.tells → (command : Command) (file : ListOf ℕ) (job : Job) → Asks words.now command file
@@ -227,6 +231,7 @@ fn answer_to<H: Shelf, D: Disk>(
           meter_after = meter.new;
           disk_faults_before = D.faults disk.old;
           disk_faults_after = D.faults disk.new;
+          folders_after = D.folders disk.new;
         }) command job result }
     ensures fault_given { H.tells → (command : Command) (file : ListOf ℕ) (fault : JobFault) → Asks words.now command file
         → Made file (map spec_of routines.now) (H.held shelf.old) (Err fault) → (disk.new ≡ disk.old) × (meter.new ≡ meter.old) × IsForFault fault result }
@@ -266,6 +271,7 @@ fn done<D: Disk>(
       meter_after = meter.new;
       disk_faults_before = D.faults disk.old;
       disk_faults_after = D.faults disk.new;
+      folders_after = D.folders disk.new;
     }) command job.now result }
     ensures other_files { D.tells → OthersSame 8 (D.view disk.old).seen (D.view disk.new).seen }
     ensures disk_count { D.faults disk.old ≤ D.faults disk.new }
@@ -316,6 +322,7 @@ fn run<D: Disk>(
       meter_after = meter.new;
       disk_faults_before = D.faults disk.old;
       disk_faults_after = D.faults disk.new;
+      folders_after = D.folders disk.new;
     }) Command.Run job.now result }
     ensures other_files { D.tells → OthersSame 8 (D.view disk.old).seen (D.view disk.new).seen }
     ensures disk_count { D.faults disk.old ≤ D.faults disk.new }

@@ -52,6 +52,7 @@ pub(crate) fn run_job<D: Disk>(
     ensures meter { let run = undivided_run (setup_of job.now) (map rule routines.now) in
         IfOk result (λ end. end ≡ End.Done
         → meter.new ≡ raised meter.old (points_computed (setup_of job.now) run.entries)) }
+    ensures folders { D.folders disk.new ≡ D.folders disk.old }
     ensures later { D.faults disk.old ≤ D.faults disk.new }
     ensures failed { IsErrOf result RunFault.Disk → Rose (D.faults disk.old) (D.faults disk.new) }
 {
@@ -84,6 +85,7 @@ fn write_all<D: Disk>(
         → meter.new ≡ raised meter.old (points_computed (setup_of job.now) run.entries)) }
     ensures mounted { IsTrue (D.mounted disk.new) }
     ensures files { D.file_count disk.new ≡ 9 }
+    ensures folders { D.folders disk.new ≡ D.folders disk.old }
     ensures later { D.faults disk.old ≤ D.faults disk.new }
     ensures failed { IsErrOf result RunFault.Disk → Rose (D.faults disk.old) (D.faults disk.new) }
 {
@@ -105,6 +107,7 @@ fn append<D: Disk>(disk: &mut D, piece: &[u8]) -> Result<(), DiskFault>
     ensures others { D.tells → OthersSame OUTPUT (D.view disk.old).seen (D.view disk.new).seen }
     ensures mounted { IsTrue (D.mounted disk.new) }
     ensures files { D.file_count disk.new ≡ 9 }
+    ensures folders { D.folders disk.new ≡ D.folders disk.old }
     ensures cause { HasCause DiskFault.Failed (D.faults disk.old) (D.faults disk.new) result }
 {
     let at = disk.length(OUTPUT)?;

@@ -538,7 +538,7 @@ fn run_twice(rt: &HostRuntime, file: &[u8], fail: u64) -> Result<Twice, Fail> {
     let alloc = rt.alloc();
     let words = texts(alloc, &[b"run", b"t.par"])?;
     let mut shelf = shelf_with(alloc, file, b"", &[])?;
-    let mut disk = HollowDisk::new(fail);
+    let mut disk = HollowDisk::new(alloc, fail);
     let mut out = sink(alloc, &[])?;
     let mut meter = Meter::new(rt);
     let first = answer(alloc, &words, &mut shelf, &mut disk, &mut out, &mut meter)?;
@@ -573,7 +573,7 @@ fn shelf_and_sink_that_fail_once(rt: HostRuntime) -> Result<(), Fail> {
     let alloc = rt.alloc();
     let words = texts(alloc, &[b"run", b"ca.par"])?;
     let mut shelf = LateShelf::new(SAMPLES);
-    let mut disk = HollowDisk::new(100);
+    let mut disk = HollowDisk::new(alloc, 100);
     let mut out = sink(alloc, &[1])?;
     let mut meter = Meter::new(&rt);
     for status in [4, 4, 0] {

@@ -57,20 +57,26 @@ impl Shelf for LateShelf {
 /// A disk that does nothing, and fails in the call of one number; the first call is number 0.
 #[derive(Drop)]
 pub struct HollowDisk {
+    alloc: Global,
     calls: u64,
     fail: u64,
     mounted: bool,
+    output: Text,
+    checkpoints: Text,
     faults: u64,
 }
 
 impl HollowDisk {
-    pub fn new(fail: u64) -> Self
-        ensures { result ≡ record { calls = 0; fail = fail; mounted = false; faults = 0 } }
+    pub fn new(alloc: Global, fail: u64) -> Self
+        ensures { result.faults ≡ 0 }
     {
         HollowDisk {
+            alloc,
             calls: 0,
             fail,
             mounted: false,
+            output: Text::new(Vec::new(alloc)),
+            checkpoints: Text::new(Vec::new(alloc)),
             faults: 0,
         }
     }
@@ -84,6 +90,8 @@ impl HollowDisk {
 
     fn counted(&mut self) -> Result<(), DiskFault>
         ensures mounted { self.new.mounted ≡ self.old.mounted }
+        ensures output { self.new.output ≡ self.old.output }
+        ensures checkpoints { self.new.checkpoints ≡ self.old.checkpoints }
         ensures cause { HasCause DiskFault.Failed self.old.faults self.new.faults result }
         ensures failed { IfErr result (λ fault. fault ≡ DiskFault.Failed) }
     {
@@ -102,6 +110,8 @@ impl Disk for HollowDisk {
 
     ghost mounted = { λ disk. disk.mounted };
 
+    ghost folders = { λ disk. record { output = disk.output; checkpoints = disk.checkpoints } };
+
     ghost file_count = { λ _. 9 };
 
     ghost view = { λ _. untold };
@@ -110,8 +120,12 @@ impl Disk for HollowDisk {
 
     ghost sound = { λ _ tells. absurd tells };
 
-    fn mount(&mut self, _output: &Text, _checkpoints: &Text) -> Result<(), DiskFault> {
+    fn mount(&mut self, output: &Text, checkpoints: &Text) -> Result<(), DiskFault> {
         self.counted()?;
+        let output = Text::new(output.as_slice().to_vec(self.alloc)?);
+        let checkpoints = Text::new(checkpoints.as_slice().to_vec(self.alloc)?);
+        self.output = output;
+        self.checkpoints = checkpoints;
         self.mounted = true;
         Ok(())
     }

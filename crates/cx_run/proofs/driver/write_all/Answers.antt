@@ -1,4 +1,4 @@
-use Rattle.std.proofs.Common.{arith}
+use Rattle.std.proofs.Common.{◌∙◌, arith}
 use Rattle.cx_run.proofs.Progress.{one_more, text_more, others_more}
 use Rattle.cx_run.proofs.driver.write_all.Goals as goal
 
@@ -11,6 +11,7 @@ texts-preserved g c =
       stands = one_more _ _ _ _ _ _ _ _ i.stands handed;
       mounted = next.mounted;
       files = next.files;
+      folders = next.folders ∙ i.folders;
       later = omega (arith, i.later, next.cause.later);
       written = λ tells. text_more _ _ _ _ _ _ _ _ _ _ handed (i.written tells) (rw c.as_slice.ensures at next.added tells);
       others = λ tells. others_more (i.others tells) (next.others tells);

@@ -12,6 +12,7 @@ invariant-texts g l =
       stands : Stands (setup_of l.job) rules l.fn.meter l.run l.meter;
       mounted : IsTrue (g.D.Disk.mounted l.disk);
       files : g.D.Disk.file_count l.disk ≡ 9;
+      folders : g.D.Disk.folders l.disk ≡ g.D.Disk.folders l.fn.disk;
       later : g.D.Disk.faults l.fn.disk ≤ g.D.Disk.faults l.disk;
       written : g.D.Disk.tells → IsWritten (setup_of l.job) rules ((g.D.Disk.view l.fn.disk).seen 8) l.run ((g.D.Disk.view l.disk).seen 8);
       others : g.D.Disk.tells → OthersSame 8 (g.D.Disk.view l.fn.disk).seen (g.D.Disk.view l.disk).seen;
