@@ -14,6 +14,7 @@ use cx_text::Memory;
 pub struct Line<'a> {
     /// The number of its thorn.
     pub thorn: u32,
+    /// The group that it names.
     pub group: &'a Ref,
     /// The number of levels that it gives, if one stands.
     pub levels: Option<u32>,
@@ -30,14 +31,18 @@ pub struct Entry<'a> {
 /// What counts, in the order of activation and of the files.
 #[derive(Drop)]
 pub struct Counted<'a> {
+    /// The names of the STORAGE lines; those of a block stand at its place.
     pub lines: Vec<Line<'a>>,
+    /// The blocks.
     pub entries: Vec<Entry<'a>>,
 }
 
 /// Why it isn't known what counts.
 #[derive(Drop)]
 pub enum Uncounted<'a> {
+    /// An `if` has no value.
     Expr(&'a ExprFault),
+    /// Memory is wanting.
     Memory,
 }
 

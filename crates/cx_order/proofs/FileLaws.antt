@@ -16,7 +16,7 @@ use Rattle.cx_order.specs.declared.fault.OrderFault.{OrderFault}
 use Rattle.cx_entries.specs.declared.counted.Line.{Line as LentLine}
 use Rattle.cx_entries.specs.declared.counted.Entry.{Entry as LentEntry}
 use Rattle.cx_entries.specs.declared.counted.Counted.{Counted as LentCounted}
-use Rattle.cx_entries.specs.Counted.{Line, Entry, Counted, line, nothing, joined, taken, counted, each, counted_of}
+use Rattle.cx_entries.specs.Counted.{Line, Entry, Counted, line, nothing, joined, taken, one_counted, each, counted_of}
 use Rattle.cx_entries.specs.Seen.{seen, seen_line, seen_entry}
 use Rattle.cx_order.specs.Blocks.{by_thorn}
 use Rattle.cx_order.specs.Files.{counted_from}
@@ -108,7 +108,7 @@ module _ (P : ℕ → Type 0) (thorn : ℕ) (p : P thorn) (names : Names) where
   lines-are stores = All-map (λ l. P l.thorn) (line thorn) stores (λ k d within. p)
 
   mutual
-    node-are : (n : Node) → AreOf ExprFault P (counted thorn names n)
+    node-are : (n : Node) → AreOf ExprFault P (one_counted thorn names n)
     node-are (Storage stores) = (lines-are stores, All-nil (λ e. P e.thorn))
     node-are (node.Block b) = (lines-are b.storage, All-cons (λ e. P e.thorn) (record { thorn = thorn; block = b }) [] p (All-nil (λ e. P e.thorn)))
     node-are (Cond' test shape first shape2 second) =
@@ -116,11 +116,11 @@ module _ (P : ℕ → Type 0) (thorn : ℕ) (p : P thorn) (names : Names) where
 
     each-are : {m : _} (row : Row_of-Node m) → AreOf ExprFault P (each thorn names row)
     each-are end_of-Node = nothing-is ExprFault P
-    each-are (more_of-Node n rest) = both-are ExprFault P (counted thorn names n) (each thorn names rest) (node-are n) (each-are rest)
+    each-are (more_of-Node n rest) = both-are ExprFault P (one_counted thorn names n) (each thorn names rest) (node-are n) (each-are rest)
 
   nodes-are : (ns : List Node) → AreOf ExprFault P (counted_of thorn names ns)
   nodes-are [] = nothing-is ExprFault P
-  nodes-are (n ∷ ns) = both-are ExprFault P (counted thorn names n) (counted_of thorn names ns) (node-are n) (nodes-are ns)
+  nodes-are (n ∷ ns) = both-are ExprFault P (one_counted thorn names n) (counted_of thorn names ns) (node-are n) (nodes-are ns)
 
   by-thorn-are : (name : List ℕ) (r : Result Counted ExprFault) → AreOf ExprFault P r → AreOf OrderFault P (by_thorn name r)
   by-thorn-are name (Ok c) q = q
