@@ -6,7 +6,7 @@ use Rattle.cx_order.specs.declared.ordered.Ordered.{Ordered}
 use Rattle.cx_order.specs.declared.fault.OrderFault.{OrderFault}
 use Rattle.cx_entries.specs.Counted.{Counted}
 use Rattle.cx_order.specs.Files.{Input, all_counted}
-use Rattle.cx_entries.specs.Entries.{bin_fault, names_fault}
+use Rattle.cx_entries.specs.Entries.{names_fault}
 use Rattle.cx_entries.specs.PlaceNumbers.{Orders, AreLeast}
 use Rattle.cx_entries.specs.Cycles.{NoGroupCycle}
 use Rattle.cx_order.specs.Plans.{limit_fault}

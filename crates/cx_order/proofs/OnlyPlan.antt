@@ -13,7 +13,7 @@ use Rattle.cx_order.specs.declared.fault.OrderFault.{OrderFault}
 use Rattle.cx_order.specs.declared.fault.OrderFault.TheVariants.{Memory}
 use Rattle.cx_entries.specs.Counted.{Counted, Entry, Line}
 use Rattle.cx_order.specs.Files.{Input, input_of, all_counted}
-use Rattle.cx_entries.specs.Entries.{bin_fault, names_fault}
+use Rattle.cx_entries.specs.Entries.{names_fault}
 use Rattle.cx_entries.specs.PlaceNumbers.{Orders, AreLeast}
 use Rattle.cx_entries.specs.Cycles.{NoGroupCycle}
 use Rattle.cx_order.specs.Storage.{storage, storage_fault}

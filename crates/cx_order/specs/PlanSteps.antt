@@ -17,7 +17,7 @@ use Rattle.cx_least.specs.Links.{row}
 use Rattle.cx_entries.specs.PlaceNumbers.{Orders, orders_by, place, place_count}
 use Rattle.cx_entries.specs.Placement.{IsPlaced, contained}
 use Rattle.cx_order.specs.Meanings.{World, names_of}
-use Rattle.cx_order.specs.Plans.{Forest, Done, most_nodes, row_of, contents, trees, forest_items, calls, sync_tree, call_tree, work_tree, item_of, bin_trees, bin_forest, forests}
+use Rattle.cx_order.specs.Plans.{Forest, Done, most_nodes, row_of, contents, trees, forest_items, calls, work_tree, item_of, bin_trees, bin_forest, forests}
 use Rattle.cx_order.specs.Worlds.{world_of}
 use Rattle.cx_order.specs.Texts.{line_feed, blanks, entry_text, forest_text, bin_text, schedule_text}
 

@@ -1,5 +1,5 @@
 -- The schedule as text.
-use Rattle.std.specs.Prelude.{ℕ, zero, suc, ◌==◌, nat_lt, List, [], ◌∷◌, ◌++◌, take, drop, length, position, codes, slice_get, unwrap_or, Option, Some, None, if◌then◌else◌}
+use Rattle.std.specs.Prelude.{ℕ, zero, suc, nat_lt, List, [], ◌∷◌, ◌++◌, codes, slice_get, Option, Some, None, if◌then◌else◌}
 use Rattle.std.specs.List.{flat_map}
 use Rattle.cx_plan.specs.Names.{full_name, region_text, level_text}
 use Rattle.cx_plan.specs.declared.variable.VarId.{VarId}
