@@ -1,0 +1,9 @@
+pub mod FlattenLaws
+pub mod RunLaws
+pub mod TreeLaws
+pub mod StageLaws
+pub mod WholeLaws
+pub mod WayLaws
+pub mod EndLaws
+pub mod AtLaws
+pub mod PlaceLaws
