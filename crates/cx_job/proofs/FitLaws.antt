@@ -21,8 +21,8 @@ use Rattle.cx_rule.specs.declared.spec.Want.{Want}
 use Rattle.cx_rule.specs.Jobs.{of_touch, of_want, HasRoutine, FitJob}
 use Rattle.cx_job.specs.Jobs.{job_of}
 use Rattle.cx_job.specs.Making.{run_count, Matches}
-use Rattle.cx_job.specs.Matching.{thorn_number, level_of, touch_by, touch_of, param_number, is_for}
-use Rattle.cx_job.proofs.NoneLaws.{no_some, some_same, both_first}
+use Rattle.cx_match.specs.Matching.{thorn_number, level_of, touch_by, touch_of, param_number, is_for}
+use Rattle.cx_grids.proofs.NoneLaws.{no_some, some_same, both_first}
 use Rattle.cx_job.proofs.MatchedLaws.{IsMatched, matched_at}
 use Rattle.cx_job.proofs.TouchLaws.{some_keep, as_many_some, is_offer}
 use Rattle.cx_job.proofs.RunLaws.{called_of_plan}

@@ -1,8 +1,7 @@
 -- The stages from thorns to a job, one behind another.
 use Rattle.std.proofs.Common.{◌≡◌, ◌≢◌, ◌∙◌, sym, ap, subst, refl, ◌⊎◌, inl, inr, ℕ, Bool, true, false, List, [], ◌∷◌, map, Option, Some, None, Result, Ok, Err, nat_lt, take, codes, if◌then◌else◌, arith}
 use Rattle.std.specs.Prelude.{option_map}
-use Rattle.std.specs.List.{enumerate_from}
-use Rattle.cx_plan.specs.Lists.{all_ok, with_next, or_else, first_of_each}
+use Rattle.cx_plan.specs.Lists.{or_else, first_of_each}
 use Rattle.cx_plan.specs.declared.item.Item.{Item}
 use Rattle.cx_plan.specs.declared.job.Job.{Job}
 use Rattle.cx_plan.specs.declared.variable.VarId.{VarId}
@@ -16,41 +15,50 @@ use Rattle.cx_values.specs.Assigned.{assigned}
 use Rattle.cx_values.specs.declared.fault.ValueFault.{ValueFault}
 use Rattle.cx_values.specs.declared.values.Values.{Values}
 use Rattle.cx_order.specs.Files.{Input, input_of}
-use Rattle.cx_order.specs.Meanings.{World}
 use Rattle.cx_order.specs.declared.ordered.Ordered.{Ordered}
 use Rattle.cx_order.specs.declared.fault.OrderFault.TheVariants as orders
 use Rattle.cx_rule.specs.declared.spec.Spec.{Spec}
 use Rattle.cx_disk.specs.Cause.{HasCause}
 use Rattle.cx_job.specs.declared.fault.JobFault.{JobFault}
 use Rattle.cx_job.specs.declared.fault.JobFault.TheVariants as faults
-use Rattle.cx_job.specs.declared.configuring.Configured.{Configured}
-use Rattle.cx_job.specs.declared.matching.Offer.{Offer}
-use Rattle.cx_job.specs.Shelf.{Held}
-use Rattle.cx_job.specs.Stored.{in_64_bits}
+use Rattle.cx_config.specs.declared.configuring.Configured.{Configured}
+use Rattle.cx_config.specs.Shelf.{Held}
+use Rattle.cx_grids.specs.Stored.{in_64_bits}
 use Rattle.cx_job.specs.Jobs.{job_of}
 use Rattle.cx_job.specs.Outputs.{output_variables}
-use Rattle.cx_job.specs.Reading.{Stage, Then, Follows}
 use Rattle.cx_job.specs.JobLimits.{over, writes_fault, reads_fault, parameters_fault, each_limit, item_limits, points_fault, cells_fault, grid_limits, key_limit, limit_fault}
-use Rattle.cx_job.specs.Matching.{completed, matched, matched_by, spec_at, with_routine, matched_if_run, all_matched, fits, mismatch, offer, routine_number, thorn_number}
-use Rattle.cx_job.specs.Making.{Is, unless, or_fault, Orders, Matches, Accepts, LimitsAnd, ItemsAnd, OutputsAnd, PlanAnd, ValuesAnd, MadeOf, Made, Makes, Configures, Yields, written, within_limits, run_count}
-use Rattle.cx_job.proofs.OnlyFiles.{Comes, only_job, only_fault}
+use Rattle.cx_config.specs.declared.fault.ConfigFault.{ConfigFault}
+use Rattle.cx_config.specs.declared.fault.ConfigFault.TheVariants as configs
+use Rattle.cx_config.specs.Reading.{Follows}
+use Rattle.cx_config.proofs.Settled.{same_fault}
+use Rattle.cx_match.specs.declared.fault.MatchFault.{MatchFault}
+use Rattle.cx_match.specs.declared.fault.MatchFault.TheVariants as matches
+use Rattle.cx_job.specs.Faults.{config_fault, match_fault}
+use Rattle.cx_text.specs.Telling.{Stage, Then}
+use Rattle.cx_config.specs.Stages.{Is, unless, or_fault}
+use Rattle.cx_config.specs.Configuring.{Configures}
+use Rattle.cx_job.specs.Making.{Orders, Matches, Accepts, LimitsAnd, ItemsAnd, OutputsAnd, PlanAnd, ValuesAnd, MadeOf, Made, Makes, Yields, output_ids, within_limits, run_count}
+use Rattle.cx_job.proofs.OnlyJob.{Comes, only_job, only_fault}
 
 abbrev err : (A : Type 0) → JobFault → Result A JobFault
 err A e = Err e
 
-abbrev okay : Configured → Result Configured JobFault
+abbrev okay : Configured → Result Configured ConfigFault
 okay c = Ok c
+
+abbrev unread : ConfigFault → Result Configured ConfigFault
+unread e = Err e
 
 -- ---- two stages
 
 moved : (A B : Type 0) (e f : JobFault) → err B e ≡ err B f → err A e ≡ err A f
 moved A B e f h = let same : e ≡ f = cc in ap (err A) same
 
-pub yields_halt : {A B : Type 0} (p : Stage A) (q : A → Stage B) (e : JobFault) → Yields p (err A e) → Yields (Then p q) (err B e)
+pub yields_halt : {A B : Type 0} (p : Stage A JobFault) (q : A → Stage B JobFault) (e : JobFault) → Yields p (err A e) → Yields (Then p q) (err B e)
 yields_halt {A} {B} p q e (inl m) = inl (moved B A e faults.Memory m)
 yields_halt {A} {B} p q e (inr s) = inr (inl (e, s, refl))
 
-pub yields_pass : {A B : Type 0} (p : Stage A) (q : A → Stage B) (x : A) (r : Result B JobFault) → Yields p (Ok x) → Yields (q x) r → Yields (Then p q) r
+pub yields_pass : {A B : Type 0} (p : Stage A JobFault) (q : A → Stage B JobFault) (x : A) (r : Result B JobFault) → Yields p (Ok x) → Yields (q x) r → Yields (Then p q) r
 yields_pass p q x r (inl m) b = absurd cc
 yields_pass p q x r (inr s) (inl m) = inl m
 yields_pass p q x r (inr s) (inr t) = inr (inr (x, s, t))
@@ -63,7 +71,7 @@ unless_ok (Some e) x y (inl m) = absurd cc
 unless_ok (Some e) x y (inr s) = absurd cc
 
 -- a stage that has given its value
-pub yields_ok : {A : Type 0} (p : Stage A) (x : A) → Yields p (Ok x) → p (Ok x)
+pub yields_ok : {A : Type 0} (p : Stage A JobFault) (x : A) → Yields p (Ok x) → p (Ok x)
 yields_ok p x (inl m) = absurd cc
 yields_ok p x (inr s) = s
 
@@ -72,7 +80,7 @@ yields_ok p x (inr s) = s
 abbrev NotShelf : Option JobFault → Type 0
 NotShelf o = o ≢ Some faults.Shelf
 
-then_not : {A B : Type 0} (p : Stage A) (q : A → Stage B) → (p (err A faults.Shelf) → ⊥) → ((x : A) → q x (err B faults.Shelf) → ⊥) → Then p q (err B faults.Shelf) → ⊥
+then_not : {A B : Type 0} (p : Stage A JobFault) (q : A → Stage B JobFault) → (p (err A faults.Shelf) → ⊥) → ((x : A) → q x (err B faults.Shelf) → ⊥) → Then p q (err B faults.Shelf) → ⊥
 then_not {A} {B} p q first second (inl (e, s, z)) = (let same : e ≡ faults.Shelf = cc in first (subst (λ f. p (err A f)) same s))
 then_not p q first second (inr (x, s, t)) = second x t
 
@@ -122,37 +130,10 @@ limits_not run job =
 
 -- ---- items
 
-next_not : {Y : Type 0} (r : Result Y JobFault) (rest : Result (List Y) JobFault) → r ≢ err Y faults.Shelf → (err (List Y) faults.Shelf ≡ rest → ⊥) → err (List Y) faults.Shelf ≡ with_next r rest → ⊥
-next_not {Y} (Err e) rest first second z = first (let same : faults.Shelf ≡ e = cc in ap (err Y) (sym same))
-next_not (Ok x) (Ok xs) first second z = absurd cc
-next_not {Y} (Ok x) (Err e) first second z = second (let same : faults.Shelf ≡ e = cc in ap (err (List Y)) same)
-
-all_not : {X Y : Type 0} (f : X → Result Y JobFault) (xs : List X) → ((x : X) → f x ≢ err Y faults.Shelf) → err (List Y) faults.Shelf ≡ all_ok (map f xs) → ⊥
-all_not f [] other z = absurd cc
-all_not f (x ∷ xs) other z = next_not (f x) (all_ok (map f xs)) (other x) (all_not f xs other) z
-
-module _ (w : World) (v : Values) where
-  by_not : (t : Option ℕ) (x : Item) (k : ℕ) (s : Spec) (o : Option Offer) → matched_by w v t x k s o ≢ err Item faults.Shelf
-  by_not t x k s None z = absurd cc
-  by_not t x k s (Some o) z = either (fits x o) z
-    where
-      either : (b : Bool) → (if b then Ok (completed x k s.kind o) else Err (mismatch w v t x s)) ≡ err Item faults.Shelf → ⊥
-      either true z = absurd cc
-      either false z = absurd cc
-
-  with_not : (x : Item) (s : Option (ℕ × Spec)) → with_routine w v x s ≢ err Item faults.Shelf
-  with_not x None z = absurd cc
-  with_not x (Some s) z = by_not (thorn_number w.thorns x.thorn) x s.0 s.1 (offer w v (thorn_number w.thorns x.thorn) s.1) z
-
-  if_run_not : (specs : List Spec) (run : ℕ) (x : ℕ × Item) → matched_if_run w v specs run x ≢ err Item faults.Shelf
-  if_run_not specs run x z = either (nat_lt x.0 run) z
-    where
-      either : (b : Bool) → (if b then matched w v specs x.1 else Ok x.1) ≡ err Item faults.Shelf → ⊥
-      either true z = with_not x.1 (spec_at specs (routine_number specs x.1)) z
-      either false z = absurd cc
-
-  matches_not : (specs : List Spec) (run : ℕ) (items : List Item) → err (List Item) faults.Shelf ≡ all_matched w v specs run items → ⊥
-  matches_not specs run items z = all_not (matched_if_run w v specs run) (enumerate_from 0 items) (if_run_not specs run) z
+match_not : (f : MatchFault) → match_fault f ≢ faults.Shelf
+match_not (matches.UnknownRoutine path) z = absurd cc
+match_not (matches.RoutineMismatch path declared offered) z = absurd cc
+match_not matches.Memory z = absurd cc
 
 -- ---- all stages
 
@@ -164,7 +145,7 @@ limits_and_not run job = then_not (Is (within_limits run job)) Accepts (unless_n
 
 module _ (specs : List Spec) where
   items_not : (thorns : List Thorn) (values : Values) (ordered : Ordered) → Matches thorns values specs ordered (err (List Item) faults.Shelf) → ⊥
-  items_not thorns values ordered m = matches_not (record { thorns = thorns; sight = m.sight; storage = ordered.storage }) values specs (run_count ordered.plan) ordered.items m.items
+  items_not thorns values ordered m = or_fault_not match_fault _ match_not m.items
 
   items_and_not : (thorns : List Thorn) (values : Values) (ordered : Ordered) (out_vars : List VarId) → ItemsAnd specs thorns values ordered out_vars (err Job faults.Shelf) → ⊥
   items_and_not thorns values ordered out_vars =
@@ -173,7 +154,7 @@ module _ (specs : List Spec) where
 
   outputs_not : (thorns : List Thorn) (values : Values) (ordered : Ordered) → OutputsAnd specs thorns values ordered (err Job faults.Shelf) → ⊥
   outputs_not thorns values ordered =
-      then_not (Is (written thorns values ordered.storage)) (ItemsAnd specs thorns values ordered)
+      then_not (Is (output_ids thorns values ordered.storage)) (ItemsAnd specs thorns values ordered)
       (or_fault_not (λ f. faults.Order (orders.Scope (codes "output") f)) (output_variables thorns values ordered.storage) (λ f z. absurd cc)) (items_and_not thorns values ordered)
 
   order_not : (input : Input) → Orders input (err Ordered faults.Shelf) → ⊥
@@ -198,11 +179,20 @@ module _ (specs : List Spec) where
 
   -- ---- over a shelf
 
-  since : (before now : ℕ) (c : Configured) (r : Result Job JobFault) → HasCause faults.Shelf before now (okay c) → r ≢ err Job faults.Shelf → HasCause faults.Shelf before now r
+  -- only a failure of the shelf is told as one
+  shelf_only : (e : ConfigFault) → config_fault e ≡ faults.Shelf → e ≡ configs.Shelf
+  shelf_only configs.Shelf z = refl
+  shelf_only (configs.NoFile name) z = absurd cc
+  shelf_only (configs.Text name fault) z = absurd cc
+  shelf_only (configs.Ccl name fault) z = absurd cc
+  shelf_only (configs.Bind fault) z = absurd cc
+  shelf_only configs.Memory z = absurd cc
+
+  since : (before now : ℕ) (c : Configured) (r : Result Job JobFault) → HasCause configs.Shelf before now (okay c) → r ≢ err Job faults.Shelf → HasCause faults.Shelf before now r
   since before now c (Ok v) cause other = record { later = cause.later; failed = λ z. absurd cc }
   since before now c (Err e) cause other = record { later = cause.later; failed = λ z. absurd (other z) }
 
-  made_answers : (name : List ℕ) (files : Held) (c : Configured) (r : Result Job JobFault) → (okay c ≡ err Configured faults.Memory) ⊎ (okay c ≡ err Configured faults.Shelf) ⊎ Configures name files (Ok c) → Yields (MadeOf specs c) r → (r ≡ err Job faults.Memory) ⊎ (r ≡ err Job faults.Shelf) ⊎ Made name specs files r
+  made_answers : (name : List ℕ) (files : Held) (c : Configured) (r : Result Job JobFault) → (okay c ≡ unread configs.Memory) ⊎ (okay c ≡ unread configs.Shelf) ⊎ Configures name files (Ok c) → Yields (MadeOf specs c) r → (r ≡ err Job faults.Memory) ⊎ (r ≡ err Job faults.Shelf) ⊎ Made name specs files r
   made_answers name files c r (inl m) b = absurd cc
   made_answers name files c r (inr (inl m)) b = absurd cc
   made_answers name files c r (inr (inr s)) (inl m) = inl m
@@ -221,15 +211,15 @@ module _ (specs : List Spec) where
   pub makes_pass : (tells : Type 0) (name : List ℕ) (h0 h1 : Held) (f0 f1 : ℕ) (c : Configured) (r : Result Job JobFault) → Follows tells (Configures name) h0 h1 f0 f1 (Ok c) → Yields (MadeOf specs c) r → Makes tells (Made name specs) h0 h1 f0 f1 r
   makes_pass tells name h0 h1 f0 f1 c r a b = makes_of tells name h0 h1 f0 f1 r (λ t. made_answers name h0 c r (a.answers t) b) a.same (since f0 f1 c r a.cause (yields_not c r b))
 
-  halt_answers : (name : List ℕ) (files : Held) (e : JobFault) → (err Configured e ≡ err Configured faults.Memory) ⊎ (err Configured e ≡ err Configured faults.Shelf) ⊎ Configures name files (Err e) → Comes files name specs (err Job e)
-  halt_answers name files e (inl m) = inl (moved Job Configured e faults.Memory m)
-  halt_answers name files e (inr (inl m)) = inr (inl (moved Job Configured e faults.Shelf m))
-  halt_answers name files e (inr (inr s)) = inr (inr (inl (e, s, refl)))
+  halt_answers : (name : List ℕ) (files : Held) (e : ConfigFault) → (unread e ≡ unread configs.Memory) ⊎ (unread e ≡ unread configs.Shelf) ⊎ Configures name files (Err e) → Comes files name specs (err Job (config_fault e))
+  halt_answers name files e (inl m) = inl (ap (λ (f : ConfigFault). err Job (config_fault f)) (same_fault Configured e configs.Memory m))
+  halt_answers name files e (inr (inl m)) = inr (inl (ap (λ (f : ConfigFault). err Job (config_fault f)) (same_fault Configured e configs.Shelf m)))
+  halt_answers name files e (inr (inr s)) = inr (inr (inl (config_fault e, (e, refl, s), refl)))
 
-  pub makes_halt : (tells : Type 0) (name : List ℕ) (h0 h1 : Held) (f0 f1 : ℕ) (e : JobFault) → Follows tells (Configures name) h0 h1 f0 f1 (Err e) → Makes tells (Made name specs) h0 h1 f0 f1 (err Job e)
+  pub makes_halt : (tells : Type 0) (name : List ℕ) (h0 h1 : Held) (f0 f1 : ℕ) (e : ConfigFault) → Follows tells (Configures name) h0 h1 f0 f1 (Err e) → Makes tells (Made name specs) h0 h1 f0 f1 (err Job (config_fault e))
   makes_halt tells name h0 h1 f0 f1 e a =
-      makes_of tells name h0 h1 f0 f1 (err Job e) (λ t. halt_answers name h0 e (a.answers t)) a.same
-      (record { later = a.cause.later; failed = λ z. a.cause.failed (moved Configured Job e faults.Shelf z) })
+      makes_of tells name h0 h1 f0 f1 (err Job (config_fault e)) (λ t. halt_answers name h0 e (a.answers t)) a.same
+      (record { later = a.cause.later; failed = λ z. a.cause.failed (ap unread (shelf_only e (same_fault Job (config_fault e) faults.Shelf z))) })
 
   pub makes_memory : (tells : Type 0) (name : List ℕ) (h : Held) (f : ℕ) → Makes tells (Made name specs) h h f f (err Job faults.Memory)
   makes_memory tells name h f = makes_of tells name h h f f (err Job faults.Memory) (λ t. inl refl) (λ t. refl) (record { later = omega arith; failed = λ z. absurd cc })

@@ -15,63 +15,17 @@ use Rattle.cx_bind.specs.Binding.{bind_fault}
 use Rattle.cx_bind.specs.Variables as of_bind
 use Rattle.cx_bind.specs.Variables.{Variable, OwnedGroup, copies, variable_infos}
 use Rattle.std.proofs.lemmas.Grind.{flat_map-append}
-use Rattle.cx_scope.specs.Resolving.{var_id, Answers}
+use Rattle.cx_scope.specs.Resolving.{var_id}
+use Rattle.cx_text.specs.Telling.{Answers}
 use Rattle.cx_scope.specs.Names.{named_group, named_copy, copies_of, variables_in, variables_of, named_variables}
 use Rattle.cx_scope.proofs.NameLaws.{few}
-use Rattle.cx_values.proofs.Along.{left_over, one_numbered}
+use Rattle.cx_values.proofs.Along.{one_numbered}
+use Rattle.cx_match.proofs.AllLaws.{Given, given_fault}
 use Rattle.cx_values.specs.declared.values.Values.{Values}
 use Rattle.cx_job.specs.declared.groups.GroupPlace.{GroupPlace}
 use Rattle.cx_job.specs.declared.groups.FullGroup.{FullGroup}
 use Rattle.cx_job.specs.declared.outputs.Named.{Named}
 use Rattle.cx_job.specs.Outputs.{group_place, full_groups, places_of_copies, places_in, places_of, group_places, output_names, named_by, output_of, outputs, is_written, named_ids, ids_or_fault, output_variables}
-
-pub nothing_left : {X : Type 0} (xs : List X) (k : ℕ) → length xs ≤ k → drop k xs ≡ []
-nothing_left [] zero h = refl
-nothing_left [] (suc k) h = refl
-nothing_left (x ∷ xs) zero h = absurd (let no : ⊥ = omega (arith, h) in no)
-nothing_left (x ∷ xs) (suc k) h = nothing_left xs k (omega (arith, h))
-
--- ---- results of all
-
-abbrev prepended : {Y E : Type 0} → List Y → Result (List Y) E → Result (List Y) E
-prepended ys (Ok others) = Ok (ys ++ others)
-prepended ys (Err e) = Err e
-
-none_before : {Y E : Type 0} (r : Result (List Y) E) → prepended [] r ≡ r
-none_before (Ok ys) = refl
-none_before (Err e) = refl
-
-one_before : {Y E : Type 0} (ys : List Y) (y : Y) (r : Result (List Y) E) → prepended (ys ++ y ∷ []) r ≡ prepended ys (with_others y r)
-one_before ys y (Ok others) = ap (λ zs. Ok zs) (append_assoc ys (y ∷ []) others)
-one_before ys y (Err e) = refl
-
-module _ {X Y E : Type 0} (f : X → Result Y E) (xs : List X) where
-  -- what the first ones gave and what the others give are the results of all
-  abbrev pub Given : ℕ → List Y → Type 0
-  Given k ys = prepended ys (all_ok (map f (drop k xs))) ≡ all_ok (map f xs)
-
-  pub given_none : Given 0 []
-  given_none = none_before (all_ok (map f xs))
-
-  behind : (k : ℕ) (x : X) (r : Result Y E) → k < length xs → x ≡ get_or xs k x → f x ≡ r → all_ok (map f (drop k xs)) ≡ with_next r (all_ok (map f (drop (k + 1) xs)))
-  behind k x r within at is =
-      ap (λ rest. all_ok (map f rest)) (left_over xs k x within at) ∙ ap (λ r. with_next r (all_ok (map f (drop (k + 1) xs)))) is
-
-  pub given_one : (k : ℕ) (x : X) (y : Y) (ys ys2 : List Y) → k < length xs → x ≡ get_or xs k x → f x ≡ Ok y → Given k ys → ys2 ≡ ys ++ y ∷ [] → Given (k + 1) ys2
-  given_one k x y ys ys2 within at is before after =
-      ap (λ zs. prepended zs (all_ok (map f (drop (k + 1) xs)))) after
-      ∙ one_before ys y (all_ok (map f (drop (k + 1) xs)))
-      ∙ ap (λ r. prepended ys r) (sym (behind k x (Ok y) within at is))
-      ∙ before
-
-  pub given_fault : (k : ℕ) (x : X) (ys : List Y) (e : E) → k < length xs → x ≡ get_or xs k x → f x ≡ Err e → Given k ys → all_ok (map f xs) ≡ Err e
-  given_fault k x ys e within at is before = sym before ∙ ap (λ r. prepended ys r) (behind k x (Err e) within at is)
-
-  pub given_all : (k : ℕ) (ys : List Y) → length xs ≤ k → Given k ys → all_ok (map f xs) ≡ Ok ys
-  given_all k ys past before =
-      sym before
-      ∙ ap (λ rest. prepended ys (all_ok (map f rest))) (nothing_left xs k past)
-      ∙ ap (λ zs. Ok zs) (append-nil ys)
 
 module _ (vars : List VarInfo) (groups : List FullGroup) (places : List GroupPlace) (storage : List ℕ) where
   abbrev pub meaning : List ℕ → Result Named ScopeFault
@@ -168,9 +122,9 @@ all_placed thorns = all_in_thorns 0 thorns ∙ sym (as_long of_bind.variable_inf
 
 -- ---- all together
 
-pub as_told : (thorns : List Thorn) (values : Values) (storage : List ℕ) {names : List (List ℕ)} {vars : List VarInfo} {groups : List FullGroup} {places : List GroupPlace} {storage2 : List ℕ} (result : Result (List VarId) ScopeFault) → names ≡ output_names values → vars ≡ variable_infos thorns → groups ≡ full_groups thorns → places ≡ group_places thorns → storage2 ≡ storage → Answers (ids_or_fault places (outputs vars groups places storage2 names)) result → Answers (output_variables thorns values storage) result
+pub as_told : (thorns : List Thorn) (values : Values) (storage : List ℕ) {names : List (List ℕ)} {vars : List VarInfo} {groups : List FullGroup} {places : List GroupPlace} {storage2 : List ℕ} (result : Result (List VarId) ScopeFault) → names ≡ output_names values → vars ≡ variable_infos thorns → groups ≡ full_groups thorns → places ≡ group_places thorns → storage2 ≡ storage → Answers Memory (ids_or_fault places (outputs vars groups places storage2 names)) result → Answers Memory (output_variables thorns values storage) result
 as_told thorns values storage {names = names} {vars = vars} {groups = groups} {places = places} {storage2 = storage2} result n v g p s answers =
-    let A : Result (List VarId) ScopeFault → Type 0 = λ told. Answers told result in
+    let A : Result (List VarId) ScopeFault → Type 0 = λ told. Answers Memory told result in
     let same : ids_or_fault places (outputs vars groups places storage2 names) ≡ output_variables thorns values storage =
     ap (λ ns. ids_or_fault places (outputs vars groups places storage2 ns)) n
     ∙ ap (λ vs. ids_or_fault places (outputs vs groups places storage2 (output_names values))) v

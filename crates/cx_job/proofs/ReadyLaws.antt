@@ -10,7 +10,7 @@ use Rattle.cx_sched.specs.declared.tree.ScheduleFile.{ScheduleFile}
 use Rattle.cx_bind.specs.Variables.{variable_infos}
 use Rattle.cx_bind.specs.declared.thorns.Thorn.{Thorn}
 use Rattle.cx_values.specs.declared.values.Values.{Values}
-use Rattle.cx_scope.specs.Sight.{Sight, Tells}
+use Rattle.cx_scope.specs.Sight.{Sight, IsSightOf}
 use Rattle.cx_order.specs.Files.{input_of}
 use Rattle.cx_order.specs.Meanings.{World}
 use Rattle.cx_order.specs.declared.ordered.Ordered.{Ordered}
@@ -20,9 +20,14 @@ use Rattle.cx_job.specs.declared.fault.JobFault.{JobFault}
 use Rattle.cx_job.specs.JobLimits.{limit_fault}
 use Rattle.cx_job.specs.Jobs.{job_of}
 use Rattle.cx_job.specs.Outputs.{output_variables}
-use Rattle.cx_job.specs.Matching.{all_matched, Answers}
-use Rattle.cx_job.specs.Read.{AreRead}
-use Rattle.cx_job.specs.Making.{Is, Orders, Matches, Accepts, LimitsAnd, ItemsAnd, OutputsAnd, PlanAnd, Yields, IsReady, IsPlanned, written, within_limits, run_count}
+use Rattle.cx_match.specs.Matching.{all_matched}
+use Rattle.cx_text.specs.Telling.{Answers}
+use Rattle.cx_match.specs.declared.fault.MatchFault.TheVariants as matches
+use Rattle.cx_config.specs.NamesAndLevels.{AreRead}
+use Rattle.cx_match.specs.declared.fault.MatchFault.{MatchFault}
+use Rattle.cx_job.specs.Faults.{match_fault}
+use Rattle.cx_config.specs.Stages.{Is, or_fault}
+use Rattle.cx_job.specs.Making.{Orders, Matches, Accepts, LimitsAnd, ItemsAnd, OutputsAnd, PlanAnd, Yields, IsReady, IsPlanned, output_ids, within_limits, run_count}
 use Rattle.cx_job.proofs.MakingLaws.{yields_halt, yields_pass, yields_ok, unless_ok}
 use Rattle.cx_job.proofs.WholeJobs.{is_whole}
 use Rattle.cx_job.proofs.FitLaws.{fits}
@@ -40,19 +45,17 @@ kept_one f g xs xs2 x ys k y within at one before after =
 
 -- ---- items by what the thorns see
 
-pub matches_of : (thorns : List Thorn) (values : Values) (specs : List Spec) (ordered : Ordered) (sight : Sight) (run : ℕ) (items : List Item) → Tells thorns sight → run ≡ run_count ordered.plan → items ≡ ordered.items → (r : Result (List Item) JobFault) → Answers (all_matched (record { thorns = thorns; sight = sight; storage = ordered.storage }) values specs run items) r → Yields (Matches thorns values specs ordered) r
-matches_of thorns values specs ordered sight run items told counted taken = by
-  where
-    w : World
-    w = record { thorns = thorns; sight = sight; storage = ordered.storage }
+module _ (thorns : List Thorn) (values : Values) (specs : List Spec) (ordered : Ordered) (sight : Sight) (run : ℕ) (items : List Item) where
+  abbrev w : World
+  w = record { thorns = thorns; sight = sight; storage = ordered.storage }
 
-    same : all_matched w values specs run items ≡ all_matched w values specs (run_count ordered.plan) ordered.items
-    same = ap (λ k. all_matched w values specs k items) counted ∙ ap (all_matched w values specs (run_count ordered.plan)) taken
+  same_items : run ≡ run_count ordered.plan → items ≡ ordered.items → all_matched w values specs run items ≡ all_matched w values specs (run_count ordered.plan) ordered.items
+  same_items counted taken = ap (λ k. all_matched w values specs k items) counted ∙ ap (all_matched w values specs (run_count ordered.plan)) taken
 
-    by : (r : Result (List Item) JobFault) → Answers (all_matched w values specs run items) r → Yields (Matches thorns values specs ordered) r
-    by (Ok xs) is = inr (record { sight = sight; told = told; items = sym is ∙ same })
-    by (Err e) (inl m) = inl (ap (err (List Item)) m)
-    by (Err e) (inr is) = inr (record { sight = sight; told = told; items = sym is ∙ same })
+  pub matches_of : IsSightOf thorns sight → run ≡ run_count ordered.plan → items ≡ ordered.items → (r : Result (List Item) MatchFault) → Answers matches.Memory (all_matched w values specs run items) r → Yields (Matches thorns values specs ordered) (or_fault match_fault r)
+  matches_of told counted taken (Ok xs) is = inr (record { sight = sight; told = told; items = ap (or_fault match_fault) (sym is ∙ same_items counted taken) })
+  matches_of told counted taken (Err e) (inl m) = inl (ap (λ (f : MatchFault). err (List Item) (match_fault f)) m)
+  matches_of told counted taken (Err e) (inr is) = inr (record { sight = sight; told = told; items = ap (or_fault match_fault) (sym is ∙ same_items counted taken) })
 
 -- ---- the job, of a plan whose items were taken out to be matched
 
@@ -110,13 +113,13 @@ ready_of specs job (Ok other) whole fit (inr s) = subst (IsReady specs) (sym s.0
 -- ---- the plan and the variables that are written
 
 module _ (specs : List Spec) (thorns : List Thorn) (schedules : List ScheduleFile) (values : Values) where
-  pub unwritten : (ordered : Ordered) (e : JobFault) → Yields (Orders (input_of thorns schedules values)) (Ok ordered) → Yields (Is (written thorns values ordered.storage)) (err (List VarId) e) → Yields (PlanAnd specs thorns schedules values) (err Job e)
+  pub unwritten : (ordered : Ordered) (e : JobFault) → Yields (Orders (input_of thorns schedules values)) (Ok ordered) → Yields (Is (output_ids thorns values ordered.storage)) (err (List VarId) e) → Yields (PlanAnd specs thorns schedules values) (err Job e)
   unwritten ordered e plan told =
-      yields_pass (Orders (input_of thorns schedules values)) (OutputsAnd specs thorns values) ordered (Err e) plan (yields_halt (Is (written thorns values ordered.storage)) (ItemsAnd specs thorns values ordered) e told)
+      yields_pass (Orders (input_of thorns schedules values)) (OutputsAnd specs thorns values) ordered (Err e) plan (yields_halt (Is (output_ids thorns values ordered.storage)) (ItemsAnd specs thorns values ordered) e told)
 
-  pub plan_made : (ordered : Ordered) (out_vars : List VarId) (r : Result Job JobFault) → Yields (Orders (input_of thorns schedules values)) (Ok ordered) → Yields (Is (written thorns values ordered.storage)) (Ok out_vars) → Yields (ItemsAnd specs thorns values ordered out_vars) r → Yields (PlanAnd specs thorns schedules values) r
+  pub plan_made : (ordered : Ordered) (out_vars : List VarId) (r : Result Job JobFault) → Yields (Orders (input_of thorns schedules values)) (Ok ordered) → Yields (Is (output_ids thorns values ordered.storage)) (Ok out_vars) → Yields (ItemsAnd specs thorns values ordered out_vars) r → Yields (PlanAnd specs thorns schedules values) r
   plan_made ordered out_vars r plan told made =
-      yields_pass (Orders (input_of thorns schedules values)) (OutputsAnd specs thorns values) ordered r plan (yields_pass (Is (written thorns values ordered.storage)) (ItemsAnd specs thorns values ordered) out_vars r told made)
+      yields_pass (Orders (input_of thorns schedules values)) (OutputsAnd specs thorns values) ordered r plan (yields_pass (Is (output_ids thorns values ordered.storage)) (ItemsAnd specs thorns values ordered) out_vars r told made)
 
 -- ---- the answer
 

@@ -29,13 +29,13 @@ use Rattle.cx_rule.specs.declared.spec.Spec.{Spec}
 use Rattle.cx_job.specs.declared.fault.JobFault.TheVariants.{Limit}
 use Rattle.cx_job.specs.JobLimits.{over, writes_fault, reads_fault, parameters_fault, item_limits, points_fault, cells_fault, grid_limits, key_limit, limit_fault}
 use Rattle.cx_job.specs.Jobs.{job_of}
-use Rattle.cx_job.specs.Read.{AreRead}
+use Rattle.cx_config.specs.NamesAndLevels.{AreRead}
 use Rattle.cx_job.specs.Outputs.{output_variables}
-use Rattle.cx_job.specs.Stored.{in_64_bits, stored_infos}
-use Rattle.cx_job.specs.Grids.{number_at}
+use Rattle.cx_grids.specs.Stored.{in_64_bits, stored_infos}
+use Rattle.cx_grids.specs.Grids.{number_at}
 use Rattle.cx_job.specs.Making.{run_count, Matches}
-use Rattle.cx_job.proofs.NoneLaws.{some_none, first_none, second_none}
-use Rattle.cx_job.proofs.LimitLaws.{lies_within, natural_lies_within, has_shape}
+use Rattle.cx_grids.proofs.NoneLaws.{some_none, first_none, second_none}
+use Rattle.cx_grids.proofs.LimitLaws.{lies_within, natural_lies_within, has_shape}
 use Rattle.cx_job.proofs.WrittenLaws.{outputs_stored, outputs_rise}
 use Rattle.cx_job.proofs.StoredLaws.{as_many_stored, each_stored, names_kept, stored_differ}
 use Rattle.cx_job.proofs.SupportedLaws.{no_two_variables, one_level, few_variables as few_declared}

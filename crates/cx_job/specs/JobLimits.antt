@@ -1,5 +1,5 @@
 -- The limits of a job, in their order.
-use Rattle.std.specs.Prelude.{◌≡◌, ◌⊎◌, ℕ, ◌*◌, ◌-◌, ◌^◌, nat_lt, List, length, take, codes, Option, Some, None, Result, Ok, Err, if◌then◌else◌}
+use Rattle.std.specs.Prelude.{ℕ, ◌*◌, ◌-◌, ◌^◌, nat_lt, List, length, take, codes, Option, Some, None, if◌then◌else◌}
 use Rattle.cx_grid.specs.declared.shapes.Shape.{Shape}
 use Rattle.cx_grid.specs.Boxes.{point_count}
 use Rattle.cx_grid.specs.Grid.{whole}
@@ -8,13 +8,8 @@ use Rattle.cx_plan.specs.Whole.{grid_levels}
 use Rattle.cx_plan.specs.declared.variable.VarInfo.{VarInfo}
 use Rattle.cx_plan.specs.declared.item.Item.{Item}
 use Rattle.cx_job.specs.declared.fault.JobFault.{JobFault}
-use Rattle.cx_job.specs.declared.fault.JobFault.TheVariants.{Limit, Memory}
-use Rattle.cx_job.specs.Stored.{in_64_bits}
-
--- A test tells a fault, or its want of memory, and passes where there is none.
-abbrev pub Tells : {X : Type 0} → Option JobFault → Result X JobFault → Type 0
-Tells fault (Ok x) = fault ≡ None
-Tells fault (Err e) = (e ≡ Memory) ⊎ (fault ≡ Some e)
+use Rattle.cx_job.specs.declared.fault.JobFault.TheVariants.{Limit}
+use Rattle.cx_grids.specs.Stored.{in_64_bits}
 
 -- a number that 64 bits do not hold is told as their greatest
 abbrev pub over : List ℕ → ℕ → ℕ → Option JobFault

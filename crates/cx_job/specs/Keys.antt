@@ -109,6 +109,9 @@ abbrev pub indices : Option ℕ → List (Option ℕ)
 indices None = None ∷ []
 indices (Some n) = map (λ k. Some k) (range_with_len 0 n)
 
+abbrev pub lines_at : Values → Param → List (Option ℕ) → List ℕ
+lines_at values p places = flat_map (parameter_line values p) places
+
 abbrev pub parameter_lines : Values → Param → List ℕ
 parameter_lines values p = flat_map (parameter_line values p) (indices p.decl.length)
 

@@ -1,14 +1,6 @@
 pub mod Keys
-pub mod Grids
-pub mod RunNumbers
 pub mod Outputs
-pub mod Stored
-pub mod Ranges
 pub mod Jobs
 pub mod JobLimits
-pub mod Matching
-pub mod Lookups
-pub mod Shelf
-pub mod Reading
-pub mod Read
+pub mod Faults
 pub mod Making

@@ -1,16 +1,10 @@
 -- The job that files make, or the first fault: stage after stage.
 use Rattle.std.specs.Prelude.{◌≡◌, ◌≢◌, ◌⊎◌, ℕ, List, [], ◌∷◌, map, take, length, codes, Option, Some, None, option_map, Result, Ok, Err, IsErrAnd, MatchResult}
 use Rattle.std.specs.List.{flat_map}
-use Rattle.cx_text.specs.declared.token.Style.TheVariants.{Par, Thorns}
-use Rattle.cx_parfile.specs.declared.settings.Settings.{Settings}
 use Rattle.cx_parfile.specs.declared.settings.Setting.{Setting}
-use Rattle.cx_conf.specs.declared.thorn_list.ThornList.{ThornList}
 use Rattle.cx_sched.specs.declared.tree.ScheduleFile.{ScheduleFile}
-use Rattle.cx_parfile.specs.ParFile.{parameter_file}
-use Rattle.cx_parfile.specs.Values.{base_of}
-use Rattle.cx_conf.specs.Thorns.{thorn_list}
 use Rattle.cx_plan.specs.Setups.{setup_of}
-use Rattle.cx_plan.specs.Lookups.{called}
+use Rattle.cx_plan.specs.Lookups.{called, run_bin_count}
 use Rattle.cx_plan.specs.Regions.{HasShapes}
 use Rattle.cx_plan.specs.Paths.{Sound}
 use Rattle.cx_plan.specs.Whole.{IsWhole}
@@ -19,12 +13,13 @@ use Rattle.cx_plan.specs.declared.item.Item.{Item}
 use Rattle.cx_plan.specs.declared.job.Job.{Job}
 use Rattle.cx_plan.specs.declared.tree.Schedule.{Schedule}
 use Rattle.cx_bind.specs.Binding.{bind_fault}
-use Rattle.cx_bind.specs.Selecting.{select}
 use Rattle.cx_bind.specs.declared.thorns.Thorn.{Thorn}
 use Rattle.cx_values.specs.Assigned.{assigned}
 use Rattle.cx_values.specs.Faults.{assign_fault}
 use Rattle.cx_values.specs.declared.values.Values.{Values}
-use Rattle.cx_scope.specs.Sight.{Sight, Tells}
+use Rattle.cx_scope.specs.Sight.{Sight, IsSightOf}
+use Rattle.cx_scope.specs.declared.fault.ScopeFault.{ScopeFault}
+use Rattle.cx_scope.specs.declared.fault.ScopeFault.TheVariants as scopes
 use Rattle.cx_order.specs.Files.{Input, input_of}
 use Rattle.cx_order.specs.Ordering.{IsPlan, IsFault, without_cycle}
 use Rattle.cx_order.specs.declared.ordered.Ordered.{Ordered}
@@ -38,111 +33,89 @@ use Rattle.cx_rule.specs.Jobs.{FitJob}
 use Rattle.cx_disk.specs.Cause.{HasCause}
 use Rattle.cx_job.specs.declared.fault.JobFault.{JobFault}
 use Rattle.cx_job.specs.declared.fault.JobFault.TheVariants as faults
-use Rattle.cx_job.specs.declared.reading.ThornFiles.{ThornFiles}
-use Rattle.cx_job.specs.declared.configuring.Configured.{Configured}
-use Rattle.cx_job.specs.Shelf.{Held}
-use Rattle.cx_job.specs.Reading.{Stage, Then, File, ThornSays, file_names}
+use Rattle.cx_job.specs.declared.stages.Contents.{Contents}
+use Rattle.cx_config.specs.declared.configuring.Configured.{Configured}
+use Rattle.cx_config.specs.declared.shelf.Shelf.{Ghosts}
+use Rattle.cx_config.specs.Shelf.{Held}
+use Rattle.cx_text.specs.Telling.{Stage, Then}
+use Rattle.cx_config.specs.Stages.{Is, unless, or_fault, Raised}
+use Rattle.cx_config.specs.Configuring.{Configures}
+use Rattle.cx_job.specs.Faults.{config_fault, match_fault}
 use Rattle.cx_job.specs.Jobs.{job_of}
 use Rattle.cx_job.specs.JobLimits.{limit_fault}
-use Rattle.cx_job.specs.Matching.{all_matched}
+use Rattle.cx_match.specs.Matching.{all_matched}
 use Rattle.cx_job.specs.Outputs.{output_variables}
 
--- what a stage comes to that has one answer
-abbrev pub Is : {A : Type 0} → Result A JobFault → Stage A
-Is told result = result ≡ told
-
--- a value, or a lower layer's fault as a job's
-abbrev pub or_fault : {A F : Type 0} → (F → JobFault) → Result A F → Result A JobFault
-or_fault as_job (Ok x) = Ok x
-or_fault as_job (Err e) = Err (as_job e)
-
--- a value, unless there is a fault
-abbrev pub unless : {A : Type 0} → Option JobFault → A → Result A JobFault
-unless None x = Ok x
-unless (Some e) x = Err e
-
--- what a lower layer's fault is to a job: its want of memory is the job's
-abbrev pub IsOf : {F : Type 0} → F → (F → JobFault) → F → JobFault → Type 0
-IsOf memory as_job fault e = ((fault ≡ memory) × (e ≡ faults.Memory)) ⊎ ((fault ≢ memory) × (e ≡ as_job fault))
-
 -- an answer is what the stage comes to, unless memory is wanting
-abbrev pub Yields : {A : Type 0} → Stage A → Result A JobFault → Type 0
+abbrev pub Yields : {A : Type 0} → Stage A JobFault → Result A JobFault → Type 0
 Yields stage result = (result ≡ Err faults.Memory) ⊎ stage result
-
--- ---- what the files say
-
--- what the files of thorns at these places say, one thorn after another
-abbrev pub ThornsSay : List (List ℕ × List ℕ) → Held → Stage (List ThornFiles)
-ThornsSay [] files = Is (Ok [])
-ThornsSay (place ∷ places) files = Then (ThornSays place (file_names place) files) (λ t. Then (ThornsSay places files) (λ ts. Is (Ok (t ∷ ts))))
-
-abbrev pub configured : Settings → List ThornFiles → Configured
-configured settings ts = record { settings = settings; thorns = map (λ t. t.thorn) ts; schedules = map (λ t. t.schedule) ts }
-
--- The parameter file, the list of thorns, the places of the active thorns in it, and their files in the order of activation: a stage
--- stands behind what it takes from those before it.
-abbrev pub ThornsAnd : Settings → List (List ℕ × List ℕ) → Held → Stage Configured
-ThornsAnd settings places files = Then (ThornsSay places files) (λ ts. Is (Ok (configured settings ts)))
-
-abbrev pub PlacesAnd : Settings → ThornList → Held → Stage Configured
-PlacesAnd settings list files = Then (Is (or_fault faults.Bind (select list settings.active))) (λ places. ThornsAnd settings places files)
-
-abbrev pub ListAnd : Settings → Held → Stage Configured
-ListAnd settings files = Then (File Thorns thorn_list.derives (codes "ThornList") files) (λ list. PlacesAnd settings list files)
-
-abbrev pub Configures : List ℕ → Held → Stage Configured
-Configures name files = Then (File Par (parameter_file (base_of name)).derives name files) (λ settings. ListAnd settings files)
 
 -- ---- from a configuration to its job
 
 -- the plan, or a fault of ordering
-abbrev pub Orders : Input → Stage Ordered
+abbrev pub Orders : Input → Stage Ordered JobFault
 Orders input (Ok ordered) = IsPlan input ordered
 Orders input (Err e) = (fault : OrderFault) × (e ≡ faults.Order fault) × (fault ≢ orders.Memory) × IsFault input fault
 
+-- what the fault of a name of a variable that is to be written is to a job: it has the path `output`
+abbrev pub IsOutputFault : ScopeFault → JobFault → Type 0
+IsOutputFault fault e = (e ≡ faults.Memory) ⊎ ((fault ≢ scopes.Memory) × (e ≡ faults.Order (orders.Scope (codes "output") fault)))
+
 -- the variables that are written; a name's fault has the path `output`
-abbrev pub written : List Thorn → Values → List ℕ → Result (List VarId) JobFault
-written thorns values storage = or_fault (λ f. faults.Order (orders.Scope (codes "output") f)) (output_variables thorns values storage)
+abbrev pub output_ids : List Thorn → Values → List ℕ → Result (List VarId) JobFault
+output_ids thorns values storage = or_fault (λ f. faults.Order (orders.Scope (codes "output") f)) (output_variables thorns values storage)
 
 -- how many items the bins that are run call; these stand first
 abbrev pub run_count : Schedule → ℕ
-run_count plan = length (flat_map called (take 13 plan.bins))
+run_count plan = length (flat_map called (take run_bin_count plan.bins))
 
 -- the items matched with the objects' Specs, by what the thorns see
 pub record Matches (thorns : List Thorn) (values : Values) (specs : List Spec) (ordered : Ordered) (result : Result (List Item) JobFault) : Type 0 where
   pub sight : Sight
-  pub told : Tells thorns sight
-  pub items : result ≡ all_matched (record { thorns = thorns; sight = sight; storage = ordered.storage }) values specs (run_count ordered.plan) ordered.items
+  pub told : IsSightOf thorns sight
+  pub items : result ≡ or_fault match_fault (all_matched (record { thorns = thorns; sight = sight; storage = ordered.storage }) values specs (run_count ordered.plan) ordered.items)
 
 abbrev pub within_limits : ℕ → Job → Result Job JobFault
 within_limits run job = unless (limit_fault run job.items job.shape job.vars job.key) job
 
+-- the job of these items and written variables, within its limits
+abbrev pub job_within : ℕ → List Thorn → Values → Ordered → Contents → Result Job JobFault
+job_within run thorns values ordered c = within_limits run (job_of thorns values ordered c.items c.out_vars)
+
 -- the job itself, where on no path a need is unmet
-abbrev pub Accepts : Job → Stage Job
+abbrev pub Accepts : Job → Stage Job JobFault
 Accepts job (Ok other) = (other ≡ job) × HasShapes (setup_of job) × Sound (setup_of job)
 Accepts job (Err e) = (fault : RegionFault) × (e ≡ faults.Region fault) × (fault ≢ regions.Memory) × IsRegionFault (setup_of job) fault
 
 -- Bound, with values, ordered, with the variables that are written, matched, within the limits, and accepted: a stage stands behind what it
 -- takes from those before it.
-abbrev pub LimitsAnd : ℕ → Job → Stage Job
+abbrev pub LimitsAnd : ℕ → Job → Stage Job JobFault
 LimitsAnd run job = Then (Is (within_limits run job)) Accepts
 
-abbrev pub ItemsAnd : List Spec → List Thorn → Values → Ordered → List VarId → Stage Job
+abbrev pub ItemsAnd : List Spec → List Thorn → Values → Ordered → List VarId → Stage Job JobFault
 ItemsAnd specs thorns values ordered out_vars =
     Then (Matches thorns values specs ordered) (λ items. LimitsAnd (run_count ordered.plan) (job_of thorns values ordered items out_vars))
 
-abbrev pub OutputsAnd : List Spec → List Thorn → Values → Ordered → Stage Job
-OutputsAnd specs thorns values ordered = Then (Is (written thorns values ordered.storage)) (ItemsAnd specs thorns values ordered)
+abbrev pub OutputsAnd : List Spec → List Thorn → Values → Ordered → Stage Job JobFault
+OutputsAnd specs thorns values ordered = Then (Is (output_ids thorns values ordered.storage)) (ItemsAnd specs thorns values ordered)
 
-abbrev pub PlanAnd : List Spec → List Thorn → List ScheduleFile → Values → Stage Job
+abbrev pub PlanAnd : List Spec → List Thorn → List ScheduleFile → Values → Stage Job JobFault
 PlanAnd specs thorns schedules values = Then (Orders (input_of thorns schedules values)) (OutputsAnd specs thorns values)
 
-abbrev pub ValuesAnd : List Spec → List ScheduleFile → List Setting → List Thorn → Stage Job
-ValuesAnd specs schedules settings thorns =
-    Then (Is (unless (option_map faults.Value (assign_fault thorns settings)) (assigned thorns settings))) (PlanAnd specs thorns schedules)
+-- bound thorns, or their fault
+abbrev pub bound_thorns : List Thorn → Result (List Thorn) JobFault
+bound_thorns thorns = unless (option_map faults.Bind (bind_fault thorns)) thorns
 
-abbrev pub MadeOf : List Spec → Configured → Stage Job
-MadeOf specs c = Then (Is (unless (option_map faults.Bind (bind_fault c.thorns)) c.thorns)) (ValuesAnd specs c.schedules c.settings.list)
+-- the values of parameters, or the fault of one
+abbrev pub assigned_values : List Thorn → List Setting → Result Values JobFault
+assigned_values thorns settings = unless (option_map faults.Value (assign_fault thorns settings)) (assigned thorns settings)
+
+abbrev pub ValuesAnd : List Spec → List ScheduleFile → List Setting → List Thorn → Stage Job JobFault
+ValuesAnd specs schedules settings thorns =
+    Then (Is (assigned_values thorns settings)) (PlanAnd specs thorns schedules)
+
+abbrev pub MadeOf : List Spec → Configured → Stage Job JobFault
+MadeOf specs c = Then (Is (bound_thorns c.thorns)) (ValuesAnd specs c.schedules c.settings.list)
 
 -- a job that is whole and accepted, and that the objects fit
 pub record IsReady (specs : List Spec) (job : Job) : Type 0 where
@@ -158,8 +131,8 @@ pub record IsPlanned (thorns : List Thorn) (values : Values) (ordered : Ordered)
   pub plan : IsPlan (input_of thorns files values) ordered
 
 -- what the files under this parameter file's name and the objects' Specs make
-abbrev pub Made : List ℕ → List Spec → Held → Stage Job
-Made name specs files = Then (Configures name files) (MadeOf specs)
+abbrev pub Made : List ℕ → List Spec → Held → Stage Job JobFault
+Made name specs files = Then (Raised config_fault (Configures name files)) (MadeOf specs)
 
 -- What a fault tells beside the cycle or the path that it shows: of several any may be shown.
 abbrev pub without_witness : JobFault → JobFault
@@ -179,9 +152,13 @@ without_witness faults.Memory = faults.Memory
 -- An answer over a shelf that held these files, with its counts of faults before and after. Where the shelf tells its files, it is what
 -- they make, but for want of memory and failures of the shelf; and they are as they were. Where they make a job, it is this one, and where
 -- they make a fault, it is this one but for its witness.
-pub record Makes (tells : Type 0) (made : Held → Stage Job) (old new : Held) (before now : ℕ) (result : Result Job JobFault) : Type 0 where
+pub record Makes (tells : Type 0) (made : Held → Stage Job JobFault) (old new : Held) (before now : ℕ) (result : Result Job JobFault) : Type 0 where
   pub answers : tells → (result ≡ Err faults.Memory) ⊎ (result ≡ Err faults.Shelf) ⊎ made old result
   pub only : tells → (job : Job) → made old (Ok job) → MatchResult result (λ found. found ≡ job) (λ e. (e ≡ faults.Memory) ⊎ (e ≡ faults.Shelf))
   pub faulty : tells → (fault : JobFault) → made old (Err fault) → IsErrAnd result (λ e. (e ≡ faults.Memory) ⊎ (e ≡ faults.Shelf) ⊎ (without_witness e ≡ without_witness fault))
   pub same : tells → new ≡ old
   pub cause : HasCause faults.Shelf before now result
+
+-- the same of a shelf before and after a call
+abbrev pub MakesFrom : {S : Type 0} → Ghosts S → (Held → Stage Job JobFault) → S → S → Result Job JobFault → Type 0
+MakesFrom shelf made old new result = Makes shelf.tells made (shelf.held old) (shelf.held new) (shelf.faults old) (shelf.faults new) result

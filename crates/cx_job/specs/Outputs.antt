@@ -15,7 +15,7 @@ use Rattle.cx_scope.specs.declared.fault.ScopeFault.{ScopeFault}
 use Rattle.cx_scope.specs.declared.fault.ScopeFault.TheVariants.{NotFound, NoStorage}
 use Rattle.cx_scope.specs.Resolving.{var_id}
 use Rattle.cx_values.specs.declared.values.Values.{Values}
-use Rattle.cx_job.specs.Grids.{text_at}
+use Rattle.cx_grids.specs.Grids.{text_at}
 use Rattle.cx_job.specs.declared.groups.GroupPlace.{GroupPlace}
 use Rattle.cx_job.specs.declared.groups.FullGroup.{FullGroup}
 use Rattle.cx_job.specs.declared.outputs.Named.{Named}
@@ -29,8 +29,11 @@ group_place t g = record { thorn = t.0; place = g.0 }
 abbrev pub full_group : ℕ × Thorn → ℕ × Group → FullGroup
 full_group t g = record { at = group_place t g; full = full.group_full t.1 g.1 }
 
+abbrev pub full_groups_in : ℕ × Thorn → List Group → List FullGroup
+full_groups_in t groups = map (full_group t) (enumerate_from 0 groups)
+
 abbrev pub groups_of : ℕ × Thorn → List FullGroup
-groups_of t = map (full_group t) (enumerate_from 0 t.1.interface.groups)
+groups_of t = full_groups_in t t.1.interface.groups
 
 -- all groups by their full names, in the order of activation and of the files
 abbrev pub full_groups : List Thorn → List FullGroup
@@ -40,11 +43,18 @@ full_groups thorns = flat_map groups_of (enumerate_from 0 thorns)
 abbrev pub places_of_copies : GroupPlace → Option ℕ → List GroupPlace
 places_of_copies at count = map (λ copy. at) (copies count)
 
+-- one for each copy of each of these variables
+abbrev pub places_of_names : GroupPlace → Option ℕ → List (List ℕ) → List GroupPlace
+places_of_names at count names = flat_map (λ name. places_of_copies at count) names
+
 abbrev pub places_in : ℕ × Thorn → ℕ × Group → List GroupPlace
-places_in t g = flat_map (λ name. places_of_copies (group_place t g) g.1.copies) g.1.variables
+places_in t g = places_of_names (group_place t g) g.1.copies g.1.variables
+
+abbrev pub places_in_groups : ℕ × Thorn → List Group → List GroupPlace
+places_in_groups t groups = flat_map (places_in t) (enumerate_from 0 groups)
 
 abbrev pub places_of : ℕ × Thorn → List GroupPlace
-places_of t = flat_map (places_in t) (enumerate_from 0 t.1.interface.groups)
+places_of t = places_in_groups t t.1.interface.groups
 
 -- the group of each variable, in the order of the variables' numbers
 abbrev pub group_places : List Thorn → List GroupPlace

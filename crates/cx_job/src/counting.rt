@@ -2,13 +2,10 @@
 
 ghost use Rattle.std.specs.Prelude.{◌≡◌, ◌≤◌, ◌-◌, ◌^◌, length, min, take};
 ghost use Rattle.std.specs.List.{flat_map};
-ghost use Rattle.cx_plan.specs.Lookups.{called};
-ghost use Rattle.cx_job.specs.Making.{run_count as run_told};
+ghost use Rattle.cx_plan.specs.Lookups.{called, run_bin_count};
+ghost use Rattle.cx_job.specs.Making.{run_count};
 
-use cx_plan::{Schedule, Tree};
-
-/// How many bins are run: the first ones.
-const RUN_BINS: usize = 13;
+use cx_plan::{Bin, Schedule, Tree};
 
 /// How many items a tree calls, each call counted; more than a `usize` holds count as its greatest.
 #[cycle(tree)]
@@ -36,15 +33,15 @@ fn count_trees(trees: &[Tree]) -> usize
 }
 
 fn run_bins(bins: &[Tree]) -> &[Tree]
-    ensures { result.now ≡ take 13 bins.now }
+    ensures { result.now ≡ take run_bin_count bins.now }
 {
-    &bins[..RUN_BINS.min(bins.len())]
+    &bins[..Bin::RUN.len().min(bins.len())]
 }
 
 /// How many items the bins that are run call.
 pub(crate) fn run_count(plan: &Schedule) -> usize
-    requires few { run_told plan.now ≤ 4096 }
-    ensures { result ≡ run_told plan.now }
+    requires few { run_count plan.now ≤ 4096 }
+    ensures { result ≡ run_count plan.now }
 {
     count_trees(run_bins(plan.bins.as_slice()))
 }

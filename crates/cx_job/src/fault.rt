@@ -1,9 +1,16 @@
 //! Why files make no job.
 
-ghost use Rattle.std.specs.Prelude.{◌≡◌};
+ghost use Rattle.std.specs.Prelude.{◌≡◌, ◌↔◌, IsTrue};
+ghost use Rattle.cx_bind.specs.declared.thorns.BindFault.TheVariants as binds;
+ghost use Rattle.cx_values.specs.declared.fault.ValueFault.TheVariants as values;
+ghost use Rattle.cx_order.specs.declared.fault.OrderFault.TheVariants as orders;
+ghost use Rattle.cx_region.specs.declared.fault.RegionFault.TheVariants as regions;
+ghost use Rattle.cx_config.specs.Stages.{IsOf};
 ghost use Rattle.cx_job.specs.declared.fault.JobFault.TheVariants as faults;
 
 use cx_bind::BindFault;
+use cx_config::ConfigFault;
+use cx_match::MatchFault;
 use cx_order::OrderFault;
 use cx_region::RegionFault;
 use cx_text::{CclFault, Memory, Text, TextFault};
@@ -58,5 +65,110 @@ impl<T: Drop> From<AllocFailed<T>> for JobFault {
 
     fn from(_: AllocFailed<T>) -> Self {
         JobFault::Memory
+    }
+}
+
+impl From<ConfigFault> for JobFault {
+    ghost use Rattle.cx_job.specs.Faults.{config_fault};
+
+    ghost from_gives = { λ fault e. e ≡ config_fault fault };
+
+    fn from(fault: ConfigFault) -> Self {
+        match fault {
+            ConfigFault::Shelf => JobFault::Shelf,
+            ConfigFault::NoFile(name) => JobFault::NoFile(name),
+            ConfigFault::Text(name, fault) => JobFault::Text(name, fault),
+            ConfigFault::Ccl(name, fault) => JobFault::Ccl(name, fault),
+            ConfigFault::Bind(fault) => JobFault::Bind(fault),
+            ConfigFault::Memory => JobFault::Memory,
+        }
+    }
+}
+
+impl From<MatchFault> for JobFault {
+    ghost use Rattle.cx_job.specs.Faults.{match_fault};
+
+    ghost from_gives = { λ fault e. e ≡ match_fault fault };
+
+    fn from(fault: MatchFault) -> Self {
+        match fault {
+            MatchFault::UnknownRoutine(path) => JobFault::UnknownRoutine(path),
+            MatchFault::RoutineMismatch(path, declared, offered) => {
+                JobFault::RoutineMismatch(path, declared, offered)
+            }
+            MatchFault::Memory => JobFault::Memory,
+        }
+    }
+}
+
+fn is_bind_memory(fault: &BindFault) -> bool
+    ensures { IsTrue result ↔ (fault.now ≡ binds.Memory) }
+{
+    matches!(fault, BindFault::Memory)
+}
+
+impl From<BindFault> for JobFault {
+    ghost from_gives = { λ fault e. IsOf binds.Memory faults.Memory faults.Bind fault e };
+
+    fn from(fault: BindFault) -> Self {
+        if is_bind_memory(&fault) {
+            JobFault::Memory
+        } else {
+            JobFault::Bind(fault)
+        }
+    }
+}
+
+fn is_value_memory(fault: &ValueFault) -> bool
+    ensures { IsTrue result ↔ (fault.now ≡ values.Memory) }
+{
+    matches!(fault, ValueFault::Memory)
+}
+
+impl From<ValueFault> for JobFault {
+    ghost from_gives = { λ fault e. IsOf values.Memory faults.Memory faults.Value fault e };
+
+    fn from(fault: ValueFault) -> Self {
+        if is_value_memory(&fault) {
+            JobFault::Memory
+        } else {
+            JobFault::Value(fault)
+        }
+    }
+}
+
+fn is_order_memory(fault: &OrderFault) -> bool
+    ensures { IsTrue result ↔ (fault.now ≡ orders.Memory) }
+{
+    matches!(fault, OrderFault::Memory)
+}
+
+impl From<OrderFault> for JobFault {
+    ghost from_gives = { λ fault e. IsOf orders.Memory faults.Memory faults.Order fault e };
+
+    fn from(fault: OrderFault) -> Self {
+        if is_order_memory(&fault) {
+            JobFault::Memory
+        } else {
+            JobFault::Order(fault)
+        }
+    }
+}
+
+fn is_region_memory(fault: &RegionFault) -> bool
+    ensures { IsTrue result ↔ (fault.now ≡ regions.Memory) }
+{
+    matches!(fault, RegionFault::Memory)
+}
+
+impl From<RegionFault> for JobFault {
+    ghost from_gives = { λ fault e. IsOf regions.Memory faults.Memory faults.Region fault e };
+
+    fn from(fault: RegionFault) -> Self {
+        if is_region_memory(&fault) {
+            JobFault::Memory
+        } else {
+            JobFault::Region(fault)
+        }
     }
 }

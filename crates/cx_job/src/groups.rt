@@ -2,8 +2,8 @@
 
 ghost use Rattle.std.specs.Prelude.{◌≡◌, ◌++◌, map, IfOk, OnOk};
 ghost use Rattle.std.specs.List.{flat_map, enumerate_from, range_with_len};
-ghost use Rattle.cx_bind.specs.Variables.{owner_by as owner_of};
-ghost use Rattle.cx_job.specs.Outputs.{full_group as full_group_of, full_groups as all_full_groups, places_of_copies, places_in, places_of, group_places as all_places};
+ghost use Rattle.cx_bind.specs.Variables.{owner_by};
+ghost use Rattle.cx_job.specs.Outputs.{full_group, full_groups, full_groups_in, places_of_copies, places_of_names, places_in, places_in_groups, places_of, group_places};
 
 use cx_bind::{Thorn, full_name};
 use cx_iface::{Access, Group};
@@ -26,7 +26,7 @@ pub(crate) struct FullGroup {
 
 /// What stands before the `::` of a group's full name.
 fn owner_by<'a>(access: Access, thorn: &'a Thorn) -> &'a [u8]
-    ensures { result.now ≡ owner_of access thorn.now }
+    ensures { result.now ≡ owner_by access thorn.now }
 {
     match access {
         Access::Private => thorn.name.as_slice(),
@@ -41,7 +41,7 @@ fn full_group(
     place: usize,
     group: &Group,
 ) -> Result<FullGroup, Memory>
-    ensures { IfOk result (λ full. full ≡ full_group_of (number, thorn.now) (place, group.now)) }
+    ensures { IfOk result (λ full. full ≡ full_group (number, thorn.now) (place, group.now)) }
 {
     let owner = owner_by(group.access, thorn);
     Ok(FullGroup {
@@ -60,7 +60,7 @@ fn push_groups(
     thorn: &Thorn,
     groups: &[Group],
 ) -> Result<(), Memory>
-    ensures { OnOk result (full.new ≡ full.old ++ map (full_group_of (number, thorn.now)) (enumerate_from 0 groups.now)) }
+    ensures { OnOk result (full.new ≡ full.old ++ full_groups_in (number, thorn.now) groups.now) }
 {
     'groups: for (place, group) in groups.iter().enumerate() {
         full.push(full_group(alloc, number, thorn, place, group)?)?;
@@ -70,7 +70,7 @@ fn push_groups(
 
 /// All groups, in the order of activation and of the files.
 pub(crate) fn full_groups(alloc: Global, thorns: &[Thorn]) -> Result<List<FullGroup>, Memory>
-    ensures { IfOk result (λ full. full ≡ all_full_groups thorns.now) }
+    ensures { IfOk result (λ full. full ≡ full_groups thorns.now) }
 {
     let mut full = List::empty(alloc);
     'thorns: for (number, thorn) in thorns.iter().enumerate() {
@@ -108,7 +108,7 @@ fn push_names(
     copies: Option<u32>,
     names: &[Text],
 ) -> Result<(), Memory>
-    ensures { OnOk result (places.new ≡ places.old ++ flat_map (λ name. places_of_copies at copies) names.now) }
+    ensures { OnOk result (places.new ≡ places.old ++ places_of_names at copies names.now) }
 {
     'names: for _ in names {
         push_copies(places, at, copies)?;
@@ -123,7 +123,8 @@ fn push_places_in(
     place: usize,
     group: &Group,
 ) -> Result<(), Memory>
-    ensures { OnOk result (places.new ≡ places.old ++ places_in (number, thorn.now) (place, group.now)) }
+    ensures { OnOk result
+        (places.new ≡ places.old ++ places_in (number, thorn.now) (place, group.now)) }
 {
     let at = GroupPlace {
         thorn: number,
@@ -138,7 +139,8 @@ fn push_places(
     thorn: &Thorn,
     groups: &[Group],
 ) -> Result<(), Memory>
-    ensures { OnOk result (places.new ≡ places.old ++ flat_map (places_in (number, thorn.now)) (enumerate_from 0 groups.now)) }
+    ensures { OnOk result
+        (places.new ≡ places.old ++ places_in_groups (number, thorn.now) groups.now) }
 {
     'groups: for (place, group) in groups.iter().enumerate() {
         push_places_in(places, number, thorn, place, group)?;
@@ -148,7 +150,7 @@ fn push_places(
 
 /// The group of each variable, in the order of the variables' numbers.
 pub(crate) fn group_places(alloc: Global, thorns: &[Thorn]) -> Result<List<GroupPlace>, Memory>
-    ensures { IfOk result (λ places. places ≡ all_places thorns.now) }
+    ensures { IfOk result (λ places. places ≡ group_places thorns.now) }
 {
     let mut places = List::empty(alloc);
     'thorns: for (number, thorn) in thorns.iter().enumerate() {

@@ -3,19 +3,16 @@
 ghost use Rattle.std.specs.Prelude.{◌≡◌, ◌≤◌, ◌^◌, IfOk};
 ghost use Rattle.cx_grid.specs.Boxes.{point_count};
 ghost use Rattle.cx_grid.specs.Grid.{IsShape, whole};
-ghost use Rattle.cx_job.specs.Grids.{shape_of as shape_told};
-ghost use Rattle.cx_job.specs.Jobs.{run_of as run_told, layout_of as layout_told, texts_of as texts_told, parts_of as parts_told, job_with as job_told_with, job_of as job_told};
+ghost use Rattle.cx_grids.specs.Grids.{shape_of};
+ghost use Rattle.cx_job.specs.Jobs.{run_of, layout_of, texts_of, parts_of, job_with, job_of};
 
-use crate::cuts::cuts_of;
-use crate::grids::shape_of;
 use crate::keys::{key, starred_lines};
-use crate::run_numbers::{
-    checkpoint_dir, checkpoint_every, itlast, keep, lead, on_end, out_dir, out_every, recover_of,
-    while_limit,
-};
-use crate::stored::stored_infos;
 use cx_bind::Bound;
 use cx_grid::Shape;
+use cx_grids::{
+    checkpoint_dir, checkpoint_every, cuts_of, itlast, keep, lead, on_end, out_dir, out_every,
+    recover_of, shape_of, stored_infos, while_limit,
+};
 use cx_order::Ordered;
 use cx_plan::{Cuts, Item, Job, Recover, VarId, VarInfo};
 use cx_text::{List, Memory, Text};
@@ -38,7 +35,7 @@ pub(crate) struct Run {
 }
 
 fn run_of(alloc: Global, values: &Values) -> Result<Run, Memory>
-    ensures { IfOk result (λ run. run ≡ run_told values.now) }
+    ensures { IfOk result (λ run. run ≡ run_of values.now) }
 {
     Ok(Run {
         itlast: itlast(alloc, values)?,
@@ -68,7 +65,7 @@ fn layout_of(
     values: &Values,
     storage: &List<u8>,
 ) -> Result<Layout, Memory>
-    ensures { IfOk result (λ layout. layout ≡ layout_told bound.now values.now storage.now) }
+    ensures { IfOk result (λ layout. layout ≡ layout_of bound.now values.now storage.now) }
 {
     Ok(Layout {
         shape: shape_of(alloc, bound, values)?,
@@ -92,7 +89,7 @@ fn texts_of(
     plan_text: &Text,
 ) -> Result<Texts, Memory>
     requires { IsShape layout.now.shape }
-    ensures { IfOk result (λ texts. texts ≡ texts_told bound.now values.now layout.now plan_text.now) }
+    ensures { IfOk result (λ t. t ≡ texts_of bound.now values.now layout.now plan_text.now) }
 {
     Ok(Texts {
         key: key(alloc, bound, values, &layout.shape, &layout.vars, plan_text)?,
@@ -115,8 +112,8 @@ fn parts_of(
     storage: &List<u8>,
     plan_text: &Text,
 ) -> Result<Parts, Memory>
-    requires { point_count (whole (shape_told bound.now values.now)) ≤ 2 ^ 24 }
-    ensures { IfOk result (λ parts. parts ≡ parts_told bound.now values.now storage.now plan_text.now) }
+    requires { point_count (whole (shape_of bound.now values.now)) ≤ 2 ^ 24 }
+    ensures { IfOk result (λ p. p ≡ parts_of bound.now values.now storage.now plan_text.now) }
 {
     let layout = layout_of(alloc, bound, values, storage)?;
     let texts = texts_of(alloc, bound, values, &layout, plan_text)?;
@@ -129,7 +126,7 @@ fn parts_of(
 
 /// The job that these parts make.
 fn job_with(parts: Parts, ordered: Ordered, items: List<Item>, out_vars: List<VarId>) -> Job
-    ensures { result ≡ job_told_with parts ordered items out_vars }
+    ensures { result ≡ job_with parts ordered items out_vars }
 {
     let Parts { run, layout, texts } = parts;
     Job {
@@ -164,8 +161,8 @@ pub(crate) fn job_of(
     items: List<Item>,
     out_vars: List<VarId>,
 ) -> Result<Job, Memory>
-    requires { point_count (whole (shape_told bound.now values.now)) ≤ 2 ^ 24 }
-    ensures { IfOk result (λ job. job ≡ job_told bound.now values.now ordered items out_vars) }
+    requires { point_count (whole (shape_of bound.now values.now)) ≤ 2 ^ 24 }
+    ensures { IfOk result (λ job. job ≡ job_of bound.now values.now ordered items out_vars) }
 {
     let parts = parts_of(alloc, bound, values, &ordered.storage, &ordered.text)?;
     Ok(job_with(parts, ordered, items, out_vars))

@@ -3,19 +3,19 @@
 ghost use Rattle.std.specs.Prelude.{◌≡◌, ◌<◌, ◌++◌, Some, map, IfOk, OnOk};
 ghost use Rattle.std.specs.List.{flat_map};
 ghost use Rattle.cx_grid.specs.Grid.{IsShape};
-ghost use Rattle.cx_job.specs.Keys.{thorn_line as line_of_thorn, direction_line as line_of_direction, direction_lines, variable_line as line_of_variable, variable_lines, indices, parameter_line as line_of_parameter, parameter_lines, lines_if_starred, lines_unless_starred, starred_lines as lines_of_starred, key as key_of};
+ghost use Rattle.cx_job.specs.Keys.{thorn_line, direction_line, direction_lines, variable_line, variable_lines, indices, parameter_line, parameter_lines, lines_if_starred, lines_unless_starred, starred_lines, key, lines_at};
 
 use crate::lines::{direction_line, parameter_line, thorn_line, variable_line};
-use crate::starred::is_starred;
 use cx_bind::{Bound, Param, Thorn};
 use cx_grid::Shape;
+use cx_match::is_starred;
 use cx_plan::VarInfo;
 use cx_text::{List, Memory, Text};
 use cx_values::Values;
 use std::alloc::Global;
 
 fn push_thorns(alloc: Global, text: &mut Text, thorns: &[Thorn]) -> Result<(), Memory>
-    ensures { OnOk result (text.new ≡ text.old ++ flat_map line_of_thorn thorns.now) }
+    ensures { OnOk result (text.new ≡ text.old ++ flat_map thorn_line thorns.now) }
 {
     'thorns: for thorn in thorns {
         text.push_slice(thorn_line(alloc, thorn)?.as_slice())?;
@@ -30,7 +30,7 @@ fn push_direction(
     direction: u8,
 ) -> Result<(), Memory>
     requires { direction < 3 }
-    ensures { OnOk result (text.new ≡ text.old ++ line_of_direction shape.now direction) }
+    ensures { OnOk result (text.new ≡ text.old ++ direction_line shape.now direction) }
 {
     text.push_slice(direction_line(alloc, shape, direction)?.as_slice())
 }
@@ -51,7 +51,7 @@ fn push_variable(
     number: usize,
     info: &VarInfo,
 ) -> Result<(), Memory>
-    ensures { OnOk result (text.new ≡ text.old ++ line_of_variable (number, info.now)) }
+    ensures { OnOk result (text.new ≡ text.old ++ variable_line (number, info.now)) }
 {
     text.push_slice(variable_line(alloc, number, info)?.as_slice())
 }
@@ -72,7 +72,7 @@ fn push_element(
     param: &Param,
     index: Option<u32>,
 ) -> Result<(), Memory>
-    ensures { OnOk result (text.new ≡ text.old ++ line_of_parameter values.now param.now index) }
+    ensures { OnOk result (text.new ≡ text.old ++ parameter_line values.now param.now index) }
 {
     text.push_slice(parameter_line(alloc, values, param, index)?.as_slice())
 }
@@ -84,7 +84,8 @@ fn push_elements(
     param: &Param,
     length: u32,
 ) -> Result<(), Memory>
-    ensures { OnOk result (text.new ≡ text.old ++ flat_map (line_of_parameter values.now param.now) (indices (Some length))) }
+    ensures { OnOk result
+        (text.new ≡ text.old ++ lines_at values.now param.now (indices (Some length))) }
 {
     'elements: for k in 0..length {
         push_element(alloc, text, values, param, Some(k))?;
@@ -142,7 +143,8 @@ fn push_starred(
     values: &Values,
     params: &[Param],
 ) -> Result<(), Memory>
-    ensures { OnOk result (text.new ≡ text.old ++ flat_map (lines_if_starred values.now) params.now) }
+    ensures { OnOk result
+        (text.new ≡ text.old ++ flat_map (lines_if_starred values.now) params.now) }
 {
     'params: for param in params {
         push_if_starred(alloc, text, values, param)?;
@@ -156,7 +158,8 @@ fn push_others(
     values: &Values,
     params: &[Param],
 ) -> Result<(), Memory>
-    ensures { OnOk result (text.new ≡ text.old ++ flat_map (lines_unless_starred values.now) params.now) }
+    ensures { OnOk result
+        (text.new ≡ text.old ++ flat_map (lines_unless_starred values.now) params.now) }
 {
     'params: for param in params {
         push_unless_starred(alloc, text, values, param)?;
@@ -166,7 +169,7 @@ fn push_others(
 
 /// The lines of the parameters that only say how and where a run is done.
 pub fn starred_lines(alloc: Global, bound: &Bound, values: &Values) -> Result<Text, Memory>
-    ensures { IfOk result (λ text. text ≡ lines_of_starred bound.now values.now) }
+    ensures { IfOk result (λ text. text ≡ starred_lines bound.now values.now) }
 {
     let mut text = Text::new(Vec::new(alloc));
     push_starred(alloc, &mut text, values, bound.parameters().as_slice())?;
@@ -184,7 +187,7 @@ pub fn key(
     plan_text: &Text,
 ) -> Result<Text, Memory>
     requires { IsShape shape.now }
-    ensures { IfOk result (λ text. text ≡ key_of shape.now bound.now values.now vars.now plan_text.now) }
+    ensures { IfOk result (λ t. t ≡ key shape.now bound.now values.now vars.now plan_text.now) }
 {
     let mut text = Text::new(Vec::new(alloc));
     push_thorns(alloc, &mut text, bound.thorns().as_slice())?;

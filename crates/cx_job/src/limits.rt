@@ -3,11 +3,12 @@
 ghost use Rattle.std.specs.Prelude.{◌≡◌, take, IfOk};
 ghost use Rattle.cx_plan.specs.Lists.{first_of_each};
 ghost use Rattle.cx_job.specs.declared.fault.JobFault.TheVariants as faults;
-ghost use Rattle.cx_job.specs.JobLimits.{Tells, over, writes_fault, reads_fault, parameters_fault, each_limit, item_limits, points_fault, cells_fault, grid_limits, key_limit};
+ghost use Rattle.cx_text.specs.Telling.{Tells};
+ghost use Rattle.cx_job.specs.JobLimits.{over, writes_fault, reads_fault, parameters_fault, each_limit, item_limits, points_fault, cells_fault, grid_limits, key_limit};
 
 use crate::JobFault;
-use crate::stored::{owned_cells, point_count};
 use cx_grid::Shape;
+use cx_grids::{owned_cells, point_count};
 use cx_plan::{Item, VarInfo};
 use cx_text::{List, Memory, Text};
 use std::alloc::Global;
@@ -37,7 +38,7 @@ fn limit_fault(alloc: Global, what: &[u8], number: u64) -> Result<JobFault, Memo
 }
 
 fn check_limit(alloc: Global, what: &[u8], number: u64, limit: u64) -> Result<(), JobFault>
-    ensures { Tells (over what.now number limit) result }
+    ensures { Tells faults.Memory (over what.now number limit) result }
 {
     if number > limit {
         return Err(limit_fault(alloc, what, number)?);
@@ -46,19 +47,19 @@ fn check_limit(alloc: Global, what: &[u8], number: u64, limit: u64) -> Result<()
 }
 
 fn check_writes_of(alloc: Global, item: &Item) -> Result<(), JobFault>
-    ensures { Tells (writes_fault item.now) result }
+    ensures { Tells faults.Memory (writes_fault item.now) result }
 {
     check_limit(alloc, b"writes", item.writes.len() as u64, MAX_WRITES)
 }
 
 fn check_reads_of(alloc: Global, item: &Item) -> Result<(), JobFault>
-    ensures { Tells (reads_fault item.now) result }
+    ensures { Tells faults.Memory (reads_fault item.now) result }
 {
     check_limit(alloc, b"reads", item.reads.len() as u64, MAX_READS)
 }
 
 fn check_parameters_of(alloc: Global, item: &Item) -> Result<(), JobFault>
-    ensures { Tells (parameters_fault item.now) result }
+    ensures { Tells faults.Memory (parameters_fault item.now) result }
 {
     check_limit(
         alloc,
@@ -69,7 +70,7 @@ fn check_parameters_of(alloc: Global, item: &Item) -> Result<(), JobFault>
 }
 
 fn check_writes(alloc: Global, items: &[Item]) -> Result<(), JobFault>
-    ensures { Tells (first_of_each writes_fault items.now) result }
+    ensures { Tells faults.Memory (first_of_each writes_fault items.now) result }
 {
     for item in items {
         check_writes_of(alloc, item)?;
@@ -78,7 +79,7 @@ fn check_writes(alloc: Global, items: &[Item]) -> Result<(), JobFault>
 }
 
 fn check_reads(alloc: Global, items: &[Item]) -> Result<(), JobFault>
-    ensures { Tells (first_of_each reads_fault items.now) result }
+    ensures { Tells faults.Memory (first_of_each reads_fault items.now) result }
 {
     for item in items {
         check_reads_of(alloc, item)?;
@@ -87,7 +88,7 @@ fn check_reads(alloc: Global, items: &[Item]) -> Result<(), JobFault>
 }
 
 fn check_parameters(alloc: Global, items: &[Item]) -> Result<(), JobFault>
-    ensures { Tells (first_of_each parameters_fault items.now) result }
+    ensures { Tells faults.Memory (first_of_each parameters_fault items.now) result }
 {
     for item in items {
         check_parameters_of(alloc, item)?;
@@ -97,7 +98,7 @@ fn check_parameters(alloc: Global, items: &[Item]) -> Result<(), JobFault>
 
 /// Tests that none of these items writes or reads too much, or has too many parameters.
 fn check_each(alloc: Global, items: &[Item]) -> Result<(), JobFault>
-    ensures { Tells (each_limit items.now) result }
+    ensures { Tells faults.Memory (each_limit items.now) result }
 {
     check_writes(alloc, items)?;
     check_reads(alloc, items)?;
@@ -113,19 +114,19 @@ fn first_items(items: &[Item], run: usize) -> &[Item]
 
 /// Tests the items of the bins that are run, which are the first ones.
 pub(crate) fn check_item_limits(alloc: Global, run: usize, items: &[Item]) -> Result<(), JobFault>
-    ensures { Tells (item_limits run items.now) result }
+    ensures { Tells faults.Memory (item_limits run items.now) result }
 {
     check_each(alloc, first_items(items, run))
 }
 
 fn check_points(alloc: Global, shape: &Shape) -> Result<(), JobFault>
-    ensures { Tells (points_fault shape.now) result }
+    ensures { Tells faults.Memory (points_fault shape.now) result }
 {
     check_limit(alloc, b"points", point_count(shape), MAX_POINTS)
 }
 
 fn check_cells(alloc: Global, shape: &Shape, vars: &List<VarInfo>) -> Result<(), JobFault>
-    ensures { Tells (cells_fault shape.now vars.now) result }
+    ensures { Tells faults.Memory (cells_fault shape.now vars.now) result }
 {
     check_limit(alloc, b"owned cells", owned_cells(shape, vars), MAX_CELLS)
 }
@@ -136,7 +137,7 @@ pub(crate) fn check_grid_limits(
     shape: &Shape,
     vars: &List<VarInfo>,
 ) -> Result<(), JobFault>
-    ensures { Tells (grid_limits shape.now vars.now) result }
+    ensures { Tells faults.Memory (grid_limits shape.now vars.now) result }
 {
     check_points(alloc, shape)?;
     check_cells(alloc, shape, vars)
@@ -144,7 +145,7 @@ pub(crate) fn check_grid_limits(
 
 /// Tests that the key isn't too long.
 pub(crate) fn check_key(alloc: Global, key: &Text) -> Result<(), JobFault>
-    ensures { Tells (key_limit key.now) result }
+    ensures { Tells faults.Memory (key_limit key.now) result }
 {
     check_limit(alloc, b"key", key.len() as u64, MAX_KEY)
 }

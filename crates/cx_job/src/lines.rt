@@ -2,10 +2,9 @@
 
 ghost use Rattle.std.specs.Prelude.{◌≡◌, ◌<◌, ◌++◌, IfOk, OnOk};
 ghost use Rattle.std.specs.Option.{option_copied};
-ghost use Rattle.std.specs.Fmt.{decimal, signed_decimal};
 ghost use Rattle.cx_grid.specs.Boxes.{along};
 ghost use Rattle.cx_grid.specs.Grid.{is_periodic};
-ghost use Rattle.cx_job.specs.Keys.{thorn_line as line_of_thorn, letter as letter_of, side_text as side_of, direction_line as line_of_direction, type_name as name_of_type, kind_text as kind_of, variable_line as line_of_variable, escaped_byte, escaped, value_text, place_text, element_name, parameter_line as line_of_parameter};
+ghost use Rattle.cx_job.specs.Keys.{thorn_line, letter, side_text, direction_line, type_name, kind_text, variable_line, escaped_byte, escaped, value_text, place_text, element_name, parameter_line};
 
 use cx_bind::{Param, Thorn};
 use cx_grid::{Point, Shape};
@@ -15,21 +14,9 @@ use cx_text::{CType, Memory, Text};
 use cx_values::Values;
 use std::alloc::Global;
 
-fn push_number(alloc: Global, text: &mut Text, n: i64) -> Result<(), Memory>
-    ensures { OnOk result (text.new ≡ text.old ++ signed_decimal n) }
-{
-    text.push_slice(n.to_string(alloc)?.as_bytes())
-}
-
-fn push_count(alloc: Global, text: &mut Text, n: usize) -> Result<(), Memory>
-    ensures { OnOk result (text.new ≡ text.old ++ decimal n) }
-{
-    text.push_slice(n.to_string(alloc)?.as_bytes())
-}
-
 /// The line of an active thorn.
 pub(crate) fn thorn_line(alloc: Global, thorn: &Thorn) -> Result<Text, Memory>
-    ensures { IfOk result (λ line. line ≡ line_of_thorn thorn.now) }
+    ensures { IfOk result (λ line. line ≡ thorn_line thorn.now) }
 {
     let mut line = Text::from_slice(alloc, b"thorn ")?;
     line.push_slice(thorn.arrangement.as_slice())?;
@@ -42,7 +29,7 @@ pub(crate) fn thorn_line(alloc: Global, thorn: &Thorn) -> Result<Text, Memory>
 }
 
 fn letter(direction: u8) -> &'static [u8]
-    ensures { result.now ≡ letter_of direction }
+    ensures { result.now ≡ letter direction }
 {
     match direction {
         0 => b"x",
@@ -62,7 +49,7 @@ fn coordinate(point: &Point, direction: u8) -> i64
 }
 
 fn side(periodic: bool) -> &'static [u8]
-    ensures { result.now ≡ side_of periodic }
+    ensures { result.now ≡ side_text periodic }
 {
     if periodic { b" periodic" } else { b" boundary" }
 }
@@ -70,21 +57,21 @@ fn side(periodic: bool) -> &'static [u8]
 /// The line of a direction of the grid.
 pub(crate) fn direction_line(alloc: Global, shape: &Shape, direction: u8) -> Result<Text, Memory>
     requires { direction < 3 }
-    ensures { IfOk result (λ line. line ≡ line_of_direction shape.now direction) }
+    ensures { IfOk result (λ line. line ≡ direction_line shape.now direction) }
 {
     let mut line = Text::from_slice(alloc, b"direction ")?;
     line.push_slice(letter(direction))?;
     line.push_slice(b" points ")?;
-    push_number(alloc, &mut line, coordinate(&shape.n, direction))?;
+    line.push_signed_number(alloc, coordinate(&shape.n, direction))?;
     line.push_slice(b" ghost ")?;
-    push_number(alloc, &mut line, coordinate(&shape.ghost_, direction))?;
+    line.push_signed_number(alloc, coordinate(&shape.ghost_, direction))?;
     line.push_slice(side(shape.periodic[direction as usize]))?;
     line.push_slice(b"\n")?;
     Ok(line)
 }
 
 fn type_name(ctype: CType) -> &'static [u8]
-    ensures { result.now ≡ name_of_type ctype }
+    ensures { result.now ≡ type_name ctype }
 {
     match ctype {
         CType::Char => b"CHAR",
@@ -99,24 +86,24 @@ fn type_name(ctype: CType) -> &'static [u8]
 }
 
 fn kind(scalar: bool) -> &'static [u8]
-    ensures { result.now ≡ kind_of scalar }
+    ensures { result.now ≡ kind_text scalar }
 {
     if scalar { b" SCALAR" } else { b" GF" }
 }
 
 /// The line of the variable of this number.
 pub(crate) fn variable_line(alloc: Global, number: usize, info: &VarInfo) -> Result<Text, Memory>
-    ensures { IfOk result (λ line. line ≡ line_of_variable (number, info.now)) }
+    ensures { IfOk result (λ line. line ≡ variable_line (number, info.now)) }
 {
     let mut line = Text::from_slice(alloc, b"variable ")?;
-    push_count(alloc, &mut line, number)?;
+    line.push_number(alloc, number as u64)?;
     line.push_slice(b" ")?;
     line.push_slice(info.full.as_slice())?;
     line.push_slice(b" ")?;
     line.push_slice(type_name(info.ctype))?;
     line.push_slice(kind(info.scalar))?;
     line.push_slice(b" levels ")?;
-    push_count(alloc, &mut line, usize::from(info.levels))?;
+    line.push_number(alloc, u64::from(info.levels))?;
     line.push_slice(b"\n")?;
     Ok(line)
 }
@@ -146,7 +133,7 @@ fn push_value(alloc: Global, text: &mut Text, value: Option<&Value>) -> Result<(
 {
     match value {
         None => Ok(()),
-        Some(Value::Number(n)) => push_number(alloc, text, *n),
+        Some(Value::Number(n)) => text.push_signed_number(alloc, *n),
         Some(Value::Flag(true)) => text.push_slice(b"yes"),
         Some(Value::Flag(false)) => text.push_slice(b"no"),
         Some(Value::Text(bytes)) => push_escaped(text, bytes.as_slice()),
@@ -165,7 +152,7 @@ fn push_place(
         return Ok(());
     };
     text.push_slice(b" ")?;
-    push_number(alloc, text, place)
+    text.push_signed_number(alloc, place)
 }
 
 fn push_element_name(
@@ -181,7 +168,7 @@ fn push_element_name(
         return Ok(());
     };
     text.push_slice(b"[")?;
-    push_number(alloc, text, i64::from(index))?;
+    text.push_signed_number(alloc, i64::from(index))?;
     text.push_slice(b"]")
 }
 
@@ -192,7 +179,7 @@ pub(crate) fn parameter_line(
     param: &Param,
     index: Option<u32>,
 ) -> Result<Text, Memory>
-    ensures { IfOk result (λ line. line ≡ line_of_parameter values.now param.now index) }
+    ensures { IfOk result (λ line. line ≡ parameter_line values.now param.now index) }
 {
     let mut line = Text::from_slice(alloc, b"parameter ")?;
     push_element_name(alloc, &mut line, param.full.as_slice(), index)?;

@@ -9,15 +9,16 @@ ghost use Rattle.cx_rule.specs.Jobs.{FitJob};
 ghost use Rattle.cx_bind.specs.Binding.{bind_fault};
 ghost use Rattle.cx_bind.specs.Variables.{variable_infos};
 ghost use Rattle.cx_job.specs.Outputs.{output_variables};
-ghost use Rattle.cx_job.specs.Read.{AreRead};
-ghost use Rattle.cx_job.specs.Making.{Made, Makes, MadeOf, PlanAnd, ItemsAnd, Yields, IsReady, IsPlanned};
+ghost use Rattle.cx_config.specs.NamesAndLevels.{AreRead};
+ghost use Rattle.cx_job.specs.Making.{Made, MakesFrom, MadeOf, PlanAnd, ItemsAnd, Yields, IsReady, IsPlanned};
 
-use crate::configuring::{Configured, configure};
 use crate::counting::run_count;
 use crate::fault::JobFault;
-use crate::shelf::Shelf;
-use crate::stages::{accepted, assign_all, bind_all, limited, matched, order_all, written};
+use crate::stages::{
+    Contents, accept, assign_all, bind_all, match_items, order_all, output_ids, within_limits,
+};
 use cx_bind::Bound;
+use cx_config::{Configured, Shelf, configure};
 use cx_order::Ordered;
 use cx_plan::{Job, VarId};
 use cx_rule::{Routine, Spec};
@@ -57,14 +58,16 @@ fn items_and(
     requires read { AreRead (variable_infos bound.now) }
     requires planned { IsPlanned bound.now values.now ordered }
     requires written { output_variables bound.now values.now ordered.storage ≡ Ok out_vars }
-    ensures made { Yields (ItemsAnd (map (λ s. s.now) specs.now) bound.now values.now ordered out_vars) result }
+    ensures made { Yields
+        (ItemsAnd (map (λ s. s.now) specs.now) bound.now values.now ordered out_vars) result }
     ensures ready { IfOk result (IsReady (map (λ s. s.now) specs.now)) }
 {
     let mut ordered = ordered;
     let run = run_count(&ordered.plan);
-    let items = matched(alloc, bound, values, specs, run, &mut ordered)?;
-    let job = limited(alloc, bound, values, run, ordered, items, out_vars)?;
-    accepted(alloc, job)
+    let items = match_items(alloc, bound, values, specs, run, &mut ordered)?;
+    let contents = Contents { items, out_vars };
+    let job = within_limits(alloc, bound, values, run, ordered, contents)?;
+    accept(alloc, job)
 }
 
 /// The plan and the variables that are written, and what follows them.
@@ -79,11 +82,12 @@ fn plan_and(
     requires read { AreRead (variable_infos bound.now) }
     requires fit { bind_fault bound.now ≡ None }
     requires as_many { length schedules.now ≡ length bound.now }
-    ensures made { Yields (PlanAnd (map (λ s. s.now) specs.now) bound.now schedules.now values.now) result }
+    ensures made { Yields
+        (PlanAnd (map (λ s. s.now) specs.now) bound.now schedules.now values.now) result }
     ensures ready { IfOk result (IsReady (map (λ s. s.now) specs.now)) }
 {
     let ordered = order_all(alloc, bound, schedules, values)?;
-    let out_vars = written(alloc, bound, values, &ordered.storage)?;
+    let out_vars = output_ids(alloc, bound, values, &ordered.storage)?;
     items_and(alloc, specs, bound, values, ordered, out_vars)
 }
 
@@ -126,7 +130,8 @@ pub fn make_job<H: Shelf>(
     routines: &[Box<dyn Routine>],
 ) -> Result<Job, JobFault>
     requires few { length routines.now ≤ 2 ^ 32 }
-    ensures made { Makes H.tells (Made name.now (map spec_of routines.now)) (H.held shelf.old) (H.held shelf.new) (H.faults shelf.old) (H.faults shelf.new) result }
+    ensures made { MakesFrom H.Shelf (Made name.now (map spec_of routines.now))
+        shelf.old shelf.new result }
     ensures whole { IfOk result IsWhole }
     ensures sound { IfOk result (λ job. HasShapes (setup_of job) × Sound (setup_of job)) }
     // The objects fit the job.

@@ -4,13 +4,13 @@ ghost use Rattle.std.specs.Prelude.{◌≡◌, ◌<◌, ◌^◌, filter, find, m
 ghost use Rattle.std.specs.List.{enumerate_from, list_any, position_from, slice_split};
 ghost use Rattle.std.specs.Option.{option_copied};
 ghost use Rattle.cx_text.specs.Lexemes.{same_name};
-ghost use Rattle.cx_scope.specs.Resolving.{Answers};
-ghost use Rattle.cx_job.specs.Outputs.{is_between as is_between_names, is_name as is_a_name, output_names as names_of, named_by as told_by, is_same_group as is_one_group, is_of as is_told, is_stored as is_kept, is_missing as is_not_kept, lacks_storage as are_not_kept, output_of as told_of, outputs as told, is_written as is_any, named_ids as ids, ids_or_fault, output_variables as all_told};
+ghost use Rattle.cx_text.specs.Telling.{Answers};
+ghost use Rattle.cx_scope.specs.declared.fault.ScopeFault.TheVariants as faults;
+ghost use Rattle.cx_job.specs.Outputs.{is_between, is_name, output_names, named_by, is_same_group, is_of, is_stored, is_missing, lacks_storage, output_of, outputs, is_written, named_ids, ids_or_fault, output_variables};
 
-use crate::built_in::text_copy;
 use crate::groups::{FullGroup, GroupPlace, full_groups, group_places};
-use crate::stored::stored_levels;
 use cx_bind::Bound;
+use cx_grids::{stored_levels, text_copy};
 use cx_plan::{VarId, VarInfo};
 use cx_scope::ScopeFault;
 use cx_text::{List, Memory, Text, same_name};
@@ -26,25 +26,25 @@ pub(crate) enum Named {
 
 /// Whether a byte stands between names.
 fn is_between(byte: u8) -> bool
-    ensures { result ≡ is_between_names byte }
+    ensures { result ≡ is_between byte }
 {
     byte == b' ' || byte == b'\t' || byte == b'\r' || byte == b'\n'
 }
 
 fn parts_of(alloc: Global, text: &[u8]) -> Result<Vec<&[u8]>, AllocError>
-    ensures { IfOk result (λ parts. map (λ x. x.now) parts.items ≡ slice_split is_between_names text.now) }
+    ensures { IfOk result (λ ps. map (λ x. x.now) ps.items ≡ slice_split is_between text.now) }
 {
     text.split(|byte| is_between(*byte)).collect(alloc)
 }
 
 fn is_name(text: &[u8]) -> bool
-    ensures { result ≡ is_a_name text.now }
+    ensures { result ≡ is_name text.now }
 {
     !text.is_empty()
 }
 
 fn names_in(alloc: Global, parts: &[&[u8]]) -> Result<List<Text>, Memory>
-    ensures { IfOk result (λ names. names ≡ filter is_a_name (map (λ x. x.now) parts.now)) }
+    ensures { IfOk result (λ names. names ≡ filter is_name (map (λ x. x.now) parts.now)) }
 {
     let mut names = List::empty(alloc);
     'parts: for part in parts {
@@ -57,7 +57,7 @@ fn names_in(alloc: Global, parts: &[&[u8]]) -> Result<List<Text>, Memory>
 
 /// The names in `IO::out_vars`.
 fn output_names(alloc: Global, values: &Values) -> Result<List<Text>, Memory>
-    ensures { IfOk result (λ names. names ≡ names_of values.now) }
+    ensures { IfOk result (λ names. names ≡ output_names values.now) }
 {
     let text = text_copy(alloc, values, b"IO::out_vars")?;
     let parts = parts_of(alloc, text.as_slice())?;
@@ -81,7 +81,7 @@ fn group_named<'a>(groups: &'a [FullGroup], name: &[u8]) -> Option<&'a FullGroup
 
 /// What has this full name: a variable, or where none has it a group.
 fn named_by(vars: &[VarInfo], groups: &[FullGroup], name: &[u8]) -> Option<Named>
-    ensures { result ≡ told_by vars.now groups.now name.now }
+    ensures { result ≡ named_by vars.now groups.now name.now }
 {
     match variable_named(vars, name) {
         Some(number) => Some(Named::Variable(number)),
@@ -93,14 +93,14 @@ fn named_by(vars: &[VarInfo], groups: &[FullGroup], name: &[u8]) -> Option<Named
 }
 
 fn is_same_group(a: GroupPlace, b: GroupPlace) -> bool
-    ensures { result ≡ is_one_group a b }
+    ensures { result ≡ is_same_group a b }
 {
     a.thorn == b.thorn && a.place == b.place
 }
 
 /// Whether the variable of a number and a group is named.
 fn is_of(number: usize, group: GroupPlace, named: Named) -> bool
-    ensures { result ≡ is_told (number, group) named }
+    ensures { result ≡ is_of (number, group) named }
 {
     match named {
         Named::Variable(other) => number == other,
@@ -109,20 +109,20 @@ fn is_of(number: usize, group: GroupPlace, named: Named) -> bool
 }
 
 fn is_stored(storage: &[u8], number: usize) -> bool
-    ensures { result ≡ is_kept storage.now number }
+    ensures { result ≡ is_stored storage.now number }
 {
     stored_levels(storage, number) > 0
 }
 
 fn is_missing(storage: &[u8], named: Named, number: usize, group: GroupPlace) -> bool
-    ensures { result ≡ is_not_kept storage.now named (number, group) }
+    ensures { result ≡ is_missing storage.now named (number, group) }
 {
     is_of(number, group, named) && !is_stored(storage, number)
 }
 
 /// Whether no level is stored of a variable that is named.
 fn lacks_storage(places: &[GroupPlace], storage: &[u8], named: Named) -> bool
-    ensures { result ≡ are_not_kept places.now storage.now named }
+    ensures { result ≡ lacks_storage places.now storage.now named }
 {
     'places: for (number, place) in places.iter().enumerate() {
         if is_missing(storage, named, number, *place) {
@@ -139,7 +139,7 @@ fn output_of(
     name: &[u8],
     named: Option<Named>,
 ) -> Result<Named, ScopeFault>
-    ensures { Answers (told_of places.now storage.now name.now named) result }
+    ensures { Answers faults.Memory (output_of places.now storage.now name.now named) result }
 {
     let Some(named) = named else {
         return Err(ScopeFault::NotFound(Text::from_slice(alloc, name)?));
@@ -159,7 +159,8 @@ fn outputs(
     storage: &[u8],
     names: &[Text],
 ) -> Result<List<Named>, ScopeFault>
-    ensures { Answers (told vars.now groups.now places.now storage.now names.now) result }
+    ensures { Answers faults.Memory
+        (outputs vars.now groups.now places.now storage.now names.now) result }
 {
     let mut outputs = List::empty(alloc);
     'names: for name in names {
@@ -171,14 +172,14 @@ fn outputs(
 }
 
 fn is_written(named: &[Named], number: usize, group: GroupPlace) -> bool
-    ensures { result ≡ is_any named.now (number, group) }
+    ensures { result ≡ is_written named.now (number, group) }
 {
     named.iter().any(|named| is_of(number, group, *named))
 }
 
 fn named_ids(alloc: Global, places: &[GroupPlace], named: &[Named]) -> Result<List<VarId>, Memory>
     requires { length places.now < 2 ^ 32 }
-    ensures { IfOk result (λ written. written ≡ ids places.now named.now) }
+    ensures { IfOk result (λ written. written ≡ named_ids places.now named.now) }
 {
     let mut written = List::empty(alloc);
     'places: for (number, place) in places.iter().enumerate() {
@@ -199,7 +200,9 @@ fn written_by(
     names: &[Text],
 ) -> Result<List<VarId>, ScopeFault>
     requires { length places.now < 2 ^ 32 }
-    ensures { Answers (ids_or_fault places.now (told vars.now groups.now places.now storage.now names.now)) result }
+    ensures { Answers faults.Memory
+        (ids_or_fault places.now (outputs vars.now groups.now places.now storage.now names.now))
+        result }
 {
     let named = outputs(alloc, vars, groups, places, storage, names)?;
     Ok(named_ids(alloc, places, named.as_slice())?)
@@ -217,7 +220,7 @@ pub fn output_variables(
     values: &Values,
     storage: &List<u8>,
 ) -> Result<List<VarId>, ScopeFault>
-    ensures { Answers (all_told bound.now values.now storage.now) result }
+    ensures { Answers faults.Memory (output_variables bound.now values.now storage.now) result }
 {
     let names = output_names(alloc, values)?;
     let thorns = bound.thorns().as_slice();

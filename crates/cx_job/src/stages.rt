@@ -1,105 +1,34 @@
 //! The stages from thorns to a job, with their faults as a job's.
 
-ghost use Rattle.std.specs.Prelude.{◌≡◌, ◌≢◌, ◌⊎◌, ◌≤◌, ◌^◌, ◌↔◌, [], length, map, option_map, codes, IsTrue, IfOk};
+ghost use Rattle.std.specs.Prelude.{◌≡◌, ◌≤◌, ◌^◌, ◌↔◌, [], length, map, codes, IsTrue, IfOk};
 ghost use Rattle.cx_plan.specs.Whole.{IsWhole};
-ghost use Rattle.cx_bind.specs.Binding.{bind_fault as binding_fault};
-ghost use Rattle.cx_bind.specs.declared.thorns.BindFault.TheVariants as binds;
-ghost use Rattle.cx_values.specs.Assigned.{assigned as values_told};
-ghost use Rattle.cx_values.specs.Faults.{assign_fault};
-ghost use Rattle.cx_values.specs.declared.fault.ValueFault.TheVariants as values;
 ghost use Rattle.cx_order.specs.Files.{input_of};
-ghost use Rattle.cx_order.specs.declared.fault.OrderFault.TheVariants as orders;
-ghost use Rattle.cx_region.specs.declared.fault.RegionFault.TheVariants as regions;
 ghost use Rattle.cx_scope.specs.declared.fault.ScopeFault.TheVariants as scopes;
 ghost use Rattle.cx_job.specs.declared.fault.JobFault.TheVariants as faults;
-ghost use Rattle.cx_job.specs.JobLimits.{Tells, grid_limits};
-ghost use Rattle.cx_job.specs.Jobs.{job_of as job_told};
-ghost use Rattle.cx_job.specs.Grids.{shape_of as shape_told};
-ghost use Rattle.cx_job.specs.Stored.{stored_infos as infos_told};
-ghost use Rattle.cx_job.specs.Making.{Is, IsOf, Yields, unless, Orders, Matches, Accepts, within_limits, run_count, written as written_told};
+ghost use Rattle.cx_text.specs.Telling.{Tells};
+ghost use Rattle.cx_job.specs.JobLimits.{grid_limits};
+ghost use Rattle.cx_grids.specs.Grids.{shape_of};
+ghost use Rattle.cx_grids.specs.Stored.{stored_infos};
+ghost use Rattle.cx_config.specs.Stages.{Is};
+ghost use Rattle.cx_job.specs.Making.{Yields, Orders, Matches, Accepts, IsOutputFault, assigned_values, bound_thorns, job_within, output_ids, run_count};
 
 use crate::fault::JobFault;
-use crate::grids::shape_of;
 use crate::job::job_of;
 use crate::limits::{check_grid_limits, check_item_limits, check_key};
-use crate::matching::Routines;
 use crate::outputs::output_variables;
-use crate::stored::stored_infos;
-use cx_bind::{BindFault, Bound, Thorn, bind};
+use cx_bind::{Bound, Thorn, bind};
+use cx_grids::{shape_of, stored_infos};
+use cx_match::Routines;
 use cx_order::{OrderFault, Ordered, order};
 use cx_parfile::Settings;
 use cx_plan::{Item, Job, VarId};
-use cx_region::{RegionFault, check};
+use cx_region::check;
 use cx_rule::Spec;
 use cx_sched::ScheduleFile;
 use cx_scope::{Scope, ScopeFault};
 use cx_text::{List, Memory, Text};
-use cx_values::{ValueFault, Values, assign};
+use cx_values::{Values, assign};
 use std::alloc::Global;
-
-fn is_bind_memory(fault: &BindFault) -> bool
-    ensures { IsTrue result ↔ (fault.now ≡ binds.Memory) }
-{
-    matches!(fault, BindFault::Memory)
-}
-
-pub(crate) fn bind_fault(fault: BindFault) -> JobFault
-    ensures { IsOf binds.Memory faults.Bind fault result }
-{
-    if is_bind_memory(&fault) {
-        JobFault::Memory
-    } else {
-        JobFault::Bind(fault)
-    }
-}
-
-fn is_value_memory(fault: &ValueFault) -> bool
-    ensures { IsTrue result ↔ (fault.now ≡ values.Memory) }
-{
-    matches!(fault, ValueFault::Memory)
-}
-
-fn value_fault(fault: ValueFault) -> JobFault
-    ensures { IsOf values.Memory faults.Value fault result }
-{
-    if is_value_memory(&fault) {
-        JobFault::Memory
-    } else {
-        JobFault::Value(fault)
-    }
-}
-
-fn is_order_memory(fault: &OrderFault) -> bool
-    ensures { IsTrue result ↔ (fault.now ≡ orders.Memory) }
-{
-    matches!(fault, OrderFault::Memory)
-}
-
-fn order_fault(fault: OrderFault) -> JobFault
-    ensures { IsOf orders.Memory faults.Order fault result }
-{
-    if is_order_memory(&fault) {
-        JobFault::Memory
-    } else {
-        JobFault::Order(fault)
-    }
-}
-
-fn is_region_memory(fault: &RegionFault) -> bool
-    ensures { IsTrue result ↔ (fault.now ≡ regions.Memory) }
-{
-    matches!(fault, RegionFault::Memory)
-}
-
-fn region_fault(fault: RegionFault) -> JobFault
-    ensures { IsOf regions.Memory faults.Region fault result }
-{
-    if is_region_memory(&fault) {
-        JobFault::Memory
-    } else {
-        JobFault::Region(fault)
-    }
-}
 
 fn is_scope_memory(fault: &ScopeFault) -> bool
     ensures { IsTrue result ↔ (fault.now ≡ scopes.Memory) }
@@ -115,7 +44,7 @@ fn output_path(alloc: Global) -> Result<Text, Memory>
 
 /// The fault of a name of a variable that is to be written, or want of memory.
 fn output_fault(alloc: Global, fault: ScopeFault) -> JobFault
-    ensures { (result ≡ faults.Memory) ⊎ ((fault ≢ scopes.Memory) × (result ≡ faults.Order (orders.Scope (codes "output") fault))) }
+    ensures { IsOutputFault fault result }
 {
     if is_scope_memory(&fault) {
         return JobFault::Memory;
@@ -128,12 +57,9 @@ fn output_fault(alloc: Global, fault: ScopeFault) -> JobFault
 
 /// The thorns, bound.
 pub(crate) fn bind_all(alloc: Global, thorns: List<Thorn>) -> Result<Bound, JobFault>
-    ensures { Yields (Is (unless (option_map faults.Bind (binding_fault thorns)) thorns)) result }
+    ensures { Yields (Is (bound_thorns thorns)) result }
 {
-    match bind(alloc, thorns) {
-        Ok(bound) => Ok(bound),
-        Err(fault) => Err(bind_fault(fault)),
-    }
+    Ok(bind(alloc, thorns)?)
 }
 
 /// The parameters' values.
@@ -142,12 +68,9 @@ pub(crate) fn assign_all(
     bound: &Bound,
     settings: &Settings,
 ) -> Result<Values, JobFault>
-    ensures { Yields (Is (unless (option_map faults.Value (assign_fault bound.now settings.now.list)) (values_told bound.now settings.now.list))) result }
+    ensures { Yields (Is (assigned_values bound.now settings.now.list)) result }
 {
-    match assign(alloc, bound, settings) {
-        Ok(values) => Ok(values),
-        Err(fault) => Err(value_fault(fault)),
-    }
+    Ok(assign(alloc, bound, settings)?)
 }
 
 /// The plan of the schedule files.
@@ -160,20 +83,17 @@ pub(crate) fn order_all(
     requires as_many { length schedules.now ≡ length bound.now }
     ensures { Yields (Orders (input_of bound.now schedules.now values.now)) result }
 {
-    match order(alloc, bound, schedules, values) {
-        Ok(ordered) => Ok(ordered),
-        Err(fault) => Err(order_fault(fault)),
-    }
+    Ok(order(alloc, bound, schedules, values)?)
 }
 
 /// The variables that are written.
-pub(crate) fn written(
+pub(crate) fn output_ids(
     alloc: Global,
     bound: &Bound,
     values: &Values,
     storage: &List<u8>,
 ) -> Result<List<VarId>, JobFault>
-    ensures { Yields (Is (written_told bound.now values.now storage.now)) result }
+    ensures { Yields (Is (output_ids bound.now values.now storage.now)) result }
 {
     match output_variables(alloc, bound, values, storage) {
         Ok(out_vars) => Ok(out_vars),
@@ -188,25 +108,34 @@ fn check_grid(
     values: &Values,
     storage: &List<u8>,
 ) -> Result<(), JobFault>
-    ensures { Tells (grid_limits (shape_told bound.now values.now) (infos_told bound.now storage.now)) result }
+    ensures { Tells faults.Memory
+        (grid_limits (shape_of bound.now values.now) (stored_infos bound.now storage.now))
+        result }
 {
     let shape = shape_of(alloc, bound, values)?;
     let vars = stored_infos(alloc, bound, storage)?;
     check_grid_limits(alloc, &shape, &vars)
 }
 
+/// The items with their routines, and the variables that are written.
+#[derive(Debug, Drop)]
+pub(crate) struct Contents {
+    pub(crate) items: List<Item>,
+    pub(crate) out_vars: List<VarId>,
+}
+
 /// The job, within its limits.
-pub(crate) fn limited(
+pub(crate) fn within_limits(
     alloc: Global,
     bound: &Bound,
     values: &Values,
     run: usize,
     ordered: Ordered,
-    items: List<Item>,
-    out_vars: List<VarId>,
+    contents: Contents,
 ) -> Result<Job, JobFault>
-    ensures { Yields (Is (within_limits run (job_told bound.now values.now ordered items out_vars))) result }
+    ensures { Yields (Is (job_within run bound.now values.now ordered contents)) result }
 {
+    let Contents { items, out_vars } = contents;
     check_item_limits(alloc, run, items.as_slice())?;
     check_grid(alloc, bound, values, &ordered.storage)?;
     let job = job_of(alloc, bound, values, ordered, items, out_vars)?;
@@ -215,18 +144,16 @@ pub(crate) fn limited(
 }
 
 /// The job, where no routine reads a point that nobody has filled.
-pub(crate) fn accepted(alloc: Global, job: Job) -> Result<Job, JobFault>
+pub(crate) fn accept(alloc: Global, job: Job) -> Result<Job, JobFault>
     requires { IsWhole job }
     ensures { Yields (Accepts job) result }
 {
-    match check(alloc, &job) {
-        Ok(()) => Ok(job),
-        Err(fault) => Err(region_fault(fault)),
-    }
+    check(alloc, &job)?;
+    Ok(job)
 }
 
 /// The first `run` items matched with routines by what the thorns see, and the others as they are.
-pub(crate) fn matched(
+pub(crate) fn match_items(
     alloc: Global,
     bound: &Bound,
     values: &Values,
@@ -236,7 +163,8 @@ pub(crate) fn matched(
 ) -> Result<List<Item>, JobFault>
     requires few { length specs.now ≤ 2 ^ 32 }
     requires run { run ≡ run_count ordered.old.plan }
-    ensures items { Yields (Matches bound.now values.now (map (λ s. s.now) specs.now) ordered.old) result }
+    ensures items { Yields
+        (Matches bound.now values.now (map (λ s. s.now) specs.now) ordered.old) result }
     ensures others { ordered.new ≡ record ordered.old { items = [] } }
 {
     let items = std::mem::replace(&mut ordered.items, List::empty(alloc));
@@ -248,5 +176,5 @@ pub(crate) fn matched(
         values,
         specs,
     };
-    routines.all_matched(alloc, run, items)
+    Ok(routines.matched_items(alloc, run, items)?)
 }

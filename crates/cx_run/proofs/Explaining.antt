@@ -2,8 +2,8 @@
 use Rattle.std.proofs.Common.{◌≡◌, ◌≢◌, ◌⊎◌, ℕ, List, Result, Ok, Err, inl, inr, sym, ap, subst, refl}
 use Rattle.cx_disk.specs.Cause.{Rose}
 use Rattle.cx_job.specs.Making.{Makes}
-use Rattle.cx_job.specs.Reading.{Stage}
-use Rattle.cx_job.specs.Shelf.{Held}
+use Rattle.cx_text.specs.Telling.{Stage}
+use Rattle.cx_config.specs.Shelf.{Held}
 use Rattle.cx_job.specs.declared.fault.JobFault.{JobFault}
 use Rattle.cx_job.specs.declared.fault.JobFault.TheVariants as faults
 use Rattle.cx_plan.specs.Setups.{setup_of}
@@ -20,7 +20,7 @@ use Rattle.cx_run.specs.declared.words.Command.{Command}
 abbrev GivesFault : Result Job JobFault → JobFault → Type 0
 GivesFault result e = result ≡ Err e
 
-pub made_job : (tells : Type 0) (made : Held → Stage Job) (old new : Held) (b n : ℕ) (job : Job) → Makes tells made old new b n (Ok job) → tells → made old (Ok job)
+pub made_job : (tells : Type 0) (made : Held → Stage Job JobFault) (old new : Held) (b n : ℕ) (job : Job) → Makes tells made old new b n (Ok job) → tells → made old (Ok job)
 made_job tells made old new b n job m t = go (m.answers t)
   where
     go : GivesFault (Ok job) faults.Memory ⊎ GivesFault (Ok job) faults.Shelf ⊎ made old (Ok job) → made old (Ok job)
@@ -31,7 +31,7 @@ made_job tells made old new b n job m t = go (m.answers t)
 err_same : (x y : JobFault) → GivesFault (Err x) y → x ≡ y
 err_same x y e = cc
 
-pub made_fault : (tells : Type 0) (made : Held → Stage Job) (old new : Held) (b n : ℕ) (fault : JobFault) → Makes tells made old new b n (Err fault)
+pub made_fault : (tells : Type 0) (made : Held → Stage Job JobFault) (old new : Held) (b n : ℕ) (fault : JobFault) → Makes tells made old new b n (Err fault)
     → fault ≢ faults.Shelf → fault ≢ faults.Memory → tells → made old (Err fault)
 made_fault tells made old new b n fault m not_shelf not_memory t = go (m.answers t)
   where
@@ -40,7 +40,7 @@ made_fault tells made old new b n fault m not_shelf not_memory t = go (m.answers
     go (inr (inl e)) = absurd (not_shelf (err_same fault faults.Shelf e))
     go (inr (inr x)) = x
 
-pub fault_rose : (tells : Type 0) (made : Held → Stage Job) (old new : Held) (b n : ℕ) (fault : JobFault) → Makes tells made old new b n (Err fault)
+pub fault_rose : (tells : Type 0) (made : Held → Stage Job JobFault) (old new : Held) (b n : ℕ) (fault : JobFault) → Makes tells made old new b n (Err fault)
     → fault ≡ faults.Shelf → Rose b n
 fault_rose tells made old new b n fault m e = m.cause.failed (ap (λ (x : JobFault). Err x) e)
 

@@ -1,7 +1,7 @@
 -- What is answered to a command whose file makes a job, or a fault.
 use Rattle.std.proofs.Common.{◌≡◌, ◌⊎◌, ◌∙◌, ℕ, List, [], ◌∷◌, Ok, Err, inl, inr, refl, sym, ap, subst}
 use Rattle.cx_job.specs.Making.{Made, Makes, without_witness}
-use Rattle.cx_job.specs.Shelf.{Held}
+use Rattle.cx_config.specs.Shelf.{Held}
 use Rattle.cx_job.specs.declared.fault.JobFault.{JobFault}
 use Rattle.cx_job.specs.declared.fault.JobFault.TheVariants as faults
 use Rattle.cx_plan.specs.declared.job.Job.{Job}

@@ -2,7 +2,7 @@
 ghost use Rattle.std.specs.Prelude.{◌≡◌, IfErr, false};
 ghost use Rattle.cx_disk.specs.Cause.{HasCause};
 ghost use Rattle.cx_disk.specs.Disk.{untold};
-ghost use Rattle.cx_job.specs.Shelf.{nothing_held};
+ghost use Rattle.cx_config.specs.Shelf.{nothing_held};
 
 use crate::samples::File;
 use cx_disk::{Disk, DiskFault};

@@ -16,27 +16,27 @@ returns-in_err-job-clause-made c =
     let specs = map (λ s. s.now) c.args.specs.now in
     let p = err_from_is_err_and c.from_residual-in_err-job.result c.from_residual-in_err-job.ensures.1 in
     rw (p.1, p.2)
-    (over_limits specs c.args.bound.now c.args.values.now c.args.ordered c.args.out_vars c.matched.new.ordered c.run_count-run.result c.in_ok-items.items c.in_ok-items.ensures.others c.run_count-run.ensures
+    (over_limits specs c.args.bound.now c.args.values.now c.args.ordered c.args.out_vars c.match_items.new.ordered c.run_count-run.result c.in_ok-items.items c.in_ok-items.ensures.others c.run_count-run.ensures
     c.in_err-job.field-0.0 c.in_ok-items.ensures.items c.in_err-job.ensures)
 
-pub accepted-requires : goal.accepted-requires
-accepted-requires c =
+pub accept-requires : goal.accept-requires
+accept-requires c =
     let specs = map (λ s. s.now) c.args.specs.now in
-    whole_of specs c.args.bound.now c.args.values.now c.args.ordered c.args.out_vars c.matched.new.ordered c.run_count-run.result c.in_ok-items.items c.in_ok-items.ensures.others c.run_count-run.ensures
+    whole_of specs c.args.bound.now c.args.values.now c.args.ordered c.args.out_vars c.match_items.new.ordered c.run_count-run.result c.in_ok-items.items c.in_ok-items.ensures.others c.run_count-run.ensures
     c.in_ok-job.job c.in_ok-items.ensures.items c.in_ok-job.ensures c.requires.planned c.requires.read c.requires.written
 
 pub returns-clause-made : goal.returns-clause-made
 returns-clause-made c =
     let specs = map (λ s. s.now) c.args.specs.now in
-    items_made specs c.args.bound.now c.args.values.now c.args.ordered c.args.out_vars c.matched.new.ordered c.run_count-run.result c.in_ok-items.items c.in_ok-items.ensures.others c.run_count-run.ensures
-    c.in_ok-job.job c.accepted.result c.in_ok-items.ensures.items c.in_ok-job.ensures c.accepted.ensures
+    items_made specs c.args.bound.now c.args.values.now c.args.ordered c.args.out_vars c.match_items.new.ordered c.run_count-run.result c.in_ok-items.items c.in_ok-items.ensures.others c.run_count-run.ensures
+    c.in_ok-job.job c.accept.result c.in_ok-items.ensures.items c.in_ok-job.ensures c.accept.ensures
 
 pub returns-clause-ready : goal.returns-clause-ready
 returns-clause-ready c =
     let specs = map (λ s. s.now) c.args.specs.now in
-    ready_of specs c.in_ok-job.job c.accepted.result
-    (whole_of specs c.args.bound.now c.args.values.now c.args.ordered c.args.out_vars c.matched.new.ordered c.run_count-run.result c.in_ok-items.items c.in_ok-items.ensures.others c.run_count-run.ensures
+    ready_of specs c.in_ok-job.job c.accept.result
+    (whole_of specs c.args.bound.now c.args.values.now c.args.ordered c.args.out_vars c.match_items.new.ordered c.run_count-run.result c.in_ok-items.items c.in_ok-items.ensures.others c.run_count-run.ensures
     c.in_ok-job.job c.in_ok-items.ensures.items c.in_ok-job.ensures c.requires.planned c.requires.read c.requires.written)
-    (fit_of specs c.args.bound.now c.args.values.now c.args.ordered c.args.out_vars c.matched.new.ordered c.run_count-run.result c.in_ok-items.items c.in_ok-items.ensures.others c.run_count-run.ensures
+    (fit_of specs c.args.bound.now c.args.values.now c.args.ordered c.args.out_vars c.match_items.new.ordered c.run_count-run.result c.in_ok-items.items c.in_ok-items.ensures.others c.run_count-run.ensures
     c.in_ok-job.job c.in_ok-items.ensures.items c.in_ok-job.ensures c.requires.planned)
-    c.accepted.ensures
+    c.accept.ensures

@@ -1,0 +1,5 @@
+pub mod Shelf
+pub mod Stages
+pub mod Reading
+pub mod NamesAndLevels
+pub mod Configuring

@@ -1,0 +1,14 @@
+//! What the files of a configuration say: from a shelf to thorns, settings and schedules.
+#![tactic(auto)]
+
+mod configuring;
+mod fault;
+mod folder;
+mod reading;
+mod shelf;
+
+pub use configuring::{Configured, configure};
+pub use fault::ConfigFault;
+pub use folder::FolderShelf;
+pub use reading::ThornFiles;
+pub use shelf::{MemoryShelf, Shelf, ShelfFault};

@@ -1,0 +1,4 @@
+pub mod Grids
+pub mod RunNumbers
+pub mod Stored
+pub mod Ranges

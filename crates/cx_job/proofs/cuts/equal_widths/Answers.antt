@@ -1,9 +1,0 @@
-use Rattle.cx_job.specs.Grids.{even, equal_widths}
-use Rattle.cx_job.proofs.GridLaws.{told_as, as_equal_widths}
-use Rattle.cx_job.proofs.cuts.equal_widths.Goals as goal
-
-pub returns : goal.returns
-returns c =
-    told_as c.even.result (even c.in_ok-points.points c.in_ok-parts.parts) (equal_widths c.args.dims c.args.values.now c.args.direction)
-    (as_equal_widths c.args.dims c.args.values.now c.args.direction c.in_ok-points.points c.in_ok-parts.parts c.in_ok-points.ensures.value c.in_ok-parts.ensures.value)
-    c.even.ensures

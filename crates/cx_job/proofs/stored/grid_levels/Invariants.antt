@@ -1,7 +1,0 @@
-use Rattle.std.proofs.Common.{◌≡◌, take}
-use Rattle.cx_plan.specs.Whole.{grid_levels}
-use Rattle.cx_job.specs.Stored.{in_64_bits}
-use Rattle.cx_job.proofs.stored.grid_levels.Given as goal
-
-abbrev pub invariant-vars : goal.invariant-vars
-invariant-vars l = l.levels ≡ in_64_bits (grid_levels (take l.info-index l.vars))

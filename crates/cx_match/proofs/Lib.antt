@@ -1,0 +1,4 @@
+pub mod AllLaws
+pub mod MatchLaws
+pub mod OnlyMatched
+mod MatchRows
