@@ -21,9 +21,9 @@ use Rattle.cx_rule.specs.declared.spec.Want.{Want}
 use Rattle.cx_rule.specs.Jobs.{of_touch, of_want, HasRoutine, FitJob}
 use Rattle.cx_job.specs.Jobs.{job_of}
 use Rattle.cx_job.specs.Making.{run_count, Matches}
-use Rattle.cx_match.specs.Matching.{thorn_number, level_of, touch_by, touch_of, param_number, is_for}
+use Rattle.cx_match.specs.Matching.{thorn_number, level_of, touch_by, touch_of, param_number, is_for, all_matched}
 use Rattle.cx_grids.proofs.NoneLaws.{no_some, some_same, both_first}
-use Rattle.cx_job.proofs.MatchedLaws.{IsMatched, matched_at}
+use Rattle.cx_job.proofs.MatchedLaws.{answered_below, IsMatched, matched_at}
 use Rattle.cx_job.proofs.TouchLaws.{some_keep, as_many_some, is_offer}
 use Rattle.cx_job.proofs.RunLaws.{called_of_plan}
 
@@ -70,4 +70,4 @@ fits thorns files values specs ordered items out_vars planned matches i d within
     let k : ℕ = get_or (run_items setup) i d in
     let at = called_of_plan (input_of thorns files values) ordered planned setup refl i d within in
     has_routine w values specs (get_or ordered.items k no_item) (get_or items k no_item)
-    (matched_at w values specs (run_count ordered.plan) ordered.items items (sym matches.items) k no_item no_item at.1 at.0)
+    (matched_at w values specs (run_count ordered.plan) ordered.items items (answered_below (all_matched w values specs (run_count ordered.plan) ordered.items) items matches.items) k no_item no_item at.1 at.0)

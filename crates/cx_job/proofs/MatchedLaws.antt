@@ -7,27 +7,41 @@ use Rattle.cx_values.specs.declared.values.Values.{Values}
 use Rattle.cx_order.specs.Meanings.{World}
 use Rattle.cx_rule.specs.declared.spec.Spec.{Spec}
 use Rattle.cx_match.specs.declared.matching.Offer.{Offer}
+use Rattle.cx_config.specs.Stages.{or_fault}
+use Rattle.cx_match.specs.declared.fault.MatchFault.{MatchFault}
 use Rattle.cx_job.specs.declared.fault.JobFault.{JobFault}
+use Rattle.cx_job.specs.Faults.{match_fault}
 use Rattle.cx_match.specs.Matching.{thorn_number, offer, fits, completed, mismatch, matched_by, routine_number, spec_at, with_routine, matched, matched_if_run, all_matched}
 use Rattle.cx_job.proofs.MeantLaws.{err_ok}
 
 -- ---- lists
 
-abbrev answered : {X : Type 0} → X → Result X JobFault
+abbrev answered : {X : Type 0} → X → Result X MatchFault
 answered x = Ok x
 
 ok_same : {X : Type 0} {x y : X} → answered x ≡ answered y → x ≡ y
 ok_same e = cc
 
+abbrev job_answered : {X : Type 0} → X → Result X JobFault
+job_answered x = Ok x
+
+job_same : {X : Type 0} {x y : X} → job_answered x ≡ job_answered y → x ≡ y
+job_same e = cc
+
+-- a job's answer is that of the layer below
+pub answered_below : {X : Type 0} (r : Result X MatchFault) (x : X) → job_answered x ≡ or_fault match_fault r → r ≡ answered x
+answered_below (Ok y) x told = ap (λ z. answered z) (sym (job_same told))
+answered_below (Err e) x told = err_ok (sym told)
+
 -- an answer, and the answers of others behind it
-record IsFirst (r : Result Item JobFault) (s : Result (List Item) JobFault) (ys : List Item) : Type 0 where
+record IsFirst (r : Result Item MatchFault) (s : Result (List Item) MatchFault) (ys : List Item) : Type 0 where
   pub one : Item
   pub others : List Item
   pub first : r ≡ Ok one
   pub rest : s ≡ Ok others
   pub are : ys ≡ one ∷ others
 
-first_given : (r : Result Item JobFault) (s : Result (List Item) JobFault) (ys : List Item) → with_next r s ≡ Ok ys → IsFirst r s ys
+first_given : (r : Result Item MatchFault) (s : Result (List Item) MatchFault) (ys : List Item) → with_next r s ≡ Ok ys → IsFirst r s ys
 first_given (Err e) s ys told = err_ok told
 first_given (Ok y) (Err e) ys told = err_ok told
 first_given (Ok y) (Ok others) ys told = record { one = y; others = others; first = refl; rest = refl; are = sym (ok_same told) }
@@ -69,7 +83,7 @@ module _ (w : World) (v : Values) (specs : List Spec) (x y : Item) where
 -- ---- all items
 
 module _ (w : World) (v : Values) (specs : List Spec) (run : ℕ) where
-  abbrev one : ℕ × Item → Result Item JobFault
+  abbrev one : ℕ × Item → Result Item MatchFault
   one x = matched_if_run w v specs run x
 
   abbrev Gives : ℕ → List Item → List Item → Type 0

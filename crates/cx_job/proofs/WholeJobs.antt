@@ -42,7 +42,8 @@ use Rattle.cx_job.proofs.SupportedLaws.{no_two_variables, one_level, few_variabl
 use Rattle.cx_job.proofs.TreeLaws.{bins_whole}
 use Rattle.cx_job.proofs.NamesLaws.{are_names}
 use Rattle.cx_job.proofs.MeantLaws.{all_none}
-use Rattle.cx_job.proofs.MatchedLaws.{IsMatched, as_many_matched, matched_or_kept}
+use Rattle.cx_match.specs.Matching.{all_matched}
+use Rattle.cx_job.proofs.MatchedLaws.{answered_below, IsMatched, as_many_matched, matched_or_kept}
 use Rattle.cx_job.proofs.TouchLaws.{matched_whole, planned_whole}
 use Rattle.cx_job.proofs.RunLaws.{called_of_plan}
 use Rattle.cx_job.proofs.PlanFacts.{each_variable, each_bin, not_deep, not_large, no_more_levels}
@@ -196,7 +197,7 @@ module _ (thorns : List Thorn) (files : List ScheduleFile) (values : Values) (sp
   run = run_count ordered.plan
 
   as_many : length items ≡ length ordered.items
-  as_many = as_many_matched seen values specs run ordered.items items (sym matches.items)
+  as_many = as_many_matched seen values specs run ordered.items items (answered_below (all_matched seen values specs run ordered.items) items matches.items)
 
   each_stored_level : length ordered.storage ≡ length (variable_infos thorns)
   each_stored_level = ap (λ (o : Ordered). length o.storage) sound.planned.is_planned ∙ each_variable thorns sound.planned.sight sound.planned.c.lines
@@ -210,7 +211,7 @@ module _ (thorns : List Thorn) (files : List ScheduleFile) (values : Values) (sp
 
   -- an item that isn't run has the touches of its schedule line, and each other one those of its routine
   of_items : All (IsItem made) items
-  of_items k d within = by (matched_or_kept seen values specs run ordered.items items (sym matches.items) k d d there)
+  of_items k d within = by (matched_or_kept seen values specs run ordered.items items (answered_below (all_matched seen values specs run ordered.items) items matches.items) k d d there)
     where
       there : k < length ordered.items
       there = (let same = as_many in omega (arith, within, same))
