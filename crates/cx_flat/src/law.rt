@@ -11,21 +11,22 @@ ghost use Rattle.cx_flat.specs.Places.{OperationsMet};
 
 use cx_plan::Job;
 
-/// The operations of a job, run with jumps, are its undivided run, whatever the routines compute. It does nothing; its clause is
-/// the law.
+/// The operations of a job, run with jumps, are its undivided run, entry by entry and with the same end, whatever the routines
+/// compute; and from each checkpoint place they are the run that is continued there. It does nothing; its clause is the law.
 pub fn flat_is_run(job: &Job)
     requires { IsWhole job.now }
     ensures { (rules : List Rule) → FlatIsRun (setup_of job.now) rules }
 {}
 
-/// Whatever the scalars are before each operation, the operations come to the last one, after at most so many, and each raises the
-/// order of places. It does nothing; its clause is the law.
+/// Whatever the scalars are before each operation, the operations come to the last one after at most `most_operations`, each
+/// comes at a later place than the one before it, and what one sends the next one takes. It does nothing; its clause is the law.
 pub fn all_ways(job: &Job)
     requires { IsWhole job.now }
     ensures { WaysEnd (setup_of job.now) }
 {}
 
-/// Along the operations of a sound job each need is met.
+/// Along the operations of a job that the region check accepts each need is met, from the start and from each checkpoint place,
+/// beyond ends too. It does nothing; its clause is the law.
 pub fn operation_needs_met(job: &Job)
     requires whole { IsWhole job.now }
     requires sound { Sound (setup_of job.now) }

@@ -37,7 +37,8 @@ fn count_of_both(first: &[Op], second: &[Op]) -> u32
 
 fn push_bin(alloc: Global, job: &Job, ops: &mut Vec<Op>, bin: Bin) -> Result<(), Memory>
     requires { IsWhole job.now }
-    ensures { OnOk result (ops.new.items ≡ ops.old.items ++ bins_code (setup_of job.now) (bin_number bin ∷ [])) }
+    ensures { OnOk result (ops.new.items
+        ≡ ops.old.items ++ bins_code (setup_of job.now) (bin_number bin ∷ [])) }
 {
     let bins = job.plan.bins.as_slice();
     push_tree(alloc, job, ops, &bins[bin.number()])
@@ -45,7 +46,8 @@ fn push_bin(alloc: Global, job: &Job, ops: &mut Vec<Op>, bin: Bin) -> Result<(),
 
 fn push_bins(alloc: Global, job: &Job, ops: &mut Vec<Op>, bins: &[Bin]) -> Result<(), Memory>
     requires { IsWhole job.now }
-    ensures { OnOk result (ops.new.items ≡ ops.old.items ++ bins_code (setup_of job.now) (map bin_number bins.now)) }
+    ensures { OnOk result (ops.new.items
+        ≡ ops.old.items ++ bins_code (setup_of job.now) (map bin_number bins.now)) }
 {
     'bins: for bin in bins {
         push_bin(alloc, job, ops, *bin)?;

@@ -56,7 +56,8 @@ fn push_direction(
     variables: &List<VarId>,
     path: &Text,
 ) -> Result<(), Memory>
-    ensures { OnOk result (ops.new.items ≡ ops.old.items ++ sync_code variables.now path.now direction 1) }
+    ensures { OnOk result (ops.new.items
+        ≡ ops.old.items ++ sync_code variables.now path.now direction 1) }
 {
     ops.push(Op::Post(direction, copy_variables(alloc, variables)?))?;
     ops.push(Op::Take(
@@ -74,7 +75,8 @@ fn push_sync(
     variables: &List<VarId>,
     path: &Text,
 ) -> Result<(), Memory>
-    ensures { OnOk result (ops.new.items ≡ ops.old.items ++ sync_code variables.now path.now 0 directions) }
+    ensures { OnOk result (ops.new.items
+        ≡ ops.old.items ++ sync_code variables.now path.now 0 directions) }
 {
     'directions: for direction in 0..directions {
         push_direction(alloc, ops, direction, variables, path)?;
@@ -184,7 +186,8 @@ fn push_repeated(
     mut body: Vec<Op>,
 ) -> Result<(), Memory>
     ensures { length body.items < 2 ^ 31
-        → OnOk result (ops.new.items ≡ ops.old.items ++ while_code variable path.now body.items) }
+        → OnOk result (ops.new.items
+        ≡ ops.old.items ++ while_code variable path.now body.items) }
 {
     let back = count_behind(&body);
     ops.push(Op::Open)?;

@@ -10,4 +10,6 @@ mod faults;
 #[cfg(test)]
 mod jobs;
 #[cfg(test)]
+mod operations;
+#[cfg(test)]
 mod samples;
