@@ -30,7 +30,6 @@ use Rattle.cx_param.specs.Params.{params}
 use Rattle.cx_param.specs.declared.declarations.ParamDecl.{ParamDecl}
 use Rattle.cx_param.proofs.ParamLaws.{params_good, file_ends}
 use Rattle.cx_sched.specs.Nodes.{schedule}
-use Rattle.cx_sched.specs.declared.tree.ScheduleFile.{ScheduleFile}
 use Rattle.cx_sched.proofs.NodeLaws as nodes
 use Rattle.cx_iface.specs.File.{file, interface}
 use Rattle.cx_iface.specs.declared.tree.Interface.{Interface}

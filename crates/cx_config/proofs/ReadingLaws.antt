@@ -3,9 +3,7 @@ use Rattle.std.proofs.Common.{◌≡◌, ◌≢◌, ◌∙◌, sym, ap, subst, r
 use Rattle.cx_text.specs.declared.token.Token.{Token}
 use Rattle.cx_text.specs.declared.token.Style.{Style}
 use Rattle.cx_text.specs.declared.fault.TextFault.{TextFault}
-use Rattle.cx_text.specs.declared.fault.TextFault.TheVariants as texts
 use Rattle.cx_text.specs.declared.fault.CclFault.{CclFault}
-use Rattle.cx_text.specs.declared.fault.CclFault.TheVariants as trees
 use Rattle.cx_text.specs.Pieces.{IsCause, Reads}
 use Rattle.cx_text.specs.Grammar.{Grammar, IsFault, ReadsBy}
 use Rattle.cx_disk.specs.Cause.{HasCause, Rose}

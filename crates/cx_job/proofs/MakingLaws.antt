@@ -1,5 +1,5 @@
 -- The stages from thorns to a job, one behind another.
-use Rattle.std.proofs.Common.{◌≡◌, ◌≢◌, ◌∙◌, sym, ap, subst, refl, ◌⊎◌, inl, inr, ℕ, Bool, true, false, List, [], ◌∷◌, map, Option, Some, None, Result, Ok, Err, nat_lt, take, codes, if◌then◌else◌, arith}
+use Rattle.std.proofs.Common.{◌≡◌, ◌≢◌, ◌∙◌, sym, ap, subst, refl, ◌⊎◌, inl, inr, ℕ, Bool, true, false, List, [], ◌∷◌, Option, Some, None, Result, Ok, Err, nat_lt, take, codes, if◌then◌else◌, arith}
 use Rattle.std.specs.Prelude.{option_map}
 use Rattle.cx_plan.specs.Lists.{or_else, first_of_each}
 use Rattle.cx_plan.specs.declared.item.Item.{Item}

@@ -14,7 +14,6 @@ use Rattle.cx_bind.specs.declared.thorns.Thorn.{Thorn}
 use Rattle.cx_values.specs.Assigned.{assigned}
 use Rattle.cx_values.specs.Faults.{assign_fault}
 use Rattle.cx_values.specs.declared.values.Values.{Values}
-use Rattle.cx_scope.specs.Sight.{Sight, IsSightOf}
 use Rattle.cx_order.specs.Files.{Input, input_of}
 use Rattle.cx_order.specs.declared.ordered.Ordered.{Ordered}
 use Rattle.cx_order.proofs.OnlyPlan.{only, never-both}
@@ -30,7 +29,6 @@ use Rattle.cx_config.specs.declared.configuring.Configured.{Configured}
 use Rattle.cx_job.specs.Faults.{match_fault}
 use Rattle.cx_job.specs.Jobs.{job_of}
 use Rattle.cx_match.proofs.OnlyMatched.{all-same}
-use Rattle.cx_text.specs.Telling.{Stage, Then}
 use Rattle.cx_config.specs.Stages.{Is, unless, or_fault}
 use Rattle.cx_config.proofs.Settled.{Settled, same_fault, settled_is, then_settled}
 use Rattle.cx_job.specs.Making.{Orders, Matches, Accepts, LimitsAnd, ItemsAnd, OutputsAnd, PlanAnd, ValuesAnd, MadeOf, output_ids, within_limits, run_count, without_witness}

@@ -1,11 +1,10 @@
 -- Names that mean something, one more at a time, and the variables that they give.
-use Rattle.std.proofs.Common.{◌≡◌, refl, sym, ◌∙◌, ap, subst, ◌⊎◌, inl, inr, ℕ, zero, suc, ◌+◌, ◌<◌, ◌≤◌, ◌^◌, Bool, true, false, List, [], ◌∷◌, ◌++◌, map, length, take, drop, get_or, Option, None, Result, Ok, Err, arith}
+use Rattle.std.proofs.Common.{◌≡◌, refl, sym, ◌∙◌, ap, subst, ◌⊎◌, inl, inr, ℕ, suc, ◌+◌, ◌<◌, ◌^◌, Bool, true, false, List, [], ◌∷◌, ◌++◌, map, length, take, drop, get_or, Option, None, Result, Err, arith}
 use Rattle.std.specs.Prelude.{◌||◌, filter}
 use Rattle.std.specs.List.{list_any, enumerate_from, flat_map}
-use Rattle.std.proofs.lemmas.List.{append_assoc, append-nil, drop_more, get_or_default, map-append, length-append}
+use Rattle.std.proofs.lemmas.List.{drop_more, get_or_default, map-append, length-append}
 use Rattle.indexmap.proofs.SetLemmas.{filter_keep, filter_skip}
 use Rattle.cx_iface.specs.declared.tree.Group.{Group}
-use Rattle.cx_plan.specs.Lists.{with_others, with_next, all_ok}
 use Rattle.cx_plan.specs.declared.variable.VarInfo.{VarInfo}
 use Rattle.cx_scope.specs.declared.fault.ScopeFault.{ScopeFault}
 use Rattle.cx_scope.specs.declared.fault.ScopeFault.TheVariants.{Memory}

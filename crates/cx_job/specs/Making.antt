@@ -1,5 +1,5 @@
 -- The job that files make, or the first fault: stage after stage.
-use Rattle.std.specs.Prelude.{◌≡◌, ◌≢◌, ◌⊎◌, ℕ, List, [], ◌∷◌, map, take, length, codes, Option, Some, None, option_map, Result, Ok, Err, IsErrAnd, MatchResult}
+use Rattle.std.specs.Prelude.{◌≡◌, ◌≢◌, ◌⊎◌, ℕ, List, take, length, codes, None, option_map, Result, Ok, Err, IsErrAnd, MatchResult}
 use Rattle.std.specs.List.{flat_map}
 use Rattle.cx_parfile.specs.declared.settings.Setting.{Setting}
 use Rattle.cx_sched.specs.declared.tree.ScheduleFile.{ScheduleFile}
