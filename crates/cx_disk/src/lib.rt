@@ -3,6 +3,7 @@
 
 mod disk;
 mod folder_disk;
+mod fuse_disk;
 mod memory_disk;
 mod note;
 mod settle;
@@ -11,6 +12,7 @@ mod tests;
 
 pub use disk::{Disk, DiskFault};
 pub use folder_disk::FolderDisk;
+pub use fuse_disk::FuseDisk;
 pub use memory_disk::MemoryDisk;
 pub use note::{Change, Note};
 pub use settle::{put, trim};

@@ -3,6 +3,7 @@ ghost use Rattle.std.specs.Prelude.{◌≡◌, ◌≤◌, ◌<◌, ◌+◌, ◌+
 ghost use Rattle.cx_disk.specs.Disk.{Files, SameFiles};
 ghost use Rattle.cx_disk.specs.Memory.{fresh, noted, file_of, changed, view_of};
 ghost use Rattle.cx_disk.specs.MemoryLaws.{sound_of};
+ghost use Rattle.cx_disk.specs.declared.note.Change.TheVariants.{StoppedWrite, StoppedCut};
 
 use crate::{Change, Disk, DiskFault, Note};
 use cx_text::{List, Text};
@@ -96,6 +97,31 @@ impl MemoryDisk {
         self.notes.push(note)?;
         self.files[file] = Text::new(next);
         Ok(())
+    }
+
+    // Notes a write that was stopped.
+    pub(crate) fn stop_write(&mut self, file: u32, at: u64, bytes: &[u8]) -> Result<(), AllocError>
+        requires mounted { IsTrue self.old.mounted }
+        requires file { file < 9 }
+        ensures ok { OnOk result (self.new ≡ noted self.old (record { file = file; change = StoppedWrite at bytes.now })) }
+        ensures err { OnErr result (self.new ≡ self.old) }
+    {
+        let same = self.bytes(file as usize).to_vec(self.alloc)?;
+        let bytes = Text::new(bytes.to_vec(self.alloc)?);
+        let change = Change::StoppedWrite { at, bytes };
+        self.change(Note { file, change }, same)
+    }
+
+    // Notes a cut that was stopped.
+    pub(crate) fn stop_cut(&mut self, file: u32, to: u64) -> Result<(), AllocError>
+        requires mounted { IsTrue self.old.mounted }
+        requires file { file < 9 }
+        ensures ok { OnOk result (self.new ≡ noted self.old (record { file = file; change = StoppedCut to })) }
+        ensures err { OnErr result (self.new ≡ self.old) }
+    {
+        let same = self.bytes(file as usize).to_vec(self.alloc)?;
+        let change = Change::StoppedCut { to };
+        self.change(Note { file, change }, same)
     }
 }
 
