@@ -1,0 +1,35 @@
+//! What the first bytes of a slot say.
+ghost use Rattle.std.specs.Prelude.{◌≡◌, ◌<◌, ◌≤◌, length, IsTrue, IfOk};
+ghost use Rattle.cx_disk.specs.Cause.{HasCause};
+ghost use Rattle.cx_disk.specs.Moments.{IsQuiet};
+ghost use Rattle.cx_chk.specs.Slots.{header_of};
+
+use cx_disk::{Disk, DiskFault};
+
+// The bytes that an open slot has at least: the gate, the format and the iteration.
+const HEADER: u64 = 17;
+
+// The iteration of a slot, if it is open.
+pub fn header<D: Disk>(disk: &mut D, slot: u32) -> Result<Option<u64>, DiskFault>
+    requires mounted { IsTrue (D.mounted disk.old) }
+    requires file { slot < D.file_count disk.old }
+    ensures value { D.tells → IfOk result (λ found. found ≡ header_of ((D.view disk.old).seen slot)) }
+    ensures quiet { D.tells → IsQuiet (D.view disk.old) (D.view disk.new) }
+    ensures mounted { IsTrue (D.mounted disk.new) }
+    ensures folders { D.folders disk.new ≡ D.folders disk.old }
+    ensures count { D.file_count disk.new ≡ D.file_count disk.old }
+    ensures cause { HasCause DiskFault.Failed (D.faults disk.old) (D.faults disk.new) result }
+{
+    let count = disk.length(slot)?;
+    if count < HEADER {
+        return Ok(None);
+    }
+    let mut gate = [0; 1];
+    disk.read(slot, 0, &mut gate)?;
+    if gate[0] != 1 {
+        return Ok(None);
+    }
+    let mut number = [0; 8];
+    disk.read(slot, 9, &mut number)?;
+    Ok(Some(u64::from_be_bytes(number)))
+}

@@ -1,0 +1,127 @@
+//! Saving to the slots, and closing them.
+ghost use Rattle.std.specs.Prelude.{◌≡◌, ◌<◌, ◌≤◌, ◌^◌, ◌⊎◌, ◌∷◌, ℕ, Option, None, length, IsTrue, IfOk, IfSome, OnOk};
+ghost use Rattle.cx_disk.specs.Disk.{IsSettled};
+ghost use Rattle.cx_disk.specs.Cause.{HasCause};
+ghost use Rattle.cx_disk.specs.Moments.{IsQuiet};
+ghost use Rattle.cx_chk.specs.Encoding.{IsCheckpoint};
+ghost use Rattle.cx_chk.specs.Slots.{slot_count, header_of, IsNewestIn, NoneOpen, SlotsSettled, OutputsSame};
+ghost use Rattle.cx_chk.specs.Slots.{Closes, Replaces, IsSaving, IsSaved, ClosesSlots, LeavesClosing};
+
+use crate::Checkpoint;
+use crate::choose::{SLOTS, newest, next};
+use crate::header::header;
+use crate::steps::{fill, open, shut};
+use crate::writing::encode;
+use cx_disk::{Disk, DiskFault, put, trim};
+use std::alloc::Global;
+
+/// The eight slots of a disk: its files 0 to 7. A slot is open where it has at least 17 bytes and the first is 1.
+pub struct Slots;
+
+// Closes a slot, writes a body behind its gate, and opens it.
+fn save_in<D: Disk>(disk: &mut D, slot: u32, body: &[u8]) -> Result<(), DiskFault>
+    requires mounted { IsTrue (D.mounted disk.old) }
+    requires file { slot < D.file_count disk.old }
+    requires settled { D.tells → IsSettled (D.view disk.old) slot }
+    ensures after { D.tells → Replaces slot (1 ∷ body.now) (D.view disk.old) (D.view disk.new) }
+    ensures settled { D.tells → OnOk result (IsSettled (D.view disk.new) slot) }
+    ensures seen { D.tells → OnOk result ((D.view disk.new).seen slot ≡ 1 ∷ body.now) }
+    ensures mounted { IsTrue (D.mounted disk.new) }
+    ensures folders { D.folders disk.new ≡ D.folders disk.old }
+    ensures count { D.file_count disk.new ≡ D.file_count disk.old }
+    ensures cause { HasCause DiskFault.Failed (D.faults disk.old) (D.faults disk.new) result }
+{
+    shut(disk, slot)?;
+    fill(disk, slot, body)?;
+    open(disk, slot, body)
+}
+
+// Closes a slot, whatever it holds.
+fn close<D: Disk>(disk: &mut D, slot: u32) -> Result<(), DiskFault>
+    requires mounted { IsTrue (D.mounted disk.old) }
+    requires file { slot < D.file_count disk.old }
+    requires settled { D.tells → IsSettled (D.view disk.old) slot }
+    ensures after { D.tells → Closes slot (D.view disk.old) (D.view disk.new) }
+    ensures settled { D.tells → OnOk result (IsSettled (D.view disk.new) slot) }
+    ensures closed { D.tells → OnOk result (header_of ((D.view disk.new).seen slot) ≡ None) }
+    ensures mounted { IsTrue (D.mounted disk.new) }
+    ensures folders { D.folders disk.new ≡ D.folders disk.old }
+    ensures count { D.file_count disk.new ≡ D.file_count disk.old }
+    ensures cause { HasCause DiskFault.Failed (D.faults disk.old) (D.faults disk.new) result }
+{
+    match header(disk, slot)? {
+        Some(_) => put(disk, slot, 0, &[0]),
+        None => trim(disk, slot, 0),
+    }
+}
+
+impl Slots {
+    /// The newest open slot and its iteration, of equally new ones the first; None where none is open.
+    ///
+    /// `Failed`: the device failed.
+    pub fn newest<D: Disk>(disk: &mut D) -> Result<Option<(u32, u64)>, DiskFault>
+        requires mounted { IsTrue (D.mounted disk.old) }
+        requires files { slot_count ≤ D.file_count disk.old }
+        ensures newest { D.tells → IfOk result (IsNewestIn (D.view disk.old).seen) }
+        ensures known { IfOk result (λ found. IfSome found (λ f. f.0 < slot_count)) }
+        ensures quiet { D.tells → IsQuiet (D.view disk.old) (D.view disk.new) }
+        ensures mounted { IsTrue (D.mounted disk.new) }
+        ensures folders { D.folders disk.new ≡ D.folders disk.old }
+        ensures count { D.file_count disk.new ≡ D.file_count disk.old }
+        ensures cause { HasCause DiskFault.Failed (D.faults disk.old) (D.faults disk.new) result }
+    {
+        newest(disk)
+    }
+
+    /// Saves a checkpoint to the first of the slots 0 to `keep` that isn't open, else to the oldest of them, the least
+    /// number at a tie. At each moment the slot is as it was, or closed, or has the checkpoint, and no other changes.
+    ///
+    /// `Failed`: the device failed, and the slot may be left closed. So it may after `Memory`.
+    pub fn save<D: Disk>(
+        alloc: Global,
+        disk: &mut D,
+        keep: u32,
+        c: &Checkpoint,
+    ) -> Result<(), DiskFault>
+        requires mounted { IsTrue (D.mounted disk.old) }
+        requires files { slot_count ≤ D.file_count disk.old }
+        requires keep { (1 ≤ keep) × (keep < slot_count) }
+        requires fits { IsCheckpoint c.now }
+        requires settled { D.tells → SlotsSettled (D.view disk.old) }
+        ensures moments { D.tells → IsSaving keep c.now (D.view disk.old) (D.view disk.new) }
+        ensures saved { D.tells → OnOk result (IsSaved keep c.now (D.view disk.old) (D.view disk.new)) }
+        ensures mounted { IsTrue (D.mounted disk.new) }
+        ensures folders { D.folders disk.new ≡ D.folders disk.old }
+        ensures count { D.file_count disk.new ≡ D.file_count disk.old }
+        ensures cause { HasCause DiskFault.Failed (D.faults disk.old) (D.faults disk.new) result }
+    {
+        let slot = next(disk, keep)?;
+        let Ok(bytes) = encode(alloc, c) else {
+            return Err(DiskFault::Memory);
+        };
+        save_in(disk, slot, &bytes.as_slice()[1..])
+    }
+
+    /// Closes all slots. At each moment each is as it was or closed.
+    ///
+    /// `Failed`: the device failed, and some may be left open. So they may after `Memory`.
+    pub fn close_all<D: Disk>(disk: &mut D) -> Result<(), DiskFault>
+        requires mounted { IsTrue (D.mounted disk.old) }
+        requires files { slot_count ≤ D.file_count disk.old }
+        requires settled { D.tells → SlotsSettled (D.view disk.old) }
+        ensures crash { D.tells → ClosesSlots (D.view disk.old) (D.view disk.new) }
+        ensures moments { D.tells → LeavesClosing (D.view disk.old) (D.view disk.new) }
+        ensures seen { D.tells → OutputsSame (D.view disk.old).seen (D.view disk.new).seen }
+        ensures closed { D.tells → OnOk result (NoneOpen (D.view disk.new).seen) }
+        ensures settled { D.tells → OnOk result (SlotsSettled (D.view disk.new)) }
+        ensures mounted { IsTrue (D.mounted disk.new) }
+        ensures folders { D.folders disk.new ≡ D.folders disk.old }
+        ensures count { D.file_count disk.new ≡ D.file_count disk.old }
+        ensures cause { HasCause DiskFault.Failed (D.faults disk.old) (D.faults disk.new) result }
+    {
+        'each: for slot in 0..SLOTS {
+            close(disk, slot)?;
+        }
+        Ok(())
+    }
+}
