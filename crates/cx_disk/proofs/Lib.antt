@@ -1,4 +1,5 @@
 pub mod Files
+pub mod Tearing
 pub mod Memory
 pub mod Moments
 mod Rows

@@ -11,7 +11,7 @@ use Rattle.cx_disk.specs.declared.note.Change.{Change}
 use Rattle.cx_disk.specs.declared.note.Change.TheVariants.{Synced}
 use Rattle.cx_disk.specs.declared.note.Note.{Note}
 
-replay_more : (base : Files) (notes : List Note) (n : Note) → replay base (notes ++ n ∷ []) ≡ after_note n (replay base notes)
+pub replay_more : (base : Files) (notes : List Note) (n : Note) → replay base (notes ++ n ∷ []) ≡ after_note n (replay base notes)
 replay_more base [] n = refl
 replay_more base (m ∷ notes) n = replay_more (after_note m base) notes n
 
@@ -19,7 +19,7 @@ images_more : (seen : Files) (images : Files → Type 0) (notes : List Note) (n 
 images_more seen images [] n c h = h
 images_more seen images (m ∷ notes) n c h = images_more (after_note m seen) (left_by m.change m.file seen images) notes n c h
 
-more_images : (seen : Files) (images : Files → Type 0) (notes : List Note) (n : Note) (c : Files) → left_by n.change n.file (replay seen notes) (images_from seen images notes) c → images_from seen images (notes ++ n ∷ []) c
+pub more_images : (seen : Files) (images : Files → Type 0) (notes : List Note) (n : Note) (c : Files) → left_by n.change n.file (replay seen notes) (images_from seen images notes) c → images_from seen images (notes ++ n ∷ []) c
 more_images seen images [] n c h = h
 more_images seen images (m ∷ notes) n c h = more_images (after_note m seen) (left_by m.change m.file seen images) notes n c h
 

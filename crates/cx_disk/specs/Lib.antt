@@ -4,3 +4,4 @@ pub mod Moments
 pub mod Memory
 pub mod Folder
 pub mod MemoryLaws
+pub mod Image

@@ -1,10 +1,11 @@
 //! A disk in memory that fails from some call on.
-ghost use Rattle.std.specs.Prelude.{◌≡◌, ◌≤◌, ◌+◌, ◌-◌, ◌^◌, Bool, false, min};
+ghost use Rattle.std.specs.Prelude.{◌≡◌, ◌≤◌, ◌+◌, ◌-◌, ◌^◌, Bool, false, min, IfOk};
+ghost use Rattle.cx_disk.specs.Image.{IsImageOf};
 ghost use Rattle.cx_disk.specs.Memory.{view_of};
 ghost use Rattle.cx_disk.specs.MemoryLaws.{sound_of};
 
 use crate::{Disk, DiskFault, MemoryDisk};
-use cx_text::Text;
+use cx_text::{Memory, Text};
 
 /// A disk in memory that passes so many calls, and then fails every call. A write or a cut that fails leaves the files as
 /// they read, and is noted as stopped.
@@ -27,6 +28,14 @@ impl FuseDisk {
             calls,
             faults: 0,
         }
+    }
+
+    /// A disk that isn't mounted, of files that a crash may leave now: what isn't settled is left in part, by the choice.
+    /// Choice 0 leaves nothing of it, and 1 all of it.
+    pub fn into_image(self, choice: u64) -> Result<MemoryDisk, Memory>
+        ensures image { IfOk result (IsImageOf (view_of self.disk)) }
+    {
+        Ok(self.disk.image(choice)?)
     }
 }
 

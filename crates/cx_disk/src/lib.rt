@@ -4,6 +4,7 @@
 mod disk;
 mod folder_disk;
 mod fuse_disk;
+mod image;
 mod memory_disk;
 mod note;
 mod settle;

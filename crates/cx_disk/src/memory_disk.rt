@@ -1,10 +1,12 @@
 //! A disk in memory.
 ghost use Rattle.std.specs.Prelude.{◌≡◌, ◌≤◌, ◌<◌, ◌+◌, ◌++◌, ℕ, length, take, drop, vec_len, IsTrue, OnOk, OnErr, IfOk, true, false};
 ghost use Rattle.cx_disk.specs.Disk.{Files, SameFiles};
+ghost use Rattle.cx_disk.specs.Image.{IsImageOf};
 ghost use Rattle.cx_disk.specs.Memory.{fresh, noted, file_of, changed, view_of};
 ghost use Rattle.cx_disk.specs.MemoryLaws.{sound_of};
 ghost use Rattle.cx_disk.specs.declared.note.Change.TheVariants.{StoppedWrite, StoppedCut};
 
+use crate::image::image_of;
 use crate::{Change, Disk, DiskFault, Note};
 use cx_text::{List, Text};
 use std::alloc::{AllocError, Global};
@@ -71,6 +73,14 @@ impl MemoryDisk {
         }
     }
 
+    // A disk that isn't mounted, of one of the images that a crash may leave of this one, by a choice.
+    pub(crate) fn image(&self, choice: u64) -> Result<MemoryDisk, AllocError>
+        ensures { IfOk result (IsImageOf (view_of self.now)) }
+    {
+        let files = image_of(self.alloc, self.first.as_slice(), &self.notes, choice)?;
+        Ok(MemoryDisk::new(self.alloc, List::new(files)))
+    }
+
     // Keeps the files as they read, from the first mount on.
     fn keep_files(&mut self) -> Result<(), AllocError>
         ensures mounted { OnOk result (self.new ≡ record self.old { mounted = true }) }
@@ -78,7 +88,7 @@ impl MemoryDisk {
     {
         if !self.mounted {
             let mut files = copied(self.alloc, self.first.as_slice())?;
-            fill(self.alloc, &mut files)?;
+            fill(self.alloc, &mut files, FILES)?;
             self.files = files;
             self.mounted = true;
         }
@@ -126,7 +136,7 @@ impl MemoryDisk {
 }
 
 // The bytes of a file of a list.
-fn bytes_of(files: &[Text], file: usize) -> &[u8]
+pub(crate) fn bytes_of(files: &[Text], file: usize) -> &[u8]
     ensures { result.now ≡ file_of files.now file }
 {
     match files.get(file) {
@@ -136,7 +146,7 @@ fn bytes_of(files: &[Text], file: usize) -> &[u8]
 }
 
 // The same files.
-fn copied(alloc: Global, files: &[Text]) -> Result<Vec<Text>, AllocError>
+pub(crate) fn copied(alloc: Global, files: &[Text]) -> Result<Vec<Text>, AllocError>
     ensures { IfOk result (λ copy. copy.items ≡ files.now) }
 {
     let mut copy = Vec::new(alloc);
@@ -146,13 +156,13 @@ fn copied(alloc: Global, files: &[Text]) -> Result<Vec<Text>, AllocError>
     Ok(copy)
 }
 
-// Adds empty files up to the last.
+// Adds empty files up to so many.
 #[tactic(auto, using(crate::proofs::Files::empty_file))]
-fn fill(alloc: Global, files: &mut Vec<Text>) -> Result<(), AllocError>
-    ensures all { OnOk result (9 ≤ vec_len files.new) }
+pub(crate) fn fill(alloc: Global, files: &mut Vec<Text>, count: usize) -> Result<(), AllocError>
+    ensures all { OnOk result (count ≤ vec_len files.new) }
     ensures same { SameFiles (file_of files.old.items) (file_of files.new.items) }
 {
-    'grow: while files.len() < FILES {
+    'grow: while files.len() < count {
         files.push(Text::new(Vec::new(alloc)))?;
     }
     Ok(())

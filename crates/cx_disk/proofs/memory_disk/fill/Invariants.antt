@@ -7,4 +7,4 @@ abbrev pub invariant-grow : goal.invariant-grow
 invariant-grow l = SameFiles (file_of l.initial.files.items) (file_of l.files.items)
 
 abbrev pub decreases-grow : goal.decreases-grow
-decreases-grow l = 9 - vec_len l.files
+decreases-grow l = l.count - vec_len l.files
