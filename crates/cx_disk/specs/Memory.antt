@@ -20,6 +20,13 @@ fresh files = record { mounted = false; folders = no_folders; first = files; not
 abbrev pub noted : History → Note → History
 noted disk note = record disk { notes = disk.notes ++ note ∷ [] }
 
+-- A write and a cut that were stopped.
+abbrev pub stopped_write : ℕ → ℕ → List ℕ → Note
+stopped_write file at bytes = record { file = file; change = StoppedWrite at bytes }
+
+abbrev pub stopped_cut : ℕ → ℕ → Note
+stopped_cut file to = record { file = file; change = StoppedCut to }
+
 -- A file of a list of files. One that isn't there is empty.
 abbrev pub file_of : List (List ℕ) → Files
 file_of files file = slice_index_or files file []

@@ -98,7 +98,8 @@ pub trait Disk {
         requires mounted { IsTrue (mounted self.old) }
         requires file { file < file_count self.old }
         requires range { tells → at + length into.old ≤ length ((view self.old).seen file) }
-        ensures read { tells → OnOk result (into.new ≡ slice_range ((view self.old).seen file) at (at + length into.old)) }
+        ensures read { tells → OnOk result
+            (into.new ≡ slice_range ((view self.old).seen file) at (at + length into.old)) }
         ensures mounted { IsTrue (mounted self.new) }
         ensures folders { folders self.new ≡ folders self.old }
         ensures count { file_count self.new ≡ file_count self.old }
@@ -116,13 +117,16 @@ pub trait Disk {
         requires mounted { IsTrue (mounted self.old) }
         requires file { file < file_count self.old }
         requires start { tells → at ≤ length ((view self.old).seen file) }
-        ensures written { tells → OnOk result (Holds at bytes.now ((view self.old).seen file) ((view self.new).seen file)) }
-        ensures stopped { tells → OnErr result (Torn at (length bytes.now) ((view self.old).seen file) ((view self.new).seen file)) }
+        ensures written { tells → OnOk result
+            (Holds at bytes.now ((view self.old).seen file) ((view self.new).seen file)) }
+        ensures stopped { tells → OnErr result
+            (Torn at (length bytes.now) ((view self.old).seen file) ((view self.new).seen file)) }
         ensures others { tells → OthersSame file (view self.old).seen (view self.new).seen }
         ensures mounted { IsTrue (mounted self.new) }
         ensures folders { folders self.new ≡ folders self.old }
         ensures count { file_count self.new ≡ file_count self.old }
-        ensures after { tells → Passes (Changes (Torn at (length bytes.now)) file) (view self.old) (view self.new) }
+        ensures after { tells →
+            Passes (Changes (Torn at (length bytes.now)) file) (view self.old) (view self.new) }
         ensures cause { HasCause DiskFault.Failed (faults self.old) (faults self.new) result };
 
     /// Cuts a file to its first `to` bytes, of which it has at least so many. Until it is synced, a crash may leave more
@@ -134,13 +138,16 @@ pub trait Disk {
         requires mounted { IsTrue (mounted self.old) }
         requires file { file < file_count self.old }
         requires within { tells → to ≤ length ((view self.old).seen file) }
-        ensures cut { tells → OnOk result (Front to ((view self.old).seen file) ((view self.new).seen file)) }
-        ensures stopped { tells → OnErr result (CutShort to ((view self.old).seen file) ((view self.new).seen file)) }
+        ensures cut { tells → OnOk result
+            (Front to ((view self.old).seen file) ((view self.new).seen file)) }
+        ensures stopped { tells → OnErr result
+            (CutShort to ((view self.old).seen file) ((view self.new).seen file)) }
         ensures others { tells → OthersSame file (view self.old).seen (view self.new).seen }
         ensures mounted { IsTrue (mounted self.new) }
         ensures folders { folders self.new ≡ folders self.old }
         ensures count { file_count self.new ≡ file_count self.old }
-        ensures after { tells → Passes (Changes (CutShort to) file) (view self.old) (view self.new) }
+        ensures after { tells →
+            Passes (Changes (CutShort to) file) (view self.old) (view self.new) }
         ensures cause { HasCause DiskFault.Failed (faults self.old) (faults self.new) result };
 
     /// Settles a file: from now on, until it is changed again, a crash leaves it as it reads.

@@ -89,7 +89,8 @@ fn spliced(
     end: usize,
 ) -> Result<Vec<u8>, AllocError>
     requires { start ≤ length bytes.now }
-    ensures { IfOk result (λ all. all.items ≡ take start bytes.now ++ new.now ++ drop end bytes.now) }
+    ensures { IfOk result
+        (λ all. all.items ≡ take start bytes.now ++ new.now ++ drop end bytes.now) }
 {
     let mut all = bytes[..start].to_vec(alloc)?;
     all.extend_from_slice(new)?;
@@ -100,8 +101,9 @@ fn spliced(
 }
 
 // The bytes of a file after a write.
-fn written(alloc: Global, old: &[u8], at: u64, new: &[u8]) -> Result<Vec<u8>, AllocError>
-    ensures { IfOk result (λ all. all.items ≡ take at old.now ++ new.now ++ drop (at + length new.now) old.now) }
+pub(crate) fn written(alloc: Global, old: &[u8], at: u64, new: &[u8]) -> Result<Vec<u8>, AllocError>
+    ensures { IfOk result
+        (λ all. all.items ≡ take at old.now ++ new.now ++ drop (at + length new.now) old.now) }
 {
     let at = at as usize;
     spliced(
@@ -182,7 +184,8 @@ fn set_bytes(
     bytes: Vec<u8>,
 ) -> Result<(), AllocError>
     requires { file < 2 ^ 32 }
-    ensures { OnOk result (HasFile file bytes.items (file_of files.old.items) (file_of files.new.items)) }
+    ensures { OnOk result
+        (HasFile file bytes.items (file_of files.old.items) (file_of files.new.items)) }
 {
     fill(alloc, files, file + 1)?;
     files[file] = Text::new(bytes);
@@ -225,7 +228,8 @@ fn follow(
     note: &Note,
     seed: u64,
 ) -> Result<(), AllocError>
-    ensures { OnOk result (FollowsIn note.now files.old.items image.old.items files.new.items image.new.items) }
+    ensures { OnOk result
+        (FollowsIn note.now files.old.items image.old.items files.new.items image.new.items) }
 {
     redo(alloc, files, note)?;
     if is_sync(&note.change) {

@@ -8,8 +8,6 @@ mod image;
 mod memory_disk;
 mod note;
 mod settle;
-#[cfg(test)]
-mod tests;
 
 pub use disk::{Disk, DiskFault};
 pub use folder_disk::FolderDisk;

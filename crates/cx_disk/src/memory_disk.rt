@@ -2,11 +2,10 @@
 ghost use Rattle.std.specs.Prelude.{◌≡◌, ◌≤◌, ◌<◌, ◌+◌, ◌++◌, ℕ, length, take, drop, vec_len, IsTrue, OnOk, OnErr, IfOk, true, false};
 ghost use Rattle.cx_disk.specs.Disk.{Files, SameFiles};
 ghost use Rattle.cx_disk.specs.Image.{IsImageOf};
-ghost use Rattle.cx_disk.specs.Memory.{fresh, noted, file_of, changed, view_of};
+ghost use Rattle.cx_disk.specs.Memory.{fresh, noted, stopped_write, stopped_cut, file_of, changed, view_of};
 ghost use Rattle.cx_disk.specs.MemoryLaws.{sound_of};
-ghost use Rattle.cx_disk.specs.declared.note.Change.TheVariants.{StoppedWrite, StoppedCut};
 
-use crate::image::image_of;
+use crate::image::{image_of, written};
 use crate::{Change, Disk, DiskFault, Note};
 use cx_text::{List, Text};
 use std::alloc::{AllocError, Global};
@@ -113,7 +112,8 @@ impl MemoryDisk {
     pub(crate) fn stop_write(&mut self, file: u32, at: u64, bytes: &[u8]) -> Result<(), AllocError>
         requires mounted { IsTrue self.old.mounted }
         requires file { file < 9 }
-        ensures ok { OnOk result (self.new ≡ noted self.old (record { file = file; change = StoppedWrite at bytes.now })) }
+        ensures ok { OnOk result
+            (self.new ≡ noted self.old (stopped_write file at bytes.now)) }
         ensures err { OnErr result (self.new ≡ self.old) }
     {
         let same = self.bytes(file as usize).to_vec(self.alloc)?;
@@ -126,7 +126,8 @@ impl MemoryDisk {
     pub(crate) fn stop_cut(&mut self, file: u32, to: u64) -> Result<(), AllocError>
         requires mounted { IsTrue self.old.mounted }
         requires file { file < 9 }
-        ensures ok { OnOk result (self.new ≡ noted self.old (record { file = file; change = StoppedCut to })) }
+        ensures ok { OnOk result
+            (self.new ≡ noted self.old (stopped_cut file to)) }
         ensures err { OnErr result (self.new ≡ self.old) }
     {
         let same = self.bytes(file as usize).to_vec(self.alloc)?;
@@ -168,19 +169,6 @@ pub(crate) fn fill(alloc: Global, files: &mut Vec<Text>, count: usize) -> Result
     Ok(())
 }
 
-// The bytes with others written over what is there, and past the end.
-fn written_over(alloc: Global, bytes: &[u8], at: usize, new: &[u8]) -> Result<Vec<u8>, AllocError>
-    requires { at ≤ length bytes.now }
-    ensures { IfOk result (λ all. all.items ≡ take at bytes.now ++ new.now ++ drop (at + length new.now) bytes.now) }
-{
-    let mut all = bytes[..at].to_vec(alloc)?;
-    all.extend_from_slice(new)?;
-    if new.len() < bytes.len() - at {
-        all.extend_from_slice(&bytes[at + new.len()..])?;
-    }
-    Ok(all)
-}
-
 impl Disk for MemoryDisk {
     ghost tells = { Unit {0} };
 
@@ -217,7 +205,7 @@ impl Disk for MemoryDisk {
     }
 
     fn write_at(&mut self, file: u32, at: u64, bytes: &[u8]) -> Result<(), DiskFault> {
-        let next = written_over(self.alloc, self.bytes(file as usize), at as usize, bytes)?;
+        let next = written(self.alloc, self.bytes(file as usize), at, bytes)?;
         let bytes = Text::new(bytes.to_vec(self.alloc)?);
         let change = Change::Wrote { at, bytes };
         Ok(self.change(Note { file, change }, next)?)

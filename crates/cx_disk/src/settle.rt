@@ -14,8 +14,10 @@ pub fn put<D: Disk>(disk: &mut D, file: u32, at: u64, bytes: &[u8]) -> Result<()
     requires mounted { IsTrue (D.mounted disk.old) }
     requires file { file < D.file_count disk.old }
     requires start { D.tells → at ≤ length ((D.view disk.old).seen file) }
-    ensures done { D.tells → OnOk result (IsDone (Holds at bytes.now) file (D.view disk.old) (D.view disk.new)) }
-    ensures after { D.tells → Stepped (Torn at (length bytes.now)) file (D.view disk.old) (D.view disk.new) }
+    ensures done { D.tells → OnOk result
+        (IsDone (Holds at bytes.now) file (D.view disk.old) (D.view disk.new)) }
+    ensures after { D.tells →
+        Stepped (Torn at (length bytes.now)) file (D.view disk.old) (D.view disk.new) }
     ensures mounted { IsTrue (D.mounted disk.new) }
     ensures folders { D.folders disk.new ≡ D.folders disk.old }
     ensures count { D.file_count disk.new ≡ D.file_count disk.old }
@@ -33,7 +35,8 @@ pub fn trim<D: Disk>(disk: &mut D, file: u32, to: u64) -> Result<(), DiskFault>
     requires mounted { IsTrue (D.mounted disk.old) }
     requires file { file < D.file_count disk.old }
     requires within { D.tells → to ≤ length ((D.view disk.old).seen file) }
-    ensures done { D.tells → OnOk result (IsDone (Front to) file (D.view disk.old) (D.view disk.new)) }
+    ensures done { D.tells → OnOk result
+        (IsDone (Front to) file (D.view disk.old) (D.view disk.new)) }
     ensures after { D.tells → Stepped (CutShort to) file (D.view disk.old) (D.view disk.new) }
     ensures mounted { IsTrue (D.mounted disk.new) }
     ensures folders { D.folders disk.new ≡ D.folders disk.old }
