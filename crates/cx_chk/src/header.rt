@@ -13,7 +13,8 @@ const HEADER: u64 = 17;
 pub fn header<D: Disk>(disk: &mut D, slot: u32) -> Result<Option<u64>, DiskFault>
     requires mounted { IsTrue (D.mounted disk.old) }
     requires file { slot < D.file_count disk.old }
-    ensures value { D.tells → IfOk result (λ found. found ≡ header_of ((D.view disk.old).seen slot)) }
+    ensures value { D.tells → IfOk result
+        (λ found. found ≡ header_of ((D.view disk.old).seen slot)) }
     ensures quiet { D.tells → IsQuiet (D.view disk.old) (D.view disk.new) }
     ensures mounted { IsTrue (D.mounted disk.new) }
     ensures folders { D.folders disk.new ≡ D.folders disk.old }

@@ -89,7 +89,8 @@ impl Slots {
         requires fits { IsCheckpoint c.now }
         requires settled { D.tells → SlotsSettled (D.view disk.old) }
         ensures moments { D.tells → IsSaving keep c.now (D.view disk.old) (D.view disk.new) }
-        ensures saved { D.tells → OnOk result (IsSaved keep c.now (D.view disk.old) (D.view disk.new)) }
+        ensures saved { D.tells → OnOk result
+            (IsSaved keep c.now (D.view disk.old) (D.view disk.new)) }
         ensures mounted { IsTrue (D.mounted disk.new) }
         ensures folders { D.folders disk.new ≡ D.folders disk.old }
         ensures count { D.file_count disk.new ≡ D.file_count disk.old }

@@ -82,7 +82,8 @@ pub trait Disk {
     fn length(&mut self, file: u32) -> Result<u64, DiskFault>
         requires mounted { IsTrue (mounted self.old) }
         requires file { file < file_count self.old }
-        ensures length { tells → IfOk result (λ count. count ≡ length ((view self.old).seen file)) }
+        ensures length { tells → IfOk result
+            (λ count. count ≡ length ((view self.old).seen file)) }
         ensures mounted { IsTrue (mounted self.new) }
         ensures folders { folders self.new ≡ folders self.old }
         ensures count { file_count self.new ≡ file_count self.old }

@@ -48,7 +48,8 @@ impl MemoryDisk {
     pub fn new(alloc: Global, files: List<Text>) -> Self
         ensures unmounted { result ≡ fresh files }
         ensures reads { SameFiles (file_of files) (view_of result).seen }
-        ensures only_image { (c : Files) → (view_of result).images c → SameFiles (file_of files) c }
+        ensures only_image { (c : Files) → (view_of result).images c
+            → SameFiles (file_of files) c }
     {
         MemoryDisk {
             alloc,
