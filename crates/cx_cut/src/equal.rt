@@ -1,5 +1,6 @@
 //! An equal cut of a direction.
 ghost use Rattle.std.specs.Prelude.{◌≡◌, ◌≤◌, IfOk};
+ghost use Rattle.cx_cut.specs.Axis.{sum_of};
 ghost use Rattle.cx_cut.specs.Equal.{even_width, even};
 
 use cx_text::{List, Memory};
@@ -26,7 +27,8 @@ fn width_of(points: u32, parts: u32, part: u32) -> u32
 /// `Memory` where memory is wanting.
 pub fn even(alloc: Global, points: u32, parts: u32) -> Result<List<u32>, Memory>
     requires { 1 ≤ parts }
-    ensures { IfOk result (λ widths. widths ≡ even points parts) }
+    ensures value { IfOk result (λ widths. widths ≡ even points parts) }
+    ensures total { IfOk result (λ widths. sum_of widths ≡ points) }
 {
     let mut widths = List::empty(alloc);
     'parts: for part in 0..parts {
