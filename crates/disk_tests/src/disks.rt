@@ -1,4 +1,6 @@
-use crate::{Disk, DiskFault, FolderDisk, MemoryDisk, put, trim};
+//! Disks in memory and in folders, whose files read as they were written.
+
+use cx_disk::{Disk, DiskFault, FolderDisk, MemoryDisk, put, trim};
 use cx_text::{List, Text};
 use std::fs;
 use std::test::Fail;

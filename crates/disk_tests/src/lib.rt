@@ -1,0 +1,5 @@
+//! Tests of disks.
+#![tactic(auto)]
+
+#[cfg(test)]
+mod disks;
