@@ -10,6 +10,4 @@ mod faults;
 #[cfg(test)]
 mod jobs;
 #[cfg(test)]
-mod operations;
-#[cfg(test)]
 mod samples;
