@@ -1,0 +1,322 @@
+//! Thorns by their files, selected and bound, and the faults of thorns that don't fit each other.
+
+use crate::common::{Files, text, thorns};
+use cx_bind::{BindFault, bind, select};
+use cx_conf::read_thornlist;
+use cx_text::{List, Style, Text, tokens};
+use std::alloc::Global;
+use std::test::Fail;
+
+const ELEMCA: Files = (
+    b"ElemCA",
+    br#"implements: ca
+public:
+CCTK_BYTE cells TYPE=GF DIM=1 { cell } "cells"
+CCTK_INT counts TYPE=SCALAR { live } "live cells"
+"#,
+    br#"restricted:
+INT rule "Wolfram's number" { 0:255 :: "any" } 90
+INT start "the one cell" { 0:* :: "place" } 0
+INT seed "random start" { -1 :: "one cell" 0:* :: "mixed" } -1
+"#,
+    b"",
+);
+
+/// The parameters of a field of whole numbers.
+const FIELD: &[u8] = br#"restricted:
+INT factor "in 256ths" { 0:* :: "" } 64
+KEYWORD pattern "start" { "point" "uniform" "alternate" "random" } "point"
+INT amount "height" { *:* :: "" } 8
+INT start "place" { 0:* :: "" } 0
+INT seed "mixing" { 0:* :: "" } 0
+INT edge "boundary value" { *:* :: "" } 0
+BOOLEAN sum "print the sum" { } "no"
+"#;
+
+const WAVE: Files = (
+    b"WaveInt",
+    br#"implements: wave
+public:
+CCTK_INT evolved TYPE=GF DIM=1 TIMELEVELS=3 { phi } "field"
+CCTK_INT sums TYPE=SCALAR { total } "sum"
+"#,
+    FIELD,
+    b"",
+);
+
+const HEAT: Files = (
+    b"DiffInt",
+    br#"implements: diff
+public:
+CCTK_INT evolved TYPE=GF DIM=1 { u } "field"
+CCTK_INT sums TYPE=SCALAR { total } "sum"
+"#,
+    FIELD,
+    b"",
+);
+
+const LIFE: Files = (
+    b"Life2D",
+    br#"implements: life
+public:
+CCTK_BYTE cells TYPE=GF DIM=2 { cell } "cells"
+CCTK_INT counts TYPE=SCALAR { live } "live cells"
+"#,
+    br#"restricted:
+INT born { 0:511 } 8
+INT survive { 0:511 } 12
+KEYWORD pattern { "glider" "random" } "glider"
+INT seed { 0:* } 0
+"#,
+    b"",
+);
+
+const CONTROL: Files = (
+    b"Control",
+    b"implements: control\npublic:\nCCTK_INT counter TYPE=SCALAR { count } \"turns left\"\n",
+    b"restricted:\nINT turns { 0:* } 3\nINT drop { 0:* } 1\n",
+    b"",
+);
+
+/// Thorns, and the words of their fault, or nothing where they are bound.
+const BINDINGS: &[(&[Files], &str)] = &[
+    (&[ELEMCA, WAVE, HEAT, CONTROL], ""),
+    (&[LIFE, CONTROL], ""),
+    (&[ELEMCA, LIFE], "TwoDims ca::cells life::cells"),
+    // a public variable through an ancestor's ancestor
+    (
+        &[
+            (b"Top", b"implements: top\npublic:\nINT g { v }\n", b"", b""),
+            (b"Mid", b"implements: mid\ninherits: TOP\n", b"", b""),
+            (b"Low", b"implements: low\ninherits: mid\n", b"", b""),
+        ],
+        "",
+    ),
+    (
+        &[ELEMCA, (b"Other", b"implements: CA\n", b"", b"")],
+        "TwoProviders ca ElemCA Other",
+    ),
+    (
+        &[(b"Other", b"implements: Driver\n", b"", b"")],
+        "TwoProviders driver PUGH Other",
+    ),
+    (
+        &[(b"Low", b"implements: low\ninherits: mid\n", b"", b"")],
+        "MissingImplementation Low mid",
+    ),
+    (
+        &[(b"N", b"implements: n\n", b"", b"REQUIRES THORNS: Absent\n")],
+        "MissingThorn N Absent",
+    ),
+    (
+        &[(b"N", b"implements: n\n", b"", b"REQUIRES power\n")],
+        "MissingCapability N power",
+    ),
+    (
+        &[
+            ELEMCA,
+            (
+                b"E",
+                b"implements: e\n",
+                b"shares: ca\nEXTENDS KEYWORD absent { \"w\" }\n",
+                b"",
+            ),
+        ],
+        "NoParameter E ca absent",
+    ),
+    (
+        &[(
+            b"E",
+            b"implements: e\n",
+            b"shares: IO\nEXTENDS KEYWORD recover { \"w\" }\n",
+            b"",
+        )],
+        "NoParameter E IO recover",
+    ),
+    (
+        &[
+            ELEMCA,
+            (
+                b"E",
+                b"implements: e\n",
+                b"shares: ca\nUSES BOOLEAN rule\n",
+                b"",
+            ),
+        ],
+        "WrongType E rule",
+    ),
+    (
+        &[(
+            b"V",
+            b"implements: i\npublic:\nINT a { v w }\nINT b[2] { V }\nINT c { W }\n",
+            b"",
+            b"",
+        )],
+        "TwoVariables i::W",
+    ),
+    (
+        &[
+            (b"P", b"implements: p\n", b"global:\nINT n { } 1\n", b""),
+            (b"Q", b"implements: q\n", b"global:\nINT N { } 1\n", b""),
+        ],
+        "TwoParameters q::N",
+    ),
+    (
+        &[(b"R", b"implements: r\nCCTK_REAL g { v }\n", b"", b"")],
+        "Unsupported R g",
+    ),
+    (
+        &[(
+            b"D",
+            b"implements: d\nINT g TYPE=GF DIM=1\npublic:\nINT h TYPE=GF DIM=2\n",
+            b"",
+            b"",
+        )],
+        "TwoDims D::g d::h",
+    ),
+    (
+        &[(
+            b"M",
+            b"implements: m\nINT g[64] { a b c d }\nINT h\n",
+            b"",
+            b"",
+        )],
+        "Limit variables 257",
+    ),
+];
+
+fn push(words: &mut Text, text: &Text) -> Result<(), Fail> {
+    words.push_slice(b" ")?;
+    words.push_slice(text.as_slice())?;
+    Ok(())
+}
+
+fn of_two(alloc: Global, name: &[u8], a: &Text, b: &Text) -> Result<Text, Fail> {
+    let mut words = text(alloc, name)?;
+    push(&mut words, a)?;
+    push(&mut words, b)?;
+    Ok(words)
+}
+
+fn of_three(alloc: Global, name: &[u8], a: &Text, b: &Text, c: &Text) -> Result<Text, Fail> {
+    let mut words = of_two(alloc, name, a, b)?;
+    push(&mut words, c)?;
+    Ok(words)
+}
+
+fn of_one(alloc: Global, name: &[u8], a: &Text) -> Result<Text, Fail> {
+    let mut words = text(alloc, name)?;
+    push(&mut words, a)?;
+    Ok(words)
+}
+
+fn words(alloc: Global, fault: &BindFault) -> Result<Text, Fail> {
+    match fault {
+        BindFault::UnknownThorn(a) => of_one(alloc, b"UnknownThorn", a),
+        BindFault::TwoThorns(a) => of_one(alloc, b"TwoThorns", a),
+        BindFault::TwoProviders(a, b, c) => of_three(alloc, b"TwoProviders", a, b, c),
+        BindFault::MissingImplementation(a, b) => of_two(alloc, b"MissingImplementation", a, b),
+        BindFault::MissingCapability(a, b) => of_two(alloc, b"MissingCapability", a, b),
+        BindFault::MissingThorn(a, b) => of_two(alloc, b"MissingThorn", a, b),
+        BindFault::NoParameter(a, b, c) => of_three(alloc, b"NoParameter", a, b, c),
+        BindFault::WrongType(a, b) => of_two(alloc, b"WrongType", a, b),
+        BindFault::TwoVariables(a) => of_one(alloc, b"TwoVariables", a),
+        BindFault::TwoParameters(a) => of_one(alloc, b"TwoParameters", a),
+        BindFault::Unsupported(a, b) => of_two(alloc, b"Unsupported", a, b),
+        BindFault::TwoDims(a, b) => of_two(alloc, b"TwoDims", a, b),
+        BindFault::Limit(a, n) => {
+            let number = text(alloc, n.to_string(alloc)?.as_bytes())?;
+            of_two(alloc, b"Limit", a, &number)
+        }
+        BindFault::Memory => text(alloc, b"Memory"),
+    }
+}
+
+fn bound_words(alloc: Global, all: &[Files]) -> Result<Text, Fail> {
+    match bind(alloc, thorns(alloc, all)?) {
+        Ok(_) => text(alloc, b""),
+        Err(fault) => words(alloc, &fault),
+    }
+}
+
+#[test]
+fn thorns_fit_or_have_their_first_fault(rt: HostRuntime) -> Result<(), Fail> {
+    for (all, want) in BINDINGS {
+        let told = bound_words(rt.alloc(), all)?;
+        assert_eq!(rt; told.as_slice(), want.as_bytes(), "{want}");
+    }
+    Ok(())
+}
+
+fn selected(alloc: Global, active: &[&[u8]]) -> Result<Text, Fail> {
+    let lines = b"Integer/ElemCA\nCactusPUGH/PUGH\nA/Twice\nB/Twice\n";
+    let list = read_thornlist(alloc, &tokens(alloc, lines, Style::Thorns)?)?;
+    let mut names = List::empty(alloc);
+    for name in active {
+        names.push(text(alloc, name)?)?;
+    }
+    let places = match select(alloc, &list, &names) {
+        Ok(places) => places,
+        Err(fault) => return words(alloc, &fault),
+    };
+    let mut all = text(alloc, b"")?;
+    for (arrangement, thorn) in places.as_slice() {
+        push(&mut all, arrangement)?;
+        push(&mut all, thorn)?;
+    }
+    Ok(all)
+}
+
+#[test]
+fn active_thorns_have_one_place_each(rt: HostRuntime) -> Result<(), Fail> {
+    let alloc = rt.alloc();
+    let cases: &[(&[&[u8]], &str)] = &[
+        (&[b"PUGH", b"elemca", b"ElemCA"], " Integer ElemCA"),
+        (&[b"ElemCA", b"Xyz", b"Twice"], "UnknownThorn Xyz"),
+        (&[b"twice", b"Xyz"], "TwoThorns twice"),
+        (&[b"driver"], "UnknownThorn driver"),
+    ];
+    for (active, want) in cases {
+        assert_eq!(rt;
+            selected(alloc, active)?.as_slice(),
+            want.as_bytes(),
+            "{want}"
+        );
+    }
+    Ok(())
+}
+
+#[test]
+fn sample_thorns_have_their_variables_and_parameters(rt: HostRuntime) -> Result<(), Fail> {
+    let alloc = rt.alloc();
+    let extension: Files = (
+        b"E",
+        b"implements: e\n",
+        b"shares: ca\nEXTENDS INT rule { 300 }\nprivate:\nBOOLEAN own { } \"yes\"\n",
+        b"",
+    );
+    let bound = bind(
+        alloc,
+        thorns(alloc, &[ELEMCA, WAVE, HEAT, CONTROL, extension])?,
+    )?;
+    let mut names = text(alloc, b"")?;
+    for info in bound.variables().as_slice() {
+        push(&mut names, &info.full)?;
+    }
+    assert_eq!(rt;
+        names.as_slice(),
+        b" ca::cell ca::live wave::phi wave::total diff::u diff::total control::count".as_slice()
+    );
+    let parameters = bound.parameters().as_slice();
+    assert_eq!(rt; parameters.len(), 53);
+    assert_eq!(rt;
+        parameters[0].full.as_slice(),
+        b"Cactus::cctk_itlast".as_slice()
+    );
+    assert_eq!(rt; parameters[0].thorn, 5);
+    assert_eq!(rt; parameters[33].full.as_slice(), b"ca::rule".as_slice());
+    assert_eq!(rt; parameters[33].ranges.len(), 2);
+    assert_eq!(rt; parameters[52].full.as_slice(), b"E::own".as_slice());
+    assert_eq!(rt; parameters[52].thorn, 4);
+    Ok(())
+}

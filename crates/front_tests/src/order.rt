@@ -1,0 +1,469 @@
+//! Schedules of bound thorns, and what ordering says of them.
+
+use cx_bind::{Bound, Thorn, bind};
+use cx_conf::Configuration;
+use cx_expr::ExprFault;
+use cx_iface::read_interface;
+use cx_order::{OrderFault, Ordered, order};
+use cx_param::read_params;
+use cx_parfile::read_parfile;
+use cx_sched::{ScheduleFile, read_schedule};
+use cx_scope::ScopeFault;
+use cx_text::{List, Style, Text, tokens};
+use cx_values::assign;
+use std::alloc::Global;
+use std::test::Fail;
+
+/// A thorn's name, and its interface, param and schedule files.
+#[derive(Clone, Copy)]
+struct Files<'a> {
+    name: &'a [u8],
+    interface: &'a [u8],
+    params: &'a [u8],
+    schedule: &'a [u8],
+}
+
+/// A thorn with the private parameter `on`, which is 1.
+fn with_parameter<'a>(name: &'a [u8], interface: &'a [u8], schedule: &'a [u8]) -> Files<'a> {
+    Files {
+        name,
+        interface,
+        params: b"private:\nINT on { 0:9 } 1\n",
+        schedule,
+    }
+}
+
+const CELLS: &[u8] =
+    b"implements: ca\npublic:\nCCTK_BYTE cells TYPE=GF DIM=1 { cell }\nCCTK_INT counts TYPE=SCALAR { live }\n";
+
+/// The automaton.
+const AUTOMATON: Files<'static> = Files {
+    name: b"ElemCA",
+    interface: CELLS,
+    params: b"",
+    schedule: br#"STORAGE: cells[1] counts[1]
+schedule ca_init AT INITIAL { LANG: C WRITES: ca::cell(everywhere) } "start"
+schedule ca_step AT EVOL
+{
+  LANG: C
+  SYNC: cells
+  READS: ca::cell(everywhere)
+  WRITES: ca::cell(interior)
+} "one step"
+schedule ca_zero AT EVOL AFTER ca_step { LANG: C WRITES: ca::cell(boundary) } "edge"
+schedule ca_count AT POSTSTEP { LANG: C READS: ca::cell(everywhere) WRITES: ca::live } "count"
+"#,
+};
+
+const AUTOMATON_TEXT: &str = "bin STARTUP
+bin WRAGH
+bin PARAMCHECK
+bin BASEGRID
+bin INITIAL
+  call ElemCA::ca_init writes ca::cell(everywhere)
+bin POSTINITIAL
+bin PRESTEP
+bin EVOL
+  call ElemCA::ca_step reads ca::cell(everywhere) writes ca::cell(interior) sync ca::cell
+  call ElemCA::ca_zero writes ca::cell(boundary)
+bin POSTSTEP
+  call ElemCA::ca_count reads ca::cell(everywhere) writes ca::live(everywhere)
+bin CHECKPOINT
+bin ANALYSIS
+bin TERMINATE
+bin SHUTDOWN
+bin CPINITIAL not run
+bin RECOVER_PARAMETERS not run
+bin RECOVER_VARIABLES not run
+bin POST_RECOVER_VARIABLES not run
+";
+
+fn text(alloc: Global, bytes: &[u8]) -> Result<Text, Fail> {
+    Ok(Text::from_slice(alloc, bytes)?)
+}
+
+fn thorn(alloc: Global, files: Files<'_>) -> Result<Thorn, Fail> {
+    Ok(Thorn {
+        arrangement: text(alloc, b"Integer")?,
+        name: text(alloc, files.name)?,
+        interface: read_interface(alloc, &tokens(alloc, files.interface, Style::Ccl)?)?,
+        params: read_params(alloc, &tokens(alloc, files.params, Style::Ccl)?)?,
+        conf: Configuration {
+            provides: List::empty(alloc),
+            requires_: List::empty(alloc),
+            thorns: List::empty(alloc),
+            optional: List::empty(alloc),
+        },
+    })
+}
+
+fn bound(alloc: Global, all: &[Files<'_>]) -> Result<Bound, Fail> {
+    let mut thorns = List::empty(alloc);
+    for files in all {
+        thorns.push(thorn(alloc, *files)?)?;
+    }
+    Ok(bind(alloc, thorns)?)
+}
+
+fn schedules(alloc: Global, all: &[Files<'_>]) -> Result<List<ScheduleFile>, Fail> {
+    let mut schedules = List::empty(alloc);
+    for files in all {
+        schedules.push(read_schedule(alloc, &tokens(alloc, files.schedule, Style::Ccl)?)?)?;
+    }
+    Ok(schedules)
+}
+
+/// What ordering says of thorns whose parameters have their defaults.
+fn ordered(alloc: Global, all: &[Files<'_>]) -> Result<Option<Result<Ordered, OrderFault>>, Fail> {
+    let bound = bound(alloc, all)?;
+    let schedules = schedules(alloc, all)?;
+    let settings = read_parfile(
+        alloc,
+        &tokens(alloc, b"ActiveThorns = \"A\"\n", Style::Par)?,
+        &text(alloc, b"box")?,
+    )?;
+    let values = assign(alloc, &bound, &settings)?;
+    if schedules.len() != bound.thorns().len() {
+        return Ok(None);
+    }
+    Ok(Some(order(alloc, &bound, &schedules, &values)))
+}
+
+fn of_one(alloc: Global, word: &[u8], name: &Text) -> Result<Text, Fail> {
+    let mut words = text(alloc, word)?;
+    words.push_slice(name.as_slice())?;
+    Ok(words)
+}
+
+fn of_two(alloc: Global, word: &[u8], first: &Text, second: &Text) -> Result<Text, Fail> {
+    let mut words = of_one(alloc, word, first)?;
+    words.push_slice(b" ")?;
+    words.push_slice(second.as_slice())?;
+    Ok(words)
+}
+
+fn of_list(alloc: Global, word: &[u8], names: &List<Text>) -> Result<Text, Fail> {
+    let mut words = text(alloc, word)?;
+    for name in names.as_slice() {
+        words.push_slice(b" ")?;
+        words.push_slice(name.as_slice())?;
+    }
+    Ok(words)
+}
+
+fn expr_words(alloc: Global, fault: &ExprFault) -> Result<Text, Fail> {
+    match fault {
+        ExprFault::UnknownName(name) => of_one(alloc, b"UnknownName ", name),
+        ExprFault::NotNumber(name) => of_one(alloc, b"NotNumber ", name),
+        ExprFault::NotText(name) => of_one(alloc, b"NotText ", name),
+        ExprFault::Range(sign) => of_one(alloc, b"Range ", sign),
+    }
+}
+
+fn scope_words(alloc: Global, fault: &ScopeFault) -> Result<Text, Fail> {
+    match fault {
+        ScopeFault::NotFound(name) => of_one(alloc, b"NotFound ", name),
+        ScopeFault::Hidden(name) => of_one(alloc, b"Hidden ", name),
+        ScopeFault::NoStorage(name) => of_one(alloc, b"NoStorage ", name),
+        ScopeFault::NoLevel(name) => of_one(alloc, b"NoLevel ", name),
+        ScopeFault::NotScalar(name) => of_one(alloc, b"NotScalar ", name),
+        ScopeFault::NotGrid(name) => of_one(alloc, b"NotGrid ", name),
+        ScopeFault::Memory => text(alloc, b"Memory"),
+    }
+}
+
+fn limit_words(alloc: Global, what: &Text, number: u64) -> Result<Text, Fail> {
+    let number = text(alloc, number.to_string(alloc)?.as_bytes())?;
+    of_two(alloc, b"Limit ", what, &number)
+}
+
+fn fault_words(alloc: Global, fault: &OrderFault) -> Result<Text, Fail> {
+    match fault {
+        OrderFault::Expr(thorn, fault) => {
+            of_two(alloc, b"Expr ", thorn, &expr_words(alloc, fault)?)
+        }
+        OrderFault::UnknownBin(name) => of_one(alloc, b"UnknownBin ", name),
+        OrderFault::TwoNames(name) => of_one(alloc, b"TwoNames ", name),
+        OrderFault::GroupCycle(names) => of_list(alloc, b"GroupCycle", names),
+        OrderFault::Cycle(names) => of_list(alloc, b"Cycle", names),
+        OrderFault::Scope(path, fault) => {
+            of_two(alloc, b"Scope ", path, &scope_words(alloc, fault)?)
+        }
+        OrderFault::Limit(what, number) => limit_words(alloc, what, *number),
+        OrderFault::Memory => text(alloc, b"Memory"),
+    }
+}
+
+/// The lines of a schedule text between those of the bins EVOL and POSTSTEP.
+fn evolution(alloc: Global, schedule: &Text) -> Result<Text, Fail> {
+    let mut within = false;
+    let mut lines = text(alloc, b"")?;
+    for line in schedule.as_slice().split_inclusive(|byte| *byte == b'\n') {
+        within = within && line != b"bin POSTSTEP\n".as_slice();
+        if within {
+            lines.push_slice(line)?;
+        }
+        within = within || line == b"bin EVOL\n".as_slice();
+    }
+    Ok(lines)
+}
+
+/// What a run's EVOL does, or the fault.
+fn told(alloc: Global, all: &[Files<'_>]) -> Result<Text, Fail> {
+    match ordered(alloc, all)? {
+        None => text(alloc, b"another number of files"),
+        Some(Ok(ordered)) => evolution(alloc, &ordered.text),
+        Some(Err(fault)) => fault_words(alloc, &fault),
+    }
+}
+
+/// Small schedules of a thorn T with the least order of their EVOL, worked out by hand.
+const ORDERS: &[(&[u8], &str)] = &[
+    (
+        b"schedule A AT EVOL BEFORE B { }\nschedule B AT EVOL BEFORE C { }\nschedule C AT EVOL BEFORE Z { }\n",
+        "  call T::A\n  call T::B\n  call T::C\n",
+    ),
+    (
+        b"schedule A AT EVOL { }\nschedule B AT CCTK_EVOL { }\nschedule C AT evol BEFORE a { }\n",
+        "  call T::B\n  call T::C\n  call T::A\n",
+    ),
+    (
+        b"schedule A AT EVOL AFTER B { }\nschedule B AT EVOL AFTER C { }\nschedule C AT EVOL { }\n",
+        "  call T::C\n  call T::B\n  call T::A\n",
+    ),
+    (
+        b"schedule A AT EVOL AFTER D { }\nschedule B AT EVOL { }\nschedule C AT EVOL BEFORE B { }\nschedule D AT EVOL { }\n",
+        "  call T::C\n  call T::B\n  call T::D\n  call T::A\n",
+    ),
+    (
+        b"schedule A AT EVOL { }\nschedule B AT EVOL { }\nschedule C AT EVOL { }\nschedule D AT EVOL BEFORE (A, C) { }\n",
+        "  call T::B\n  call T::D\n  call T::A\n  call T::C\n",
+    ),
+    (
+        b"schedule A AT EVOL AS X { }\nschedule B AT EVOL BEFORE X { }\nschedule C AT EVOL BEFORE A { }\n",
+        "  call T::B\n  call T::A as X\n  call T::C\n",
+    ),
+    (
+        b"schedule A AT EVOL AFTER Q { }\nschedule B AT EVOL { }\nschedule Q AT POSTSTEP BEFORE A { }\n",
+        "  call T::A\n  call T::B\n",
+    ),
+    (
+        b"schedule A AT EVOL AFTER g { }\nschedule GROUP G AT EVOL { }\nschedule C IN g { }\nschedule D IN G BEFORE C { }\nschedule E IN H { }\n",
+        "  group G\n    call T::D\n    call T::C\n  call T::A\n",
+    ),
+    (
+        b"schedule GROUP G AT EVOL { }\nschedule A IN G { }\nschedule GROUP G AT EVOL AS again BEFORE G { }\n",
+        "  group G as again\n    call T::A\n  group G\n    call T::A\n",
+    ),
+    (
+        b"if (on == 1) schedule A AT EVOL { }\nelse { if (1 / 0) schedule B AT NEVER { } }\nif (0)\n{\nSTORAGE: nobody[9]\n}\nelse schedule C AT EVOL BEFORE A { }\n",
+        "  call T::C\n  call T::A\n",
+    ),
+];
+
+/// The same of a thorn W with a field of three levels and a scalar.
+const FIELDS: &[(&[u8], &str)] = &[
+    (
+        b"STORAGE: field[2]\nSTORAGE: flags\nschedule A AT EVOL IF on WHILE w::on { SYNC: phi field READS: phi_p phi_p(interior) WRITES: phi(boundary) }\n",
+        "  call W::A if w::on while w::on reads w::phi_p(everywhere) w::phi_p(interior) writes w::phi(boundary) sync w::phi\n",
+    ),
+    (
+        b"if (on == 0)\n{\nSTORAGE: field[3]\n}\nSTORAGE: field[1] field[2]\nschedule A AT EVOL { READS: phi_p_p }\n",
+        "Scope EVOL/A NoLevel phi_p_p",
+    ),
+    (
+        b"schedule GROUP G AT EVOL { READS: nobody }\nschedule A IN G { STORAGE: field[9] READS: phi_p_p }\n",
+        "  group G\n    call W::A reads w::phi_p_p(everywhere)\n",
+    ),
+    (
+        b"STORAGE: field flags\nschedule GROUP G AT EVOL { SYNC: field }\nschedule A IN G { SYNC: flags }\n",
+        "Scope EVOL/G/A NotGrid flags",
+    ),
+    (
+        b"STORAGE: field flags\nschedule A AT EVOL WHILE field { }\n",
+        "Scope EVOL/A NotScalar field",
+    ),
+    (
+        b"schedule A AT EVOL { READS: phi }\n",
+        "Scope EVOL/A NoStorage phi",
+    ),
+];
+
+/// Faults, each of which comes before those behind it.
+const FAULTS: &[(&[u8], &str)] = &[
+    (
+        b"if (missing) { }\nschedule A AT NEVER { }\n",
+        "Expr T UnknownName missing",
+    ),
+    (
+        b"schedule A AT CCTK_NEVER { }\nschedule A AT EVOL { }\nschedule A AT EVOL { }\n",
+        "UnknownBin CCTK_NEVER",
+    ),
+    (
+        b"schedule A AT evol { }\nschedule a AT CCTK_EVOL { }\nschedule GROUP P IN P { }\n",
+        "TwoNames EVOL/a",
+    ),
+    (
+        b"schedule GROUP P IN Q { }\nschedule GROUP Q IN P { }\nschedule A AT EVOL BEFORE A { }\n",
+        "GroupCycle P Q",
+    ),
+    (
+        b"schedule GROUP p IN Rr { }\nschedule GROUP rR IN P { }\nschedule GROUP RR IN p AS again { }\n",
+        "GroupCycle p rR",
+    ),
+    (
+        b"schedule A AT EVOL BEFORE B { }\nschedule B AT EVOL BEFORE C { }\nschedule C AT EVOL BEFORE A { }\nSTORAGE: nobody\n",
+        "Cycle A B C",
+    ),
+    (
+        b"STORAGE: nobody\nschedule A AT EVOL { READS: other }\n",
+        "Scope T NotFound nobody",
+    ),
+];
+
+#[test]
+fn the_automaton(rt: HostRuntime) -> Result<(), Fail> {
+    let alloc = rt.alloc();
+    match ordered(alloc, &[AUTOMATON])? {
+        Some(Ok(ordered)) => {
+            assert_eq!(rt; ordered.text.as_slice(), AUTOMATON_TEXT.as_bytes());
+            assert_eq!(rt; ordered.storage.as_slice(), [1u8, 1].as_slice());
+            assert_eq!(rt; ordered.items.len(), 4);
+        }
+        _ => panic!(rt; "no order"),
+    }
+    Ok(())
+}
+
+#[test]
+fn least_orders(rt: HostRuntime) -> Result<(), Fail> {
+    for (schedule, want) in ORDERS {
+        let told = told(
+            rt.alloc(),
+            &[with_parameter(b"T", b"implements: t\n", schedule)],
+        )?;
+        assert_eq!(rt; told.as_slice(), want.as_bytes(), "{want}");
+    }
+    Ok(())
+}
+
+#[test]
+fn names_of_entries(rt: HostRuntime) -> Result<(), Fail> {
+    const FIELD: &[u8] =
+        b"implements: w\npublic:\nINT field TYPE=GF DIM=1 TIMELEVELS=3 { phi }\nINT flags { on }\n";
+    for (schedule, want) in FIELDS {
+        let told = told(rt.alloc(), &[with_parameter(b"W", FIELD, schedule)])?;
+        assert_eq!(rt; told.as_slice(), want.as_bytes(), "{want}");
+    }
+    Ok(())
+}
+
+#[test]
+fn faults_in_order(rt: HostRuntime) -> Result<(), Fail> {
+    for (schedule, want) in FAULTS {
+        let told = told(
+            rt.alloc(),
+            &[with_parameter(b"T", b"implements: t\n", schedule)],
+        )?;
+        assert_eq!(rt; told.as_slice(), want.as_bytes(), "{want}");
+    }
+    Ok(())
+}
+
+/// Two thorns, in the order of activation, and what EVOL does.
+const PAIRS: &[(&[u8], &[u8], &str)] = &[
+    (
+        b"schedule M AT EVOL { }\n",
+        b"schedule N AT EVOL { }\n",
+        "  call One::M\n  call Two::N\n",
+    ),
+    (
+        b"schedule M AT EVOL AFTER N { }\n",
+        b"schedule N AT EVOL { }\n",
+        "  call Two::N\n  call One::M\n",
+    ),
+    (
+        b"schedule N AT EVOL { }\n",
+        b"schedule M AT EVOL AFTER N { }\n",
+        "  call One::N\n  call Two::M\n",
+    ),
+    (
+        b"schedule M AT EVOL { }\n",
+        b"schedule M AT EVOL { }\n",
+        "TwoNames EVOL/M",
+    ),
+];
+
+#[test]
+fn two_thorns_in_one_bin(rt: HostRuntime) -> Result<(), Fail> {
+    for (first, second, want) in PAIRS {
+        let thorns = [
+            with_parameter(b"One", b"implements: one\n", first),
+            with_parameter(b"Two", b"implements: two\n", second),
+        ];
+        let told = told(rt.alloc(), &thorns)?;
+        assert_eq!(rt; told.as_slice(), want.as_bytes(), "{want}");
+    }
+    Ok(())
+}
+
+/// Groups in groups, so many levels deep, each but the first so many times in the one around it.
+fn nested_groups(alloc: Global, levels: u32, copies: u32) -> Result<Text, Fail> {
+    let mut schedule = text(alloc, b"schedule GROUP G0 AT EVOL { }\n")?;
+    for level in 1..levels {
+        let outer = level.saturating_sub(1);
+        for copy in 0..copies {
+            let line = format!(in alloc; "schedule GROUP G{level} IN G{outer} AS c{copy} {{ }}\n")?;
+            schedule.push_slice(line.as_bytes())?;
+        }
+    }
+    Ok(schedule)
+}
+
+/// Levels of groups, how often each stands in the one around it, and the limit that is passed. All 17 bins count as nodes.
+const NESTED: &[(u32, u32, &str)] = &[
+    (32, 1, "Limit depth 33"),
+    (33, 2, "Limit depth 34"),
+    (12, 2, "Limit nodes 4112"),
+    (31, 5, "Limit nodes 18446744073709551615"),
+];
+
+#[test]
+fn limits_are_counted_without_building(rt: HostRuntime) -> Result<(), Fail> {
+    let alloc = rt.alloc();
+    for (levels, copies, want) in NESTED {
+        let schedule = nested_groups(alloc, *levels, *copies)?;
+        let thorn = with_parameter(b"T", b"implements: t\n", schedule.as_slice());
+        let told = told(alloc, &[thorn])?;
+        assert_eq!(rt; told.as_slice(), want.as_bytes(), "{want}");
+    }
+    Ok(())
+}
+
+/// Entries with the numbers below an end from 4 on, each of which must run before the four that are numbered below it.
+fn backward(alloc: Global, end: u32) -> Result<Text, Fail> {
+    let mut schedule = text(alloc, b"")?;
+    for entry in 4..end {
+        let (a, b) = (entry.saturating_sub(1), entry.saturating_sub(2));
+        let (c, d) = (entry.saturating_sub(3), entry.saturating_sub(4));
+        let line = format!(in alloc;
+            "schedule e{entry} AT EVOL BEFORE (e{a} e{b} e{c} e{d}) {{ }}\n"
+        )?;
+        schedule.push_slice(line.as_bytes())?;
+    }
+    Ok(schedule)
+}
+
+#[test]
+fn a_large_bin(rt: HostRuntime) -> Result<(), Fail> {
+    let alloc = rt.alloc();
+    let schedule = backward(alloc, 4083)?;
+    let thorn = with_parameter(b"T", b"implements: t\n", schedule.as_slice());
+    let told = told(alloc, &[thorn])?;
+    assert!(rt;
+        told.as_slice()
+            .starts_with(b"  call T::e4082\n  call T::e4081\n")
+    );
+    assert!(rt; told.as_slice().ends_with(b"  call T::e5\n  call T::e4\n"));
+    Ok(())
+}
