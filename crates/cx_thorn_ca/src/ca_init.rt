@@ -3,46 +3,36 @@ ghost use Rattle.std.specs.Prelude.{◌≡◌, ◌<◌, ◌^◌, pos};
 ghost use Rattle.cx_thorn_ca.specs.Automaton.{ca_init_spec, ca_init_rule, first_cell};
 
 use cx_plan::{ItemKind, Region};
-use cx_rule::{Cells, Meter, Overflow, Place, Routine, Spec, Window, mix};
+use cx_rule::{Cells, Overflow, Place, PointRule, RoutineOf, Spec, Window, mix};
 use cx_text::Memory;
 use std::alloc::Global;
 
 /// The routine `ca_init`, which sets each cell of the first row: at random by `ca::seed`, or, where that is below 0, to 1
 /// at the place `ca::start` in global order and to 0 elsewhere.
-#[derive(Debug, Drop)]
-pub struct CaInit {
-    spec: Spec,
-    ghost is: { spec ≡ ca_init_spec },
-}
+pub type CaInit = RoutineOf<CaInitRule>;
 
-impl CaInit {
-    /// The routine as an object.
-    pub fn new(alloc: Global) -> Result<Self, Memory> {
+/// The rule of `ca_init`.
+#[derive(Debug, Drop)]
+pub struct CaInitRule;
+
+impl PointRule for CaInitRule {
+    ghost said = { ca_init_spec };
+
+    ghost law = { ca_init_rule };
+
+    fn new() -> Self {
+        CaInitRule
+    }
+
+    fn describe(alloc: Global) -> Result<Spec, Memory> {
         let mut spec = Spec::new(alloc, b"ElemCA", b"ca_init", ItemKind::Cell)?;
         spec.add_write(alloc, b"ca::cell", Region::Everywhere)?;
         spec.add_param(alloc, b"ca::seed")?;
         spec.add_param(alloc, b"ca::start")?;
-        Ok(CaInit { spec })
-    }
-}
-
-impl Routine for CaInit {
-    ghost spec_of = { λ _. ca_init_spec };
-
-    ghost rule = { λ _. ca_init_rule };
-
-    fn spec(&self) -> &Spec {
-        &self.spec
+        Ok(spec)
     }
 
-    fn point(
-        &self,
-        _w: &Window,
-        at: &Place,
-        out: &mut Cells,
-        meter: &mut Meter,
-    ) -> Result<(), Overflow> {
-        meter.add(1);
+    fn numbers(&self, _w: &Window, at: &Place, out: &mut Cells) -> Result<(), Overflow> {
         out.set_only(first_cell(at.param(0), at.param(1), at.index()));
         Ok(())
     }

@@ -10,9 +10,9 @@ mod life_init;
 mod life_step;
 mod zero;
 
-pub use ca_init::CaInit;
-pub use ca_step::CaStep;
-pub use count::{CaCount, LifeCount};
-pub use life_init::LifeInit;
-pub use life_step::LifeStep;
-pub use zero::{CaZero, LifeZero};
+pub use ca_init::{CaInit, CaInitRule};
+pub use ca_step::{CaStep, CaStepRule};
+pub use count::{CaCount, CaCountRule, LifeCount, LifeCountRule};
+pub use life_init::{LifeInit, LifeInitRule};
+pub use life_step::{LifeStep, LifeStepRule};
+pub use zero::{CaZero, CaZeroRule, LifeZero, LifeZeroRule};

@@ -5,46 +5,36 @@ ghost use Rattle.cx_thorn_ca.specs.Life.{life_init_spec, life_init_rule, first_l
 
 use cx_grid::Point;
 use cx_plan::{ItemKind, Region};
-use cx_rule::{Cells, Meter, Overflow, Place, Routine, Spec, Window, mix_from};
+use cx_rule::{Cells, Overflow, Place, PointRule, RoutineOf, Spec, Window, mix_from};
 use cx_text::Memory;
 use std::alloc::Global;
 
 /// The routine `life_init`, which sets each cell of the first sheet: for `life::pattern` 0 to 1 in the glider's five cells
 /// by x and y and to 0 elsewhere, for every other number at random by `life::seed`.
-#[derive(Debug, Drop)]
-pub struct LifeInit {
-    spec: Spec,
-    ghost is: { spec ≡ life_init_spec },
-}
+pub type LifeInit = RoutineOf<LifeInitRule>;
 
-impl LifeInit {
-    /// The routine as an object.
-    pub fn new(alloc: Global) -> Result<Self, Memory> {
+/// The rule of `life_init`.
+#[derive(Debug, Drop)]
+pub struct LifeInitRule;
+
+impl PointRule for LifeInitRule {
+    ghost said = { life_init_spec };
+
+    ghost law = { life_init_rule };
+
+    fn new() -> Self {
+        LifeInitRule
+    }
+
+    fn describe(alloc: Global) -> Result<Spec, Memory> {
         let mut spec = Spec::new(alloc, b"Life2D", b"life_init", ItemKind::Cell)?;
         spec.add_write(alloc, b"life::cell", Region::Everywhere)?;
         spec.add_param(alloc, b"life::pattern")?;
         spec.add_param(alloc, b"life::seed")?;
-        Ok(LifeInit { spec })
-    }
-}
-
-impl Routine for LifeInit {
-    ghost spec_of = { λ _. life_init_spec };
-
-    ghost rule = { λ _. life_init_rule };
-
-    fn spec(&self) -> &Spec {
-        &self.spec
+        Ok(spec)
     }
 
-    fn point(
-        &self,
-        _w: &Window,
-        at: &Place,
-        out: &mut Cells,
-        meter: &mut Meter,
-    ) -> Result<(), Overflow> {
-        meter.add(1);
+    fn numbers(&self, _w: &Window, at: &Place, out: &mut Cells) -> Result<(), Overflow> {
         out.set_only(first_life(at.param(0), at.param(1), at.at, at.index()));
         Ok(())
     }

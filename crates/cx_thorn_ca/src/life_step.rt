@@ -4,48 +4,38 @@ ghost use Rattle.cx_thorn_ca.specs.Life.{life_step_spec, life_step_rule, counts_
 
 use crate::alive::alive;
 use cx_plan::{ItemKind, Region};
-use cx_rule::{Cells, Meter, Overflow, Place, Routine, Spec, Window, bit};
+use cx_rule::{Cells, Overflow, Place, PointRule, RoutineOf, Spec, Window, bit};
 use cx_text::Memory;
 use std::alloc::Global;
 
 /// The routine `life_step`: each cell of the interior becomes the bit of `life::survive`, where it isn't 0, or else of
 /// `life::born`, whose number is how many neighbours in x and y aren't 0. With one direction only those in x count, and a
 /// third direction isn't looked at.
-#[derive(Debug, Drop)]
-pub struct LifeStep {
-    spec: Spec,
-    ghost is: { spec ≡ life_step_spec },
-}
+pub type LifeStep = RoutineOf<LifeStepRule>;
 
-impl LifeStep {
-    /// The routine as an object.
-    pub fn new(alloc: Global) -> Result<Self, Memory> {
+/// The rule of `life_step`.
+#[derive(Debug, Drop)]
+pub struct LifeStepRule;
+
+impl PointRule for LifeStepRule {
+    ghost said = { life_step_spec };
+
+    ghost law = { life_step_rule };
+
+    fn new() -> Self {
+        LifeStepRule
+    }
+
+    fn describe(alloc: Global) -> Result<Spec, Memory> {
         let mut spec = Spec::new(alloc, b"Life2D", b"life_step", ItemKind::Cell)?;
         spec.add_read(alloc, b"life::cell", Region::Everywhere, 1)?;
         spec.add_write(alloc, b"life::cell", Region::Interior)?;
         spec.add_param(alloc, b"life::survive")?;
         spec.add_param(alloc, b"life::born")?;
-        Ok(LifeStep { spec })
-    }
-}
-
-impl Routine for LifeStep {
-    ghost spec_of = { λ _. life_step_spec };
-
-    ghost rule = { λ _. life_step_rule };
-
-    fn spec(&self) -> &Spec {
-        &self.spec
+        Ok(spec)
     }
 
-    fn point(
-        &self,
-        w: &Window,
-        at: &Place,
-        out: &mut Cells,
-        meter: &mut Meter,
-    ) -> Result<(), Overflow> {
-        meter.add(1);
+    fn numbers(&self, w: &Window, at: &Place, out: &mut Cells) -> Result<(), Overflow> {
         let counts = counts(w.here(0), at.param(0), at.param(1));
         out.set_only(bit(counts, living(w, at.shape.dims)));
         Ok(())

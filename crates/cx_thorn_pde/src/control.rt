@@ -4,84 +4,64 @@ ghost use Rattle.cx_thorn_pde.specs.Control.{control_set_spec, control_set_rule,
 
 use crate::exact::in_64_bits;
 use cx_plan::{ItemKind, Region};
-use cx_rule::{Cells, Meter, Overflow, Place, Routine, Spec, Window};
+use cx_rule::{Cells, Overflow, Place, PointRule, RoutineOf, Spec, Window};
 use cx_text::Memory;
 use std::alloc::Global;
 
 /// The routine `control_set`: `control::count` becomes `control::turns`.
-#[derive(Debug, Drop)]
-pub struct ControlSet {
-    spec: Spec,
-    ghost is: { spec ≡ control_set_spec },
-}
+pub type ControlSet = RoutineOf<ControlSetRule>;
 
-impl ControlSet {
-    /// The routine as an object.
-    pub fn new(alloc: Global) -> Result<Self, Memory> {
+/// The rule of `control_set`.
+#[derive(Debug, Drop)]
+pub struct ControlSetRule;
+
+impl PointRule for ControlSetRule {
+    ghost said = { control_set_spec };
+
+    ghost law = { control_set_rule };
+
+    fn new() -> Self {
+        ControlSetRule
+    }
+
+    fn describe(alloc: Global) -> Result<Spec, Memory> {
         let mut spec = Spec::new(alloc, b"Control", b"control_set", ItemKind::Scalar)?;
         spec.add_write(alloc, b"control::count", Region::Everywhere)?;
         spec.add_param(alloc, b"control::turns")?;
-        Ok(ControlSet { spec })
-    }
-}
-
-impl Routine for ControlSet {
-    ghost spec_of = { λ _. control_set_spec };
-
-    ghost rule = { λ _. control_set_rule };
-
-    fn spec(&self) -> &Spec {
-        &self.spec
+        Ok(spec)
     }
 
-    fn point(
-        &self,
-        _w: &Window,
-        at: &Place,
-        out: &mut Cells,
-        meter: &mut Meter,
-    ) -> Result<(), Overflow> {
-        meter.add(1);
+    fn numbers(&self, _w: &Window, at: &Place, out: &mut Cells) -> Result<(), Overflow> {
         out.set_only(at.param(0));
         Ok(())
     }
 }
 
 /// The routine `control_spin`: `control::count` becomes less by `control::drop`.
-#[derive(Debug, Drop)]
-pub struct ControlSpin {
-    spec: Spec,
-    ghost is: { spec ≡ control_spin_spec },
-}
+pub type ControlSpin = RoutineOf<ControlSpinRule>;
 
-impl ControlSpin {
-    /// The routine as an object.
-    pub fn new(alloc: Global) -> Result<Self, Memory> {
+/// The rule of `control_spin`.
+#[derive(Debug, Drop)]
+pub struct ControlSpinRule;
+
+impl PointRule for ControlSpinRule {
+    ghost said = { control_spin_spec };
+
+    ghost law = { control_spin_rule };
+
+    fn new() -> Self {
+        ControlSpinRule
+    }
+
+    fn describe(alloc: Global) -> Result<Spec, Memory> {
         let mut spec = Spec::new(alloc, b"Control", b"control_spin", ItemKind::Scalar)?;
         spec.add_read(alloc, b"control::count", Region::Everywhere, 0)?;
         spec.add_write(alloc, b"control::count", Region::Everywhere)?;
         spec.add_param(alloc, b"control::drop")?;
-        Ok(ControlSpin { spec })
-    }
-}
-
-impl Routine for ControlSpin {
-    ghost spec_of = { λ _. control_spin_spec };
-
-    ghost rule = { λ _. control_spin_rule };
-
-    fn spec(&self) -> &Spec {
-        &self.spec
+        Ok(spec)
     }
 
-    fn point(
-        &self,
-        w: &Window,
-        at: &Place,
-        out: &mut Cells,
-        meter: &mut Meter,
-    ) -> Result<(), Overflow> {
-        meter.add(1);
+    fn numbers(&self, w: &Window, at: &Place, out: &mut Cells) -> Result<(), Overflow> {
         out.set_if(in_64_bits(minus(w.here(0), at.param(0))))
     }
 }

@@ -11,9 +11,12 @@ mod sums;
 mod wave_init;
 mod wave_step;
 
-pub use control::{ControlSet, ControlSpin};
-pub use diff::{DiffInit, DiffStep};
-pub use edges::{DiffFlat, DiffScalar, WaveCopy, WaveFlat, WaveScalar};
-pub use sums::{DiffSum, WaveSum};
-pub use wave_init::{WaveInit, WaveInit1};
-pub use wave_step::WaveStep;
+pub use control::{ControlSet, ControlSetRule, ControlSpin, ControlSpinRule};
+pub use diff::{DiffInit, DiffInitRule, DiffStep, DiffStepRule};
+pub use edges::{
+    DiffFlat, DiffFlatRule, DiffScalar, DiffScalarRule, WaveCopy, WaveCopyRule, WaveFlat,
+    WaveFlatRule, WaveScalar, WaveScalarRule,
+};
+pub use sums::{DiffSum, DiffSumRule, WaveSum, WaveSumRule};
+pub use wave_init::{WaveInit, WaveInit1, WaveInit1Rule, WaveInitRule};
+pub use wave_step::{WaveStep, WaveStepRule};

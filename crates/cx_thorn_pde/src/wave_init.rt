@@ -4,21 +4,28 @@ ghost use Rattle.cx_thorn_pde.specs.Wave.{wave_init_spec, wave_init_rule, wave_i
 
 use crate::start::start_at;
 use cx_plan::{ItemKind, Region};
-use cx_rule::{Cells, Meter, Overflow, Place, Routine, Spec, Window};
+use cx_rule::{Cells, Overflow, Place, PointRule, RoutineOf, Spec, Window};
 use cx_text::Memory;
 use std::alloc::Global;
 
 /// The routine `wave_init`: `wave::phi` and the level before it become the start, by `wave::pattern`, `wave::amount`,
 /// `wave::start` and `wave::seed`.
-#[derive(Debug, Drop)]
-pub struct WaveInit {
-    spec: Spec,
-    ghost is: { spec ≡ wave_init_spec },
-}
+pub type WaveInit = RoutineOf<WaveInitRule>;
 
-impl WaveInit {
-    /// The routine as an object.
-    pub fn new(alloc: Global) -> Result<Self, Memory> {
+/// The rule of `wave_init`.
+#[derive(Debug, Drop)]
+pub struct WaveInitRule;
+
+impl PointRule for WaveInitRule {
+    ghost said = { wave_init_spec };
+
+    ghost law = { wave_init_rule };
+
+    fn new() -> Self {
+        WaveInitRule
+    }
+
+    fn describe(alloc: Global) -> Result<Spec, Memory> {
         let mut spec = Spec::new(alloc, b"WaveInt", b"wave_init", ItemKind::Cell)?;
         spec.add_write(alloc, b"wave::phi", Region::Everywhere)?;
         spec.add_write(alloc, b"wave::phi_p", Region::Everywhere)?;
@@ -26,68 +33,41 @@ impl WaveInit {
         spec.add_param(alloc, b"wave::amount")?;
         spec.add_param(alloc, b"wave::start")?;
         spec.add_param(alloc, b"wave::seed")?;
-        Ok(WaveInit { spec })
-    }
-}
-
-impl Routine for WaveInit {
-    ghost spec_of = { λ _. wave_init_spec };
-
-    ghost rule = { λ _. wave_init_rule };
-
-    fn spec(&self) -> &Spec {
-        &self.spec
+        Ok(spec)
     }
 
-    fn point(
-        &self,
-        _w: &Window,
-        at: &Place,
-        out: &mut Cells,
-        meter: &mut Meter,
-    ) -> Result<(), Overflow> {
-        meter.add(1);
+    fn numbers(&self, _w: &Window, at: &Place, out: &mut Cells) -> Result<(), Overflow> {
         set_both(out, start_at(at))
     }
 }
 
 /// The routine `wave_init1`: `wave::phi` alone becomes the start.
-#[derive(Debug, Drop)]
-pub struct WaveInit1 {
-    spec: Spec,
-    ghost is: { spec ≡ wave_init1_spec },
-}
+pub type WaveInit1 = RoutineOf<WaveInit1Rule>;
 
-impl WaveInit1 {
-    /// The routine as an object.
-    pub fn new(alloc: Global) -> Result<Self, Memory> {
+/// The rule of `wave_init1`.
+#[derive(Debug, Drop)]
+pub struct WaveInit1Rule;
+
+impl PointRule for WaveInit1Rule {
+    ghost said = { wave_init1_spec };
+
+    ghost law = { wave_init1_rule };
+
+    fn new() -> Self {
+        WaveInit1Rule
+    }
+
+    fn describe(alloc: Global) -> Result<Spec, Memory> {
         let mut spec = Spec::new(alloc, b"WaveInt", b"wave_init1", ItemKind::Cell)?;
         spec.add_write(alloc, b"wave::phi", Region::Everywhere)?;
         spec.add_param(alloc, b"wave::pattern")?;
         spec.add_param(alloc, b"wave::amount")?;
         spec.add_param(alloc, b"wave::start")?;
         spec.add_param(alloc, b"wave::seed")?;
-        Ok(WaveInit1 { spec })
-    }
-}
-
-impl Routine for WaveInit1 {
-    ghost spec_of = { λ _. wave_init1_spec };
-
-    ghost rule = { λ _. wave_init1_rule };
-
-    fn spec(&self) -> &Spec {
-        &self.spec
+        Ok(spec)
     }
 
-    fn point(
-        &self,
-        _w: &Window,
-        at: &Place,
-        out: &mut Cells,
-        meter: &mut Meter,
-    ) -> Result<(), Overflow> {
-        meter.add(1);
+    fn numbers(&self, _w: &Window, at: &Place, out: &mut Cells) -> Result<(), Overflow> {
         out.set_if(start_at(at))
     }
 }

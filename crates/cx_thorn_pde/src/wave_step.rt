@@ -9,47 +9,37 @@ ghost use Rattle.cx_thorn_pde.specs.Wave.{wave_step_spec, wave_step_rule, next_w
 use crate::around::lap;
 use crate::exact::plus_scaled;
 use cx_plan::{ItemKind, Region};
-use cx_rule::{Cells, Meter, Overflow, Place, Routine, Spec, Window};
+use cx_rule::{Cells, Overflow, Place, PointRule, RoutineOf, Spec, Window};
 use cx_text::Memory;
 use std::alloc::Global;
 
 /// The routine `wave_step`: each point of the interior becomes twice its last value, minus the one before it, and
 /// `wave::factor` 256ths of its bend, rounded down.
-#[derive(Debug, Drop)]
-pub struct WaveStep {
-    spec: Spec,
-    ghost is: { spec ≡ wave_step_spec },
-}
+pub type WaveStep = RoutineOf<WaveStepRule>;
 
-impl WaveStep {
-    /// The routine as an object.
-    pub fn new(alloc: Global) -> Result<Self, Memory> {
+/// The rule of `wave_step`.
+#[derive(Debug, Drop)]
+pub struct WaveStepRule;
+
+impl PointRule for WaveStepRule {
+    ghost said = { wave_step_spec };
+
+    ghost law = { wave_step_rule };
+
+    fn new() -> Self {
+        WaveStepRule
+    }
+
+    fn describe(alloc: Global) -> Result<Spec, Memory> {
         let mut spec = Spec::new(alloc, b"WaveInt", b"wave_step", ItemKind::Cell)?;
         spec.add_read(alloc, b"wave::phi_p", Region::Everywhere, 1)?;
         spec.add_read(alloc, b"wave::phi_p_p", Region::Interior, 0)?;
         spec.add_write(alloc, b"wave::phi", Region::Interior)?;
         spec.add_param(alloc, b"wave::factor")?;
-        Ok(WaveStep { spec })
-    }
-}
-
-impl Routine for WaveStep {
-    ghost spec_of = { λ _. wave_step_spec };
-
-    ghost rule = { λ _. wave_step_rule };
-
-    fn spec(&self) -> &Spec {
-        &self.spec
+        Ok(spec)
     }
 
-    fn point(
-        &self,
-        w: &Window,
-        at: &Place,
-        out: &mut Cells,
-        meter: &mut Meter,
-    ) -> Result<(), Overflow> {
-        meter.add(1);
+    fn numbers(&self, w: &Window, at: &Place, out: &mut Cells) -> Result<(), Overflow> {
         out.set_if(next(w, at.shape.dims, at.param(0)))
     }
 }
