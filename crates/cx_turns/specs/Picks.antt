@@ -1,0 +1,10 @@
+-- Turns by a linear congruence modulo 2^64.
+use Rattle.std.specs.Prelude.{ℕ, ◌+◌, ◌*◌, ◌^◌, ◌%◌, ◌/◌}
+
+-- the number behind a number
+abbrev pub next : ℕ → ℕ
+next state = (state * 6364136223846793005 + 1442695040888963407) % 2 ^ 64
+
+-- the pick of one of so many, by the upper 31 bits
+abbrev pub picked : ℕ → ℕ → ℕ
+picked state n = state / 2 ^ 33 % n
