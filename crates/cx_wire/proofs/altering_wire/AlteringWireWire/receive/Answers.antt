@@ -1,0 +1,8 @@
+use Rattle.cx_wire.specs.Memory.{queue_of}
+use Rattle.cx_wire.proofs.Untold.{if_taken, hide_loses}
+use Rattle.cx_wire.proofs.altering_wire.AlteringWireWire.receive.Goals as goal
+
+pub returns-clause-taken : goal.returns-clause-taken
+returns-clause-taken c =
+    rw (← c.self.view_is)
+    (if_taken c.receive.result (λ m. hide_loses (queue_of c.self.inside.wire) (queue_of c.receive.new.self) c.args.from c.args.to m) c.receive.ensures.taken)

@@ -1,0 +1,30 @@
+-- A wire in memory that fails at some calls.
+use Rattle.std.specs.Prelude.{ℕ, ◌+◌, ◌-◌, ◌^◌, List, min}
+use Rattle.std.specs.List.{Contains}
+use Rattle.cx_wire.specs.Memory.{Carried}
+
+-- the wire, the numbers of the calls that fail, and how many calls and faults there were
+pub record Failing : Type 0 where
+  pub wire : Carried
+  pub fail : List ℕ
+  pub calls : ℕ
+  pub faults : ℕ
+
+-- the next call is one of those that fail
+abbrev pub FailsNext : Failing → Type 0
+FailsNext w = Contains w.fail w.calls
+
+-- a wire that no call was made of
+abbrev pub failing_wire : Carried → List ℕ → Failing
+failing_wire wire fail = record { wire = wire; fail = fail; calls = 0; faults = 0 }
+
+-- a count and one more, up to where it stops
+abbrev pub next_count : ℕ → ℕ
+next_count n = min (n + 1) (2 ^ 64 - 1)
+
+-- what a call that fails leaves, and what one that passes leaves before it is passed on
+abbrev pub failed : Failing → Failing
+failed w = record w { calls = next_count w.calls; faults = next_count w.faults }
+
+abbrev pub passed : Failing → Failing
+passed w = record w { calls = next_count w.calls }

@@ -1,0 +1,32 @@
+-- A wire in memory: its queues by number, and what it has given out.
+use Rattle.std.specs.Prelude.{ℕ, ◌+◌, ◌*◌, ◌^◌, ◌<◌, ◌≡◌, nat_lt, ◌&&◌, List, [], length, map, slice_index_or, replicate, if◌then◌else◌}
+use Rattle.cx_wire.specs.declared.mail.Mail.{Mail}
+use Rattle.cx_wire.specs.Messages.{Sent, sent}
+
+-- the queues, by the part that sends and then the part that receives, and the two received numbers
+pub record Carried : Type 0 where
+  pub parts : ℕ
+  pub queues : List (List Mail)
+  pub received : ℕ
+  pub sum : ℕ
+
+-- there is a queue for each pair
+pub record IsCarried (w : Carried) : Type 0 where
+  pub full : length w.queues ≡ w.parts * w.parts
+  pub few : w.parts < 2 ^ 32
+
+-- the queue of a pair; none beyond the parts, where a number would name another pair
+abbrev pub queue_in : ℕ → List (List Mail) → ℕ → ℕ → List Mail
+queue_in parts queues a b =
+    if nat_lt a parts && nat_lt b parts then slice_index_or queues (a * parts + b) [] else []
+
+abbrev pub queue_of : Carried → ℕ → ℕ → List Mail
+queue_of w = queue_in w.parts w.queues
+
+-- the same as a wire shows it, telling the values or not
+abbrev pub sent_queue : {tells : Type 0} → Carried → ℕ → ℕ → List (Sent tells)
+sent_queue w a b = map sent (queue_of w a b)
+
+-- a wire that has carried nothing
+abbrev pub new_wire : ℕ → Carried
+new_wire parts = record { parts = parts; queues = replicate (parts * parts) []; received = 0; sum = 0 }

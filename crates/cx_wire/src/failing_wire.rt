@@ -1,0 +1,91 @@
+//! A wire in memory that fails at some calls.
+ghost use Rattle.std.specs.Prelude.{◌≡◌, ◌≤◌, ◌↔◌, IsTrue, if◌then◌else◌};
+ghost use Rattle.cx_disk.specs.Cause.{Rose};
+ghost use Rattle.cx_wire.specs.Failing.{FailsNext, failing_wire, failed, passed};
+
+use crate::mail::{Head, Mail};
+use crate::memory_wire::MemoryWire;
+use crate::wire::{Wire, WireFault};
+use cx_text::List;
+use std::marker::Model;
+
+/// A wire in memory that fails at the calls of `send` and `receive` with some numbers. The first call is number 0.
+#[derive(Debug, Drop)]
+pub struct FailingWire {
+    wire: MemoryWire,
+    fail: List<u64>,
+    calls: u64,
+    faults: u64,
+}
+
+impl Model for FailingWire {
+    ghost use Rattle.cx_wire.specs.Failing.{Failing};
+
+    ghost Value = { Failing };
+
+    ghost view = { λ w. record { wire = w.wire; fail = w.fail; calls = w.calls; faults = w.faults } };
+}
+
+impl FailingWire {
+    /// The wire that fails at the calls of these numbers.
+    pub fn new(wire: MemoryWire, fail: List<u64>) -> Self
+        ensures { result ≡ failing_wire wire fail }
+    {
+        FailingWire {
+            wire,
+            fail,
+            calls: 0,
+            faults: 0,
+        }
+    }
+
+    /// Counts a call, and tells whether it fails.
+    fn fails(&mut self) -> bool
+        ensures value { IsTrue result ↔ FailsNext self.old }
+        ensures later { self.old.faults ≤ self.new.faults }
+        ensures rose { IsTrue result → Rose self.old.faults self.new.faults }
+        ensures new { self.new ≡ (if result then failed self.old else passed self.old) }
+    {
+        let fails = self.fail.as_slice().contains(&self.calls);
+        self.calls = self.calls.saturating_add(1);
+        if fails {
+            self.faults = self.faults.saturating_add(1);
+        }
+        fails
+    }
+}
+
+impl Wire for FailingWire {
+    ghost use Rattle.std.specs.Prelude.{true};
+    ghost use Rattle.cx_wire.specs.Memory.{sent_queue};
+
+    ghost tells = { true };
+
+    ghost parts = { λ w. w.wire.parts };
+
+    ghost queue = { λ w. sent_queue w.wire };
+
+    ghost received = { λ w. w.wire.received };
+
+    ghost sum = { λ w. w.wire.sum };
+
+    ghost faults = { λ w. w.faults };
+
+    fn send(&mut self, from: u32, to: u32, mail: Mail) -> Result<(), (WireFault, Mail)> {
+        if self.fails() {
+            return Err((WireFault::Failed, mail));
+        }
+        self.wire.send(from, to, mail)
+    }
+
+    fn front(&self, from: u32, to: u32) -> Option<Head> {
+        self.wire.front(from, to)
+    }
+
+    fn receive(&mut self, from: u32, to: u32) -> Result<Mail, WireFault> {
+        if self.fails() {
+            return Err(WireFault::Failed);
+        }
+        self.wire.receive(from, to)
+    }
+}
