@@ -1,5 +1,7 @@
 -- A wire in memory: its queues by number, and what it has given out.
-use Rattle.std.specs.Prelude.{ℕ, ◌+◌, ◌*◌, ◌^◌, ◌<◌, ◌≡◌, nat_lt, ◌&&◌, List, [], length, map, slice_index_or, replicate, if◌then◌else◌}
+use Rattle.std.specs.Prelude.{ℕ, ◌+◌, ◌*◌, ◌%◌, ◌^◌, ◌<◌, ◌≡◌, nat_lt, ◌&&◌, List, [], length, map, slice_index_or, replicate, if◌then◌else◌}
+use Rattle.std.proofs.Common.{arith}
+use Rattle.std.proofs.lemmas.Nat.{mod_below}
 use Rattle.cx_wire.specs.declared.mail.Mail.{Mail}
 use Rattle.cx_wire.specs.Messages.{Sent, sent}
 
@@ -26,6 +28,13 @@ queue_of w = queue_in w.parts w.queues
 -- the same as a wire shows it, telling the values or not
 abbrev pub sent_queue : {tells : Type 0} → Carried → ℕ → ℕ → List (Sent tells)
 sent_queue w a b = map sent (queue_of w a b)
+
+-- the sum of what it has given out
+abbrev pub carried_sum : Carried → ℕ
+carried_sum w = w.sum % 2 ^ 64
+
+pub carried_sum_fits : (w : Carried) → carried_sum w < 2 ^ 64
+carried_sum_fits w = mod_below w.sum (2 ^ 64) (omega arith)
 
 -- a wire that has carried nothing
 abbrev pub new_wire : ℕ → Carried

@@ -62,7 +62,7 @@ fn with_first(mail: Mail, first: i64) -> Mail
 
 impl Wire for AlteringWire {
     ghost use Rattle.std.specs.Prelude.{false};
-    ghost use Rattle.cx_wire.specs.Memory.{sent_queue};
+    ghost use Rattle.cx_wire.specs.Memory.{sent_queue, carried_sum, carried_sum_fits};
 
     ghost tells = { false };
 
@@ -72,9 +72,11 @@ impl Wire for AlteringWire {
 
     ghost received = { λ w. w.wire.received };
 
-    ghost sum = { λ w. w.wire.sum };
+    ghost sum = { λ w. carried_sum w.wire };
 
     ghost faults = { λ _. 0 };
+
+    ghost sum_fits = { λ w _. carried_sum_fits w.wire };
 
     fn send(&mut self, from: u32, to: u32, mail: Mail) -> Result<(), (WireFault, Mail)> {
         let Some(first) = self.due(from, &mail) else {

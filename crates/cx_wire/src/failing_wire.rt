@@ -57,7 +57,7 @@ impl FailingWire {
 
 impl Wire for FailingWire {
     ghost use Rattle.std.specs.Prelude.{true};
-    ghost use Rattle.cx_wire.specs.Memory.{sent_queue};
+    ghost use Rattle.cx_wire.specs.Memory.{sent_queue, carried_sum, carried_sum_fits};
 
     ghost tells = { true };
 
@@ -67,9 +67,11 @@ impl Wire for FailingWire {
 
     ghost received = { λ w. w.wire.received };
 
-    ghost sum = { λ w. w.wire.sum };
+    ghost sum = { λ w. carried_sum w.wire };
 
     ghost faults = { λ w. w.faults };
+
+    ghost sum_fits = { λ w _. carried_sum_fits w.wire };
 
     fn send(&mut self, from: u32, to: u32, mail: Mail) -> Result<(), (WireFault, Mail)> {
         if self.fails() {

@@ -1,6 +1,6 @@
 //! A wire in memory.
 ghost use Rattle.std.specs.Prelude.{◌≡◌, ◌<◌, ◌+◌, ◌*◌, ◌^◌, ◌++◌, ◌∷◌, [], length, IfOk, OnOk, OnErr, IfErr, vec_len, slice_index_or, slice_set, replicate};
-ghost use Rattle.cx_wire.specs.Memory.{new_wire};
+ghost use Rattle.cx_wire.specs.Memory.{new_wire, carried_sum};
 ghost use Rattle.cx_wire.specs.Messages.{IsCounted};
 
 use crate::mail::{Head, Mail};
@@ -67,7 +67,7 @@ impl MemoryWire {
 
     /// The sum of the values that were given out, modulo 2^64.
     pub fn received_sum(&self) -> u64
-        ensures { result ≡ self.now.sum }
+        ensures { result ≡ carried_sum self.now }
     {
         self.sum
     }
@@ -125,7 +125,7 @@ fn take_from(queues: &mut Vec<Queue>, at: usize) -> Mail
 
 impl Wire for MemoryWire {
     ghost use Rattle.std.specs.Prelude.{true};
-    ghost use Rattle.cx_wire.specs.Memory.{sent_queue};
+    ghost use Rattle.cx_wire.specs.Memory.{sent_queue, carried_sum, carried_sum_fits};
 
     ghost tells = { true };
 
@@ -135,9 +135,11 @@ impl Wire for MemoryWire {
 
     ghost received = { λ w. w.received };
 
-    ghost sum = { λ w. w.sum };
+    ghost sum = { carried_sum };
 
     ghost faults = { λ _. 0 };
+
+    ghost sum_fits = { λ w _. carried_sum_fits w };
 
     fn send(&mut self, from: u32, to: u32, mail: Mail) -> Result<(), (WireFault, Mail)> {
         let at = number(from, to, self.parts);

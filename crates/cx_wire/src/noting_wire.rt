@@ -45,7 +45,7 @@ impl NotingWire {
 
 impl Wire for NotingWire {
     ghost use Rattle.std.specs.Prelude.{true};
-    ghost use Rattle.cx_wire.specs.Memory.{sent_queue};
+    ghost use Rattle.cx_wire.specs.Memory.{sent_queue, carried_sum, carried_sum_fits};
 
     ghost tells = { true };
 
@@ -55,9 +55,11 @@ impl Wire for NotingWire {
 
     ghost received = { λ w. w.wire.received };
 
-    ghost sum = { λ w. w.wire.sum };
+    ghost sum = { λ w. carried_sum w.wire };
 
     ghost faults = { λ _. 0 };
+
+    ghost sum_fits = { λ w _. carried_sum_fits w.wire };
 
     fn send(&mut self, from: u32, to: u32, mail: Mail) -> Result<(), (WireFault, Mail)> {
         if self.notes.push((from, to, mail.head)).is_err() {

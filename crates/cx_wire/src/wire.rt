@@ -86,4 +86,7 @@ pub trait Wire {
         ensures same_sum { IsTrue tells → OnErr result (sum self.new ≡ sum self.old) }
         ensures cause { HasCause WireFault.Failed (faults self.old) (faults self.new) result }
         ensures takes_no_memory { IfErr result (λ fault. fault ≡ WireFault.Failed) };
+
+    /// A sum that is told is one of 64 bits.
+    ghost sum_fits: { (wire : Self) → IsTrue tells → sum wire < 2 ^ 64 };
 }
