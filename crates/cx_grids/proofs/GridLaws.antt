@@ -1,10 +1,9 @@
 -- Shapes and cuts, value by value.
-use Rattle.std.proofs.Common.{◌≡◌, sym, ◌∙◌, ap, subst, refl, ℕ, ◌+◌, Bool, true, List, [], ◌∷◌, ◌++◌, map, codes, unsigned_abs, if◌then◌else◌, Result, IfOk, zero-add}
-use Rattle.std.proofs.lemmas.List.FromFn.{map-range_with_len_more}
-use Rattle.std.specs.List.{range_with_len}
+use Rattle.std.proofs.Common.{◌≡◌, ◌∙◌, ap, subst, refl, ℕ, Bool, true, List, [], ◌∷◌, ◌++◌, codes, unsigned_abs, if◌then◌else◌, Result, IfOk}
+use Rattle.cx_cut.specs.Equal.{even}
 use Rattle.cx_values.specs.declared.values.Values.{Values}
 use Rattle.cx_grids.specs.declared.direction.Direction.{Direction}
-use Rattle.cx_grids.specs.Grids.{holds_at, text_at, natural_within, letter, has_direction, points_along, is_periodic_along, even_width, even, widths_or, equal_widths, widths_along}
+use Rattle.cx_grids.specs.Grids.{holds_at, text_at, natural_within, letter, has_direction, points_along, is_periodic_along, widths_or, equal_widths, widths_along}
 
 -- what is told of an answer, by another name
 pub told_as : {A E : Type 0} (r : Result A E) (x y : A) → x ≡ y → IfOk r (λ a. a ≡ x) → IfOk r (λ a. a ≡ y)
@@ -12,13 +11,6 @@ told_as r x y e h = subst (λ z. IfOk r (λ a. a ≡ z)) e h
 
 chosen : {X : Type 0} (b : Bool) (x y : X) → b ≡ true → x ≡ (if b then x else y)
 chosen b x y e = rw e refl
-
-pub one_width : (n p k w : ℕ) (before after : List ℕ) → before ≡ map (even_width n p) (range_with_len 0 k) → w ≡ even_width n p k → after ≡ before ++ w ∷ [] → after ≡ map (even_width n p) (range_with_len 0 (k + 1))
-one_width n p k w before after was is next =
-    next
-    ∙ ap (λ x. before ++ x ∷ []) is
-    ∙ ap (λ xs. xs ++ even_width n p k ∷ []) was
-    ∙ sym (map-range_with_len_more (even_width n p) 0 k k (zero-add k))
 
 pub as_equal_widths : (dims : ℕ) (v : Values) (d : Direction) (n p : ℕ) → n ≡ unsigned_abs (points_along dims v d) → p ≡ natural_within v 1 512 (codes "driver::parts_" ++ letter d) → even n p ≡ equal_widths dims v d
 as_equal_widths dims v d n p points parts = ap (λ n. even n p) points ∙ ap (λ p. even (unsigned_abs (points_along dims v d)) p) parts

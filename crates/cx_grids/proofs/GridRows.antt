@@ -1,4 +1,4 @@
--- Worked rows: equal cuts, and the grid, the cut and the numbers of some settings.
+-- Worked rows: listed widths, and the grid, the cut and the numbers of some settings.
 use Rattle.std.specs.Prelude.{◌≡◌, refl, ℕ, pos, negsuc, true, false, List, [], ◌∷◌, codes, Some, None}
 use Rattle.cx_iface.specs.declared.tree.Access.TheVariants.{Public}
 use Rattle.cx_parfile.specs.declared.settings.Setting.{Setting}
@@ -7,16 +7,10 @@ use Rattle.cx_bind.specs.declared.thorns.Thorn.{Thorn}
 use Rattle.cx_bind.proofs.Samples.{elem_ca, thorn, grid_group}
 use Rattle.cx_values.specs.Naming.{names}
 use Rattle.cx_values.specs.Assigned.{assigned}
-use Rattle.cx_grids.specs.Grids.{even, listed_widths, dims, shape_of, cuts_of}
+use Rattle.cx_grids.specs.Grids.{listed_widths, dims, shape_of, cuts_of}
 use Rattle.cx_grids.specs.RunNumbers.{itlast, out_every, out_dir, recover_of}
 
--- ---- equal cuts and listed widths
-
-row_even : even 10 3 ≡ 4 ∷ 3 ∷ 3 ∷ []
-row_even = refl
-
-row_more_parts_than_points : even 2 3 ≡ 1 ∷ 1 ∷ 0 ∷ []
-row_more_parts_than_points = refl
+-- ---- listed widths
 
 row_listed : listed_widths (codes " 5  003 ") ≡ 5 ∷ 3 ∷ []
 row_listed = refl

@@ -1,12 +1,13 @@
 -- The grid, and how it is cut, by the values of the built-in parameters.
-use Rattle.std.specs.Prelude.{ℕ, ◌+◌, ◌/◌, ◌%◌, ◌==◌, nat_lt, min, max, Bool, false, ◌&&◌, ℤ, pos, int_le, unsigned_abs, List, [], ◌∷◌, ◌++◌, map, find, length, codes, Option, None, if◌then◌else◌}
+use Rattle.std.specs.Prelude.{ℕ, ◌==◌, nat_lt, min, max, Bool, false, ◌&&◌, ℤ, pos, int_le, unsigned_abs, List, [], ◌∷◌, ◌++◌, find, length, codes, Option, None, if◌then◌else◌}
 use Rattle.std.specs.Int.{int_min, int_max}
-use Rattle.std.specs.List.{filter_map, slice_split, range_with_len}
+use Rattle.std.specs.List.{filter_map, slice_split}
 use Rattle.std.specs.Option.{option_map, unwrap_or}
 use Rattle.cx_text.specs.Bytes.{is_blank}
 use Rattle.cx_grid.specs.declared.shapes.Shape.{Shape}
 use Rattle.cx_plan.specs.Lists.{first_of_each}
 use Rattle.cx_plan.specs.declared.job.Cuts.{Cuts}
+use Rattle.cx_cut.specs.Equal.{even}
 use Rattle.cx_param.specs.declared.ranges.Value.{Value}
 use Rattle.cx_param.specs.declared.ranges.Value.TheVariants.{Number, Flag, Text}
 use Rattle.cx_bind.specs.declared.thorns.Thorn.{Thorn}
@@ -118,13 +119,6 @@ abbrev pub shape_of : List Thorn → Values → Shape
 shape_of thorns v = shape_by (dims thorns) v
 
 -- ---- the cut
-
--- An equal cut of n points into p parts: the first n mod p parts have one point more.
-abbrev pub even_width : ℕ → ℕ → ℕ → ℕ
-even_width n p k = n / p + (if nat_lt k (n % p) then 1 else 0)
-
-abbrev pub even : ℕ → ℕ → List ℕ
-even n p = map (even_width n p) (range_with_len 0 p)
 
 -- the width that a word says
 abbrev pub width_in : List ℕ → Option ℕ

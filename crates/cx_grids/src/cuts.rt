@@ -1,13 +1,14 @@
 //! The cut of the grid, by the values of parameters.
 
-ghost use Rattle.std.specs.Prelude.{◌≡◌, ◌≤◌, map, unsigned_abs, IfOk};
+ghost use Rattle.std.specs.Prelude.{◌≡◌, map, unsigned_abs, IfOk};
 ghost use Rattle.std.specs.List.{filter_map};
-ghost use Rattle.cx_grids.specs.Grids.{even_width, even, most_points, width_in, listed_widths, widths_or, equal_widths, points_along, widths_along, cuts_by, cuts_of};
+ghost use Rattle.cx_grids.specs.Grids.{width_in, listed_widths, widths_or, equal_widths, points_along, widths_along, cuts_by, cuts_of};
 
 use crate::Direction;
 use crate::built_in::{natural_along, text_along};
 use crate::grids::{dims_of, points_along};
 use cx_bind::Bound;
+use cx_cut::even;
 use cx_plan::Cuts;
 use cx_text::{List, Memory, natural_in, parts_between_blanks};
 use cx_values::Values;
@@ -18,32 +19,6 @@ const MAX_WIDTH: u64 = 16_777_216;
 
 /// The most parts along a direction.
 const MAX_PARTS: u32 = 512;
-
-/// The width of a part of an equal cut: the first ones have one point more.
-fn width_of(points: u32, parts: u32, part: u32) -> u32
-    requires some { 1 ≤ parts }
-    requires few { points ≤ most_points }
-    ensures { result ≡ even_width points parts part }
-{
-    let width = points / parts;
-    if part < points % parts {
-        width + 1
-    } else {
-        width
-    }
-}
-
-fn even(alloc: Global, points: u32, parts: u32) -> Result<List<u32>, Memory>
-    requires some { 1 ≤ parts }
-    requires few { points ≤ most_points }
-    ensures { IfOk result (λ widths. widths ≡ even points parts) }
-{
-    let mut widths = List::empty(alloc);
-    'parts: for part in 0..parts {
-        widths.push(width_of(points, parts, part))?;
-    }
-    Ok(widths)
-}
 
 /// The width that a word of digits says.
 fn width_in(word: &[u8]) -> Option<u32>
@@ -83,8 +58,7 @@ fn point_count_along(
     values: &Values,
     direction: Direction,
 ) -> Result<u32, Memory>
-    ensures value { IfOk result (λ n. n ≡ unsigned_abs (points_along dims values.now direction)) }
-    ensures few { IfOk result (λ n. n ≤ most_points) }
+    ensures { IfOk result (λ n. n ≡ unsigned_abs (points_along dims values.now direction)) }
 {
     let points = points_along(alloc, dims, values, direction)?;
     Ok(points.unsigned_abs())

@@ -16,4 +16,4 @@ pub use run_numbers::{
     checkpoint_dir, checkpoint_every, itlast, keep, lead, on_end, out_dir, out_every, recover_of,
     while_limit,
 };
-pub use stored::{owned_cells, point_count, stored_infos, stored_levels};
+pub use stored::{grid_levels, owned_cells, point_count, stored_infos, stored_levels};

@@ -80,7 +80,8 @@ fn grid_levels_in(info: &VarInfo) -> u64
     }
 }
 
-fn grid_levels(vars: &[VarInfo]) -> u64
+/// The number of stored levels of grid variables, or the greatest number of 64 bits.
+pub fn grid_levels(vars: &[VarInfo]) -> u64
     ensures { result ≡ in_64_bits (grid_levels vars.now) }
 {
     let mut levels: u64 = 0;
