@@ -9,7 +9,7 @@ use Rattle.cx_plan.specs.declared.tree.Schedule.{Schedule}
 use Rattle.cx_plan.specs.declared.tree.Tree.{Tree, Seq, If, While, Seq', Call, Sync, If', While', Row_of-Tree, end_of-Tree, more_of-Tree}
 use Rattle.cx_plan.specs.declared.variable.VarId.{VarId}
 use Rattle.cx_region.proofs.CalledLaws.{called-seq, called-if, called-while, flat_map-take}
-use Rattle.cx_job.specs.Making.{run_count}
+use Rattle.cx_job.specs.JobLimits.{run_count}
 
 -- ---- a tree calls no more items than it has nodes
 

@@ -20,7 +20,8 @@ use Rattle.cx_rule.specs.declared.spec.Spec.{Spec}
 use Rattle.cx_rule.specs.declared.spec.Want.{Want}
 use Rattle.cx_rule.specs.Jobs.{of_touch, of_want, HasRoutine, FitJob}
 use Rattle.cx_job.specs.Jobs.{job_of}
-use Rattle.cx_job.specs.Making.{run_count, Matches}
+use Rattle.cx_job.specs.JobLimits.{run_count}
+use Rattle.cx_job.specs.Making.{Matches}
 use Rattle.cx_match.specs.Matching.{thorn_number, level_of, touch_by, touch_of, param_number, is_for, all_matched}
 use Rattle.cx_grids.proofs.NoneLaws.{no_some, some_same, both_first}
 use Rattle.cx_job.proofs.MatchedLaws.{answered_below, IsMatched, matched_at}

@@ -1,4 +1,5 @@
 pub mod LineLaws
+mod LocalCellLaws
 mod KeyRows
 pub mod OnlyMade
 pub mod OnlyJob

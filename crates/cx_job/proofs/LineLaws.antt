@@ -9,7 +9,7 @@ one_behind : {X : Type 0} (line : X → List ℕ) (text : List ℕ) (xs ys : Lis
 one_behind line text xs ys x more begun added =
     added ∙ ap (λ part. part ++ line x) begun ∙ flat_map_more line text xs x ∙ ap (λ zs. text ++ flat_map line zs) (sym more)
 
-numbers_more : (n : ℕ) → range_with_len 0 (n + 1) ≡ range_with_len 0 n ++ n ∷ []
+pub numbers_more : (n : ℕ) → range_with_len 0 (n + 1) ≡ range_with_len 0 n ++ n ∷ []
 numbers_more n =
     sym (map-id (range_with_len 0 (n + 1)))
     ∙ map-range_with_len_more (λ k. k) 0 n n (zero-add n)

@@ -1,5 +1,5 @@
 -- The stages from thorns to a job, one behind another.
-use Rattle.std.proofs.Common.{◌≡◌, ◌≢◌, ◌∙◌, sym, ap, subst, refl, ◌⊎◌, inl, inr, ℕ, Bool, true, false, List, [], ◌∷◌, Option, Some, None, Result, Ok, Err, nat_lt, take, codes, if◌then◌else◌, arith}
+use Rattle.std.proofs.Common.{◌≡◌, ◌≢◌, ◌∙◌, sym, ap, subst, refl, ◌⊎◌, inl, inr, ℕ, Bool, true, false, List, [], ◌∷◌, Option, Some, None, Result, Ok, Err, nat_lt, take, codes, ◌^◌, if◌then◌else◌, arith}
 use Rattle.std.specs.Prelude.{option_map}
 use Rattle.cx_plan.specs.Lists.{or_else, first_of_each}
 use Rattle.cx_plan.specs.declared.item.Item.{Item}
@@ -24,9 +24,12 @@ use Rattle.cx_job.specs.declared.fault.JobFault.TheVariants as faults
 use Rattle.cx_config.specs.declared.configuring.Configured.{Configured}
 use Rattle.cx_config.specs.Shelf.{Held}
 use Rattle.cx_grids.specs.Stored.{in_64_bits}
+use Rattle.cx_cut.specs.Faults.{parts_of, cut_fault}
+use Rattle.cx_cut.specs.declared.faults.CutFault.{CutFault}
+use Rattle.cx_job.specs.LocalCells.{local_cells}
 use Rattle.cx_job.specs.Jobs.{job_of}
 use Rattle.cx_job.specs.Outputs.{output_variables}
-use Rattle.cx_job.specs.JobLimits.{over, writes_fault, reads_fault, parameters_fault, each_limit, item_limits, points_fault, cells_fault, grid_limits, key_limit, limit_fault}
+use Rattle.cx_job.specs.JobLimits.{over, writes_fault, reads_fault, parameters_fault, each_limit, item_limits, points_fault, cells_fault, grid_limits, key_limit, limit_fault, run_count}
 use Rattle.cx_config.specs.declared.fault.ConfigFault.{ConfigFault}
 use Rattle.cx_config.specs.declared.fault.ConfigFault.TheVariants as configs
 use Rattle.cx_config.specs.Reading.{Follows}
@@ -37,7 +40,7 @@ use Rattle.cx_job.specs.Faults.{config_fault, match_fault}
 use Rattle.cx_text.specs.Telling.{Stage, Then}
 use Rattle.cx_config.specs.Stages.{Is, unless, or_fault}
 use Rattle.cx_config.specs.Configuring.{Configures}
-use Rattle.cx_job.specs.Making.{Orders, Matches, Accepts, LimitsAnd, ItemsAnd, OutputsAnd, PlanAnd, ValuesAnd, MadeOf, Made, Makes, Yields, output_ids, within_limits, run_count}
+use Rattle.cx_job.specs.Making.{Orders, Matches, Accepts, CutAnd, cut_limits, within_cut, LimitsAnd, ItemsAnd, OutputsAnd, PlanAnd, ValuesAnd, MadeOf, Made, Makes, Yields, output_ids, within_limits}
 use Rattle.cx_job.proofs.OnlyJob.{Comes, only_job, only_fault}
 
 abbrev err : (A : Type 0) → JobFault → Result A JobFault
@@ -135,13 +138,24 @@ match_not (matches.UnknownRoutine path) z = absurd cc
 match_not (matches.RoutineMismatch path declared offered) z = absurd cc
 match_not matches.Memory z = absurd cc
 
+cut_not : (o : Option CutFault) → NotShelf (option_map faults.Cut o)
+cut_not None z = absurd cc
+cut_not (Some e) z = absurd cc
+
+cut_limits_not : (job : Job) → NotShelf (cut_limits job)
+cut_limits_not job =
+    or_else_not (option_map faults.Cut (cut_fault (parts_of job.shape job.cut))) (over (codes "local cells") (local_cells job) (2 ^ 27)) (cut_not _) (over_not _ _ _)
+
 -- ---- all stages
 
 accepts_not : (job : Job) → Accepts job (err Job faults.Shelf) → ⊥
 accepts_not job (fault, is, other, told) = absurd cc
 
+cut_and_not : (job : Job) → CutAnd job (err Job faults.Shelf) → ⊥
+cut_and_not job = then_not (Is (within_cut job)) Accepts (unless_not (cut_limits job) job (cut_limits_not job)) accepts_not
+
 limits_and_not : (run : ℕ) (job : Job) → LimitsAnd run job (err Job faults.Shelf) → ⊥
-limits_and_not run job = then_not (Is (within_limits run job)) Accepts (unless_not (limit_fault run job.items job.shape job.vars job.key) job (limits_not run job)) accepts_not
+limits_and_not run job = then_not (Is (within_limits run job)) CutAnd (unless_not (limit_fault run job.items job.shape job.vars job.key) job (limits_not run job)) cut_and_not
 
 module _ (specs : List Spec) where
   items_not : (thorns : List Thorn) (values : Values) (ordered : Ordered) → Matches thorns values specs ordered (err (List Item) faults.Shelf) → ⊥

@@ -31,7 +31,8 @@ use Rattle.cx_job.specs.Jobs.{job_of}
 use Rattle.cx_match.proofs.OnlyMatched.{all-same}
 use Rattle.cx_config.specs.Stages.{Is, unless, or_fault}
 use Rattle.cx_config.proofs.Settled.{Settled, same_fault, settled_is, then_settled}
-use Rattle.cx_job.specs.Making.{Orders, Matches, Accepts, LimitsAnd, ItemsAnd, OutputsAnd, PlanAnd, ValuesAnd, MadeOf, output_ids, within_limits, run_count, without_witness}
+use Rattle.cx_job.specs.JobLimits.{run_count}
+use Rattle.cx_job.specs.Making.{Orders, Matches, Accepts, CutAnd, within_cut, LimitsAnd, ItemsAnd, OutputsAnd, PlanAnd, ValuesAnd, MadeOf, output_ids, within_limits, without_witness}
 
 matches_same : (thorns : List Thorn) (values : Values) (specs : List Spec) (ordered : Ordered) (r s : Result (List Item) JobFault) → Matches thorns values specs ordered r → Matches thorns values specs ordered s → r ≡ s
 matches_same thorns values specs ordered r s m n =
@@ -74,8 +75,11 @@ accepts_settled job = record {
 
 -- ---- all stages behind the files
 
+cut_settled : (job : Job) → Settled without_witness (CutAnd job)
+cut_settled job = then_settled without_witness (Is (within_cut job)) Accepts (settled_is without_witness (within_cut job)) accepts_settled
+
 limits_settled : (run : ℕ) (job : Job) → Settled without_witness (LimitsAnd run job)
-limits_settled run job = then_settled without_witness (Is (within_limits run job)) Accepts (settled_is without_witness (within_limits run job)) accepts_settled
+limits_settled run job = then_settled without_witness (Is (within_limits run job)) CutAnd (settled_is without_witness (within_limits run job)) cut_settled
 
 module _ (specs : List Spec) where
   items_settled : (thorns : List Thorn) (values : Values) (ordered : Ordered) (out_vars : List VarId) → Settled without_witness (ItemsAnd specs thorns values ordered out_vars)

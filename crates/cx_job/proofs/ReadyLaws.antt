@@ -1,7 +1,10 @@
 -- What the stages from thorns to a job make sure of.
-use Rattle.std.proofs.Common.{◌≡◌, ◌∙◌, sym, ap, subst, ◌<◌, ◌+◌, inl, inr, ℕ, List, [], ◌∷◌, ◌++◌, map, length, take, get_or, Option, None, Result, Ok, Err, IfOk}
+use Rattle.std.proofs.Common.{◌≡◌, ◌∙◌, sym, ap, subst, refl, ◌<◌, ◌+◌, ◌^◌, inl, inr, ℕ, List, [], ◌∷◌, ◌++◌, map, length, take, get_or, codes, Option, Some, None, Result, Ok, Err, IfOk}
+use Rattle.std.specs.Prelude.{option_map}
 use Rattle.std.proofs.lemmas.List.{map-append, take_more}
 use Rattle.cx_plan.specs.Setups.{setup_of}
+use Rattle.cx_plan.specs.Regions.{HasShapes}
+use Rattle.cx_plan.specs.Paths.{Sound}
 use Rattle.cx_plan.specs.Whole.{IsWhole}
 use Rattle.cx_plan.specs.declared.item.Item.{Item}
 use Rattle.cx_plan.specs.declared.job.Job.{Job}
@@ -16,8 +19,12 @@ use Rattle.cx_order.specs.Meanings.{World}
 use Rattle.cx_order.specs.declared.ordered.Ordered.{Ordered}
 use Rattle.cx_rule.specs.Jobs.{FitJob}
 use Rattle.cx_rule.specs.declared.spec.Spec.{Spec}
+use Rattle.cx_cut.specs.Faults.{parts_of, cut_fault}
+use Rattle.cx_cut.specs.declared.faults.CutFault.{CutFault}
 use Rattle.cx_job.specs.declared.fault.JobFault.{JobFault}
-use Rattle.cx_job.specs.JobLimits.{limit_fault}
+use Rattle.cx_job.specs.declared.fault.JobFault.TheVariants as faults
+use Rattle.cx_job.specs.JobLimits.{over, limit_fault, run_count}
+use Rattle.cx_job.specs.LocalCells.{local_cells}
 use Rattle.cx_job.specs.Jobs.{job_of}
 use Rattle.cx_job.specs.Outputs.{output_variables}
 use Rattle.cx_match.specs.Matching.{all_matched}
@@ -27,9 +34,10 @@ use Rattle.cx_config.specs.NamesAndLevels.{AreRead}
 use Rattle.cx_match.specs.declared.fault.MatchFault.{MatchFault}
 use Rattle.cx_job.specs.Faults.{match_fault}
 use Rattle.cx_config.specs.Stages.{Is, or_fault}
-use Rattle.cx_job.specs.Making.{Orders, Matches, Accepts, LimitsAnd, ItemsAnd, OutputsAnd, PlanAnd, Yields, IsReady, IsPlanned, output_ids, within_limits, run_count}
+use Rattle.cx_job.specs.Making.{Orders, Matches, Accepts, CutAnd, cut_limits, within_cut, LimitsAnd, ItemsAnd, OutputsAnd, PlanAnd, Yields, IsReady, IsPlanned, output_ids, within_limits}
 use Rattle.cx_job.proofs.MakingLaws.{yields_halt, yields_pass, yields_ok, unless_ok}
-use Rattle.cx_job.proofs.WholeJobs.{is_whole}
+use Rattle.cx_grids.proofs.NoneLaws.{first_none, second_none}
+use Rattle.cx_job.proofs.WholeJobs.{is_whole, not_over}
 use Rattle.cx_job.proofs.FitLaws.{fits}
 
 abbrev err : (A : Type 0) → JobFault → Result A JobFault
@@ -79,12 +87,12 @@ module _ (specs : List Spec) (thorns : List Thorn) (values : Values) (ordered : 
     pub over_limits : (e : JobFault) → Yields (Matches thorns values specs ordered) (Ok items) → Yields (Is (within_limits run job_left)) (err Job e) → Yields (ItemsAnd specs thorns values ordered out_vars) (err Job e)
     over_limits e matches limited =
         yields_pass (Matches thorns values specs ordered) (λ items. LimitsAnd (run_count ordered.plan) (job_by items)) items (Err e) matches
-        (limits_too (Err e) (yields_halt (Is (within_limits run job_left)) Accepts e limited))
+        (limits_too (Err e) (yields_halt (Is (within_limits run job_left)) CutAnd e limited))
 
-    pub items_made : (job : Job) (r : Result Job JobFault) → Yields (Matches thorns values specs ordered) (Ok items) → Yields (Is (within_limits run job_left)) (Ok job) → Yields (Accepts job) r → Yields (ItemsAnd specs thorns values ordered out_vars) r
+    pub items_made : (job : Job) (r : Result Job JobFault) → Yields (Matches thorns values specs ordered) (Ok items) → Yields (Is (within_limits run job_left)) (Ok job) → Yields (CutAnd job) r → Yields (ItemsAnd specs thorns values ordered out_vars) r
     items_made job r matches limited accepted =
         yields_pass (Matches thorns values specs ordered) (λ items. LimitsAnd (run_count ordered.plan) (job_by items)) items r matches
-        (limits_too r (yields_pass (Is (within_limits run job_left)) Accepts job r limited accepted))
+        (limits_too r (yields_pass (Is (within_limits run job_left)) CutAnd job r limited accepted))
 
     module _ (job : Job) (matches : Yields (Matches thorns values specs ordered) (Ok items)) (limited : Yields (Is (within_limits run job_left)) (Ok job)) (planned : IsPlanned thorns values ordered) where
       the_job : job ≡ job_by items
@@ -105,10 +113,27 @@ module _ (specs : List Spec) (thorns : List Thorn) (values : Values) (ordered : 
           subst (λ (j : Job). FitJob specs (setup_of j)) (sym the_job)
           (fits thorns planned.files values specs ordered items out_vars planned.plan (yields_ok (Matches thorns values specs ordered) items matches))
 
-pub ready_of : (specs : List Spec) (job : Job) (r : Result Job JobFault) → IsWhole job → FitJob specs (setup_of job) → Yields (Accepts job) r → IfOk r (IsReady specs)
+unmapped : (o : Option CutFault) → option_map faults.Cut o ≡ None → o ≡ None
+unmapped None none = refl
+unmapped (Some e) none = absurd cc
+
+pub ready_of : (specs : List Spec) (job : Job) (r : Result Job JobFault) → IsWhole job → FitJob specs (setup_of job) → Yields (CutAnd job) r → IfOk r (IsReady specs)
 ready_of specs job (Err e) whole fit accepted = tt
 ready_of specs job (Ok other) whole fit (inl m) = absurd cc
-ready_of specs job (Ok other) whole fit (inr s) = subst (IsReady specs) (sym s.0) (record { whole = whole; shapes = s.1; sound = s.2; fit = fit })
+ready_of specs job (Ok other) whole fit (inr (inl (e, s, z))) = absurd cc
+ready_of specs job (Ok other) whole fit (inr (inr (x, s, t))) =
+    let cut = unless_ok (cut_limits job) job x (inr s) in
+    let parts = option_map faults.Cut (cut_fault (parts_of job.shape job.cut)) in
+    let cells = over (codes "local cells") (local_cells job) (2 ^ 27) in
+    subst (IsReady specs) (sym (t.0 ∙ cut.1))
+    (record {
+      whole = whole;
+      shapes = subst (λ j. HasShapes (setup_of j)) cut.1 t.1;
+      sound = subst (λ j. Sound (setup_of j)) cut.1 t.2;
+      fit = fit;
+      cut = unmapped (cut_fault (parts_of job.shape job.cut)) (first_none parts cells cut.0);
+      few_cells = not_over (codes "local cells") (local_cells job) (2 ^ 27) (second_none parts cells cut.0);
+    })
 
 -- ---- the plan and the variables that are written
 

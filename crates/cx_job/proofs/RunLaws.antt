@@ -18,7 +18,7 @@ use Rattle.cx_order.specs.Files.{Input}
 use Rattle.cx_order.specs.Ordering.{IsPlan, world}
 use Rattle.cx_order.specs.Plans.{Forest, Done, Then, calls, trees, forests, bin_trees, forest_items, sync_tree, call_tree, with_while, with_if, wrapped}
 use Rattle.cx_region.proofs.CalledLaws.{called-seq, called-if, called-while}
-use Rattle.cx_job.specs.Making.{run_count}
+use Rattle.cx_job.specs.JobLimits.{run_count}
 use Rattle.cx_job.proofs.SupportedLaws.{none_in, in_all}
 use Rattle.cx_job.proofs.TreeLaws.{count_items}
 

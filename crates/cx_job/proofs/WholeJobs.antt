@@ -27,13 +27,13 @@ use Rattle.cx_order.specs.Meanings.{World}
 use Rattle.cx_order.specs.Plans.{Forest, forests, forest_items, bin_trees}
 use Rattle.cx_rule.specs.declared.spec.Spec.{Spec}
 use Rattle.cx_job.specs.declared.fault.JobFault.TheVariants.{Limit}
-use Rattle.cx_job.specs.JobLimits.{over, writes_fault, reads_fault, parameters_fault, item_limits, points_fault, cells_fault, grid_limits, key_limit, limit_fault}
+use Rattle.cx_job.specs.JobLimits.{over, writes_fault, reads_fault, parameters_fault, item_limits, points_fault, cells_fault, grid_limits, key_limit, limit_fault, run_count}
 use Rattle.cx_job.specs.Jobs.{job_of}
 use Rattle.cx_config.specs.NamesAndLevels.{AreRead}
 use Rattle.cx_job.specs.Outputs.{output_variables}
 use Rattle.cx_grids.specs.Stored.{in_64_bits, stored_infos}
 use Rattle.cx_grids.specs.Grids.{number_at}
-use Rattle.cx_job.specs.Making.{run_count, Matches}
+use Rattle.cx_job.specs.Making.{Matches}
 use Rattle.cx_grids.proofs.NoneLaws.{some_none, first_none, second_none}
 use Rattle.cx_grids.proofs.LimitLaws.{lies_within, natural_lies_within, has_shape}
 use Rattle.cx_job.proofs.WrittenLaws.{outputs_stored, outputs_rise}

@@ -1,12 +1,15 @@
 -- The limits of a job, in their order.
 use Rattle.std.specs.Prelude.{ℕ, ◌*◌, ◌-◌, ◌^◌, nat_lt, List, length, take, codes, Option, Some, None, if◌then◌else◌}
+use Rattle.std.specs.List.{flat_map}
 use Rattle.cx_grid.specs.declared.shapes.Shape.{Shape}
 use Rattle.cx_grid.specs.Boxes.{point_count}
 use Rattle.cx_grid.specs.Grid.{whole}
 use Rattle.cx_plan.specs.Lists.{or_else, first_of_each}
+use Rattle.cx_plan.specs.Lookups.{called, run_bin_count}
 use Rattle.cx_plan.specs.Whole.{grid_levels}
 use Rattle.cx_plan.specs.declared.variable.VarInfo.{VarInfo}
 use Rattle.cx_plan.specs.declared.item.Item.{Item}
+use Rattle.cx_plan.specs.declared.tree.Schedule.{Schedule}
 use Rattle.cx_job.specs.declared.fault.JobFault.{JobFault}
 use Rattle.cx_job.specs.declared.fault.JobFault.TheVariants.{Limit}
 use Rattle.cx_grids.specs.Stored.{in_64_bits}
@@ -16,6 +19,10 @@ abbrev pub over : List ℕ → ℕ → ℕ → Option JobFault
 over what number limit = if nat_lt limit number then Some (Limit what (in_64_bits number)) else None
 
 -- ---- items
+
+-- how many items the bins that are run call; these stand first
+abbrev pub run_count : Schedule → ℕ
+run_count plan = length (flat_map called (take run_bin_count plan.bins))
 
 abbrev pub writes_fault : Item → Option JobFault
 writes_fault x = over (codes "writes") (length x.writes) 16
@@ -30,7 +37,7 @@ parameters_fault x = over (codes "parameters") (length x.params) 32
 abbrev pub each_limit : List Item → Option JobFault
 each_limit items = or_else (first_of_each writes_fault items) (or_else (first_of_each reads_fault items) (first_of_each parameters_fault items))
 
--- The items of the bins that are run stand first, and only they have limits.
+-- only these items have limits
 abbrev pub item_limits : ℕ → List Item → Option JobFault
 item_limits run items = each_limit (take run items)
 

@@ -2,5 +2,6 @@ pub mod Keys
 pub mod Outputs
 pub mod Jobs
 pub mod JobLimits
+pub mod LocalCells
 pub mod Faults
 pub mod Making

@@ -1,17 +1,15 @@
 -- The job that files make, or the first fault: stage after stage.
-use Rattle.std.specs.Prelude.{◌≡◌, ◌≢◌, ◌⊎◌, ℕ, List, take, length, codes, None, option_map, Result, Ok, Err, IsErrAnd, MatchResult}
-use Rattle.std.specs.List.{flat_map}
+use Rattle.std.specs.Prelude.{◌≡◌, ◌≢◌, ◌⊎◌, ℕ, ◌^◌, ◌≤◌, List, codes, Option, None, option_map, Result, Ok, Err, IsErrAnd, MatchResult}
 use Rattle.cx_parfile.specs.declared.settings.Setting.{Setting}
 use Rattle.cx_sched.specs.declared.tree.ScheduleFile.{ScheduleFile}
+use Rattle.cx_plan.specs.Lists.{or_else}
 use Rattle.cx_plan.specs.Setups.{setup_of}
-use Rattle.cx_plan.specs.Lookups.{called, run_bin_count}
 use Rattle.cx_plan.specs.Regions.{HasShapes}
 use Rattle.cx_plan.specs.Paths.{Sound}
 use Rattle.cx_plan.specs.Whole.{IsWhole}
 use Rattle.cx_plan.specs.declared.variable.VarId.{VarId}
 use Rattle.cx_plan.specs.declared.item.Item.{Item}
 use Rattle.cx_plan.specs.declared.job.Job.{Job}
-use Rattle.cx_plan.specs.declared.tree.Schedule.{Schedule}
 use Rattle.cx_bind.specs.Binding.{bind_fault}
 use Rattle.cx_bind.specs.declared.thorns.Thorn.{Thorn}
 use Rattle.cx_values.specs.Assigned.{assigned}
@@ -42,7 +40,9 @@ use Rattle.cx_config.specs.Stages.{Is, unless, or_fault, Raised}
 use Rattle.cx_config.specs.Configuring.{Configures}
 use Rattle.cx_job.specs.Faults.{config_fault, match_fault}
 use Rattle.cx_job.specs.Jobs.{job_of}
-use Rattle.cx_job.specs.JobLimits.{limit_fault}
+use Rattle.cx_cut.specs.Faults.{parts_of, cut_fault}
+use Rattle.cx_job.specs.JobLimits.{over, run_count, limit_fault}
+use Rattle.cx_job.specs.LocalCells.{local_cells}
 use Rattle.cx_match.specs.Matching.{all_matched}
 use Rattle.cx_job.specs.Outputs.{output_variables}
 
@@ -65,10 +65,6 @@ IsOutputFault fault e = (e ≡ faults.Memory) ⊎ ((fault ≢ scopes.Memory) × 
 abbrev pub output_ids : List Thorn → Values → List ℕ → Result (List VarId) JobFault
 output_ids thorns values storage = or_fault (λ f. faults.Order (orders.Scope (codes "output") f)) (output_variables thorns values storage)
 
--- how many items the bins that are run call; these stand first
-abbrev pub run_count : Schedule → ℕ
-run_count plan = length (flat_map called (take run_bin_count plan.bins))
-
 -- the items matched with the objects' Specs, by what the thorns see
 pub record Matches (thorns : List Thorn) (values : Values) (specs : List Spec) (ordered : Ordered) (result : Result (List Item) JobFault) : Type 0 where
   pub sight : Sight
@@ -82,15 +78,26 @@ within_limits run job = unless (limit_fault run job.items job.shape job.vars job
 abbrev pub job_within : ℕ → List Thorn → Values → Ordered → Contents → Result Job JobFault
 job_within run thorns values ordered c = within_limits run (job_of thorns values ordered c.items c.out_vars)
 
+-- the grid can be cut as the job says, and the parts don't hold too many numbers
+abbrev pub cut_limits : Job → Option JobFault
+cut_limits job =
+    or_else (option_map faults.Cut (cut_fault (parts_of job.shape job.cut))) (over (codes "local cells") (local_cells job) (2 ^ 27))
+
+abbrev pub within_cut : Job → Result Job JobFault
+within_cut job = unless (cut_limits job) job
+
 -- the job itself, where on no path a need is unmet
 abbrev pub Accepts : Job → Stage Job JobFault
 Accepts job (Ok other) = (other ≡ job) × HasShapes (setup_of job) × Sound (setup_of job)
 Accepts job (Err e) = (fault : RegionFault) × (e ≡ faults.Region fault) × (fault ≢ regions.Memory) × IsRegionFault (setup_of job) fault
 
--- Bound, with values, ordered, with the variables that are written, matched, within the limits, and accepted: a stage stands behind what it
--- takes from those before it.
+-- Bound, with values, ordered, with the variables that are written, matched, within the limits, cut, and accepted: a stage stands behind
+-- what it takes from those before it.
+abbrev pub CutAnd : Job → Stage Job JobFault
+CutAnd job = Then (Is (within_cut job)) Accepts
+
 abbrev pub LimitsAnd : ℕ → Job → Stage Job JobFault
-LimitsAnd run job = Then (Is (within_limits run job)) Accepts
+LimitsAnd run job = Then (Is (within_limits run job)) CutAnd
 
 abbrev pub ItemsAnd : List Spec → List Thorn → Values → Ordered → List VarId → Stage Job JobFault
 ItemsAnd specs thorns values ordered out_vars =
@@ -117,12 +124,14 @@ ValuesAnd specs schedules settings thorns =
 abbrev pub MadeOf : List Spec → Configured → Stage Job JobFault
 MadeOf specs c = Then (Is (bound_thorns c.thorns)) (ValuesAnd specs c.schedules c.settings.list)
 
--- a job that is whole and accepted, and that the objects fit
+-- a job that is whole, cut and accepted, and that the objects fit
 pub record IsReady (specs : List Spec) (job : Job) : Type 0 where
   pub whole : IsWhole job
   pub shapes : HasShapes (setup_of job)
   pub sound : Sound (setup_of job)
   pub fit : FitJob specs (setup_of job)
+  pub cut : cut_fault (parts_of job.shape job.cut) ≡ None
+  pub few_cells : local_cells job ≤ 2 ^ 27
 
 -- the plan of some schedule files of thorns that fit each other
 pub record IsPlanned (thorns : List Thorn) (values : Values) (ordered : Ordered) : Type 0 where
@@ -147,6 +156,7 @@ without_witness (faults.Value fault) = faults.Value fault
 without_witness (faults.UnknownRoutine path) = faults.UnknownRoutine path
 without_witness (faults.RoutineMismatch path declared offered) = faults.RoutineMismatch path declared offered
 without_witness (faults.Limit name count) = faults.Limit name count
+without_witness (faults.Cut fault) = faults.Cut fault
 without_witness faults.Memory = faults.Memory
 
 -- An answer over a shelf that held these files, with its counts of faults before and after. Where the shelf tells its files, it is what

@@ -3,7 +3,7 @@
 ghost use Rattle.std.specs.Prelude.{◌≡◌, ◌≤◌, ◌-◌, ◌^◌, length, min, take};
 ghost use Rattle.std.specs.List.{flat_map};
 ghost use Rattle.cx_plan.specs.Lookups.{called, run_bin_count};
-ghost use Rattle.cx_job.specs.Making.{run_count};
+ghost use Rattle.cx_job.specs.JobLimits.{run_count};
 
 use cx_plan::{Bin, Schedule, Tree};
 

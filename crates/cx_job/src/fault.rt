@@ -5,11 +5,13 @@ ghost use Rattle.cx_bind.specs.declared.thorns.BindFault.TheVariants as binds;
 ghost use Rattle.cx_values.specs.declared.fault.ValueFault.TheVariants as values;
 ghost use Rattle.cx_order.specs.declared.fault.OrderFault.TheVariants as orders;
 ghost use Rattle.cx_region.specs.declared.fault.RegionFault.TheVariants as regions;
+ghost use Rattle.cx_cut.specs.declared.faults.CutFault.TheVariants as cuts;
 ghost use Rattle.cx_config.specs.Stages.{IsOf};
 ghost use Rattle.cx_job.specs.declared.fault.JobFault.TheVariants as faults;
 
 use cx_bind::BindFault;
 use cx_config::ConfigFault;
+use cx_cut::CutFault;
 use cx_match::MatchFault;
 use cx_order::OrderFault;
 use cx_region::RegionFault;
@@ -38,6 +40,8 @@ pub enum JobFault {
     RoutineMismatch(Text, Text, Text),
     /// More of these than may be.
     Limit(Text, u64),
+    /// The grid can't be cut into parts of the widths that are said.
+    Cut(CutFault),
     /// A routine might read a point that nobody has filled.
     Region(RegionFault),
     /// Memory is wanting.
@@ -169,6 +173,24 @@ impl From<RegionFault> for JobFault {
             JobFault::Memory
         } else {
             JobFault::Region(fault)
+        }
+    }
+}
+
+fn is_cut_memory(fault: &CutFault) -> bool
+    ensures { IsTrue result ↔ (fault.now ≡ cuts.Memory) }
+{
+    matches!(fault, CutFault::Memory)
+}
+
+impl From<CutFault> for JobFault {
+    ghost from_gives = { λ fault e. IsOf cuts.Memory faults.Memory faults.Cut fault e };
+
+    fn from(fault: CutFault) -> Self {
+        if is_cut_memory(&fault) {
+            JobFault::Memory
+        } else {
+            JobFault::Cut(fault)
         }
     }
 }

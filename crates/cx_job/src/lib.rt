@@ -8,6 +8,7 @@ mod job;
 mod keys;
 mod limits;
 mod lines;
+mod local_cells;
 mod making;
 mod outputs;
 mod stages;

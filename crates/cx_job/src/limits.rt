@@ -1,6 +1,7 @@
 //! The limits of a job.
 
-ghost use Rattle.std.specs.Prelude.{◌≡◌, take, IfOk};
+ghost use Rattle.std.specs.Prelude.{ℕ, ◌≡◌, ◌^◌, codes, take, IfOk};
+ghost use Rattle.cx_grids.specs.Stored.{in_64_bits};
 ghost use Rattle.cx_plan.specs.Lists.{first_of_each};
 ghost use Rattle.cx_job.specs.declared.fault.JobFault.TheVariants as faults;
 ghost use Rattle.cx_text.specs.Telling.{Tells};
@@ -30,6 +31,9 @@ const MAX_CELLS: u64 = 67_108_864;
 
 /// The most bytes of the key.
 const MAX_KEY: u64 = 4_294_967_295;
+
+/// The most numbers that all parts hold together.
+const MAX_LOCAL_CELLS: u64 = 134_217_728;
 
 fn limit_fault(alloc: Global, what: &[u8], number: u64) -> Result<JobFault, Memory>
     ensures { IfOk result (λ fault. fault ≡ faults.Limit what.now number) }
@@ -106,7 +110,7 @@ fn check_each(alloc: Global, items: &[Item]) -> Result<(), JobFault>
 }
 
 /// The first items.
-fn first_items(items: &[Item], run: usize) -> &[Item]
+pub(crate) fn first_items(items: &[Item], run: usize) -> &[Item]
     ensures { result.now ≡ take run items.now }
 {
     &items[..run.min(items.len())]
@@ -148,4 +152,12 @@ pub(crate) fn check_key(alloc: Global, key: &Text) -> Result<(), JobFault>
     ensures { Tells faults.Memory (key_limit key.now) result }
 {
     check_limit(alloc, b"key", key.len() as u64, MAX_KEY)
+}
+
+/// Tests that the parts don't hold too many numbers.
+pub(crate) fn check_local_cells(alloc: Global, cells: u64) -> Result<(), JobFault>
+    ensures { (number : ℕ) → cells ≡ in_64_bits number
+        → Tells faults.Memory (over (codes "local cells") number (2 ^ 27)) result }
+{
+    check_limit(alloc, b"local cells", cells, MAX_LOCAL_CELLS)
 }

@@ -1,6 +1,9 @@
 //! The job that files make.
 
 ghost use Rattle.std.specs.Prelude.{◌≡◌, ◌≤◌, ◌^◌, length, map, None, Ok, IfOk};
+ghost use Rattle.cx_grid.specs.Grid.{HasInterior};
+ghost use Rattle.cx_cut.specs.Faults.{parts_of, cut_fault};
+ghost use Rattle.cx_job.specs.LocalCells.{local_cells};
 ghost use Rattle.cx_plan.specs.Setups.{setup_of};
 ghost use Rattle.cx_plan.specs.Regions.{HasShapes};
 ghost use Rattle.cx_plan.specs.Paths.{Sound};
@@ -15,7 +18,7 @@ ghost use Rattle.cx_job.specs.Making.{Made, MakesFrom, MadeOf, PlanAnd, ItemsAnd
 use crate::counting::run_count;
 use crate::fault::JobFault;
 use crate::stages::{
-    Contents, accept, assign_all, bind_all, match_items, order_all, output_ids, within_limits,
+    Contents, assign_all, bind_all, cut_and, match_items, order_all, output_ids, within_limits,
 };
 use cx_bind::Bound;
 use cx_config::{Configured, Shelf, configure};
@@ -67,7 +70,7 @@ fn items_and(
     let items = match_items(alloc, bound, values, specs, run, &mut ordered)?;
     let contents = Contents { items, out_vars };
     let job = within_limits(alloc, bound, values, run, ordered, contents)?;
-    accept(alloc, job)
+    cut_and(alloc, job)
 }
 
 /// The plan and the variables that are written, and what follows them.
@@ -115,14 +118,19 @@ fn made_of(alloc: Global, configured: Configured, specs: &[&Spec]) -> Result<Job
 /// The stages stand in this order, and the first fault counts. The parameter file; the list of thorns; each active thorn's place in it;
 /// per thorn `interface.ccl`, `param.ccl`, `schedule.ccl` and `configuration.ccl` under `arrangements/Arrangement/Thorn/`, of which the
 /// last one may be absent; binding; the parameters' values; the plan; the variables that are written, sought by their full names; the
-/// items' routines, in the order of items; the limits; and the check that no routine reads a point that nobody has filled.
+/// items' routines, in the order of items; the limits but that of local cells; the cut of the grid; the limit of local cells; and the check that
+/// no routine reads a point that nobody has filled.
 ///
 /// Shelf: the shelf failed. NoFile: a file isn't there. Text, Ccl: a file's text has no tokens, or its tokens spell nothing. Bind, Value,
 /// Order, Region: the fault of that stage; Order has the path `output` for a name in `IO::out_vars`. UnknownRoutine: no object has the
 /// thorn and the name of an item of a bin that is run. RoutineMismatch: its Spec names other variables, levels or regions than
 /// READS and WRITES, a name that means no one level, or a parameter that no thorn can use or that has no number. Limit: an item has more than
 /// 16 `writes`, 32 `reads` or 32 `parameters`, the grid more than 2^24 `points`, or its stored levels together more than 2^26 `owned cells`, or the
-/// `key` is longer than 2^32 - 1 bytes.
+/// `key` is longer than 2^32 - 1 bytes, or the parts hold together more than 2^27 `local cells`: a part holds at each of its points, its ghosts
+/// among them, a number for each stored level of each grid variable and for each write of the item that writes most, and all values around a
+/// point of the item that reads most. Cut: `cut` of cx_cut refuses the job's cut.
+///
+/// So the grid of a job has interior points, and may be cut as the job says.
 pub fn make_job<H: Shelf>(
     alloc: Global,
     shelf: &mut H,
@@ -134,6 +142,9 @@ pub fn make_job<H: Shelf>(
         shelf.old shelf.new result }
     ensures whole { IfOk result IsWhole }
     ensures sound { IfOk result (λ job. HasShapes (setup_of job) × Sound (setup_of job)) }
+    ensures cut { IfOk result (λ job. cut_fault (parts_of job.shape job.cut) ≡ None) }
+    ensures interior { IfOk result (λ job. HasInterior job.shape) }
+    ensures few_cells { IfOk result (λ job. local_cells job ≤ 2 ^ 27) }
     // The objects fit the job.
     ensures fit { IfOk result (λ job. FitJob (map spec_of routines.now) (setup_of job)) }
 {

@@ -1,22 +1,26 @@
 //! The stages from thorns to a job, with their faults as a job's.
 
-ghost use Rattle.std.specs.Prelude.{◌≡◌, ◌≤◌, ◌^◌, ◌↔◌, [], length, map, codes, IsTrue, IfOk};
+ghost use Rattle.std.specs.Prelude.{◌≡◌, ◌≤◌, ◌^◌, ◌↔◌, [], length, map, codes, IsTrue, IfOk, option_map};
+ghost use Rattle.cx_cut.specs.Faults.{parts_of, cut_fault};
+ghost use Rattle.cx_grid.specs.Grid.{IsShape};
 ghost use Rattle.cx_plan.specs.Whole.{IsWhole};
 ghost use Rattle.cx_order.specs.Files.{input_of};
 ghost use Rattle.cx_scope.specs.declared.fault.ScopeFault.TheVariants as scopes;
 ghost use Rattle.cx_job.specs.declared.fault.JobFault.TheVariants as faults;
 ghost use Rattle.cx_text.specs.Telling.{Tells};
-ghost use Rattle.cx_job.specs.JobLimits.{grid_limits};
+ghost use Rattle.cx_job.specs.JobLimits.{grid_limits, run_count};
 ghost use Rattle.cx_grids.specs.Grids.{shape_of};
 ghost use Rattle.cx_grids.specs.Stored.{stored_infos};
 ghost use Rattle.cx_config.specs.Stages.{Is};
-ghost use Rattle.cx_job.specs.Making.{Yields, Orders, Matches, Accepts, IsOutputFault, assigned_values, bound_thorns, job_within, output_ids, run_count};
+ghost use Rattle.cx_job.specs.Making.{Yields, Orders, Matches, Accepts, CutAnd, IsOutputFault, assigned_values, bound_thorns, job_within, cut_limits, within_cut, output_ids};
 
 use crate::fault::JobFault;
 use crate::job::job_of;
-use crate::limits::{check_grid_limits, check_item_limits, check_key};
+use crate::limits::{check_grid_limits, check_item_limits, check_key, check_local_cells};
+use crate::local_cells::local_cells;
 use crate::outputs::output_variables;
 use cx_bind::{Bound, Thorn, bind};
+use cx_cut::{Cut, cut};
 use cx_grids::{shape_of, stored_infos};
 use cx_match::Routines;
 use cx_order::{OrderFault, Ordered, order};
@@ -143,8 +147,45 @@ pub(crate) fn within_limits(
     Ok(job)
 }
 
+/// The grid, cut as the job says.
+fn cut_of(alloc: Global, job: &Job) -> Result<Cut, JobFault>
+    requires { IsShape job.now.shape }
+    ensures told { Tells faults.Memory
+        (option_map faults.Cut (cut_fault (parts_of job.now.shape job.now.cut))) result }
+    ensures value { IfOk result (λ cut. cut ≡ parts_of job.now.shape job.now.cut) }
+{
+    Ok(cut(alloc, &job.shape, &job.cut)?)
+}
+
+/// Tests that the grid can be cut as the job says, and then that the parts don't hold too many numbers.
+fn check_cut(alloc: Global, job: &Job) -> Result<(), JobFault>
+    requires { IsWhole job.now }
+    ensures { Tells faults.Memory (cut_limits job.now) result }
+{
+    let cut = cut_of(alloc, job)?;
+    check_local_cells(alloc, local_cells(&cut, job))
+}
+
+/// The job, cut into parts that don't hold too many numbers.
+fn within_cut(alloc: Global, job: Job) -> Result<Job, JobFault>
+    requires { IsWhole job }
+    ensures { Yields (Is (within_cut job)) result }
+{
+    check_cut(alloc, &job)?;
+    Ok(job)
+}
+
+/// The job, cut and accepted.
+pub(crate) fn cut_and(alloc: Global, job: Job) -> Result<Job, JobFault>
+    requires { IsWhole job }
+    ensures { Yields (CutAnd job) result }
+{
+    let job = within_cut(alloc, job)?;
+    accept(alloc, job)
+}
+
 /// The job, where no routine reads a point that nobody has filled.
-pub(crate) fn accept(alloc: Global, job: Job) -> Result<Job, JobFault>
+fn accept(alloc: Global, job: Job) -> Result<Job, JobFault>
     requires { IsWhole job }
     ensures { Yields (Accepts job) result }
 {

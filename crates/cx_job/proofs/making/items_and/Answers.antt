@@ -19,8 +19,8 @@ returns-in_err-job-clause-made c =
     (over_limits specs c.args.bound.now c.args.values.now c.args.ordered c.args.out_vars c.match_items.new.ordered c.run_count-run.result c.in_ok-items.items c.in_ok-items.ensures.others c.run_count-run.ensures
     c.in_err-job.field-0.0 c.in_ok-items.ensures.items c.in_err-job.ensures)
 
-pub accept-requires : goal.accept-requires
-accept-requires c =
+pub cut_and-requires : goal.cut_and-requires
+cut_and-requires c =
     let specs = map (λ s. s.now) c.args.specs.now in
     whole_of specs c.args.bound.now c.args.values.now c.args.ordered c.args.out_vars c.match_items.new.ordered c.run_count-run.result c.in_ok-items.items c.in_ok-items.ensures.others c.run_count-run.ensures
     c.in_ok-job.job c.in_ok-items.ensures.items c.in_ok-job.ensures c.requires.planned c.requires.read c.requires.written
@@ -29,14 +29,14 @@ pub returns-clause-made : goal.returns-clause-made
 returns-clause-made c =
     let specs = map (λ s. s.now) c.args.specs.now in
     items_made specs c.args.bound.now c.args.values.now c.args.ordered c.args.out_vars c.match_items.new.ordered c.run_count-run.result c.in_ok-items.items c.in_ok-items.ensures.others c.run_count-run.ensures
-    c.in_ok-job.job c.accept.result c.in_ok-items.ensures.items c.in_ok-job.ensures c.accept.ensures
+    c.in_ok-job.job c.cut_and.result c.in_ok-items.ensures.items c.in_ok-job.ensures c.cut_and.ensures
 
 pub returns-clause-ready : goal.returns-clause-ready
 returns-clause-ready c =
     let specs = map (λ s. s.now) c.args.specs.now in
-    ready_of specs c.in_ok-job.job c.accept.result
+    ready_of specs c.in_ok-job.job c.cut_and.result
     (whole_of specs c.args.bound.now c.args.values.now c.args.ordered c.args.out_vars c.match_items.new.ordered c.run_count-run.result c.in_ok-items.items c.in_ok-items.ensures.others c.run_count-run.ensures
     c.in_ok-job.job c.in_ok-items.ensures.items c.in_ok-job.ensures c.requires.planned c.requires.read c.requires.written)
     (fit_of specs c.args.bound.now c.args.values.now c.args.ordered c.args.out_vars c.match_items.new.ordered c.run_count-run.result c.in_ok-items.items c.in_ok-items.ensures.others c.run_count-run.ensures
     c.in_ok-job.job c.in_ok-items.ensures.items c.in_ok-job.ensures c.requires.planned)
-    c.accept.ensures
+    c.cut_and.ensures

@@ -1,5 +1,9 @@
-use Rattle.std.proofs.Common.{◌∙◌, ap, subst, map, IfOk}
+use Rattle.std.proofs.Common.{◌≡◌, ◌∙◌, ◌≤◌, ◌^◌, ap, subst, map, None, IfOk}
 use Rattle.std.proofs.lemmas.Result.{err_from_is_err_and}
+use Rattle.cx_grid.specs.Grid.{HasInterior}
+use Rattle.cx_cut.specs.Faults.{parts_of, cut_fault}
+use Rattle.cx_cut.proofs.FaultLaws.{is_whole}
+use Rattle.cx_job.specs.LocalCells.{local_cells}
 use Rattle.cx_plan.specs.Setups.{setup_of}
 use Rattle.cx_plan.specs.Regions.{HasShapes}
 use Rattle.cx_plan.specs.Paths.{Sound}
@@ -33,6 +37,16 @@ returns-clause-whole g c = if_ready _ IsWhole c.made_of.result (λ job ready. re
 
 pub returns-clause-sound : goal.returns-clause-sound
 returns-clause-sound g c = if_ready _ (λ job. HasShapes (setup_of job) × Sound (setup_of job)) c.made_of.result (λ job ready. (ready.shapes, ready.sound)) c.made_of.ensures.ready
+
+pub returns-clause-cut : goal.returns-clause-cut
+returns-clause-cut g c = if_ready _ (λ job. cut_fault (parts_of job.shape job.cut) ≡ None) c.made_of.result (λ job ready. ready.cut) c.made_of.ensures.ready
+
+pub returns-clause-interior : goal.returns-clause-interior
+returns-clause-interior g c =
+    if_ready _ (λ job. HasInterior job.shape) c.made_of.result (λ job ready. (is_whole (parts_of job.shape job.cut) ready.whole.shape ready.cut).interior) c.made_of.ensures.ready
+
+pub returns-clause-few_cells : goal.returns-clause-few_cells
+returns-clause-few_cells g c = if_ready _ (λ job. local_cells job ≤ 2 ^ 27) c.made_of.result (λ job ready. ready.few_cells) c.made_of.ensures.ready
 
 pub returns-clause-fit : goal.returns-clause-fit
 returns-clause-fit g c =
