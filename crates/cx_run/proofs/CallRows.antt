@@ -21,7 +21,7 @@ one_word : IsUsage (codes "run" ∷ [])
 one_word command file asks = let e = asks.words_are in absurd cc
 
 -- the usage text as it stands on the screen
-usage_line : text_of a.Usage [] ≡ codes "usage: cactus run FILE\n       cactus check FILE\n       cactus schedule FILE\n       cactus describe FILE\n"
+usage_line : text_of a.Usage [] ≡ codes "usage: cactus run FILE\n       cactus check FILE\n       cactus schedule FILE\n       cactus describe FILE\n       cactus parts FILE\n"
 usage_line = refl
 
 done : text_of (a.Done 2) (codes "ca.par") ≡ codes "done: iteration 2\n"

@@ -1,5 +1,5 @@
 -- From what stands behind an answer, and what was said, to what the top call ensures.
-use Rattle.std.proofs.Common.{◌≡◌, ◌≢◌, ◌∙◌, ◌⊎◌, ℕ, ◌<◌, List, [], ◌∷◌, Ok, Err, inl, inr, sym, ap, subst, refl, arith}
+use Rattle.std.proofs.Common.{◌≡◌, ◌≢◌, ◌∙◌, ◌⊎◌, ℕ, ◌<◌, ◌==◌, if◌then◌else◌, List, [], ◌∷◌, Ok, Err, inl, inr, sym, ap, subst, refl, arith}
 use Rattle.cx_disk.specs.Cause.{Rose}
 use Rattle.cx_disk.specs.Disk.{IsNamed}
 use Rattle.cx_job.specs.Making.{without_witness}
@@ -312,23 +312,22 @@ abbrev letter : List ℕ → ℕ
 letter [] = 0
 letter (c ∷ word) = c
 
+abbrev by_letter : ℕ → Command
+by_letter c =
+    if c == 114 then commands.Run
+    else (if c == 99 then commands.Check
+    else (if c == 115 then commands.Schedule
+    else (if c == 100 then commands.Describe else commands.Parts)))
+
+told_by_letter : (x : Command) → by_letter (letter (word_of x)) ≡ x
+told_by_letter commands.Run = refl
+told_by_letter commands.Check = refl
+told_by_letter commands.Schedule = refl
+told_by_letter commands.Describe = refl
+told_by_letter commands.Parts = refl
+
 same_word : (x y : Command) → letter (word_of x) ≡ letter (word_of y) → x ≡ y
-same_word commands.Run commands.Run e = refl
-same_word commands.Run commands.Check e = let z : 114 ≡ 99 = e in absurd (omega (arith, z))
-same_word commands.Run commands.Schedule e = let z : 114 ≡ 115 = e in absurd (omega (arith, z))
-same_word commands.Run commands.Describe e = let z : 114 ≡ 100 = e in absurd (omega (arith, z))
-same_word commands.Check commands.Run e = let z : 99 ≡ 114 = e in absurd (omega (arith, z))
-same_word commands.Check commands.Check e = refl
-same_word commands.Check commands.Schedule e = let z : 99 ≡ 115 = e in absurd (omega (arith, z))
-same_word commands.Check commands.Describe e = let z : 99 ≡ 100 = e in absurd (omega (arith, z))
-same_word commands.Schedule commands.Run e = let z : 115 ≡ 114 = e in absurd (omega (arith, z))
-same_word commands.Schedule commands.Check e = let z : 115 ≡ 99 = e in absurd (omega (arith, z))
-same_word commands.Schedule commands.Schedule e = refl
-same_word commands.Schedule commands.Describe e = let z : 115 ≡ 100 = e in absurd (omega (arith, z))
-same_word commands.Describe commands.Run e = let z : 100 ≡ 114 = e in absurd (omega (arith, z))
-same_word commands.Describe commands.Check e = let z : 100 ≡ 99 = e in absurd (omega (arith, z))
-same_word commands.Describe commands.Schedule e = let z : 100 ≡ 115 = e in absurd (omega (arith, z))
-same_word commands.Describe commands.Describe e = refl
+same_word x y e = sym (told_by_letter x) ∙ ap by_letter e ∙ told_by_letter y
 
 abbrev first_word : List (List ℕ) → List ℕ
 first_word [] = []

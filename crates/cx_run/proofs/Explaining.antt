@@ -65,6 +65,7 @@ fails c file (faults.Order fault) made rose same = record { not_shelf = λ e. ab
 fails c file (faults.UnknownRoutine path) made rose same = record { not_shelf = λ e. absurd cc; not_memory = λ e. absurd cc; made = made (λ e. absurd cc) (λ e. absurd cc); untouched = same }
 fails c file (faults.RoutineMismatch path declared offered) made rose same = record { not_shelf = λ e. absurd cc; not_memory = λ e. absurd cc; made = made (λ e. absurd cc) (λ e. absurd cc); untouched = same }
 fails c file (faults.Limit what count) made rose same = record { not_shelf = λ e. absurd cc; not_memory = λ e. absurd cc; made = made (λ e. absurd cc) (λ e. absurd cc); untouched = same }
+fails c file (faults.Cut fault) made rose same = record { not_shelf = λ e. absurd cc; not_memory = λ e. absurd cc; made = made (λ e. absurd cc) (λ e. absurd cc); untouched = same }
 fails c file (faults.Region fault) made rose same = record { not_shelf = λ e. absurd cc; not_memory = λ e. absurd cc; made = made (λ e. absurd cc) (λ e. absurd cc); untouched = same }
 
 pub with_fault : (c : Call) (file second : List ℕ) (command : Command) (fault : JobFault) (answer : Answer) → file ≡ second → answer ≡ answer_of fault

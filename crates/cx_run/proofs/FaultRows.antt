@@ -10,6 +10,7 @@ use Rattle.cx_values.specs.declared.fault.ValueFault.TheVariants as values
 use Rattle.cx_scope.specs.declared.fault.ScopeFault.TheVariants as scopes
 use Rattle.cx_order.specs.declared.fault.OrderFault.TheVariants as orders
 use Rattle.cx_region.specs.declared.fault.RegionFault.TheVariants as regions
+use Rattle.cx_cut.specs.declared.faults.CutFault.TheVariants as cuts
 use Rattle.cx_job.specs.declared.fault.JobFault.TheVariants as jobs
 use Rattle.cx_run.specs.FaultWords.{fault_words, refused_text}
 
@@ -193,6 +194,22 @@ row_mismatch = refl
 row_limit_of_jobs : fault_words (jobs.Limit (codes "owned cells") 67108865) ≡ codes "Limit owned cells 67108865"
 unfolding digits
 row_limit_of_jobs = refl
+
+row_widths_differ : fault_words (jobs.Cut (cuts.WidthsDiffer 8 10)) ≡ codes "WidthsDiffer 8 10"
+unfolding digits
+row_widths_differ = refl
+
+row_grid_too_small : fault_words (jobs.Cut (cuts.GridTooSmall 4 5)) ≡ codes "GridTooSmall 4 5"
+unfolding digits
+row_grid_too_small = refl
+
+row_too_many : fault_words (jobs.Cut (cuts.TooMany 513 512)) ≡ codes "TooMany 513 512"
+unfolding digits
+row_too_many = refl
+
+row_part_too_thin : fault_words (jobs.Cut (cuts.PartTooThin 1 2)) ≡ codes "PartTooThin 1 2"
+unfolding digits
+row_part_too_thin = refl
 
 -- an item that writes nothing
 row_shape : fault_words (jobs.Region (regions.Shape (codes "EVOL/wave_step") [])) ≡ codes "Shape EVOL/wave_step -"

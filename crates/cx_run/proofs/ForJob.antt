@@ -61,6 +61,7 @@ sorted (faults.Order fault) = inr (inr refl)
 sorted (faults.UnknownRoutine path) = inr (inr refl)
 sorted (faults.RoutineMismatch path declared offered) = inr (inr refl)
 sorted (faults.Limit what count) = inr (inr refl)
+sorted (faults.Cut fault) = inr (inr refl)
 sorted (faults.Region fault) = inr (inr refl)
 
 for_fault : (fault found : JobFault) → IsSorted found → (found ≡ faults.Memory) ⊎ (found ≡ faults.Shelf) ⊎ (without_witness found ≡ without_witness fault) → IsForFault fault (answer_of found)

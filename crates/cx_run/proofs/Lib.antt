@@ -5,3 +5,4 @@ pub mod ForJob
 pub mod Clauses
 mod FaultRows
 mod CallRows
+mod CutRows

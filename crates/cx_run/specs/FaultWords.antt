@@ -21,6 +21,8 @@ use Rattle.cx_order.specs.declared.fault.OrderFault.{OrderFault}
 use Rattle.cx_order.specs.declared.fault.OrderFault.TheVariants as orders
 use Rattle.cx_region.specs.declared.fault.RegionFault.{RegionFault}
 use Rattle.cx_region.specs.declared.fault.RegionFault.TheVariants as regions
+use Rattle.cx_cut.specs.declared.faults.CutFault.{CutFault}
+use Rattle.cx_cut.specs.declared.faults.CutFault.TheVariants as cuts
 use Rattle.cx_job.specs.declared.fault.JobFault.{JobFault}
 use Rattle.cx_job.specs.declared.fault.JobFault.TheVariants as jobs
 
@@ -123,6 +125,15 @@ region_fault_words (regions.Unset path item var level flag) =
     spaced (codes "Unset" ∷ or_dash path ∷ or_dash item ∷ or_dash var ∷ decimal level ∷ flag_letter flag ∷ [])
 region_fault_words regions.Memory = codes "Memory"
 
+-- ---- cuts
+
+abbrev pub cut_fault_words : CutFault → List ℕ
+cut_fault_words (cuts.WidthsDiffer sum points) = spaced (codes "WidthsDiffer" ∷ decimal sum ∷ decimal points ∷ [])
+cut_fault_words (cuts.GridTooSmall points least) = spaced (codes "GridTooSmall" ∷ decimal points ∷ decimal least ∷ [])
+cut_fault_words (cuts.TooMany parts most) = spaced (codes "TooMany" ∷ decimal parts ∷ decimal most ∷ [])
+cut_fault_words (cuts.PartTooThin width least) = spaced (codes "PartTooThin" ∷ decimal width ∷ decimal least ∷ [])
+cut_fault_words cuts.Memory = codes "Memory"
+
 -- ---- jobs
 
 abbrev pub fault_words : JobFault → List ℕ
@@ -137,6 +148,7 @@ fault_words (jobs.UnknownRoutine path) = spaced (codes "UnknownRoutine" ∷ or_d
 fault_words (jobs.RoutineMismatch path declared offered) =
     spaced (codes "RoutineMismatch" ∷ or_dash path ∷ or_dash declared ∷ or_dash offered ∷ [])
 fault_words (jobs.Limit of_ n) = spaced (codes "Limit" ∷ or_dash of_ ∷ decimal n ∷ [])
+fault_words (jobs.Cut fault) = cut_fault_words fault
 fault_words (jobs.Region fault) = region_fault_words fault
 fault_words jobs.Memory = codes "Memory"
 

@@ -2,6 +2,7 @@ pub mod Sink
 pub mod MemorySink
 pub mod Words
 pub mod FaultWords
+pub mod CutTexts
 pub mod Texts
 pub mod Built
 pub mod Fault

@@ -4,6 +4,8 @@ use Rattle.std.specs.Fmt.{decimal}
 use Rattle.cx_plan.specs.declared.job.Job.{Job}
 use Rattle.cx_model.specs.declared.ends.End.{End}
 use Rattle.cx_model.specs.declared.ends.End.TheVariants as ends
+use Rattle.cx_cut.specs.Faults.{parts_of}
+use Rattle.cx_run.specs.CutTexts.{cut_lines, parts_text}
 use Rattle.cx_run.specs.FaultWords.{spaced, or_dash}
 use Rattle.cx_run.specs.declared.words.Command.{Command}
 use Rattle.cx_run.specs.declared.words.Command.TheVariants as commands
@@ -25,12 +27,14 @@ ended_text end = codes "ended: " ++ end_words end ++ 10 ∷ []
 abbrev pub accepted_text : List ℕ
 accepted_text = codes "accepted" ++ 10 ∷ []
 
--- what a command prints where the file makes a job: of `schedule` the plan, of `describe` the key and the other parameters
+-- what a command prints where the file makes a job: of `schedule` the plan, of `describe` the key, the other parameters and the cut, of
+-- `parts` the parts of the grid
 abbrev pub command_text : Command → Job → List ℕ
 command_text commands.Run job = done_text job.itlast
 command_text commands.Check job = accepted_text
 command_text commands.Schedule job = job.plan_text
-command_text commands.Describe job = job.key ++ job.starred
+command_text commands.Describe job = job.key ++ job.starred ++ cut_lines (parts_of job.shape job.cut)
+command_text commands.Parts job = parts_text (parts_of job.shape job.cut)
 
 abbrev pub usage_text : List ℕ
 usage_text =
@@ -38,6 +42,7 @@ usage_text =
     ∷ codes "       cactus check FILE" ++ 10
     ∷ codes "       cactus schedule FILE" ++ 10
     ∷ codes "       cactus describe FILE" ++ 10
+    ∷ codes "       cactus parts FILE" ++ 10
     ∷ []
 
 abbrev pub not_built_text : List ℕ → List ℕ

@@ -8,6 +8,7 @@ word_of commands.Run = codes "run"
 word_of commands.Check = codes "check"
 word_of commands.Schedule = codes "schedule"
 word_of commands.Describe = codes "describe"
+word_of commands.Parts = codes "parts"
 
 -- a name that isn't empty and doesn't begin with a dash
 abbrev pub IsFileName : List ℕ → Type 0

@@ -1,5 +1,6 @@
 //! The top call.
-ghost use Rattle.std.specs.Prelude.{◌≡◌, ◌≢◌, ◌≤◌, ◌<◌, ◌^◌, ◌⊎◌, ◌↔◌, [], ℕ, List as ListOf, Ok, Err, IsTrue, length, map, slice_index_or};
+ghost use Rattle.std.specs.Prelude.{◌≡◌, ◌≢◌, ◌≤◌, ◌<◌, ◌^◌, ◌⊎◌, ◌↔◌, [], ℕ, List as ListOf, None, Ok, Err, IsTrue, length, map, slice_index_or};
+ghost use Rattle.cx_cut.specs.Faults.{parts_of, cut_fault};
 ghost use Rattle.cx_disk.specs.Cause.{Rose};
 ghost use Rattle.cx_disk.specs.Disk.{IsNamed, OthersSame};
 ghost use Rattle.cx_job.specs.Making.{Made, without_witness};
@@ -22,6 +23,7 @@ ghost use Rattle.cx_run.specs.Words.{Asks, IsUsage};
 ghost use Rattle.cx_run.specs.declared.reply.Answer.{Answer};
 ghost use Rattle.cx_run.specs.declared.words.Command.{Command};
 
+use crate::cut_texts::parts_text;
 use crate::driver::{RunFault, run_job};
 use crate::reply::{Answer, answer_of, reply};
 use crate::sink::Sink;
@@ -42,7 +44,8 @@ use std::alloc::Global;
 /// | `run FILE` | makes the job of the parameter file FILE and runs it | `done: iteration N`, the last iteration |
 /// | `check FILE` | makes the job | `accepted` |
 /// | `schedule FILE` | makes the job | its schedule text |
-/// | `describe FILE` | makes the job | its key and the other parameters' lines |
+/// | `describe FILE` | makes the job | its key, the other parameters' lines, and for each direction the widths of its parts |
+/// | `parts FILE` | makes the job | the parts of its grid, a line for each |
 ///
 /// FILE isn't empty and doesn't begin with `-`. What makes a job is said at `make_job` of cx_job. A run writes the output of
 /// the undivided run into file 8 of the disk, which it first cuts to nothing, and syncs it at the end. So far `run` leaves no
@@ -259,6 +262,7 @@ fn done<D: Disk>(
     meter: &mut Meter,
 ) -> Answer
     requires whole { IsWhole job.now }
+    requires cut { cut_fault (parts_of job.now.shape job.now.cut) ≡ None }
     requires shapes { HasShapes (setup_of job.now) }
     requires fit { FitJob (map spec_of routines.now) (setup_of job.now) }
     ensures comes { Comes (record {
@@ -281,6 +285,7 @@ fn done<D: Disk>(
         Command::Check => Answer::Accepted,
         Command::Schedule => printed(schedule_text(alloc, job)),
         Command::Describe => printed(describe(alloc, job)),
+        Command::Parts => printed(parts_text(alloc, job)),
     }
 }
 

@@ -3,9 +3,10 @@
 ghost use Rattle.std.specs.Prelude.{◌≡◌, [], ◌∷◌, ◌++◌, codes, IfOk, OnOk};
 ghost use Rattle.std.specs.List.{flat_map};
 ghost use Rattle.std.specs.Fmt.{decimal};
-ghost use Rattle.cx_run.specs.FaultWords.{spaced, or_dash, listed, flag_letter, text_fault_words, tree_fault_words, bind_fault_words, value_fault_words, expr_fault_words, scope_fault_words, order_fault_words, region_fault_words, fault_words, refused_text};
+ghost use Rattle.cx_run.specs.FaultWords.{spaced, or_dash, listed, flag_letter, text_fault_words, tree_fault_words, bind_fault_words, value_fault_words, expr_fault_words, scope_fault_words, order_fault_words, cut_fault_words, region_fault_words, fault_words, refused_text};
 
 use cx_bind::BindFault;
+use cx_cut::CutFault;
 use cx_expr::ExprFault;
 use cx_job::JobFault;
 use cx_order::OrderFault;
@@ -98,6 +99,22 @@ fn push_limit(text: &mut Text, alloc: Global, of: &Text, number: u64) -> Result<
 {
     push_one(text, b"Limit", of)?;
     push_number(text, alloc, number)
+}
+
+/// Adds the name of a fault and the two numbers that it keeps.
+fn push_numbers(
+    text: &mut Text,
+    alloc: Global,
+    fault: &[u8],
+    first: u64,
+    second: u64,
+) -> Result<(), Memory>
+    ensures { OnOk result
+        (text.new ≡ text.old ++ spaced (fault.now ∷ decimal first ∷ decimal second ∷ [])) }
+{
+    text.push_slice(fault)?;
+    push_number(text, alloc, first)?;
+    push_number(text, alloc, second)
 }
 
 /// Adds a name behind a comma.
@@ -356,6 +373,25 @@ fn push_tree_of(text: &mut Text, alloc: Global, file: &Text, fault: CclFault) ->
     push_tree_fault(text, alloc, fault)
 }
 
+/// Adds a fault of a cut.
+fn push_cut_fault(text: &mut Text, alloc: Global, fault: CutFault) -> Result<(), Memory>
+    ensures { OnOk result (text.new ≡ text.old ++ cut_fault_words fault) }
+{
+    match fault {
+        CutFault::WidthsDiffer(sum, points) => {
+            push_numbers(text, alloc, b"WidthsDiffer", sum, points)
+        }
+        CutFault::GridTooSmall(points, least) => {
+            push_numbers(text, alloc, b"GridTooSmall", points, least)
+        }
+        CutFault::TooMany(parts, most) => push_numbers(text, alloc, b"TooMany", parts, most),
+        CutFault::PartTooThin(width, least) => {
+            push_numbers(text, alloc, b"PartTooThin", width, least)
+        }
+        CutFault::Memory => text.push_slice(b"Memory"),
+    }
+}
+
 /// Adds the words of a fault.
 pub(crate) fn push_fault(text: &mut Text, alloc: Global, fault: &JobFault) -> Result<(), Memory>
     ensures { OnOk result (text.new ≡ text.old ++ fault_words fault.now) }
@@ -373,6 +409,7 @@ pub(crate) fn push_fault(text: &mut Text, alloc: Global, fault: &JobFault) -> Re
             push_three(text, b"RoutineMismatch", path, declared, offered)
         }
         JobFault::Limit(of, number) => push_limit(text, alloc, of, *number),
+        JobFault::Cut(fault) => push_cut_fault(text, alloc, *fault),
         JobFault::Region(fault) => push_region_fault(text, alloc, fault),
         JobFault::Memory => text.push_slice(b"Memory"),
     }

@@ -2,6 +2,7 @@
 #![tactic(auto)]
 
 mod call;
+mod cut_texts;
 mod driver;
 mod fault_words;
 mod reply;
@@ -11,6 +12,7 @@ mod texts;
 mod words;
 
 pub use call::cactus;
+pub use cut_texts::parts_text;
 pub use cx_job::{FolderShelf, MemoryShelf, Shelf, ShelfFault};
 pub use reply::Answer;
 pub use sink::{MemorySink, Sink, SinkFault};

@@ -13,7 +13,7 @@ use cx_text::{Memory, Text};
 use std::alloc::Global;
 
 const USAGE: &[u8] =
-    b"usage: cactus run FILE\n       cactus check FILE\n       cactus schedule FILE\n       cactus describe FILE\n";
+    b"usage: cactus run FILE\n       cactus check FILE\n       cactus schedule FILE\n       cactus describe FILE\n       cactus parts FILE\n";
 
 /// What came of a call.
 #[derive(Debug, Drop)]

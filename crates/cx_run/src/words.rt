@@ -14,8 +14,10 @@ pub enum Command {
     Check,
     /// Makes the job and prints its schedule.
     Schedule,
-    /// Makes the job and prints its key and the parameters that don't belong to it.
+    /// Makes the job and prints its key, the parameters that don't belong to it, and how the grid is cut.
     Describe,
+    /// Makes the job and prints the parts of its grid.
+    Parts,
 }
 
 /// The command and the file that the words ask for, if they ask for any.
@@ -44,6 +46,8 @@ fn command_of(word: &[u8]) -> Option<Command>
         Some(Command::Schedule)
     } else if same(word, b"describe") {
         Some(Command::Describe)
+    } else if same(word, b"parts") {
+        Some(Command::Parts)
     } else {
         None
     }

@@ -1,5 +1,6 @@
 //! The top call over objects in memory and over devices that fail.
 
+use crate::cuts::CUTS;
 use crate::devices::{HollowDisk, LateShelf};
 use crate::faults::{FAULTS, IF_AROUND, IF_NOWHERE, PLAIN, SAMPLE_FAULTS};
 use crate::jobs::{CA_OUTPUT, RUNS};
@@ -59,7 +60,8 @@ const PARAMETER_FILES: &[File] = &[
 const USAGE: &[u8] = b"usage: cactus run FILE\n\
         \x20      cactus check FILE\n\
         \x20      cactus schedule FILE\n\
-        \x20      cactus describe FILE\n";
+        \x20      cactus describe FILE\n\
+        \x20      cactus parts FILE\n";
 
 const SCHEDULE: &[u8] = b"bin STARTUP\n\
         bin WRAGH\n\
@@ -115,7 +117,7 @@ const KEY_BEGINS: &[u8] = b"thorn Integer/ElemCA ca\n\
         parameter ca::seed = \"-1\"\n";
 
 /// What it prints behind it.
-const STARRED: &[u8] = b"parameter driver::parts_x = \"1\"\n\
+const STARRED_AND_CUT: &[u8] = b"parameter driver::parts_x = \"1\"\n\
         parameter driver::parts_y = \"1\"\n\
         parameter driver::parts_z = \"1\"\n\
         parameter driver::widths_x = \"\"\n\
@@ -125,7 +127,8 @@ const STARRED: &[u8] = b"parameter driver::parts_x = \"1\"\n\
         parameter IO::out_dir = \".\"\n\
         parameter IO::checkpoint_dir = \".\"\n\
         parameter IO::recover_dir = \".\"\n\
-        parameter IO::recover = \"no\" 0\n";
+        parameter IO::recover = \"no\" 0\n\
+        cut x 8\n";
 
 /// Words, the status that they give and the text that is printed.
 struct Asked {
@@ -383,7 +386,7 @@ fn description_of_eight_points(rt: HostRuntime) -> Result<(), Fail> {
     let mut shelf = shelf(alloc, PARAMETER_FILES, SAMPLES)?;
     let mut expected = Text::from_slice(alloc, KEY_BEGINS)?;
     expected.push_slice(SCHEDULE)?;
-    expected.push_slice(STARRED)?;
+    expected.push_slice(STARRED_AND_CUT)?;
     let came = answer_to(&rt, &[b"describe", b"ca.par"], &mut shelf)?;
     assert_eq!(rt; came.status, 0);
     assert_eq!(rt; came.printed.as_slice(), expected.as_slice());
@@ -410,6 +413,16 @@ fn sample_thorns_are_shown(rt: HostRuntime) -> Result<(), Fail> {
         let description = answer_to(&rt, &[b"describe", file], &mut shelf)?;
         assert_eq!(rt; description.status, 0);
         assert!(rt; description.printed.starts_with(b"thorn Integer/"));
+    }
+    Ok(())
+}
+
+#[test]
+fn grids_that_are_cut(rt: HostRuntime) -> Result<(), Fail> {
+    for cut in CUTS {
+        let mut shelf = shelf_with(rt.alloc(), cut.file, b"", cut.others)?;
+        let came = answer_to(&rt, &[cut.word, b"t.par"], &mut shelf)?;
+        assert_eq!(rt; came.printed.as_slice(), cut.printed);
     }
     Ok(())
 }
