@@ -4,5 +4,5 @@
 mod program;
 mod routines;
 
-pub use program::run_program;
+pub use program::{program_words, run_words};
 pub use routines::answer;

@@ -1,6 +1,6 @@
 //! The program over the current folder and standard output.
 
-ghost use Rattle.std.specs.Prelude.{◌≡◌, IfOk};
+ghost use Rattle.std.specs.Prelude.{◌≡◌, IfOk, OnErr};
 ghost use Rattle.std.specs.Process.{exit_status};
 ghost use Rattle.cx_run.specs.Answer.{IsStatusFor};
 
@@ -13,10 +13,13 @@ use std::env;
 use std::io::{self, ErrorKind};
 use std::process::ExitCode;
 
-/// Does what the words of the command line ask of a parameter file in the current folder, prints the answer, and gives the
-/// program's exit code: the status of the top call, or 5 where memory is wanting.
-pub fn run_program(rt: &HostRuntime) -> ExitCode {
-    match words(rt) {
+/// Does what these words ask of a parameter file in the current folder, prints the answer, and gives the program's exit code: the
+/// status of the top call, or 5 where memory is wanting, or where the host couldn't give its words.
+pub fn run_words(rt: &HostRuntime, words: io::Result<Vec<Text>>) -> ExitCode
+    ensures given { IfOk words (λ given. IsStatusFor given.items (exit_status result)) }
+    ensures wanting { OnErr words (exit_status result ≡ 5) }
+{
+    match words {
         Ok(words) => exit_code(rt, &words),
         Err(_) => wanting(rt),
     }
@@ -54,7 +57,11 @@ fn in_folder(rt: &HostRuntime, words: &[Text]) -> Result<u8, Memory>
 }
 
 /// The words after the program's name. Words that aren't text are those of no command, as no words are.
-fn words(rt: &HostRuntime) -> io::Result<Vec<Text>> {
+///
+/// # Errors
+///
+/// Those of the host that gives the words, want of memory among them.
+pub fn program_words(rt: &HostRuntime) -> io::Result<Vec<Text>> {
     let mut words = Vec::new(rt.alloc());
     match env::args(rt) {
         Ok(args) => {

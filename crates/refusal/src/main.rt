@@ -1,9 +1,9 @@
 //! The program: what the words ask of a parameter file in the current folder, here of one that is missing.
 #![tactic(auto)]
 
-use cx_samples::run_program;
+use cx_samples::{program_words, run_words};
 use std::process::ExitCode;
 
 fn main(rt: HostRuntime) -> ExitCode {
-    run_program(&rt)
+    run_words(&rt, program_words(&rt))
 }
