@@ -1,0 +1,8 @@
+pub mod Beginning
+pub mod Faults
+pub mod Fits
+pub mod Keeping
+pub mod Keys
+pub mod Starts
+pub mod Tests
+pub mod Trails

@@ -1,0 +1,70 @@
+//! Why a run didn't begin.
+
+use cx_disk::DiskFault;
+use cx_text::{Memory, Text};
+use std::alloc::{AllocError, AllocFailed};
+
+/// Why a run didn't begin.
+#[derive(Debug, Drop)]
+pub enum BeginFault {
+    /// The disk failed.
+    Disk,
+    /// A checkpoint was asked for, and no slot is open.
+    NoCheckpoint,
+    /// The newest slot is of another job: the first lines in which the two keys differ, the kept one first. A key that has ended
+    /// there has an empty one.
+    OtherJob(Text, Text),
+    /// The newest slot, this one, spells no checkpoint, or one that doesn't fit the job.
+    Damaged(u32),
+    /// The output is shorter than recorded: its length, and the recorded one.
+    OutputShort(u64, u64),
+    /// There was no memory left.
+    Memory,
+}
+
+impl From<Memory> for BeginFault {
+    ghost use Rattle.std.specs.Prelude.{◌≡◌};
+    ghost use Rattle.cx_keep.specs.declared.fault.BeginFault.TheVariants as fault;
+
+    ghost from_gives = { λ _ e. e ≡ fault.Memory };
+
+    fn from(_: Memory) -> Self {
+        BeginFault::Memory
+    }
+}
+
+impl From<AllocError> for BeginFault {
+    ghost use Rattle.std.specs.Prelude.{◌≡◌};
+    ghost use Rattle.cx_keep.specs.declared.fault.BeginFault.TheVariants as fault;
+
+    ghost from_gives = { λ _ e. e ≡ fault.Memory };
+
+    fn from(_: AllocError) -> Self {
+        BeginFault::Memory
+    }
+}
+
+impl<T: Drop> From<AllocFailed<T>> for BeginFault {
+    ghost use Rattle.std.specs.Prelude.{◌≡◌};
+    ghost use Rattle.cx_keep.specs.declared.fault.BeginFault.TheVariants as fault;
+
+    ghost from_gives = { λ _ e. e ≡ fault.Memory };
+
+    fn from(_: AllocFailed<T>) -> Self {
+        BeginFault::Memory
+    }
+}
+
+impl From<DiskFault> for BeginFault {
+    ghost use Rattle.std.specs.Prelude.{◌≡◌};
+    ghost use Rattle.cx_keep.specs.Faults.{begin_fault_of};
+
+    ghost from_gives = { λ fault e. e ≡ begin_fault_of fault };
+
+    fn from(fault: DiskFault) -> Self {
+        match fault {
+            DiskFault::Failed => BeginFault::Disk,
+            DiskFault::Memory => BeginFault::Memory,
+        }
+    }
+}

@@ -1,0 +1,111 @@
+//! The tests of what the newest slot holds.
+ghost use Rattle.std.specs.Prelude.{◌≡◌, ◌<◌, ◌≤◌, ◌+◌, Some, length, IsTrue, IfOk};
+ghost use Rattle.cx_disk.specs.Cause.{HasCause};
+ghost use Rattle.cx_disk.specs.Moments.{IsQuiet};
+ghost use Rattle.cx_plan.specs.Whole.{IsWhole};
+ghost use Rattle.cx_chk.specs.Slots.{slot_count};
+ghost use Rattle.cx_keep.specs.Fits.{output_count};
+ghost use Rattle.cx_keep.specs.Tests.{Answers, tested, or_short, short_in, short_from};
+
+use crate::fault::BeginFault;
+use crate::fits::fits;
+use crate::keys::first_difference;
+use crate::resume::OUTPUT;
+use cx_chk::{Checkpoint, decode};
+use cx_disk::{Disk, DiskFault};
+use cx_plan::Job;
+use std::alloc::Global;
+
+// The bytes of a file.
+fn bytes_of<D: Disk>(alloc: Global, disk: &mut D, file: u32) -> Result<Vec<u8>, DiskFault>
+    requires mounted { IsTrue (D.mounted disk.old) }
+    requires file { file < D.file_count disk.old }
+    ensures bytes { D.tells → IfOk result
+        (λ bytes. bytes.items ≡ (D.view disk.old).seen file) }
+    ensures quiet { D.tells → IsQuiet (D.view disk.old) (D.view disk.new) }
+    ensures mounted { IsTrue (D.mounted disk.new) }
+    ensures folders { D.folders disk.new ≡ D.folders disk.old }
+    ensures count { D.file_count disk.new ≡ D.file_count disk.old }
+    ensures cause { HasCause DiskFault.Failed (D.faults disk.old) (D.faults disk.new) result }
+{
+    let count = disk.length(file)?;
+    let mut bytes = vec![in alloc; 0u8; count as usize]?;
+    disk.read(file, 0, &mut bytes)?;
+    Ok(bytes)
+}
+
+// The first output that is shorter than recorded, as both lengths.
+fn short_of<D: Disk>(disk: &mut D, lengths: &[u64]) -> Result<Option<(u64, u64)>, DiskFault>
+    requires mounted { IsTrue (D.mounted disk.old) }
+    requires few { length lengths.now ≤ 256 }
+    requires files { 8 + length lengths.now ≤ D.file_count disk.old }
+    ensures short { D.tells → IfOk result
+        (λ found. found ≡ short_from 0 lengths.now (D.view disk.old).seen) }
+    ensures quiet { D.tells → IsQuiet (D.view disk.old) (D.view disk.new) }
+    ensures mounted { IsTrue (D.mounted disk.new) }
+    ensures folders { D.folders disk.new ≡ D.folders disk.old }
+    ensures count { D.file_count disk.new ≡ D.file_count disk.old }
+    ensures cause { HasCause DiskFault.Failed (D.faults disk.old) (D.faults disk.new) result }
+{
+    'each: for output in 0..lengths.len() {
+        let count = disk.length(OUTPUT + output as u32)?;
+        if count < lengths[output] {
+            return Ok(Some((count, lengths[output])));
+        }
+    }
+    Ok(None)
+}
+
+// A checkpoint of the job, unless an output is shorter than it records.
+fn long_enough<D: Disk>(disk: &mut D, found: Checkpoint) -> Result<Checkpoint, BeginFault>
+    requires mounted { IsTrue (D.mounted disk.old) }
+    requires few { length found.lengths ≤ 256 }
+    requires files { 8 + length found.lengths ≤ D.file_count disk.old }
+    ensures tests { D.tells → Answers (λ c. c) result
+        (or_short found (short_in found (D.view disk.old).seen)) }
+    ensures same { IfOk result (λ c. c ≡ found) }
+    ensures quiet { D.tells → IsQuiet (D.view disk.old) (D.view disk.new) }
+    ensures mounted { IsTrue (D.mounted disk.new) }
+    ensures folders { D.folders disk.new ≡ D.folders disk.old }
+    ensures count { D.file_count disk.new ≡ D.file_count disk.old }
+    ensures cause { HasCause BeginFault.Disk (D.faults disk.old) (D.faults disk.new) result }
+{
+    match short_of(disk, found.lengths.as_slice())? {
+        None => Ok(found),
+        Some((count, recorded)) => Err(BeginFault::OutputShort(count, recorded)),
+    }
+}
+
+/// The checkpoint of a slot, if it passes all tests; else the fault of the first one that fails. It changes no byte.
+pub fn judge<D: Disk>(
+    alloc: Global,
+    disk: &mut D,
+    job: &Job,
+    slot: u32,
+) -> Result<Checkpoint, BeginFault>
+    requires mounted { IsTrue (D.mounted disk.old) }
+    requires files { D.file_count disk.old ≡ 9 }
+    requires slot { slot < slot_count }
+    requires whole { IsWhole job.now }
+    ensures tests { D.tells → Answers (λ c. c) result
+        (tested job.now (D.view disk.old).seen slot) }
+    ensures one { IfOk result (λ c. length c.lengths ≡ output_count) }
+    ensures quiet { D.tells → IsQuiet (D.view disk.old) (D.view disk.new) }
+    ensures mounted { IsTrue (D.mounted disk.new) }
+    ensures folders { D.folders disk.new ≡ D.folders disk.old }
+    ensures count { D.file_count disk.new ≡ 9 }
+    ensures cause { HasCause BeginFault.Disk (D.faults disk.old) (D.faults disk.new) result }
+{
+    let bytes = bytes_of(alloc, disk, slot)?;
+    let Some(found) = decode(alloc, &bytes)? else {
+        return Err(BeginFault::Damaged(slot));
+    };
+    if found.key.as_slice() != job.key.as_slice() {
+        let (kept, own) = first_difference(alloc, found.key.as_slice(), job.key.as_slice())?;
+        return Err(BeginFault::OtherJob(kept, own));
+    }
+    if !fits(job, &found) {
+        return Err(BeginFault::Damaged(slot));
+    }
+    long_enough(disk, found)
+}

@@ -1,0 +1,213 @@
+//! The keeper of a run's output and checkpoints.
+ghost use Rattle.std.specs.Prelude.{◌≡◌, ◌≤◌, ◌+◌, ◌^◌, length, IsTrue, OnOk, OnErr, IfOk, IfErr, vec_len};
+ghost use Rattle.cx_disk.specs.Disk.{IsNamed};
+ghost use Rattle.cx_disk.specs.Cause.{HasCause};
+ghost use Rattle.cx_disk.specs.Moments.{IsQuiet};
+ghost use Rattle.cx_plan.specs.Whole.{IsWhole};
+ghost use Rattle.cx_chk.specs.Encoding.{IsCheckpoint};
+ghost use Rattle.cx_chk.specs.Slots.{SlotsSettled, OutputsSame};
+ghost use Rattle.cx_keep.specs.Tests.{Answers, begun};
+ghost use Rattle.cx_keep.specs.Trails.{Counts, OutputsSettled};
+ghost use Rattle.cx_keep.specs.Beginning.{HasLengths, LeavesAsIs, IsStarted, StartMoments, lengths_left};
+ghost use Rattle.cx_keep.specs.Keeping.{keeper_of, written, grown, IsAppended, KeepsRest, AppendMoments};
+ghost use Rattle.cx_keep.specs.Keeping.{HasSaved, SaveStands, SaveMoments};
+
+use crate::fault::BeginFault;
+use crate::resume::OUTPUT;
+use crate::start::start;
+use cx_chk::{Checkpoint, Slots};
+use cx_disk::{Disk, DiskFault};
+use cx_plan::Job;
+use cx_text::Memory;
+use std::alloc::Global;
+use std::marker::Model;
+
+/// A keeper of a run's output and checkpoints. It appends to the output, and saves checkpoints to the slots, so that at each
+/// moment a crash leaves files from which the run can go on. It knows the lengths of the outputs by its own count.
+/// Between two calls the disk is changed by this keeper alone, and after a call that failed it isn't used again.
+#[derive(Debug, Drop)]
+pub struct Keep {
+    keep: u32,
+    lengths: Vec<u64>,
+}
+
+impl Model for Keep {
+    ghost use Rattle.cx_keep.specs.Keeping.{Keeper, IsKeeper};
+
+    ghost Value = { Keeper };
+
+    ghost view = { λ k. record { keep = k.keep; lengths = k.lengths.items } };
+
+    ghost invariant = { λ k. IsKeeper (record { keep = k.keep; lengths = k.lengths.items }) };
+}
+
+// Settles so many outputs.
+fn settle<D: Disk>(disk: &mut D, outputs: u32) -> Result<(), DiskFault>
+    requires mounted { IsTrue (D.mounted disk.old) }
+    requires few { outputs ≤ 256 }
+    requires files { 8 + outputs ≤ D.file_count disk.old }
+    ensures quiet { D.tells → IsQuiet (D.view disk.old) (D.view disk.new) }
+    ensures settled { D.tells → OnOk result (OutputsSettled outputs (D.view disk.new)) }
+    ensures mounted { IsTrue (D.mounted disk.new) }
+    ensures folders { D.folders disk.new ≡ D.folders disk.old }
+    ensures count { D.file_count disk.new ≡ D.file_count disk.old }
+    ensures cause { HasCause DiskFault.Failed (D.faults disk.old) (D.faults disk.new) result }
+{
+    'each: for output in 0..outputs {
+        disk.sync(OUTPUT + output)?;
+    }
+    Ok(())
+}
+
+// The outputs' lengths behind a start.
+fn lengths_of(alloc: Global, found: &Option<Checkpoint>) -> Result<Vec<u64>, Memory>
+    ensures { IfOk result (λ lengths. lengths.items ≡ lengths_left found.now) }
+{
+    match found {
+        Some(found) => Ok(found.lengths.as_slice().to_vec(alloc)?),
+        None => Ok(vec![in alloc; 0u64]?),
+    }
+}
+
+impl Keep {
+    // A run's start on a mounted disk.
+    fn begin_mounted<D: Disk>(
+        alloc: Global,
+        disk: &mut D,
+        job: &Job,
+    ) -> Result<(Keep, Option<Checkpoint>), BeginFault>
+        requires mounted { IsTrue (D.mounted disk.old) }
+        requires files { D.file_count disk.old ≡ 9 }
+        requires whole { IsWhole job.now }
+        ensures begun { D.tells → Answers (λ r. r.1) result
+            (begun job.now (D.view disk.old).seen) }
+        ensures refused { D.tells →
+            IfErr result (LeavesAsIs (D.view disk.old) (D.view disk.new)) }
+        ensures started { D.tells → IfOk result
+            (λ r. IsStarted job.now.recover r.1 (D.view disk.old) (D.view disk.new)) }
+        ensures moments { D.tells →
+            StartMoments job.now.recover (D.view disk.old) (D.view disk.new) }
+        ensures keeper { IfOk result (λ r. (r.0 ≡ keeper_of job.now r.1) × HasLengths r.1) }
+        ensures mounted { IsTrue (D.mounted disk.new) }
+        ensures folders { D.folders disk.new ≡ D.folders disk.old }
+        ensures count { D.file_count disk.new ≡ 9 }
+        ensures cause { HasCause BeginFault.Disk (D.faults disk.old) (D.faults disk.new) result }
+    {
+        let found = start(alloc, disk, job)?;
+        let lengths = lengths_of(alloc, &found)?;
+        let keep = Keep {
+            keep: job.keep,
+            lengths,
+        };
+        Ok((keep, found))
+    }
+
+    /// Begins a run: mounts the disk with the job's folders, tests its files, settles them, and cuts the output. The run goes on
+    /// from the checkpoint of the answer, whose recorded length the output then has, or with none from an empty output.
+    ///
+    /// The newest slot is the open one of the greatest iteration, of equal ones the first. With `Recover::No` all slots are
+    /// closed and none is tested. A start that is refused by one of the tests, which are made in this order, changes no byte.
+    ///
+    /// `NoCheckpoint`: no slot is open, under `Recover::Auto`. `Damaged`: the newest slot spells no checkpoint. `OtherJob`: its
+    /// key isn't the job's. `Damaged`: its iteration isn't due, or its counts or values don't fit the job's variables.
+    /// `OutputShort`: the output is shorter than it records. `Disk`: the disk failed. After `Disk` and `Memory` some slots may
+    /// be closed under `Recover::No`, and the output cut.
+    pub fn begin<D: Disk>(
+        alloc: Global,
+        disk: &mut D,
+        job: &Job,
+    ) -> Result<(Keep, Option<Checkpoint>), BeginFault>
+        requires whole { IsWhole job.now }
+        ensures begun { D.tells → Answers (λ r. r.1) result
+            (begun job.now (D.view disk.old).seen) }
+        ensures refused { D.tells →
+            IfErr result (LeavesAsIs (D.view disk.old) (D.view disk.new)) }
+        ensures started { D.tells → IfOk result
+            (λ r. IsStarted job.now.recover r.1 (D.view disk.old) (D.view disk.new)) }
+        ensures moments { D.tells →
+            StartMoments job.now.recover (D.view disk.old) (D.view disk.new) }
+        ensures keeper { IfOk result (λ r. (r.0 ≡ keeper_of job.now r.1) × HasLengths r.1) }
+        ensures mounted { OnOk result (IsTrue (D.mounted disk.new)) }
+        ensures folders { OnOk result
+            (IsNamed job.now.out_dir job.now.chk_dir (D.folders disk.new)) }
+        ensures count { D.file_count disk.new ≡ 9 }
+        ensures cause { HasCause BeginFault.Disk (D.faults disk.old) (D.faults disk.new) result }
+    {
+        disk.mount(&job.out_dir, &job.chk_dir)?;
+        Keep::begin_mounted(alloc, disk, job)
+    }
+
+    /// Appends a piece to the output, which with it has at most 2^32 bytes. It is settled by the next `save` or `finish`.
+    ///
+    /// `Failed`: the disk failed. The output then has what it had, and maybe bytes behind it. So it may after `Memory`.
+    pub fn write_out<D: Disk>(&mut self, disk: &mut D, bytes: &[u8]) -> Result<(), DiskFault>
+        requires mounted { IsTrue (D.mounted disk.old) }
+        requires files { 9 ≤ D.file_count disk.old }
+        requires room { written self.old + length bytes.now ≤ 2 ^ 32 }
+        requires counts { D.tells → Counts self.old.lengths (D.view disk.old) }
+        ensures counts { D.tells → OnOk result (Counts self.new.lengths (D.view disk.new)) }
+        ensures keeper { OnOk result (self.new ≡ grown self.old (length bytes.now)) }
+        ensures same { OnErr result (self.new ≡ self.old) }
+        ensures appended { D.tells → OnOk result
+            (IsAppended bytes.now (D.view disk.old) (D.view disk.new)) }
+        ensures rest { D.tells → KeepsRest (D.view disk.old) (D.view disk.new) }
+        ensures moments { D.tells → AppendMoments bytes.now (D.view disk.old) (D.view disk.new) }
+        ensures mounted { IsTrue (D.mounted disk.new) }
+        ensures folders { D.folders disk.new ≡ D.folders disk.old }
+        ensures count { D.file_count disk.new ≡ D.file_count disk.old }
+        ensures cause { HasCause DiskFault.Failed (D.faults disk.old) (D.faults disk.new) result }
+    {
+        let at = self.lengths[0];
+        disk.write_at(OUTPUT, at, bytes)?;
+        self.lengths[0] = at + bytes.len() as u64;
+        Ok(())
+    }
+
+    /// Settles the output and saves a checkpoint, to the first slot that isn't open, else to the oldest one. Its key and its lists
+    /// have fewer than 2^32 items each.
+    ///
+    /// `Failed`: the disk failed, and the slot may be left closed. So it may after `Memory`.
+    pub fn save<D: Disk>(
+        &mut self,
+        alloc: Global,
+        disk: &mut D,
+        c: &Checkpoint,
+    ) -> Result<(), DiskFault>
+        requires mounted { IsTrue (D.mounted disk.old) }
+        requires files { 9 ≤ D.file_count disk.old }
+        requires fits { IsCheckpoint c.now }
+        requires slots { D.tells → SlotsSettled (D.view disk.old) }
+        ensures keeper { self.new ≡ self.old }
+        ensures outputs { D.tells → OutputsSame (D.view disk.old).seen (D.view disk.new).seen }
+        ensures saved { D.tells → OnOk result
+            (HasSaved self.old.keep c.now (D.view disk.new)) }
+        ensures stands { D.tells → OnOk result
+            (SaveStands c.now (D.view disk.old) (D.view disk.new)) }
+        ensures moments { D.tells → SaveMoments c.now (D.view disk.old) (D.view disk.new) }
+        ensures mounted { IsTrue (D.mounted disk.new) }
+        ensures folders { D.folders disk.new ≡ D.folders disk.old }
+        ensures count { D.file_count disk.new ≡ D.file_count disk.old }
+        ensures cause { HasCause DiskFault.Failed (D.faults disk.old) (D.faults disk.new) result }
+    {
+        settle(disk, self.lengths.len() as u32)?;
+        Slots::save(alloc, disk, self.keep, c)
+    }
+
+    /// Settles the output.
+    ///
+    /// `Failed`: the disk failed.
+    pub fn finish<D: Disk>(&mut self, disk: &mut D) -> Result<(), DiskFault>
+        requires mounted { IsTrue (D.mounted disk.old) }
+        requires files { 9 ≤ D.file_count disk.old }
+        ensures keeper { self.new ≡ self.old }
+        ensures quiet { D.tells → IsQuiet (D.view disk.old) (D.view disk.new) }
+        ensures settled { D.tells → OnOk result
+            (OutputsSettled (length self.old.lengths) (D.view disk.new)) }
+        ensures mounted { IsTrue (D.mounted disk.new) }
+        ensures folders { D.folders disk.new ≡ D.folders disk.old }
+        ensures count { D.file_count disk.new ≡ D.file_count disk.old }
+        ensures cause { HasCause DiskFault.Failed (D.faults disk.old) (D.faults disk.new) result }
+    {
+        settle(disk, self.lengths.len() as u32)
+    }
+}

@@ -1,0 +1,71 @@
+//! The end of a start with a checkpoint: the slots are settled, and each output is cut to what it records.
+ghost use Rattle.std.specs.Prelude.{◌≡◌, ◌≤◌, ◌+◌, length, IsTrue, OnOk};
+ghost use Rattle.cx_disk.specs.Cause.{HasCause};
+ghost use Rattle.cx_disk.specs.Moments.{IsQuiet};
+ghost use Rattle.cx_chk.specs.Slots.{slot_count, SlotsSettled};
+ghost use Rattle.cx_keep.specs.Starts.{AreLong, CutsOutputs, LeavesCut, AreCut, SlotsSame, ResumeMoments};
+ghost use Rattle.cx_keep.specs.Beginning.{IsLeft, ResumeStands};
+
+use cx_chk::Checkpoint;
+use cx_disk::{Disk, DiskFault, trim};
+
+/// The file of the first output. The slots are the files before it.
+pub(crate) const OUTPUT: u32 = 8;
+
+/// Settles the slots.
+pub fn settle_slots<D: Disk>(disk: &mut D) -> Result<(), DiskFault>
+    requires mounted { IsTrue (D.mounted disk.old) }
+    requires files { slot_count ≤ D.file_count disk.old }
+    ensures quiet { D.tells → IsQuiet (D.view disk.old) (D.view disk.new) }
+    ensures settled { D.tells → OnOk result (SlotsSettled (D.view disk.new)) }
+    ensures mounted { IsTrue (D.mounted disk.new) }
+    ensures folders { D.folders disk.new ≡ D.folders disk.old }
+    ensures count { D.file_count disk.new ≡ D.file_count disk.old }
+    ensures cause { HasCause DiskFault.Failed (D.faults disk.old) (D.faults disk.new) result }
+{
+    'each: for slot in 0..OUTPUT {
+        disk.sync(slot)?;
+    }
+    Ok(())
+}
+
+/// Cuts each output to its length, and settles it.
+pub fn cut_outputs<D: Disk>(disk: &mut D, lengths: &[u64]) -> Result<(), DiskFault>
+    requires mounted { IsTrue (D.mounted disk.old) }
+    requires few { length lengths.now ≤ 256 }
+    requires files { 8 + length lengths.now ≤ D.file_count disk.old }
+    requires long { D.tells → AreLong lengths.now (D.view disk.old).seen }
+    ensures crash { D.tells → CutsOutputs lengths.now (D.view disk.old) (D.view disk.new) }
+    ensures moments { D.tells → LeavesCut lengths.now (D.view disk.old) (D.view disk.new) }
+    ensures slots { D.tells → SlotsSame (D.view disk.old).seen (D.view disk.new).seen }
+    ensures cut { D.tells → OnOk result
+        (AreCut lengths.now (D.view disk.old) (D.view disk.new)) }
+    ensures mounted { IsTrue (D.mounted disk.new) }
+    ensures folders { D.folders disk.new ≡ D.folders disk.old }
+    ensures count { D.file_count disk.new ≡ D.file_count disk.old }
+    ensures cause { HasCause DiskFault.Failed (D.faults disk.old) (D.faults disk.new) result }
+{
+    'each: for output in 0..lengths.len() {
+        trim(disk, OUTPUT + output as u32, lengths[output])?;
+    }
+    Ok(())
+}
+
+/// Goes on from a checkpoint: settles the slots, and cuts the outputs to what it records.
+pub fn resume<D: Disk>(disk: &mut D, c: &Checkpoint) -> Result<(), DiskFault>
+    requires mounted { IsTrue (D.mounted disk.old) }
+    requires few { length c.now.lengths ≤ 256 }
+    requires files { 8 + length c.now.lengths ≤ D.file_count disk.old }
+    requires long { D.tells → AreLong c.now.lengths (D.view disk.old).seen }
+    ensures stands { D.tells → OnOk result
+        (ResumeStands c.now (D.view disk.old) (D.view disk.new)) }
+    ensures moments { D.tells → ResumeMoments c.now (D.view disk.old) (D.view disk.new) }
+    ensures left { D.tells → OnOk result (IsLeft c.now.lengths (D.view disk.new)) }
+    ensures mounted { IsTrue (D.mounted disk.new) }
+    ensures folders { D.folders disk.new ≡ D.folders disk.old }
+    ensures count { D.file_count disk.new ≡ D.file_count disk.old }
+    ensures cause { HasCause DiskFault.Failed (D.faults disk.old) (D.faults disk.new) result }
+{
+    settle_slots(disk)?;
+    cut_outputs(disk, c.lengths.as_slice())
+}

@@ -1,0 +1,5 @@
+//! Tests of the keeper.
+#![tactic(auto)]
+
+#[cfg(test)]
+mod starts;
