@@ -1,12 +1,13 @@
 -- A piece appended to an output.
-use Rattle.std.proofs.Common.{◌≡◌, ◌≢◌, ◌⊎◌, inl, inr, ℕ, ◌+◌, ◌≤◌, ◌<◌, min, max, List, [], ◌∷◌, ◌++◌, length, take, drop, refl, sym, ◌∙◌, ap, subst, arith, length-append}
+use Rattle.std.proofs.Common.{◌≡◌, ◌≢◌, ◌⊎◌, inl, inr, ℕ, ◌+◌, ◌≤◌, ◌<◌, min, max, List, [], ◌∷◌, ◌++◌, length, take, drop, get_or, refl, sym, ◌∙◌, ap, subst, arith, length-append}
 use Rattle.std.specs.Prelude.{Option, Some, None, IfSome}
 use Rattle.std.proofs.lemmas.Bool.{cases_eq}
-use Rattle.std.proofs.lemmas.List.{take_all, drop_all, take_at, append-nil, take-take}
+use Rattle.std.proofs.lemmas.List.{take_all, drop_all, take_at, append-nil, take-take, get_or_read}
 use Rattle.cx_disk.specs.Disk.{Files, View, IsView, Changes, Torn, Holds, Passes, OthersSame}
 use Rattle.cx_chk.specs.declared.checkpoint.Checkpoint.{Checkpoint}
 use Rattle.cx_chk.specs.Slots.{header_of, SlotsSettled}
-use Rattle.cx_keep.specs.Trails.{Course, IsOfRun, OutputsReach, GoesAsFar, IsTrailOf, NewestIs, Stands, IsFrontOf, IsNextPiece, text_of, length_in, file_of_output}
+use Rattle.cx_keep.specs.Trails.{Course, IsOfRun, OutputsReach, GoesAsFar, IsTrailOf, NewestIs, Stands, IsFrontOf, IsNextPiece, Counts, text_of, length_in, file_of_output}
+use Rattle.cx_keep.specs.Keeping.{Keeper, output_file}
 use Rattle.cx_keep.proofs.Stays.{of_run_at, newest_same, trail_at, within_more}
 
 -- what was before the offset, in both, is there after a torn write
@@ -26,6 +27,12 @@ written_end piece old new holds =
     ∙ ap (λ (l : List ℕ). l ++ piece ++ drop (length old + length piece) old) (take_all (length old) old (omega arith))
     ∙ ap (λ (l : List ℕ). old ++ piece ++ l) (drop_all (length old + length piece) old (omega arith))
     ∙ append-nil (old ++ piece)
+
+-- where the keeper goes on by its own count the output ends
+pub count_is : (k inside : Keeper) (at : ℕ) (v : View) → inside ≡ k → length inside.lengths ≡ 1 → at ≡ get_or inside.lengths 0 at → Counts k.lengths v → at ≡ length (v.seen output_file)
+count_is k inside at v is one read counts =
+    let lt : 0 < length inside.lengths = omega (arith, one) in
+    get_or_read inside.lengths 0 at lt read 0 ∙ subst (λ (x : Keeper). Counts x.lengths v) (sym is) counts 0 lt
 
 -- what the output had is there, whether the write was stopped or not
 pub torn_keeps : (k : ℕ) (old new : List ℕ) → Torn (length old) k old new → take (length old) new ≡ old

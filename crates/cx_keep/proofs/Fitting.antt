@@ -1,9 +1,9 @@
 -- Whether each variable has its items, variable by variable.
-use Rattle.std.proofs.Common.{◌≡◌, ℕ, zero, suc, ◌+◌, ◌<◌, ◌≤◌, Bool, true, false, ◌&&◌, List, [], ◌∷◌, ◌++◌, length, take, drop, get_or, refl, sym, ◌∙◌, ap, subst, arith}
+use Rattle.std.proofs.Common.{◌≡◌, ℕ, zero, suc, ◌+◌, ◌-◌, ◌<◌, ◌≤◌, Bool, true, false, ◌&&◌, List, [], ◌∷◌, ◌++◌, length, take, drop, get_or, refl, sym, ◌∙◌, ap, subst, arith}
 use Rattle.std.specs.Prelude.{◌==◌, nat_le, replicate}
 use Rattle.std.specs.List.{list_all, flat_map}
 use Rattle.std.proofs.lemmas.Bool.Decides.{nat_tests}
-use Rattle.std.proofs.lemmas.List.{drop_all, drop-drop, length-drop}
+use Rattle.std.proofs.lemmas.List.{take_all, drop_all, drop-drop, length-drop}
 use Rattle.cx_plan.specs.declared.variable.VarInfo.{VarInfo}
 use Rattle.cx_keep.specs.Fits.{each_fits, variables_by, begins_with}
 
@@ -87,3 +87,9 @@ pub begins_none : {A : Type 0} (test : A → Bool) (n : ℕ) (xs : List A) → l
 begins_none test n xs lt =
     let b : nat_le n (length xs) ≡ false = grind (arith, nat_tests) in
     rw b refl
+
+-- what a call says of the slice from a place on
+pub begins_is : {A : Type 0} (test : A → Bool) (m n at : ℕ) (xs : List A) (r b : Bool) → m ≡ n → r ≡ begins_with test m (take (length xs - at) (drop at xs)) → r ≡ b → begins_with test n (drop at xs) ≡ b
+begins_is {A} test m n at xs r b same says is =
+    let all : take (length xs - at) (drop at xs) ≡ drop at xs = take_all (length xs - at) (drop at xs) (omega (arith, length-drop at xs)) in
+    subst (λ (k : ℕ). begins_with test k (drop at xs) ≡ b) same (subst (λ (l : List A). begins_with test m l ≡ b) all (sym says ∙ is))

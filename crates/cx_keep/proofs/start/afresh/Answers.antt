@@ -18,7 +18,7 @@ returns-clause-started g c = λ tells.
     let none = none_same (g.D.Disk.view c.args.disk.now).seen (g.D.Disk.view c.settle_slots.new.disk).seen (none_open (g.D.Disk.view c.args.disk.now).seen (c.requires.none tells)) (λ s lt. quiet.same s) in
     on_ok_weaker c.cut_outputs.result (λ own. record {
       stands = λ course can. empty_stands course (g.D.Disk.view c.settle_slots.new.disk) (g.D.Disk.view c.cut_outputs.new.disk) can.outputs none settled (c.cut_outputs.ensures.crash tells) (c.cut_outputs.ensures.slots tells) own;
-      left = cut_leaves (0 ∷ []) (g.D.Disk.view c.settle_slots.new.disk) (g.D.Disk.view c.cut_outputs.new.disk) settled (nothing_long _) (c.cut_outputs.ensures.crash tells) (c.cut_outputs.ensures.slots tells) own;
+      left = cut_leaves (0 ∷ []) (g.D.Disk.view c.settle_slots.new.disk) (g.D.Disk.view c.cut_outputs.new.disk) settled (nothing_long (g.D.Disk.view c.settle_slots.new.disk).seen) (c.cut_outputs.ensures.crash tells) (c.cut_outputs.ensures.slots tells) own;
     }) (c.cut_outputs.ensures.cut tells)
 
 pub returns-clause-moments : goal.returns-clause-moments

@@ -24,7 +24,7 @@ returns-clause-started g c = λ tells.
     let settled = c.in_ok-close_all.ensures.settled tells in
     on_ok_weaker c.cut_outputs.result (λ own. record {
       stands = λ course can. empty_stands course (g.D.Disk.view c.close_all.new.disk) (g.D.Disk.view c.cut_outputs.new.disk) can.outputs closed settled (c.cut_outputs.ensures.crash tells) (c.cut_outputs.ensures.slots tells) own;
-      left = cut_leaves (0 ∷ []) (g.D.Disk.view c.close_all.new.disk) (g.D.Disk.view c.cut_outputs.new.disk) settled (nothing_long _) (c.cut_outputs.ensures.crash tells) (c.cut_outputs.ensures.slots tells) own;
+      left = cut_leaves (0 ∷ []) (g.D.Disk.view c.close_all.new.disk) (g.D.Disk.view c.cut_outputs.new.disk) settled (nothing_long (g.D.Disk.view c.close_all.new.disk).seen) (c.cut_outputs.ensures.crash tells) (c.cut_outputs.ensures.slots tells) own;
     }) (c.cut_outputs.ensures.cut tells)
 
 pub returns-clause-moments : goal.returns-clause-moments
