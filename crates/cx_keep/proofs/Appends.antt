@@ -1,14 +1,14 @@
 -- A piece appended to an output.
-use Rattle.std.proofs.Common.{◌≡◌, ◌≢◌, ◌⊎◌, inl, inr, ℕ, ◌+◌, ◌≤◌, ◌<◌, min, max, List, [], ◌∷◌, ◌++◌, length, take, drop, get_or, refl, sym, ◌∙◌, ap, subst, arith, length-append}
+use Rattle.std.proofs.Common.{◌≡◌, inl, inr, ℕ, ◌+◌, ◌≤◌, ◌<◌, min, List, ◌++◌, length, take, drop, get_or, refl, sym, ◌∙◌, ap, subst, arith}
 use Rattle.std.specs.Prelude.{Option, Some, None, IfSome}
 use Rattle.std.proofs.lemmas.Bool.{cases_eq}
 use Rattle.std.proofs.lemmas.List.{take_all, drop_all, take_at, append-nil, take-take, get_or_read}
 use Rattle.cx_disk.specs.Disk.{Files, View, IsView, Changes, Torn, Holds, Passes, OthersSame}
 use Rattle.cx_chk.specs.declared.checkpoint.Checkpoint.{Checkpoint}
 use Rattle.cx_chk.specs.Slots.{header_of, SlotsSettled}
-use Rattle.cx_keep.specs.Trails.{Course, IsOfRun, OutputsReach, GoesAsFar, IsTrailOf, NewestIs, Stands, IsFrontOf, IsNextPiece, Counts, text_of, length_in, file_of_output}
+use Rattle.cx_keep.specs.Trails.{Course, OutputsReach, GoesAsFar, IsTrailOf, Stands, IsFrontOf, IsNextPiece, Counts, text_of, length_in, file_of_output}
 use Rattle.cx_keep.specs.Keeping.{Keeper, output_file}
-use Rattle.cx_keep.proofs.Stays.{of_run_at, newest_same, trail_at, within_more}
+use Rattle.cx_keep.proofs.Stays.{of_run_at, newest_same, trail_at}
 
 -- what was before the offset, in both, is there after a torn write
 torn_far : (at k n : ℕ) (text d c : List ℕ) → Torn at k d c → n ≤ at → GoesAsFar n text d → GoesAsFar n text c

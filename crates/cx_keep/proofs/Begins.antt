@@ -1,13 +1,13 @@
 -- The outputs cut to what the newest checkpoint records.
-use Rattle.std.proofs.Common.{◌≡◌, ◌⊎◌, inl, inr, ℕ, zero, suc, ◌+◌, ◌≤◌, ◌<◌, min, List, [], ◌∷◌, length, take, refl, sym, ◌∙◌, ap, subst, arith}
-use Rattle.std.specs.Prelude.{Option, Some, None, IfSome, slice_index}
+use Rattle.std.proofs.Common.{◌≡◌, ℕ, zero, suc, ◌≤◌, ◌<◌, List, [], ◌∷◌, length, take, refl, sym, ◌∙◌, ap, subst, arith}
+use Rattle.std.specs.Prelude.{Option, Some, IfSome, slice_index}
 use Rattle.std.proofs.lemmas.List.{take-take, length-take}
 use Rattle.cx_disk.specs.Disk.{Files, View, IsView, CutShort, SameFiles, LeavesOnly}
 use Rattle.cx_disk.specs.Moments.{IsQuiet}
 use Rattle.cx_disk.proofs.Moments.{joins, weaker}
 use Rattle.cx_chk.specs.declared.checkpoint.Checkpoint.{Checkpoint}
 use Rattle.cx_chk.specs.Slots.{header_of, SlotsSettled}
-use Rattle.cx_keep.specs.Trails.{Course, Has, IsOfRun, OutputsReach, GoesAsFar, IsTrail, IsTrailOf, IsGreatest, NewestIs, Stands, IsFrontOf, text_of, length_in, file_of_output}
+use Rattle.cx_keep.specs.Trails.{Course, Has, IsOfRun, OutputsReach, GoesAsFar, IsTrail, IsTrailOf, NewestIs, Stands, IsFrontOf, text_of, length_in, file_of_output}
 use Rattle.cx_keep.specs.Starts.{IsCutTo, IsOwn, AreLong, CutsOutputs, AreCut, SlotsSame, AreTrails, IsMonotone, IsTrailFrom, IsResumed}
 use Rattle.cx_keep.specs.Beginning.{IsLeft}
 use Rattle.cx_keep.proofs.Stays.{of_run_at, newest_same, within_more, reach_same}

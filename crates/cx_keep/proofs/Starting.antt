@@ -1,5 +1,5 @@
 -- What a start comes to, over calls that change no byte and by the way to begin.
-use Rattle.std.proofs.Common.{◌≡◌, ◌≢◌, ◌⊎◌, inl, inr, ℕ, ◌≤◌, ◌<◌, List, length, refl, sym, ◌∙◌, ap, subst, arith}
+use Rattle.std.proofs.Common.{◌≡◌, ◌≢◌, ◌⊎◌, inl, inr, ℕ, length, refl, sym, ◌∙◌, ap, subst, arith}
 use Rattle.std.specs.Prelude.{Option, Some, None, Result, Ok, Err, IfOk, IfErr}
 use Rattle.cx_disk.specs.Disk.{Files, View, SameFiles, LeavesOnly}
 use Rattle.cx_disk.specs.Moments.{IsQuiet}
@@ -14,7 +14,7 @@ use Rattle.cx_keep.specs.declared.fault.BeginFault.TheVariants as faults
 use Rattle.cx_keep.specs.Trails.{Course, file_of_output}
 use Rattle.cx_keep.specs.Starts.{AreTrails}
 use Rattle.cx_keep.specs.Beginning.{IsWithinStart, CanStart, IsStarted, StartMoments, LeavesAsIs}
-use Rattle.cx_keep.specs.Tests.{begun, begun_from, resumed, tested, Answers, IsFaultOf}
+use Rattle.cx_keep.specs.Tests.{begun, begun_from, resumed, tested, IsFaultOf}
 use Rattle.cx_keep.proofs.Afresh.{within_quiet}
 use Rattle.cx_keep.proofs.Begins.{trails_quiet}
 

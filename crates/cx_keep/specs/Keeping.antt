@@ -1,12 +1,12 @@
 -- What a keeper is, and where its calls lead.
-use Rattle.std.specs.Prelude.{ℕ, ◌+◌, ◌<◌, ◌≤◌, ◌≡◌, ◌⊎◌, List, [], ◌∷◌, ◌++◌, length, take, slice_index, Option, Some, None, IfSome}
+use Rattle.std.specs.Prelude.{ℕ, ◌+◌, ◌≤◌, ◌≡◌, ◌⊎◌, List, [], ◌∷◌, ◌++◌, length, take, slice_index, Option, Some}
 use Rattle.cx_disk.specs.Disk.{Files, View, Changes, LeavesOnly}
 use Rattle.cx_plan.specs.declared.job.Job.{Job}
 use Rattle.cx_chk.specs.declared.checkpoint.Checkpoint.{Checkpoint}
 use Rattle.cx_chk.specs.Encoding.{SpellsSlot}
 use Rattle.cx_chk.specs.Slots.{SlotsSettled}
 use Rattle.cx_keep.specs.Fits.{output_count}
-use Rattle.cx_keep.specs.Trails.{Course, Stands, IsTrailOf, IsNextPiece, IsNextCheckpoint, Counts, length_in, file_of_output}
+use Rattle.cx_keep.specs.Trails.{Course, Stands, IsTrailOf, IsNextPiece, IsNextCheckpoint, file_of_output}
 use Rattle.cx_keep.specs.Beginning.{lengths_left, IsLater}
 
 -- the number of the last slot that it saves to, and the length of each output by its own count

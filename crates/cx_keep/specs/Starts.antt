@@ -1,9 +1,9 @@
 -- The end of a start with a checkpoint: the outputs are cut to what it records.
-use Rattle.std.specs.Prelude.{ℕ, ◌<◌, ◌≤◌, ◌≡◌, List, length, take, slice_index, Option, Some}
+use Rattle.std.specs.Prelude.{ℕ, ◌<◌, ◌≤◌, ◌≡◌, List, length, take, slice_index, Some}
 use Rattle.cx_disk.specs.Disk.{Files, View, CutShort, LeavesOnly}
 use Rattle.cx_chk.specs.declared.checkpoint.Checkpoint.{Checkpoint}
 use Rattle.cx_chk.specs.Slots.{slot_count}
-use Rattle.cx_keep.specs.Trails.{Course, Has, IsTrail, NewestIs, OutputsReach, Stands, length_in, file_of_output}
+use Rattle.cx_keep.specs.Trails.{Course, Has, IsTrail, NewestIs, OutputsReach, length_in, file_of_output}
 
 -- an image from before, where each of the first outputs may be cut, in part or whole
 pub record IsCutTo (lengths : List ℕ) (count : ℕ) (old : View) (c : Files) : Type 0 where

@@ -1,4 +1,4 @@
-use Rattle.std.proofs.Common.{◌≡◌, ◌≤◌, ◌+◌, ◌∙◌, ℕ, true, false, drop, get_or, length, sym, ap, subst, arith}
+use Rattle.std.proofs.Common.{◌≡◌, ◌≤◌, ◌+◌, ◌∙◌, ℕ, true, false, drop, get_or, length, sym, ap, subst}
 use Rattle.cx_plan.specs.declared.variable.VarInfo.{VarInfo}
 use Rattle.cx_keep.specs.Fits.{begins_with, holds_level, level_count, each_fits, variables_by}
 use Rattle.cx_keep.proofs.Fitting.{step, stop, begins_is, begins_within}

@@ -1,7 +1,6 @@
-use Rattle.std.proofs.Common.{◌≡◌, ◌<◌, ◌+◌, ◌∙◌, ℕ, List, sym, ap, subst, length, refl}
+use Rattle.std.proofs.Common.{◌∙◌, ℕ, List, ap, subst, length}
 use Rattle.std.specs.Prelude.{slice_index}
 use Rattle.std.proofs.lemmas.Result.{on_ok_weaker}
-use Rattle.cx_disk.specs.Disk.{View}
 use Rattle.cx_keep.specs.Starts.{LeavesCut}
 use Rattle.cx_keep.proofs.Begins.{quiet_moments, cut_moments, cut_stands, trails_quiet, resumed_quiet}
 use Rattle.cx_keep.proofs.resume.resume.Goals as goal

@@ -1,4 +1,4 @@
-use Rattle.std.proofs.Common.{◌≡◌, ◌≤◌, ◌<◌, ◌+◌, ℕ, IsTrue}
+use Rattle.std.proofs.Common.{◌≡◌, ◌≤◌, ◌<◌, ℕ, IsTrue}
 use Rattle.cx_disk.specs.Disk.{IsSettled}
 use Rattle.cx_disk.specs.Moments.{IsQuiet}
 use Rattle.cx_keep.proofs.resume.settle_slots.Given as goal

@@ -1,4 +1,4 @@
-use Rattle.std.proofs.Common.{◌≡◌, ◌<◌, [], ◌∷◌}
+use Rattle.std.proofs.Common.{[], ◌∷◌}
 use Rattle.std.proofs.lemmas.Result.{on_ok_weaker}
 use Rattle.cx_disk.proofs.Moments.{weaker, joins}
 use Rattle.cx_plan.specs.declared.job.Recover.TheVariants.{Autoprobe}

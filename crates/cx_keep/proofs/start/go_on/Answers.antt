@@ -1,4 +1,4 @@
-use Rattle.std.proofs.Common.{◌≡◌, ◌<◌, ◌≤◌, ◌+◌, ◌∙◌, ℕ, sym, ap, subst, length, arith}
+use Rattle.std.proofs.Common.{◌≡◌, ◌≤◌, ◌+◌, ◌∙◌, ℕ, sym, ap, subst, length, arith}
 use Rattle.cx_disk.proofs.Moments.{joins}
 use Rattle.cx_plan.specs.declared.job.Recover.TheVariants.{Autoprobe}
 use Rattle.cx_keep.specs.Beginning.{IsWithinStart}
