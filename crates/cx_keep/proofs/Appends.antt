@@ -52,7 +52,6 @@ append_settled at k j old new settled passes others s lt c now =
 
 module _ (course : Course) (newest : Option ℕ) (next : Option Checkpoint) (j : ℕ) (piece : List ℕ) (old new : View) (sound : IsView old) (st : Stands course newest next old) (fits : IsNextPiece course next j piece (old.seen (file_of_output j)))
     (passes : Passes (Changes (Torn (length (old.seen (file_of_output j))) (length piece)) (file_of_output j)) old new) where
-
   slot_other : (s : ℕ) → s < 8 → s ≡ file_of_output j → ⊥
   slot_other s lt same = let e : s ≡ 8 + j = same in omega arith
 
@@ -81,8 +80,8 @@ module _ (course : Course) (newest : Option ℕ) (next : Option Checkpoint) (j :
       record {
         slots = λ s lt c now. same_slots c now s lt ∙ sym (slot_same s lt);
         kept = λ s n lt head.
-          let k = st.kept s n lt (sym (ap header_of (slot_same s lt)) ∙ head) in
-          (of_run_at (old.seen s) (new.seen s) (slot_same s lt) k.0, λ c now. reach c now k.0.checkpoint k.1);
+            let k = st.kept s n lt (sym (ap header_of (slot_same s lt)) ∙ head) in
+            (of_run_at (old.seen s) (new.seen s) (slot_same s lt) k.0, λ c now. reach c now k.0.checkpoint k.1);
         newest_is = newest_same old.seen new.seen slot_same newest st.newest_is;
         fronts = λ k lt. elim (cases_eq k j) as (λ _. IsFrontOf (text_of course k) (new.seen (file_of_output k))) [
           | inl same ↦ subst (λ (i : ℕ). IsFrontOf (text_of course i) (new.seen (file_of_output i))) (sym same) (subst (λ (b : List ℕ). IsFrontOf (text_of course j) b) (sym whole) fits.front)
@@ -92,11 +91,11 @@ module _ (course : Course) (newest : Option ℕ) (next : Option Checkpoint) (j :
       }
     where
       bounded : (o : Option Checkpoint) → IfSome o (λ d. (c : Files) (i : ℕ) → old.images c → i < length course.outputs → length (c (file_of_output i)) ≤ length_in d i) → IfSome o (λ d. length (old.seen (file_of_output j)) + length piece ≤ length_in d j)
-        → IfSome o (λ d. (c : Files) (i : ℕ) → new.images c → i < length course.outputs → length (c (file_of_output i)) ≤ length_in d i)
+          → IfSome o (λ d. (c : Files) (i : ℕ) → new.images c → i < length course.outputs → length (c (file_of_output i)) ≤ length_in d i)
       bounded None h room = tt
       bounded (Some e) h room = λ c i now lt.
-        let d = passes.crash c now in
-        elim (cases_eq i j) as (λ _. length (c (file_of_output i)) ≤ length_in e i) [
-          | inl same ↦ subst (λ (k : ℕ). length (c (file_of_output k)) ≤ length_in e k) (sym same) (let a = d.2.this.no_longer in let b = h d.0 j d.1 fits.output in let r = room in omega arith)
-          | inr ne ↦ subst (λ (b : List ℕ). length b ≤ length_in e i) (sym (d.2.others (file_of_output i) (λ same. ne (let q : 8 + i ≡ 8 + j = same in omega arith)))) (h d.0 i d.1 lt)
-        ]
+          let d = passes.crash c now in
+          elim (cases_eq i j) as (λ _. length (c (file_of_output i)) ≤ length_in e i) [
+            | inl same ↦ subst (λ (k : ℕ). length (c (file_of_output k)) ≤ length_in e k) (sym same) (let a = d.2.this.no_longer in let b = h d.0 j d.1 fits.output in let r = room in omega arith)
+            | inr ne ↦ subst (λ (b : List ℕ). length b ≤ length_in e i) (sym (d.2.others (file_of_output i) (λ same. ne (let q : 8 + i ≡ 8 + j = same in omega arith)))) (h d.0 i d.1 lt)
+          ]

@@ -23,7 +23,6 @@ some_is_more : (n : ℕ) → nat_le (suc n) zero ≡ false
 some_is_more n = grind (arith, nat_tests)
 
 module _ {A : Type 0} (test : VarInfo → A → Bool) where
-
   -- the items of one variable, and then those of the others
   front : (v : VarInfo) (rest : List VarInfo) (n : ℕ) (xs : List A) → each_fits test (replicate n v ++ rest) xs ≡ (begins_with (test v) n xs && each_fits test rest (drop n xs))
   front v rest zero xs = rw (none_is_less (length xs)) refl

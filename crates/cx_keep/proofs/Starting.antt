@@ -12,7 +12,7 @@ use Rattle.cx_chk.specs.Slots.{header_of, newest_below}
 use Rattle.cx_keep.specs.declared.fault.BeginFault.{BeginFault}
 use Rattle.cx_keep.specs.declared.fault.BeginFault.TheVariants as faults
 use Rattle.cx_keep.specs.Trails.{Course, file_of_output}
-use Rattle.cx_keep.specs.Starts.{AreTrails}
+use Rattle.cx_keep.specs.Resuming.{AreTrails}
 use Rattle.cx_keep.specs.Beginning.{IsWithinStart, CanStart, IsStarted, StartMoments, LeavesAsIs}
 use Rattle.cx_keep.specs.Tests.{begun, begun_from, resumed, tested, IsFaultOf}
 use Rattle.cx_keep.proofs.Afresh.{within_quiet}

@@ -10,7 +10,7 @@ use Rattle.cx_keep.specs.declared.fault.BeginFault.{BeginFault}
 use Rattle.cx_keep.specs.declared.fault.BeginFault.TheVariants as faults
 use Rattle.cx_keep.specs.Fits.{output_count}
 use Rattle.cx_keep.specs.Trails.{Course, IsTrail, Stands, Counts, OutputsSettled, length_in, file_of_output}
-use Rattle.cx_keep.specs.Starts.{AreTrails, IsMonotone, CanResume}
+use Rattle.cx_keep.specs.Resuming.{AreTrails, IsMonotone, CanResume}
 
 -- an image at a moment of a start: a trail. Its slots are those of an image from before, but that where old checkpoints are given up some
 -- may be closed; and no output is longer than in that image.

@@ -3,6 +3,6 @@ pub mod Faults
 pub mod Fits
 pub mod Keeping
 pub mod Keys
-pub mod Starts
+pub mod Resuming
 pub mod Tests
 pub mod Trails

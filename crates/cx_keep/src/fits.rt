@@ -51,7 +51,9 @@ fn holds_level(points: usize, v: &VarInfo, level: &[i64]) -> bool
 fn hold_levels(points: usize, v: &VarInfo, levels: &[List<i64>]) -> bool
     ensures { result ≡ list_all (holds_level points v.now) levels.now }
 {
-    levels.iter().all(|level| holds_level(points, v, level.as_slice()))
+    levels
+        .iter()
+        .all(|level| holds_level(points, v, level.as_slice()))
 }
 
 // Whether values begin with so many of the variable.

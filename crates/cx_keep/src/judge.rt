@@ -1,5 +1,5 @@
 //! The tests of what the newest slot holds.
-ghost use Rattle.std.specs.Prelude.{◌≡◌, ◌<◌, ◌≤◌, ◌+◌, Some, length, IsTrue, IfOk};
+ghost use Rattle.std.specs.Prelude.{◌≡◌, ◌<◌, ◌≤◌, ◌+◌, Some, length, bytes_eq, IsTrue, IfOk};
 ghost use Rattle.cx_disk.specs.Cause.{HasCause};
 ghost use Rattle.cx_disk.specs.Moments.{IsQuiet};
 ghost use Rattle.cx_plan.specs.Whole.{IsWhole};
@@ -32,6 +32,13 @@ fn bytes_of<D: Disk>(alloc: Global, disk: &mut D, file: u32) -> Result<Vec<u8>, 
     let mut bytes = vec![in alloc; 0u8; count as usize]?;
     disk.read(file, 0, &mut bytes)?;
     Ok(bytes)
+}
+
+// Whether a checkpoint has the job's key.
+fn has_key(found: &Checkpoint, job: &Job) -> bool
+    ensures { result ≡ bytes_eq found.now.key job.now.key }
+{
+    found.key.as_slice() == job.key.as_slice()
 }
 
 // The first output that is shorter than recorded, as both lengths.
@@ -100,7 +107,7 @@ pub fn judge<D: Disk>(
     let Some(found) = decode(alloc, &bytes)? else {
         return Err(BeginFault::Damaged(slot));
     };
-    if found.key.as_slice() != job.key.as_slice() {
+    if !has_key(&found, job) {
         let (kept, own) = first_difference(alloc, found.key.as_slice(), job.key.as_slice())?;
         return Err(BeginFault::OtherJob(kept, own));
     }

@@ -3,7 +3,7 @@ ghost use Rattle.std.specs.Prelude.{◌≡◌, ◌≤◌, ◌+◌, length, IsTru
 ghost use Rattle.cx_disk.specs.Cause.{HasCause};
 ghost use Rattle.cx_disk.specs.Moments.{IsQuiet};
 ghost use Rattle.cx_chk.specs.Slots.{slot_count, SlotsSettled};
-ghost use Rattle.cx_keep.specs.Starts.{AreLong, CutsOutputs, LeavesCut, AreCut, SlotsSame, ResumeMoments};
+ghost use Rattle.cx_keep.specs.Resuming.{AreLong, CutsOutputs, LeavesCut, AreCut, SlotsSame, ResumeMoments};
 ghost use Rattle.cx_keep.specs.Beginning.{IsLeft, ResumeStands};
 
 use cx_chk::Checkpoint;

@@ -5,6 +5,7 @@ use Rattle.cx_plan.specs.declared.variable.VarInfo.{VarInfo}
 use Rattle.cx_plan.specs.declared.tree.Tree.{Tree, Seq}
 use Rattle.cx_plan.specs.declared.job.Recover.{Recover}
 use Rattle.cx_plan.specs.declared.job.Job.{Job}
+use Rattle.cx_chk.specs.declared.checkpoint.Checkpoint.{Checkpoint}
 
 abbrev pub sample_variables : List VarInfo
 sample_variables =
@@ -40,3 +41,7 @@ sample recover =
       plan_text = [];
       starred = [];
     }
+
+-- the checkpoint of iteration 20 of the tests, behind three bytes of output
+abbrev pub sample_checkpoint : Checkpoint
+sample_checkpoint = record { iteration = 20; key = codes "k\nv 5"; lengths = 3 ∷ []; scalars = negsuc 0 ∷ []; levels = (pos 0 ∷ pos 1 ∷ []) ∷ [] }

@@ -2,4 +2,6 @@
 #![tactic(auto)]
 
 #[cfg(test)]
+mod saves;
+#[cfg(test)]
 mod starts;

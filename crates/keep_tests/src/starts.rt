@@ -13,7 +13,7 @@ use std::alloc::Global;
 use std::test::Fail;
 
 // One scalar of -1, and one level with 0 and 1.
-const VALUES: &[u8] = b"\0\0\0\x01\xff\xff\xff\xff\xff\xff\xff\xff\0\0\0\x01\0\0\0\0\0\0\0\x02\0\0\0\0\0\0\0\0\0\0\0\0\0\0\0\x01";
+pub(crate) const VALUES: &[u8] = b"\0\0\0\x01\xff\xff\xff\xff\xff\xff\xff\xff\0\0\0\x01\0\0\0\0\0\0\0\x02\0\0\0\0\0\0\0\0\0\0\0\0\0\0\0\x01";
 
 // The last byte is wanting.
 const CUT_OFF: &[u8] = b"\0\0\0\x01\xff\xff\xff\xff\xff\xff\xff\xff\0\0\0\x01\0\0\0\0\0\0\0\x02\0\0\0\0\0\0\0\0\0\0\0\0\0\0\0";
@@ -28,7 +28,7 @@ const TOO_GREAT: &[u8] = b"\0\0\0\x01\xff\xff\xff\xff\xff\xff\xff\xff\0\0\0\x01\
 // One level with one point.
 const ONE_POINT: &[u8] = b"\0\0\0\x01\xff\xff\xff\xff\xff\xff\xff\xff\0\0\0\x01\0\0\0\0\0\0\0\x01\0\0\0\0\0\0\0\0";
 
-fn text(alloc: Global, bytes: &[u8]) -> Result<Text, Fail>
+pub(crate) fn text(alloc: Global, bytes: &[u8]) -> Result<Text, Fail>
     ensures { IfOk result (λ text. text ≡ bytes.now) }
 {
     Ok(Text::from_slice(alloc, bytes)?)
@@ -126,7 +126,7 @@ pub(crate) fn job(alloc: Global, recover: Recover) -> Result<Job, Fail>
 }
 
 /// A slot with a key of two lines that ends with this byte, the output's length 3, and these values.
-fn slot(alloc: Global, iteration: u8, last: u8, values: &[u8]) -> Result<Vec<u8>, Fail> {
+pub(crate) fn slot(alloc: Global, iteration: u8, last: u8, values: &[u8]) -> Result<Vec<u8>, Fail> {
     let mut bytes = Vec::new(alloc);
     bytes.extend_from_slice(b"\x01CXCHKPT\x01\0\0\0\0\0\0\0")?;
     bytes.push(iteration)?;
@@ -138,7 +138,7 @@ fn slot(alloc: Global, iteration: u8, last: u8, values: &[u8]) -> Result<Vec<u8>
 }
 
 /// A disk with this slot 0 and this output.
-fn disk(alloc: Global, slot: Vec<u8>, output: &[u8]) -> Result<MemoryDisk, Fail> {
+pub(crate) fn disk(alloc: Global, slot: Vec<u8>, output: &[u8]) -> Result<MemoryDisk, Fail> {
     let mut files = List::empty(alloc);
     files.push(Text::new(slot))?;
     for _ in 1..8 {
@@ -167,7 +167,7 @@ fn fault_words(alloc: Global, fault: &BeginFault) -> Result<String, Fail> {
 }
 
 /// What a start comes to: the iteration that the run goes on from, or what its fault says; and the output behind it.
-fn start_words(alloc: Global, mut disk: MemoryDisk, recover: Recover) -> Result<String, Fail> {
+pub(crate) fn start_words(alloc: Global, mut disk: MemoryDisk, recover: Recover) -> Result<String, Fail> {
     let job = job(alloc, recover)?;
     let words = match Keep::begin(alloc, &mut disk, &job) {
         Ok((_, Some(found))) => {

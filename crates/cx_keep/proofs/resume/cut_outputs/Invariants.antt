@@ -1,7 +1,7 @@
 use Rattle.std.proofs.Common.{◌≡◌, ◌≤◌, ◌<◌, ◌+◌, ℕ, IsTrue, length}
 use Rattle.std.specs.Prelude.{slice_index}
 use Rattle.cx_disk.specs.Disk.{Files, LeavesOnly}
-use Rattle.cx_keep.specs.Starts.{IsCutTo, IsOwn}
+use Rattle.cx_keep.specs.Resuming.{IsCutTo, IsTrimmed}
 use Rattle.cx_keep.proofs.resume.cut_outputs.Given as goal
 
 abbrev pub invariant-each : goal.invariant-each
@@ -13,7 +13,7 @@ invariant-each g l = record {
   crash : g.D.Disk.tells → (c : Files) → (g.D.Disk.view l.disk).images c → IsCutTo l.lengths (length l.lengths) (g.D.Disk.view l.fn.disk) c;
   moments : g.D.Disk.tells → LeavesOnly (g.D.Disk.view l.fn.disk) (g.D.Disk.view l.disk) (IsCutTo l.lengths (length l.lengths) (g.D.Disk.view l.fn.disk));
   slots : g.D.Disk.tells → (slot : ℕ) → slot < 8 → (g.D.Disk.view l.disk).seen slot ≡ (g.D.Disk.view l.fn.disk).seen slot;
-  cut : g.D.Disk.tells → (j : ℕ) → j < l.output → IsOwn (slice_index l.lengths j) (8 + j) (g.D.Disk.view l.fn.disk) (g.D.Disk.view l.disk);
+  cut : g.D.Disk.tells → (j : ℕ) → j < l.output → IsTrimmed (slice_index l.lengths j) (8 + j) (g.D.Disk.view l.fn.disk) (g.D.Disk.view l.disk);
   -- the outputs that are not yet cut are in each image as they were in the image that it comes from
   left : g.D.Disk.tells → (j : ℕ) → l.output ≤ j → (g.D.Disk.view l.disk).seen (8 + j) ≡ (g.D.Disk.view l.fn.disk).seen (8 + j);
 }

@@ -32,6 +32,6 @@ returns-clause-moments g c = λ tells course can trails.
     let quiet = c.settle_slots.ensures.quiet tells in
     let closing = within_closing course (g.D.Disk.view c.args.disk.now) (g.D.Disk.view c.settle_slots.new.disk) trails quiet (c.in_ok-settle_slots.ensures.settled tells) in
     let so_far = joins (IsWithinStart course No (g.D.Disk.view c.args.disk.now))
-      (quiet_alone No (g.D.Disk.view c.args.disk.now) (g.D.Disk.view c.settle_slots.new.disk) quiet course can trails) (c.close_all.ensures.moments tells) closing in
+    (quiet_alone No (g.D.Disk.view c.args.disk.now) (g.D.Disk.view c.settle_slots.new.disk) quiet course can trails) (c.close_all.ensures.moments tells) closing in
     joins (IsWithinStart course No (g.D.Disk.view c.args.disk.now)) so_far (c.cut_outputs.ensures.moments tells)
     (within_cut course No (g.D.Disk.view c.args.disk.now) (g.D.Disk.view c.close_all.new.disk) can.outputs (λ d now. closing d (c.close_all.ensures.crash tells d now)) (c.in_ok-close_all.ensures.closed tells) (c.in_ok-close_all.ensures.settled tells))

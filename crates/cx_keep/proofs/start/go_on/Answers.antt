@@ -17,7 +17,7 @@ resume-requires-clause-long g c = λ tells j lt.
     let t = tested_ok c.args.job.now (g.D.Disk.view c.args.disk.now).seen c.args.slot c.in_ok-found.found (c.in_ok-found.ensures.tests tells) in
     let z : 0 + j ≡ j = omega arith in
     let le : length_in c.in_ok-found.found j ≤ length ((g.D.Disk.view c.args.disk.now).seen (8 + j)) =
-      subst (λ (i : ℕ). length_in c.in_ok-found.found j ≤ length ((g.D.Disk.view c.args.disk.now).seen (file_of_output i))) z (long_from 0 c.in_ok-found.found.lengths (g.D.Disk.view c.args.disk.now).seen t.long j lt) in
+    subst (λ (i : ℕ). length_in c.in_ok-found.found j ≤ length ((g.D.Disk.view c.args.disk.now).seen (file_of_output i))) z (long_from 0 c.in_ok-found.found.lengths (g.D.Disk.view c.args.disk.now).seen t.long j lt) in
     let e = ap length ((c.in_ok-found.ensures.quiet tells).same (8 + j)) in omega arith
 
 pub returns-in_err-resume-clause-moments : goal.returns-in_err-resume-clause-moments
@@ -38,16 +38,16 @@ returns-in_err-resume-clause-moments g c = λ tells course can trails.
 pub returns-clause-started : goal.returns-clause-started
 returns-clause-started g c = λ tells. record {
   stands = λ course can.
-    let quiet = c.in_ok-found.ensures.quiet tells in
-    let trails = can.trails probe_keeps in
-    let t = tested_ok c.args.job.now (g.D.Disk.view c.args.disk.now).seen c.args.slot c.in_ok-found.found (c.in_ok-found.ensures.tests tells) in
-    let is = resumed_of course (g.D.Disk.view c.args.disk.now) (g.met.D.Disk.sound c.args.disk.now tells) c.args.slot c.args.iteration c.in_ok-found.found trails (c.requires.newest tells) t.spelled in
-    c.in_ok-resume.ensures.stands tells course (record {
-      monotone = can.monotone;
-      counts = c.in_ok-found.ensures.one ∙ sym can.outputs;
-      trails = trails_quiet course (g.D.Disk.view c.args.disk.now) (g.D.Disk.view c.judge.new.disk) trails quiet;
-      resumed = resumed_quiet course c.in_ok-found.found (g.D.Disk.view c.args.disk.now) (g.D.Disk.view c.judge.new.disk) is quiet;
-    });
+      let quiet = c.in_ok-found.ensures.quiet tells in
+      let trails = can.trails probe_keeps in
+      let t = tested_ok c.args.job.now (g.D.Disk.view c.args.disk.now).seen c.args.slot c.in_ok-found.found (c.in_ok-found.ensures.tests tells) in
+      let is = resumed_of course (g.D.Disk.view c.args.disk.now) (g.met.D.Disk.sound c.args.disk.now tells) c.args.slot c.args.iteration c.in_ok-found.found trails (c.requires.newest tells) t.spelled in
+      c.in_ok-resume.ensures.stands tells course (record {
+        monotone = can.monotone;
+        counts = c.in_ok-found.ensures.one ∙ sym can.outputs;
+        trails = trails_quiet course (g.D.Disk.view c.args.disk.now) (g.D.Disk.view c.judge.new.disk) trails quiet;
+        resumed = resumed_quiet course c.in_ok-found.found (g.D.Disk.view c.args.disk.now) (g.D.Disk.view c.judge.new.disk) is quiet;
+      });
   left = c.in_ok-resume.ensures.left tells;
 }
 

@@ -13,7 +13,7 @@ pub record IsCutTo (lengths : List ℕ) (count : ℕ) (old : View) (c : Files) :
   pub outputs : (j : ℕ) → j < count → CutShort (slice_index lengths j) (image (file_of_output j)) (c (file_of_output j))
 
 -- the file is cut to so many bytes, and the same in all images
-pub record IsOwn (count file : ℕ) (old new : View) : Type 0 where
+pub record IsTrimmed (count file : ℕ) (old new : View) : Type 0 where
   pub cut : new.seen file ≡ take count (old.seen file)
   pub settled : (c : Files) → new.images c → c file ≡ new.seen file
 
@@ -29,7 +29,7 @@ abbrev pub LeavesCut : List ℕ → View → View → Type 0
 LeavesCut lengths old new = LeavesOnly old new (IsCutTo lengths (length lengths) old)
 
 abbrev pub AreCut : List ℕ → View → View → Type 0
-AreCut lengths old new = (j : ℕ) → j < length lengths → IsOwn (slice_index lengths j) (file_of_output j) old new
+AreCut lengths old new = (j : ℕ) → j < length lengths → IsTrimmed (slice_index lengths j) (file_of_output j) old new
 
 -- each slot has the bytes that it had
 abbrev pub SlotsSame : Files → Files → Type 0
