@@ -120,7 +120,7 @@ cut_moments course monotone chk old mid new counts trails quiet settled sound re
     })
 
 -- what the cut leaves, of whatever the outputs held
-pub cut_leaves : (lengths : List ℕ) (mid new : View) → SlotsSettled mid → AreLong lengths mid.seen → CutsOutputs lengths mid new → SlotsSame mid.seen new.seen → AreCut lengths mid new → IsLeft lengths new
+pub cut_leaves : (lengths : List ℕ) (mid new : View) → SlotsSettled mid → AreLong lengths mid.seen → CutsOutputs lengths mid new → SlotsSame mid.seen new.seen → AreCut lengths mid new → IsLeft lengths mid new
 cut_leaves lengths mid new settled long crash slots own = record {
   slots = λ s lt c now. let cut = crash c now in cut.slots s lt ∙ settled s lt cut.image cut.was ∙ sym (slots s lt);
   counts = λ j lt.
@@ -129,6 +129,15 @@ cut_leaves lengths mid new settled long crash slots own = record {
       let e : slice_index lengths j ≡ length (take (slice_index lengths j) (mid.seen (file_of_output j))) = omega arith in
       e ∙ sym (ap length (own j lt).cut);
   settled = λ j lt. (own j lt).settled;
+  fronts = λ j lt. (own j lt).cut;
+}
+
+pub left_back : (lengths : List ℕ) (old mid new : View) → ((j : ℕ) → mid.seen (file_of_output j) ≡ old.seen (file_of_output j)) → IsLeft lengths mid new → IsLeft lengths old new
+left_back lengths old mid new same l = record {
+  slots = l.slots;
+  counts = l.counts;
+  settled = l.settled;
+  fronts = λ j lt. l.fronts j lt ∙ ap (λ (b : List ℕ). take (slice_index lengths j) b) (same j);
 }
 
 -- nothing is always there

@@ -6,3 +6,4 @@ pub mod Saves
 pub mod Starting
 pub mod Stays
 pub mod Tested
+mod Rows

@@ -16,7 +16,7 @@ use Rattle.cx_keep.specs.Resuming.{AreTrails}
 use Rattle.cx_keep.specs.Beginning.{IsWithinStart, CanStart, IsStarted, StartMoments, LeavesAsIs}
 use Rattle.cx_keep.specs.Tests.{begun, begun_from, resumed, tested, IsFaultOf}
 use Rattle.cx_keep.proofs.Afresh.{within_quiet}
-use Rattle.cx_keep.proofs.Begins.{trails_quiet}
+use Rattle.cx_keep.proofs.Begins.{trails_quiet, left_back}
 
 -- ---- over calls that change no byte
 
@@ -103,7 +103,7 @@ fault_resumed e t s is fault = subst (λ (r : Result (Option Checkpoint) BeginFa
 -- ---- what a start leaves, over calls that change no byte
 
 pub started_quiet : (recover : Recover) (found : Option Checkpoint) (old mid new : View) → IsQuiet old mid → IsStarted recover found mid new → IsStarted recover found old new
-started_quiet recover found old mid new quiet s = record { stands = λ course can. s.stands course (can_quiet course recover old mid can quiet); left = s.left }
+started_quiet recover found old mid new quiet s = record { stands = λ course can. s.stands course (can_quiet course recover old mid can quiet); left = left_back _ old mid new (λ j. quiet.same (file_of_output j)) s.left; kept = λ not slot lt. s.kept not slot lt ∙ quiet.same slot; closed = s.closed }
 
 pub quiet_alone : (recover : Recover) (old mid : View) → IsQuiet old mid → StartMoments recover old mid
 quiet_alone recover old mid quiet course can trails = quiet_start course recover old mid trails quiet
@@ -129,7 +129,7 @@ can_probe : (course : Course) (recover : Recover) (old : View) → recover ≢ N
 can_probe course recover old not can = record { monotone = can.monotone; outputs = can.outputs; trails = λ probe. can.trails not }
 
 pub started_any : (recover : Recover) (found : Option Checkpoint) (old new : View) → recover ≢ No → IsStarted Autoprobe found old new → IsStarted recover found old new
-started_any recover found old new not s = record { stands = λ course can. s.stands course (can_probe course recover old not can); left = s.left }
+started_any recover found old new not s = record { stands = λ course can. s.stands course (can_probe course recover old not can); left = s.left; kept = λ still. s.kept probe_keeps; closed = λ is. absurd (not is) }
 
 pub moments_any : (recover : Recover) (old new : View) → recover ≢ No → StartMoments Autoprobe old new → StartMoments recover old new
 moments_any recover old new not moments course can trails = within_any course recover old new (moments course (can_probe course recover old not can) trails)

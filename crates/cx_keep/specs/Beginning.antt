@@ -1,16 +1,16 @@
 -- What a start leaves, at each moment and when it is done.
-use Rattle.std.specs.Prelude.{ℕ, ◌<◌, ◌≤◌, ◌≡◌, ◌≢◌, ◌⊎◌, List, [], ◌∷◌, length, slice_index, Option, Some, None, option_map, IfSome}
+use Rattle.std.specs.Prelude.{ℕ, ◌<◌, ◌≤◌, ◌≡◌, ◌≢◌, ◌⊎◌, List, [], ◌∷◌, length, take, slice_index, Option, Some, None, option_map, IfSome}
 use Rattle.cx_plan.specs.declared.job.Recover.{Recover}
 use Rattle.cx_plan.specs.declared.job.Recover.TheVariants.{No}
 use Rattle.cx_disk.specs.Disk.{Files, View, LeavesOnly}
 use Rattle.cx_disk.specs.Moments.{IsQuiet}
 use Rattle.cx_chk.specs.declared.checkpoint.Checkpoint.{Checkpoint}
-use Rattle.cx_chk.specs.Slots.{slot_count, header_of, SlotsSettled}
+use Rattle.cx_chk.specs.Slots.{slot_count, header_of, SlotsSettled, NoneOpen}
 use Rattle.cx_keep.specs.declared.fault.BeginFault.{BeginFault}
 use Rattle.cx_keep.specs.declared.fault.BeginFault.TheVariants as faults
 use Rattle.cx_keep.specs.Fits.{output_count}
 use Rattle.cx_keep.specs.Trails.{Course, IsTrail, Stands, Counts, OutputsSettled, length_in, file_of_output}
-use Rattle.cx_keep.specs.Resuming.{AreTrails, IsMonotone, CanResume}
+use Rattle.cx_keep.specs.Resuming.{AreTrails, IsMonotone, SlotsSame, CanResume}
 
 -- an image at a moment of a start: a trail. Its slots are those of an image from before, but that where old checkpoints are given up some
 -- may be closed; and no output is longer than in that image.
@@ -67,16 +67,23 @@ IsRefusal (faults.OutputShort a b) = Unit {0}
 abbrev pub LeavesAsIs : View → View → BeginFault → Type 0
 LeavesAsIs old new e = IsRefusal e → IsQuiet old new
 
--- each slot and each output is the same in all images, and each output has exactly its length
-pub record IsLeft (lengths : List ℕ) (v : View) : Type 0 where
-  pub slots : SlotsSettled v
-  pub counts : Counts lengths v
-  pub settled : OutputsSettled (length lengths) v
+-- each output is the front of so many bytes of what it was
+abbrev pub AreFronts : List ℕ → Files → Files → Type 0
+AreFronts lengths old new = (j : ℕ) → j < length lengths → new (file_of_output j) ≡ take (slice_index lengths j) (old (file_of_output j))
+
+-- each slot and each output is the same in all images, and each output is cut to exactly its length
+pub record IsLeft (lengths : List ℕ) (old new : View) : Type 0 where
+  pub slots : SlotsSettled new
+  pub counts : Counts lengths new
+  pub settled : OutputsSettled (length lengths) new
+  pub fronts : AreFronts lengths old.seen new.seen
 
 -- what a start leaves that is done
 pub record IsStarted (recover : Recover) (found : Option Checkpoint) (old new : View) : Type 0 where
   pub stands : (course : Course) → CanStart course recover old → Starts course new found
-  pub left : IsLeft (lengths_left found) new
+  pub left : IsLeft (lengths_left found) old new
+  pub kept : recover ≢ No → SlotsSame old.seen new.seen
+  pub closed : recover ≡ No → NoneOpen new.seen
 
 -- at each moment of a start each image is a trail, of any run of which each image was one
 abbrev pub StartMoments : Recover → View → View → Type 0

@@ -3,7 +3,6 @@ use Rattle.std.specs.Prelude.{ℕ, ◌+◌, ◌≤◌, ◌≡◌, ◌⊎◌, Lis
 use Rattle.cx_disk.specs.Disk.{Files, View, Changes, LeavesOnly}
 use Rattle.cx_plan.specs.declared.job.Job.{Job}
 use Rattle.cx_chk.specs.declared.checkpoint.Checkpoint.{Checkpoint}
-use Rattle.cx_chk.specs.Encoding.{SpellsSlot}
 use Rattle.cx_chk.specs.Slots.{SlotsSettled}
 use Rattle.cx_keep.specs.Fits.{output_count}
 use Rattle.cx_keep.specs.Trails.{Course, Stands, IsTrailOf, IsNextPiece, IsNextCheckpoint, file_of_output}
@@ -68,13 +67,6 @@ abbrev pub AppendMoments : List ℕ → View → View → Type 0
 AppendMoments bytes old new = (course : Course) (newest : Option ℕ) (next : Option Checkpoint) → CanAppend course newest next bytes old → LeavesOnly old new (IsTrailOf course newest)
 
 -- ---- a checkpoint
-
--- one of the slots up to this number has the checkpoint, and each slot is the same in all images
-pub record HasSaved (keep : ℕ) (c : Checkpoint) (v : View) : Type 0 where
-  pub slot : ℕ
-  pub known : slot ≤ keep
-  pub spells : SpellsSlot (v.seen slot) c
-  pub settled : SlotsSettled v
 
 -- what a keeper keeps between two calls, and that this checkpoint comes next
 pub record CanSave (course : Course) (newest : Option ℕ) (next : Option Checkpoint) (c : Checkpoint) (v : View) : Type 0 where

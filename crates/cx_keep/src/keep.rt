@@ -5,12 +5,12 @@ ghost use Rattle.cx_disk.specs.Cause.{HasCause};
 ghost use Rattle.cx_disk.specs.Moments.{IsQuiet};
 ghost use Rattle.cx_plan.specs.Whole.{IsWhole};
 ghost use Rattle.cx_chk.specs.Encoding.{IsCheckpoint};
-ghost use Rattle.cx_chk.specs.Slots.{SlotsSettled, OutputsSame};
+ghost use Rattle.cx_chk.specs.Slots.{SlotsSettled, OutputsSame, IsSaving, IsSaved};
 ghost use Rattle.cx_keep.specs.Tests.{Answers, begun};
 ghost use Rattle.cx_keep.specs.Trails.{Counts, OutputsSettled};
 ghost use Rattle.cx_keep.specs.Beginning.{HasLengths, LeavesAsIs, IsStarted, StartMoments, lengths_left};
 ghost use Rattle.cx_keep.specs.Keeping.{keeper_of, written, grown, IsAppended, KeepsRest, AppendMoments};
-ghost use Rattle.cx_keep.specs.Keeping.{HasSaved, SaveStands, SaveMoments};
+ghost use Rattle.cx_keep.specs.Keeping.{SaveStands, SaveMoments};
 
 use crate::fault::BeginFault;
 use crate::resume::OUTPUT;
@@ -179,8 +179,10 @@ impl Keep {
         requires slots { D.tells → SlotsSettled (D.view disk.old) }
         ensures keeper { self.new ≡ self.old }
         ensures outputs { D.tells → OutputsSame (D.view disk.old).seen (D.view disk.new).seen }
+        ensures saving { D.tells →
+            IsSaving self.old.keep c.now (D.view disk.old) (D.view disk.new) }
         ensures saved { D.tells → OnOk result
-            (HasSaved self.old.keep c.now (D.view disk.new)) }
+            (IsSaved self.old.keep c.now (D.view disk.old) (D.view disk.new)) }
         ensures stands { D.tells → OnOk result
             (SaveStands c.now (D.view disk.old) (D.view disk.new)) }
         ensures moments { D.tells → SaveMoments c.now (D.view disk.old) (D.view disk.new) }

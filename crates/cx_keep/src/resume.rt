@@ -60,7 +60,9 @@ pub fn resume<D: Disk>(disk: &mut D, c: &Checkpoint) -> Result<(), DiskFault>
     ensures stands { D.tells → OnOk result
         (ResumeStands c.now (D.view disk.old) (D.view disk.new)) }
     ensures moments { D.tells → ResumeMoments c.now (D.view disk.old) (D.view disk.new) }
-    ensures left { D.tells → OnOk result (IsLeft c.now.lengths (D.view disk.new)) }
+    ensures left { D.tells → OnOk result
+        (IsLeft c.now.lengths (D.view disk.old) (D.view disk.new)) }
+    ensures slots { D.tells → SlotsSame (D.view disk.old).seen (D.view disk.new).seen }
     ensures mounted { IsTrue (D.mounted disk.new) }
     ensures folders { D.folders disk.new ≡ D.folders disk.old }
     ensures count { D.file_count disk.new ≡ D.file_count disk.old }

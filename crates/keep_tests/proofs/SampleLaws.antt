@@ -1,5 +1,5 @@
 -- The job of the tests is whole.
-use Rattle.std.proofs.Common.{◌≡◌, ◌≢◌, ℕ, ◌+◌, ◌<◌, ◌≤◌, true, refl, sym, ap, subst, List, [], ◌∷◌, length, get_or, arith}
+use Rattle.std.proofs.Common.{◌≡◌, ◌≢◌, ℕ, ◌+◌, ◌<◌, ◌≤◌, true, refl, sym, ap, subst, List, [], ◌∷◌, length, get_or, arith, rules}
 use Rattle.std.specs.Prelude.{All, AllPairs, codes}
 use Rattle.std.proofs.lemmas.Int.{ints}
 use Rattle.std.proofs.lemmas.List.{get_or_past}
@@ -12,8 +12,9 @@ use Rattle.cx_plan.specs.declared.job.Recover.{Recover}
 use Rattle.cx_plan.specs.Setups.{setup_of}
 use Rattle.cx_plan.specs.Lookups.{item, no_item, no_variable}
 use Rattle.cx_plan.specs.Regions.{run_items}
+use Rattle.cx_chk.specs.Encoding.{IsCheckpoint}
 use Rattle.cx_plan.specs.Whole.{IsTree, IsName, IsItem, IsSmall, IsStored, IsWhole}
-use Rattle.keep_tests.specs.Samples.{sample, sample_variables}
+use Rattle.keep_tests.specs.Samples.{sample, sample_variables, sample_checkpoint}
 
 whole-shape : (r : Recover) → IsShape (sample r).shape
 whole-shape r =
@@ -86,4 +87,15 @@ sample-whole r =
       checkpoint_limit = omega (arith, ints);
       cells_limit = omega arith;
       key_limit = omega arith;
+    }
+
+-- and its checkpoint has a spelling
+pub sample-fits : IsCheckpoint sample_checkpoint
+sample-fits =
+    record {
+      iteration = omega arith;
+      key = omega arith;
+      lengths = (omega arith, (omega arith, tt));
+      scalars = (omega arith, ((search rules), tt));
+      levels = (omega arith, ((omega arith, ((search rules), ((search rules), tt))), tt));
     }

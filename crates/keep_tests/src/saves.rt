@@ -29,12 +29,7 @@ fn checkpoint(alloc: Global) -> Result<Checkpoint, Fail>
 }
 
 /// A run that begins with nothing: a piece of output, a checkpoint, and the end.
-fn run<D: Disk>(
-    alloc: Global,
-    disk: &mut D,
-    job: &Job,
-    c: &Checkpoint,
-) -> Result<(), BeginFault>
+fn run<D: Disk>(alloc: Global, disk: &mut D, job: &Job, c: &Checkpoint) -> Result<(), BeginFault>
     requires whole { IsWhole job.now }
     requires fits { IsCheckpoint c.now }
 {
@@ -52,12 +47,9 @@ fn run<D: Disk>(
 fn a_run_saves_a_checkpoint(rt: HostRuntime) -> Result<(), Fail> {
     let alloc = rt.alloc();
     let mut disk = MemoryDisk::new(alloc, List::empty(alloc));
-    run(
-        alloc,
-        &mut disk,
-        &job(alloc, Recover::Autoprobe)?,
-        &checkpoint(alloc)?,
-    )?;
+    let job = job(alloc, Recover::Autoprobe)?;
+    let c = checkpoint(alloc)?;
+    run(alloc, &mut disk, &job, &c)?;
     let saved = slot(alloc, 20, b'5', VALUES)?;
     assert_eq!(rt; disk.bytes(0), saved.as_slice());
     assert_eq!(rt; disk.bytes(8), b"abc".as_slice());

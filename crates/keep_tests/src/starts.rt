@@ -2,8 +2,10 @@
 
 ghost use Rattle.std.specs.Prelude.{◌≡◌, IfOk};
 ghost use Rattle.cx_text.specs.declared.ctype.CType.{CType};
+ghost use Rattle.cx_plan.specs.Whole.{IsWhole};
 ghost use Rattle.keep_tests.specs.Samples.{sample, sample_variables, nothing, no_bins};
 
+use cx_chk::Checkpoint;
 use cx_disk::MemoryDisk;
 use cx_grid::{Point, Shape};
 use cx_keep::{BeginFault, Keep};
@@ -13,20 +15,23 @@ use std::alloc::Global;
 use std::test::Fail;
 
 // One scalar of -1, and one level with 0 and 1.
-pub(crate) const VALUES: &[u8] = b"\0\0\0\x01\xff\xff\xff\xff\xff\xff\xff\xff\0\0\0\x01\0\0\0\0\0\0\0\x02\0\0\0\0\0\0\0\0\0\0\0\0\0\0\0\x01";
+pub(crate) const VALUES: &[u8] =
+    b"\0\0\0\x01\xff\xff\xff\xff\xff\xff\xff\xff\0\0\0\x01\0\0\0\0\0\0\0\x02\0\0\0\0\0\0\0\0\0\0\0\0\0\0\0\x01";
 
 // The last byte is wanting.
-const CUT_OFF: &[u8] = b"\0\0\0\x01\xff\xff\xff\xff\xff\xff\xff\xff\0\0\0\x01\0\0\0\0\0\0\0\x02\0\0\0\0\0\0\0\0\0\0\0\0\0\0\0";
+const CUT_OFF: &[u8] =
+    b"\0\0\0\x01\xff\xff\xff\xff\xff\xff\xff\xff\0\0\0\x01\0\0\0\0\0\0\0\x02\0\0\0\0\0\0\0\0\0\0\0\0\0\0\0";
 
 // No scalar.
-const NO_SCALAR: &[u8] =
-    b"\0\0\0\0\0\0\0\x01\0\0\0\0\0\0\0\x02\0\0\0\0\0\0\0\0\0\0\0\0\0\0\0\x01";
+const NO_SCALAR: &[u8] = b"\0\0\0\0\0\0\0\x01\0\0\0\0\0\0\0\x02\0\0\0\0\0\0\0\0\0\0\0\0\0\0\0\x01";
 
 // One level with 0 and 256, which a BYTE can't have.
-const TOO_GREAT: &[u8] = b"\0\0\0\x01\xff\xff\xff\xff\xff\xff\xff\xff\0\0\0\x01\0\0\0\0\0\0\0\x02\0\0\0\0\0\0\0\0\0\0\0\0\0\0\x01\0";
+const TOO_GREAT: &[u8] =
+    b"\0\0\0\x01\xff\xff\xff\xff\xff\xff\xff\xff\0\0\0\x01\0\0\0\0\0\0\0\x02\0\0\0\0\0\0\0\0\0\0\0\0\0\0\x01\0";
 
 // One level with one point.
-const ONE_POINT: &[u8] = b"\0\0\0\x01\xff\xff\xff\xff\xff\xff\xff\xff\0\0\0\x01\0\0\0\0\0\0\0\x01\0\0\0\0\0\0\0\0";
+const ONE_POINT: &[u8] =
+    b"\0\0\0\x01\xff\xff\xff\xff\xff\xff\xff\xff\0\0\0\x01\0\0\0\0\0\0\0\x01\0\0\0\0\0\0\0\0";
 
 pub(crate) fn text(alloc: Global, bytes: &[u8]) -> Result<Text, Fail>
     ensures { IfOk result (λ text. text ≡ bytes.now) }
@@ -166,17 +171,35 @@ fn fault_words(alloc: Global, fault: &BeginFault) -> Result<String, Fail> {
     }
 }
 
-/// What a start comes to: the iteration that the run goes on from, or what its fault says; and the output behind it.
-pub(crate) fn start_words(alloc: Global, mut disk: MemoryDisk, recover: Recover) -> Result<String, Fail> {
-    let job = job(alloc, recover)?;
-    let words = match Keep::begin(alloc, &mut disk, &job) {
-        Ok((_, Some(found))) => {
+/// The iteration that a run goes on from.
+fn found_words(alloc: Global, found: &Option<Checkpoint>) -> Result<String, Fail> {
+    match found {
+        Some(found) => {
             let iteration = found.iteration;
-            format!(in alloc; "from {iteration}")?
+            Ok(format!(in alloc; "from {iteration}")?)
         }
-        Ok((_, None)) => format!(in alloc; "afresh")?,
-        Err(fault) => fault_words(alloc, &fault)?,
-    };
+        None => Ok(format!(in alloc; "afresh")?),
+    }
+}
+
+/// What a start comes to: where the run goes on, or what its fault says.
+fn begin_words(alloc: Global, disk: &mut MemoryDisk, job: &Job) -> Result<String, Fail>
+    requires { IsWhole job.now }
+{
+    match Keep::begin(alloc, disk, job) {
+        Ok((_keep, found)) => found_words(alloc, &found),
+        Err(fault) => fault_words(alloc, &fault),
+    }
+}
+
+/// The same with the output behind it.
+pub(crate) fn start_words(
+    alloc: Global,
+    mut disk: MemoryDisk,
+    recover: Recover,
+) -> Result<String, Fail> {
+    let job = job(alloc, recover)?;
+    let words = begin_words(alloc, &mut disk, &job)?;
     let output = str::from_utf8(disk.bytes(8))?;
     Ok(format!(in alloc; "{words}: {output}")?)
 }

@@ -4,7 +4,7 @@ use Rattle.cx_plan.specs.declared.job.Recover.TheVariants.{Autoprobe}
 use Rattle.cx_keep.specs.Beginning.{IsWithinStart}
 use Rattle.cx_keep.specs.Trails.{length_in, file_of_output}
 use Rattle.cx_keep.proofs.Afresh.{within_from}
-use Rattle.cx_keep.proofs.Begins.{trails_quiet, resumed_quiet}
+use Rattle.cx_keep.proofs.Begins.{trails_quiet, resumed_quiet, left_back}
 use Rattle.cx_keep.proofs.Starting.{quiet_alone, probe_keeps}
 use Rattle.cx_keep.proofs.Tested.{tested_ok, long_from, resumed_of}
 use Rattle.cx_keep.proofs.start.go_on.Goals as goal
@@ -48,7 +48,9 @@ returns-clause-started g c = λ tells. record {
         trails = trails_quiet course (g.D.Disk.view c.args.disk.now) (g.D.Disk.view c.judge.new.disk) trails quiet;
         resumed = resumed_quiet course c.in_ok-found.found (g.D.Disk.view c.args.disk.now) (g.D.Disk.view c.judge.new.disk) is quiet;
       });
-  left = c.in_ok-resume.ensures.left tells;
+  left = left_back _ (g.D.Disk.view c.args.disk.now) (g.D.Disk.view c.judge.new.disk) (g.D.Disk.view c.resume.new.disk) (λ j. (c.in_ok-found.ensures.quiet tells).same (file_of_output j)) (c.in_ok-resume.ensures.left tells);
+  kept = λ not s lt. c.resume.ensures.slots tells s lt ∙ (c.in_ok-found.ensures.quiet tells).same s;
+  closed = λ is. absurd (probe_keeps is);
 }
 
 pub returns-clause-moments : goal.returns-clause-moments

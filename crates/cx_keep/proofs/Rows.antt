@@ -1,0 +1,47 @@
+-- Worked rows: the first lines that differ, and items of variables.
+use Rattle.std.specs.Prelude.{◌≡◌, true, false, pos, negsuc, List, [], ◌∷◌, codes}
+use Rattle.std.proofs.Common.{refl}
+use Rattle.cx_text.specs.declared.ctype.CType.TheVariants.{Byte, Int8}
+use Rattle.cx_plan.specs.declared.variable.VarInfo.{VarInfo}
+use Rattle.cx_keep.specs.Fits.{scalars_fit, levels_fit}
+use Rattle.cx_keep.specs.Keys.{first_difference}
+
+-- the second lines differ, the kept one first
+second_lines : first_difference (codes "k\nv 6\nw") (codes "k\nv 5\nw") ≡ (codes "v 6", codes "v 5")
+second_lines = refl
+
+-- a text that has ended has an empty line
+kept_ended : first_difference (codes "k") (codes "k\nv 5") ≡ ([], codes "v 5")
+kept_ended = refl
+
+own_ended : first_difference (codes "k\nv 5") (codes "k") ≡ (codes "v 5", [])
+own_ended = refl
+
+-- a line that goes on differs as a whole
+longer_line : first_difference (codes "k\nv 5") (codes "k\nv") ≡ (codes "v 5", codes "v")
+longer_line = refl
+
+-- a scalar, a grid variable with two levels, and a scalar without storage
+abbrev variables : List VarInfo
+variables =
+    record { full = codes "s"; ctype = Int8; scalar = true; levels = 1 }
+    ∷ record { full = codes "g"; ctype = Byte; scalar = false; levels = 2 }
+    ∷ record { full = codes "t"; ctype = Int8; scalar = true; levels = 0 } ∷ []
+
+one_scalar : scalars_fit variables (negsuc 0 ∷ []) ≡ true
+one_scalar = refl
+
+two_scalars : scalars_fit variables (negsuc 0 ∷ pos 0 ∷ []) ≡ false
+two_scalars = refl
+
+two_levels : levels_fit 1 variables ((pos 255 ∷ []) ∷ (pos 0 ∷ []) ∷ []) ≡ true
+two_levels = refl
+
+one_level : levels_fit 1 variables ((pos 255 ∷ []) ∷ []) ≡ false
+one_level = refl
+
+two_points : levels_fit 1 variables ((pos 255 ∷ []) ∷ (pos 0 ∷ pos 0 ∷ []) ∷ []) ≡ false
+two_points = refl
+
+too_great : levels_fit 1 variables ((pos 256 ∷ []) ∷ (pos 0 ∷ []) ∷ []) ≡ false
+too_great = refl
