@@ -22,35 +22,8 @@ use Rattle.cx_parts.specs.Nets.{side_values, values_of_op}
 use Rattle.cx_parts.specs.Work.{sum_over, side_count, side_sum, sum_of, over_variables, entry_count, entry_sum}
 use Rattle.cx_cut.specs.Exchange.{other}
 use Rattle.cx_parts.proofs.Counts.{face_sum, taken_sum, posted_sum, from_partner}
+use Rattle.cx_cut.proofs.NeighbourLaws.{same_size}
 use Rattle.cx_parts.proofs.PairLaws.{both_ways}
-
--- ---- one side
-
-slabs_moved : (cut : Parts) (k d : ℕ) (low low' high high' t : ℤ) → low' ≡ low +ℤ t → high' ≡ high +ℤ t → IsMoved (slab cut k d low high) (slab cut k d low' high') (λ e. cond (eqb e d) t (pos 0))
-slabs_moved cut k d low low' high high' t a b = record {
-  low = λ e l. along-point_by (slab_end d low' (along (local cut k).low) (along (owned cut k).low)) e l
-      ∙ slab_moved d e low low' t (along (local cut k).low) (along (local cut k).low) (along (owned cut k).low) (along (owned cut k).low) a (λ n. (refl, refl))
-      ∙ ap (λ z. z +ℤ cond (eqb e d) t (pos 0)) (sym (along-point_by (slab_end d low (along (local cut k).low) (along (owned cut k).low)) e l));
-  high = λ e l. along-point_by (slab_end d high' (along (local cut k).high) (along (owned cut k).high)) e l
-      ∙ slab_moved d e high high' t (along (local cut k).high) (along (local cut k).high) (along (owned cut k).high) (along (owned cut k).high) b (λ n. (refl, refl))
-      ∙ ap (λ z. z +ℤ cond (eqb e d) t (pos 0)) (sym (along-point_by (slab_end d high (along (local cut k).high) (along (owned cut k).high)) e l));
-}
-
-back_up : (x g : ℤ) → x ≡ x -ℤ g +ℤ g
-back_up x g = omega (arith, ints)
-
-down : (x g : ℤ) → x -ℤ g ≡ x +ℤ (pos 0 -ℤ g)
-down x g = omega (arith, ints)
-
-back_down : (x g : ℤ) → x ≡ x +ℤ g +ℤ (pos 0 -ℤ g)
-back_down x g = omega (arith, ints)
-
--- a part's face at a side has as many points as its halo there
-pub same_size : (s : Shape) (cut : Parts) (k d : ℕ) (side : Side) → point_count (face_of cut k d side) ≡ point_count (halo_of cut k d side)
-same_size s cut k d Low = count_moved _ _ _ (slabs_moved cut k d (along (owned cut k).low d -ℤ along s.ghost_ d) (along (owned cut k).low d) (along (owned cut k).low d) (along (owned cut k).low d +ℤ along s.ghost_ d)
-    (along s.ghost_ d) (back_up (along (owned cut k).low d) (along s.ghost_ d)) refl)
-same_size s cut k d High = count_moved _ _ _ (slabs_moved cut k d (along (owned cut k).high d) (along (owned cut k).high d -ℤ along s.ghost_ d) (along (owned cut k).high d +ℤ along s.ghost_ d) (along (owned cut k).high d)
-    (pos 0 -ℤ along s.ghost_ d) (down (along (owned cut k).high d) (along s.ghost_ d)) (back_down (along (owned cut k).high d) (along s.ghost_ d)))
 
 -- ---- sums
 
@@ -126,7 +99,7 @@ module _ (r : Run) (vars : List VarId) where
   side_is k d side = go (is_some (partner (cut_of r) k d side))
     where
       go : (b : Bool) → cond b (length vars * point_count (halo_of (cut_of r) k d side)) 0 ≡ over_variables (λ v. cond b (point_count (face_of (cut_of r) k d side)) 0) vars
-      go true = ap (λ n. length vars * n) (sym (same_size r.setup.shape (cut_of r) k d side)) ∙ over_length (point_count (face_of (cut_of r) k d side)) vars
+      go true = ap (λ n. length vars * n) (sym (same_size (cut_of r) k d side)) ∙ over_length (point_count (face_of (cut_of r) k d side)) vars
       go false = sym (over_none vars)
 
   -- what all parts receive in all directions of an exchange is what its entry counts: the faces that are sent

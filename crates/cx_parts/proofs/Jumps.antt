@@ -230,7 +230,7 @@ jump_meets tells r k x mails op.Halt j s g c e h m = never r op.Halt x h m
 
 module _ (tells : Type 0) (r : Run) (oracle : Oracle) (k n : ℕ) (x : Held) (o : Op) (jumps : is_jump o ≡ true) (reads : ReadsScalar r.setup o)
          (agrees : Agrees tells r oracle k n x) (there : next_op r (guided r oracle n).control ≡ o)
-         (truth : tells → guided r oracle n ≡ undivided r n) (pair : ends_pair (op_of r (suc n)) ≡ begins_pair r.setup (op_of r n)) where
+         (truth : tells → guided r oracle n ≡ undivided r n) (pair : tells → ends_pair (op_of r (suc n)) ≡ begins_pair r.setup (op_of r n)) where
   op_is : tells → op_of r n ≡ o
   op_is t = ap (λ g. next_op r g.control) (sym (truth t)) ∙ there
 
@@ -254,7 +254,7 @@ module _ (tells : Type 0) (r : Run) (oracle : Oracle) (k n : ℕ) (x : Held) (o 
                 ap (λ numbers. local_values r.setup (local (cut_of r) k) numbers v level p) g.1
                 ∙ agrees.numbers t v level p grid below stored
                   (subst (λ d. IsReached (cut_of r) k (cond (flags_at r n v level G) 3 d) p)
-                   (done_stays r.setup o (op_of r (suc n)) jumps (pair ∙ ap (begins_pair r.setup) (op_is t)) v level ∙ sym (ap (λ q. done_directions q v level) (op_is t)))
+                   (done_stays r.setup o (op_of r (suc n)) jumps (pair t ∙ ap (begins_pair r.setup) (op_is t)) v level ∙ sym (ap (λ q. done_directions q v level) (op_is t)))
                    (subst (λ (f : Flags). IsReached (cut_of r) k (cond (f v level G) 3 (done_directions (op_of r (suc n)) v level)) p)
                     (ap (λ q. notes_leave r.setup (notes_at r.setup r.rules q (undivided r n).control (undivided r n).state) (flags_at r n)) (op_is t) ∙ l.flags_stay (undivided r n).control (undivided r n).state (flags_at r n))
                     reached))

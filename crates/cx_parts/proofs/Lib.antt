@@ -36,7 +36,6 @@ pub mod TruthLaws
 pub mod UndividedPairs
 pub mod WayLaws
 pub mod Ways
-pub mod WholeFolds
 pub mod WholeReductions
 pub mod WrapLaws
 pub mod ZoneLaws

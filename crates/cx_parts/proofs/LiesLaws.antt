@@ -25,10 +25,10 @@ pub record IsPartAxis (periodic : Bool) (n g a b c e : ℤ) : Type 0 where
   pub low : c ≡ cond periodic (a -ℤ g) (int_max (pos 0) (a -ℤ g))
   pub high : e ≡ cond periodic (b +ℤ g) (int_min n (b +ℤ g))
 
-pub record IsPart (s : Shape) (owned local : Box3) : Type 0 where
-  pub x : IsPartAxis (is_periodic s 0) s.n.x s.ghost_.x owned.low.x owned.high.x local.low.x local.high.x
-  pub y : IsPartAxis (is_periodic s 1) s.n.y s.ghost_.y owned.low.y owned.high.y local.low.y local.high.y
-  pub z : IsPartAxis (is_periodic s 2) s.n.z s.ghost_.z owned.low.z owned.high.z local.low.z local.high.z
+pub record IsPart (s : Shape) (owned near : Box3) : Type 0 where
+  pub x : IsPartAxis (is_periodic s 0) s.n.x s.ghost_.x owned.low.x owned.high.x near.low.x near.high.x
+  pub y : IsPartAxis (is_periodic s 1) s.n.y s.ghost_.y owned.low.y owned.high.y near.low.y near.high.y
+  pub z : IsPartAxis (is_periodic s 2) s.n.z s.ghost_.z owned.low.z owned.high.z near.low.z near.high.z
 
 own_axis : (periodic : Bool) (n g a b c e p : ℤ) → IsAxis n g → IsPartAxis periodic n g a b c e → IsOn a b p → IsOn c e p
 own_axis true n g a b c e p axis s h = record { from = omega (arith, ints, axis.least_ghosts, s.low, h.from); below = omega (arith, ints, axis.least_ghosts, s.high, h.below) }

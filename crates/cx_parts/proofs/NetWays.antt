@@ -13,6 +13,7 @@ use Rattle.cx_parts.specs.Runs.{Run, Oracle, undivided, guided, last_of, parts_i
 use Rattle.cx_parts.specs.Moves.{Message, Channel, sender, receiver, is_there, op_wants, op_posts, op_hands, buffer_of, faces_by, piece_by, state_by}
 use Rattle.cx_parts.specs.Truths.{script}
 use Rattle.cx_parts.specs.Nets.{Nearness, net, round, within_lead}
+use Rattle.cx_parts.specs.Operations.{NamesWell}
 use Rattle.cx_parts.proofs.Ways.{IsMutual, wants_none, pair_counts, scalars_at, op_there, key_rises, first_quiet, pair_there, still_there}
 use Rattle.cx_flat.specs.declared.op.Op.TheVariants as op
 
@@ -85,14 +86,14 @@ module _ (tells : Type 0) (Near : Nearness) (r : Run) (oracle : Oracle) (ends : 
       go true e = ap (λ b. cond b (op_wants r (op_there r oracle 0) c) 0) e ∙ wants_none r (op_there r oracle 0) c (first_quiet r oracle ends)
       go false e = ap (λ b. cond b (op_wants r (op_there r oracle 0) c) 0) e
 
-  pub fits_pairs : IsMutual r → (c : Channel) (n : ℕ) → (net tells Near r oracle).wants c ((net tells Near r oracle).way (suc n)) ≡ length ((script tells r oracle).mail c n)
-  fits_pairs both c n = go (is_there r c) refl
+  pub fits_pairs : IsMutual r → r.setup.shape.dims ≤ 3 → ((n : ℕ) → NamesWell r.setup (op_there r oracle n)) → (c : Channel) (n : ℕ) → (net tells Near r oracle).wants c ((net tells Near r oracle).way (suc n)) ≡ length ((script tells r oracle).mail c n)
+  fits_pairs both few names c n = go (is_there r c) refl
     where
       go : (b : Bool) → is_there r c ≡ b → cond (is_there r c) (op_wants r (op_there r oracle (suc n)) c) 0 ≡ length (cond (is_there r c) (posts_there c n) [])
       go true e =
           let p = there_parts c e in
           ap (λ b. cond b (op_wants r (op_there r oracle (suc n)) c) 0) e
-          ∙ pair_counts r both (op_there r oracle n) (op_there r oracle (suc n)) (pair_there r oracle ends n) n (faces_by {tells = tells} r (sender c) (values_of r.setup (undivided r n).state)) (λ i. oracle (sender c) n) c p.0 p.1
+          ∙ pair_counts r both few (op_there r oracle n) (op_there r oracle (suc n)) (names n) (pair_there r oracle ends n) n (faces_by {tells = tells} r (sender c) (values_of r.setup (undivided r n).state)) (λ i. oracle (sender c) n) c p.0 p.1
           ∙ sym (ap (λ b. length (cond b (posts_there c n) [])) e)
       go false e = ap (λ b. cond b (op_wants r (op_there r oracle (suc n)) c) 0) e ∙ sym (ap (λ b. length (cond b (posts_there c n) [])) e)
 

@@ -20,7 +20,7 @@ use Rattle.cx_plan.specs.Whole.{IsWhole}
 use Rattle.cx_rule.specs.Routine.{Rule}
 use Rattle.cx_model.specs.States.{State, IsState, with_level}
 use Rattle.cx_model.specs.Turns.{Values, values_of, in_region, swept_at, level_after, levels_after, numbers_at, first_point, if_fit, reduced, first_read, scalar_turn, number_or}
-use Rattle.cx_undivided.proofs.StateLaws.{with_level_keeps, scalars_after_keeps, rotate_keeps}
+use Rattle.cx_model.proofs.StateLaws.{with_level_keeps, scalars_after_keeps, rotate_keeps}
 use Rattle.cx_flat.specs.declared.op.Op.{Op}
 use Rattle.cx_flat.specs.declared.op.Op.TheVariants.{Sweep, Apply, Give, Join, Post, Take, Test, Open, Turn, Again, Rotate, Due, Written, Skip, Next, Piece, Save, Halt}
 use Rattle.cx_flat.specs.Code.{code, op_at}

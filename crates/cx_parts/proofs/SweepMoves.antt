@@ -64,8 +64,8 @@ turn_leaves setup k iteration before (Some state) flags = refl
 
 module _ (tells : Type 0) (r : Run) (oracle : Oracle) (k n i : ℕ) (x : Held) (lies : Lies r.setup.shape (cut_of r) k) (shape : IsShape r.setup.shape) (cell : IsCell r.setup (item r.setup i))
          (agrees : Agrees tells r oracle k n x) (there : next_op r (guided r oracle n).control ≡ op.Sweep i)
-         (truth : tells → guided r oracle n ≡ undivided r n) (states : IsState r.setup (undivided r n).state) (ghosts : GhostsAt r.setup (item r.setup i) (flags_at r n))
-         (quiet : ends_pair (op_of r (suc n)) ≡ None) where
+         (truth : tells → guided r oracle n ≡ undivided r n) (states : IsState r.setup (undivided r n).state) (ghosts : tells → GhostsAt r.setup (item r.setup i) (flags_at r n))
+         (quiet : tells → ends_pair (op_of r (suc n)) ≡ None) where
   abbrev it : Item
   it = item r.setup i
 
@@ -91,7 +91,7 @@ module _ (tells : Type 0) (r : Run) (oracle : Oracle) (k n i : ℕ) (x : Held) (
       sym (ap (λ b. cond b (scalar_of x.numbers v) (number_at (local (cut_of r) k) (level_of x.numbers v level) p)) grid) ∙ agrees.numbers t v level p grid stored.0 stored.1 reached
 
   abbrev here_passes : tells → Bool
-  here_passes t = passes r.setup r.rules (cut_of r) k lies shape it cell x.numbers now x.control.iteration agrees.sized states (flags_at r n) (done_directions (op_of r n)) ghosts (scalars_are t) (numbers_are t)
+  here_passes t = passes r.setup r.rules (cut_of r) k lies shape it cell x.numbers now x.control.iteration agrees.sized states (flags_at r n) (done_directions (op_of r n)) (ghosts t) (scalars_are t) (numbers_are t)
 
   abbrev zone : Point → Bool
   zone p = in_zone r.setup (owned (cut_of r) k) (region_of it.writes) p
@@ -105,7 +105,7 @@ module _ (tells : Type 0) (r : Run) (oracle : Oracle) (k n i : ℕ) (x : Held) (
       faults =
           ap (λ o. is_faulty r k o (undivided r n)) (op_is t)
           ∙ ap (λ c. list_any (λ p. zone p && is_none (swept_at r.setup r.rules it (values_of r.setup now) c p)) (points_in (local (cut_of r) k))) (sym (iteration_is t))
-          ∙ faults_same r.setup r.rules (cut_of r) k lies shape it cell x.numbers now x.control.iteration agrees.sized states (flags_at r n) (done_directions (op_of r n)) ghosts (scalars_are t) (numbers_are t)
+          ∙ faults_same r.setup r.rules (cut_of r) k lies shape it cell x.numbers now x.control.iteration agrees.sized states (flags_at r n) (done_directions (op_of r n)) (ghosts t) (scalars_are t) (numbers_are t)
 
       go : (b : Bool) → here_passes t ≡ b → (o : Option Held) → Gives r (op.Sweep i) x (part_sweep r.setup r.rules (cut_of r) k it x.numbers x.control.iteration) o
           → MatchOption o (is_faulty r k (op_of r n) (undivided r n) ≡ true) (λ y. is_faulty r k (op_of r n) (undivided r n) ≡ false)
@@ -149,9 +149,9 @@ module _ (tells : Type 0) (r : Run) (oracle : Oracle) (k n i : ℕ) (x : Held) (
             numbers = λ t v level p grid below stored reached.
                 ap (λ b. cond b (scalar_of y.numbers v) (number_at (local (cut_of r) k) (level_of y.numbers v level) p)) grid
                 ∙ ap (λ numbers. number_at (local (cut_of r) k) (level_of numbers v level) p) g.1
-                ∙ sweeps_agree r.setup r.rules (cut_of r) k lies shape it cell x.numbers now x.control.iteration agrees.sized states (flags_at r n) (done_directions (op_of r n)) ghosts (scalars_are t) (numbers_are t)
+                ∙ sweeps_agree r.setup r.rules (cut_of r) k lies shape it cell x.numbers now x.control.iteration agrees.sized states (flags_at r n) (done_directions (op_of r n)) (ghosts t) (scalars_are t) (numbers_are t)
                   v level p e grid (below, stored) (done_is t v level)
-                  (subst (λ d. IsReached (cut_of r) k (cond (all_written r.setup it.writes (flags_at r n) v level G) 3 d) p) (no_direction (op_of r (suc n)) quiet v level)
+                  (subst (λ d. IsReached (cut_of r) k (cond (all_written r.setup it.writes (flags_at r n) v level G) 3 d) p) (no_direction (op_of r (suc n)) (quiet t) v level)
                    (subst (λ (flags : Flags). IsReached (cut_of r) k (cond (flags v level G) 3 (done_directions (op_of r (suc n)) v level)) p) (flags_after t) reached))
                 ∙ ap (λ c. at r.setup.shape (level_of (levels_after (whole r.setup.shape) (values_of r.setup now) (in_region r.setup.shape (region_of it.writes)) (swept_at r.setup r.rules it (values_of r.setup now) c) 0 it.writes now) v level) p) (iteration_is t)
                 ∙ sym (ap (λ state. at r.setup.shape (level_of state v level) p) (state_after_is t));

@@ -153,7 +153,7 @@ module _ (setup : Setup) (rules : List Rule) (cut : Parts) (k : ℕ) (lies : Lie
 
   -- a point of the zone shows both the same window
   shows_same : (p : Point) → IsIn (local cut k) p → zone p ≡ true → All (ShowsSame setup here there (window_point setup.shape region p) (window_point setup.shape region p)) x.reads
-  shows_same p local zoned = λ i t l o inside. go i t l o inside (is_scalar setup (get_or x.reads i t).var) refl
+  shows_same p near zoned = λ i t l o inside. go i t l o inside (is_scalar setup (get_or x.reads i t).var) refl
     where
       go : (i : ℕ) (t : Touch) → i < length x.reads → (o : Point) → IsIn (reach_box setup.shape.dims (get_or x.reads i t).reach) o → (b : Bool) → is_scalar setup (get_or x.reads i t).var ≡ b
           → here (get_or x.reads i t).var (get_or x.reads i t).level (shifted (window_point setup.shape region p) o) ≡ there (get_or x.reads i t).var (get_or x.reads i t).level (shifted (window_point setup.shape region p) o)
@@ -170,11 +170,11 @@ module _ (setup : Setup) (rules : List Rule) (cut : Parts) (k : ℕ) (lies : Lie
           ap (λ b. cond b (scalar_of numbers d.var) (number_at (local cut k) (level_of numbers d.var d.level) q)) e
           ∙ agrees d.var d.level q e (cell.reads i t l)
             (window_reached setup cut k lies region d.region d.reach (flags d.var d.level G) (done d.var d.level) p o (sym (ap is_some row) ∙ some)
-             (λ g. ghosts i t l (ap (λ n. list_any is_G (flags_or_none n)) row ∙ g)) local zoned inside)
+             (λ g. ghosts i t l (ap (λ n. list_any is_G (flags_or_none n)) row ∙ g)) near zoned inside)
           ∙ sym (ap (λ b. cond b (scalar_of state d.var) (at setup.shape (level_of state d.var d.level) q)) e)
 
   pub same_numbers : (p : Point) → IsIn (local cut k) p → zone p ≡ true → swept_at setup rules x here iteration p ≡ swept_at setup rules x there iteration p
-  same_numbers p local zoned = swept_same setup rules x here there iteration p (shows_same p local zoned)
+  same_numbers p near zoned = swept_same setup rules x here there iteration p (shows_same p near zoned)
 
   abbrev pub passes : Bool
   passes = list_all (λ p. not (zone p) || is_some (swept_at setup rules x here iteration p)) (points_in (local cut k))
@@ -202,9 +202,9 @@ module _ (setup : Setup) (rules : List Rule) (cut : Parts) (k : ℕ) (lies : Lie
   there_is : (j : ℕ) (v : VarId) (level : ℕ) (p : Point) → is_scalar setup v ≡ false → IsIn (local cut k) p
       → at setup.shape (level_after (whole setup.shape) (in_region setup.shape region) (swept_at setup rules x there iteration) j (there v level)) p
       ≡ put (in_region setup.shape region p) (swept_at setup rules x there iteration p) j (at setup.shape (level_of state v level) p)
-  there_is j v level p grid local =
+  there_is j v level p grid near =
       let w = wrap setup.shape p in
-      at_numbers (whole setup.shape) (λ q. put (in_region setup.shape region q) (swept_at setup rules x there iteration q) j (there v level q)) w (lies.names p local)
+      at_numbers (whole setup.shape) (λ q. put (in_region setup.shape region q) (swept_at setup rules x there iteration q) j (there v level q)) w (lies.names p near)
       ∙ ap (λ z. put z (swept_at setup rules x there iteration w) j (there v level w)) (region_wrapped region p)
       ∙ ap (λ o. put (in_region setup.shape region p) o j (there v level w)) (swept_wrapped setup rules x state iteration p shape)
       ∙ ap (λ b. put (in_region setup.shape region p) (swept_at setup rules x there iteration p) j (cond b (scalar_of state v) (at setup.shape (level_of state v level) w))) grid
@@ -213,8 +213,8 @@ module _ (setup : Setup) (rules : List Rule) (cut : Parts) (k : ℕ) (lies : Lie
   here_is : (j : ℕ) (v : VarId) (level : ℕ) (p : Point) → is_scalar setup v ≡ false → IsIn (local cut k) p
       → number_at (local cut k) (level_after (local cut k) zone (swept_at setup rules x here iteration) j (here v level)) p
       ≡ put (zone p) (swept_at setup rules x here iteration p) j (number_at (local cut k) (level_of numbers v level) p)
-  here_is j v level p grid local =
-      at_numbers (local cut k) (λ q. put (zone q) (swept_at setup rules x here iteration q) j (here v level q)) p local
+  here_is j v level p grid near =
+      at_numbers (local cut k) (λ q. put (zone q) (swept_at setup rules x here iteration q) j (here v level q)) p near
       ∙ ap (λ b. put (zone p) (swept_at setup rules x here iteration p) j (cond b (scalar_of numbers v) (number_at (local cut k) (level_of numbers v level) p))) grid
 
   -- at each local point that is reached behind the sweep
@@ -222,21 +222,21 @@ module _ (setup : Setup) (rules : List Rule) (cut : Parts) (k : ℕ) (lies : Lie
       → IsReached cut k (cond (after_write g G (flags v level G)) 3 0) p → IsIn (local cut k) p → done v level ≡ 0
       → put (in_zone setup (owned cut k) g p) (swept_at setup rules x here iteration p) j (number_at (local cut k) (level_of numbers v level) p)
       ≡ put (in_region setup.shape g p) (swept_at setup rules x there iteration p) j (at setup.shape (level_of state v level) p)
-  one_point Interior e j v level p pass l grid stored reached local none =
+  one_point Interior e j v level p pass l grid stored reached near none =
       let mine = reached_own setup cut k lies p reached in
       let z : in_zone setup (owned cut k) Interior p ≡ in_region setup.shape Interior p = ap (λ b. b && not (is_boundary setup.shape p)) (in_from (owned cut k) p mine) in
       ap (λ b. put b (swept_at setup rules x here iteration p) j (number_at (local cut k) (level_of numbers v level) p)) z
       ∙ put_same (in_region setup.shape Interior p) (swept_at setup rules x here iteration p) (swept_at setup rules x there iteration p) j _ _
         (agrees v level p grid stored (own_reached setup cut k lies (cond (flags v level G) 3 (done v level)) p mine))
-        (λ t. same_numbers p local (ap (λ g. in_zone setup (owned cut k) g p) e ∙ z ∙ t))
-  one_point Boundary e j v level p pass l grid stored reached local none =
+        (λ t. same_numbers p near (ap (λ g. in_zone setup (owned cut k) g p) e ∙ z ∙ t))
+  one_point Boundary e j v level p pass l grid stored reached near none =
       put_same (in_region setup.shape Boundary p) (swept_at setup rules x here iteration p) (swept_at setup rules x there iteration p) j _ _
       (agrees v level p grid stored (subst (λ d. IsReached cut k (cond (flags v level G) 3 d) p) (sym none) reached))
-      (λ t. same_numbers p local (ap (λ g. in_zone setup (owned cut k) g p) e ∙ t))
-  one_point Everywhere e j v level p pass l grid stored reached local none =
+      (λ t. same_numbers p near (ap (λ g. in_zone setup (owned cut k) g p) e ∙ t))
+  one_point Everywhere e j v level p pass l grid stored reached near none =
       let zoned : zone p ≡ true = ap (λ g. in_zone setup (owned cut k) g p) e in
-      put_new (length x.writes) (swept_at setup rules x here iteration p) (swept_at setup rules x there iteration p) j _ _ (same_numbers p local zoned)
-      (or_true (zone p) (is_some (swept_at setup rules x here iteration p)) (test_at (local cut k) (λ q. not (zone q) || is_some (swept_at setup rules x here iteration q)) p pass local) zoned)
+      put_new (length x.writes) (swept_at setup rules x here iteration p) (swept_at setup rules x there iteration p) j _ _ (same_numbers p near zoned)
+      (or_true (zone p) (is_some (swept_at setup rules x here iteration p)) (test_at (local cut k) (λ q. not (zone q) || is_some (swept_at setup rules x here iteration q)) p pass near) zoned)
       (if_enough setup x.writes (rule_at rules x.routine (seen_at setup x here (window_point setup.shape region p)) (place_at setup x iteration p))) l
 
   here_stored : (v : VarId) (level : ℕ) → IsStored setup v level → (v.0 < length numbers) × (level < length (get_or numbers v.0 []))

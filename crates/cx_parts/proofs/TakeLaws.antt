@@ -70,8 +70,8 @@ count_of xs i = sym (length_map length (slice_index_or xs i [])) ∙ ap length (
 length_at : (s : State) (i l : ℕ) → length (slice_index_or (slice_index_or s i []) l []) ≡ slice_index_or (slice_index_or (map (map length) s) i []) l 0
 length_at s i l = sym (get_or-map length (slice_index_or s i []) l []) ∙ ap (λ z. slice_index_or z l 0) (sym (get_or-map (map length) s i []))
 
-held_same : (setup : Setup) (local : Box3) (old new : State) → map (map length) new ≡ map (map length) old → IsHeld setup local old → IsHeld setup local new
-held_same setup local old new e h = record {
+held_same : (setup : Setup) (near : Box3) (old new : State) → map (map length) new ≡ map (map length) old → IsHeld setup near old → IsHeld setup near new
+held_same setup near old new e h = record {
   vars = sym (length_map (map length) new) ∙ ap length e ∙ length_map (map length) old ∙ h.vars;
   levels = λ v l. count_of new v.0 ∙ ap (λ z. length (slice_index_or z v.0 [])) e ∙ sym (count_of old v.0) ∙ h.levels v l;
   sizes = λ v level l m. length_at new v.0 level ∙ ap (λ z. slice_index_or (slice_index_or z v.0 []) level 0) e ∙ sym (length_at old v.0 level) ∙ h.sizes v level l m;

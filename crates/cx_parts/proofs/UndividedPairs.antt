@@ -1,4 +1,4 @@
--- The undivided run goes in pairs at all places, and so does a way whose oracle tells the truth.
+-- The undivided run goes in pairs at all places.
 use Rattle.std.proofs.Common.{◌≡◌, ℕ, zero, suc, ◌+◌, ◌-◌, ◌<◌, ◌≤◌, ◌⊎◌, inl, inr, true, List, None, arith, sym, ap, ◌∙◌, subst}
 use Rattle.std.proofs.lemmas.Bool.{cases_lt}
 use Rattle.cx_plan.specs.Setups.{Setup}
@@ -15,7 +15,6 @@ use Rattle.cx_parts.specs.Truths.{truth}
 use Rattle.cx_parts.proofs.FlatPlaces.{undivided_is, next_pair}
 use Rattle.cx_parts.proofs.TruthLaws.{Folds, guided_true}
 use Rattle.cx_parts.proofs.Ways.{scalars_at, goes_on}
-use Rattle.cx_parts.specs.Pairs.{GoesInPairs}
 
 first_ends : (setup : Setup) (rules : List Rule) (ops : List Op) (count : ℕ) (g : Flat) → InPairs setup rules ops None None count g → is_halt (op_at ops (flat_from setup rules ops count g).control.pc) ≡ true
     → ends_pair (op_at ops g.control.pc) ≡ None
@@ -45,14 +44,3 @@ module _ (r : Run) (count : ℕ) (paired : InPairs r.setup r.rules (code r.setup
       go : (n < count) ⊎ (count ≤ n) → ends_pair (op_of r (suc n)) ≡ begins_pair r.setup (op_of r n)
       go (inl l) = next_pair r count paired halts_there n l
       go (inr l) = ap ends_pair (behind_is (suc n) (omega (arith, l))) ∙ sym (ap (begins_pair r.setup) (behind_is n l))
-
-  -- the way of parts that give the truth
-  pub true_pairs : (oracle : Oracle) → Folds r → ((k n : ℕ) → k < parts_in r → oracle k n ≡ truth r k n) → WayEnds r.setup r.first.control r.most (scalars_at r oracle) → GoesInPairs r oracle
-  true_pairs oracle folds true_oracle ends = record {
-    first = ap ends_pair (same 0) ∙ pairs_first;
-    pairs = λ n. ap ends_pair (same (suc n)) ∙ pairs_next n ∙ sym (ap (begins_pair r.setup) (same n));
-    goes_on = goes_on r oracle ends;
-  }
-    where
-      same : (n : ℕ) → next_op r (guided r oracle n).control ≡ op_of r n
-      same n = ap (λ g. next_op r g.control) (guided_true r folds oracle true_oracle n)

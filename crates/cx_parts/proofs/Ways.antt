@@ -15,6 +15,7 @@ use Rattle.cx_cut.specs.Neighbours.{partner}
 use Rattle.cx_parts.specs.Moves.{is_at, Message, Channel, Wire, Board, sender, receiver, is_there, only, takes_from, op_wants, op_posts, face_head, posted_faces, buffer_of, op_hands}
 use Rattle.cx_parts.specs.Runs.{Run, Oracle, next_op, guided, halts, last_of, first_from, parts_in, cut_of}
 use Rattle.cx_flat.specs.declared.op.Op.TheVariants as op
+use Rattle.cx_parts.specs.Operations.{NamesWell}
 use Rattle.cx_parts.specs.Moves as message
 
 -- ---- the first place
@@ -43,8 +44,8 @@ only_one false x = refl
 
 -- a part is its neighbour's neighbour at the other side
 pub record IsMutual (r : Run) : Type 0 where
-  pub high : (a b d : ℕ) → a < parts_in r → b < parts_in r → is_at (partner (cut_of r) b d High) a ≡ is_at (partner (cut_of r) a d Low) b
-  pub low : (a b d : ℕ) → a < parts_in r → b < parts_in r → is_at (partner (cut_of r) b d Low) a ≡ is_at (partner (cut_of r) a d High) b
+  pub high : (a b d : ℕ) → d < 3 → a < parts_in r → b < parts_in r → is_at (partner (cut_of r) b d High) a ≡ is_at (partner (cut_of r) a d Low) b
+  pub low : (a b d : ℕ) → d < 3 → a < parts_in r → b < parts_in r → is_at (partner (cut_of r) b d Low) a ≡ is_at (partner (cut_of r) a d High) b
 
 pub wants_none : (r : Run) (p : Op) (c : Channel) → is_receiving p ≡ false → op_wants r p c ≡ 0
 wants_none r (op.Sweep k) (Wire a b) e = refl
@@ -82,19 +83,19 @@ wants_none r op.Save (Board a b) e = refl
 wants_none r op.Halt (Wire a b) e = refl
 wants_none r op.Halt (Board a b) e = refl
 
-module _ {tells : Type 0} (r : Run) (mutual_parts : IsMutual r) where
+module _ {tells : Type 0} (r : Run) (mutual_parts : IsMutual r) (few : r.setup.shape.dims ≤ 3) where
   abbrev op_low : (n a d : ℕ) (vars : List VarId) (values : Side → tells → List ℤ) → Message tells
   op_low n a d vars values = message.Sent (face_head r n a d Low vars) (values Low)
 
   abbrev op_high : (n a d : ℕ) (vars : List VarId) (values : Side → tells → List ℤ) → Message tells
   op_high n a d vars values = message.Sent (face_head r n a d High vars) (values High)
 
-  faces_length : (n a b d : ℕ) (vars : List VarId) (values : Side → tells → List ℤ) → a < parts_in r → b < parts_in r → takes_from r b d a ≡ length (posted_faces r n a values d vars b)
-  faces_length n a b d vars values l m =
+  faces_length : (n a b d : ℕ) (vars : List VarId) (values : Side → tells → List ℤ) → d < 3 → a < parts_in r → b < parts_in r → takes_from r b d a ≡ length (posted_faces r n a values d vars b)
+  faces_length n a b d vars values below l m =
       let x = is_at (partner (cut_of r) a d Low) b in
       let y = is_at (partner (cut_of r) a d High) b in
-      ap (λ z. cond z 1 0 + cond (is_at (partner (cut_of r) b d Low) a) 1 0) (mutual_parts.high a b d l m)
-      ∙ ap (λ z. cond x 1 0 + cond z 1 0) (mutual_parts.low a b d l m)
+      ap (λ z. cond z 1 0 + cond (is_at (partner (cut_of r) b d Low) a) 1 0) (mutual_parts.high a b d below l m)
+      ∙ ap (λ z. cond x 1 0 + cond z 1 0) (mutual_parts.low a b d below l m)
       ∙ sym (only_length x (op_low n a d vars values) (only y (op_high n a d vars values ∷ [])) ∙ ap (λ z. cond x 1 0 + z) (only_one y (op_high n a d vars values)))
 
   posts_none : (o : Op) (n : ℕ) (faces : ℕ → List VarId → Side → tells → List ℤ) (number : ℕ → ℤ) (c : Channel) → is_sending o ≡ false → op_posts r o n faces number c ≡ []
@@ -117,27 +118,27 @@ module _ {tells : Type 0} (r : Run) (mutual_parts : IsMutual r) where
   posts_none op.Save n faces number c e = refl
   posts_none op.Halt n faces number c e = refl
 
-  pub pair_counts : (o p : Op) → Paired o p → (n : ℕ) (faces : ℕ → List VarId → Side → tells → List ℤ) (number : ℕ → ℤ) (c : Channel) → sender c < parts_in r → receiver c < parts_in r → op_wants r p c ≡ length (op_posts r o n faces number c)
-  pair_counts (op.Sweep k) p h n faces number c l m = wants_none r p c h ∙ sym (ap length (posts_none (op.Sweep k) n faces number c refl))
-  pair_counts (op.Apply k) p h n faces number c l m = wants_none r p c h ∙ sym (ap length (posts_none (op.Apply k) n faces number c refl))
-  pair_counts (op.Give k) p h n faces number (Wire a b) l m = ap (λ z. op_wants r z (Wire a b)) h
-  pair_counts (op.Give k) p h n faces number (Board a b) l m = ap (λ z. op_wants r z (Board a b)) h
-  pair_counts (op.Join k) p h n faces number c l m = wants_none r p c h ∙ sym (ap length (posts_none (op.Join k) n faces number c refl))
-  pair_counts (op.Post d vars) p h n faces number (Wire a b) l m = ap (λ z. op_wants r z (Wire a b)) h.1 ∙ faces_length n a b d vars (faces d vars) l m
-  pair_counts (op.Post d vars) p h n faces number (Board a b) l m = ap (λ z. op_wants r z (Board a b)) h.1
-  pair_counts (op.Take d vars path) p h n faces number c l m = wants_none r p c h ∙ sym (ap length (posts_none (op.Take d vars path) n faces number c refl))
-  pair_counts (op.Test v path skip) p h n faces number c l m = wants_none r p c h ∙ sym (ap length (posts_none (op.Test v path skip) n faces number c refl))
-  pair_counts op.Open p h n faces number c l m = wants_none r p c h ∙ sym (ap length (posts_none op.Open n faces number c refl))
-  pair_counts (op.Turn v path skip) p h n faces number c l m = wants_none r p c h ∙ sym (ap length (posts_none (op.Turn v path skip) n faces number c refl))
-  pair_counts (op.Again back) p h n faces number c l m = wants_none r p c h ∙ sym (ap length (posts_none (op.Again back) n faces number c refl))
-  pair_counts op.Rotate p h n faces number c l m = wants_none r p c h ∙ sym (ap length (posts_none op.Rotate n faces number c refl))
-  pair_counts (op.Due skip) p h n faces number c l m = wants_none r p c h ∙ sym (ap length (posts_none (op.Due skip) n faces number c refl))
-  pair_counts (op.Written skip) p h n faces number c l m = wants_none r p c h ∙ sym (ap length (posts_none (op.Written skip) n faces number c refl))
-  pair_counts (op.Skip skip) p h n faces number c l m = wants_none r p c h ∙ sym (ap length (posts_none (op.Skip skip) n faces number c refl))
-  pair_counts (op.Next back) p h n faces number c l m = wants_none r p c h ∙ sym (ap length (posts_none (op.Next back) n faces number c refl))
-  pair_counts (op.Piece v) p h n faces number c l m = wants_none r p c h ∙ sym (ap length (posts_none (op.Piece v) n faces number c refl))
-  pair_counts op.Save p h n faces number c l m = wants_none r p c h ∙ sym (ap length (posts_none op.Save n faces number c refl))
-  pair_counts op.Halt p h n faces number c l m = wants_none r p c h ∙ sym (ap length (posts_none op.Halt n faces number c refl))
+  pub pair_counts : (o p : Op) → NamesWell r.setup o → Paired o p → (n : ℕ) (faces : ℕ → List VarId → Side → tells → List ℤ) (number : ℕ → ℤ) (c : Channel) → sender c < parts_in r → receiver c < parts_in r → op_wants r p c ≡ length (op_posts r o n faces number c)
+  pair_counts (op.Sweep k) p names h n faces number c l m = wants_none r p c h ∙ sym (ap length (posts_none (op.Sweep k) n faces number c refl))
+  pair_counts (op.Apply k) p names h n faces number c l m = wants_none r p c h ∙ sym (ap length (posts_none (op.Apply k) n faces number c refl))
+  pair_counts (op.Give k) p names h n faces number (Wire a b) l m = ap (λ z. op_wants r z (Wire a b)) h
+  pair_counts (op.Give k) p names h n faces number (Board a b) l m = ap (λ z. op_wants r z (Board a b)) h
+  pair_counts (op.Join k) p names h n faces number c l m = wants_none r p c h ∙ sym (ap length (posts_none (op.Join k) n faces number c refl))
+  pair_counts (op.Post d vars) p names h n faces number (Wire a b) l m = ap (λ z. op_wants r z (Wire a b)) h.1 ∙ faces_length n a b d vars (faces d vars) (let e = names.direction in omega (arith, e, few)) l m
+  pair_counts (op.Post d vars) p names h n faces number (Board a b) l m = ap (λ z. op_wants r z (Board a b)) h.1
+  pair_counts (op.Take d vars path) p names h n faces number c l m = wants_none r p c h ∙ sym (ap length (posts_none (op.Take d vars path) n faces number c refl))
+  pair_counts (op.Test v path skip) p names h n faces number c l m = wants_none r p c h ∙ sym (ap length (posts_none (op.Test v path skip) n faces number c refl))
+  pair_counts op.Open p names h n faces number c l m = wants_none r p c h ∙ sym (ap length (posts_none op.Open n faces number c refl))
+  pair_counts (op.Turn v path skip) p names h n faces number c l m = wants_none r p c h ∙ sym (ap length (posts_none (op.Turn v path skip) n faces number c refl))
+  pair_counts (op.Again back) p names h n faces number c l m = wants_none r p c h ∙ sym (ap length (posts_none (op.Again back) n faces number c refl))
+  pair_counts op.Rotate p names h n faces number c l m = wants_none r p c h ∙ sym (ap length (posts_none op.Rotate n faces number c refl))
+  pair_counts (op.Due skip) p names h n faces number c l m = wants_none r p c h ∙ sym (ap length (posts_none (op.Due skip) n faces number c refl))
+  pair_counts (op.Written skip) p names h n faces number c l m = wants_none r p c h ∙ sym (ap length (posts_none (op.Written skip) n faces number c refl))
+  pair_counts (op.Skip skip) p names h n faces number c l m = wants_none r p c h ∙ sym (ap length (posts_none (op.Skip skip) n faces number c refl))
+  pair_counts (op.Next back) p names h n faces number c l m = wants_none r p c h ∙ sym (ap length (posts_none (op.Next back) n faces number c refl))
+  pair_counts (op.Piece v) p names h n faces number c l m = wants_none r p c h ∙ sym (ap length (posts_none (op.Piece v) n faces number c refl))
+  pair_counts op.Save p names h n faces number c l m = wants_none r p c h ∙ sym (ap length (posts_none op.Save n faces number c refl))
+  pair_counts op.Halt p names h n faces number c l m = wants_none r p c h ∙ sym (ap length (posts_none op.Halt n faces number c refl))
 
 -- ---- the way
 

@@ -18,7 +18,8 @@ use Rattle.cx_plan.specs.declared.flag.Flag.TheVariants.{I, B, G}
 use Rattle.cx_plan.specs.Setups.{Setup}
 use Rattle.cx_plan.specs.Regions.{within_ghosts, cell_needs, flags_or_none, is_G}
 use Rattle.cx_model.specs.Turns.{window_point}
-use Rattle.cx_cut.specs.Cuts.{Parts, IsReached, owned, local}
+use Rattle.cx_cut.proofs.Boxed.{in_by_along}
+use Rattle.cx_cut.specs.Cuts.{owned_low, owned_high, Parts, IsReached, owned, local}
 use Rattle.cx_parts.specs.Holding.{in_zone}
 
 -- ---- points of a box
@@ -94,7 +95,7 @@ none_some e = absurd cc
 module _ (setup : Setup) (cut : Parts) (k : ℕ) (lies : Lies setup.shape cut k) where
   -- every owned point is reached
   pub own_reached : (d : ℕ) (p : Point) → IsIn (owned cut k) p → IsReached cut k d p
-  own_reached d p h = record { inside = lies.own p h; own = λ e l m. along_on (owned cut k) p h e }
+  own_reached d p h = record { inside = lies.own p h; own = λ e l m. in_by_along (owned_low cut k) (owned_high cut k) p h e m }
 
   pub reached_own : (p : Point) → IsReached cut k 0 p → IsIn (owned cut k) p
   reached_own p h = record { x = h.own 0 (omega arith) (omega arith); y = h.own 1 (omega arith) (omega arith); z = h.own 2 (omega arith) (omega arith) }
@@ -114,7 +115,7 @@ module _ (setup : Setup) (cut : Parts) (k : ℕ) (lies : Lies setup.shape cut k)
   pub window_reached : (region of : Region) (reach : ℕ) (g : Bool) (done : ℕ) (p o : Point) → is_some (cell_needs setup.shape region of reach) ≡ true
       → (list_any is_G (flags_or_none (cell_needs setup.shape region of reach)) ≡ true → g ≡ true)
       → IsIn (local cut k) p → Zoned region p → IsIn (reach_box setup.shape.dims reach) o → IsReached cut k (cond g 3 done) (shifted (window_point setup.shape region p) o)
-  window_reached Interior Everywhere reach g done p o has met local zoned at = go (within_ghosts setup.shape reach) refl
+  window_reached Interior Everywhere reach g done p o has met near zoned at = go (within_ghosts setup.shape reach) refl
     where
       go : (w : Bool) → within_ghosts setup.shape reach ≡ w → IsReached cut k (cond g 3 done) (shifted p o)
       go true e =
@@ -122,32 +123,32 @@ module _ (setup : Setup) (cut : Parts) (k : ℕ) (lies : Lies setup.shape cut k)
           any_reached g done (shifted p o) (met (ap (λ w. list_any is_G (flags_or_none (cond w (Some (I ∷ B ∷ G ∷ [])) None))) e))
           (lies.window reach p o e (in_is (owned cut k) p z.0) (not_true (is_boundary setup.shape p) z.1) at)
       go false e = absurd (none_some (sym has ∙ ap (λ w. is_some (cond w (Some (I ∷ B ∷ G ∷ [])) None)) e))
-  window_reached Interior Interior reach g done p o has met local zoned at = go (eqb reach 0) refl
+  window_reached Interior Interior reach g done p o has met near zoned at = go (eqb reach 0) refl
     where
       go : (w : Bool) → eqb reach 0 ≡ w → IsReached cut k (cond g 3 done) (shifted p o)
       go true e =
           let z = and_parts (has_point (owned cut k) p) (not (is_boundary setup.shape p)) zoned in
           subst (IsReached cut k (cond g 3 done)) (put_at setup.shape.dims reach p o (eqb-true reach 0 e) at) (own_reached (cond g 3 done) p (in_is (owned cut k) p z.0))
       go false e = absurd (none_some (sym has ∙ ap (λ w. is_some (cond w (Some (I ∷ [])) None)) e))
-  window_reached Interior Boundary reach g done p o has met local zoned at = absurd cc
-  window_reached Everywhere Everywhere reach g done p o has met local zoned at = go (eqb reach 0) refl
+  window_reached Interior Boundary reach g done p o has met near zoned at = absurd cc
+  window_reached Everywhere Everywhere reach g done p o has met near zoned at = go (eqb reach 0) refl
     where
       go : (w : Bool) → eqb reach 0 ≡ w → IsReached cut k (cond g 3 done) (shifted p o)
       go true e =
           subst (IsReached cut k (cond g 3 done)) (put_at setup.shape.dims reach p o (eqb-true reach 0 e) at)
-          (any_reached g done p (met (ap (λ w. list_any is_G (flags_or_none (cond w (Some (I ∷ B ∷ G ∷ [])) None))) e)) local)
+          (any_reached g done p (met (ap (λ w. list_any is_G (flags_or_none (cond w (Some (I ∷ B ∷ G ∷ [])) None))) e)) near)
       go false e = absurd (none_some (sym has ∙ ap (λ w. is_some (cond w (Some (I ∷ B ∷ G ∷ [])) None)) e))
-  window_reached Everywhere Interior reach g done p o has met local zoned at = absurd cc
-  window_reached Everywhere Boundary reach g done p o has met local zoned at = absurd cc
-  window_reached Boundary Interior reach g done p o has met local zoned at = go (eqb reach 0) refl
+  window_reached Everywhere Interior reach g done p o has met near zoned at = absurd cc
+  window_reached Everywhere Boundary reach g done p o has met near zoned at = absurd cc
+  window_reached Boundary Interior reach g done p o has met near zoned at = go (eqb reach 0) refl
     where
       go : (w : Bool) → eqb reach 0 ≡ w → IsReached cut k (cond g 3 done) (shifted (source setup.shape p) o)
       go true e =
           subst (IsReached cut k (cond g 3 done)) (put_at setup.shape.dims reach (source setup.shape p) o (eqb-true reach 0 e) at)
-          (any_reached g done (source setup.shape p) (met (ap (λ w. list_any is_G (flags_or_none (cond w (Some (I ∷ G ∷ [])) None))) e)) (lies.source_is p local zoned))
+          (any_reached g done (source setup.shape p) (met (ap (λ w. list_any is_G (flags_or_none (cond w (Some (I ∷ G ∷ [])) None))) e)) (lies.source_is p near zoned))
       go false e = absurd (none_some (sym has ∙ ap (λ w. is_some (cond w (Some (I ∷ G ∷ [])) None)) e))
-  window_reached Boundary Everywhere reach g done p o has met local zoned at = absurd cc
-  window_reached Boundary Boundary reach g done p o has met local zoned at = absurd cc
+  window_reached Boundary Everywhere reach g done p o has met near zoned at = absurd cc
+  window_reached Boundary Boundary reach g done p o has met near zoned at = absurd cc
 
 -- ---- tests over the points of a box
 

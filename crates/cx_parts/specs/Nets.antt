@@ -1,5 +1,5 @@
 -- The parts of a run as a network.
-use Rattle.std.specs.Prelude.{ℕ, zero, suc, ◌+◌, ◌*◌, ◌<◌, ◌≤◌, ◌≡◌, true, ℤ, pos, List, [], ◌∷◌, length, Option, Some, None, is_some, cond, if◌then◌else◌, slice_index_or}
+use Rattle.std.specs.Prelude.{ℕ, zero, suc, ◌+◌, ◌*◌, ◌<◌, ◌≤◌, ◌≡◌, Bool, true, false, ℤ, pos, List, [], ◌∷◌, length, Option, Some, None, is_some, cond, slice_index_or}
 use Rattle.cx_grid.specs.declared.boxes.Point.{Point}
 use Rattle.cx_grid.specs.declared.shapes.Side.{Side}
 use Rattle.cx_grid.specs.declared.shapes.Side.TheVariants.{Low, High}
@@ -72,12 +72,12 @@ pub record IsGathered {tells : Type 0} (t : tells) (r : Run) (pieces : ℕ → L
   pub each : (k : ℕ) (p : Point) → k < parts_in r → IsIn (owned (cut_of r) k) p
       → number_at (whole r.setup.shape) level p ≡ number_at (owned (cut_of r) k) (only_level t (pieces k)) p
 
--- a variable's text by the pieces of all parts; a scalar's number is that of part 0
-abbrev pub IsText : {tells : Type 0} → tells → Run → VarId → ℕ → (ℕ → List (Message tells)) → List ℕ → Type 0
-IsText t r v iteration pieces text =
-    if is_scalar r.setup v
-    then text ≡ line (variable r.setup v).full iteration (slice_index_or (only_level t (pieces 0)) 0 (pos 0))
-    else (level : List ℤ) × IsGathered t r pieces level × (text ≡ section (variable r.setup v).full iteration r.setup.shape level)
+-- a text by the pieces of all parts, of a scalar and of a grid variable; a scalar's number is that of part 0
+abbrev pub IsTextOf : {tells : Type 0} → Bool → tells → Run → VarId → ℕ → (ℕ → List (Message tells)) → List ℕ → Type 0
+IsTextOf true t r v iteration pieces text =
+    text ≡ line (variable r.setup v).full iteration (slice_index_or (only_level t (pieces 0)) 0 (pos 0))
+IsTextOf false t r v iteration pieces text =
+    (level : List ℤ) × IsGathered t r pieces level × (text ≡ section (variable r.setup v).full iteration r.setup.shape level)
 
 abbrev pub OneOutcome : ℕ → List ℕ → Option ℕ → Type 0
 OneOutcome length_so_far text None = greatest_output < length_so_far + length text
@@ -85,7 +85,7 @@ OneOutcome length_so_far text (Some n) = (length_so_far + length text ≤ greate
 
 -- the length of the output after a work; none where it would pass its limit
 abbrev pub WritesAt : (tells : Type 0) → Run → Op → ℕ → (ℕ → List (Message tells)) → ℕ → Option ℕ → Type 0
-WritesAt tells r (Piece v) iteration pieces so_far o = (t : tells) (text : List ℕ) → IsText t r v iteration pieces text → OneOutcome so_far text o
+WritesAt tells r (Piece v) iteration pieces so_far o = (t : tells) (text : List ℕ) → IsTextOf (is_scalar r.setup v) t r v iteration pieces text → OneOutcome so_far text o
 WritesAt tells r _ iteration pieces so_far o = o ≡ Some so_far
 
 -- ---- the network
