@@ -39,3 +39,6 @@ pub mod Ways
 pub mod WholeReductions
 pub mod WrapLaws
 pub mod ZoneLaws
+pub mod WholeRun
+pub mod GhostLaws
+pub mod StateIn

@@ -1,38 +1,44 @@
--- The moves of a part where its wires tell, of a whole job: all operations but Take and Join, which are handed in.
-use Rattle.std.proofs.Common.{◌≡◌, ℕ, suc, ◌<◌, true, List, refl, sym, ap, ◌∙◌, subst, arith, None, Some, ◌≤◌, length}
+-- Each operation of a part that agrees leaves a part that agrees, whatever its wires tell.
+use Rattle.std.proofs.Common.{◌≡◌, ℕ, zero, suc, ◌<◌, ◌≤◌, true, List, length, None, Some, refl, sym, ap, ◌∙◌, subst, arith}
 use Rattle.std.proofs.lemmas.List.Elements.{All-get_or}
 use Rattle.cx_plan.specs.declared.job.Job.{Job}
 use Rattle.cx_plan.specs.declared.variable.VarId.{VarId}
 use Rattle.cx_plan.specs.Setups.{Setup, setup_of}
-use Rattle.cx_plan.specs.Lookups.{item, is_scalar, levels_of, no_item}
-use Rattle.cx_plan.specs.Regions.{HasShapes}
+use Rattle.cx_plan.specs.Lookups.{item, no_item}
 use Rattle.cx_plan.specs.Whole.{IsWhole, IsItem}
-use Rattle.cx_grid.specs.Grid.{IsShape}
-use Rattle.cx_model.specs.States.{IsState}
 use Rattle.cx_flat.specs.declared.op.Op.{Op}
 use Rattle.cx_flat.specs.declared.op.Op.TheVariants.{Sweep, Apply, Give, Join, Post, Take, Test, Open, Turn, Again, Rotate, Due, Written, Skip, Next, Piece, Save, Halt}
-use Rattle.cx_flat.specs.Code.{code, op_at}
-use Rattle.cx_flat.specs.Flats.{begins_pair, ends_pair}
+use Rattle.cx_flat.specs.Flats.{Control, begins_pair, ends_pair}
 use Rattle.cx_network.specs.Agreement.{takes}
 use Rattle.cx_parts.specs.Holding.{Held}
-use Rattle.cx_parts.specs.Runs.{Run, Oracle, next_op, undivided, op_of, guided, last_of, parts_in, cut_of}
-use Rattle.cx_parts.specs.Ghosts.{HasGhosts}
-use Rattle.cx_parts.specs.Moves.{Message, Channel, receiver, Moves}
-use Rattle.cx_parts.specs.Truths.{script, Agrees, GivesAt}
-use Rattle.cx_parts.proofs.ZoneLaws.{Lies}
-use Rattle.cx_parts.proofs.Sweeps.{IsCell}
-use Rattle.cx_parts.proofs.SweepMoves.{sweep_moves}
-use Rattle.cx_parts.proofs.ScalarMoves.{IsScalarItem, apply_moves}
+use Rattle.cx_parts.specs.Runs.{Run, Oracle, cut_of, parts_in, next_op, undivided, op_of, guided, given_before, last_of}
+use Rattle.cx_parts.specs.Moves.{Message, Channel, Board, receiver, given_number, Moves}
+use Rattle.cx_parts.specs.Operations.{is_reduction, NamesWell}
+use Rattle.cx_parts.specs.Truths.{truth, script, Agrees, GivesAt}
+use Rattle.cx_parts.specs.Nets.{Nearness}
+use Rattle.cx_parts.proofs.GhostLaws.{has_ghosts}
+use Rattle.cx_parts.proofs.JoinMoves.{IsReduction, board_number, join_moves}
 use Rattle.cx_parts.proofs.Jumps.{ReadsScalar, is_jump, jump_moves}
+use Rattle.cx_parts.proofs.Places.{guided_op, Exchanges}
 use Rattle.cx_parts.proofs.Rotations.{rotate_moves}
-use Rattle.cx_parts.specs.Operations.{NamesWell}
-use Rattle.cx_parts.proofs.CodeLaws.{op_well}
-use Rattle.cx_parts.proofs.StateLaws.{undivided_states, guided_states}
+use Rattle.cx_parts.proofs.ScalarMoves.{IsScalarItem, apply_moves}
+use Rattle.cx_parts.proofs.SweepMoves.{sweep_moves}
+use Rattle.cx_parts.proofs.Sweeps.{IsCell}
+use Rattle.cx_parts.proofs.TakeLaws.{took, take_behind}
+use Rattle.cx_parts.proofs.TruthLaws.{guided_true}
+use Rattle.cx_parts.proofs.Ways.{scalars_at, pair_there}
+use Rattle.cx_parts.proofs.WholeRun.{IsRun, shape, law, lies, names_at, names, first_pair, next_pairs, true_states, way_states, all_folds, one_level}
+
+-- where wires tell, what the oracle says is what the parts give
+abbrev pub IsTrueOracle : Type 0 → Run → Oracle → Type 0
+IsTrueOracle tells r oracle = tells → (k n : ℕ) → k < parts_in r → oracle k n ≡ truth r k n
 
 abbrev pub MovesOn : (tells : Type 0) → Run → Oracle → Op → Type 0
 MovesOn tells r oracle o =
-    (k n : ℕ) (x y : Held) (mails : Channel → List (Message tells)) → k < parts_in r → n < last_of r oracle → next_op r (guided r oracle n).control ≡ o → Agrees tells r oracle k n x
+    (k n : ℕ) (x y : Held) (mails : Channel → List (Message tells)) → k < parts_in r → n < last_of r oracle → guided_op r oracle n ≡ o → Agrees tells r oracle k n x
     → ((c : Channel) → receiver c ≡ k → mails c ≡ takes (script tells r oracle) c n) → Moves tells r k x mails o (Some y) → GivesAt r oracle k (suc n) y → Agrees tells r oracle k (suc n) y
+
+-- ---- items of a whole job
 
 module _ (job : Job) (w : IsWhole job) where
   cell_of : (i : ℕ) → NamesWell (setup_of job) (Sweep i) → IsCell (setup_of job) (item (setup_of job) i)
@@ -43,67 +49,117 @@ module _ (job : Job) (w : IsWhole job) where
       let writes = (All-get_or (IsItem job) job.items i no_item h.0.0 w.items).writes in
       record { kind = h.1; shape = h.0.1; writes = λ k d l. let s = writes k d l in (s.0, omega (arith, s.1)) }
 
-module _ (tells : Type 0) (t : tells) (job : Job) (w : IsWhole job) (shapes : HasShapes (setup_of job)) (r : Run) (is : r.setup ≡ setup_of job) (first : IsState r.setup r.first.state) (oracle : Oracle)
-    (same : (n : ℕ) → guided r oracle n ≡ undivided r n) (pairs : (n : ℕ) → ends_pair (op_of r (suc n)) ≡ begins_pair r.setup (op_of r n)) (ghosts : HasGhosts r)
-    (lies : (k : ℕ) → k < parts_in r → Lies r.setup.shape (cut_of r) k) (reads : (o : Op) (n : ℕ) → next_op r (guided r oracle n).control ≡ o → ReadsScalar r.setup o)
-    (one_level : (v : VarId) → is_scalar r.setup v ≡ true → (v.0 < length r.setup.vars) × (levels_of r.setup v ≤ 1))
-    (takes_on : (d : ℕ) (vars : List VarId) (path : List ℕ) → MovesOn tells r oracle (Take d vars path)) (joins_on : (i : ℕ) → MovesOn tells r oracle (Join i)) where
-  op_same : (n : ℕ) (o : Op) → next_op r (guided r oracle n).control ≡ o → op_of r n ≡ o
-  op_same n o e = ap (λ g. next_op r g.control) (sym (same n)) ∙ e
+  reduction_of : (i : ℕ) → NamesWell (setup_of job) (Join i) → IsReduction (setup_of job) (item (setup_of job) i)
+  reduction_of i h =
+      let writes = (All-get_or (IsItem job) job.items i no_item h.0.0 w.items).writes in
+      record { kind = h.1; shape = h.0.1; writes = λ k d l. let s = writes k d l in (s.0, omega (arith, s.1)) }
 
-  well : (n : ℕ) (o : Op) → next_op r (guided r oracle n).control ≡ o → NamesWell r.setup o
-  well n o e = subst (NamesWell r.setup) e (subst (λ s. NamesWell s (op_at (code s) (guided r oracle n).control.pc)) (sym is) (op_well job w shapes (guided r oracle n).control.pc))
+pub reads_scalar : (setup : Setup) (o : Op) → NamesWell setup o → ReadsScalar setup o
+reads_scalar setup (Sweep k) h = tt
+reads_scalar setup (Apply k) h = tt
+reads_scalar setup (Give k) h = tt
+reads_scalar setup (Join k) h = tt
+reads_scalar setup (Post d vars) h = tt
+reads_scalar setup (Take d vars path) h = tt
+reads_scalar setup (Test v path skip) h = h
+reads_scalar setup Open h = tt
+reads_scalar setup (Turn v path skip) h = h
+reads_scalar setup (Again back) h = tt
+reads_scalar setup Rotate h = tt
+reads_scalar setup (Due skip) h = tt
+reads_scalar setup (Written skip) h = tt
+reads_scalar setup (Skip skip) h = tt
+reads_scalar setup (Next back) h = tt
+reads_scalar setup (Piece v) h = tt
+reads_scalar setup Save h = tt
+reads_scalar setup Halt h = tt
 
-  cell_at : (i : ℕ) → NamesWell r.setup (Sweep i) → IsCell r.setup (item r.setup i)
-  cell_at i = subst (λ s. NamesWell s (Sweep i) → IsCell s (item s i)) (sym is) (cell_of job w i)
+module _ (r : Run) (run : IsRun r) where
+  pub cell_at : (i : ℕ) (c : Control) → next_op r c ≡ Sweep i → IsCell r.setup (item r.setup i)
+  cell_at i c e = subst (λ s. NamesWell s (Sweep i) → IsCell s (item s i)) (sym run.is) (cell_of run.job run.whole i) (names r run (Sweep i) c.pc e)
 
-  scalar_at : (i : ℕ) → NamesWell r.setup (Apply i) → IsScalarItem r.setup (item r.setup i)
-  scalar_at i = subst (λ s. NamesWell s (Apply i) → IsScalarItem s (item s i)) (sym is) (scalar_of_job job w i)
+  pub scalar_at : (i : ℕ) (c : Control) → next_op r c ≡ Apply i → IsScalarItem r.setup (item r.setup i)
+  scalar_at i c e = subst (λ s. NamesWell s (Apply i) → IsScalarItem s (item s i)) (sym run.is) (scalar_of_job run.job run.whole i) (names r run (Apply i) c.pc e)
 
-  shape : IsShape r.setup.shape
-  shape = subst (λ (s : Setup). IsShape s.shape) (sym is) w.shape
+  pub reduction_at : (i : ℕ) (c : Control) → next_op r c ≡ Join i → IsReduction r.setup (item r.setup i)
+  reduction_at i c e = subst (λ s. NamesWell s (Join i) → IsReduction s (item s i)) (sym run.is) (reduction_of run.job run.whole i) (names r run (Join i) c.pc e)
 
-  quiet : (n : ℕ) (o : Op) → next_op r (guided r oracle n).control ≡ o → begins_pair r.setup o ≡ None → ends_pair (op_of r (suc n)) ≡ None
-  quiet n o e h = pairs n ∙ ap (begins_pair r.setup) (op_same n o e) ∙ h
+-- ---- the run by an oracle
+
+module _ (tells : Type 0) (r : Run) (run : IsRun r) (oracle : Oracle) (is_true : IsTrueOracle tells r oracle) where
+  pub same : tells → (n : ℕ) → guided r oracle n ≡ undivided r n
+  same t = guided_true r (all_folds r run) oracle (is_true t)
+
+  pub op_same : (n : ℕ) (o : Op) → guided_op r oracle n ≡ o → tells → op_of r n ≡ o
+  op_same n o e t = ap (λ g. next_op r g.control) (sym (same t n)) ∙ e
+
+  pub quiet : (n : ℕ) (o : Op) → guided_op r oracle n ≡ o → begins_pair r.setup o ≡ None → tells → ends_pair (op_of r (suc n)) ≡ None
+  quiet n o e h t = next_pairs r run n ∙ ap (begins_pair r.setup) (op_same n o e t) ∙ h
+
+  pub exchanges : Exchanges tells r oracle
+  exchanges = record {
+    few = (shape r run).most;
+    first = first_pair r run;
+    pairs = λ t n l. ap (λ g. ends_pair (next_op r g.control)) (same t (suc n)) ∙ next_pairs r run n ∙ sym (ap (λ g. begins_pair r.setup (next_op r g.control)) (same t n));
+    posts = λ n d vars e. names r run (Post d vars) (guided r oracle n).control.pc e;
+    true_control = λ t n. ap (λ g. g.control) (same t n);
+  }
 
   sweeps_on : (i : ℕ) → MovesOn tells r oracle (Sweep i)
   sweeps_on i k n x y mails part l here a mailed h gives =
-      sweep_moves tells r oracle k n i x (lies k part) shape (cell_at i (well n (Sweep i) here)) a here (λ u. same n) (undivided_states job w shapes r is first n)
-      (ghosts n i (op_same n (Sweep i) here)) (quiet n (Sweep i) here refl) mails y h gives
+      sweep_moves tells r oracle k n i x (lies r run k part) (shape r run) (cell_at r run i (guided r oracle n).control here) a here (λ t. same t n) (true_states r run n)
+      (λ t. has_ghosts r run.met n i (op_same n (Sweep i) here t)) (quiet n (Sweep i) here refl) mails y h gives
 
   applies_on : (i : ℕ) → MovesOn tells r oracle (Apply i)
   applies_on i k n x y mails part l here a mailed h gives =
-      apply_moves tells r oracle k n i x (scalar_at i (well n (Apply i) here)) a here (λ u. same n) (guided_states job w shapes r is first oracle n) (quiet n (Apply i) here refl) mails y h gives
+      apply_moves tells r oracle k n i x (scalar_at r run i (guided r oracle n).control here) a here (λ t. same t n) (way_states r run oracle n) (quiet n (Apply i) here refl) mails y h gives
 
   rotates_on : MovesOn tells r oracle Rotate
   rotates_on k n x y mails part l here a mailed h gives =
-      rotate_moves tells r oracle k n x (lies k part) a here (λ u. same n) (guided_states job w shapes r is first oracle n) one_level (quiet n Rotate here refl) mails y h gives
+      rotate_moves tells r oracle k n x (lies r run k part) a here (λ t. same t n) (way_states r run oracle n) (one_level r run) (quiet n Rotate here refl) mails y h gives
 
   jumps_on : (o : Op) → is_jump o ≡ true → MovesOn tells r oracle o
-  jumps_on o j k n x y mails part l here a mailed h gives = jump_moves tells r oracle k n x o j (reads o n here) a here (λ u. same n) (pairs n) mails y h gives
+  jumps_on o j k n x y mails part l here a mailed h gives =
+      jump_moves tells r oracle k n x o j (reads_scalar r.setup o (names r run o (guided r oracle n).control.pc here)) a here (λ t. same t n) (λ t. next_pairs r run n) mails y h gives
 
-  by_op : (o : Op) → MovesOn tells r oracle o
-  by_op (Sweep i) = sweeps_on i
-  by_op (Apply i) = applies_on i
-  by_op (Give i) = jumps_on (Give i) refl
-  by_op (Join i) = joins_on i
-  by_op (Post d vars) = jumps_on (Post d vars) refl
-  by_op (Take d vars path) = takes_on d vars path
-  by_op (Test v path skip) = jumps_on (Test v path skip) refl
-  by_op Open = jumps_on Open refl
-  by_op (Turn v path skip) = jumps_on (Turn v path skip) refl
-  by_op (Again back) = jumps_on (Again back) refl
-  by_op Rotate = rotates_on
-  by_op (Due skip) = jumps_on (Due skip) refl
-  by_op (Written skip) = jumps_on (Written skip) refl
-  by_op (Skip skip) = jumps_on (Skip skip) refl
-  by_op (Next back) = jumps_on (Next back) refl
-  by_op (Piece v) = jumps_on (Piece v) refl
-  by_op Save = jumps_on Save refl
-  by_op Halt = jumps_on Halt refl
+  -- what is taken of the boards is what the oracle says of the place before
+  pub boards : (k n i : ℕ) (mails : Channel → List (Message tells)) → k < parts_in r → guided_op r oracle n ≡ Join i → ((c : Channel) → receiver c ≡ k → mails c ≡ takes (script tells r oracle) c n)
+      → (a : ℕ) → a < parts_in r → given_number (mails (Board a k)) ≡ given_before oracle n a
+  boards k zero i mails part here mailed a l = ap given_number (mailed (Board a k) refl)
+  boards k (suc m) i mails part here mailed a l =
+      ap given_number (mailed (Board a k) refl) ∙ board_number tells r oracle k m i a part l (pair_there r oracle (run.ways (scalars_at r oracle)) m) here
 
-  -- the field moves of what is owed to the network's theorem
-  pub told_moves : (k n : ℕ) (x : Held) (mails : Channel → List (Message tells)) → k < parts_in r → n < last_of r oracle → Agrees tells r oracle k n x
+  joins_on : (i : ℕ) → MovesOn tells r oracle (Join i)
+  joins_on i k n x y mails part l here a mailed h gives =
+      join_moves tells r oracle k n i x (reduction_at r run i (guided r oracle n).control here) a here (λ t. same t n) (way_states r run oracle n) (quiet n (Join i) here refl)
+      mails (boards k n i mails part here mailed) y h gives
+
+  takes_on : (Near : Nearness) (d : ℕ) (vars : List VarId) (path : List ℕ) → MovesOn tells r oracle (Take d vars path)
+  takes_on Near d vars path k zero x y mails part l here a mailed h gives = absurd (take_behind tells r oracle exchanges d vars path here)
+  takes_on Near d vars path k (suc m) x y mails part l here a mailed h gives =
+      took tells Near r oracle (law r run) exchanges m l k part x y d vars path here mails mailed a h.0 h.1 gives
+
+  by_op : (Near : Nearness) (o : Op) → MovesOn tells r oracle o
+  by_op Near (Sweep i) = sweeps_on i
+  by_op Near (Apply i) = applies_on i
+  by_op Near (Give i) = jumps_on (Give i) refl
+  by_op Near (Join i) = joins_on i
+  by_op Near (Post d vars) = jumps_on (Post d vars) refl
+  by_op Near (Take d vars path) = takes_on Near d vars path
+  by_op Near (Test v path skip) = jumps_on (Test v path skip) refl
+  by_op Near Open = jumps_on Open refl
+  by_op Near (Turn v path skip) = jumps_on (Turn v path skip) refl
+  by_op Near (Again back) = jumps_on (Again back) refl
+  by_op Near Rotate = rotates_on
+  by_op Near (Due skip) = jumps_on (Due skip) refl
+  by_op Near (Written skip) = jumps_on (Written skip) refl
+  by_op Near (Skip skip) = jumps_on (Skip skip) refl
+  by_op Near (Next back) = jumps_on (Next back) refl
+  by_op Near (Piece v) = jumps_on (Piece v) refl
+  by_op Near Save = jumps_on Save refl
+  by_op Near Halt = jumps_on Halt refl
+
+  pub moves_on : (Near : Nearness) (k n : ℕ) (x : Held) (mails : Channel → List (Message tells)) → k < parts_in r → n < last_of r oracle → Agrees tells r oracle k n x
       → ((c : Channel) → receiver c ≡ k → mails c ≡ takes (script tells r oracle) c n) → (y : Held) → Moves tells r k x mails (next_op r x.control) (Some y) → GivesAt r oracle k (suc n) y → Agrees tells r oracle k (suc n) y
-  told_moves k n x mails part l a mailed y h gives =
-      by_op (next_op r (guided r oracle n).control) k n x y mails part l refl a mailed (subst (λ q. Moves tells r k x mails (next_op r q) (Some y)) a.control h) gives
+  moves_on Near k n x mails part l a mailed y h gives =
+      by_op Near (guided_op r oracle n) k n x y mails part l refl a mailed (subst (λ q. Moves tells r k x mails (next_op r q) (Some y)) a.control h) gives

@@ -40,6 +40,5 @@ part_is c w interior k l =
       z = part_axis (is_periodic c.shape 2) c.shape.n.z c.shape.ghost_.z c.z (place_along c k 2) w.z (place_below c k l 2 (omega arith)) interior.z;
     }
 
-pub cut_lies : (c : Parts) (cut : Parts) → IsCut c → IsShape c.shape → HasInterior c.shape → (k : ℕ) → k < part_count c → owned cut k ≡ owned c k → local cut k ≡ local c k → Lies c.shape cut k
-cut_lies c cut w shape interior k l own loc =
-    part_lies c.shape cut k shape (subst (λ b. IsPart c.shape (owned cut k) b) (sym loc) (subst (λ b. IsPart c.shape b (local c k)) (sym own) (part_is c w interior k l)))
+pub cut_lies : (c : Parts) → IsCut c → IsShape c.shape → HasInterior c.shape → (k : ℕ) → k < part_count c → Lies c.shape c k
+cut_lies c w shape interior k l = part_lies c.shape c k shape (part_is c w interior k l)

@@ -6,3 +6,4 @@ pub mod Work
 pub mod Nets
 pub mod Ghosts
 pub mod Operations
+pub mod Beginnings

@@ -1,0 +1,7 @@
+use Rattle.std.proofs.Common.{refl}
+use Rattle.cx_parts.proofs.WholeRun as a1
+use Rattle.cx_parts.proofs.MoveLaws as a2
+use Rattle.cx_parts.proofs.law.nothing.Goals as goal
+
+pub returns : goal.returns
+returns c = λ n. refl
