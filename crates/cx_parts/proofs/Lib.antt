@@ -42,3 +42,4 @@ pub mod ZoneLaws
 pub mod WholeRun
 pub mod GhostLaws
 pub mod StateIn
+pub mod NumberLaws

@@ -1,6 +1,5 @@
 use Rattle.std.proofs.Common.{refl}
-use Rattle.cx_parts.proofs.WholeRun as a1
-use Rattle.cx_parts.proofs.MoveLaws as a2
+use Rattle.cx_parts.proofs.NumberLaws as a1
 use Rattle.cx_parts.proofs.law.nothing.Goals as goal
 
 pub returns : goal.returns
