@@ -43,3 +43,5 @@ pub mod WholeRun
 pub mod GhostLaws
 pub mod StateIn
 pub mod NumberLaws
+pub mod StartLaws
+pub mod HandLaws
