@@ -39,7 +39,7 @@ if_silent true m n e f = e
 if_silent false m n e f = f
 
 -- what hands in no piece of output writes nothing
-op_silent : (r : Run) (o : Op) (c : Control) (state : State) → buffer_of r o ≡ None → output_of (entries_of (notes_at r.setup r.rules o c state)) ≡ []
+pub op_silent : (r : Run) (o : Op) (c : Control) (state : State) → buffer_of r o ≡ None → output_of (entries_of (notes_at r.setup r.rules o c state)) ≡ []
 op_silent r (op.Sweep k) c state e = turn_silent k (item r.setup k) c.iteration state (turn r.setup r.rules (item r.setup k) state c.iteration)
 op_silent r (op.Apply k) c state e = turn_silent k (item r.setup k) c.iteration state (turn r.setup r.rules (item r.setup k) state c.iteration)
 op_silent r (op.Give k) c state e = refl

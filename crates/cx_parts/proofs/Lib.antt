@@ -45,3 +45,5 @@ pub mod StateIn
 pub mod NumberLaws
 pub mod StartLaws
 pub mod HandLaws
+pub mod BookLaws
+pub mod TextLaws

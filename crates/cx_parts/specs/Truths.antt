@@ -15,7 +15,7 @@ use Rattle.cx_model.specs.Turns.{turn, values_of, swept_at}
 use Rattle.cx_model.specs.Runs.{output_of, greatest_output}
 use Rattle.cx_cut.specs.Cuts.{owned, local, IsReached}
 use Rattle.cx_flat.specs.declared.op.Op.{Op}
-use Rattle.cx_flat.specs.declared.op.Op.TheVariants.{Sweep, Apply, Give, Join, Turn}
+use Rattle.cx_flat.specs.declared.op.Op.TheVariants.{Sweep, Apply, Give, Join, Turn, Piece}
 use Rattle.cx_flat.specs.Flats.{Flat, last_turns}
 use Rattle.cx_network.specs.Agreement.{Script}
 use Rattle.cx_parts.specs.Holding.{Held, IsHeld, in_zone}
@@ -54,9 +54,13 @@ abbrev pub length_before : Run → ℕ → ℕ
 length_before r zero = r.so_far
 length_before r (suc n) = length_before r n + length (output_of (entries_of (notes_of r n)))
 
--- whether the work at a place passes the limit
+-- whether the work at a place is a text with which the output would pass its limit
+abbrev pub passes_limit : Run → ℕ → Op → Bool
+passes_limit r n (Piece v) = nat_lt greatest_output (length_before r (suc n))
+passes_limit r n _ = false
+
 abbrev pub is_full : Run → ℕ → Bool
-is_full r n = nat_lt greatest_output (length_before r (suc n))
+is_full r n = passes_limit r n (op_of r n)
 
 abbrev pub ends_at : Run → ℕ → Bool
 ends_at r n = list_any (λ k. is_faulty r k (op_of r n) (undivided r n)) (range_with_len 0 (parts_in r)) || is_full r n

@@ -1,6 +1,5 @@
 use Rattle.std.proofs.Common.{refl}
-use Rattle.cx_parts.proofs.StartLaws as a1
-use Rattle.cx_parts.proofs.HandLaws as a2
+use Rattle.cx_parts.proofs.TextLaws as a1
 use Rattle.cx_parts.proofs.law.nothing.Goals as goal
 
 pub returns : goal.returns
