@@ -11,14 +11,14 @@ use Rattle.cx_parts.specs.Holding.{Held}
 use Rattle.cx_parts.specs.Moves.{Message, Handed, held_values, op_hands, piece_by, state_by}
 use Rattle.cx_parts.specs.Nets.{Nearness, net}
 use Rattle.cx_parts.specs.Runs.{Run, Oracle, cut_of, parts_in, next_op, undivided, guided, synced}
-use Rattle.cx_parts.specs.Truths.{piece_at, Agrees}
+use Rattle.cx_parts.specs.Truths.{piece_at, Stands}
 use Rattle.cx_parts.proofs.MoveLaws.{IsTrueOracle, same}
 use Rattle.cx_parts.proofs.NumberLaws.{OwnsTrue, SameScalars, piece_same, state_same}
 use Rattle.cx_parts.proofs.Places.{guided_op}
 use Rattle.cx_parts.proofs.WholeRun.{IsRun, lies, names, true_states}
 use Rattle.cx_parts.proofs.ZoneLaws.{own_reached}
 
-module _ (tells : Type 0) (r : Run) (run : IsRun r) (oracle : Oracle) (is_true : IsTrueOracle tells r oracle) (k n : ℕ) (x : Held) (part : k < parts_in r) (a : Agrees tells r oracle k n x) where
+module _ (tells : Type 0) (r : Run) (run : IsRun r) (oracle : Oracle) (is_true : IsTrueOracle tells r oracle) (k n : ℕ) (x : Held) (part : k < parts_in r) (a : Stands tells r oracle k n x) where
   -- at its own place a part's owned numbers and its scalars are the undivided run's
   pub owns_true : tells → OwnsTrue r k x.numbers (undivided r n).state
   owns_true t v level p grid there stored inside = a.numbers t v level p grid there stored (own_reached r.setup (cut_of r) k (lies r run k part) (synced r n v level) p inside)

@@ -27,7 +27,7 @@ use Rattle.cx_parts.specs.Holding.{Held, IsHeld, number_at, joined, join_turn}
 use Rattle.cx_parts.specs.Runs.{Run, Oracle, next_op, undivided, op_of, given_before, joined_at, flags_at, done_directions, guided, guided_state, parts_in, cut_of}
 use Rattle.cx_model.specs.Needs.{notes_leave}
 use Rattle.cx_parts.specs.Moves.{Message, Channel, Board, is_there, op_posts, given_number, all_given, Gives, Moves, faces_by}
-use Rattle.cx_parts.specs.Truths.{script, Agrees, GivesAt, is_faulty}
+use Rattle.cx_parts.specs.Truths.{script, Stands, is_faulty}
 use Rattle.cx_parts.specs.Operations.{is_reduction}
 use Rattle.cx_parts.proofs.TruthLaws.{turned_is}
 use Rattle.cx_parts.proofs.Sweeps.{IsStored}
@@ -114,7 +114,7 @@ turn_is Count setup rules x state iteration e = refl
 -- ---- a part's result
 
 module _ (tells : Type 0) (r : Run) (oracle : Oracle) (k n i : ℕ) (x : Held) (is : IsReduction r.setup (item r.setup i))
-         (agrees : Agrees tells r oracle k n x) (there : next_op r (guided r oracle n).control ≡ op.Join i)
+         (agrees : Stands tells r oracle k n x) (there : next_op r (guided r oracle n).control ≡ op.Join i)
          (truth : tells → guided r oracle n ≡ undivided r n) (states : IsState r.setup (guided r oracle n).state)
          (quiet : tells → ends_pair (op_of r (suc n)) ≡ None)
          (mails : Channel → List (Message tells)) (boards : (a : ℕ) → a < parts_in r → given_number (mails (Board a k)) ≡ given_before oracle n a) where
@@ -157,10 +157,10 @@ module _ (tells : Type 0) (r : Run) (oracle : Oracle) (k n i : ℕ) (x : Held) (
       go (Some ns) e None g = absurd g
       go (Some ns) e (Some y) g = faults ∙ ap (λ ns. is_none (scalar_turn it (undivided r n).state ns)) e
 
-  pub join_moves : (y : Held) → Moves tells r k x mails (op.Join i) (Some y) → GivesAt r oracle k (suc n) y → Agrees tells r oracle k (suc n) y
-  join_moves y moved gives = go given refl (moved_by (Some y) moved)
+  pub join_moves : (y : Held) → Moves tells r k x mails (op.Join i) (Some y) → Stands tells r oracle k (suc n) y
+  join_moves y moved = go given refl (moved_by (Some y) moved)
     where
-      go : (o : Option (List ℤ)) → given ≡ o → Given (Some y) o → Agrees tells r oracle k (suc n) y
+      go : (o : Option (List ℤ)) → given ≡ o → Given (Some y) o → Stands tells r oracle k (suc n) y
       go None e g = absurd g
       go (Some ns) e g =
           let scalar = writes_scalars r.setup it is in
@@ -173,7 +173,6 @@ module _ (tells : Type 0) (r : Run) (oracle : Oracle) (k n i : ℕ) (x : Held) (
                 ∙ ap (λ o. scalar_of (state_or (scalar_turn it now o) now) v) (sym e)
                 ∙ sym (ap (λ o. scalar_of (guided_state r oracle n o (guided r oracle n).control.iteration now) v) there);
             sized = subst (IsHeld r.setup (local (cut_of r) k)) (sym g.1) (held_scalars r.setup (local (cut_of r) k) it.writes ns x.numbers agrees.sized scalar);
-            gives = gives;
             numbers = λ t v level p grid below stored reached.
                 ap (λ b. cond b (scalar_of y.numbers v) (number_at (local (cut_of r) k) (level_of y.numbers v level) p)) grid
                 ∙ ap (λ numbers. number_at (local (cut_of r) k) (level_of numbers v level) p) g.1

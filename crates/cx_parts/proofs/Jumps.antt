@@ -16,7 +16,7 @@ use Rattle.cx_parts.specs.Holding.{Held, IsHeld, local_values}
 use Rattle.cx_parts.specs.Runs.{Run, Oracle, next_op, undivided, op_of, flags_at, done_directions, guided, guided_state, cut_of}
 use Rattle.cx_model.specs.Needs.{notes_leave}
 use Rattle.cx_parts.specs.Moves.{Message, Channel, Goes, Gives, Moves}
-use Rattle.cx_parts.specs.Truths.{Agrees, GivesAt, is_faulty}
+use Rattle.cx_parts.specs.Truths.{Stands, is_faulty}
 use Rattle.cx_parts.proofs.SweepMoves.{no_direction}
 use Rattle.cx_flat.specs.declared.op.Op.TheVariants as op
 
@@ -229,15 +229,15 @@ jump_meets tells r k x mails op.Halt j s g c e h m = never r op.Halt x h m
 -- ---- a part's operation
 
 module _ (tells : Type 0) (r : Run) (oracle : Oracle) (k n : ℕ) (x : Held) (o : Op) (jumps : is_jump o ≡ true) (reads : ReadsScalar r.setup o)
-         (agrees : Agrees tells r oracle k n x) (there : next_op r (guided r oracle n).control ≡ o)
+         (agrees : Stands tells r oracle k n x) (there : next_op r (guided r oracle n).control ≡ o)
          (truth : tells → guided r oracle n ≡ undivided r n) (pair : tells → ends_pair (op_of r (suc n)) ≡ begins_pair r.setup (op_of r n)) where
   op_is : tells → op_of r n ≡ o
   op_is t = ap (λ g. next_op r g.control) (sym (truth t)) ∙ there
 
-  pub jump_moves : (mails : Channel → List (Message tells)) (y : Held) → Moves tells r k x mails o (Some y) → GivesAt r oracle k (suc n) y → Agrees tells r oracle k (suc n) y
-  jump_moves mails y moved gives = go (goes_of tells r k x y mails o jumps moved) (leaves r o jumps reads)
+  pub jump_moves : (mails : Channel → List (Message tells)) (y : Held) → Moves tells r k x mails o (Some y) → Stands tells r oracle k (suc n) y
+  jump_moves mails y moved = go (goes_of tells r k x y mails o jumps moved) (leaves r o jumps reads)
     where
-      go : Goes r o x y × (y.numbers ≡ x.numbers) → Leaves r o → Agrees tells r oracle k (suc n) y
+      go : Goes r o x y × (y.numbers ≡ x.numbers) → Leaves r o → Stands tells r oracle k (suc n) y
       go g l =
           let now = guided r oracle n in
           record {
@@ -249,7 +249,6 @@ module _ (tells : Type 0) (r : Run) (oracle : Oracle) (k n : ℕ) (x : Held) (o 
                 ap (λ numbers. scalar_of numbers v) g.1 ∙ agrees.scalars v s
                 ∙ sym (ap (λ q. scalar_of (guided_state r oracle n q now.control.iteration now.state) v) there ∙ ap (λ state. scalar_of state v) (l.guided_stays oracle n now.control.iteration now.state));
             sized = subst (IsHeld r.setup (local (cut_of r) k)) (sym g.1) agrees.sized;
-            gives = gives;
             numbers = λ t v level p grid below stored reached.
                 ap (λ numbers. local_values r.setup (local (cut_of r) k) numbers v level p) g.1
                 ∙ agrees.numbers t v level p grid below stored

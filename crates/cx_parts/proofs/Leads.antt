@@ -8,7 +8,7 @@ use Rattle.cx_flat.specs.Flats.{Control, turn_control, control_after}
 use Rattle.cx_parts.specs.Holding.{Held, part_sweep, part_rule, joined, join_turn}
 use Rattle.cx_parts.specs.Runs.{Run, Oracle, next_op, guided, parts_in, cut_of}
 use Rattle.cx_parts.specs.Moves.{Message, Channel, Goes, Gives, turn_state, all_given, Moves}
-use Rattle.cx_parts.specs.Truths.{Agrees}
+use Rattle.cx_parts.specs.Truths.{Stands}
 use Rattle.cx_parts.proofs.Jumps.{ReadsScalar}
 use Rattle.cx_flat.specs.declared.op.Op.TheVariants as op
 
@@ -57,7 +57,7 @@ same_control r op.Save s f g c h = refl
 same_control r op.Halt s f g c h = refl
 
 pub leads : (tells : Type 0) (r : Run) (oracle : Oracle) (k n : ℕ) (x y : Held) (mails : Channel → List (Message tells)) → ReadsScalar r.setup (next_op r (guided r oracle n).control)
-    → Agrees tells r oracle k n x → Moves tells r k x mails (next_op r x.control) (Some y) → y.control ≡ (guided r oracle (suc n)).control
+    → Stands tells r oracle k n x → Moves tells r k x mails (next_op r x.control) (Some y) → y.control ≡ (guided r oracle (suc n)).control
 leads tells r oracle k n x y mails reads agrees moved =
     let now = guided r oracle n in
     (goes tells r k x y mails (next_op r x.control) moved).control

@@ -1,12 +1,9 @@
-pub mod Assembly
 pub mod CodeLaws
 pub mod CountLaws
 pub mod Counts
-pub mod EndAssembly
 pub mod FirstLaws
 pub mod FlatPlaces
 pub mod FoldLaws
-pub mod Foretelling
 pub mod GuideLaws
 pub mod JoinMoves
 pub mod Jumps
@@ -17,7 +14,6 @@ pub mod ListLaws
 pub mod MoveLaws
 pub mod MutualLaws
 pub mod NetWays
-pub mod OracleSteps
 pub mod PairLaws
 pub mod PartLaws
 pub mod Places
@@ -47,3 +43,5 @@ pub mod StartLaws
 pub mod HandLaws
 pub mod BookLaws
 pub mod TextLaws
+pub mod SilentLaws
+pub mod FitLaws

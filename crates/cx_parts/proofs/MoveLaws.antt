@@ -14,7 +14,7 @@ use Rattle.cx_parts.specs.Holding.{Held}
 use Rattle.cx_parts.specs.Runs.{Run, Oracle, cut_of, parts_in, next_op, undivided, op_of, guided, given_before, last_of}
 use Rattle.cx_parts.specs.Moves.{Message, Channel, Board, receiver, given_number, Moves}
 use Rattle.cx_parts.specs.Operations.{is_reduction, NamesWell}
-use Rattle.cx_parts.specs.Truths.{truth, script, Agrees, GivesAt}
+use Rattle.cx_parts.specs.Truths.{truth, script, Stands}
 use Rattle.cx_parts.specs.Nets.{Nearness}
 use Rattle.cx_parts.proofs.GhostLaws.{has_ghosts}
 use Rattle.cx_parts.proofs.JoinMoves.{IsReduction, board_number, join_moves}
@@ -35,8 +35,8 @@ IsTrueOracle tells r oracle = tells → (k n : ℕ) → k < parts_in r → oracl
 
 abbrev pub MovesOn : (tells : Type 0) → Run → Oracle → Op → Type 0
 MovesOn tells r oracle o =
-    (k n : ℕ) (x y : Held) (mails : Channel → List (Message tells)) → k < parts_in r → n < last_of r oracle → guided_op r oracle n ≡ o → Agrees tells r oracle k n x
-    → ((c : Channel) → receiver c ≡ k → mails c ≡ takes (script tells r oracle) c n) → Moves tells r k x mails o (Some y) → GivesAt r oracle k (suc n) y → Agrees tells r oracle k (suc n) y
+    (k n : ℕ) (x y : Held) (mails : Channel → List (Message tells)) → k < parts_in r → n < last_of r oracle → guided_op r oracle n ≡ o → Stands tells r oracle k n x
+    → ((c : Channel) → receiver c ≡ k → mails c ≡ takes (script tells r oracle) c n) → Moves tells r k x mails o (Some y) → Stands tells r oracle k (suc n) y
 
 -- ---- items of a whole job
 
@@ -106,21 +106,21 @@ module _ (tells : Type 0) (r : Run) (run : IsRun r) (oracle : Oracle) (is_true :
   }
 
   sweeps_on : (i : ℕ) → MovesOn tells r oracle (Sweep i)
-  sweeps_on i k n x y mails part l here a mailed h gives =
+  sweeps_on i k n x y mails part l here a mailed h =
       sweep_moves tells r oracle k n i x (lies r run k part) (shape r run) (cell_at r run i (guided r oracle n).control here) a here (λ t. same t n) (true_states r run n)
-      (λ t. has_ghosts r run.met n i (op_same n (Sweep i) here t)) (quiet n (Sweep i) here refl) mails y h gives
+      (λ t. has_ghosts r run.met n i (op_same n (Sweep i) here t)) (quiet n (Sweep i) here refl) mails y h
 
   applies_on : (i : ℕ) → MovesOn tells r oracle (Apply i)
-  applies_on i k n x y mails part l here a mailed h gives =
-      apply_moves tells r oracle k n i x (scalar_at r run i (guided r oracle n).control here) a here (λ t. same t n) (way_states r run oracle n) (quiet n (Apply i) here refl) mails y h gives
+  applies_on i k n x y mails part l here a mailed h =
+      apply_moves tells r oracle k n i x (scalar_at r run i (guided r oracle n).control here) a here (λ t. same t n) (way_states r run oracle n) (quiet n (Apply i) here refl) mails y h
 
   rotates_on : MovesOn tells r oracle Rotate
-  rotates_on k n x y mails part l here a mailed h gives =
-      rotate_moves tells r oracle k n x (lies r run k part) a here (λ t. same t n) (way_states r run oracle n) (one_level r run) (quiet n Rotate here refl) mails y h gives
+  rotates_on k n x y mails part l here a mailed h =
+      rotate_moves tells r oracle k n x (lies r run k part) a here (λ t. same t n) (way_states r run oracle n) (one_level r run) (quiet n Rotate here refl) mails y h
 
   jumps_on : (o : Op) → is_jump o ≡ true → MovesOn tells r oracle o
-  jumps_on o j k n x y mails part l here a mailed h gives =
-      jump_moves tells r oracle k n x o j (reads_scalar r.setup o (names r run o (guided r oracle n).control.pc here)) a here (λ t. same t n) (λ t. next_pairs r run n) mails y h gives
+  jumps_on o j k n x y mails part l here a mailed h =
+      jump_moves tells r oracle k n x o j (reads_scalar r.setup o (names r run o (guided r oracle n).control.pc here)) a here (λ t. same t n) (λ t. next_pairs r run n) mails y h
 
   -- what is taken of the boards is what the oracle says of the place before
   pub boards : (k n i : ℕ) (mails : Channel → List (Message tells)) → k < parts_in r → guided_op r oracle n ≡ Join i → ((c : Channel) → receiver c ≡ k → mails c ≡ takes (script tells r oracle) c n)
@@ -130,14 +130,14 @@ module _ (tells : Type 0) (r : Run) (run : IsRun r) (oracle : Oracle) (is_true :
       ap given_number (mailed (Board a k) refl) ∙ board_number tells r oracle k m i a part l (pair_there r oracle (run.ways (scalars_at r oracle)) m) here
 
   joins_on : (i : ℕ) → MovesOn tells r oracle (Join i)
-  joins_on i k n x y mails part l here a mailed h gives =
+  joins_on i k n x y mails part l here a mailed h =
       join_moves tells r oracle k n i x (reduction_at r run i (guided r oracle n).control here) a here (λ t. same t n) (way_states r run oracle n) (quiet n (Join i) here refl)
-      mails (boards k n i mails part here mailed) y h gives
+      mails (boards k n i mails part here mailed) y h
 
   takes_on : (Near : Nearness) (d : ℕ) (vars : List VarId) (path : List ℕ) → MovesOn tells r oracle (Take d vars path)
-  takes_on Near d vars path k zero x y mails part l here a mailed h gives = absurd (take_behind tells r oracle exchanges d vars path here)
-  takes_on Near d vars path k (suc m) x y mails part l here a mailed h gives =
-      took tells Near r oracle (law r run) exchanges m l k part x y d vars path here mails mailed a h.0 h.1 gives
+  takes_on Near d vars path k zero x y mails part l here a mailed h = absurd (take_behind tells r oracle exchanges d vars path here)
+  takes_on Near d vars path k (suc m) x y mails part l here a mailed h =
+      took tells Near r oracle (law r run) exchanges m l k part x y d vars path here mails mailed a h.0 h.1
 
   by_op : (Near : Nearness) (o : Op) → MovesOn tells r oracle o
   by_op Near (Sweep i) = sweeps_on i
@@ -159,7 +159,7 @@ module _ (tells : Type 0) (r : Run) (run : IsRun r) (oracle : Oracle) (is_true :
   by_op Near Save = jumps_on Save refl
   by_op Near Halt = jumps_on Halt refl
 
-  pub moves_on : (Near : Nearness) (k n : ℕ) (x : Held) (mails : Channel → List (Message tells)) → k < parts_in r → n < last_of r oracle → Agrees tells r oracle k n x
-      → ((c : Channel) → receiver c ≡ k → mails c ≡ takes (script tells r oracle) c n) → (y : Held) → Moves tells r k x mails (next_op r x.control) (Some y) → GivesAt r oracle k (suc n) y → Agrees tells r oracle k (suc n) y
-  moves_on Near k n x mails part l a mailed y h gives =
-      by_op Near (guided_op r oracle n) k n x y mails part l refl a mailed (subst (λ q. Moves tells r k x mails (next_op r q) (Some y)) a.control h) gives
+  pub moves_on : (Near : Nearness) (k n : ℕ) (x : Held) (mails : Channel → List (Message tells)) → k < parts_in r → n < last_of r oracle → Stands tells r oracle k n x
+      → ((c : Channel) → receiver c ≡ k → mails c ≡ takes (script tells r oracle) c n) → (y : Held) → Moves tells r k x mails (next_op r x.control) (Some y) → Stands tells r oracle k (suc n) y
+  moves_on Near k n x mails part l a mailed y h =
+      by_op Near (guided_op r oracle n) k n x y mails part l refl a mailed (subst (λ q. Moves tells r k x mails (next_op r q) (Some y)) a.control h)

@@ -52,7 +52,7 @@ module _ (tells : Type 0) (Near : Nearness) (r : Run) (oracle : Oracle) (law : N
       let current = exchange.current i h in
       let done : done_directions (op_of r n) v 0 ≡ d = ap (λ o. done_directions o v 0) op_is ∙ (rw (at_among vars i h) refl) in
       numbers_same (face_of (cut_of r) k d side) (held_values r k x.numbers v 0) (values_of r.setup (undivided r n).state v 0) (λ p q.
-      a.numbers t v 0 p grid current.0 current.1 (reached_at r n k d v p done (law.face_reached k d side p part below q))
+      a.stands.numbers t v 0 p grid current.0 current.1 (reached_at r n k d v p done (law.face_reached k d side p part below q))
       ∙ ap (λ f. f p) (sym (grid_value r (undivided r n).state v 0 grid))))
     where
       op_is : op_of r n ≡ Post d vars
@@ -71,7 +71,7 @@ module _ (tells : Type 0) (Near : Nearness) (r : Run) (oracle : Oracle) (law : N
   by_op (Board j k) x part a (Post d vars) e = refl
   by_op (Wire j k) x part a (Give i) e = refl
   by_op (Board j k) x part a (Give i) e =
-      let same : next_op r x.control ≡ Give i = ap (next_op r) a.control ∙ e in
+      let same : next_op r x.control ≡ Give i = ap (next_op r) a.stands.control ∙ e in
       let number : number_by r j (held_values r j x.numbers) i ≡ oracle j n = subst (λ o. gives_by r j x o (oracle j n)) same a.gives in
       ap (λ z. Given z ∷ []) number
   by_op c x part a (Sweep i) e = refl
@@ -95,6 +95,6 @@ module _ (tells : Type 0) (Near : Nearness) (r : Run) (oracle : Oracle) (law : N
   pub posts_are : (c : Channel) (x : Held) → sender c < parts_in r → Agrees tells r oracle (sender c) n x → (net tells Near r oracle).posts c x ≡ (script tells r oracle).mail c n
   posts_are c x part a =
       ap (λ (ms : List (Message tells)). cond (is_there r c) ms []) (
-      ap (λ q. op_posts r (next_op r q) x.count (faces_by r (sender c) (held_values r (sender c) x.numbers)) (number_by r (sender c) (held_values r (sender c) x.numbers)) c) a.control
-      ∙ ap (λ m. op_posts r (guided_op r oracle n) m (faces_by r (sender c) (held_values r (sender c) x.numbers)) (number_by r (sender c) (held_values r (sender c) x.numbers)) c) a.count
+      ap (λ q. op_posts r (next_op r q) x.count (faces_by r (sender c) (held_values r (sender c) x.numbers)) (number_by r (sender c) (held_values r (sender c) x.numbers)) c) a.stands.control
+      ∙ ap (λ m. op_posts r (guided_op r oracle n) m (faces_by r (sender c) (held_values r (sender c) x.numbers)) (number_by r (sender c) (held_values r (sender c) x.numbers)) c) a.stands.count
       ∙ by_op c x part a (guided_op r oracle n) refl)

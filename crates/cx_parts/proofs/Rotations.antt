@@ -19,7 +19,7 @@ use Rattle.cx_parts.specs.Holding.{Held, IsHeld, number_at}
 use Rattle.cx_parts.specs.Runs.{Run, Oracle, next_op, undivided, op_of, flags_at, done_directions, guided, guided_state, cut_of}
 use Rattle.cx_model.specs.Needs.{notes_leave}
 use Rattle.cx_parts.specs.Moves.{Message, Channel, Moves}
-use Rattle.cx_parts.specs.Truths.{Agrees, GivesAt, is_faulty}
+use Rattle.cx_parts.specs.Truths.{Stands, is_faulty}
 use Rattle.cx_parts.proofs.SweepMoves.{no_direction}
 use Rattle.cx_parts.proofs.ZoneLaws.{Lies, own_reached, reached_own}
 use Rattle.cx_flat.specs.declared.op.Op.TheVariants as op
@@ -87,7 +87,7 @@ held_rotates setup box state held =
 -- ---- a part's rotation
 
 module _ (tells : Type 0) (r : Run) (oracle : Oracle) (k n : ℕ) (x : Held) (lies : Lies r.setup.shape (cut_of r) k)
-         (agrees : Agrees tells r oracle k n x) (there : next_op r (guided r oracle n).control ≡ op.Rotate)
+         (agrees : Stands tells r oracle k n x) (there : next_op r (guided r oracle n).control ≡ op.Rotate)
          (truth : tells → guided r oracle n ≡ undivided r n) (states : IsState r.setup (guided r oracle n).state)
          (one_level : (v : VarId) → is_scalar r.setup v ≡ true → (v.0 < length r.setup.vars) × (levels_of r.setup v ≤ 1))
          (quiet : tells → ends_pair (op_of r (suc n)) ≡ None) where
@@ -134,8 +134,8 @@ module _ (tells : Type 0) (r : Run) (oracle : Oracle) (k n : ℕ) (x : Held) (li
           ∙ old_same t v level p grid below stored reached
           ∙ sym (ap (λ ls. at r.setup.shape (get_or ls level []) p) (one_stays (get_or now v.0 []) (omega (arith, b, l))))
 
-  pub rotate_moves : (mails : Channel → List (Message tells)) (y : Held) → Moves tells r k x mails op.Rotate (Some y) → GivesAt r oracle k (suc n) y → Agrees tells r oracle k (suc n) y
-  rotate_moves mails y g gives =
+  pub rotate_moves : (mails : Channel → List (Message tells)) (y : Held) → Moves tells r k x mails op.Rotate (Some y) → Stands tells r oracle k (suc n) y
+  rotate_moves mails y g =
       record {
         count = g.0.count ∙ ap suc agrees.count;
         control = g.0.control ∙ ap (λ c. control_after r.setup op.Rotate (scalar_of (guided r oracle n).state) c) agrees.control ∙ sym (ap (λ o. control_after r.setup o (scalar_of (guided r oracle n).state) (guided r oracle n).control) there);
@@ -145,7 +145,6 @@ module _ (tells : Type 0) (r : Run) (oracle : Oracle) (k n : ℕ) (x : Held) (li
             ∙ agrees.scalars v s
             ∙ sym (ap (λ o. scalar_of (guided_state r oracle n o (guided r oracle n).control.iteration (guided r oracle n).state) v) there ∙ scalar_stays r.setup (guided r oracle n).state v states.vars states.levels s one_level);
         sized = subst (IsHeld r.setup (local (cut_of r) k)) (sym g.1) (held_rotates r.setup (local (cut_of r) k) x.numbers agrees.sized);
-        gives = gives;
         numbers = λ t v level p grid below stored reached.
             ap (λ b. cond b (scalar_of y.numbers v) (number_at (local (cut_of r) k) (level_of y.numbers v level) p)) grid
             ∙ ap (λ numbers. number_at (local (cut_of r) k) (level_of numbers v level) p) g.1

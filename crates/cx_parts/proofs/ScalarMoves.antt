@@ -26,7 +26,7 @@ use Rattle.cx_parts.specs.Holding.{Held, IsHeld, number_at, local_values}
 use Rattle.cx_parts.specs.Runs.{Run, Oracle, next_op, undivided, op_of, flags_at, done_directions, guided, guided_state, cut_of}
 use Rattle.cx_model.specs.Needs.{notes_leave}
 use Rattle.cx_parts.specs.Moves.{Message, Channel, Gives, Moves}
-use Rattle.cx_parts.specs.Truths.{Agrees, GivesAt, is_faulty}
+use Rattle.cx_parts.specs.Truths.{Stands, is_faulty}
 use Rattle.cx_parts.proofs.LevelsLaws.{held_with}
 use Rattle.cx_parts.proofs.SeenLaws.{ShowsSame, numbers_at_same}
 use Rattle.cx_parts.proofs.Sweeps.{IsStored, all_at}
@@ -165,7 +165,7 @@ level_stays setup x state (Some ns) v level e h = ap (λ ls. get_or ls level [])
 -- ---- a part's turn
 
 module _ (tells : Type 0) (r : Run) (oracle : Oracle) (k n i : ℕ) (x : Held) (is : IsScalarItem r.setup (item r.setup i))
-         (agrees : Agrees tells r oracle k n x) (there : next_op r (guided r oracle n).control ≡ op.Apply i)
+         (agrees : Stands tells r oracle k n x) (there : next_op r (guided r oracle n).control ≡ op.Apply i)
          (truth : tells → guided r oracle n ≡ undivided r n) (states : IsState r.setup (guided r oracle n).state)
          (quiet : tells → ends_pair (op_of r (suc n)) ≡ None) where
   abbrev it : Item
@@ -220,10 +220,10 @@ module _ (tells : Type 0) (r : Run) (oracle : Oracle) (k n i : ℕ) (x : Held) (
       go (Some ns) e None g = absurd g
       go (Some ns) e (Some y) g = faults ∙ ap (λ ns. is_none (scalar_turn it now ns)) e
 
-  pub apply_moves : (mails : Channel → List (Message tells)) (y : Held) → Moves tells r k x mails (op.Apply i) (Some y) → GivesAt r oracle k (suc n) y → Agrees tells r oracle k (suc n) y
-  apply_moves mails y moved gives = go given refl (subst (Given (Some y)) given_same moved)
+  pub apply_moves : (mails : Channel → List (Message tells)) (y : Held) → Moves tells r k x mails (op.Apply i) (Some y) → Stands tells r oracle k (suc n) y
+  apply_moves mails y moved = go given refl (subst (Given (Some y)) given_same moved)
     where
-      go : (o : Option (List ℤ)) → given ≡ o → Given (Some y) o → Agrees tells r oracle k (suc n) y
+      go : (o : Option (List ℤ)) → given ≡ o → Given (Some y) o → Stands tells r oracle k (suc n) y
       go None e g = absurd g
       go (Some ns) e g =
           record {
@@ -235,7 +235,6 @@ module _ (tells : Type 0) (r : Run) (oracle : Oracle) (k n i : ℕ) (x : Held) (
                 ∙ ap (λ o. scalar_of (state_or (scalar_turn it now o) now) v) (sym e)
                 ∙ sym (ap (λ state. scalar_of state v) guided_after);
             sized = subst (IsHeld r.setup (local (cut_of r) k)) (sym g.1) (held_scalars r.setup (local (cut_of r) k) it.writes ns x.numbers agrees.sized (touches r.setup it is).0);
-            gives = gives;
             numbers = λ t v level p grid below stored reached.
                 ap (λ b. cond b (scalar_of y.numbers v) (number_at (local (cut_of r) k) (level_of y.numbers v level) p)) grid
                 ∙ ap (λ numbers. number_at (local (cut_of r) k) (level_of numbers v level) p) g.1

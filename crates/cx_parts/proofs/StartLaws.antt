@@ -100,10 +100,12 @@ module _ (tells : Type 0) (Near : Nearness) (r : Run) (run : IsRun r) (oracle : 
 
   pub starts_on : oracle k 0 ≡ truth r k 0 → Agrees tells r oracle k 0 ((net tells Near r oracle).start k)
   starts_on e = record {
-    count = refl;
-    control = refl;
-    scalars = λ v s. ap (λ ls. get_or (get_or ls 0 []) 0 (pos 0)) (scalar_level v s);
-    sized = begun_held;
+    stands = record {
+      count = refl;
+      control = refl;
+      scalars = λ v s. ap (λ ls. get_or (get_or ls 0 []) 0 (pos 0)) (scalar_level v s);
+      sized = begun_held;
+      numbers = λ t v level p grid l m reached. begun_true v level p grid l m reached.inside;
+    };
     gives = begun_gives e;
-    numbers = λ t v level p grid l m reached. begun_true v level p grid l m reached.inside;
   }

@@ -24,7 +24,7 @@ use Rattle.cx_parts.specs.Runs.{Run, Oracle, next_op, undivided, op_of, flags_at
 use Rattle.cx_model.specs.Needs.{notes_leave}
 use Rattle.cx_parts.specs.Ghosts.{GhostsAt}
 use Rattle.cx_parts.specs.Moves.{Message, Channel, Gives, Moves}
-use Rattle.cx_parts.specs.Truths.{Agrees, GivesAt, is_faulty}
+use Rattle.cx_parts.specs.Truths.{Stands, is_faulty}
 use Rattle.cx_parts.proofs.LevelsLaws.{scalars_kept, held_after}
 use Rattle.cx_parts.proofs.ZoneLaws.{Lies}
 use Rattle.cx_parts.proofs.Sweeps.{IsCell, cell_grid, faults_same, passes, sweeps_agree}
@@ -63,7 +63,7 @@ turn_leaves setup k iteration before None flags = refl
 turn_leaves setup k iteration before (Some state) flags = refl
 
 module _ (tells : Type 0) (r : Run) (oracle : Oracle) (k n i : ℕ) (x : Held) (lies : Lies r.setup.shape (cut_of r) k) (shape : IsShape r.setup.shape) (cell : IsCell r.setup (item r.setup i))
-         (agrees : Agrees tells r oracle k n x) (there : next_op r (guided r oracle n).control ≡ op.Sweep i)
+         (agrees : Stands tells r oracle k n x) (there : next_op r (guided r oracle n).control ≡ op.Sweep i)
          (truth : tells → guided r oracle n ≡ undivided r n) (states : IsState r.setup (undivided r n).state) (ghosts : tells → GhostsAt r.setup (item r.setup i) (flags_at r n))
          (quiet : tells → ends_pair (op_of r (suc n)) ≡ None) where
   abbrev it : Item
@@ -131,10 +131,10 @@ module _ (tells : Type 0) (r : Run) (oracle : Oracle) (k n i : ℕ) (x : Held) (
   cell_turned Count e state iteration = absurd cc
 
   -- what agrees agrees behind the sweep
-  pub sweep_moves : (mails : Channel → List (Message tells)) (y : Held) → Moves tells r k x mails (op.Sweep i) (Some y) → GivesAt r oracle k (suc n) y → Agrees tells r oracle k (suc n) y
-  sweep_moves mails y moved gives = go passes_here refl moved
+  pub sweep_moves : (mails : Channel → List (Message tells)) (y : Held) → Moves tells r k x mails (op.Sweep i) (Some y) → Stands tells r oracle k (suc n) y
+  sweep_moves mails y moved = go passes_here refl moved
     where
-      go : (b : Bool) → passes_here ≡ b → Gives r (op.Sweep i) x (cond b (Some new_numbers) None) (Some y) → Agrees tells r oracle k (suc n) y
+      go : (b : Bool) → passes_here ≡ b → Gives r (op.Sweep i) x (cond b (Some new_numbers) None) (Some y) → Stands tells r oracle k (suc n) y
       go false e g = absurd g
       go true e g =
           record {
@@ -145,7 +145,6 @@ module _ (tells : Type 0) (r : Run) (oracle : Oracle) (k n i : ℕ) (x : Held) (
                 ∙ scalars_kept r.setup (region_of it.writes) (local (cut_of r) k) (local_values r.setup (local (cut_of r) k) x.numbers) zone (swept_at r.setup r.rules it (local_values r.setup (local (cut_of r) k) x.numbers) x.control.iteration) 0 it.writes x.numbers v s (cell_grid r.setup it cell)
                 ∙ agrees.scalars v s ∙ sym (guided_scalar v s);
             sized = subst (IsHeld r.setup (local (cut_of r) k)) (sym g.1) (held_after r.setup (region_of it.writes) (local (cut_of r) k) (local_values r.setup (local (cut_of r) k) x.numbers) zone (swept_at r.setup r.rules it (local_values r.setup (local (cut_of r) k) x.numbers) x.control.iteration) 0 it.writes x.numbers agrees.sized (cell_grid r.setup it cell));
-            gives = gives;
             numbers = λ t v level p grid below stored reached.
                 ap (λ b. cond b (scalar_of y.numbers v) (number_at (local (cut_of r) k) (level_of y.numbers v level) p)) grid
                 ∙ ap (λ numbers. number_at (local (cut_of r) k) (level_of numbers v level) p) g.1

@@ -28,7 +28,7 @@ use Rattle.cx_parts.specs.Moves.{is_at, Message, Sent, Channel, Wire, receiver, 
 use Rattle.cx_parts.specs.Holding.{Held, IsHeld, local_values}
 use Rattle.cx_parts.specs.Runs.{Run, Oracle, undivided, op_of, flags_at, synced, done_directions, guided, guided_state, last_of, parts_in, cut_of}
 use Rattle.cx_model.specs.Needs.{notes_leave}
-use Rattle.cx_parts.specs.Truths.{script, Agrees, GivesAt}
+use Rattle.cx_parts.specs.Truths.{script, Stands}
 use Rattle.cx_parts.specs.Nets.{Nearness}
 use Rattle.cx_cut.specs.Exchange.{other}
 use Rattle.cx_parts.proofs.Places.{guided_op, Exchanges}
@@ -82,7 +82,7 @@ held_same setup near old new e h = record {
 module _ (tells : Type 0) (Near : Nearness) (r : Run) (oracle : Oracle) (law : Neighbours (cut_of r)) (ex : Exchanges tells r oracle) (m : ℕ) (l : suc m < last_of r oracle)
     (k : ℕ) (part : k < parts_in r) (x y : Held) (d : ℕ) (vars : List VarId) (path : List ℕ) (here : guided_op r oracle (suc m) ≡ Take d vars path)
     (mails : Channel → List (Message tells)) (mailed : (c : Channel) → receiver c ≡ k → mails c ≡ (script tells r oracle).mail c m)
-    (a : Agrees tells r oracle k (suc m) x) (goes : Goes r (Take d vars path) x y) (filled : Filled tells r k d vars mails x.numbers y.numbers) where
+    (a : Stands tells r oracle k (suc m) x) (goes : Goes r (Take d vars path) x y) (filled : Filled tells r k d vars mails x.numbers y.numbers) where
   -- the operation before it
   posted_before : tells → guided_op r oracle m ≡ Post d vars
   posted_before t = begins_exchange r.setup (guided_op r oracle m) d vars (sym (ex.pairs t m (omega (arith, l))) ∙ ap ends_pair here)
@@ -253,14 +253,13 @@ module _ (tells : Type 0) (Near : Nearness) (r : Run) (oracle : Oracle) (law : N
         go false e = other_true v level e p grid there few reached
 
   -- the field moves of Fits, at a Take
-  pub took : GivesAt r oracle k (suc (suc m)) y → Agrees tells r oracle k (suc (suc m)) y
-  took gives = record {
+  pub took : Stands tells r oracle k (suc (suc m)) y
+  took = record {
     count = goes.count ∙ ap (λ (n : ℕ). suc n) a.count;
     control = goes.control ∙ ap next a.control ∙ sym (ap (λ o. control_after r.setup o (scalar_of (guided r oracle (suc m)).state) (guided r oracle (suc m)).control) here);
     scalars = λ v h. filled.scalars v h ∙ a.scalars v h
         ∙ ap (λ s. scalar_of s v) (sym (ap (λ o. guided_state r oracle (suc m) o (guided r oracle (suc m)).control.iteration (guided r oracle (suc m)).state) here));
     sized = held_same r.setup (local (cut_of r) k) x.numbers y.numbers filled.sized a.sized;
-    gives = gives;
     numbers = numbers_true;
   }
 

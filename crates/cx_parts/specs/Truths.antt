@@ -99,15 +99,19 @@ GivesAt r oracle k n x = gives_by r k x (next_op r x.control) (oracle k n)
 
 -- part k at place n: its control and its scalars are those of all parts, whatever wires tell; and where they tell, each owned number is the
 -- undivided run's, and each ghost point's in the directions that are done
-pub record Agrees (tells : Type 0) (r : Run) (oracle : Oracle) (k n : ℕ) (x : Held) : Type 0 where
+pub record Stands (tells : Type 0) (r : Run) (oracle : Oracle) (k n : ℕ) (x : Held) : Type 0 where
   pub count : x.count ≡ n
   pub control : x.control ≡ (guided r oracle n).control
   pub scalars : (v : VarId) → is_scalar r.setup v ≡ true → scalar_of x.numbers v ≡ scalar_of (guided r oracle n).state v
   pub sized : IsHeld r.setup (local (cut_of r) k) x.numbers
-  pub gives : GivesAt r oracle k n x
   pub numbers : tells → (v : VarId) (level : ℕ) (p : Point) → is_scalar r.setup v ≡ false → v.0 < length r.setup.vars → level < levels_of r.setup v
       → IsReached (cut_of r) k (synced r n v level) p
       → held_values r k x.numbers v level p ≡ at r.setup.shape (level_of (undivided r n).state v level) p
+
+-- and what it is to give for a reduction there is what the oracle says
+pub record Agrees (tells : Type 0) (r : Run) (oracle : Oracle) (k n : ℕ) (x : Held) : Type 0 where
+  pub stands : Stands tells r oracle k n x
+  pub gives : GivesAt r oracle k n x
 
 -- the writer's book is the length of the output before a place
 abbrev pub Books : (tells : Type 0) → Run → ℕ → ℕ → Type 0
