@@ -45,3 +45,9 @@ pub mod BookLaws
 pub mod TextLaws
 pub mod SilentLaws
 pub mod FitLaws
+pub mod Foretelling
+pub mod EndAssembly
+pub mod FaultLaws
+pub mod ToldLaws
+pub mod OracleSteps
+pub mod StepLaws

@@ -20,7 +20,7 @@ module _ (r : Run) (one another : Oracle) (same : (k n : ℕ) → k < parts_in r
   given_same zero k l = refl
   given_same (suc n) k l = same k n l
 
-  joined_same : (k n : ℕ) → joined_at r one k n ≡ joined_at r another k n
+  pub joined_same : (k n : ℕ) → joined_at r one k n ≡ joined_at r another k n
   joined_same k n = ap (joined (item r.setup k).kind) (map_same (parts_in r) (given_before another n) (given_before one n) (given_same n))
 
   state_same : (n : ℕ) (o : Op) (iteration : ℕ) (state : State) → guided_state r one n o iteration state ≡ guided_state r another n o iteration state

@@ -7,3 +7,4 @@ pub mod Nets
 pub mod Ghosts
 pub mod Operations
 pub mod Beginnings
+pub mod Laws

@@ -1,5 +1,5 @@
 use Rattle.std.proofs.Common.{refl}
-use Rattle.cx_parts.proofs.FitLaws as a1
+use Rattle.cx_parts.proofs.FaultLaws as a1
 use Rattle.cx_parts.proofs.law.nothing.Goals as goal
 
 pub returns : goal.returns
