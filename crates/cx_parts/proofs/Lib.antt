@@ -51,3 +51,4 @@ pub mod FaultLaws
 pub mod ToldLaws
 pub mod OracleSteps
 pub mod StepLaws
+pub mod JobLaws

@@ -1,11 +1,63 @@
 //! Laws of a run in parts.
-ghost use Rattle.std.specs.Prelude.{ℕ, ◌≡◌};
-ghost use Rattle.cx_parts.specs.Nets.{net};
-ghost use Rattle.cx_parts.specs.Ghosts.{HasGhosts};
-ghost use Rattle.cx_parts.specs.Work.{work};
-ghost use Rattle.cx_parts.specs.Beginnings.{run_of};
+ghost use Rattle.std.specs.Prelude.{Bool, IsTrue, List};
+ghost use Rattle.cx_grid.specs.Grid.{HasInterior};
+ghost use Rattle.cx_plan.specs.Paths.{Sound};
+ghost use Rattle.cx_plan.specs.Regions.{HasShapes};
+ghost use Rattle.cx_plan.specs.Setups.{setup_of};
+ghost use Rattle.cx_plan.specs.Whole.{IsWhole};
+ghost use Rattle.cx_rule.specs.Routine.{Rule};
+ghost use Rattle.cx_cut.specs.Cuts.{IsCut};
+ghost use Rattle.cx_cut.specs.Faults.{parts_of};
+ghost use Rattle.cx_parts.specs.Beginnings.{Beginning, IsBeginning, run_of};
+ghost use Rattle.cx_parts.specs.Laws.{EachOrder, StepsKeep};
+ghost use Rattle.cx_parts.specs.Nets.{within_lead, in_lockstep};
 
-/// Nothing yet.
-pub fn nothing()
-    ensures { (n : ℕ) → n ≡ n }
-{}
+use cx_flat::{all_ways, flat_is_run, operation_needs_met};
+use cx_plan::Job;
+
+/// In every order of events each part agrees with the undivided run, where wires carry what they are given.
+///
+/// The job is whole, its items have their shapes, its grid has interior points, the region check accepts it, and its widths cut
+/// its grid. The run begins at its start, or in any whole state of the checkpoint place of an iteration; it goes by any rules,
+/// and by the job's lead or in lockstep. Then in each state that any order of events reaches, each part agrees with the
+/// undivided run at its own place, each queue holds exactly what was posted and not yet taken, some event can happen until the
+/// end is reported, each event lessens what is left, and the end that is reported is the undivided run's. It does nothing that
+/// shows; its clauses are the law.
+pub fn each_order_agrees(job: &Job)
+    requires whole { IsWhole job.now }
+    requires shapes { HasShapes (setup_of job.now) }
+    requires interior { HasInterior job.now.shape }
+    requires sound { Sound (setup_of job.now) }
+    requires cut { IsCut (parts_of job.now.shape job.now.cut) }
+    ensures by_lead {
+        (rules : List Rule) (b : Beginning) → IsBeginning (setup_of job.now) b
+        → EachOrder within_lead (run_of job.now rules b)
+    }
+    ensures in_step {
+        (rules : List Rule) (b : Beginning) → IsBeginning (setup_of job.now) b
+        → EachOrder in_lockstep (run_of job.now rules b)
+    }
+{
+    flat_is_run(job);
+    all_ways(job);
+    operation_needs_met(job);
+}
+
+/// The same for wires that tell what they carry and for those that don't, event by event: the run begins in a state in which
+/// each part agrees at its own place by what the parts give for reductions, and each event that can happen leads to such a
+/// state. Where wires tell, that is the undivided run, and so are its ends. It does nothing that shows; its clause is the law.
+pub fn each_event_keeps(job: &Job)
+    requires whole { IsWhole job.now }
+    requires shapes { HasShapes (setup_of job.now) }
+    requires interior { HasInterior job.now.shape }
+    requires sound { Sound (setup_of job.now) }
+    requires cut { IsCut (parts_of job.now.shape job.now.cut) }
+    ensures {
+        (told : Bool) (rules : List Rule) (b : Beginning) → IsBeginning (setup_of job.now) b
+        → StepsKeep (IsTrue told) (run_of job.now rules b)
+    }
+{
+    flat_is_run(job);
+    all_ways(job);
+    operation_needs_met(job);
+}

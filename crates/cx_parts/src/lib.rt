@@ -1,3 +1,7 @@
-//! The laws of a run in parts: what a part holds, what each operation of it posts, takes, hands in and leaves.
+//! The laws of a run in parts: what a part holds, what each operation of it takes, posts, hands in and leaves, and that in
+//! every order of events each part agrees with the undivided run. It has no code; its definitions are what the core does.
 #![tactic(auto)]
+
 mod law;
+
+pub use law::{each_event_keeps, each_order_agrees};
