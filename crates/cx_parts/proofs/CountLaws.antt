@@ -1,12 +1,8 @@
 -- As many numbers are taken as are sent, and they have the same sum.
-use Rattle.std.proofs.Common.{◌≡◌, ℕ, zero, suc, ◌+◌, ◌*◌, ◌<◌, ◌≤◌, Bool, true, false, List, [], ◌∷◌, length, arith, refl, sym, ap, ◌∙◌, ℤ, pos, ◌+ℤ◌, ◌-ℤ◌, Option, Some, None, cond, eqb, ◌⊎◌, inl, inr}
+use Rattle.std.proofs.Common.{◌≡◌, ℕ, zero, suc, ◌+◌, ◌*◌, ◌<◌, ◌≤◌, Bool, true, false, List, [], ◌∷◌, length, arith, refl, sym, ap, ◌∙◌, Option, Some, None, cond, eqb, ◌⊎◌, inl, inr}
 use Rattle.std.specs.Prelude.{is_some}
-use Rattle.std.proofs.lemmas.Int.{ints}
 use Rattle.std.proofs.lemmas.Bool.{cases_eq, ne_eqb, eq-eqb}
-use Rattle.cx_grid.specs.declared.shapes.Shape.{Shape}
-use Rattle.cx_grid.specs.Boxes.{along, point_count, numbers_in}
-use Rattle.cx_cut.proofs.Boxed.{along-point_by, IsMoved, count_moved}
-use Rattle.cx_cut.proofs.Rounds.{slab_moved}
+use Rattle.cx_grid.specs.Boxes.{point_count, numbers_in}
 use Rattle.cx_plan.specs.declared.variable.VarId.{VarId}
 use Rattle.cx_model.specs.States.{State}
 use Rattle.cx_model.specs.Turns.{values_of}
@@ -14,7 +10,7 @@ use Rattle.cx_model.specs.Traces.{Exchanged}
 use Rattle.cx_flat.specs.declared.op.Op.TheVariants.{Take}
 use Rattle.cx_grid.specs.declared.shapes.Side.{Side}
 use Rattle.cx_grid.specs.declared.shapes.Side.TheVariants.{Low, High}
-use Rattle.cx_cut.specs.Cuts.{Parts, slab_end, slab, face_of, halo_of, owned, local}
+use Rattle.cx_cut.specs.Cuts.{face_of, halo_of}
 use Rattle.cx_cut.specs.Neighbours.{partner, Neighbours}
 use Rattle.cx_parts.specs.Moves.{is_at}
 use Rattle.cx_parts.specs.Runs.{Run, parts_in, cut_of}

@@ -1,5 +1,5 @@
 -- Where wires tell, a part meets an end exactly where the undivided run says so, and the run's end is the first of these.
-use Rattle.std.proofs.Common.{◌≡◌, ℕ, zero, suc, ◌+◌, ◌<◌, ◌⊎◌, inl, inr, Bool, true, false, List, Option, Some, None, arith, refl, sym, ap, ◌∙◌, subst, MatchOption}
+use Rattle.std.proofs.Common.{◌≡◌, ℕ, ◌<◌, true, false, List, Option, Some, None, refl, sym, ap, ◌∙◌, subst, MatchOption}
 use Rattle.cx_plan.specs.declared.variable.VarId.{VarId}
 use Rattle.cx_plan.specs.Lookups.{item}
 use Rattle.cx_rule.specs.States.{rotate}
@@ -11,10 +11,10 @@ use Rattle.cx_network.specs.Agreement.{Ends, takes}
 use Rattle.cx_parts.specs.Holding.{Held}
 use Rattle.cx_parts.specs.Moves.{Message, Channel, receiver, buffer_of, Gives, Moves}
 use Rattle.cx_parts.specs.Nets.{Nearness, net}
-use Rattle.cx_parts.specs.Runs.{Run, Oracle, cut_of, parts_in, next_op, undivided, op_of, guided, last_of, joined_at}
-use Rattle.cx_parts.specs.Truths.{truth, script, piece_at, is_faulty, is_full, passes_limit, Stands, Agrees, Books}
+use Rattle.cx_parts.specs.Runs.{Run, Oracle, parts_in, next_op, undivided, op_of, guided, joined_at}
+use Rattle.cx_parts.specs.Truths.{truth, script, is_faulty, is_full, passes_limit, Stands, Agrees, Books}
 use Rattle.cx_parts.proofs.BookLaws.{burst_by}
-use Rattle.cx_parts.proofs.EndAssembly.{OwedEnds, all_ends}
+use Rattle.cx_parts.proofs.EndAssembly.{all_ends}
 use Rattle.cx_parts.proofs.FitLaws.{some_part}
 use Rattle.cx_parts.proofs.GhostLaws.{has_ghosts}
 use Rattle.cx_parts.proofs.JoinMoves.{join_faults}

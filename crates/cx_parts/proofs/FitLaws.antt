@@ -1,20 +1,19 @@
 -- What the theorem of networks asks of one operation of one part, of a whole job's run in parts.
-use Rattle.std.proofs.Common.{◌≡◌, ℕ, zero, suc, ◌+◌, ◌<◌, ◌≤◌, ℤ, pos, ◌≤ℤ◌, true, List, [], ◌∷◌, length, Option, None, Some, arith, refl, sym, ap, ◌∙◌}
+use Rattle.std.proofs.Common.{◌≡◌, ℕ, suc, ◌<◌, ◌≤◌, ℤ, pos, ◌≤ℤ◌, true, List, [], ◌∷◌, length, Option, None, Some, arith, refl, sym, ap, ◌∙◌}
 use Rattle.std.specs.Prelude.{is_some}
 use Rattle.std.proofs.lemmas.Int.{ints}
 use Rattle.cx_model.specs.Runs.{output_of}
-use Rattle.cx_cut.specs.Axis.{sum_of, IsAxisCut}
-use Rattle.cx_cut.specs.Cuts.{Parts, widths, parts_along, part_count}
+use Rattle.cx_cut.specs.Axis.{IsAxisCut}
+use Rattle.cx_cut.specs.Cuts.{parts_along, part_count}
 use Rattle.cx_cut.proofs.Boxed.{by_direction, part_below}
 use Rattle.cx_flat.specs.Flats.{Control}
 use Rattle.cx_flat.specs.Ways.{WayEnds}
 use Rattle.cx_network.specs.Machine.{IsWork}
-use Rattle.cx_network.specs.Agreement.{Fits, takes}
-use Rattle.cx_parts.specs.Holding.{Held}
-use Rattle.cx_parts.specs.Moves.{Message, Channel, receiver, buffer_of, Moves}
+use Rattle.cx_network.specs.Agreement.{Fits}
+use Rattle.cx_parts.specs.Moves.{buffer_of}
 use Rattle.cx_parts.specs.Nets.{Nearness, net, within_lead, in_lockstep}
-use Rattle.cx_parts.specs.Runs.{Run, Oracle, cut_of, parts_in, next_op, undivided, op_of, notes_of, guided, last_of}
-use Rattle.cx_parts.specs.Truths.{truth, script, piece_at, entries_of, Agrees, GivesAt, Books}
+use Rattle.cx_parts.specs.Runs.{Run, Oracle, cut_of, parts_in, next_op, undivided, op_of, notes_of, guided}
+use Rattle.cx_parts.specs.Truths.{truth, script, entries_of, Agrees, GivesAt, Books}
 use Rattle.cx_parts.proofs.BookLaws.{kept_by}
 use Rattle.cx_parts.proofs.HandLaws.{hands_on}
 use Rattle.cx_parts.proofs.MoveLaws.{IsTrueOracle, same, exchanges, moves_on}

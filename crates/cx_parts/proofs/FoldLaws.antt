@@ -21,7 +21,7 @@ use Rattle.cx_model.specs.Turns.{values_of, reduced, first_read}
 use Rattle.cx_flat.specs.declared.op.Op.{Op}
 use Rattle.cx_flat.specs.declared.op.Op.TheVariants.{Sweep, Apply, Give, Join, Post, Take, Test, Open, Turn, Again, Rotate, Due, Written, Skip, Next, Piece, Save, Halt}
 use Rattle.cx_flat.specs.Flats.{state_after, Pair, Reduction, Onward, begins_pair, ends_pair}
-use Rattle.cx_cut.specs.Cuts.{Parts, part_count, IsCut, owned}
+use Rattle.cx_cut.specs.Cuts.{IsCut, owned}
 use Rattle.cx_parts.specs.Holding.{joined, first_numbers}
 use Rattle.cx_parts.specs.Runs.{Run, undivided, op_of, joined_at, given_before, parts_in, cut_of}
 use Rattle.cx_parts.specs.Truths.{truth, given_by}

@@ -1,24 +1,21 @@
 -- Each level that a sweep reads beyond its owned points has its ghost points, by the needs that the region check found met.
-use Rattle.std.proofs.Common.{ℕ, suc, ◌<◌, ◌≡◌, ◌⊎◌, inl, inr, Bool, true, false, ◌||◌, List, [], ◌∷◌, map, length, get_or, Option, Some, None, arith, refl, sym, ap, ◌∙◌, subst}
+use Rattle.std.proofs.Common.{ℕ, suc, ◌≡◌, Bool, true, false, ◌||◌, List, [], ◌∷◌, map, get_or, Option, Some, None, arith, refl, subst}
 use Rattle.std.specs.Prelude.{All}
 use Rattle.std.specs.List.{list_any}
 use Rattle.cx_plan.specs.declared.flag.Flag.{Flag}
 use Rattle.cx_plan.specs.declared.flag.Flag.TheVariants.{I, B, G, S}
 use Rattle.cx_plan.specs.declared.item.Touch.{Touch}
-use Rattle.cx_plan.specs.declared.item.Item.{Item}
 use Rattle.cx_plan.specs.Setups.{Setup}
 use Rattle.cx_plan.specs.Lookups.{item}
 use Rattle.cx_plan.specs.Regions.{Flags, Need, is_G, is_met, read_needs, flags_or_none, needs_of_read}
 use Rattle.cx_rule.specs.States.{State}
-use Rattle.cx_model.specs.Agreement.{Met}
 use Rattle.cx_model.specs.Needs.{NotesMet}
 use Rattle.cx_model.specs.Courses.{turn_note}
 use Rattle.cx_model.specs.Turns.{turn}
 use Rattle.cx_model.proofs.ListLaws.{all-of-one}
-use Rattle.cx_flat.specs.declared.op.Op.TheVariants.{Sweep}
 use Rattle.cx_flat.specs.Flats.{notes_at}
 use Rattle.cx_parts.specs.Ghosts.{GhostsAt, HasGhosts}
-use Rattle.cx_parts.specs.Runs.{Run, undivided, op_of, notes_of, flags_at}
+use Rattle.cx_parts.specs.Runs.{Run, undivided, notes_of, flags_at}
 
 module _ (setup : Setup) (flags : Flags) (place : List ℕ) (r : Touch) where
   -- the flag of ghost points is among those that are needed

@@ -1,14 +1,12 @@
 -- What a part that agrees hands in is what the script says, and what it gives next is the truth where wires tell.
-use Rattle.std.proofs.Common.{◌≡◌, ℕ, suc, ◌<◌, List, [], ◌∷◌, refl, sym, ap, ◌∙◌, subst}
+use Rattle.std.proofs.Common.{◌≡◌, ℕ, ◌<◌, [], ◌∷◌, refl, ap, ◌∙◌}
 use Rattle.std.proofs.Math.Path.{fun_ext}
-use Rattle.cx_plan.specs.declared.variable.VarId.{VarId}
 use Rattle.cx_rule.specs.States.{State, scalar_of}
 use Rattle.cx_model.specs.Turns.{values_of}
-use Rattle.cx_cut.specs.Cuts.{local}
 use Rattle.cx_flat.specs.declared.op.Op.{Op}
 use Rattle.cx_flat.specs.declared.op.Op.TheVariants.{Sweep, Apply, Give, Join, Post, Take, Test, Open, Turn, Again, Rotate, Due, Written, Skip, Next, Piece, Save, Halt}
 use Rattle.cx_parts.specs.Holding.{Held}
-use Rattle.cx_parts.specs.Moves.{Message, Handed, held_values, op_hands, piece_by, state_by}
+use Rattle.cx_parts.specs.Moves.{Handed, held_values, op_hands, piece_by, state_by}
 use Rattle.cx_parts.specs.Nets.{Nearness, net}
 use Rattle.cx_parts.specs.Runs.{Run, Oracle, cut_of, parts_in, next_op, undivided, guided, synced}
 use Rattle.cx_parts.specs.Truths.{piece_at, Stands}

@@ -1,5 +1,5 @@
 -- The laws of a run in parts, of all runs of a whole job.
-use Rattle.std.proofs.Common.{List, refl}
+use Rattle.std.proofs.Common.{List}
 use Rattle.cx_grid.specs.Grid.{HasInterior}
 use Rattle.cx_plan.specs.declared.job.Job.{Job}
 use Rattle.cx_plan.specs.Regions.{HasShapes}

@@ -1,5 +1,5 @@
 -- Each operation of a part that agrees leaves a part that agrees, whatever its wires tell.
-use Rattle.std.proofs.Common.{◌≡◌, ℕ, zero, suc, ◌<◌, ◌≤◌, true, List, length, None, Some, refl, sym, ap, ◌∙◌, subst, arith}
+use Rattle.std.proofs.Common.{◌≡◌, ℕ, zero, suc, ◌<◌, true, List, None, Some, refl, sym, ap, ◌∙◌, subst, arith}
 use Rattle.std.proofs.lemmas.List.Elements.{All-get_or}
 use Rattle.cx_plan.specs.declared.job.Job.{Job}
 use Rattle.cx_plan.specs.declared.variable.VarId.{VarId}
@@ -11,9 +11,9 @@ use Rattle.cx_flat.specs.declared.op.Op.TheVariants.{Sweep, Apply, Give, Join, P
 use Rattle.cx_flat.specs.Flats.{Control, begins_pair, ends_pair}
 use Rattle.cx_network.specs.Agreement.{takes}
 use Rattle.cx_parts.specs.Holding.{Held}
-use Rattle.cx_parts.specs.Runs.{Run, Oracle, cut_of, parts_in, next_op, undivided, op_of, guided, given_before, last_of}
+use Rattle.cx_parts.specs.Runs.{Run, Oracle, parts_in, next_op, undivided, op_of, guided, given_before, last_of}
 use Rattle.cx_parts.specs.Moves.{Message, Channel, Board, receiver, given_number, Moves}
-use Rattle.cx_parts.specs.Operations.{is_reduction, NamesWell}
+use Rattle.cx_parts.specs.Operations.{NamesWell}
 use Rattle.cx_parts.specs.Truths.{truth, script, Stands}
 use Rattle.cx_parts.specs.Nets.{Nearness}
 use Rattle.cx_parts.proofs.GhostLaws.{has_ghosts}
@@ -27,7 +27,7 @@ use Rattle.cx_parts.proofs.Sweeps.{IsCell}
 use Rattle.cx_parts.proofs.TakeLaws.{took, take_behind}
 use Rattle.cx_parts.proofs.TruthLaws.{guided_true}
 use Rattle.cx_parts.proofs.Ways.{scalars_at, pair_there}
-use Rattle.cx_parts.proofs.WholeRun.{IsRun, shape, law, lies, names_at, names, first_pair, next_pairs, true_states, way_states, all_folds, one_level}
+use Rattle.cx_parts.proofs.WholeRun.{IsRun, shape, law, lies, names, first_pair, next_pairs, true_states, way_states, all_folds, one_level}
 
 -- where wires tell, what the oracle says is what the parts give
 abbrev pub IsTrueOracle : Type 0 → Run → Oracle → Type 0

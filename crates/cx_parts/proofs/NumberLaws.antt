@@ -1,23 +1,23 @@
 -- What a part gives and hands in is the undivided run's, where its owned numbers and its scalars are.
-use Rattle.std.proofs.Common.{◌≡◌, ℕ, zero, suc, ◌+◌, ◌<◌, ◌≤◌, Bool, true, false, List, [], ◌∷◌, length, get_or, arith, refl, sym, ap, ◌∙◌, subst, ℤ, pos}
+use Rattle.std.proofs.Common.{◌≡◌, ℕ, ◌+◌, ◌<◌, ◌≤◌, Bool, true, false, List, [], ◌∷◌, length, get_or, arith, refl, sym, ap, ◌∙◌, subst, ℤ, pos}
 use Rattle.std.specs.Prelude.{if◌then◌else◌}
 use Rattle.cx_grid.specs.declared.boxes.Point.{Point}
 use Rattle.cx_grid.specs.Boxes.{IsIn, point_count, numbers_in}
 use Rattle.cx_grid.specs.Grid.{at, whole}
 use Rattle.cx_plan.specs.declared.variable.VarId.{VarId}
 use Rattle.cx_plan.specs.declared.item.Touch.{Touch}
-use Rattle.cx_plan.specs.Setups.{Setup, setup_of}
-use Rattle.cx_plan.specs.Lookups.{item, is_scalar, levels_of, variable}
+use Rattle.cx_plan.specs.Setups.{Setup}
+use Rattle.cx_plan.specs.Lookups.{item, is_scalar, levels_of}
 use Rattle.cx_rule.specs.States.{State, level_of, scalar_of}
 use Rattle.cx_rule.specs.Sweeps.{first_point}
 use Rattle.cx_model.specs.States.{IsState}
 use Rattle.cx_model.specs.Turns.{values_of, reduced}
 use Rattle.cx_cut.specs.Cuts.{owned, local}
 use Rattle.cx_flat.specs.declared.op.Op.TheVariants.{Give}
-use Rattle.cx_parts.specs.Holding.{IsHeld, number_at, first_numbers, state_in}
+use Rattle.cx_parts.specs.Holding.{IsHeld, number_at, first_numbers}
 use Rattle.cx_parts.specs.Moves.{held_values, number_by, piece_by, state_by}
 use Rattle.cx_parts.specs.Operations.{IsCurrent, NamesWell}
-use Rattle.cx_parts.specs.Runs.{Run, cut_of, parts_in}
+use Rattle.cx_parts.specs.Runs.{Run, cut_of}
 use Rattle.cx_parts.proofs.ListLaws.{numbers_same}
 use Rattle.cx_parts.proofs.Reductions.{ReadsGrid}
 use Rattle.cx_parts.proofs.StateIn.{var, states_same}

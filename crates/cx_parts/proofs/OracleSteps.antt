@@ -1,5 +1,5 @@
 -- A part's operation keeps what holds, by an oracle that foretells what the part will give next.
-use Rattle.std.proofs.Common.{◌≡◌, ℕ, zero, suc, ◌<◌, ◌⊎◌, inl, inr, eqb, ℤ, List, Option, Some, None, refl, sym, ap, ◌∙◌, subst, arith, cond, eq-eqb}
+use Rattle.std.proofs.Common.{◌≡◌, ℕ, suc, ◌<◌, ◌⊎◌, inl, inr, eqb, ℤ, Some, refl, sym, ap, ◌∙◌, subst, arith, cond, eq-eqb}
 use Rattle.std.proofs.lemmas.Bool.{cases_eq, ne_eqb}
 use Rattle.cx_flat.specs.declared.op.Op.{Op}
 use Rattle.cx_flat.specs.declared.op.Op.TheVariants as op
@@ -11,7 +11,7 @@ use Rattle.cx_parts.specs.Holding.{Held}
 use Rattle.cx_parts.specs.Laws.{IsOracle}
 use Rattle.cx_parts.specs.Moves.{Message, Channel, receiver, number_by, buffer_of, Moves, held_values}
 use Rattle.cx_parts.specs.Nets.{net, within_lead}
-use Rattle.cx_parts.specs.Runs.{Run, Oracle, parts_in, next_op, guided, last_of}
+use Rattle.cx_parts.specs.Runs.{Run, Oracle, parts_in, next_op, last_of}
 use Rattle.cx_parts.specs.Truths.{truth, script, Stands, Agrees, gives_by, GivesAt, Books}
 use Rattle.cx_parts.proofs.FitLaws.{lead_fits}
 use Rattle.cx_parts.proofs.Foretelling.{control_same, woven_other}

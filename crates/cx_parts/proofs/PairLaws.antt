@@ -1,5 +1,5 @@
 -- What is sent is taken by the next operation of the partner, and nothing else is taken.
-use Rattle.std.proofs.Common.{◌≡◌, ℕ, zero, suc, ◌+◌, ◌<◌, Bool, true, false, List, [], ◌∷◌, ◌++◌, length, arith, refl, sym, ap, ◌∙◌, ℤ, Option, Some, None, ◌==◌, ◌&&◌, eq-eqb, cond}
+use Rattle.std.proofs.Common.{◌≡◌, ℕ, zero, suc, ◌+◌, ◌<◌, Bool, true, false, List, [], ◌∷◌, ◌++◌, length, refl, sym, ap, ◌∙◌, ℤ, Option, Some, None, ◌==◌, ◌&&◌, eq-eqb, cond}
 use Rattle.std.proofs.lemmas.Bool.{eqb-true, ltb-true, lt-ltb}
 use Rattle.std.specs.Prelude.{nat_lt, if◌then◌else◌}
 use Rattle.cx_plan.specs.declared.variable.VarId.{VarId}
@@ -11,11 +11,8 @@ use Rattle.cx_grid.specs.declared.shapes.Side.{Side}
 use Rattle.cx_grid.specs.declared.shapes.Side.TheVariants.{Low, High}
 use Rattle.cx_cut.specs.Neighbours.{partner, Neighbours}
 use Rattle.cx_parts.specs.Moves.{is_at, Message, Sent, Channel, Wire, Board, sender, receiver, only, is_there, takes_from, op_wants, op_posts, posted_faces, face_head}
-use Rattle.cx_parts.specs.Runs.{Run, Oracle, done_directions, parts_in, cut_of}
-use Rattle.cx_parts.specs.Truths.{script}
-use Rattle.cx_parts.specs.Nets.{Nearness, net}
+use Rattle.cx_parts.specs.Runs.{Run, done_directions, parts_in, cut_of}
 use Rattle.cx_cut.specs.Exchange.{other}
-use Rattle.cx_parts.proofs.Places.{guided_op, Exchanges}
 
 -- ---- what a pair tells of operations
 

@@ -1,7 +1,6 @@
 -- What a part posts at a place where it agrees is what the script says.
-use Rattle.std.proofs.Common.{◌≡◌, ℕ, ◌<◌, ◌≤◌, Bool, true, false, List, [], ◌∷◌, ◌++◌, length, arith, refl, sym, ap, ◌∙◌, subst}
+use Rattle.std.proofs.Common.{◌≡◌, ℕ, ◌<◌, ◌≤◌, Bool, true, false, List, [], ◌∷◌, arith, refl, sym, ap, ◌∙◌, subst}
 use Rattle.std.specs.Prelude.{cond}
-use Rattle.std.specs.List.{flat_map}
 use Rattle.std.proofs.Math.Path.{fun_ext}
 use Rattle.cx_grid.specs.declared.boxes.Point.{Point}
 use Rattle.cx_grid.specs.Boxes.{numbers_in}
@@ -13,8 +12,8 @@ use Rattle.cx_grid.specs.Grid.{at}
 use Rattle.cx_flat.specs.declared.op.Op.{Op}
 use Rattle.cx_flat.specs.declared.op.Op.TheVariants.{Sweep, Apply, Give, Join, Post, Take, Test, Open, Turn, Again, Rotate, Due, Written, Skip, Next, Piece, Save, Halt}
 use Rattle.cx_grid.specs.declared.shapes.Side.{Side}
-use Rattle.cx_cut.specs.Cuts.{face_of, IsReached, local}
-use Rattle.cx_parts.specs.Holding.{Held, local_values}
+use Rattle.cx_cut.specs.Cuts.{face_of, IsReached}
+use Rattle.cx_parts.specs.Holding.{Held}
 use Rattle.cx_parts.specs.Runs.{Run, Oracle, next_op, undivided, op_of, last_of, synced, flags_at, done_directions, parts_in, cut_of}
 use Rattle.cx_parts.specs.Moves.{Message, Given, Channel, Wire, Board, sender, is_there, op_posts, posted_faces, faces_by, number_by, held_values}
 use Rattle.cx_parts.specs.Truths.{script, Agrees, gives_by}
@@ -22,7 +21,7 @@ use Rattle.cx_parts.specs.Nets.{Nearness, net}
 use Rattle.cx_plan.specs.declared.flag.Flag.TheVariants.{G}
 use Rattle.cx_cut.specs.Neighbours.{Neighbours}
 use Rattle.cx_parts.proofs.Places.{guided_op, Exchanges}
-use Rattle.cx_parts.specs.Operations.{IsCurrent, IsExchange, at_var}
+use Rattle.cx_parts.specs.Operations.{IsExchange, at_var}
 use Rattle.cx_parts.proofs.ListLaws.{at_among, pieces_same, numbers_same}
 
 -- of a grid variable

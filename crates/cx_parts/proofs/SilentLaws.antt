@@ -1,5 +1,5 @@
 -- An operation that hands in no piece of output writes nothing.
-use Rattle.std.proofs.Common.{◌≡◌, ℕ, suc, Bool, true, false, eqb, List, [], ◌∷◌, Option, Some, None, refl, cond}
+use Rattle.std.proofs.Common.{◌≡◌, ℕ, suc, Bool, true, false, eqb, [], ◌∷◌, Option, Some, None, refl, cond}
 use Rattle.cx_plan.specs.declared.item.Item.{Item}
 use Rattle.cx_plan.specs.Lookups.{item}
 use Rattle.cx_rule.specs.States.{State}

@@ -1,5 +1,5 @@
 -- The beginning: each local point has the number of the point of the grid that it names, and so the part agrees.
-use Rattle.std.proofs.Common.{◌≡◌, ℕ, ◌<◌, Bool, true, false, List, [], length, get_or, arith, refl, sym, ap, ◌∙◌, subst, ℤ, pos}
+use Rattle.std.proofs.Common.{◌≡◌, ℕ, ◌<◌, Bool, true, false, [], length, get_or, arith, refl, sym, ap, ◌∙◌, subst, pos}
 use Rattle.std.specs.Prelude.{if◌then◌else◌}
 use Rattle.cx_grid.specs.declared.boxes.Point.{Point}
 use Rattle.cx_grid.specs.Boxes.{IsIn, index_in, point_count, numbers_in}
@@ -15,7 +15,7 @@ use Rattle.cx_flat.specs.declared.op.Op.TheVariants.{Sweep, Apply, Give, Join, P
 use Rattle.cx_parts.specs.Holding.{Held, IsHeld, number_at, state_in}
 use Rattle.cx_parts.specs.Moves.{held_values, number_by}
 use Rattle.cx_parts.specs.Nets.{Nearness, net}
-use Rattle.cx_parts.specs.Runs.{Run, Oracle, cut_of, parts_in, next_op, op_of}
+use Rattle.cx_parts.specs.Runs.{Run, Oracle, cut_of, parts_in, op_of}
 use Rattle.cx_parts.specs.Truths.{truth, given_by, gives_by, Agrees}
 use Rattle.cx_parts.proofs.ListLaws.{number_in, numbers_length}
 use Rattle.cx_parts.proofs.NumberLaws.{number_same}

@@ -1,18 +1,16 @@
 -- A state over a box: its lengths, its numbers, and where two are the same.
-use Rattle.std.proofs.Common.{◌≡◌, ℕ, zero, suc, ◌+◌, ◌<◌, ◌≤◌, ◌⊎◌, inl, inr, Bool, true, false, List, [], ◌∷◌, length, map, get_or, arith, refl, sym, ap, ◌∙◌, subst, ℤ, pos}
+use Rattle.std.proofs.Common.{◌≡◌, ℕ, zero, suc, ◌+◌, ◌<◌, Bool, true, false, [], ◌∷◌, length, map, get_or, arith, refl, sym, ap, ◌∙◌, subst}
 use Rattle.std.specs.Prelude.{if◌then◌else◌}
 use Rattle.std.specs.List.{range_with_len}
 use Rattle.std.proofs.lemmas.List.FromFn.{get_or-map-range_with_len, length-map-range_with_len, fill_by_all}
-use Rattle.cx_grid.specs.declared.boxes.Point.{Point}
 use Rattle.cx_grid.specs.declared.boxes.Box3.{Box3}
-use Rattle.cx_grid.specs.Boxes.{IsIn, point_count, numbers_in}
+use Rattle.cx_grid.specs.Boxes.{numbers_in}
 use Rattle.cx_plan.specs.declared.variable.VarId.{VarId}
 use Rattle.cx_plan.specs.Setups.{Setup}
 use Rattle.cx_plan.specs.Lookups.{is_scalar}
 use Rattle.cx_rule.specs.States.{State, level_of}
 use Rattle.cx_rule.specs.Sweeps.{Values}
 use Rattle.cx_parts.specs.Holding.{state_in}
-use Rattle.cx_parts.proofs.ListLaws.{numbers_length}
 
 abbrev pub var : ℕ → VarId
 var v = record { 0 = v }

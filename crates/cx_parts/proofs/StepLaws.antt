@@ -1,14 +1,14 @@
 -- Each event keeps what holds in a state that is reached, whatever wires tell.
-use Rattle.std.proofs.Common.{◌≡◌, ℕ, suc, ◌<◌, ◌⊎◌, inl, inr, Some, None, refl, sym, ap, ◌∙◌, subst}
+use Rattle.std.proofs.Common.{◌≡◌, ℕ, inl, inr, refl, sym, ap, ◌∙◌, subst}
 use Rattle.std.proofs.Math.Path.{fun_ext}
-use Rattle.cx_network.specs.Machine.{World, Event, Part, Write, End, Can, After, IsWork, begun, moved, met}
+use Rattle.cx_network.specs.Machine.{World, Event, Part, Write, End, Can, After, IsWork}
 use Rattle.cx_network.specs.Agreement.{Fits, Ends, Woven, Ended}
 use Rattle.cx_network.proofs.Runs as runs
 use Rattle.cx_parts.specs.Holding.{Held}
 use Rattle.cx_parts.specs.Laws.{IsOracle, IsReachedState, StepsKeep}
 use Rattle.cx_parts.specs.Moves.{Message, Channel, buffer_of}
 use Rattle.cx_parts.specs.Nets.{net, within_lead}
-use Rattle.cx_parts.specs.Runs.{Run, Oracle, parts_in, next_op, undivided, guided, halts, first_from, last_of}
+use Rattle.cx_parts.specs.Runs.{Run, Oracle, next_op, guided, halts, first_from, last_of}
 use Rattle.cx_parts.specs.Truths.{truth, script, ends_at, Agrees, GivesAt, Books}
 use Rattle.cx_parts.proofs.FaultLaws.{told_ends}
 use Rattle.cx_parts.proofs.FitLaws.{lead_fits}

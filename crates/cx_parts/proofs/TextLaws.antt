@@ -1,32 +1,29 @@
 -- The text that the pieces of all parts make is the undivided run's.
-use Rattle.std.proofs.Common.{◌≡◌, ℕ, suc, ◌+◌, ◌<◌, ◌≤◌, Bool, true, false, ltb, List, [], ◌∷◌, ◌++◌, length, get_or, Option, Some, None, arith, refl, sym, ap, ◌∙◌, subst, ℤ, pos, MatchOption}
+use Rattle.std.proofs.Common.{◌≡◌, ℕ, suc, ◌+◌, ◌<◌, Bool, true, false, List, [], ◌∷◌, ◌++◌, length, get_or, arith, refl, sym, ap, ◌∙◌, ℤ, pos}
 use Rattle.std.specs.Prelude.{if◌then◌else◌}
-use Rattle.std.proofs.lemmas.Bool.{lt-ltb, le-ltb}
 use Rattle.std.proofs.lemmas.List.{append-nil}
 use Rattle.cx_grid.specs.declared.boxes.Point.{Point}
 use Rattle.cx_grid.specs.Boxes.{IsIn, index_in, point_count, numbers_in}
-use Rattle.cx_grid.specs.Grid.{at, whole, wrap}
+use Rattle.cx_grid.specs.Grid.{at, whole}
 use Rattle.cx_grid.proofs.Places.{index_below, point_at_index}
 use Rattle.cx_plan.specs.declared.variable.VarId.{VarId}
 use Rattle.cx_plan.specs.Lookups.{is_scalar, variable}
 use Rattle.cx_rule.specs.States.{State, level_of, scalar_of}
 use Rattle.cx_rule.specs.Sweeps.{first_point}
-use Rattle.cx_model.specs.Runs.{text_of, output_of, greatest_output}
+use Rattle.cx_model.specs.Runs.{text_of, output_of}
 use Rattle.cx_model.specs.Turns.{values_of}
 use Rattle.cx_model.proofs.PointLaws.{wrap-own}
 use Rattle.cx_ascii.specs.Output.{section, line}
 use Rattle.cx_cut.specs.Cuts.{owned}
 use Rattle.cx_cut.proofs.Tiled.{tiles}
-use Rattle.cx_flat.specs.declared.op.Op.{Op}
-use Rattle.cx_flat.specs.declared.op.Op.TheVariants.{Sweep, Apply, Give, Join, Post, Take, Test, Open, Turn, Again, Rotate, Due, Written, Skip, Next, Piece, Save, Halt}
+use Rattle.cx_flat.specs.declared.op.Op.TheVariants.{Piece, Save}
 use Rattle.cx_flat.specs.Flats.{notes_at}
-use Rattle.cx_network.specs.Machine.{IsWork}
 use Rattle.cx_parts.specs.Holding.{number_at}
-use Rattle.cx_parts.specs.Moves.{Message, buffer_of, op_hands, piece_by, state_by}
-use Rattle.cx_parts.specs.Nets.{Nearness, net, only_level, IsGathered, IsTextOf, OneOutcome, WritesAt}
+use Rattle.cx_parts.specs.Moves.{Message, op_hands, piece_by, state_by}
+use Rattle.cx_parts.specs.Nets.{only_level, IsGathered, IsTextOf}
 use Rattle.cx_parts.specs.Operations.{IsCurrent}
-use Rattle.cx_parts.specs.Runs.{Run, Oracle, cut_of, parts_in, next_op, undivided, op_of, notes_of, guided, last_of}
-use Rattle.cx_parts.specs.Truths.{piece_at, entries_of, length_before, passes_limit, is_full, Books}
+use Rattle.cx_parts.specs.Runs.{Run, Oracle, cut_of, parts_in, undivided, guided}
+use Rattle.cx_parts.specs.Truths.{piece_at, entries_of, length_before}
 use Rattle.cx_parts.proofs.ListLaws.{number_in}
 use Rattle.cx_parts.proofs.MoveLaws.{IsTrueOracle, same, op_same}
 use Rattle.cx_parts.proofs.Places.{guided_op}

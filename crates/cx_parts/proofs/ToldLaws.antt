@@ -1,16 +1,15 @@
 -- Where wires tell, what a part gives needs no foretelling: it is the truth.
-use Rattle.std.proofs.Common.{◌≡◌, ℕ, zero, suc, ◌<◌, List, Some, refl, sym, ap, ◌∙◌, subst}
-use Rattle.cx_model.specs.Turns.{values_of}
+use Rattle.std.proofs.Common.{◌≡◌, ℕ, suc, ◌<◌, refl, sym, ap, ◌∙◌, subst}
 use Rattle.cx_flat.specs.declared.op.Op.TheVariants.{Give}
-use Rattle.cx_network.specs.Agreement.{Fits, Ends}
+use Rattle.cx_network.specs.Agreement.{Fits}
 use Rattle.cx_network.proofs.OrderLaws.{all_orders}
 use Rattle.cx_parts.specs.Holding.{Held}
 use Rattle.cx_parts.specs.Laws.{EachOrder}
 use Rattle.cx_parts.specs.Nets.{Nearness, net, within_lead, in_lockstep}
-use Rattle.cx_parts.specs.Runs.{Run, Oracle, parts_in, next_op, undivided, op_of, guided}
-use Rattle.cx_parts.specs.Truths.{truth, script, given_by, gives_by, Stands, Agrees, GivesAt, Books}
+use Rattle.cx_parts.specs.Runs.{Run, Oracle, parts_in, next_op, undivided, op_of}
+use Rattle.cx_parts.specs.Truths.{truth, script, gives_by, Stands, Agrees, GivesAt, Books}
 use Rattle.cx_parts.proofs.FaultLaws.{told_ends}
-use Rattle.cx_parts.proofs.FitLaws.{Nears, all_fits, lead_fits, lockstep_fits}
+use Rattle.cx_parts.proofs.FitLaws.{lead_fits, lockstep_fits}
 use Rattle.cx_parts.proofs.HandLaws.{owns_true}
 use Rattle.cx_parts.proofs.MoveLaws.{IsTrueOracle, same, moves_on}
 use Rattle.cx_parts.proofs.NumberLaws.{number_same}

@@ -8,13 +8,9 @@ use Rattle.cx_flat.specs.declared.op.Op.{Op}
 use Rattle.cx_flat.specs.declared.op.Op.TheVariants.{Halt}
 use Rattle.cx_flat.specs.Code.{op_at, code}
 use Rattle.cx_flat.specs.Flats.{Flat, flat_from, is_halt, control_after, begins_pair, ends_pair, InPairs}
-use Rattle.cx_flat.specs.Ways.{WayEnds}
 use Rattle.cx_flat.proofs.AtLaws.{halt_is}
-use Rattle.cx_parts.specs.Runs.{Run, Oracle, next_op, undivided, op_of, guided, parts_in}
-use Rattle.cx_parts.specs.Truths.{truth}
+use Rattle.cx_parts.specs.Runs.{Run, next_op, undivided, op_of}
 use Rattle.cx_parts.proofs.FlatPlaces.{undivided_is, next_pair}
-use Rattle.cx_parts.proofs.TruthLaws.{Folds, guided_true}
-use Rattle.cx_parts.proofs.Ways.{scalars_at, goes_on}
 
 first_ends : (setup : Setup) (rules : List Rule) (ops : List Op) (count : ℕ) (g : Flat) → InPairs setup rules ops None None count g → is_halt (op_at ops (flat_from setup rules ops count g).control.pc) ≡ true
     → ends_pair (op_at ops g.control.pc) ≡ None

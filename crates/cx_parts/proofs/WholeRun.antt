@@ -1,5 +1,5 @@
 -- What all laws of a run in parts rest on: a whole job that the region check accepts, and its cut.
-use Rattle.std.proofs.Common.{ℕ, suc, ◌<◌, ◌≤◌, ◌≡◌, ◌⊎◌, inl, inr, true, false, List, length, None, refl, sym, ap, ◌∙◌, subst}
+use Rattle.std.proofs.Common.{ℕ, suc, ◌<◌, ◌≤◌, ◌≡◌, ◌⊎◌, inl, inr, true, List, length, None, refl, sym, ap, subst}
 use Rattle.std.proofs.lemmas.Bool.{cases_lt, both_ways}
 use Rattle.std.proofs.lemmas.List.{get_or_past}
 use Rattle.std.proofs.lemmas.List.Elements.{All-get_or}
@@ -26,7 +26,7 @@ use Rattle.cx_flat.specs.Ways.{Scalars, WayEnds, WaysEnd}
 use Rattle.cx_flat.specs.Places.{OperationsMet}
 use Rattle.cx_parts.specs.Beginnings.{Beginning, Afresh, From, IsBeginning, run_of}
 use Rattle.cx_parts.specs.Operations.{NamesWell}
-use Rattle.cx_parts.specs.Runs.{Run, Oracle, cut_of, parts_in, next_op, undivided, op_of, notes_of, flags_at, guided}
+use Rattle.cx_parts.specs.Runs.{Run, Oracle, cut_of, parts_in, undivided, op_of, notes_of, flags_at, guided}
 use Rattle.cx_parts.proofs.CodeLaws.{op_well}
 use Rattle.cx_parts.proofs.FoldLaws.{folds}
 use Rattle.cx_parts.proofs.PartLaws.{cut_lies}

@@ -21,8 +21,8 @@ use Rattle.cx_model.specs.Turns.{numbers_at, swept_at, reduced}
 use Rattle.cx_cut.specs.Cuts.{Parts, owned, local}
 use Rattle.cx_flat.specs.Flats.{Control}
 
--- how many operations it has done, what decides the way, and per variable its levels, each with one number for each local point; a
--- scalar has one level of one number
+-- how many operations it has done, what decides the way, and per variable its levels, each with one number for each local point;
+-- a scalar has one level of one number
 pub record Held : Type 0 where
   pub count : ℕ
   pub control : Control
@@ -77,11 +77,15 @@ part_sweep setup rules cut k x numbers iteration =
     sweep (local cut k) (local_values setup (local cut k) numbers) (in_zone setup (owned cut k) (region_of x.writes))
     (swept_at setup rules x (local_values setup (local cut k) numbers) iteration) x.writes numbers
 
+-- the box of the first point alone
+abbrev pub first_box : Box3
+first_box = record { low = first_point; high = first_point }
+
 -- the rule of a Scalar item, which reads scalars alone
 abbrev pub part_rule : Setup → List Rule → Item → State → ℕ → Option State
 part_rule setup rules x numbers iteration =
     scalar_turn x numbers
-    (numbers_at setup rules x (local_values setup (record { low = first_point; high = first_point }) numbers) iteration first_point first_point)
+    (numbers_at setup rules x (local_values setup first_box numbers) iteration first_point first_point)
 
 -- ---- reductions
 

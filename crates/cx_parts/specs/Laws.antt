@@ -1,6 +1,5 @@
 -- What holds of a run in parts.
 use Rattle.std.specs.Prelude.{ℕ, ◌<◌, ◌≡◌}
-use Rattle.cx_flat.specs.Flats.{Control}
 use Rattle.cx_network.specs.Machine.{World, Event, Can, After, begun}
 use Rattle.cx_network.specs.Agreement.{Woven, Ended}
 use Rattle.cx_network.specs.Orders.{EveryOrder}
@@ -12,8 +11,8 @@ use Rattle.cx_parts.specs.Truths.{truth, script, Agrees, Books}
 
 -- ---- wires that tell
 
--- whatever order the events of the parts come in: each part agrees with the undivided run at its own place, each queue holds what was
--- posted and not yet taken, some event can happen until the end is reported, and the end that is reported is the undivided run's
+-- Whatever order the events of the parts come in: each part agrees with the undivided run at its own place, each queue holds
+-- what was posted and not yet taken, some event can happen until the end is reported, and that end is the undivided run's.
 abbrev pub EachOrder : Nearness → Run → Type 0
 EachOrder Near r =
     EveryOrder (net (Unit {0}) Near r (truth r)) (script (Unit {0}) r (truth r)) (Agrees (Unit {0}) r (truth r))
@@ -26,14 +25,15 @@ pub record IsOracle (tells : Type 0) (r : Run) (oracle : Oracle) : Type 0 where
   pub told : tells → (k n : ℕ) → k < parts_in r → oracle k n ≡ truth r k n
   pub first : (k : ℕ) → k < parts_in r → oracle k 0 ≡ truth r k 0
 
--- a state that is reached: by what the parts have given and are to give each of them agrees at its own place and each queue is right;
--- and where wires tell, ends are the undivided run's
+-- a state that is reached: by what the parts have given and are to give, each of them agrees at its own place and each queue is
+-- right; and where wires tell, ends are the undivided run's
 pub record IsReachedState (tells : Type 0) (r : Run) (oracle : Oracle) (w : World Held (Message tells) Channel ℕ) : Type 0 where
   pub oracle_is : IsOracle tells r oracle
   pub woven : Woven (net tells within_lead r oracle) (script tells r oracle) (Agrees tells r oracle) (Books tells r) w
   pub ended : tells → Ended (net tells within_lead r oracle) (script tells r oracle) w
 
--- the run begins in such a state, and each event that can happen leads to one; what a part is to give is known once it stands there
+-- The run begins in such a state, and each event that can happen leads to one. The oracle behind it may differ in what the part
+-- is to give next.
 pub record StepsKeep (tells : Type 0) (r : Run) : Type 0 where
   pub begins : IsReachedState tells r (truth r) (begun (net tells within_lead r (truth r)))
   pub keeps : (oracle : Oracle) (w v : World Held (Message tells) Channel ℕ) (e : Event) → IsReachedState tells r oracle w

@@ -1,7 +1,7 @@
 -- Messages, and what one operation of a part takes, posts, hands in and leaves.
 --
--- A wire tells what it carries, or nothing is known of it. What a wire tells is a function from `tells`, the wire's own statement that
--- it carries the truth: of a wire that tells nothing such a function says nothing, so these definitions serve for both.
+-- A wire tells what it carries, or nothing is known of it. What a wire tells is a function from `tells`, the wire's own statement
+-- that it carries the truth: of a wire that tells nothing such a function says nothing, so these definitions serve for both.
 use Rattle.std.specs.Prelude.{ℕ, zero, suc, ◌+◌, ◌*◌, ◌<◌, ◌≡◌, Bool, true, false, ◌&&◌, ◌==◌, nat_lt, ℤ, pos, List, [], ◌∷◌, ◌++◌, map, length, drop, Option, Some, None, cond, if◌then◌else◌, slice_index_or}
 use Rattle.cx_grid.specs.declared.boxes.Point.{Point}
 use Rattle.cx_grid.specs.declared.shapes.Side.{Side}
@@ -98,7 +98,8 @@ posted_faces r n a values d vars b =
     ++ only (is_at (partner (cut_of r) a d High) b) (Sent (face_head r n a d High vars) (values High) ∷ [])
 
 -- what a part that has done n operations posts, by the values of its faces and its number for a reduction
-abbrev pub op_posts : {tells : Type 0} → Run → Op → ℕ → (ℕ → List VarId → Side → tells → List ℤ) → (ℕ → ℤ) → Channel → List (Message tells)
+abbrev pub op_posts : {tells : Type 0} → Run → Op → ℕ → (ℕ → List VarId → Side → tells → List ℤ) → (ℕ → ℤ) → Channel
+    → List (Message tells)
 op_posts r (Post d vars) n faces number (Wire a b) = posted_faces r n a (faces d vars) d vars b
 op_posts r (Give k) n faces number (Board a b) = Given (number k) ∷ []
 op_posts r _ n faces number c = []
@@ -146,7 +147,7 @@ given_number [] = pos 0
 given_number (Sent h values ∷ ms) = pos 0
 given_number (Handed n s ∷ ms) = pos 0
 
--- the layers beyond a side are filled with the values of this message; a variable's values stand behind those of the ones before it
+-- the layers beyond a side are filled with the values of a message; a variable's values stand behind those of the ones before it
 abbrev pub IsFilled : Run → ℕ → ℕ → List VarId → Side → List ℤ → State → Type 0
 IsFilled r k d vars side values numbers =
     (i : ℕ) (p : Point) → i < length vars → IsIn (halo_of (cut_of r) k d side) p
@@ -191,22 +192,30 @@ Gives r o x (Some numbers) (Some y) = Goes r o x y × (y.numbers ≡ numbers)
 -- a WHILE that finds its scalar not 0 behind its last turn
 abbrev pub turn_state : Run → VarId → Held → Option State
 turn_state r v x =
-    if last_turns x.control.opened == r.setup.while_limit then by_zero (scalar_of x.numbers v) (Some x.numbers) None else Some x.numbers
+    if last_turns x.control.opened == r.setup.while_limit
+    then by_zero (scalar_of x.numbers v) (Some x.numbers) None
+    else Some x.numbers
 
 -- the numbers of all parts for a reduction
 abbrev pub all_given : {tells : Type 0} → ℕ → (Channel → List (Message tells)) → ℕ → List ℤ
 all_given k mails zero = []
 all_given k mails (suc a) = all_given k mails a ++ given_number (mails (Board a k)) ∷ []
 
+-- What an operation may lead to, by the messages that it takes; none where it meets an end. Each is decided by what the part holds
+-- but for what a Take fills, of which nothing is said where wires don't tell.
 abbrev pub Moves : (tells : Type 0) → Run → ℕ → Held → (Channel → List (Message tells)) → Op → Option Held → Type 0
-Moves tells r k x mails (Sweep i) o = Gives r (Sweep i) x (part_sweep r.setup r.rules (cut_of r) k (item r.setup i) x.numbers x.control.iteration) o
-Moves tells r k x mails (Apply i) o = Gives r (Apply i) x (part_rule r.setup r.rules (item r.setup i) x.numbers x.control.iteration) o
+Moves tells r k x mails (Sweep i) o =
+    Gives r (Sweep i) x (part_sweep r.setup r.rules (cut_of r) k (item r.setup i) x.numbers x.control.iteration) o
+Moves tells r k x mails (Apply i) o =
+    Gives r (Apply i) x (part_rule r.setup r.rules (item r.setup i) x.numbers x.control.iteration) o
 Moves tells r k x mails (Give i) o = Gives r (Give i) x (Some x.numbers) o
 Moves tells r k x mails (Join i) o =
-    Gives r (Join i) x (join_turn r.setup (item r.setup i) x.numbers (joined (item r.setup i).kind (all_given k mails (parts_in r)))) o
+    Gives r (Join i) x
+    (join_turn r.setup (item r.setup i) x.numbers (joined (item r.setup i).kind (all_given k mails (parts_in r)))) o
 Moves tells r k x mails (Post d vars) o = Gives r (Post d vars) x (Some x.numbers) o
 Moves tells r k x mails (Take d vars path) None = ⊥
-Moves tells r k x mails (Take d vars path) (Some y) = Goes r (Take d vars path) x y × Filled tells r k d vars mails x.numbers y.numbers
+Moves tells r k x mails (Take d vars path) (Some y) =
+    Goes r (Take d vars path) x y × Filled tells r k d vars mails x.numbers y.numbers
 Moves tells r k x mails (Test v path skip) o = Gives r (Test v path skip) x (Some x.numbers) o
 Moves tells r k x mails Open o = Gives r Open x (Some x.numbers) o
 Moves tells r k x mails (Turn v path skip) o = Gives r (Turn v path skip) x (turn_state r v x) o

@@ -85,10 +85,33 @@ OneOutcome length_so_far text (Some n) = (length_so_far + length text ≤ greate
 
 -- the length of the output after a work; none where it would pass its limit
 abbrev pub WritesAt : (tells : Type 0) → Run → Op → ℕ → (ℕ → List (Message tells)) → ℕ → Option ℕ → Type 0
-WritesAt tells r (Piece v) iteration pieces so_far o = (t : tells) (text : List ℕ) → IsTextOf (is_scalar r.setup v) t r v iteration pieces text → OneOutcome so_far text o
+WritesAt tells r (Piece v) iteration pieces so_far o =
+    (t : tells) (text : List ℕ) → IsTextOf (is_scalar r.setup v) t r v iteration pieces text → OneOutcome so_far text o
 WritesAt tells r _ iteration pieces so_far o = o ≡ Some so_far
 
 -- ---- the network
+
+-- what a part that holds x posts on a channel, and what it hands in
+abbrev pub posts_of : {tells : Type 0} → Run → Channel → Held → List (Message tells)
+posts_of r c x =
+    cond (is_there r c)
+    (op_posts r (next_op r x.control) x.count
+     (faces_by r (sender c) (held_values r (sender c) x.numbers)) (number_by r (sender c) (held_values r (sender c) x.numbers)) c)
+    []
+
+abbrev pub hands_of : {tells : Type 0} → Run → ℕ → Held → List (Message tells)
+hands_of r k x =
+    op_hands r (next_op r x.control) x.count
+    (piece_by r k (held_values r k x.numbers)) (state_by r k (held_values r k x.numbers) x.numbers)
+
+-- what a part holds at the beginning: each local point, a ghost too, has the number of the point of the grid that it names
+abbrev pub held_first : Run → ℕ → Held
+held_first r k =
+    record {
+      count = 0;
+      control = r.first.control;
+      numbers = state_in r.setup (values_of r.setup r.first.state) (local (cut_of r) k) 0 r.first.state;
+    }
 
 -- how far a part may stand before others; one of the two is put in
 abbrev pub Nearness : Type 1
@@ -118,11 +141,12 @@ net tells Near r oracle =
       sender = sender;
       receiver = receiver;
       look = λ x. x.control;
-      posts = λ c x. cond (is_there r c) (op_posts r (next_op r x.control) x.count (faces_by r (sender c) (held_values r (sender c) x.numbers)) (number_by r (sender c) (held_values r (sender c) x.numbers)) c) [];
-      hands = λ k x. op_hands r (next_op r x.control) x.count (piece_by r k (held_values r k x.numbers)) (state_by r k (held_values r k x.numbers) x.numbers);
+      posts = posts_of r;
+      hands = hands_of r;
       Move = λ k x mails o. Moves tells r k x mails (next_op r x.control) o;
-      start = λ k. record { count = 0; control = r.first.control; numbers = state_in r.setup (values_of r.setup r.first.state) (local (cut_of r) k) 0 r.first.state };
-      Writes = λ n pieces b o. WritesAt tells r (next_op r (guided r oracle n).control) (guided r oracle n).control.iteration pieces b o;
+      start = held_first r;
+      Writes = λ n pieces b o.
+          WritesAt tells r (next_op r (guided r oracle n).control) (guided r oracle n).control.iteration pieces b o;
       first_book = r.so_far;
     }
 

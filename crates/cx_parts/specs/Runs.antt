@@ -1,6 +1,6 @@
 -- A run in parts: what it is of, how its places are numbered, and the way that its parts go by what they give for reductions.
-use Rattle.std.specs.Prelude.{ℕ, zero, suc, ◌≡◌, Bool, true, ◌&&◌, ◌==◌, ℤ, pos, List, [], ◌∷◌, map, Option, Some, None, cond, All}
-use Rattle.std.specs.List.{list_any, range_with_len}
+use Rattle.std.specs.Prelude.{ℕ, zero, suc, Bool, ◌&&◌, ◌==◌, ℤ, pos, List, map, cond}
+use Rattle.std.specs.List.{range_with_len}
 use Rattle.cx_plan.specs.declared.job.Cuts.{Cuts}
 use Rattle.cx_plan.specs.declared.variable.VarId.{VarId}
 use Rattle.cx_plan.specs.declared.flag.Flag.TheVariants.{G}
@@ -88,8 +88,8 @@ notes_of r n = places.notes_of r.setup r.rules (undivided r n)
 abbrev pub flags_at : Run → ℕ → Flags
 flags_at r n = places.flags_at r.setup r.rules r.first r.flags n
 
--- in how many directions the local points of a variable's level are those of the undivided run: in all where G is set, and within a SYNC
--- of it in those that are done
+-- in how many directions the local points of a variable's level are those of the undivided run: in all where G is set, and within
+-- a SYNC of it in those that are done
 abbrev pub done_directions : Op → VarId → ℕ → ℕ
 done_directions (Post d vars) v level = cond (is_among v vars && level == 0) d 0
 done_directions (Take d vars path) v level = cond (is_among v vars && level == 0) d 0
@@ -129,7 +129,8 @@ abbrev pub joined_at : Run → Oracle → ℕ → ℕ → ℤ
 joined_at r oracle k n = joined (item r.setup k).kind (map (given_before oracle n) (range_with_len 0 (parts_in r)))
 
 abbrev pub guided_state : Run → Oracle → ℕ → Op → ℕ → State → State
-guided_state r oracle n (Join k) iteration state = state_or (join_turn r.setup (item r.setup k) state (joined_at r oracle k n)) state
+guided_state r oracle n (Join k) iteration state =
+    state_or (join_turn r.setup (item r.setup k) state (joined_at r oracle k n)) state
 guided_state r oracle n (Sweep k) iteration state = state_after r.setup r.rules (Sweep k) iteration state
 guided_state r oracle n (Apply k) iteration state = state_after r.setup r.rules (Apply k) iteration state
 guided_state r oracle n (Give k) iteration state = state

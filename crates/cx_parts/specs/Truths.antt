@@ -1,6 +1,6 @@
--- What the undivided run has for parts: what each posts, hands in and gives at each place, where a part meets an end, which work passes
--- the limit of the output, and when a part agrees with it.
-use Rattle.std.specs.Prelude.{ℕ, zero, suc, ◌+◌, ◌<◌, ◌≡◌, Bool, true, false, ◌&&◌, ◌||◌, ◌==◌, nat_lt, ℤ, pos, List, [], ◌∷◌, map, length, is_none, cond}
+-- What the undivided run has for parts: what each posts, hands in and gives at each place, where a part meets an end, which work
+-- passes the limit of the output, and when a part agrees with it.
+use Rattle.std.specs.Prelude.{ℕ, zero, suc, ◌+◌, ◌<◌, ◌≡◌, Bool, true, false, ◌&&◌, ◌||◌, ◌==◌, nat_lt, ℤ, pos, List, [], ◌∷◌, length, is_none, cond}
 use Rattle.std.specs.List.{list_any, range_with_len}
 use Rattle.cx_grid.specs.declared.boxes.Point.{Point}
 use Rattle.cx_grid.specs.Boxes.{points_in}
@@ -37,11 +37,14 @@ truth r k n = given_by r k (undivided r n).state (op_of r n)
 -- the undivided operation gives no numbers at some point that part k sweeps, or no state at all
 abbrev pub is_faulty : Run → ℕ → Op → Flat → Bool
 is_faulty r k (Sweep i) g =
-    list_any (λ p. in_zone r.setup (owned (cut_of r) k) (region_of (item r.setup i).writes) p && is_none (swept_at r.setup r.rules (item r.setup i) (values_of r.setup g.state) g.control.iteration p))
+    list_any
+    (λ p. in_zone r.setup (owned (cut_of r) k) (region_of (item r.setup i).writes) p
+     && is_none (swept_at r.setup r.rules (item r.setup i) (values_of r.setup g.state) g.control.iteration p))
     (points_in (local (cut_of r) k))
 is_faulty r k (Apply i) g = is_none (turn r.setup r.rules (item r.setup i) g.state g.control.iteration)
 is_faulty r k (Join i) g = is_none (turn r.setup r.rules (item r.setup i) g.state g.control.iteration)
-is_faulty r k (Turn v path skip) g = last_turns g.control.opened == r.setup.while_limit && by_zero (scalar_of g.state v) false true
+is_faulty r k (Turn v path skip) g =
+    last_turns g.control.opened == r.setup.while_limit && by_zero (scalar_of g.state v) false true
 is_faulty r k _ g = false
 
 -- the entries of notes
@@ -70,7 +73,9 @@ ends_at r n = list_any (λ k. is_faulty r k (op_of r n) (undivided r n)) (range_
 abbrev pub mail_at : (tells : Type 0) → Run → Oracle → Channel → ℕ → List (Message tells)
 mail_at tells r oracle c n =
     cond (is_there r c)
-    (op_posts r (next_op r (guided r oracle n).control) n (faces_by r (sender c) (values_of r.setup (undivided r n).state)) (λ i. oracle (sender c) n) c) []
+    (op_posts r (next_op r (guided r oracle n).control) n
+     (faces_by r (sender c) (values_of r.setup (undivided r n).state)) (λ i. oracle (sender c) n) c)
+    []
 
 abbrev pub piece_at : (tells : Type 0) → Run → Oracle → ℕ → ℕ → List (Message tells)
 piece_at tells r oracle k n =
@@ -97,14 +102,15 @@ gives_by r k x _ number = Unit {0}
 abbrev pub GivesAt : Run → Oracle → ℕ → ℕ → Held → Type 0
 GivesAt r oracle k n x = gives_by r k x (next_op r x.control) (oracle k n)
 
--- part k at place n: its control and its scalars are those of all parts, whatever wires tell; and where they tell, each owned number is the
--- undivided run's, and each ghost point's in the directions that are done
+-- Part k at place n: its control and its scalars are those of all parts, whatever wires tell. And where they tell, each owned
+-- number is the undivided run's, and each ghost point's in the directions that are done.
 pub record Stands (tells : Type 0) (r : Run) (oracle : Oracle) (k n : ℕ) (x : Held) : Type 0 where
   pub count : x.count ≡ n
   pub control : x.control ≡ (guided r oracle n).control
   pub scalars : (v : VarId) → is_scalar r.setup v ≡ true → scalar_of x.numbers v ≡ scalar_of (guided r oracle n).state v
   pub sized : IsHeld r.setup (local (cut_of r) k) x.numbers
-  pub numbers : tells → (v : VarId) (level : ℕ) (p : Point) → is_scalar r.setup v ≡ false → v.0 < length r.setup.vars → level < levels_of r.setup v
+  pub numbers : tells → (v : VarId) (level : ℕ) (p : Point)
+      → is_scalar r.setup v ≡ false → v.0 < length r.setup.vars → level < levels_of r.setup v
       → IsReached (cut_of r) k (synced r n v level) p
       → held_values r k x.numbers v level p ≡ at r.setup.shape (level_of (undivided r n).state v level) p
 

@@ -1,5 +1,6 @@
--- How many points a run in parts computes, and what it exchanges: folds over the entries of a run, whatever the order of its events.
-use Rattle.std.specs.Prelude.{ℕ, zero, suc, ◌+◌, ◌%◌, ◌^◌, ◌==◌, ℤ, List, [], ◌∷◌, length, filter, Option, Some, None, is_some, cond, if◌then◌else◌}
+-- How many points a run in parts computes, and what it exchanges: folds over the entries of a run, whatever the order of its
+-- events.
+use Rattle.std.specs.Prelude.{ℕ, zero, suc, ◌+◌, ◌%◌, ◌^◌, ℤ, List, [], ◌∷◌, length, filter, is_some, cond}
 use Rattle.std.specs.Int.{cast_unsigned, w64}
 use Rattle.cx_grid.specs.Boxes.{point_count, points_in, numbers_in}
 use Rattle.cx_plan.specs.declared.variable.VarId.{VarId}
@@ -13,7 +14,7 @@ use Rattle.cx_plan.specs.Lookups.{item}
 use Rattle.cx_plan.specs.Regions.{region_of}
 use Rattle.cx_model.specs.States.{State}
 use Rattle.cx_model.specs.Turns.{in_region, values_of}
-use Rattle.cx_model.specs.Traces.{Entry, Turned, Overflowed, Exchanged, Tested, Rotated, Wrote, Saved}
+use Rattle.cx_model.specs.Traces.{Entry, Turned, Exchanged}
 use Rattle.cx_model.specs.Work.{turn_points}
 use Rattle.cx_grid.specs.declared.shapes.Side.{Side}
 use Rattle.cx_grid.specs.declared.shapes.Side.TheVariants.{Low, High}
@@ -28,7 +29,8 @@ sum_over (suc n) f = sum_over n f + f n
 
 -- the local points of a region, over all parts
 abbrev pub local_points : Setup → Parts → Region → ℕ
-local_points setup cut region = sum_over (part_count cut) (λ k. length (filter (in_region setup.shape region) (points_in (local cut k))))
+local_points setup cut region =
+    sum_over (part_count cut) (λ k. length (filter (in_region setup.shape region) (points_in (local cut k))))
 
 -- a writer of the interior sweeps each interior point once, another one all local points of its region
 abbrev pub cell_work : Setup → Parts → Item → Region → ℕ
