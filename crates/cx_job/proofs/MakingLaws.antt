@@ -37,7 +37,7 @@ use Rattle.cx_config.proofs.Settled.{same_fault}
 use Rattle.cx_match.specs.declared.fault.MatchFault.{MatchFault}
 use Rattle.cx_match.specs.declared.fault.MatchFault.TheVariants as matches
 use Rattle.cx_job.specs.Faults.{config_fault, match_fault}
-use Rattle.cx_text.specs.Telling.{Stage, Then}
+use Rattle.cx_text.specs.Telling.{Stage, Then, Tells}
 use Rattle.cx_config.specs.Stages.{Is, unless, or_fault}
 use Rattle.cx_config.specs.Configuring.{Configures}
 use Rattle.cx_job.specs.Making.{Orders, Matches, Accepts, CutAnd, cut_limits, within_cut, LimitsAnd, ItemsAnd, OutputsAnd, PlanAnd, ValuesAnd, MadeOf, Made, Makes, Yields, output_ids, within_limits}
@@ -72,6 +72,11 @@ unless_ok None x y (inl m) = absurd cc
 unless_ok None x y (inr s) = (refl, cc)
 unless_ok (Some e) x y (inl m) = absurd cc
 unless_ok (Some e) x y (inr s) = absurd cc
+
+-- the second of two tests, where the first has found nothing
+pub told_second : {A : Type 0} (a b : Option JobFault) (r : Result A JobFault) → a ≡ None → Tells faults.Memory b r → Tells faults.Memory (or_else a b) r
+told_second None b r none told = told
+told_second (Some e) b r none told = absurd cc
 
 -- a stage that has given its value
 pub yields_ok : {A : Type 0} (p : Stage A JobFault) (x : A) → Yields p (Ok x) → p (Ok x)
