@@ -1,5 +1,5 @@
 -- The job of the tests: a scalar and a grid variable of two points, with checkpoints at iterations 20 and 40.
-use Rattle.std.specs.Prelude.{ℕ, ◌∷◌, [], List, Bool, false, true, pos, negsuc, codes}
+use Rattle.std.specs.Prelude.{◌∷◌, [], List, false, true, pos, negsuc, codes}
 use Rattle.cx_text.specs.declared.ctype.CType.TheVariants.{Int8, Byte}
 use Rattle.cx_plan.specs.declared.variable.VarInfo.{VarInfo}
 use Rattle.cx_plan.specs.declared.tree.Tree.{Tree, Seq}

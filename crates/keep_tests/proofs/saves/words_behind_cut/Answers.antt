@@ -5,4 +5,4 @@ use Rattle.keep_tests.proofs.SampleLaws.{sample-whole}
 use Rattle.keep_tests.proofs.saves.words_behind_cut.Goals as goal
 
 pub begin-requires : goal.begin-requires
-begin-requires c = subst IsWhole (sym c.in_ok-job.ensures) (sample-whole Auto)
+begin-requires c = record { whole = subst IsWhole (sym c.in_ok-job.ensures) (sample-whole Auto) }
