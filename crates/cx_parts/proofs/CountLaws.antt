@@ -70,10 +70,6 @@ sum_one (suc n) j f h = go (cases_eq j n) (sum_one n j f)
 
 -- ---- counts
 
-over_same : (f g : VarId → ℕ) (vars : List VarId) → ((v : VarId) → f v ≡ g v) → over_variables f vars ≡ over_variables g vars
-over_same f g [] h = refl
-over_same f g (v ∷ vars) h = rw (h v, over_same f g vars h) refl
-
 over_add : (f g : VarId → ℕ) (vars : List VarId) → over_variables (λ v. f v + g v) vars ≡ over_variables f vars + over_variables g vars
 over_add f g [] = refl
 over_add f g (v ∷ vars) = rw (over_add f g vars) (four (f v) (g v) (over_variables f vars) (over_variables g vars))

@@ -1,16 +1,11 @@
 -- What the parts give for a reduction makes the undivided run's number.
-use Rattle.std.proofs.Common.{◌≡◌, ℕ, zero, suc, ◌+◌, ◌<◌, Bool, true, false, List, length, map, arith, refl, sym, ap, ◌∙◌, ℤ, pos, ◌≤ℤ◌, ◌<ℤ◌, Option, Some, None}
+use Rattle.std.proofs.Common.{◌≡◌, ℕ, zero, suc, ◌<◌, Bool, true, false, List, length, map, refl, sym, ap, ◌∙◌, pos, Option, Some, None}
 use Rattle.std.specs.Prelude.{slice_index_or, if◌then◌else◌, ◌==◌}
 use Rattle.std.specs.List.{range_with_len}
-use Rattle.std.specs.Int.{int_rem_euclid}
-use Rattle.std.proofs.lemmas.List.FromFn.{fill_by_all, map-range_with_len_more}
-use Rattle.std.proofs.lemmas.Int.{ints}
-use Rattle.std.proofs.Math.Nat.{mod-eq_of_lt}
-use Rattle.cx_grid.specs.declared.boxes.Point.{Point}
-use Rattle.cx_grid.specs.declared.shapes.Shape.{Shape}
-use Rattle.cx_grid.specs.Boxes.{IsIn, IsOn, point_count, point_in, index_in, numbers_in}
-use Rattle.cx_grid.specs.Grid.{whole, wrap, is_periodic, at}
-use Rattle.cx_grid.proofs.Places.{same_point, point_inside, index_at_point}
+use Rattle.std.proofs.lemmas.List.FromFn.{fill_by_all}
+use Rattle.cx_grid.specs.Boxes.{point_count, point_in, index_in, numbers_in}
+use Rattle.cx_grid.specs.Grid.{whole, at}
+use Rattle.cx_grid.proofs.Places.{point_inside, index_at_point}
 use Rattle.cx_plan.specs.declared.variable.VarId.{VarId}
 use Rattle.cx_plan.specs.declared.item.Touch.{Touch}
 use Rattle.cx_plan.specs.declared.item.ItemKind.{ItemKind}
@@ -30,20 +25,10 @@ use Rattle.cx_parts.specs.Operations.{is_reduction}
 use Rattle.cx_parts.proofs.TruthLaws.{Folds}
 use Rattle.cx_parts.proofs.Reductions.{ReadsGrid, Reduces}
 use Rattle.cx_parts.proofs.ReduceLaws.{tiles_reduce}
+use Rattle.cx_model.proofs.PointLaws.{wrap-own}
+use Rattle.cx_parts.proofs.ListLaws.{range_same}
 
 -- ---- a whole level by its points
-
-own_remainder : (c n : ℤ) → pos 0 ≤ℤ c → c <ℤ n → int_rem_euclid c n ≡ c
-own_remainder (pos a) (pos b) h below = let small : a < b = omega (arith, ints) in ap pos (mod-eq_of_lt small)
-own_remainder (pos a) n h below = absurd (omega (arith, ints))
-own_remainder n m h below = absurd (omega (arith, ints))
-
-stays_along : (b : Bool) (n c : ℤ) → IsOn (pos 0) n c → (if b then int_rem_euclid c n else c) ≡ c
-stays_along true n c h = own_remainder c n h.from h.below
-stays_along false n c h = refl
-
-pub wrap_in : (s : Shape) (p : Point) → IsIn (whole s) p → wrap s p ≡ p
-wrap_in s p h = same_point (stays_along (is_periodic s 0) s.n.x p.x h.x) (stays_along (is_periodic s 1) s.n.y p.y h.y) (stays_along (is_periodic s 2) s.n.z p.z h.z)
 
 pub level_is : (setup : Setup) (state : State) (v : VarId) (level : ℕ) → IsState setup state → is_scalar setup v ≡ false → v.0 < length setup.vars → level < levels_of setup v
     → level_of state v level ≡ numbers_in (whole setup.shape) (values_of setup state v level)
@@ -54,7 +39,7 @@ level_is setup state v level is grid there stored =
   where
     each : (i : ℕ) → i < point_count (whole setup.shape) → slice_index_or (level_of state v level) i (pos 0) ≡ values_of setup state v level (point_in (whole setup.shape) i)
     each i l =
-        ap (λ j. slice_index_or (level_of state v level) j (pos 0)) (sym (index_at_point (whole setup.shape) i l) ∙ ap (index_in (whole setup.shape)) (sym (wrap_in setup.shape (point_in (whole setup.shape) i) (point_inside (whole setup.shape) i l))))
+        ap (λ j. slice_index_or (level_of state v level) j (pos 0)) (sym (index_at_point (whole setup.shape) i l) ∙ ap (index_in (whole setup.shape)) (sym (wrap-own setup.shape (point_in (whole setup.shape) i) (point_inside (whole setup.shape) i l))))
         ∙ sym (ap (λ (b : Bool). if b then scalar_of state v else at setup.shape (level_of state v level) (point_in (whole setup.shape) i)) grid)
 
 -- ---- what a result follows
@@ -83,16 +68,6 @@ begins_reduction setup (Piece v) i h = absurd cc
 begins_reduction setup Save i h = absurd cc
 begins_reduction setup Halt i h = absurd cc
 
--- ---- numbers of lists that agree
-
-map_same : (f g : ℕ → ℤ) (n : ℕ) → ((k : ℕ) → k < n → f k ≡ g k) → map f (range_with_len 0 n) ≡ map g (range_with_len 0 n)
-map_same f g zero h = refl
-map_same f g (suc n) h =
-    let more : suc n ≡ n + 1 = omega arith in
-    ap (λ j. map f (range_with_len 0 j)) more ∙ map-range_with_len_more f 0 n n (omega arith)
-    ∙ (rw (map_same f g n (λ k l. h k (omega (arith, l))), h n (omega arith)) refl)
-    ∙ sym (ap (λ j. map g (range_with_len 0 j)) more ∙ map-range_with_len_more g 0 n n (omega arith))
-
 -- ---- what the parts give
 
 module _ (r : Run) (w : IsCut (cut_of r)) (reduces : Reduces r) where
@@ -113,7 +88,7 @@ module _ (r : Run) (w : IsCut (cut_of r)) (reduces : Reduces r) where
   number_at_join (suc m) i e =
       let given = given_is m i e in
       let kept : (undivided r (suc m)).state ≡ (undivided r m).state = ap (λ o. state_after r.setup r.rules o (undivided r m).control.iteration (undivided r m).state) given in
-      ap (joined (item r.setup i).kind) (map_same (given_before (truth r) (suc m)) (λ a. number_by r a (values_of r.setup (undivided r m).state) i) (parts_in r) (λ a l. ap (given_by r a (undivided r m).state) given))
+      ap (joined (item r.setup i).kind) (range_same (parts_in r) (given_before (truth r) (suc m)) (λ a. number_by r a (values_of r.setup (undivided r m).state) i) (λ a l. ap (given_by r a (undivided r m).state) given))
       ∙ number_is (item r.setup i).kind (undivided r m).state (item r.setup i).reads (reduces.kind (suc m) i e) (reduces.states m) (reduces.reads (suc m) i e)
       ∙ ap (λ s. reduced (item r.setup i).kind (first_read s (item r.setup i).reads)) (sym kept)
 

@@ -1,6 +1,6 @@
 -- A reduction's result in each part: the numbers that all parts gave for it make the one that the way of all parts has.
 use Rattle.std.proofs.Common.{◌≡◌, ℕ, zero, suc, ◌+◌, ◌<◌, true, false, ltb, refl, sym, ap, ◌∙◌, subst, arith, cond, ℤ, List, [], ◌∷◌, ◌++◌, map, get_or, Option, Some, None}
-use Rattle.std.specs.Prelude.{All, MatchOption, is_some, is_none}
+use Rattle.std.specs.Prelude.{All, MatchOption, is_none}
 use Rattle.std.specs.List.{list_all, range_with_len}
 use Rattle.std.proofs.lemmas.Bool.{and_parts, and_from, lt-ltb, both_ways}
 use Rattle.std.proofs.lemmas.List.FromFn.{map-range_with_len_more}
@@ -13,7 +13,7 @@ use Rattle.cx_plan.specs.declared.item.Touch.{Touch}
 use Rattle.cx_plan.specs.declared.item.Item.{Item}
 use Rattle.cx_plan.specs.Setups.{Setup}
 use Rattle.cx_plan.specs.Lookups.{item, is_scalar}
-use Rattle.cx_plan.specs.Regions.{Flags, kinds_agree, reduces, has_shape, read_needs}
+use Rattle.cx_plan.specs.Regions.{Flags, has_shape}
 use Rattle.cx_rule.specs.Routine.{Rule}
 use Rattle.cx_model.specs.States.{State, level_of, scalar_of, IsState}
 use Rattle.cx_model.specs.Turns.{if_fit, reduced, first_read, reduce_turn, scalar_turn, turn, turn_by, values_of}
@@ -34,6 +34,7 @@ use Rattle.cx_parts.proofs.Sweeps.{IsStored}
 use Rattle.cx_parts.proofs.SweepMoves.{no_direction, turn_leaves}
 use Rattle.cx_parts.proofs.ScalarMoves.{is_scalar_touch, scalars_same, grids_stay, held_scalars, flags_stay, level_stays}
 use Rattle.cx_flat.specs.declared.op.Op.TheVariants as op
+use Rattle.cx_parts.proofs.WholeReductions.{shape_reduces}
 
 -- ---- what all parts gave
 
@@ -90,18 +91,8 @@ pub record IsReduction (setup : Setup) (x : Item) : Type 0 where
   pub shape : has_shape setup x ≡ true
   pub writes : All (λ (w : Touch). IsStored setup w.var 0) x.writes
 
-reduce_kinds : (setup : Setup) (x : Item) (kind : ItemKind) → is_reduction kind ≡ true → kinds_agree setup x kind ≡ true → reduces setup x ≡ true
-reduce_kinds setup x Cell e h = absurd cc
-reduce_kinds setup x Scalar e h = absurd cc
-reduce_kinds setup x Sum e h = h
-reduce_kinds setup x Least e h = h
-reduce_kinds setup x Greatest e h = h
-reduce_kinds setup x Count e h = h
-
 writes_scalars : (setup : Setup) (x : Item) → IsReduction setup x → list_all (is_scalar_touch setup) x.writes ≡ true
-writes_scalars setup x is =
-    let u = and_parts _ (list_all (λ r. is_some (read_needs setup x r)) x.reads) is.shape in
-    (and_parts _ (list_all (is_scalar_touch setup) x.writes) (reduce_kinds setup x x.kind is.kind (and_parts _ (kinds_agree setup x x.kind) u.0).1)).1
+writes_scalars setup x is = (and_parts _ (list_all (is_scalar_touch setup) x.writes) (shape_reduces setup x is.kind is.shape)).1
 
 turn_is : (kind : ItemKind) (setup : Setup) (rules : List Rule) (x : Item) (state : State) (iteration : ℕ) → is_reduction kind ≡ true → turn_by kind setup rules x state iteration ≡ reduce_turn setup x state
 turn_is Cell setup rules x state iteration e = absurd cc

@@ -18,6 +18,7 @@ use Rattle.cx_plan.specs.Lookups.{is_scalar, levels_of, no_variable}
 use Rattle.cx_plan.specs.Regions.{Flags, same_var, same_region, after_write, written, all_written}
 use Rattle.cx_model.specs.States.{State, level_of, scalar_of, with_level}
 use Rattle.cx_model.specs.Turns.{Values, number_or, level_after, levels_after}
+use Rattle.cx_parts.proofs.ListLaws.{not_true}
 
 -- whether a write is of this level
 abbrev pub hits : VarId → ℕ → Touch → Bool
@@ -31,10 +32,6 @@ later_or None o = o
 abbrev pub found : ℕ → List Touch → VarId → ℕ → Option ℕ
 found k [] v level = None
 found k (w ∷ ws) v level = later_or (found (k + 1) ws v level) (cond (hits v level w) (Some k) None)
-
-not_true : (b : Bool) → not b ≡ true → b ≡ false
-not_true true e = absurd cc
-not_true false e = refl
 
 pub hits_is : (v : VarId) (level : ℕ) (w : Touch) → v.0 ≡ w.var.0 → level ≡ w.level → hits v level w ≡ true
 hits_is v level w e f = ap (λ b. b && eqb level w.level) (eq-eqb v.0 w.var.0 e) ∙ eq-eqb level w.level f

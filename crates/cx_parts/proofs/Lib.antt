@@ -7,7 +7,6 @@ pub mod FoldLaws
 pub mod GuideLaws
 pub mod JoinMoves
 pub mod Jumps
-pub mod Leads
 pub mod LevelsLaws
 pub mod LiesLaws
 pub mod ListLaws
@@ -23,7 +22,6 @@ pub mod Reductions
 pub mod Rotations
 pub mod ScalarMoves
 pub mod SeenLaws
-pub mod Starts
 pub mod StateLaws
 pub mod SweepMoves
 pub mod Sweeps

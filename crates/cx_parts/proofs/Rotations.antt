@@ -1,6 +1,6 @@
 -- A part's rotation: each level becomes the next older one, and of the new current level the owned points alone count.
-use Rattle.std.proofs.Common.{◌≡◌, ℕ, zero, suc, ◌+◌, ◌-◌, ◌<◌, ◌≤◌, ◌⊎◌, inl, inr, Bool, true, false, refl, sym, ap, ◌∙◌, subst, arith, cond, ℤ, pos, List, [], ◌∷◌, length, take, drop, get_or, Option, Some, None}
-use Rattle.std.specs.Prelude.{MatchOption, nat_lt}
+use Rattle.std.proofs.Common.{◌≡◌, ℕ, zero, suc, ◌+◌, ◌-◌, ◌<◌, ◌≤◌, ◌⊎◌, inl, inr, Bool, true, false, refl, sym, ap, ◌∙◌, subst, arith, cond, ℤ, pos, List, [], ◌∷◌, length, take, drop, get_or, Some, None}
+use Rattle.std.specs.Prelude.{nat_lt}
 use Rattle.std.proofs.lemmas.Bool.{cases_lt, lt-ltb, both_ways}
 use Rattle.std.proofs.lemmas.List.{length-map, get_or-map, length-append, length-drop, length-take, get_or-append_right, get_or_append_left, get_or-drop, get_or-take}
 use Rattle.cx_grid.specs.declared.boxes.Point.{Point}
@@ -19,7 +19,7 @@ use Rattle.cx_parts.specs.Holding.{Held, IsHeld, number_at}
 use Rattle.cx_parts.specs.Runs.{Run, Oracle, next_op, undivided, op_of, flags_at, done_directions, guided, guided_state, cut_of}
 use Rattle.cx_model.specs.Needs.{notes_leave}
 use Rattle.cx_parts.specs.Moves.{Message, Channel, Moves}
-use Rattle.cx_parts.specs.Truths.{Stands, is_faulty}
+use Rattle.cx_parts.specs.Truths.{Stands}
 use Rattle.cx_parts.proofs.SweepMoves.{no_direction}
 use Rattle.cx_parts.proofs.ZoneLaws.{Lies, own_reached, reached_own}
 use Rattle.cx_flat.specs.declared.op.Op.TheVariants as op
@@ -156,8 +156,3 @@ module _ (tells : Type 0) (r : Run) (oracle : Oracle) (k n : ℕ) (x : Held) (li
             ∙ sym (ap (λ o. at r.setup.shape (level_of (state_after r.setup r.rules o (undivided r n).control.iteration now) v level) p) (op_is t)
                    ∙ ap (λ ls. at r.setup.shape (get_or ls level []) p) (rotated_at now v.0 (subst (λ m. v.0 < m) (sym (now_is t).vars) below)));
       }
-
-  pub rotate_faults : (t : tells) (mails : Channel → List (Message tells)) (h : Option Held) → Moves tells r k x mails op.Rotate h
-      → MatchOption h (is_faulty r k (op_of r n) (undivided r n) ≡ true) (λ y. is_faulty r k (op_of r n) (undivided r n) ≡ false)
-  rotate_faults t mails None g = absurd g
-  rotate_faults t mails (Some y) g = ap (λ o. is_faulty r k o (undivided r n)) (op_is t)

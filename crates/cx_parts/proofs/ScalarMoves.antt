@@ -153,10 +153,6 @@ turn_is setup rules x Least e state iteration = absurd cc
 turn_is setup rules x Greatest e state iteration = absurd cc
 turn_is setup rules x Count e state iteration = absurd cc
 
-pub none_same : (x : Item) (a b : State) (o : Option (List ℤ)) → is_none (scalar_turn x a o) ≡ is_none (scalar_turn x b o)
-none_same x a b None = refl
-none_same x a b (Some ns) = refl
-
 pub level_stays : (setup : Setup) (x : Item) (state : State) (o : Option (List ℤ)) (v : VarId) (level : ℕ) → is_scalar setup v ≡ false → list_all (is_scalar_touch setup) x.writes ≡ true
     → level_of (state_or (scalar_turn x state o) state) v level ≡ level_of state v level
 level_stays setup x state None v level e h = refl

@@ -1,5 +1,5 @@
 -- The states of the undivided run, and of the way of all parts, are whole at all places.
-use Rattle.std.proofs.Common.{◌≡◌, ℕ, zero, suc, ◌+◌, Bool, true, false, not, ◌&&◌, List, [], ◌∷◌, refl, sym, ap, ◌∙◌, subst, ℤ, Option, Some, None}
+use Rattle.std.proofs.Common.{◌≡◌, ℕ, zero, suc, ◌+◌, Bool, true, not, ◌&&◌, List, [], ◌∷◌, sym, ap, ◌∙◌, subst, ℤ, Option, Some, None}
 use Rattle.std.specs.Prelude.{if◌then◌else◌, is_some}
 use Rattle.std.specs.List.{list_all}
 use Rattle.std.proofs.lemmas.Bool.{and_parts}
@@ -30,15 +30,12 @@ use Rattle.cx_parts.specs.Runs.{Run, Oracle, next_op, undivided, guided, guided_
 use Rattle.cx_parts.specs.Operations.{IsRunItem, NamesWell}
 use Rattle.cx_parts.proofs.CodeLaws.{op_well}
 use Rattle.cx_parts.proofs.WholeReductions.{shape_reduces}
+use Rattle.cx_parts.proofs.ListLaws.{not_true}
 
 kinds_of : (setup : Setup) (x : Item) → has_shape setup x ≡ true → kinds_agree setup x x.kind ≡ true
 kinds_of setup x h =
     (and_parts (is_some_list x.writes && are_distinct x.writes) (kinds_agree setup x x.kind)
     (and_parts (is_some_list x.writes && are_distinct x.writes && kinds_agree setup x x.kind) (list_all (λ r. is_some (read_needs setup x r)) x.reads) h).0).1
-
-not_true : (b : Bool) → not b ≡ true → b ≡ false
-not_true true h = absurd cc
-not_true false h = refl
 
 -- levels of grid variables with other numbers
 levels_keep : (setup : Setup) (region : Region) (values : Values) (zone : Point → Bool) (numbers : Point → Option (List ℤ)) (k : ℕ) (ws : List Touch) (state : State)

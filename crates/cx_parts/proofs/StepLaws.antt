@@ -34,9 +34,6 @@ module _ (tells : Type 0) (r : Run) (run : IsRun r) where
     work_same : (n : ℕ) → IsWork (net tells within_lead r other) n → IsWork (net tells within_lead r o) n
     work_same n w = (w.0, ap (λ c. buffer_of r (next_op r c)) (way_same n) ∙ w.1)
 
-    work_back : (n : ℕ) → IsWork (net tells within_lead r o) n → IsWork (net tells within_lead r other) n
-    work_back n w = (w.0, ap (λ c. buffer_of r (next_op r c)) (sym (way_same n)) ∙ w.1)
-
     pub ended_other : (v : World Held (Message tells) Channel ℕ) → Ended (net tells within_lead r o) (script tells r o) v → Ended (net tells within_lead r other) (script tells r other) v
     ended_other v e = record {
       passed = e.passed;

@@ -143,9 +143,6 @@ module _ (setup : Setup) (rules : List Rule) (cut : Parts) (k : ℕ) (lies : Lie
       → read_needs setup x (get_or x.reads i t) ≡ cell_needs setup.shape region (get_or x.reads i t).region (get_or x.reads i t).reach
   read_row i t l grid = ap (λ b. cond b (Some (S ∷ [])) (grid_needs setup.shape x.kind region (get_or x.reads i t))) grid ∙ grid_read setup x (get_or x.reads i t) x.kind cell.kind
 
-  abbrev writes_test : Bool
-  writes_test = list_all (λ r. is_some (read_needs setup x r)) x.reads
-
   shape_parts : (kinds_agree setup x x.kind ≡ true) × (list_all (λ r. is_some (read_needs setup x r)) x.reads ≡ true)
   shape_parts =
       let u = and_parts _ (list_all (λ r. is_some (read_needs setup x r)) x.reads) cell.shape in

@@ -35,16 +35,14 @@ use Rattle.cx_parts.proofs.Places.{guided_op, Exchanges}
 use Rattle.cx_parts.specs.Operations.{IsExchange, at_var}
 use Rattle.cx_parts.proofs.ListLaws.{length_map, among_at, at_among, piece_number, numbers_length, number_in}
 use Rattle.cx_parts.proofs.PostLaws.{grid_value, op_true, reached_at}
-use Rattle.cx_parts.proofs.PairLaws.{ends_onward, begins_exchange, none_done, some_at, both_ways, are_there, and_left, and_right}
+use Rattle.cx_parts.proofs.PairLaws.{ends_onward, begins_exchange, some_at, both_ways, are_there, and_left, and_right}
+use Rattle.cx_parts.proofs.SweepMoves.{no_direction}
 
 -- ---- flags and directions
 
 -- every local point is reached in all directions
 pub all_reached : (r : Run) (k d : ℕ) (p : Point) → 3 ≤ d → IsIn (local (cut_of r) k) p → IsReached (cut_of r) k d p
 all_reached r k d p h i = record { inside = i; own = λ u from below. absurd (omega (arith, from, below, h)) }
-
-flags_post : (r : Run) (n d : ℕ) (vars : List VarId) → op_of r n ≡ Post d vars → flags_at r (suc n) ≡ flags_at r n
-flags_post r n d vars e = ap (λ o. notes_leave r.setup (notes_at r.setup r.rules o (undivided r n).control (undivided r n).state) (flags_at r n)) e
 
 flags_take : (r : Run) (n d : ℕ) (vars : List VarId) (path : List ℕ) → op_of r n ≡ Take d vars path
     → flags_at r (suc n) ≡ (if suc d == r.setup.shape.dims then exchanged vars (flags_at r n) else flags_at r n)
@@ -92,9 +90,6 @@ module _ (tells : Type 0) (Near : Nearness) (r : Run) (oracle : Oracle) (law : N
 
   below : tells → d < 3
   below t = let e = exchange t in omega (arith, e.direction, ex.few)
-
-  sent_true : (j : ℕ) → Side → tells → List ℤ
-  sent_true j side = faces_by r j (values_of r.setup (undivided r m).state) d vars side
 
   mail_is : tells → (j : ℕ) → j < parts_in r → mails (Wire j k) ≡ posted_faces r m j (λ side. faces_by r j (values_of r.setup (undivided r m).state) d vars side) d vars k
   mail_is t j h =
@@ -223,7 +218,7 @@ module _ (tells : Type 0) (Near : Nearness) (r : Run) (oracle : Oracle) (law : N
       same_done = go (suc d == r.setup.shape.dims) refl ∙ sym (ap (λ o. done_directions o v level) op_here ∙ (rw off refl))
         where
           go : (b : Bool) → (suc d == r.setup.shape.dims) ≡ b → done_directions (op_of r (suc (suc m))) v level ≡ 0
-          go true e = none_done (op_of r (suc (suc m))) v level (next_op_none e)
+          go true e = no_direction (op_of r (suc (suc m))) (next_op_none e) v level
           go false e = ap (λ o. done_directions o v level) (next_op_is e) ∙ (rw off refl)
 
       same_synced : synced r (suc (suc m)) v level ≡ synced r (suc m) v level

@@ -1,19 +1,13 @@
 -- Where wires tell, the way by what the parts give is the undivided run.
-use Rattle.std.proofs.Common.{◌≡◌, ℕ, zero, suc, ◌<◌, ℤ, pos, map, arith, refl, ap, ◌∙◌}
-use Rattle.std.specs.List.{range_with_len}
-use Rattle.std.proofs.lemmas.List.FromFn.{fill_by_all, length-map-range_with_len, get_or-map-range_with_len}
+use Rattle.std.proofs.Common.{◌≡◌, ℕ, zero, suc, ◌<◌, refl, ap, ◌∙◌}
 use Rattle.cx_plan.specs.Lookups.{item}
 use Rattle.cx_model.specs.States.{State}
 use Rattle.cx_flat.specs.declared.op.Op.{Op}
 use Rattle.cx_flat.specs.declared.op.Op.TheVariants.{Sweep, Apply, Give, Join, Post, Take, Test, Open, Turn, Again, Rotate, Due, Written, Skip, Next, Piece, Save, Halt}
 use Rattle.cx_model.specs.Courses.{state_or}
 use Rattle.cx_parts.specs.Holding.{joined, join_turn}
-use Rattle.cx_parts.specs.Runs.{Run, Oracle, next_op, undivided, given_before, joined_at, guided_state, guided_step, guided, parts_in}
-use Rattle.cx_parts.specs.Truths.{truth}
-use Rattle.cx_parts.proofs.TruthLaws.{Folds, guided_truth}
-
-map_same : (n : ℕ) (f g : ℕ → ℤ) → ((i : ℕ) → i < n → g i ≡ f i) → map g (range_with_len 0 n) ≡ map f (range_with_len 0 n)
-map_same n f g h = fill_by_all f (map g (range_with_len 0 n)) n (pos 0) (length-map-range_with_len g 0 n) (λ i l. get_or-map-range_with_len g 0 n i i (pos 0) l (omega arith) ∙ h i l)
+use Rattle.cx_parts.specs.Runs.{Run, Oracle, next_op, given_before, joined_at, guided_state, guided_step, guided, parts_in}
+use Rattle.cx_parts.proofs.ListLaws.{range_same}
 
 module _ (r : Run) (one another : Oracle) (same : (k n : ℕ) → k < parts_in r → one k n ≡ another k n) where
   given_same : (n k : ℕ) → k < parts_in r → given_before one n k ≡ given_before another n k
@@ -21,7 +15,7 @@ module _ (r : Run) (one another : Oracle) (same : (k n : ℕ) → k < parts_in r
   given_same (suc n) k l = same k n l
 
   pub joined_same : (k n : ℕ) → joined_at r one k n ≡ joined_at r another k n
-  joined_same k n = ap (joined (item r.setup k).kind) (map_same (parts_in r) (given_before another n) (given_before one n) (given_same n))
+  joined_same k n = ap (joined (item r.setup k).kind) (range_same (parts_in r) (given_before one n) (given_before another n) (given_same n))
 
   state_same : (n : ℕ) (o : Op) (iteration : ℕ) (state : State) → guided_state r one n o iteration state ≡ guided_state r another n o iteration state
   state_same n (Sweep k) iteration state = refl
@@ -50,6 +44,3 @@ module _ (r : Run) (one another : Oracle) (same : (k n : ℕ) → k < parts_in r
       ap (λ g. guided_step r one n (next_op r g.control) g) (parts_guide n)
       ∙ ap (λ s. record { control = (guided_step r another n (next_op r (guided r another n).control) (guided r another n)).control; state = s })
       (state_same n (next_op r (guided r another n).control) (guided r another n).control.iteration (guided r another n).state)
-
-pub true_way : (r : Run) (oracle : Oracle) → Folds r → ((k n : ℕ) → k < parts_in r → oracle k n ≡ truth r k n) → (n : ℕ) → guided r oracle n ≡ undivided r n
-true_way r oracle folds same n = parts_guide r oracle (truth r) same n ∙ guided_truth r folds n

@@ -1,5 +1,5 @@
 -- The reductions of a whole job's run, from its code: their kinds, and what they read.
-use Rattle.std.proofs.Common.{◌≡◌, ℕ, Bool, true, false, not, ◌&&◌, List, [], ◌∷◌, arith, refl, sym, subst, All}
+use Rattle.std.proofs.Common.{◌≡◌, ℕ, true, not, ◌&&◌, List, [], ◌∷◌, arith, refl, sym, subst, All}
 use Rattle.std.specs.Prelude.{is_some, None}
 use Rattle.std.specs.List.{list_all}
 use Rattle.std.proofs.lemmas.Bool.{and_parts}
@@ -22,6 +22,7 @@ use Rattle.cx_parts.specs.Operations.{is_reduction, IsRunItem, NamesWell}
 use Rattle.cx_parts.proofs.Reductions.{ReadsGrid, Reduces}
 use Rattle.cx_parts.proofs.CodeLaws.{op_well}
 use Rattle.cx_parts.proofs.UndividedPairs.{pairs_first, pairs_next}
+use Rattle.cx_parts.proofs.ListLaws.{not_true}
 
 reduce_kinds : (setup : Setup) (x : Item) (kind : ItemKind) → is_reduction kind ≡ true → kinds_agree setup x kind ≡ true → reduces setup x ≡ true
 reduce_kinds setup x Cell e h = absurd cc
@@ -36,10 +37,6 @@ shape_reduces setup x red h =
     reduce_kinds setup x x.kind red
     (and_parts (is_some_list x.writes && are_distinct x.writes) (kinds_agree setup x x.kind)
     (and_parts (is_some_list x.writes && are_distinct x.writes && kinds_agree setup x x.kind) (list_all (λ r. is_some (read_needs setup x r)) x.reads) h).0).1
-
-not_true : (b : Bool) → not b ≡ true → b ≡ false
-not_true true h = absurd cc
-not_true false h = refl
 
 one_read : (job : Job) (reads : List Touch) → is_one reads ≡ true → list_all (λ (r : Touch). not (is_scalar (setup_of job) r.var)) reads ≡ true → All (IsTouch job) reads → ReadsGrid (setup_of job) reads
 one_read job [] one h all = absurd cc

@@ -8,7 +8,7 @@ use Rattle.std.proofs.lemmas.List.FromFn.{length-map-range_with_len, get_or-map-
 use Rattle.cx_grid.specs.declared.boxes.Point.{Point}
 use Rattle.cx_grid.specs.declared.boxes.Box3.{Box3}
 use Rattle.cx_grid.specs.declared.shapes.Shape.{Shape}
-use Rattle.cx_grid.specs.Boxes.{along, shifted, IsOn, IsIn, point_count, index_in, point_in, points_in, is_on, has_point}
+use Rattle.cx_grid.specs.Boxes.{shifted, IsOn, IsIn, point_count, index_in, point_in, points_in, is_on, has_point}
 use Rattle.cx_grid.specs.Grid.{is_boundary, source, wrap, whole}
 use Rattle.cx_grid.specs.Windows.{reach_box}
 use Rattle.cx_grid.proofs.Places.{same_point, index_below, point_at_index, point_inside}
@@ -21,6 +21,7 @@ use Rattle.cx_model.specs.Turns.{window_point}
 use Rattle.cx_cut.proofs.Boxed.{in_by_along}
 use Rattle.cx_cut.specs.Cuts.{owned_low, owned_high, Parts, IsReached, owned, local}
 use Rattle.cx_parts.specs.Holding.{in_zone}
+use Rattle.cx_parts.proofs.ListLaws.{not_true}
 
 -- ---- points of a box
 
@@ -48,11 +49,6 @@ pub in_from : (b : Box3) (p : Point) → IsIn b p → has_point b p ≡ true
 in_from b p h =
     and_from (is_on b.low.x b.high.x p.x && is_on b.low.y b.high.y p.y) (is_on b.low.z b.high.z p.z)
     (and_from (is_on b.low.x b.high.x p.x) (is_on b.low.y b.high.y p.y) (on_from b.low.x b.high.x p.x h.x) (on_from b.low.y b.high.y p.y h.y)) (on_from b.low.z b.high.z p.z h.z)
-
-along_on : (b : Box3) (p : Point) → IsIn b p → (e : ℕ) → IsOn (along b.low e) (along b.high e) (along p e)
-along_on b p h zero = h.x
-along_on b p h (suc zero) = h.y
-along_on b p h (suc (suc e)) = h.z
 
 -- ---- what a cut owes
 
@@ -82,10 +78,6 @@ stays_put dims p o h =
 
 put_at : (dims reach : ℕ) (p o : Point) → reach ≡ 0 → IsIn (reach_box dims reach) o → p ≡ shifted p o
 put_at dims reach p o e h = sym (stays_put dims p o (subst (λ n. IsIn (reach_box dims n) o) e h))
-
-not_true : (b : Bool) → not b ≡ true → b ≡ false
-not_true true e = absurd cc
-not_true false e = refl
 
 none_some : true ≡ false → ⊥
 none_some e = absurd cc
