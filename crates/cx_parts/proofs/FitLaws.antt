@@ -37,7 +37,7 @@ some_part r run =
     let s = shape r run in
     let c = cut_of r in
     let below = part_below c (λ d. 0) (by_direction (λ d. 0 < parts_along c d)
-        (some_width c.shape.n.x c.shape.ghost_.x c.x run.cut.x s.x.some) (some_width c.shape.n.y c.shape.ghost_.y c.y run.cut.y s.y.some) (some_width c.shape.n.z c.shape.ghost_.z c.z run.cut.z s.z.some)) in
+    (some_width c.shape.n.x c.shape.ghost_.x c.x run.cut.x s.x.some) (some_width c.shape.n.y c.shape.ghost_.y c.y run.cut.y s.y.some) (some_width c.shape.n.z c.shape.ghost_.z c.z run.cut.z s.z.some)) in
     positive (part_count c) below
   where
     positive : (n : ℕ) {m : ℕ} → m < n → 0 < n

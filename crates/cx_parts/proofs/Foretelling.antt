@@ -56,8 +56,8 @@ module _ (r : Run) (oracle other : Oracle) where
       to_all j l =
           let e : is_there r (Board k j) ≡ true = and_from (ltb k (parts_in r)) (ltb j (parts_in r)) (lt-ltb k (parts_in r) k_part) (lt-ltb j (parts_in r) l) in
           let z : length (mail_at tells r oracle (Board k j) p) ≡ 1 =
-              ap (λ b. length (cond b (op_posts {tells = tells} r (op_there r oracle p) p (faces_by {tells = tells} r k (values_of r.setup (undivided r p).state)) (λ i. oracle k p) (Board k j)) [])) e
-              ∙ ap (λ o. length (op_posts {tells = tells} r o p (faces_by {tells = tells} r k (values_of r.setup (undivided r p).state)) (λ i. oracle k p) (Board k j))) gives_there in
+          ap (λ b. length (cond b (op_posts {tells = tells} r (op_there r oracle p) p (faces_by {tells = tells} r k (values_of r.setup (undivided r p).state)) (λ i. oracle k p) (Board k j)) [])) e
+          ∙ ap (λ o. length (op_posts {tells = tells} r o p (faces_by {tells = tells} r k (values_of r.setup (undivided r p).state)) (λ i. oracle k p) (Board k j))) gives_there in
           (Board k j, refl, refl, omega arith)
 
       pub frees : Frees (net tells Near r oracle) (script tells r oracle) (Agrees tells r oracle) (Books tells r) (λ n. (guided r other n).control) (last_of r other) (script tells r other) (Agrees tells r other) (Books tells r) k p

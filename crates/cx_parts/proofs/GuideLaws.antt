@@ -22,7 +22,7 @@ pub joined_same : (r : Run) (o p : Oracle) (k n : ℕ) → AgreeBefore r o p (su
 joined_same r o p k n h =
     ap (λ (numbers : List ℤ). joined (item r.setup k).kind numbers)
     (fill_by_all (given_before o n) (map (given_before p n) (range_with_len 0 (parts_in r))) (parts_in r) (pos 0) (length-map-range_with_len (given_before p n) 0 (parts_in r))
-     (λ i l. get_or-map-range_with_len (given_before p n) 0 (parts_in r) i i (pos 0) l (omega arith) ∙ given_same r o p n i l h))
+    (λ i l. get_or-map-range_with_len (given_before p n) 0 (parts_in r) i i (pos 0) l (omega arith) ∙ given_same r o p n i l h))
 
 step_same : (r : Run) (o p : Oracle) (n : ℕ) (x : Op) (iteration : ℕ) (state : State) → AgreeBefore r o p (suc n) → guided_state r p n x iteration state ≡ guided_state r o n x iteration state
 step_same r o p n (Join k) iteration state h = ap (λ z. state_or (join_turn r.setup (item r.setup k) state z) state) (joined_same r o p k n h)

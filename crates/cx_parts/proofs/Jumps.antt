@@ -69,7 +69,8 @@ leaves r (op.Post d vars) j s = record { guided_stays = λ o n i st. refl; state
 leaves r (op.Test v path skip) j s = record { guided_stays = λ o n i st. refl; state_stays = λ i st. refl; flags_stay = λ c st fl. refl; same_control = λ f g c h. ap (λ z. control_after r.setup (op.Test v path skip) (λ w. z) c) (h v s) }
 leaves r op.Open j s = record { guided_stays = λ o n i st. refl; state_stays = λ i st. refl; flags_stay = λ c st fl. refl; same_control = λ f g c h. refl }
 leaves r (op.Turn v path skip) j s = record {
-  guided_stays = λ o n i st. refl; state_stays = λ i st. refl;
+  guided_stays = λ o n i st. refl;
+  state_stays = λ i st. refl;
   flags_stay = λ c st fl. tested_flags r.setup (eqb (last_turns c.opened) r.setup.while_limit) _ _ fl refl refl;
   same_control = λ f g c h. ap (λ z. turn_control r.setup c skip z) (h v s);
 }
@@ -216,7 +217,7 @@ jump_meets tells r k x mails op.Open j s g c e h m = never r op.Open x h m
 jump_meets tells r k x mails (op.Turn v path skip) j s g c e h m =
     subst (λ (q : Control). Meets h (eqb (last_turns q.opened) r.setup.while_limit && by_zero (scalar_of g.state v) false true)) c
     (subst (λ z. Meets h (eqb (last_turns x.control.opened) r.setup.while_limit && by_zero z false true)) (e v s)
-     (turned_meets r (op.Turn v path skip) x h (eqb (last_turns x.control.opened) r.setup.while_limit) (scalar_of x.numbers v) m))
+    (turned_meets r (op.Turn v path skip) x h (eqb (last_turns x.control.opened) r.setup.while_limit) (scalar_of x.numbers v) m))
 jump_meets tells r k x mails (op.Again back) j s g c e h m = never r (op.Again back) x h m
 jump_meets tells r k x mails (op.Due skip) j s g c e h m = never r (op.Due skip) x h m
 jump_meets tells r k x mails (op.Written skip) j s g c e h m = never r (op.Written skip) x h m
@@ -229,8 +230,8 @@ jump_meets tells r k x mails op.Halt j s g c e h m = never r op.Halt x h m
 -- ---- a part's operation
 
 module _ (tells : Type 0) (r : Run) (oracle : Oracle) (k n : ℕ) (x : Held) (o : Op) (jumps : is_jump o ≡ true) (reads : ReadsScalar r.setup o)
-         (agrees : Stands tells r oracle k n x) (there : next_op r (guided r oracle n).control ≡ o)
-         (truth : tells → guided r oracle n ≡ undivided r n) (pair : tells → ends_pair (op_of r (suc n)) ≡ begins_pair r.setup (op_of r n)) where
+    (agrees : Stands tells r oracle k n x) (there : next_op r (guided r oracle n).control ≡ o)
+    (truth : tells → guided r oracle n ≡ undivided r n) (pair : tells → ends_pair (op_of r (suc n)) ≡ begins_pair r.setup (op_of r n)) where
   op_is : tells → op_of r n ≡ o
   op_is t = ap (λ g. next_op r g.control) (sym (truth t)) ∙ there
 
@@ -252,13 +253,13 @@ module _ (tells : Type 0) (r : Run) (oracle : Oracle) (k n : ℕ) (x : Held) (o 
             numbers = λ t v level p grid below stored reached.
                 ap (λ numbers. local_values r.setup (local (cut_of r) k) numbers v level p) g.1
                 ∙ agrees.numbers t v level p grid below stored
-                  (subst (λ d. IsReached (cut_of r) k (cond (flags_at r n v level G) 3 d) p)
-                   (done_stays r.setup o (op_of r (suc n)) jumps (pair t ∙ ap (begins_pair r.setup) (op_is t)) v level ∙ sym (ap (λ q. done_directions q v level) (op_is t)))
-                   (subst (λ (f : Flags). IsReached (cut_of r) k (cond (f v level G) 3 (done_directions (op_of r (suc n)) v level)) p)
-                    (ap (λ q. notes_leave r.setup (notes_at r.setup r.rules q (undivided r n).control (undivided r n).state) (flags_at r n)) (op_is t) ∙ l.flags_stay (undivided r n).control (undivided r n).state (flags_at r n))
-                    reached))
+                (subst (λ d. IsReached (cut_of r) k (cond (flags_at r n v level G) 3 d) p)
+                (done_stays r.setup o (op_of r (suc n)) jumps (pair t ∙ ap (begins_pair r.setup) (op_is t)) v level ∙ sym (ap (λ q. done_directions q v level) (op_is t)))
+                (subst (λ (f : Flags). IsReached (cut_of r) k (cond (f v level G) 3 (done_directions (op_of r (suc n)) v level)) p)
+                (ap (λ q. notes_leave r.setup (notes_at r.setup r.rules q (undivided r n).control (undivided r n).state) (flags_at r n)) (op_is t) ∙ l.flags_stay (undivided r n).control (undivided r n).state (flags_at r n))
+                reached))
                 ∙ sym (ap (λ state. at r.setup.shape (level_of state v level) p)
-                       (ap (λ q. state_after r.setup r.rules q (undivided r n).control.iteration (undivided r n).state) (op_is t) ∙ l.state_stays (undivided r n).control.iteration (undivided r n).state));
+                (ap (λ q. state_after r.setup r.rules q (undivided r n).control.iteration (undivided r n).state) (op_is t) ∙ l.state_stays (undivided r n).control.iteration (undivided r n).state));
           }
 
   -- an end is met at a WHILE's limit alone, where the undivided run meets it

@@ -234,6 +234,6 @@ held_after setup region box values zone numbers k (w ∷ ws) state held h =
     let q = and_parts (not (is_scalar setup w.var)) (same_region w.region region) p.0 in
     let list = level_after box zone numbers k (values w.var w.level) in
     let many : length list ≡ cond (is_scalar setup w.var) 1 (point_count box) =
-        length-map-range_with_len (λ i. (λ (p : Point). cond (zone p) (number_or (numbers p) k (values w.var w.level p)) (values w.var w.level p)) (point_in box i)) 0 (point_count box)
-        ∙ sym (ap (λ b. cond b 1 (point_count box)) (not_true (is_scalar setup w.var) q.0)) in
+    length-map-range_with_len (λ i. (λ (p : Point). cond (zone p) (number_or (numbers p) k (values w.var w.level p)) (values w.var w.level p)) (point_in box i)) 0 (point_count box)
+    ∙ sym (ap (λ b. cond b 1 (point_count box)) (not_true (is_scalar setup w.var) q.0)) in
     held_after setup region box values zone numbers (k + 1) ws (with_level state w.var w.level list) (held_with setup box state w list held many) p.1

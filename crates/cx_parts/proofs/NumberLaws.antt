@@ -66,8 +66,8 @@ module _ (r : Run) (run : IsRun r) (k : ℕ) (numbers state : State) (is : IsSta
       let g = reads_of i h in
       ap (λ (rs : List Touch). reduced (item r.setup i).kind (first_numbers (held_values r k numbers) (owned (cut_of r) k) rs)) g.reads_are
       ∙ ap (reduced (item r.setup i).kind)
-        (numbers_same (owned (cut_of r) k) (held_values r k numbers g.touch.var g.touch.level) (values_of r.setup state g.touch.var g.touch.level)
-         (λ p inside. owns g.touch.var g.touch.level p g.grid g.there g.stored inside ∙ sym (grid_of r.setup state g.touch.var g.touch.level p g.grid)))
+      (numbers_same (owned (cut_of r) k) (held_values r k numbers g.touch.var g.touch.level) (values_of r.setup state g.touch.var g.touch.level)
+      (λ p inside. owns g.touch.var g.touch.level p g.grid g.there g.stored inside ∙ sym (grid_of r.setup state g.touch.var g.touch.level p g.grid)))
       ∙ sym (ap (λ (rs : List Touch). reduced (item r.setup i).kind (first_numbers (values_of r.setup state) (owned (cut_of r) k) rs)) g.reads_are)
 
   -- a piece of output

@@ -61,9 +61,12 @@ module _ (tells : Type 0) (r : Run) (run : IsRun r) (o : Oracle) (is : IsOracle 
 
   -- nothing is given next
   no_gift : gives_by r k y (op_there r o p) (o k p) → Kept
-  no_gift g = (o, is,
-      move_kept (net tells within_lead r o) (script tells r o) (Agrees tells r o) (GivesAt r o) (Books tells r) (fits o is) w inv k can y move
-      (subst (λ c. gives_by r k y (next_op r c) (o k p)) (sym stands.control) g))
+  no_gift g = (
+    o,
+    is,
+    move_kept (net tells within_lead r o) (script tells r o) (Agrees tells r o) (GivesAt r o) (Books tells r) (fits o is) w inv k can y move
+        (subst (λ c. gives_by r k y (next_op r c) (o k p)) (sym stands.control) g),
+  )
 
   -- a number is given next
   module _ (i : ℕ) (there : op_there r o p ≡ op.Give i) where
@@ -103,13 +106,20 @@ module _ (tells : Type 0) (r : Run) (run : IsRun r) (o : Oracle) (is : IsOracle 
         let same_control = control_same r o other k p same (ways o) (ways other) in
         let before : w.place k < suc (w.place k) = omega arith in
         let can_other : CanMove (net tells within_lead r other) w k = record {
-          part = can.part; going = can.going; left_over = can.left_over; before = can.before; ready = can.ready; near = can.near;
+          part = can.part;
+          going = can.going;
+          left_over = can.left_over;
+          before = can.before;
+          ready = can.ready;
+          near = can.near;
           room = λ b m q a l f. can.room b m q a l (ap (λ c. buffer_of r (next_op r c)) (sym (same_control m (let s = l in omega (arith, s)))) ∙ f);
-        } in
-        (other, other_is,
-         move_kept (net tells within_lead r other) (script tells r other) (Agrees tells r other) (GivesAt r other) (Books tells r) (fits other other_is) w
-         (woven_other r o other k p same (ways o) (ways other) tells within_lead i can.part there w inv before) k can_other y move
-         (subst (λ c. gives_by r k y (next_op r c) (other k p)) (sym stands.control) (subst (λ q. gives_by r k y q (other k p)) (sym there) (sym (foretold_here o k p number)))))
+        } in (
+          other,
+          other_is,
+          move_kept (net tells within_lead r other) (script tells r other) (Agrees tells r other) (GivesAt r other) (Books tells r) (fits other other_is) w
+              (woven_other r o other k p same (ways o) (ways other) tells within_lead i can.part there w inv before) k can_other y move
+              (subst (λ c. gives_by r k y (next_op r c) (other k p)) (sym stands.control) (subst (λ q. gives_by r k y q (other k p)) (sym there) (sym (foretold_here o k p number)))),
+        )
 
   by_op : (q : Op) → op_there r o p ≡ q → Kept
   by_op (op.Give i) e = gift i e

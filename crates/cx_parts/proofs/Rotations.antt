@@ -87,10 +87,10 @@ held_rotates setup box state held =
 -- ---- a part's rotation
 
 module _ (tells : Type 0) (r : Run) (oracle : Oracle) (k n : ℕ) (x : Held) (lies : Lies r.setup.shape (cut_of r) k)
-         (agrees : Stands tells r oracle k n x) (there : next_op r (guided r oracle n).control ≡ op.Rotate)
-         (truth : tells → guided r oracle n ≡ undivided r n) (states : IsState r.setup (guided r oracle n).state)
-         (one_level : (v : VarId) → is_scalar r.setup v ≡ true → (v.0 < length r.setup.vars) × (levels_of r.setup v ≤ 1))
-         (quiet : tells → ends_pair (op_of r (suc n)) ≡ None) where
+    (agrees : Stands tells r oracle k n x) (there : next_op r (guided r oracle n).control ≡ op.Rotate)
+    (truth : tells → guided r oracle n ≡ undivided r n) (states : IsState r.setup (guided r oracle n).state)
+    (one_level : (v : VarId) → is_scalar r.setup v ≡ true → (v.0 < length r.setup.vars) × (levels_of r.setup v ≤ 1))
+    (quiet : tells → ends_pair (op_of r (suc n)) ≡ None) where
   abbrev now : State
   now = (undivided r n).state
 
@@ -150,9 +150,9 @@ module _ (tells : Type 0) (r : Run) (oracle : Oracle) (k n : ℕ) (x : Held) (li
             ∙ ap (λ numbers. number_at (local (cut_of r) k) (level_of numbers v level) p) g.1
             ∙ ap (λ ls. number_at (local (cut_of r) k) (get_or ls level []) p) (rotated_at x.numbers v.0 (subst (λ m. v.0 < m) (sym agrees.sized.vars) below))
             ∙ new_same t v level p grid below stored (nat_lt 1 (levels_of r.setup v)) refl
-              (subst (λ d. IsReached (cut_of r) k (cond (rotated r.setup (flags_at r n) v level G) 3 d) p) (no_direction (op_of r (suc n)) (quiet t) v level)
-               (subst (λ (f : Flags). IsReached (cut_of r) k (cond (f v level G) 3 (done_directions (op_of r (suc n)) v level)) p)
-                (ap (λ o. notes_leave r.setup (notes_at r.setup r.rules o (undivided r n).control now) (flags_at r n)) (op_is t)) reached))
+            (subst (λ d. IsReached (cut_of r) k (cond (rotated r.setup (flags_at r n) v level G) 3 d) p) (no_direction (op_of r (suc n)) (quiet t) v level)
+            (subst (λ (f : Flags). IsReached (cut_of r) k (cond (f v level G) 3 (done_directions (op_of r (suc n)) v level)) p)
+            (ap (λ o. notes_leave r.setup (notes_at r.setup r.rules o (undivided r n).control now) (flags_at r n)) (op_is t)) reached))
             ∙ sym (ap (λ o. at r.setup.shape (level_of (state_after r.setup r.rules o (undivided r n).control.iteration now) v level) p) (op_is t)
-                   ∙ ap (λ ls. at r.setup.shape (get_or ls level []) p) (rotated_at now v.0 (subst (λ m. v.0 < m) (sym (now_is t).vars) below)));
+            ∙ ap (λ ls. at r.setup.shape (get_or ls level []) p) (rotated_at now v.0 (subst (λ m. v.0 < m) (sym (now_is t).vars) below)));
       }

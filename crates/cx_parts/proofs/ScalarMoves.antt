@@ -161,9 +161,9 @@ level_stays setup x state (Some ns) v level e h = ap (λ ls. get_or ls level [])
 -- ---- a part's turn
 
 module _ (tells : Type 0) (r : Run) (oracle : Oracle) (k n i : ℕ) (x : Held) (is : IsScalarItem r.setup (item r.setup i))
-         (agrees : Stands tells r oracle k n x) (there : next_op r (guided r oracle n).control ≡ op.Apply i)
-         (truth : tells → guided r oracle n ≡ undivided r n) (states : IsState r.setup (guided r oracle n).state)
-         (quiet : tells → ends_pair (op_of r (suc n)) ≡ None) where
+    (agrees : Stands tells r oracle k n x) (there : next_op r (guided r oracle n).control ≡ op.Apply i)
+    (truth : tells → guided r oracle n ≡ undivided r n) (states : IsState r.setup (guided r oracle n).state)
+    (quiet : tells → ends_pair (op_of r (suc n)) ≡ None) where
   abbrev it : Item
   it = item r.setup i
 
@@ -237,8 +237,8 @@ module _ (tells : Type 0) (r : Run) (oracle : Oracle) (k n i : ℕ) (x : Held) (
                 ∙ ap (λ ls. number_at (local (cut_of r) k) (get_or ls level []) p) (grids_stay r.setup it.writes ns x.numbers v grid (touches r.setup it is).0)
                 ∙ sym (ap (λ b. cond b (scalar_of x.numbers v) (number_at (local (cut_of r) k) (level_of x.numbers v level) p)) grid)
                 ∙ agrees.numbers t v level p grid below stored
-                  (subst (λ d. IsReached (cut_of r) k (cond (flags_at r n v level G) 3 d) p) (no_direction (op_of r (suc n)) (quiet t) v level ∙ sym (ap (λ o. done_directions o v level) (op_is t)))
-                   (subst (λ b. IsReached (cut_of r) k (cond b 3 (done_directions (op_of r (suc n)) v level)) p) (flags_same t v level grid) reached))
+                (subst (λ d. IsReached (cut_of r) k (cond (flags_at r n v level G) 3 d) p) (no_direction (op_of r (suc n)) (quiet t) v level ∙ sym (ap (λ o. done_directions o v level) (op_is t)))
+                (subst (λ b. IsReached (cut_of r) k (cond b 3 (done_directions (op_of r (suc n)) v level)) p) (flags_same t v level grid) reached))
                 ∙ sym (ap (λ list. at r.setup.shape list p) (level_same t v level grid));
           }
         where

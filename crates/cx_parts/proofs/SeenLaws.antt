@@ -78,6 +78,6 @@ swept_wrapped setup rules x state iteration p h =
     let q = window_point setup.shape (region_of x.writes) p in
     numbers_at_same setup rules x (values_of setup state) (values_of setup state) iteration (window_point setup.shape (region_of x.writes) (wrap setup.shape p)) q (wrap setup.shape p)
     (all_of (ShowsSame setup (values_of setup state) (values_of setup state) (window_point setup.shape (region_of x.writes) (wrap setup.shape p)) q)
-     (λ r o i. values_wrapped setup state r.var r.level (shifted (window_point setup.shape (region_of x.writes) (wrap setup.shape p)) o) (shifted q o)
-         (ap (λ w. wrap setup.shape (shifted w o)) (window_wrapped setup.shape (region_of x.writes) p) ∙ wrap_shifted setup.shape q o h)) x.reads)
+    (λ r o i. values_wrapped setup state r.var r.level (shifted (window_point setup.shape (region_of x.writes) (wrap setup.shape p)) o) (shifted q o)
+    (ap (λ w. wrap setup.shape (shifted w o)) (window_wrapped setup.shape (region_of x.writes) p) ∙ wrap_shifted setup.shape q o h)) x.reads)
     ∙ ap (λ w. if_fit setup x.writes (rule_at rules x.routine (seen_at setup x (values_of setup state) q) (record { at = w; shape = setup.shape; iteration = iteration; params = x.params }))) (wrap_twice setup.shape p h)

@@ -94,9 +94,9 @@ module _ (tells : Type 0) (Near : Nearness) (r : Run) (run : IsRun r) (oracle : 
   begun_gives e =
       subst (λ z. gives_by r k ((net tells Near r oracle).start k) (op_of r 0) z) (sym e)
       (gives_truth r k ((net tells Near r oracle).start k) (op_of r 0) first
-       (λ i h. number_same r run k begun first run.first
-        (λ v level p g l m inside. begun_true v level p g l m ((lies r run k part).own p inside))
-        i (names r run (Give i) r.first.control.pc h)))
+      (λ i h. number_same r run k begun first run.first
+      (λ v level p g l m inside. begun_true v level p g l m ((lies r run k part).own p inside))
+      i (names r run (Give i) r.first.control.pc h)))
 
   pub starts_on : oracle k 0 ≡ truth r k 0 → Agrees tells r oracle k 0 ((net tells Near r oracle).start k)
   starts_on e = record {

@@ -72,10 +72,10 @@ module _ (setup : Setup) (f g : Values) (b : Box3) where
   states_same v (ls ∷ one) (ms ∷ two) e scalars counts grids =
       let at : v + 0 ≡ v = omega arith in
       let rest = states_same (suc v) one two (omega (arith, e))
-          (λ i l s. scalars (suc i) (omega (arith, l)) (let q : v + suc i ≡ suc v + i = omega arith in subst (λ n. is_scalar setup (var n) ≡ true) (sym q) s))
-          (λ i l. counts (suc i) (omega (arith, l)))
-          (λ i level l s m. let q : v + suc i ≡ suc v + i = omega arith in
-              subst (λ n. numbers_in b (f (var n) level) ≡ numbers_in b (g (var n) level)) q (grids (suc i) level (omega (arith, l)) (subst (λ n. is_scalar setup (var n) ≡ false) (sym q) s) m)) in
+      (λ i l s. scalars (suc i) (omega (arith, l)) (let q : v + suc i ≡ suc v + i = omega arith in subst (λ n. is_scalar setup (var n) ≡ true) (sym q) s))
+      (λ i l. counts (suc i) (omega (arith, l)))
+      (λ i level l s m. let q : v + suc i ≡ suc v + i = omega arith in
+      subst (λ n. numbers_in b (f (var n) level) ≡ numbers_in b (g (var n) level)) q (grids (suc i) level (omega (arith, l)) (subst (λ n. is_scalar setup (var n) ≡ false) (sym q) s) m)) in
       ap (λ xs. xs ∷ state_in setup f b (suc v) one) (go (is_scalar setup (var v)) refl at)
       ∙ ap (λ xs. (if is_scalar setup (var v) then ms else map (λ l. numbers_in b (g (var v) l)) (range_with_len 0 (length ms))) ∷ xs) rest
     where

@@ -55,13 +55,15 @@ module _ (tells : Type 0) (r : Run) (run : IsRun r) where
 
     step : (e : Event) → Can (net tells within_lead r o) w e → After (net tells within_lead r o) w e v → (other : Oracle) × IsReachedState tells r other v
     step (Part k) can (inl a) =
-        let kept = part_kept tells r run o st.oracle_is w st.woven k can a.0 a.1 in
-        (kept.0, record {
-          oracle_is = kept.1;
-          woven = subst (Woven (net tells within_lead r kept.0) (script tells r kept.0) (Agrees tells r kept.0) (Books tells r)) (sym a.2) kept.2;
-          ended = λ t. ended_other o kept.0 st.oracle_is kept.1 t v
-              (runs.event_ended (net tells within_lead r o) (script tells r o) (Agrees tells r o) (GivesAt r o) (Books tells r) (fits o st.oracle_is) (ends o st.oracle_is t) w v st.woven (st.ended t) (Part k) can (inl a));
-        })
+        let kept = part_kept tells r run o st.oracle_is w st.woven k can a.0 a.1 in (
+          kept.0,
+          record {
+            oracle_is = kept.1;
+            woven = subst (Woven (net tells within_lead r kept.0) (script tells r kept.0) (Agrees tells r kept.0) (Books tells r)) (sym a.2) kept.2;
+            ended = λ t. ended_other o kept.0 st.oracle_is kept.1 t v
+                (runs.event_ended (net tells within_lead r o) (script tells r o) (Agrees tells r o) (GivesAt r o) (Books tells r) (fits o st.oracle_is) (ends o st.oracle_is t) w v st.woven (st.ended t) (Part k) can (inl a));
+          },
+        )
     step (Part k) can (inr a) =
         (o, same_oracle (Part k) can (inr a) (subst (λ (u : World Held (Message tells) Channel ℕ). GivesAt r o k (u.place k) (u.held k)) (sym a.2) (st.woven.agrees k can.part).gives))
     step (Write n) can a = (o, same_oracle (Write n) can a tt)

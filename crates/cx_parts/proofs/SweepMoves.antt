@@ -63,9 +63,9 @@ turn_leaves setup k iteration before None flags = refl
 turn_leaves setup k iteration before (Some state) flags = refl
 
 module _ (tells : Type 0) (r : Run) (oracle : Oracle) (k n i : ℕ) (x : Held) (lies : Lies r.setup.shape (cut_of r) k) (shape : IsShape r.setup.shape) (cell : IsCell r.setup (item r.setup i))
-         (agrees : Stands tells r oracle k n x) (there : next_op r (guided r oracle n).control ≡ op.Sweep i)
-         (truth : tells → guided r oracle n ≡ undivided r n) (states : IsState r.setup (undivided r n).state) (ghosts : tells → GhostsAt r.setup (item r.setup i) (flags_at r n))
-         (quiet : tells → ends_pair (op_of r (suc n)) ≡ None) where
+    (agrees : Stands tells r oracle k n x) (there : next_op r (guided r oracle n).control ≡ op.Sweep i)
+    (truth : tells → guided r oracle n ≡ undivided r n) (states : IsState r.setup (undivided r n).state) (ghosts : tells → GhostsAt r.setup (item r.setup i) (flags_at r n))
+    (quiet : tells → ends_pair (op_of r (suc n)) ≡ None) where
   abbrev it : Item
   it = item r.setup i
 
@@ -149,9 +149,9 @@ module _ (tells : Type 0) (r : Run) (oracle : Oracle) (k n i : ℕ) (x : Held) (
                 ap (λ b. cond b (scalar_of y.numbers v) (number_at (local (cut_of r) k) (level_of y.numbers v level) p)) grid
                 ∙ ap (λ numbers. number_at (local (cut_of r) k) (level_of numbers v level) p) g.1
                 ∙ sweeps_agree r.setup r.rules (cut_of r) k lies shape it cell x.numbers now x.control.iteration agrees.sized states (flags_at r n) (done_directions (op_of r n)) (ghosts t) (scalars_are t) (numbers_are t)
-                  v level p e grid (below, stored) (done_is t v level)
-                  (subst (λ d. IsReached (cut_of r) k (cond (all_written r.setup it.writes (flags_at r n) v level G) 3 d) p) (no_direction (op_of r (suc n)) (quiet t) v level)
-                   (subst (λ (flags : Flags). IsReached (cut_of r) k (cond (flags v level G) 3 (done_directions (op_of r (suc n)) v level)) p) (flags_after t) reached))
+                v level p e grid (below, stored) (done_is t v level)
+                (subst (λ d. IsReached (cut_of r) k (cond (all_written r.setup it.writes (flags_at r n) v level G) 3 d) p) (no_direction (op_of r (suc n)) (quiet t) v level)
+                (subst (λ (flags : Flags). IsReached (cut_of r) k (cond (flags v level G) 3 (done_directions (op_of r (suc n)) v level)) p) (flags_after t) reached))
                 ∙ ap (λ c. at r.setup.shape (level_of (levels_after (whole r.setup.shape) (values_of r.setup now) (in_region r.setup.shape (region_of it.writes)) (swept_at r.setup r.rules it (values_of r.setup now) c) 0 it.writes now) v level) p) (iteration_is t)
                 ∙ sym (ap (λ state. at r.setup.shape (level_of state v level) p) (state_after_is t));
           }

@@ -122,10 +122,10 @@ all_at test (x ∷ xs) h (suc i) d l = all_at test xs (and_parts (test x) (list_
 -- ---- a part's sweep and the undivided one
 
 module _ (setup : Setup) (rules : List Rule) (cut : Parts) (k : ℕ) (lies : Lies setup.shape cut k) (shape : IsShape setup.shape) (x : Item) (cell : IsCell setup x) (numbers state : State) (iteration : ℕ)
-         (held : IsHeld setup (local cut k) numbers) (is_state : IsState setup state) (flags : Flags) (done : VarId → ℕ → ℕ) (ghosts : GhostsAt setup x flags)
-         (scalars : (v : VarId) → is_scalar setup v ≡ true → scalar_of numbers v ≡ scalar_of state v)
-         (agrees : (v : VarId) (level : ℕ) (p : Point) → is_scalar setup v ≡ false → IsStored setup v level → IsReached cut k (cond (flags v level G) 3 (done v level)) p
-             → number_at (local cut k) (level_of numbers v level) p ≡ at setup.shape (level_of state v level) p) where
+    (held : IsHeld setup (local cut k) numbers) (is_state : IsState setup state) (flags : Flags) (done : VarId → ℕ → ℕ) (ghosts : GhostsAt setup x flags)
+    (scalars : (v : VarId) → is_scalar setup v ≡ true → scalar_of numbers v ≡ scalar_of state v)
+    (agrees : (v : VarId) (level : ℕ) (p : Point) → is_scalar setup v ≡ false → IsStored setup v level → IsReached cut k (cond (flags v level G) 3 (done v level)) p
+    → number_at (local cut k) (level_of numbers v level) p ≡ at setup.shape (level_of state v level) p) where
   abbrev region : Region
   region = region_of x.writes
 
@@ -166,8 +166,8 @@ module _ (setup : Setup) (rules : List Rule) (cut : Parts) (k : ℕ) (lies : Lie
           let some = all_at (λ r. is_some (read_needs setup x r)) x.reads shape_parts.1 i t l in
           ap (λ b. cond b (scalar_of numbers d.var) (number_at (local cut k) (level_of numbers d.var d.level) q)) e
           ∙ agrees d.var d.level q e (cell.reads i t l)
-            (window_reached setup cut k lies region d.region d.reach (flags d.var d.level G) (done d.var d.level) p o (sym (ap is_some row) ∙ some)
-             (λ g. ghosts i t l (ap (λ n. list_any is_G (flags_or_none n)) row ∙ g)) near zoned inside)
+          (window_reached setup cut k lies region d.region d.reach (flags d.var d.level G) (done d.var d.level) p o (sym (ap is_some row) ∙ some)
+          (λ g. ghosts i t l (ap (λ n. list_any is_G (flags_or_none n)) row ∙ g)) near zoned inside)
           ∙ sym (ap (λ b. cond b (scalar_of state d.var) (at setup.shape (level_of state d.var d.level) q)) e)
 
   pub same_numbers : (p : Point) → IsIn (local cut k) p → zone p ≡ true → swept_at setup rules x here iteration p ≡ swept_at setup rules x there iteration p
@@ -181,7 +181,7 @@ module _ (setup : Setup) (rules : List Rule) (cut : Parts) (k : ℕ) (lies : Lie
   faults_same =
       any_is (local cut k) (λ p. zone p && is_none (swept_at setup rules x there iteration p)) (λ p. not (zone p) || is_some (swept_at setup rules x here iteration p))
       (λ p h. ap (λ b. zone p && b) (none_is (swept_at setup rules x there iteration p))
-          ∙ tested_same (zone p) (is_some (swept_at setup rules x here iteration p)) (is_some (swept_at setup rules x there iteration p)) (λ z. ap is_some (same_numbers p h z)))
+      ∙ tested_same (zone p) (is_some (swept_at setup rules x here iteration p)) (is_some (swept_at setup rules x there iteration p)) (λ z. ap is_some (same_numbers p h z)))
 
   abbrev pub swept_here : State
   swept_here = levels_after (local cut k) here zone (swept_at setup rules x here iteration) 0 x.writes numbers
@@ -224,8 +224,8 @@ module _ (setup : Setup) (rules : List Rule) (cut : Parts) (k : ℕ) (lies : Lie
       let z : in_zone setup (owned cut k) Interior p ≡ in_region setup.shape Interior p = ap (λ b. b && not (is_boundary setup.shape p)) (in_from (owned cut k) p mine) in
       ap (λ b. put b (swept_at setup rules x here iteration p) j (number_at (local cut k) (level_of numbers v level) p)) z
       ∙ put_same (in_region setup.shape Interior p) (swept_at setup rules x here iteration p) (swept_at setup rules x there iteration p) j _ _
-        (agrees v level p grid stored (own_reached setup cut k lies (cond (flags v level G) 3 (done v level)) p mine))
-        (λ t. same_numbers p near (ap (λ g. in_zone setup (owned cut k) g p) e ∙ z ∙ t))
+      (agrees v level p grid stored (own_reached setup cut k lies (cond (flags v level G) 3 (done v level)) p mine))
+      (λ t. same_numbers p near (ap (λ g. in_zone setup (owned cut k) g p) e ∙ z ∙ t))
   one_point Boundary e j v level p pass l grid stored reached near none =
       put_same (in_region setup.shape Boundary p) (swept_at setup rules x here iteration p) (swept_at setup rules x there iteration p) j _ _
       (agrees v level p grid stored (subst (λ d. IsReached cut k (cond (flags v level G) 3 d) p) (sym none) reached))

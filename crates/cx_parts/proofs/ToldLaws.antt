@@ -22,8 +22,8 @@ module _ (tells : Type 0) (r : Run) (run : IsRun r) (oracle : Oracle) (is_true :
   true_gift t k n x part a =
       subst (λ o. gives_by r k x o (oracle k n)) (sym here)
       (subst (gives_by r k x (op_of r n)) (sym (is_true t k n part))
-       (gives_truth r k x (op_of r n) (undivided r n).state
-        (λ i e. number_same r run k x.numbers (undivided r n).state (true_states r run n) (owns_true tells r run oracle is_true k n x part a t) i (names r run (Give i) (undivided r n).control.pc e))))
+      (gives_truth r k x (op_of r n) (undivided r n).state
+      (λ i e. number_same r run k x.numbers (undivided r n).state (true_states r run n) (owns_true tells r run oracle is_true k n x part a t) i (names r run (Give i) (undivided r n).control.pc e))))
     where
       here : next_op r x.control ≡ op_of r n
       here = ap (next_op r) a.control ∙ ap (λ g. next_op r g.control) (same tells r run oracle is_true t n)
@@ -31,12 +31,26 @@ module _ (tells : Type 0) (r : Run) (run : IsRun r) (oracle : Oracle) (is_true :
   pub told_fits : (Near : Nearness) → tells → Fits (net tells Near r oracle) (script tells r oracle) (Agrees tells r oracle) (GivesAt r oracle) (Books tells r)
       → Fits (net tells Near r oracle) (script tells r oracle) (Agrees tells r oracle) (λ k n x. Unit {0}) (Books tells r)
   told_fits Near t fits = record {
-    some_part = fits.some_part; among = fits.among; within_most = fits.within_most; goes_on = fits.goes_on; halted = fits.halted; nears = fits.nears;
-    first = fits.first; pairs = fits.pairs; starts = fits.starts; looks = fits.looks; posts = fits.posts; hands = fits.hands;
+    some_part = fits.some_part;
+    among = fits.among;
+    within_most = fits.within_most;
+    goes_on = fits.goes_on;
+    halted = fits.halted;
+    nears = fits.nears;
+    first = fits.first;
+    pairs = fits.pairs;
+    starts = fits.starts;
+    looks = fits.looks;
+    posts = fits.posts;
+    hands = fits.hands;
     moves = λ k n x mails part l a mailed y h gives.
         let stands = moves_on tells r run oracle is_true Near k n x mails part l a.stands mailed y h in
         record { stands = stands; gives = true_gift t k (suc n) y part stands };
-    piece = fits.piece; no_piece = fits.no_piece; books_start = fits.books_start; books_stay = fits.books_stay; books = fits.books;
+    piece = fits.piece;
+    no_piece = fits.no_piece;
+    books_start = fits.books_start;
+    books_stay = fits.books_stay;
+    books = fits.books;
   }
 
 module _ (r : Run) (run : IsRun r) where

@@ -56,19 +56,33 @@ pub record IsRun (r : Run) : Type 0 where
 pub job_run : (job : Job) (rules : List Rule) (b : Beginning) → IsWhole job → HasShapes (setup_of job) → HasInterior job.shape → IsBeginning (setup_of job) b
     → IsCut (cut_of (run_of job rules b)) → FlatIsRun (setup_of job) rules → WaysEnd (setup_of job) → OperationsMet (setup_of job) rules → IsRun (run_of job rules b)
 job_run job rules Afresh whole shapes interior begins cut flat ways met = record {
-  job = job; whole = whole; shapes = shapes; interior = interior; is = refl; cut = cut;
+  job = job;
+  whole = whole;
+  shapes = shapes;
+  interior = interior;
+  is = refl;
+  cut = cut;
   first = start_is_state (setup_of job);
   ways = ways.whole;
-  count = flat.undivided.count; paired = flat.undivided.paired; halted = flat.undivided.halts;
+  count = flat.undivided.count;
+  paired = flat.undivided.paired;
+  halted = flat.undivided.halts;
   met = met.whole;
 }
 job_run job rules (From c state so_far) whole shapes interior begins cut flat ways met =
     let runs = flat.continued c state so_far begins.0 in
     record {
-      job = job; whole = whole; shapes = shapes; interior = interior; is = refl; cut = cut;
+      job = job;
+      whole = whole;
+      shapes = shapes;
+      interior = interior;
+      is = refl;
+      cut = cut;
       first = begins.1;
       ways = ways.continued c begins.0;
-      count = runs.count; paired = runs.paired; halted = runs.halts;
+      count = runs.count;
+      paired = runs.paired;
+      halted = runs.halts;
       met = met.from_whole_state c state begins.0;
     }
 

@@ -172,5 +172,5 @@ pub any_is : (b : Box3) (f g : Point → Bool) → ((p : Point) → IsIn b p →
 any_is b f g h =
     let m = length-map-range_with_len (point_in b) 0 (point_count b) in
     any_not_all f g (points_in b) (λ i d l.
-      let j : i < point_count b = subst (λ n. i < n) m l in
-      ap f (point_there b i d j) ∙ h (point_in b i) (point_inside b i j) ∙ ap (λ p. not (g p)) (sym (point_there b i d j)))
+    let j : i < point_count b = subst (λ n. i < n) m l in
+    ap f (point_there b i d j) ∙ h (point_in b i) (point_inside b i j) ∙ ap (λ p. not (g p)) (sym (point_there b i d j)))

@@ -60,8 +60,8 @@ abbrev pub state_in : Setup → Values → Box3 → ℕ → State → State
 state_in setup values b v [] = []
 state_in setup values b v (levels ∷ more) =
     (if is_scalar setup (record { 0 = v })
-     then levels
-     else map (λ level. numbers_in b (values (record { 0 = v }) level)) (range_with_len 0 (length levels)))
+    then levels
+    else map (λ level. numbers_in b (values (record { 0 = v }) level)) (range_with_len 0 (length levels)))
     ∷ state_in setup values b (suc v) more
 
 -- ---- sweeps

@@ -96,7 +96,7 @@ abbrev pub posts_of : {tells : Type 0} → Run → Channel → Held → List (Me
 posts_of r c x =
     cond (is_there r c)
     (op_posts r (next_op r x.control) x.count
-     (faces_by r (sender c) (held_values r (sender c) x.numbers)) (number_by r (sender c) (held_values r (sender c) x.numbers)) c)
+    (faces_by r (sender c) (held_values r (sender c) x.numbers)) (number_by r (sender c) (held_values r (sender c) x.numbers)) c)
     []
 
 abbrev pub hands_of : {tells : Type 0} → Run → ℕ → Held → List (Message tells)

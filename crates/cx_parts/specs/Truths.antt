@@ -39,7 +39,7 @@ abbrev pub is_faulty : Run → ℕ → Op → Flat → Bool
 is_faulty r k (Sweep i) g =
     list_any
     (λ p. in_zone r.setup (owned (cut_of r) k) (region_of (item r.setup i).writes) p
-     && is_none (swept_at r.setup r.rules (item r.setup i) (values_of r.setup g.state) g.control.iteration p))
+    && is_none (swept_at r.setup r.rules (item r.setup i) (values_of r.setup g.state) g.control.iteration p))
     (points_in (local (cut_of r) k))
 is_faulty r k (Apply i) g = is_none (turn r.setup r.rules (item r.setup i) g.state g.control.iteration)
 is_faulty r k (Join i) g = is_none (turn r.setup r.rules (item r.setup i) g.state g.control.iteration)
@@ -74,7 +74,7 @@ abbrev pub mail_at : (tells : Type 0) → Run → Oracle → Channel → ℕ →
 mail_at tells r oracle c n =
     cond (is_there r c)
     (op_posts r (next_op r (guided r oracle n).control) n
-     (faces_by r (sender c) (values_of r.setup (undivided r n).state)) (λ i. oracle (sender c) n) c)
+    (faces_by r (sender c) (values_of r.setup (undivided r n).state)) (λ i. oracle (sender c) n) c)
     []
 
 abbrev pub piece_at : (tells : Type 0) → Run → Oracle → ℕ → ℕ → List (Message tells)

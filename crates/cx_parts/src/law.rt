@@ -29,14 +29,10 @@ pub fn each_order_agrees(job: &Job)
     requires interior { HasInterior job.now.shape }
     requires sound { Sound (setup_of job.now) }
     requires cut { IsCut (parts_of job.now.shape job.now.cut) }
-    ensures by_lead {
-        (rules : List Rule) (b : Beginning) → IsBeginning (setup_of job.now) b
-        → EachOrder within_lead (run_of job.now rules b)
-    }
-    ensures in_step {
-        (rules : List Rule) (b : Beginning) → IsBeginning (setup_of job.now) b
-        → EachOrder in_lockstep (run_of job.now rules b)
-    }
+    ensures by_lead { (rules : List Rule) (b : Beginning) → IsBeginning (setup_of job.now) b
+        → EachOrder within_lead (run_of job.now rules b) }
+    ensures in_step { (rules : List Rule) (b : Beginning) → IsBeginning (setup_of job.now) b
+        → EachOrder in_lockstep (run_of job.now rules b) }
 {
     flat_is_run(job);
     all_ways(job);
@@ -52,10 +48,8 @@ pub fn each_event_keeps(job: &Job)
     requires interior { HasInterior job.now.shape }
     requires sound { Sound (setup_of job.now) }
     requires cut { IsCut (parts_of job.now.shape job.now.cut) }
-    ensures {
-        (told : Bool) (rules : List Rule) (b : Beginning) → IsBeginning (setup_of job.now) b
-        → StepsKeep (IsTrue told) (run_of job.now rules b)
-    }
+    ensures { (told : Bool) (rules : List Rule) (b : Beginning) → IsBeginning (setup_of job.now) b
+        → StepsKeep (IsTrue told) (run_of job.now rules b) }
 {
     flat_is_run(job);
     all_ways(job);
