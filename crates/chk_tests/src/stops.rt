@@ -1,0 +1,104 @@
+//! Saves and closings that are stopped at each of their calls, and eight images that a crash may leave of each.
+ghost use Rattle.std.specs.Prelude.{◌<◌, ◌≤◌};
+ghost use Rattle.cx_chk.specs.Slots.{slot_count};
+
+use crate::checks::{closing_kept, newest_after_closing, newest_after_save, save_kept};
+use crate::disks::{close_on, disk_before, newest_in, save_on, stopping_disk};
+use crate::samples::{checkpoint, slot};
+use cx_disk::MemoryDisk;
+use std::alloc::Global;
+use std::test::Fail;
+
+// Images of each stop.
+const CHOICES: u64 = 8;
+
+// A save makes so many calls on these disks, with the mount.
+const SAVE_CALLS: u64 = 17;
+
+// A closing makes so many.
+const CLOSE_CALLS: u64 = 30;
+
+// Whether a save was done, and an image of the disk then.
+fn save_image(alloc: Global, keep: u32, calls: u64, choice: u64) -> Result<(bool, MemoryDisk), Fail>
+    requires least { 1 ≤ keep }
+    requires keep { keep < slot_count }
+{
+    let c = checkpoint(alloc, 30)?;
+    let mut disk = stopping_disk(alloc, calls)?;
+    let done = save_on(alloc, &mut disk, keep, &c).is_ok();
+    Ok((done, disk.into_image(choice)?))
+}
+
+// Whether a closing was done, and an image of the disk then.
+fn close_image(alloc: Global, calls: u64, choice: u64) -> Result<(bool, MemoryDisk), Fail> {
+    let mut disk = stopping_disk(alloc, calls)?;
+    let done = close_on(alloc, &mut disk).is_ok();
+    Ok((done, disk.into_image(choice)?))
+}
+
+// The slot that a save takes.
+fn slot_taken(second: bool) -> u32
+    ensures least { 1 ≤ result }
+    ensures keep { result < slot_count }
+{
+    if second { 2 } else { 1 }
+}
+
+// Whether the files of an image are as before, but for the slot that a save takes, which has what it may.
+fn files_after_save(alloc: Global, image: &MemoryDisk, taken: u32) -> Result<bool, Fail> {
+    let before = disk_before(alloc)?;
+    let saved = slot(alloc, 30)?;
+    Ok(save_kept(&before, image, taken as usize, &saved))
+}
+
+// Whether a save that is stopped leaves what it may in an image.
+fn save_leaves(alloc: Global, second: bool, calls: u64, choice: u64) -> Result<bool, Fail> {
+    let taken = slot_taken(second);
+    let (done, image) = save_image(alloc, taken, calls, choice)?;
+    let kept = files_after_save(alloc, &image, taken)?;
+    let newest = newest_in(alloc, image)?;
+    Ok(kept && done == (calls == SAVE_CALLS) && newest_after_save(newest, done, taken))
+}
+
+// Whether the files of an image are as before, but for slots that are closed.
+fn files_after_closing(alloc: Global, image: &MemoryDisk) -> Result<bool, Fail> {
+    let before = disk_before(alloc)?;
+    Ok(closing_kept(&before, image))
+}
+
+// Whether a closing that is stopped leaves what it may in an image.
+fn closing_leaves(alloc: Global, calls: u64, choice: u64) -> Result<bool, Fail> {
+    let (done, image) = close_image(alloc, calls, choice)?;
+    let kept = files_after_closing(alloc, &image)?;
+    let newest = newest_in(alloc, image)?;
+    Ok(kept && done == (calls == CLOSE_CALLS) && newest_after_closing(newest, done))
+}
+
+#[test]
+fn save_stopped(rt: HostRuntime) -> Result<(), Fail> {
+    let alloc = rt.alloc();
+    for second in [false, true] {
+        for calls in 0..SAVE_CALLS + 1 {
+            for choice in 0..CHOICES {
+                let kept = save_leaves(alloc, second, calls, choice)?;
+                assert!(rt;
+                    kept,
+                    "slot 2: {second}, after {calls} calls, image {choice}"
+                );
+            }
+        }
+    }
+    Ok(())
+}
+
+#[test]
+fn closing_stopped(rt: HostRuntime) -> Result<(), Fail> {
+    let alloc = rt.alloc();
+    for calls in 0..CLOSE_CALLS + 1 {
+        for choice in 0..CHOICES {
+            let kept = closing_leaves(alloc, calls, choice)?;
+            assert!(rt; kept, "after {calls} calls, image {choice}");
+        }
+    }
+    Ok(())
+}
