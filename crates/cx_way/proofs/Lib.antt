@@ -1,0 +1,5 @@
+pub mod KeyLaws
+pub mod FitLaws
+pub mod RunLaws
+pub mod StepLaws
+pub mod BeginLaws

@@ -1,0 +1,205 @@
+//! Places in a run.
+
+ghost use Rattle.std.specs.Prelude.{◌≡◌, ◌+◌, ◌-◌, ◌<◌, ◌^◌, ◌↔◌, ℤ, false, length, IsTrue, if◌then◌else◌};
+ghost use Rattle.cx_model.specs.Courses.{by_zero};
+ghost use Rattle.cx_plan.specs.declared.variable.VarId.{VarId};
+ghost use Rattle.cx_plan.specs.Setups.{setup_of};
+ghost use Rattle.cx_plan.specs.Whole.{IsWhole};
+ghost use Rattle.cx_flat.specs.Code.{code, op_at};
+ghost use Rattle.cx_flat.specs.Flats.{to, next, opens, leaves_loop, turns_back, iterates, turn_control, control_after, last_turns};
+ghost use Rattle.cx_flat.specs.Ways.{key, Less, at_place};
+ghost use Rattle.cx_way.specs.Steps.{IsReached, IsTested};
+
+use crate::opened::{comes_before, OpenWhile};
+use arrayvec::ArrayVec;
+use cx_flat::Op;
+use cx_plan::{is_due, is_written, Job};
+use std::marker::Model;
+
+/// Where a part stands in a run: before which operation, in which iteration, and in which turn of each WHILE that is open, of
+/// which there are at most 32. A step takes no memory.
+#[derive(Debug, Drop)]
+pub struct Place {
+    pc: u32,
+    iteration: u64,
+    opened: ArrayVec<OpenWhile, 32>,
+}
+
+impl Model for Place {
+    ghost use Rattle.cx_flat.specs.Flats.{Control};
+    ghost use Rattle.cx_way.specs.Seen.{all_opened};
+
+    ghost Value = { Control };
+
+    ghost view = { λ p. record { pc = p.pc; iteration = p.iteration; opened = all_opened p.opened.items } };
+}
+
+impl Place {
+    /// The beginning of a run.
+    pub fn start() -> Self
+        ensures { result ≡ at_place 0 0 }
+    {
+        Place {
+            pc: 0,
+            iteration: 0,
+            opened: ArrayVec::new(),
+        }
+    }
+
+    /// The number of the operation that is next.
+    pub fn pc(&self) -> u32
+        ensures { result ≡ self.now.pc }
+    {
+        self.pc
+    }
+
+    /// The iteration.
+    pub fn round(&self) -> u64
+        ensures { result ≡ self.now.iteration }
+    {
+        self.iteration
+    }
+
+    /// Whether this place comes before another one of the same way.
+    pub fn is_before(&self, other: &Place) -> bool
+        ensures { IsTrue result ↔ Less (key self.now) (key other.now) }
+    {
+        if self.iteration != other.iteration {
+            self.iteration < other.iteration
+        } else {
+            comes_before(&self.opened, self.pc, &other.opened, other.pc)
+        }
+    }
+
+    fn step(&mut self)
+        requires { self.old.pc + 1 < 2 ^ 32 }
+        ensures { self.new ≡ next self.old }
+    {
+        self.pc += 1;
+    }
+
+    fn skip(&mut self, count: u32)
+        requires { self.old.pc + count < 2 ^ 32 }
+        ensures { self.new ≡ to self.old (self.old.pc + count) }
+    {
+        self.pc += count;
+    }
+
+    fn step_or_skip(&mut self, goes_on: bool, count: u32)
+        requires next { self.old.pc + 1 < 2 ^ 32 }
+        requires out { goes_on ≡ false → self.old.pc + count < 2 ^ 32 }
+        ensures { self.new ≡ (if goes_on then next self.old else to self.old (self.old.pc + count)) }
+    {
+        if goes_on {
+            self.step();
+        } else {
+            self.skip(count);
+        }
+    }
+
+    fn open(&mut self)
+        requires room { length self.old.opened < 32 }
+        requires pc { self.old.pc + 1 < 2 ^ 32 }
+        ensures { self.new ≡ opens self.old }
+    {
+        self.pc += 1;
+        self.opened.push(OpenWhile {
+            place: self.pc,
+            turns: 0,
+        });
+    }
+
+    /// The turns of the innermost WHILE.
+    fn turns(&self) -> u64
+        ensures { result ≡ last_turns self.now.opened }
+    {
+        self.opened.last().map_or(0, |open| open.turns)
+    }
+
+    fn leave(&mut self, count: u32)
+        requires { self.old.pc + count < 2 ^ 32 }
+        ensures { self.new ≡ leaves_loop self.old (self.old.pc + count) }
+    {
+        self.opened.pop();
+        self.pc += count;
+    }
+
+    fn turn(&mut self, job: &Job, count: u32, scalar: i64)
+        requires next { self.old.pc + 1 < 2 ^ 32 }
+        requires out { self.old.pc + count < 2 ^ 32 }
+        ensures { self.new ≡ turn_control (setup_of job.now) self.old count scalar }
+    {
+        if self.turns() == job.while_limit || scalar == 0 {
+            self.leave(count);
+        } else {
+            self.step();
+        }
+    }
+
+    fn turn_back(&mut self, count: u32)
+        requires { last_turns self.old.opened + 1 < 2 ^ 64 }
+        ensures { self.new ≡ turns_back self.old (self.old.pc - count) }
+    {
+        if let Some(open) = self.opened.pop() {
+            self.opened.push(OpenWhile {
+                place: open.place,
+                turns: open.turns + 1,
+            });
+        }
+        self.pc = self.pc.saturating_sub(count);
+    }
+
+    fn iterate(&mut self, job: &Job, count: u32)
+        requires { self.old.pc + 1 < 2 ^ 32 }
+        ensures { self.new ≡ iterates (setup_of job.now) self.old (self.old.pc - count) }
+    {
+        if self.iteration < job.itlast {
+            self.iteration += 1;
+            self.pc = self.pc.saturating_sub(count);
+        } else {
+            self.step();
+        }
+    }
+
+    fn test(&mut self, count: u32, scalar: i64)
+        requires next { self.old.pc + 1 < 2 ^ 32 }
+        requires out { self.old.pc + count < 2 ^ 32 }
+        ensures { self.new ≡ by_zero scalar (to self.old (self.old.pc + count)) (next self.old) }
+    {
+        if scalar == 0 {
+            self.skip(count);
+        } else {
+            self.step();
+        }
+    }
+
+    /// Goes on behind an operation: `op`, which stands at this place. `scalar` is the scalar that it tests, if it tests one.
+    pub fn advance(&mut self, job: &Job, op: &Op, scalar: i64)
+        requires whole { IsWhole job.now }
+        requires reached { IsReached (setup_of job.now) self.old }
+        requires here { op.now ≡ op_at (code (setup_of job.now)) self.old.pc }
+        ensures { (scalars : VarId → ℤ) → IsTested op.now scalars scalar
+            → self.new ≡ control_after (setup_of job.now) op.now scalars self.old }
+    {
+        match op {
+            Op::Sweep(_) => self.step(),
+            Op::Apply(_) => self.step(),
+            Op::Give(_) => self.step(),
+            Op::Join(_) => self.step(),
+            Op::Post(_, _) => self.step(),
+            Op::Take(_, _, _) => self.step(),
+            Op::Test(_, _, count) => self.test(*count, scalar),
+            Op::Open => self.open(),
+            Op::Turn(_, _, count) => self.turn(job, *count, scalar),
+            Op::Again(count) => self.turn_back(*count),
+            Op::Rotate => self.step(),
+            Op::Due(count) => self.step_or_skip(is_due(job, self.iteration), *count),
+            Op::Written(count) => self.step_or_skip(is_written(job, self.iteration), *count),
+            Op::Skip(count) => self.skip(*count),
+            Op::Next(count) => self.iterate(job, *count),
+            Op::Piece(_) => self.step(),
+            Op::Save => self.step(),
+            Op::Halt => {}
+        }
+    }
+}
