@@ -1,6 +1,5 @@
--- Keys rise along a way, and what their first numbers decide.
-use Rattle.std.proofs.Common.{◌≡◌, ℕ, zero, suc, ◌+◌, ◌-◌, ◌<◌, ◌≤◌, arith, refl, sym, ap, subst, ◌∙◌, inl, inr, List, [], ◌∷◌}
-use Rattle.std.specs.Prelude.{◌↔◌, ◌≢◌}
+-- Keys rise along a way.
+use Rattle.std.proofs.Common.{◌≡◌, ℕ, zero, suc, ◌+◌, ◌-◌, ◌<◌, ◌≤◌, arith, subst, inl, inr}
 use Rattle.std.proofs.lemmas.Bool.{cases_lt}
 use Rattle.cx_plan.specs.Setups.{Setup}
 use Rattle.cx_flat.specs.declared.op.Op.TheVariants as op
@@ -44,36 +43,3 @@ module _ (setup : Setup) (scalars : Scalars) (first : Control) (most : ℕ) (way
 
   pub in_order : InOrder setup scalars first way.count
   in_order m n l k = (below m n l, above m n k)
-
--- ---- two keys
-
--- the first numbers decide where they differ
-pub differ : (x y : ℕ) (xs ys : List ℕ) → x ≢ y → (x < y) ↔ Less (x ∷ xs) (y ∷ ys)
-differ x y xs ys n = (λ l. inl l, λ h. go h)
-  where
-    go : Less (x ∷ xs) (y ∷ ys) → x < y
-    go (inl l) = l
-    go (inr p) = absurd (n p.0)
-
--- and the rest where they are one
-pub agree : (x y : ℕ) (xs ys : List ℕ) → x ≡ y → Less xs ys ↔ Less (x ∷ xs) (y ∷ ys)
-agree x y xs ys e = (λ l. inr (e, l), λ h. go h)
-  where
-    go : Less (x ∷ xs) (y ∷ ys) → Less xs ys
-    go (inl l) = absurd (omega arith)
-    go (inr p) = p.1
-
--- behind the last number of one key nothing is decided
-pub short : (x y : ℕ) (ys : List ℕ) → (x < y) ↔ Less (x ∷ []) (y ∷ ys)
-short x y ys = (λ l. inl l, λ h. go h)
-  where
-    go : Less (x ∷ []) (y ∷ ys) → x < y
-    go (inl l) = l
-    go (inr p) = absurd p.1
-
-pub long : (x y : ℕ) (z : ℕ) (xs : List ℕ) → (x < y) ↔ Less (x ∷ z ∷ xs) (y ∷ [])
-long x y z xs = (λ l. inl l, λ h. go h)
-  where
-    go : Less (x ∷ z ∷ xs) (y ∷ []) → x < y
-    go (inl l) = l
-    go (inr p) = absurd p.1

@@ -3,3 +3,4 @@ pub mod FitLaws
 pub mod RunLaws
 pub mod StepLaws
 pub mod BeginLaws
+pub mod OpenLaws

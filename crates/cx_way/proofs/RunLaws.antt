@@ -22,6 +22,11 @@ use Rattle.cx_flat.proofs.FlattenLaws.{bin_length}
 use Rattle.cx_way.specs.Steps.{Fits, IsReached, starts, continues, follows, PlacesFit, most_open}
 use Rattle.cx_way.proofs.FitLaws.{Room, bool_cases, Safe, Leads, leads_then, leads_to, either, step, fits_at, halted, leads_straight, pieces_straight, leads_tree}
 
+-- numbers of bins
+abbrev AreBins : List ℕ → Type 0
+AreBins [] = Unit {0}
+AreBins (b ∷ bs) = (b < bin_count) × AreBins bs
+
 -- an iteration, with no WHILE open
 abbrev pub in_turn : ℕ → Control
 in_turn n = record { pc = 0; iteration = n; opened = [] }
@@ -33,19 +38,19 @@ pieces_length (v ∷ vs) = ap suc (pieces_length vs)
 room_in : (setup : Setup) (n : ℕ) → n ≤ setup.itlast → Room setup (in_turn n) most_open
 room_in setup n l = record { iteration = l; depth = omega arith; turns = All-nil (λ (o : Opened). o.turns ≤ setup.while_limit) }
 
-module _ (setup : Setup) (ops : List Op) (deep : (b : ℕ) → depth (bin setup b) ≤ most_open) where
-  leads_bins : (c : Control) (pc : ℕ) (bs : List ℕ) → Room setup c most_open → StandsAt ops pc (bins_code setup bs) → pc + length (bins_code setup bs) < length ops
+module _ (setup : Setup) (ops : List Op) (deep : (b : ℕ) → b < bin_count → depth (bin setup b) ≤ most_open) where
+  leads_bins : (c : Control) (pc : ℕ) (bs : List ℕ) → AreBins bs → Room setup c most_open → StandsAt ops pc (bins_code setup bs) → pc + length (bins_code setup bs) < length ops
       → Leads setup ops (to c pc) (to c (pc + length (bins_code setup bs)))
-  leads_bins c pc [] r h l = let e : pc ≡ pc + 0 = omega arith in leads_to setup ops (to c pc) (to c pc) (to c (pc + 0)) (λ n x. x) (ap (to c) e)
-  leads_bins c pc (b ∷ bs) r h l =
+  leads_bins c pc [] all r h l = let e : pc ≡ pc + 0 = omega arith in leads_to setup ops (to c pc) (to c pc) (to c (pc + 0)) (λ n x. x) (ap (to c) e)
+  leads_bins c pc (b ∷ bs) all r h l =
       let t = tree_code setup (bin setup b) in
       let rest = bins_code setup bs in
       let size : length (t ++ rest) ≡ length t + length rest = length-append t rest in
       let e : pc + length t + length rest ≡ pc + length (t ++ rest) = omega (arith, size) in
       leads_to setup ops (to c pc) (to c (pc + length t + length rest)) (to c (pc + length (t ++ rest)))
       (leads_then setup ops (to c pc) (to c (pc + length t)) (to c (pc + length t + length rest))
-      (leads_tree setup ops c most_open pc (bin setup b) r (deep b) (stands_first ops pc t rest h) (omega (arith, size, l)))
-      (leads_bins c (pc + length t) bs r (stands_then ops pc t rest h) (omega (arith, size, l)))) (ap (to c) e)
+      (leads_tree setup ops c most_open pc (bin setup b) r (deep b all.0) (stands_first ops pc t rest h) (omega (arith, size, l)))
+      (leads_bins c (pc + length t) bs all.1 r (stands_then ops pc t rest h) (omega (arith, size, l)))) (ap (to c) e)
 
   leads_checkpoint : (c : Control) (pc : ℕ) → Room setup c most_open → StandsAt ops pc (op.Due (suc (length (checkpoint_code setup))) ∷ checkpoint_code setup)
       → pc + suc (length (checkpoint_code setup)) < length ops → Leads setup ops (to c pc) (to c (pc + suc (length (checkpoint_code setup))))
@@ -58,7 +63,7 @@ module _ (setup : Setup) (ops : List Op) (deep : (b : ℕ) → depth (bin setup 
       (λ s. bool_cases (is_due setup c.iteration) out (to c (suc pc)))
       (leads_to setup ops (to c (suc pc)) (to c (suc pc + length t + 1)) out
       (leads_then setup ops (to c (suc pc)) (to c (suc pc + length t)) (to c (suc pc + length t + 1))
-      (leads_tree setup ops c most_open (suc pc) (bin setup CHECKPOINT) r (deep CHECKPOINT) (stands_first ops (suc pc) t (op.Save ∷ []) h.1) (omega (arith, size, l)))
+      (leads_tree setup ops c most_open (suc pc) (bin setup CHECKPOINT) r (deep CHECKPOINT (omega arith)) (stands_first ops (suc pc) t (op.Save ∷ []) h.1) (omega (arith, size, l)))
       (leads_straight setup ops c most_open (suc pc + length t) (op.Save ∷ []) r (stands_then ops (suc pc) t (op.Save ∷ []) h.1) (λ s d. refl, tt) (omega (arith, size, l)))) (ap (to c) e))
 
   leads_before : (c : Control) (pc : ℕ) → Room setup c most_open → StandsAt ops pc (before_code setup) → pc + length (before_code setup) < length ops
@@ -72,7 +77,7 @@ module _ (setup : Setup) (ops : List Op) (deep : (b : ℕ) → depth (bin setup 
       (leads_then setup ops (to c pc) (to c (suc pc)) (to c (suc pc + length bs + suc (length (checkpoint_code setup))))
       (step setup ops (to c pc) (to c (suc pc)) op.Rotate (fits_at setup ops c most_open pc r (omega (arith, l))) h.0 (λ s. refl))
       (leads_then setup ops (to c (suc pc)) (to c (suc pc + length bs)) (to c (suc pc + length bs + suc (length (checkpoint_code setup))))
-      (leads_bins c (suc pc) (PRESTEP ∷ EVOL ∷ POSTSTEP ∷ []) r (stands_first ops (suc pc) bs k h.1) (omega (arith, size, l)))
+      (leads_bins c (suc pc) (PRESTEP ∷ EVOL ∷ POSTSTEP ∷ []) (omega arith, (omega arith, (omega arith, tt))) r (stands_first ops (suc pc) bs k h.1) (omega (arith, size, l)))
       (leads_checkpoint c (suc pc + length bs) r (stands_then ops (suc pc) bs k h.1) (omega (arith, size, l))))) (ap (to c) e)
 
   leads_output : (c : Control) (pc : ℕ) → Room setup c most_open → StandsAt ops pc (op.Written (suc (length setup.out_vars)) ∷ pieces_code setup.out_vars)
@@ -96,7 +101,7 @@ module _ (setup : Setup) (ops : List Op) (deep : (b : ℕ) → depth (bin setup 
       let e : pc + length t + suc (length setup.out_vars) ≡ pc + length (t ++ o) = omega (arith, size, most) in
       leads_to setup ops (to c pc) (to c (pc + length t + suc (length setup.out_vars))) (to c (pc + length (t ++ o)))
       (leads_then setup ops (to c pc) (to c (pc + length t)) (to c (pc + length t + suc (length setup.out_vars)))
-      (leads_tree setup ops c most_open pc (bin setup ANALYSIS) r (deep ANALYSIS) (stands_first ops pc t o h) (omega (arith, size, l)))
+      (leads_tree setup ops c most_open pc (bin setup ANALYSIS) r (deep ANALYSIS (omega arith)) (stands_first ops pc t o h) (omega (arith, size, l)))
       (leads_output c (pc + length t) r (stands_then ops pc t o h) (omega (arith, size, most, l)))) (ap (to c) e)
 
   -- all of a run, where its pieces stand
@@ -135,7 +140,7 @@ module _ (setup : Setup) (ops : List Op) (deep : (b : ℕ) → depth (bin setup 
     fits_here n pc l b = fits_at setup ops (in_turn n) most_open pc (room_in setup n l) b
 
     leads_end : Leads setup ops (to (in_turn setup.itlast) (suc back)) stop
-    leads_end = leads_bins (in_turn setup.itlast) (suc back) (TERMINATE ∷ SHUTDOWN ∷ []) (room_in setup setup.itlast (omega arith)) (stands_first ops (suc back) last_bins (op.Halt ∷ []) at_last) (omega (arith, all))
+    leads_end = leads_bins (in_turn setup.itlast) (suc back) (TERMINATE ∷ SHUTDOWN ∷ []) (omega arith, (omega arith, tt)) (room_in setup setup.itlast (omega arith)) (stands_first ops (suc back) last_bins (op.Halt ∷ []) at_last) (omega (arith, all))
 
     safe_stop : (n : ℕ) → Safe setup ops n stop
     safe_stop = halted setup ops stop (fits_here setup.itlast (suc back + length last_bins) (omega arith) (omega (arith, all))) (stands_then ops (suc back) last_bins (op.Halt ∷ []) at_last).0
@@ -171,7 +176,7 @@ module _ (setup : Setup) (ops : List Op) (deep : (b : ℕ) → depth (bin setup 
         let f : start + suc (length (before_code setup)) ≡ analysis = omega (arith, goes_on) in
         leads_then setup ops (to (in_turn 0) 0) (to (in_turn 0) start) stop
         (leads_to setup ops (to (in_turn 0) 0) (to (in_turn 0) (0 + length (start_code setup))) (to (in_turn 0) start)
-        (leads_bins (in_turn 0) 0 bs (room_in setup 0 (omega arith)) at_first (omega (arith, all, begins, goes_on))) (ap (to (in_turn 0)) e))
+        (leads_bins (in_turn 0) 0 bs (omega arith, (omega arith, (omega arith, (omega arith, (omega arith, (omega arith, (omega arith, tt))))))) (room_in setup 0 (omega arith)) at_first (omega (arith, all, begins, goes_on))) (ap (to (in_turn 0)) e))
         (leads_then setup ops (to (in_turn 0) start) (to (in_turn 0) analysis) stop
         (step setup ops (to (in_turn 0) start) (to (in_turn 0) analysis) (op.Skip (suc (length (before_code setup)))) (fits_here 0 start (omega arith) (omega (arith, all, goes_on))) at_jump (λ s. ap (to (in_turn 0)) f))
         (leads_behind 0 (omega arith)))
@@ -199,7 +204,7 @@ code_length setup = sizes (start_code setup) (before_code setup) (from_code setu
         let y : length (e ++ op.Halt ∷ []) ≡ length e + 1 = length-append e (op.Halt ∷ []) in
         omega (arith, u, v, w, x, y)
 
-module _ (setup : Setup) (dims : ℕ) (some_dims : setup.shape.dims ≡ suc dims) (deep : (b : ℕ) → depth (bin setup b) ≤ most_open) where
+module _ (setup : Setup) (dims : ℕ) (some_dims : setup.shape.dims ≡ suc dims) (deep : (b : ℕ) → b < bin_count → depth (bin setup b) ≤ most_open) where
   whole : (n : ℕ) → Safe setup (code setup) n (at_place 0 0)
   whole = safe_whole setup (code setup) deep (length (start_code setup)) (suc (length (start_code setup))) (at_start setup [] dims some_dims) refl refl (at_skip setup [] dims some_dims).0 (at_loop setup [] dims some_dims) (at_end setup [] dims some_dims) (code_length setup)
 
@@ -221,10 +226,10 @@ reached setup scalars first (suc n) r =
 
 -- ---- a whole job
 
-depth_of : (trees : List Tree) (b : ℕ) → greatest_depth trees ≤ most_open → depth (get_or trees b (Seq [])) ≤ most_open
-depth_of [] b l = omega arith
-depth_of (t ∷ ts) zero l = omega (arith, l)
-depth_of (t ∷ ts) (suc b) l = depth_of ts b (omega (arith, l))
+depth_of : (trees : List Tree) (b : ℕ) → b < length trees → greatest_depth trees ≤ most_open → depth (get_or trees b (Seq [])) ≤ most_open
+depth_of [] b h l = absurd (omega arith)
+depth_of (t ∷ ts) zero h l = omega (arith, l)
+depth_of (t ∷ ts) (suc b) h l = depth_of ts b (omega (arith, h)) (omega (arith, l))
 
 at_least : (vs : List VarId) → AllPairs (λ (a b : VarId). a.0 < b.0) vs → (d : VarId) (k : ℕ) → k < length vs → k ≤ (get_or vs k d).0
 at_least vs rise d zero l = omega arith
@@ -236,11 +241,6 @@ few_outputs job whole (v ∷ vs) e =
     let rise = subst (AllPairs (λ (a b : VarId). a.0 < b.0)) (sym e) whole.outputs_rise in
     let stored = subst (All (λ u. IsStored job u 0)) (sym e) whole.outputs in
     omega (arith, at_least (v ∷ vs) rise v (length vs) (omega arith), (stored (length vs) v (omega arith)).0, whole.variables_limit)
-
--- how many bins there are, each below the number of bins
-abbrev AreBins : List ℕ → Type 0
-AreBins [] = Unit {0}
-AreBins (b ∷ bs) = (b < bin_count) × AreBins bs
 
 bins_length : (job : Job) → IsWhole job → (bs : List ℕ) → AreBins bs → length (bins_code (setup_of job) bs) ≤ length bs * 24576
 bins_length job whole [] all = omega arith
@@ -274,6 +274,6 @@ places_fit job whole =
     let is : dims ≡ suc (dims - 1) = omega (arith, some) in
     record {
       few = few_operations job whole;
-      fit = λ c r. always (setup_of job) (dims - 1) is (λ b. depth_of job.plan.bins b whole.depth_limit) r 0;
+      fit = λ c r. always (setup_of job) (dims - 1) is (λ b h. depth_of job.plan.bins b (let e : length job.plan.bins ≡ bin_count = whole.bins in omega (arith, h, e)) whole.depth_limit) r 0;
       reached = reached (setup_of job);
     }

@@ -9,9 +9,10 @@ use Rattle.cx_plan.specs.Whole.{IsWhole}
 use Rattle.cx_flat.specs.declared.op.Op.{Op}
 use Rattle.cx_flat.specs.declared.op.Op.TheVariants as op
 use Rattle.cx_model.specs.Courses.{by_zero}
-use Rattle.cx_flat.specs.Code.{op_at, code}
+use Rattle.cx_flat.specs.Code.{op_at, code, analysis_place}
 use Rattle.cx_flat.specs.Flats.{Opened, Control, last_turns, to, next, leaves_loop, control_after}
-use Rattle.cx_way.specs.Steps.{Fits, IsReached, follows}
+use Rattle.cx_flat.specs.Ways.{at_place}
+use Rattle.cx_way.specs.Steps.{Fits, IsReached, continues, follows}
 use Rattle.cx_way.proofs.RunLaws.{places_fit}
 
 -- ---- numbers and 0
@@ -88,7 +89,18 @@ module _ (job : Job) (c : Control) (o : Op) (s : Stands job c o) where
   last_most most (o ∷ []) h = h 0 o (omega arith)
   last_most most (o ∷ p ∷ os) h = last_most most (p ∷ os) (λ k d l. h (suc k) d (omega arith))
 
+  pub room-depth : length c.opened ≤ 32
+  room-depth = fits.depth
+
   pub room-turns : last_turns c.opened + 1 < 2 ^ 64
   room-turns =
       let l : last_turns c.opened ≤ job.while_limit = last_most job.while_limit c.opened fits.turns in
       omega (arith, l, s.whole.while_limit)
+
+-- ---- ANALYSIS
+
+pub analysis_small : (job : Job) → IsWhole job → analysis_place (setup_of job) < 2 ^ 31
+analysis_small job whole =
+    let law = places_fit job whole in
+    let f : Fits (setup_of job) (code (setup_of job)) (at_place (analysis_place (setup_of job)) 0) = law.fit (at_place (analysis_place (setup_of job)) 0) (continues 0 (omega arith) refl) in
+    omega (arith, f.pc, law.few)

@@ -24,7 +24,7 @@ skipped (Piece v) = None
 skipped Save = None
 skipped Halt = None
 
--- the place where a jump leads, or one later than in the rest
+-- where a jump leads, or else one place later than in the rest
 abbrev pub landing : Option ℕ → ℕ → ℕ
 landing (Some count) place = count
 landing None place = suc place

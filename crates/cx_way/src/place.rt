@@ -1,16 +1,18 @@
 //! Places in a run.
 
-ghost use Rattle.std.specs.Prelude.{◌≡◌, ◌+◌, ◌-◌, ◌<◌, ◌^◌, ◌↔◌, ℤ, false, length, IsTrue, if◌then◌else◌};
+ghost use Rattle.std.specs.Prelude.{◌≡◌, ◌+◌, ◌-◌, ◌<◌, ◌≤◌, ◌^◌, ◌↔◌, ℤ, false, length, IsTrue, if◌then◌else◌};
 ghost use Rattle.cx_model.specs.Courses.{by_zero};
 ghost use Rattle.cx_plan.specs.declared.variable.VarId.{VarId};
+ghost use Rattle.cx_plan.specs.declared.job.Job.{Job};
 ghost use Rattle.cx_plan.specs.Setups.{setup_of};
 ghost use Rattle.cx_plan.specs.Whole.{IsWhole};
-ghost use Rattle.cx_flat.specs.Code.{code, op_at};
+ghost use Rattle.cx_flat.specs.Code.{analysis_place, code, op_at};
 ghost use Rattle.cx_flat.specs.Flats.{to, next, opens, leaves_loop, turns_back, iterates, turn_control, control_after, last_turns};
 ghost use Rattle.cx_flat.specs.Ways.{key, Less, at_place};
 ghost use Rattle.cx_way.specs.Steps.{IsReached, IsTested};
 
-use crate::opened::{comes_before, OpenWhile};
+use crate::opened::{are_same, comes_before, last_turns, OpenWhile};
+use crate::skips::landing_place;
 use arrayvec::ArrayVec;
 use cx_flat::Op;
 use cx_plan::{is_due, is_written, Job};
@@ -46,6 +48,18 @@ impl Place {
         }
     }
 
+    /// ANALYSIS of an iteration, where a run is continued from a checkpoint. `ops` are the operations of the job.
+    pub fn at_analysis(ops: &[Op], iteration: u64) -> Self
+        ensures { (job : Job) → IsWhole job → ops.now ≡ code (setup_of job)
+            → result ≡ at_place (analysis_place (setup_of job)) iteration }
+    {
+        Place {
+            pc: landing_place(ops),
+            iteration,
+            opened: ArrayVec::new(),
+        }
+    }
+
     /// The number of the operation that is next.
     pub fn pc(&self) -> u32
         ensures { result ≡ self.now.pc }
@@ -68,6 +82,17 @@ impl Place {
             self.iteration < other.iteration
         } else {
             comes_before(&self.opened, self.pc, &other.opened, other.pc)
+        }
+    }
+
+    /// Whether it is the same place.
+    pub fn is_same(&self, other: &Place) -> bool
+        ensures { IsTrue result ↔ (self.now ≡ other.now) }
+    {
+        if self.iteration != other.iteration || self.pc != other.pc {
+            false
+        } else {
+            are_same(&self.opened, &other.opened)
         }
     }
 
@@ -109,13 +134,6 @@ impl Place {
         });
     }
 
-    /// The turns of the innermost WHILE.
-    fn turns(&self) -> u64
-        ensures { result ≡ last_turns self.now.opened }
-    {
-        self.opened.last().map_or(0, |open| open.turns)
-    }
-
     fn leave(&mut self, count: u32)
         requires { self.old.pc + count < 2 ^ 32 }
         ensures { self.new ≡ leaves_loop self.old (self.old.pc + count) }
@@ -129,7 +147,7 @@ impl Place {
         requires out { self.old.pc + count < 2 ^ 32 }
         ensures { self.new ≡ turn_control (setup_of job.now) self.old count scalar }
     {
-        if self.turns() == job.while_limit || scalar == 0 {
+        if last_turns(&self.opened) == job.while_limit || scalar == 0 {
             self.leave(count);
         } else {
             self.step();
@@ -137,16 +155,15 @@ impl Place {
     }
 
     fn turn_back(&mut self, count: u32)
-        requires { last_turns self.old.opened + 1 < 2 ^ 64 }
+        requires depth { length self.old.opened ≤ 32 }
+        requires turns { last_turns self.old.opened + 1 < 2 ^ 64 }
         ensures { self.new ≡ turns_back self.old (self.old.pc - count) }
     {
-        if let Some(open) = self.opened.pop() {
-            self.opened.push(OpenWhile {
-                place: open.place,
-                turns: open.turns + 1,
-            });
-        }
         self.pc = self.pc.saturating_sub(count);
+        match self.opened.pop() {
+            Some(open) => self.opened.push(open.turned()),
+            None => {}
+        }
     }
 
     fn iterate(&mut self, job: &Job, count: u32)
