@@ -36,9 +36,9 @@ module _ (setup : Setup) (scalars : Scalars) (first : Control) (most : ℕ) (way
       elim (cases_lt m n) [
         | inl less ↦ less
         | inr past ↦ absurd (elim (cases_lt n m) [
-            | inl more ↦ less_never (key (at m)) (less_trans (key (at m)) (key (at n)) (key (at m)) h (above n m l more))
-            | inr same ↦ less_never (key (at m)) (let e : n ≡ m = omega (arith, past, same) in subst (λ k. Less (key (at m)) (key (at k))) e h)
-          ])
+          | inl more ↦ less_never (key (at m)) (less_trans (key (at m)) (key (at n)) (key (at m)) h (above n m l more))
+          | inr same ↦ less_never (key (at m)) (let e : n ≡ m = omega (arith, past, same) in subst (λ k. Less (key (at m)) (key (at k))) e h)
+        ])
       ]
 
   pub in_order : InOrder setup scalars first way.count

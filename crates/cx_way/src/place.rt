@@ -11,11 +11,11 @@ ghost use Rattle.cx_flat.specs.Flats.{to, next, opens, leaves_loop, turns_back, 
 ghost use Rattle.cx_flat.specs.Ways.{key, Less, at_place};
 ghost use Rattle.cx_way.specs.Steps.{IsReached, IsTested};
 
-use crate::opened::{are_same, comes_before, last_turns, OpenWhile};
+use crate::opened::{OpenWhile, are_same, comes_before, last_turns};
 use crate::skips::landing_place;
 use arrayvec::ArrayVec;
 use cx_flat::Op;
-use cx_plan::{is_due, is_written, Job};
+use cx_plan::{Job, is_due, is_written};
 use std::marker::Model;
 
 /// Where a part stands in a run: before which operation, in which iteration, and in which turn of each WHILE that is open, of

@@ -11,8 +11,8 @@ use Rattle.cx_way.proofs.place.Place.at_analysis.Goals as goal
 pub returns : goal.returns
 returns c =
     λ job whole is.
-        let place = analysis_place (setup_of job) in
-        let there : landed c.args.ops.now ≡ place = ap landed is ∙ lands (setup_of job) in
-        let few : place < 2 ^ 31 = analysis_small job whole in
-        let here : c.landing_place.result ≡ place = c.landing_place.ensures (omega (arith, there, few)) ∙ there in
-        ap (seen c.landing_place.result c.args.iteration) c.new.ensures ∙ ap (λ n. at_place n c.args.iteration) here
+    let place = analysis_place (setup_of job) in
+    let there : landed c.args.ops.now ≡ place = ap landed is ∙ lands (setup_of job) in
+    let few : place < 2 ^ 31 = analysis_small job whole in
+    let here : c.landing_place.result ≡ place = c.landing_place.ensures (omega (arith, there, few)) ∙ there in
+    ap (seen c.landing_place.result c.args.iteration) c.new.ensures ∙ ap (λ n. at_place n c.args.iteration) here
