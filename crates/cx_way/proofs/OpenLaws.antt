@@ -2,7 +2,7 @@
 use Rattle.std.proofs.Common.{◌≡◌, ℕ, suc, ◌+◌, ◌-◌, List, [], ◌∷◌, ◌++◌, length, take, Some, None, refl, sym, ap, ◌∙◌, arith}
 use Rattle.std.specs.Prelude.{slice_get}
 use Rattle.std.proofs.lemmas.List.{map-append}
-use Rattle.cx_flat.specs.Flats.{Opened, Control, last_turns, turned_on, closed, leaves_loop, turns_back}
+use Rattle.cx_flat.specs.Flats.{Control, last_turns, turned_on, closed, leaves_loop, turns_back}
 use Rattle.cx_flat.proofs.RunLaws.{last_of, turned_of}
 use Rattle.cx_way.specs.declared.opened.OpenWhile.{OpenWhile}
 use Rattle.cx_way.specs.Seen.{opened_of, all_opened}

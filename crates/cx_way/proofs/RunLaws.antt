@@ -1,6 +1,6 @@
 -- Each place of a run fits.
-use Rattle.std.proofs.Common.{◌≡◌, ℕ, zero, suc, ◌+◌, ◌-◌, ◌*◌, ◌^◌, ◌≤◌, ◌<◌, Bool, true, false, List, [], ◌∷◌, ◌++◌, length, refl, sym, ap, ◌∙◌, subst, arith, length-append, cond, get_or}
-use Rattle.std.specs.Prelude.{max, All, AllPairs, ℤ}
+use Rattle.std.proofs.Common.{◌≡◌, ℕ, zero, suc, ◌+◌, ◌-◌, ◌*◌, ◌^◌, ◌≤◌, ◌<◌, List, [], ◌∷◌, ◌++◌, length, refl, sym, ap, ◌∙◌, subst, arith, length-append, cond, get_or}
+use Rattle.std.specs.Prelude.{All, AllPairs}
 use Rattle.std.proofs.lemmas.Bool.{lt-ltb, le-ltb}
 use Rattle.std.proofs.lemmas.List.Elements.{All-nil}
 use Rattle.cx_plan.specs.declared.variable.VarId.{VarId}
@@ -8,7 +8,7 @@ use Rattle.cx_plan.specs.declared.job.Job.{Job}
 use Rattle.cx_plan.specs.declared.tree.Tree.{Tree, Seq}
 use Rattle.cx_plan.specs.Setups.{Setup, setup_of}
 use Rattle.cx_plan.specs.Dues.{is_due, is_written}
-use Rattle.cx_plan.specs.Lookups.{item, bin, bin_count, STARTUP, WRAGH, PARAMCHECK, BASEGRID, INITIAL, POSTINITIAL, PRESTEP, EVOL, POSTSTEP, CHECKPOINT, ANALYSIS, TERMINATE, SHUTDOWN}
+use Rattle.cx_plan.specs.Lookups.{bin, bin_count, STARTUP, WRAGH, PARAMCHECK, BASEGRID, INITIAL, POSTINITIAL, PRESTEP, EVOL, POSTSTEP, CHECKPOINT, ANALYSIS, TERMINATE, SHUTDOWN}
 use Rattle.cx_plan.specs.Sizes.{depth, greatest_depth}
 use Rattle.cx_plan.specs.Whole.{IsWhole, IsStored}
 use Rattle.cx_flat.specs.declared.op.Op.{Op}

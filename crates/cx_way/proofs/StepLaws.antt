@@ -1,9 +1,9 @@
 -- What a step of a place has room for.
-use Rattle.std.proofs.Common.{◌≡◌, ℕ, zero, suc, ◌+◌, ◌-◌, ◌^◌, ◌≤◌, ◌<◌, Bool, true, false, ℤ, pos, negsuc, List, [], ◌∷◌, ◌++◌, length, refl, sym, ap, ◌∙◌, subst, arith, length-append, cond}
+use Rattle.std.proofs.Common.{◌≡◌, ℕ, zero, suc, ◌+◌, ◌^◌, ◌≤◌, ◌<◌, Bool, true, false, ℤ, pos, negsuc, List, [], ◌∷◌, ◌++◌, length, refl, ap, ◌∙◌, subst, arith, length-append, cond}
 use Rattle.std.specs.Prelude.{All, ◌≢◌, ◌==◌}
 use Rattle.cx_plan.specs.declared.variable.VarId.{VarId}
 use Rattle.cx_plan.specs.declared.job.Job.{Job}
-use Rattle.cx_plan.specs.Setups.{Setup, setup_of}
+use Rattle.cx_plan.specs.Setups.{setup_of}
 use Rattle.cx_plan.specs.Dues.{is_due, is_written}
 use Rattle.cx_plan.specs.Whole.{IsWhole}
 use Rattle.cx_flat.specs.declared.op.Op.{Op}

@@ -2,7 +2,7 @@ use Rattle.std.proofs.Common.{◌∙◌, sym, ap}
 use Rattle.cx_plan.specs.Setups.{setup_of}
 use Rattle.cx_plan.specs.Dues.{is_due, is_written}
 use Rattle.cx_flat.specs.Flats.{Control}
-use Rattle.cx_way.proofs.StepLaws.{Stands, room-next, room-test, room-turn, room-due, room-written, room-skip, room-open, room-depth, room-turns}
+use Rattle.cx_way.proofs.StepLaws.{room-next, room-test, room-turn, room-due, room-written, room-skip, room-open, room-depth, room-turns}
 use Rattle.cx_way.proofs.place.Place.advance.Goals as goal
 
 pub step-requires : goal.step-requires
