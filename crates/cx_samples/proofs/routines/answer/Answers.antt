@@ -1,4 +1,6 @@
+-- The list that is handed over has the routines of the sample thorns, in order. Want of memory behind many steps is no status.
 use Rattle.std.proofs.Common.{refl}
+use Rattle.std.proofs.lemmas.Result.{err_from_is_err_and}
 use Rattle.cx_thorn_ca.specs.Automaton.{ca_init_rule, ca_step_rule, ca_zero_rule, ca_count_rule, ca_init_spec, ca_step_spec, ca_zero_spec, ca_count_spec}
 use Rattle.cx_thorn_ca.specs.Life.{life_init_rule, life_step_rule, life_zero_rule, life_count_rule, life_init_spec, life_step_spec, life_zero_spec, life_count_spec}
 use Rattle.cx_thorn_pde.specs.Control.{control_set_rule, control_spin_rule, control_set_spec, control_spin_spec}
@@ -46,3 +48,28 @@ answer_with-requires-clause-rules g c = rules_of _ _ _ _ _ _ (handed g c) c.dere
 
 pub answer_with-requires-clause-specs : goal.answer_with-requires-clause-specs
 answer_with-requires-clause-specs g c = specs_of _ _ _ _ _ _ (handed g c) c.deref.ensures.value
+
+pub returns-in_err-new-36 : goal.returns-in_err-new-36
+returns-in_err-new-36 g c =
+    let p = err_from_is_err_and c.from_residual-in_err-new-36.result c.from_residual-in_err-new-36.ensures.1 in
+    rw p.1 tt
+
+pub returns-in_err-new-38 : goal.returns-in_err-new-38
+returns-in_err-new-38 g c =
+    let p = err_from_is_err_and c.from_residual-in_err-new-38.result c.from_residual-in_err-new-38.ensures.1 in
+    rw p.1 tt
+
+pub returns-in_err-new-40 : goal.returns-in_err-new-40
+returns-in_err-new-40 g c =
+    let p = err_from_is_err_and c.from_residual-in_err-new-40.result c.from_residual-in_err-new-40.ensures.1 in
+    rw p.1 tt
+
+pub returns-in_err-new-42 : goal.returns-in_err-new-42
+returns-in_err-new-42 g c =
+    let p = err_from_is_err_and c.from_residual-in_err-new-42.result c.from_residual-in_err-new-42.ensures.1 in
+    rw p.1 tt
+
+pub returns-in_err-new-44 : goal.returns-in_err-new-44
+returns-in_err-new-44 g c =
+    let p = err_from_is_err_and c.from_residual-in_err-new-44.result c.from_residual-in_err-new-44.ensures.1 in
+    rw p.1 tt
