@@ -1,4 +1,4 @@
--- A part that agrees with the undivided run sweeps its zone as the undivided run does (T3.2).
+-- A part that agrees with the undivided run sweeps its zone as the undivided run does.
 use Rattle.std.proofs.Common.{◌≡◌, ℕ, zero, suc, ◌<◌, ◌≤◌, Bool, true, false, not, ◌&&◌, ◌||◌, refl, sym, ap, ◌∙◌, subst, arith, cond, ℤ, pos, List, [], ◌∷◌, length, get_or, Option, Some, None}
 use Rattle.std.specs.Prelude.{All, is_some, is_none}
 use Rattle.std.specs.List.{list_all, list_any}
@@ -242,7 +242,7 @@ module _ (setup : Setup) (rules : List Rule) (cut : Parts) (k : ℕ) (lies : Lie
   there_stored : (v : VarId) (level : ℕ) → IsStored setup v level → (v.0 < length state) × (level < length (get_or state v.0 []))
   there_stored v level stored = (subst (λ n. v.0 < n) (sym is_state.vars) stored.0, subst (λ n. level < n) (sym (is_state.levels v stored.0)) stored.1)
 
-  -- T3.2: behind the sweep each local point that is reached has the undivided run's number
+  -- Behind the sweep each local point that is reached has the undivided run's number
   pub sweeps_agree : (v : VarId) (level : ℕ) (p : Point) → passes ≡ true → is_scalar setup v ≡ false → IsStored setup v level → done v level ≡ 0
       → IsReached cut k (cond (all_written setup x.writes flags v level G) 3 0) p
       → number_at (local cut k) (level_of swept_here v level) p ≡ at setup.shape (level_of swept_there v level) p

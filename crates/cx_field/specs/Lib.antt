@@ -1,0 +1,6 @@
+pub mod Patches
+pub mod Zones
+pub mod Faces
+pub mod Filling
+pub mod Staging
+pub mod Sweeps

@@ -1,0 +1,5 @@
+mod Pieces
+mod Sides
+mod RoundLaws
+mod PostLaws
+mod TakeLaws

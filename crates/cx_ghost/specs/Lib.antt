@@ -1,0 +1,4 @@
+pub mod Faults
+pub mod Posts
+pub mod Takes
+pub mod Rounds
