@@ -34,7 +34,7 @@ pub sum_add : (n : ℕ) (f g : ℕ → ℕ) → sum_over n (λ i. f i + g i) ≡
 sum_add zero f g = refl
 sum_add (suc n) f g = rw (sum_add n f g) (four (sum_over n f) (sum_over n g) (f n) (g n))
 
-sum_none : (n : ℕ) → sum_over n (λ i. 0) ≡ 0
+pub sum_none : (n : ℕ) → sum_over n (λ i. 0) ≡ 0
 sum_none zero = refl
 sum_none (suc n) = rw (sum_none n) refl
 
@@ -51,7 +51,7 @@ sum_beyond (suc n) j f h =
     let rest = sum_beyond n j f (omega (arith, h)) in
     rw (other_one, rest) refl
 
-sum_one : (n j : ℕ) (f : ℕ → ℕ) → j < n → sum_over n (λ i. cond (eqb j i) (f i) 0) ≡ f j
+pub sum_one : (n j : ℕ) (f : ℕ → ℕ) → j < n → sum_over n (λ i. cond (eqb j i) (f i) 0) ≡ f j
 sum_one zero j f h = absurd (omega (arith, h))
 sum_one (suc n) j f h = go (cases_eq j n) (sum_one n j f)
   where

@@ -1,6 +1,8 @@
 pub mod CodeLaws
 pub mod CountLaws
 pub mod Counts
+pub mod PointTotals
+pub mod TraceTotals
 pub mod FirstLaws
 pub mod FlatPlaces
 pub mod FoldLaws
@@ -34,6 +36,10 @@ pub mod WholeReductions
 pub mod WrapLaws
 pub mod ZoneLaws
 pub mod WholeRun
+pub mod PlaceTotals
+pub mod EndTiles
+pub mod EndNotes
+pub mod EndPlaces
 pub mod GhostLaws
 pub mod StateIn
 pub mod NumberLaws
@@ -47,6 +53,9 @@ pub mod Foretelling
 pub mod EndAssembly
 pub mod FaultLaws
 pub mod ToldLaws
+pub mod DoneTotals
+pub mod EndTotals
+pub mod WorkLaws
 pub mod OracleSteps
 pub mod StepLaws
 pub mod JobLaws

@@ -74,7 +74,7 @@ at_some (Some j) b e = ap Some (eqb-true j b e)
 pub some_at : (o : Option ℕ) (b : ℕ) → o ≡ Some b → is_at o b ≡ true
 some_at o b e = rw e (eq-eqb b b refl)
 
-bool_same : (x y : Bool) → (x ≡ true → y ≡ true) → (y ≡ true → x ≡ true) → x ≡ y
+pub bool_same : (x y : Bool) → (x ≡ true → y ≡ true) → (y ≡ true → x ≡ true) → x ≡ y
 bool_same true y f g = sym (f refl)
 bool_same false true f g = g refl
 bool_same false false f g = refl

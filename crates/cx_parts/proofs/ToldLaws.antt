@@ -54,7 +54,7 @@ module _ (tells : Type 0) (r : Run) (run : IsRun r) (oracle : Oracle) (is_true :
   }
 
 module _ (r : Run) (run : IsRun r) where
-  is_truth : IsTrueOracle (Unit {0}) r (truth r)
+  pub is_truth : IsTrueOracle (Unit {0}) r (truth r)
   is_truth t k n l = refl
 
   pub lead_orders : EachOrder within_lead r

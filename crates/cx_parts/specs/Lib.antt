@@ -7,4 +7,7 @@ pub mod Nets
 pub mod Ghosts
 pub mod Operations
 pub mod Beginnings
+pub mod Ends
+pub mod Totals
+pub mod Works
 pub mod Laws

@@ -1,5 +1,5 @@
 -- The parts of a run as a network.
-use Rattle.std.specs.Prelude.{ℕ, zero, suc, ◌+◌, ◌*◌, ◌<◌, ◌≤◌, ◌≡◌, Bool, true, false, ℤ, pos, List, [], ◌∷◌, length, Option, Some, None, is_some, cond, slice_index_or}
+use Rattle.std.specs.Prelude.{ℕ, zero, suc, ◌+◌, ◌*◌, ◌<◌, ◌≤◌, ◌≡◌, Bool, true, false, ℤ, pos, List, [], ◌∷◌, length, filter, Option, Some, None, is_some, cond, slice_index_or}
 use Rattle.cx_grid.specs.declared.boxes.Point.{Point}
 use Rattle.cx_grid.specs.declared.shapes.Side.{Side}
 use Rattle.cx_grid.specs.declared.shapes.Side.TheVariants.{Low, High}
@@ -30,11 +30,7 @@ use Rattle.cx_parts.specs.Truths.{script}
 
 -- how many points a part computes in an item's turn; a reduction's count nothing
 abbrev pub zone_points : Run → ℕ → Region → ℕ
-zone_points r k region = count_of (points_in (local (cut_of r) k))
-  where
-    count_of : List Point → ℕ
-    count_of [] = 0
-    count_of (p ∷ ps) = cond (in_zone r.setup (owned (cut_of r) k) region p) 1 0 + count_of ps
+zone_points r k region = length (filter (in_zone r.setup (owned (cut_of r) k) region) (points_in (local (cut_of r) k)))
 
 abbrev pub points_of : Run → ℕ → Op → ℕ
 points_of r k (Sweep i) = zone_points r k (region_of (item r.setup i).writes)

@@ -9,8 +9,11 @@ ghost use Rattle.cx_rule.specs.Routine.{Rule};
 ghost use Rattle.cx_cut.specs.Cuts.{IsCut};
 ghost use Rattle.cx_cut.specs.Faults.{parts_of};
 ghost use Rattle.cx_parts.specs.Beginnings.{Beginning, IsBeginning, run_of};
+ghost use Rattle.cx_parts.specs.Ends.{OneEnd};
 ghost use Rattle.cx_parts.specs.Laws.{EachOrder, StepsKeep};
 ghost use Rattle.cx_parts.specs.Nets.{within_lead, in_lockstep};
+ghost use Rattle.cx_parts.specs.Totals.{DoneCounts, undivided_from};
+ghost use Rattle.cx_parts.specs.Works.{OneWork};
 
 use cx_flat::{all_ways, flat_is_run, operation_needs_met};
 use cx_plan::Job;
@@ -50,6 +53,62 @@ pub fn each_event_keeps(job: &Job)
     requires cut { IsCut (parts_of job.now.shape job.now.cut) }
     ensures { (told : Bool) (rules : List Rule) (b : Beginning) → IsBeginning (setup_of job.now) b
         → StepsKeep (IsTrue told) (run_of job.now rules b) }
+{
+    flat_is_run(job);
+    all_ways(job);
+    operation_needs_met(job);
+}
+
+/// In every order of events, where the run in parts is over at its last place: the points that all parts computed, and the values
+/// that all parts received, are as many as the undivided run's entries say. It does nothing that shows; its clauses are the law.
+pub fn done_totals(job: &Job)
+    requires whole { IsWhole job.now }
+    requires shapes { HasShapes (setup_of job.now) }
+    requires interior { HasInterior job.now.shape }
+    requires sound { Sound (setup_of job.now) }
+    requires cut { IsCut (parts_of job.now.shape job.now.cut) }
+    ensures by_lead { (rules : List Rule) (b : Beginning) → IsBeginning (setup_of job.now) b
+        → DoneCounts within_lead (run_of job.now rules b) (undivided_from (setup_of job.now) rules b) }
+    ensures in_step { (rules : List Rule) (b : Beginning) → IsBeginning (setup_of job.now) b
+        → DoneCounts in_lockstep (run_of job.now rules b) (undivided_from (setup_of job.now) rules b) }
+{
+    flat_is_run(job);
+    all_ways(job);
+    operation_needs_met(job);
+}
+
+/// In every order of events the end that is reported is the undivided run's: the Overflow, with its path, the WHILE limit or the
+/// limit of the output that is met at the place that is reported; and none where none is met there. The entries noted before
+/// that place are the first ones of the undivided run, in order. It does nothing that shows; its clauses are the law.
+pub fn one_end(job: &Job)
+    requires whole { IsWhole job.now }
+    requires shapes { HasShapes (setup_of job.now) }
+    requires interior { HasInterior job.now.shape }
+    requires sound { Sound (setup_of job.now) }
+    requires cut { IsCut (parts_of job.now.shape job.now.cut) }
+    ensures by_lead { (rules : List Rule) (b : Beginning) → IsBeginning (setup_of job.now) b
+        → OneEnd within_lead (run_of job.now rules b) (undivided_from (setup_of job.now) rules b) }
+    ensures in_step { (rules : List Rule) (b : Beginning) → IsBeginning (setup_of job.now) b
+        → OneEnd in_lockstep (run_of job.now rules b) (undivided_from (setup_of job.now) rules b) }
+{
+    flat_is_run(job);
+    all_ways(job);
+    operation_needs_met(job);
+}
+
+/// In every order of events, at each work that the writer can do next: the text that the pieces in front of it make is that of
+/// the undivided run's entry there, and the pieces of a checkpoint are the entry's state, each over the points that its part
+/// owns. It does nothing that shows; its clauses are the law.
+pub fn one_work(job: &Job)
+    requires whole { IsWhole job.now }
+    requires shapes { HasShapes (setup_of job.now) }
+    requires interior { HasInterior job.now.shape }
+    requires sound { Sound (setup_of job.now) }
+    requires cut { IsCut (parts_of job.now.shape job.now.cut) }
+    ensures by_lead { (rules : List Rule) (b : Beginning) → IsBeginning (setup_of job.now) b
+        → OneWork within_lead (run_of job.now rules b) }
+    ensures in_step { (rules : List Rule) (b : Beginning) → IsBeginning (setup_of job.now) b
+        → OneWork in_lockstep (run_of job.now rules b) }
 {
     flat_is_run(job);
     all_ways(job);

@@ -4,4 +4,4 @@
 
 mod law;
 
-pub use law::{each_event_keeps, each_order_agrees};
+pub use law::{done_totals, each_event_keeps, each_order_agrees, one_end, one_work};
