@@ -1,5 +1,5 @@
-mod Pieces
-mod Sides
-mod RoundLaws
-mod PostLaws
-mod TakeLaws
+pub mod Pieces
+pub mod Sides
+pub mod RoundLaws
+pub mod PostLaws
+pub mod TakeLaws

@@ -124,7 +124,8 @@ fn fill_from<W: Wire>(
     ensures queues { OnOk result ((a b : ℕ) → W.queue wire.new a b
         ≡ drop (if b == k && is_at from a then 1 else 0) (W.queue wire.old a b)) }
     ensures received { OnOk result (W.received wire.new ≡ counted (W.received wire.old)
-        (count_from from (length vars.now * point_count (halo_in patch.old ghosts.dir ghosts.side)))) }
+        (count_from from
+        (length vars.now * point_count (halo_in patch.old ghosts.dir ghosts.side)))) }
     ensures sum { (told : IsTrue W.tells) → OnOk result (W.sum wire.new
         ≡ (W.sum wire.old + sum_from told from (λ a. W.queue wire.old a k)) % 2 ^ 64) }
     ensures parts { W.parts wire.new ≡ W.parts wire.old }

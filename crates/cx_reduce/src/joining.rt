@@ -21,7 +21,11 @@ impl Model for Partial {
 
     ghost view = { λ p. record { kind = p.kind; points = p.points; number = p.number } };
 
-    ghost invariant = { λ p. IsReduced (record { kind = p.kind; points = p.points; number = p.number }) };
+    ghost invariant = { λ p. IsReduced (record {
+      kind = p.kind;
+      points = p.points;
+      number = p.number;
+    }) };
 }
 
 /// Two numbers over so many points joined.

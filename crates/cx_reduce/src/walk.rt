@@ -14,7 +14,8 @@ use cx_plan::{ItemKind, VarId};
 pub fn partial(kind: ItemKind, patch: &Patch, v: VarId, level: u8) -> Partial
     requires kind { IsReduction kind }
     requires level { IsGridLevel patch.now v level }
-    ensures { result ≡ reduced_over kind (numbers_in patch.now.owned (number_at patch.now v level)) }
+    ensures { result
+        ≡ reduced_over kind (numbers_in patch.now.owned (number_at patch.now v level)) }
 {
     let mut points = 0;
     let mut number = None;

@@ -33,7 +33,11 @@ impl Model for Place {
 
     ghost Value = { Control };
 
-    ghost view = { λ p. record { pc = p.pc; iteration = p.iteration; opened = all_opened p.opened.items } };
+    ghost view = { λ p. record {
+      pc = p.pc;
+      iteration = p.iteration;
+      opened = all_opened p.opened.items;
+    } };
 }
 
 impl Place {
@@ -113,7 +117,8 @@ impl Place {
     fn step_or_skip(&mut self, goes_on: bool, count: u32)
         requires next { self.old.pc + 1 < 2 ^ 32 }
         requires out { goes_on ≡ false → self.old.pc + count < 2 ^ 32 }
-        ensures { self.new ≡ (if goes_on then next self.old else to self.old (self.old.pc + count)) }
+        ensures { self.new
+            ≡ (if goes_on then next self.old else to self.old (self.old.pc + count)) }
     {
         if goes_on {
             self.step();

@@ -23,7 +23,12 @@ impl Model for FailingWire {
 
     ghost Value = { Failing };
 
-    ghost view = { λ w. record { wire = w.wire; fail = w.fail; calls = w.calls; faults = w.faults } };
+    ghost view = { λ w. record {
+      wire = w.wire;
+      fail = w.fail;
+      calls = w.calls;
+      faults = w.faults;
+    } };
 }
 
 impl FailingWire {

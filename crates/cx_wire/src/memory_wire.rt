@@ -115,8 +115,10 @@ fn add_to(queues: &mut Vec<Queue>, at: usize, mail: Mail) -> Result<(), (WireFau
 fn take_from(queues: &mut Vec<Queue>, at: usize) -> Mail
     requires at { at < vec_len queues.old }
     requires some { 0 < length (slice_index_or queues.old.items at []) }
-    ensures front { slice_index_or queues.old.items at [] ≡ result ∷ slice_index_or queues.new.items at [] }
-    ensures rest { queues.new.items ≡ slice_set queues.old.items at (slice_index_or queues.new.items at []) }
+    ensures front { slice_index_or queues.old.items at []
+        ≡ result ∷ slice_index_or queues.new.items at [] }
+    ensures rest { queues.new.items
+        ≡ slice_set queues.old.items at (slice_index_or queues.new.items at []) }
     ensures counted { IsCounted result }
 {
     let queue = &mut queues[at];
