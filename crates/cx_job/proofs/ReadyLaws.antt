@@ -34,7 +34,7 @@ use Rattle.cx_config.specs.NamesAndLevels.{AreRead}
 use Rattle.cx_match.specs.declared.fault.MatchFault.{MatchFault}
 use Rattle.cx_job.specs.Faults.{match_fault}
 use Rattle.cx_config.specs.Stages.{Is, or_fault}
-use Rattle.cx_job.specs.Making.{Orders, Matches, Accepts, CutAnd, cut_limits, within_cut, LimitsAnd, ItemsAnd, OutputsAnd, PlanAnd, Yields, IsReady, IsPlanned, output_ids, within_limits}
+use Rattle.cx_job.specs.Making.{Orders, Matches, CutAnd, cut_limits, LimitsAnd, ItemsAnd, OutputsAnd, PlanAnd, Yields, IsReady, IsPlanned, output_ids, within_limits}
 use Rattle.cx_job.proofs.MakingLaws.{yields_halt, yields_pass, yields_ok, unless_ok}
 use Rattle.cx_grids.proofs.NoneLaws.{first_none, second_none}
 use Rattle.cx_job.proofs.WholeJobs.{is_whole, not_over}

@@ -15,4 +15,5 @@ mod stages;
 
 pub use cx_config::{FolderShelf, MemoryShelf, Shelf, ShelfFault};
 pub use fault::JobFault;
+pub use lines::direction_letter;
 pub use making::make_job;

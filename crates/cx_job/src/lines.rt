@@ -28,7 +28,8 @@ pub(crate) fn thorn_line(alloc: Global, thorn: &Thorn) -> Result<Text, Memory>
     Ok(line)
 }
 
-fn letter(direction: u8) -> &'static [u8]
+/// The letter of a direction (0 to 2), as texts write it.
+pub fn direction_letter(direction: u8) -> &'static [u8]
     ensures { result.now ≡ letter direction }
 {
     match direction {
@@ -60,7 +61,7 @@ pub(crate) fn direction_line(alloc: Global, shape: &Shape, direction: u8) -> Res
     ensures { IfOk result (λ line. line ≡ direction_line shape.now direction) }
 {
     let mut line = Text::from_slice(alloc, b"direction ")?;
-    line.push_slice(letter(direction))?;
+    line.push_slice(direction_letter(direction))?;
     line.push_slice(b" points ")?;
     line.push_signed_number(alloc, coordinate(&shape.n, direction))?;
     line.push_slice(b" ghost ")?;

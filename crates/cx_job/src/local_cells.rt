@@ -7,7 +7,7 @@ ghost use Rattle.cx_grids.specs.Stored.{in_64_bits};
 ghost use Rattle.cx_cut.specs.Cuts.{part_count};
 ghost use Rattle.cx_cut.specs.Faults.{parts_of};
 ghost use Rattle.cx_job.specs.JobLimits.{run_count};
-ghost use Rattle.cx_job.specs.LocalCells.{greatest, write_count, window_size, items_run, part_cells, cells_by, local_cells};
+ghost use Rattle.cx_job.specs.LocalCells.{greatest, write_count, window_size, part_cells, cells_by, local_cells};
 
 use crate::counting::run_count;
 use crate::limits::first_items;

@@ -7,7 +7,6 @@ ghost use Rattle.cx_grid.specs.Grid.{IsShape};
 ghost use Rattle.cx_cut.specs.Axis.{IsEnd};
 ghost use Rattle.cx_cut.specs.Cuts.{IsCorner, part_count, widths};
 ghost use Rattle.cx_cut.specs.Faults.{parts_of, cut_fault};
-ghost use Rattle.cx_job.specs.Keys.{letter};
 ghost use Rattle.cx_run.specs.CutTexts.{number_text, cut_line, cut_lines, size_of, point_text, neighbour_text, side_text, place_text, sides_text, part_line, parts_text};
 ghost use Rattle.std.specs.Int.{int_gap};
 ghost use Rattle.std.specs.Prelude.{pos};
@@ -15,20 +14,10 @@ ghost use Rattle.std.specs.Prelude.{pos};
 use crate::fault_words::push_number;
 use cx_cut::{Cut, CutFault, cut};
 use cx_grid::{Box3, Point, Side};
+use cx_job::direction_letter;
 use cx_plan::Job;
 use cx_text::{Memory, Text};
 use std::alloc::Global;
-
-/// The letter of a direction.
-fn letter(direction: u8) -> &'static [u8]
-    ensures { result.now ≡ letter direction }
-{
-    match direction {
-        0 => b"x",
-        1 => b"y",
-        _ => b"z",
-    }
-}
 
 /// The widths of the parts along a direction.
 fn widths(job: &Job, direction: u8) -> &[u32]
@@ -57,7 +46,7 @@ fn push_cut_line(text: &mut Text, alloc: Global, job: &Job, direction: u8) -> Re
         (text.new ≡ text.old ++ cut_line (parts_of job.now.shape job.now.cut) direction) }
 {
     text.push_slice(b"cut ")?;
-    text.push_slice(letter(direction))?;
+    text.push_slice(direction_letter(direction))?;
     push_widths(text, alloc, widths(job, direction))?;
     text.push_slice(b"\n")
 }
