@@ -64,6 +64,16 @@ fn put_levels(out: &mut Vec<u8>, levels: &[List<i64>]) -> Result<(), Memory>
     Ok(())
 }
 
+// Room for a checkpoint's slot, so that its list of bytes need not grow.
+fn room(c: &Checkpoint) -> usize {
+    let numbers = c.lengths.len().saturating_add(c.scalars.len());
+    let mut room = numbers.saturating_mul(8).saturating_add(c.key.len());
+    'each: for values in c.levels.as_slice() {
+        room = room.saturating_add(values.len().saturating_mul(8).saturating_add(8));
+    }
+    room.saturating_add(64)
+}
+
 /// The bytes of a checkpoint's slot, with its gate open. The key and the three lists have fewer than 2^32 items each.
 pub fn encode(alloc: Global, c: &Checkpoint) -> Result<Text, Memory>
     requires key { length c.now.key < 2 ^ 32 }
@@ -72,7 +82,7 @@ pub fn encode(alloc: Global, c: &Checkpoint) -> Result<Text, Memory>
     requires levels { length c.now.levels < 2 ^ 32 }
     ensures { IfOk result (λ bytes. bytes ≡ slot_bytes c.now) }
 {
-    let mut out = Vec::new(alloc);
+    let mut out = Vec::with_capacity(alloc, room(c))?;
     out.extend_from_slice(b"\x01CXCHKPT\x01")?;
     out.extend_from_slice(&c.iteration.to_be_bytes())?;
     put_string(&mut out, c.key.as_slice())?;
