@@ -1,5 +1,5 @@
 -- The bytes of a small checkpoint, which the definitions give and read again.
-use Rattle.std.specs.Prelude.{◌≡◌, ℕ, ℤ, pos, negsuc, Some, List, [], ◌∷◌}
+use Rattle.std.specs.Prelude.{◌≡◌, ℕ, pos, negsuc, Some, List, [], ◌∷◌}
 use Rattle.std.proofs.Common.{refl}
 use Rattle.cx_chk.specs.Encoding.{slot_bytes}
 use Rattle.cx_chk.specs.Reading.{value_at, string_at, some_at, counted_at, fields_at, decoded}
