@@ -1,0 +1,13 @@
+pub mod NetLaws
+pub mod GoingLaws
+pub mod JobRuns
+pub mod TellLaws
+pub mod SilentWorks
+pub mod PieceWorks
+pub mod WorksLaws
+pub mod EndNotes
+pub mod EndLaws
+pub mod TakenLaws
+pub mod SentSums
+pub mod TotalLaws
+pub mod WayKept

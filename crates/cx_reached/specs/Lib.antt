@@ -1,0 +1,4 @@
+pub mod Going
+pub mod Works
+pub mod Endings
+pub mod Sums
