@@ -1,0 +1,16 @@
+pub mod Known
+pub mod KnownLaws
+pub mod FrameLaws
+pub mod PartLaws
+pub mod ReachLaws
+pub mod StartLaws
+pub mod TurnLaws
+pub mod ReductionLaws
+pub mod ExchangeLaws
+pub mod TakeLaws
+pub mod FewLaws
+pub mod AskLaws
+pub mod MoveLaws
+pub mod OwnedLaws
+pub mod WorldLaws
+pub mod ReadyLaws

@@ -1,0 +1,7 @@
+pub mod Jobs
+pub mod Frames
+pub mod Items
+pub mod Reductions
+pub mod Exchanges
+pub mod Tests
+pub mod Laws
