@@ -28,6 +28,19 @@ impl Model for Partial {
     }) };
 }
 
+impl Partial {
+    /// The same number once more.
+    pub fn copy(&self) -> Self
+        ensures { result ≡ self.now }
+    {
+        Partial {
+            kind: self.kind,
+            points: self.points,
+            number: self.number,
+        }
+    }
+}
+
 /// Two numbers over so many points joined.
 pub(crate) fn combine(kind: ItemKind, a: i128, b: i128, m: u32, n: u32) -> i128
     requires a { IsWithin m a }

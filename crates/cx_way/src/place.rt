@@ -78,6 +78,13 @@ impl Place {
         self.iteration
     }
 
+    /// How many turns the innermost open WHILE has taken; 0 where none is open.
+    pub fn turns(&self) -> u64
+        ensures { result ≡ last_turns self.now.opened }
+    {
+        last_turns(&self.opened)
+    }
+
     /// Whether this place comes before another one of the same way.
     pub fn is_before(&self, other: &Place) -> bool
         ensures { IsTrue result ↔ Less (key self.now) (key other.now) }
