@@ -1,0 +1,11 @@
+pub mod FilledLaws
+pub mod CheckpointLaws
+pub mod RowLaws
+pub mod FillLaws
+pub mod PutLaws
+pub mod PieceLaws
+pub mod BoardLaws
+pub mod PieceOps
+pub mod RoomLaws
+pub mod JoinLaws
+pub mod FitLaws
