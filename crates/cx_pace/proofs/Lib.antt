@@ -1,0 +1,17 @@
+pub mod OrderLaws
+pub mod HindLaws
+pub mod TwinLaws
+pub mod FlagLaws
+pub mod StandLaws
+pub mod WorkLaws
+pub mod MoveLaws
+pub mod PaceLaws
+pub mod RoomLaws
+pub mod EventLaws
+pub mod KeepLaws
+pub mod OperationLaws
+pub mod OracleLaws
+pub mod AloneLaws
+pub mod PieceLaws
+pub mod ListedLaws
+pub mod TellLaws
