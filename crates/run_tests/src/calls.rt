@@ -353,7 +353,7 @@ fn answer_to(rt: &HostRuntime, words: &[&[u8]], shelf: &mut MemoryShelf) -> Resu
 }
 
 /// A shelf with the parameter file `t.par`, which has more lines behind those of a file, and with other files.
-fn shelf_with(
+pub(crate) fn shelf_with(
     alloc: Global,
     file: &[u8],
     more: &[u8],

@@ -1,4 +1,4 @@
-//! Tests of the top call with the sample thorns, and of the folder as a shelf.
+//! Tests of the top call with the sample thorns, of their schedules as lists of operations, and of the folder as a shelf.
 #![tactic(auto)]
 
 #[cfg(test)]
@@ -9,6 +9,8 @@ mod cuts;
 mod devices;
 #[cfg(test)]
 mod faults;
+#[cfg(test)]
+mod flats;
 #[cfg(test)]
 mod jobs;
 #[cfg(test)]
