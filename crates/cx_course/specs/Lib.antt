@@ -1,0 +1,4 @@
+pub mod Courses
+pub mod Beginnings
+pub mod Works
+pub mod Starts
