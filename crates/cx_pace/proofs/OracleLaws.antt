@@ -22,14 +22,14 @@ use Rattle.cx_parts.specs.Runs.{Run, Oracle, parts_in, next_op, guided, undivide
 use Rattle.cx_parts.specs.Truths.{truth, script, mail_at, Stands, Agrees, gives_by, GivesAt, Books}
 use Rattle.cx_parts.proofs.FaultLaws.{told_ends}
 use Rattle.cx_parts.proofs.FitLaws.{lead_fits}
-use Rattle.cx_parts.proofs.Foretelling.{control_same, woven_other}
+use Rattle.cx_parts.proofs.Foretelling.{guided_same, control_same, woven_other}
 use Rattle.cx_parts.proofs.StepLaws.{ended_other}
 use Rattle.cx_parts.proofs.ToldLaws.{true_gift}
 use Rattle.cx_parts.proofs.Ways.{scalars_at, op_there}
 use Rattle.cx_parts.proofs.WholeRun.{IsRun}
 use Rattle.cx_pace.specs.Paces.{Paces}
 use Rattle.cx_pace.specs.Events.{work_of}
-use Rattle.cx_pace.specs.Shows.{State, ShowsPace, work_there, works_before}
+use Rattle.cx_pace.specs.Shows.{State, ShowsPace, work_there, works_before, SameWay}
 use Rattle.cx_pace.proofs.OperationLaws.{after, then, shown_on}
 use Rattle.cx_pace.proofs.OperationLaws as operation
 
@@ -91,7 +91,7 @@ module _ (tells : Type 0) (r : Run) (run : IsRun r) (o : Oracle) (w : State tell
   shows = then tells r run o w p st sh k y can move
 
   abbrev Kept : Type 0
-  Kept = (other : Oracle) × IsReachedState tells r other new × ShowsPace tells r other new shows
+  Kept = (other : Oracle) × IsReachedState tells r other new × ShowsPace tells r other new shows × SameWay r o other new
 
   abbrev next : ℕ
   next = suc (w.place k)
@@ -124,6 +124,7 @@ module _ (tells : Type 0) (r : Run) (run : IsRun r) (o : Oracle) (w : State tell
         (move_kept (net tells within_lead r o) (script tells r o) (Agrees tells r o) (GivesAt r o) (Books tells r) (fits o st.oracle_is) w st.woven k can y move
         (subst (λ c. gives_by r k y (next_op r c) (o k next)) (sym stands.control) g)),
     shown_on tells r run o w p st sh k y can move,
+    λ j m l h. refl,
   )
 
   -- a number is given next
@@ -202,6 +203,7 @@ module _ (tells : Type 0) (r : Run) (run : IsRun r) (o : Oracle) (w : State tell
           is,
           shown_other tells r o other new shows (shown_on tells r run o w p st sh k y can move) is.woven.behind
               (λ j m l h. same_there m (let n = near j l in omega (arith, n, h))),
+          λ j m l h. guided_same r o other k next (foretold_else o k next number) (ways o) (ways other) m (let n = near j l in omega (arith, n, h)),
         )
 
   by_op : (q : Op) → op_there r o next ≡ q → Kept

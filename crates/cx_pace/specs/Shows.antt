@@ -92,6 +92,10 @@ pub record TellsEvents (tells : Type 0) (r : Run) (oracle : Oracle) (w : State t
 
 -- ---- what each event leaves
 
+-- up to where each part stands the way of all parts is one, by two oracles
+abbrev pub SameWay : {tells : Type 0} → Run → (oracle other : Oracle) → State tells → Type 0
+SameWay r oracle other w = (j m : ℕ) → j < parts_in r → m ≤ w.place j → guided r other m ≡ guided r oracle m
+
 -- The state that an event leads to is a reached one, and is shown by what the event leaves. The oracle behind it may differ in what
 -- the part is to give next.
 pub record KeepsPace (tells : Type 0) (r : Run) (oracle : Oracle) (w : State tells) (p : Paces) : Type 0 where
@@ -100,6 +104,7 @@ pub record KeepsPace (tells : Type 0) (r : Run) (oracle : Oracle) (w : State tel
       → (other : Oracle) × IsReachedState tells r other (machine.moved (net tells within_lead r oracle) w k y)
       × ShowsPace tells r other (machine.moved (net tells within_lead r oracle) w k y)
       (moved_on r.setup p k (scalar_of (w.held k).numbers))
+      × SameWay r oracle other (machine.moved (net tells within_lead r oracle) w k y)
   pub met : (k : ℕ) (meter : ℕ → ℕ) → CanMove (net tells within_lead r oracle) w k
       → Moves tells r k (w.held k) (taken_now (net tells within_lead r oracle) w k) (next_op r (w.held k).control) None
       → IsReachedState tells r oracle (machine.met w k meter) × ShowsPace tells r oracle (machine.met w k meter) (met_by p k)
