@@ -1,0 +1,114 @@
+-- Which event a step does, and how many can happen.
+use Rattle.std.proofs.Common.{◌≡◌, ℕ, zero, suc, ◌<◌, ◌⊎◌, inl, inr, true, List, [], ◌∷◌, length, get_or, slice_get, All, Option, Some, None, arith, refl, sym, ◌∙◌, subst}
+use Rattle.std.proofs.lemmas.Bool.{cases_eq}
+use Rattle.cx_model.specs.declared.ends.End.{End}
+use Rattle.cx_model.specs.declared.ends.End.TheVariants as ends
+use Rattle.cx_model.specs.Traces.{Trace}
+use Rattle.cx_network.specs.Machine.{Can, CanMove}
+use Rattle.cx_network.specs.Machine as network
+use Rattle.cx_wire.specs.Messages.{Sent as SentMail}
+use Rattle.cx_pace.specs.declared.standing.Next.TheVariants as next
+use Rattle.cx_pace.specs.Events.{can_go, events}
+use Rattle.cx_parts.specs.Nets.{net, within_lead}
+use Rattle.cx_parts.specs.Runs.{Run, last_of}
+use Rattle.cx_core.specs.declared.answers.Event.TheVariants as event
+use Rattle.cx_core.specs.declared.answers.Outcome.TheVariants as out
+use Rattle.cx_core.specs.Cores.{Cores, outcome_of}
+use Rattle.cx_core.specs.Hands.{StepsTo}
+use Rattle.cx_core.specs.Laws.{RunLaws}
+use Rattle.cx_core.specs.Moving.{PartGoes}
+use Rattle.cx_core.specs.Shows.{OverAs}
+use Rattle.cx_core.specs.Steps.{Counts, IsAt, AreEnabled}
+use Rattle.cx_core.proofs.EventLaws.{event_of, get_map, how_many}
+use Rattle.cx_core.proofs.WriterLaws.{told, goes, place, event_list, enabled_are}
+
+none_some : {X : Type 0} (y : X) → None ≡ Some y → ⊥
+none_some y e = cc
+
+some_is : {X : Type 0} (x y : X) → Some x ≡ Some y → x ≡ y
+some_is x y e = cc
+
+-- what holds of each element holds of the one at a place
+at_place : {X : Type 0} (P : X → Type 0) (xs : List X) (k : ℕ) (x : X) → All P xs → slice_get xs k ≡ Some x → P x
+at_place P xs k x all e = go xs k (λ i d l. all i d l) e
+  where
+    go : (ys : List _) (i : ℕ) → ((j : ℕ) (d : _) → j < length ys → P (get_or ys j d)) → slice_get ys i ≡ Some x → P x
+    go [] i h f = absurd (none_some x f)
+    go (y ∷ ys) zero h f = subst P (some_is y x f) (h 0 y (omega arith))
+    go (y ∷ ys) (suc i) h f = go ys i (λ j d l. h (suc j) d (omega (arith, l))) f
+
+still_going : (end : End) → out.Going ≡ outcome_of (Some end) → ⊥
+still_going ends.Done e = cc
+still_going (ends.Overflow iteration path) e = cc
+still_going (ends.WhileLimit iteration path) e = cc
+still_going (ends.OutputLimit iteration) e = cc
+
+going_done : out.Going ≡ out.Done → ⊥
+going_done e = cc
+
+module _ (tells : Type 0) (r : Run) (trace : Trace) (laws : RunLaws tells r trace) (first : Counts) (core : Cores) (queue : ℕ → ℕ → List (SentMail tells)) (now : Counts)
+    (at : IsAt tells r first core queue now) where
+  -- the event at a place of the list
+  module _ (k j : ℕ) (kth : slice_get (events core.pace) k ≡ Some (next.Part j)) where
+    part_at : slice_get (event_list tells r trace laws first core queue now at) k ≡ Some (network.Part j)
+    part_at = get_map (event_of (place tells r trace laws first core queue now at).0) (events core.pace) k (next.Part j) kth
+
+    pub can_move : CanMove (net tells within_lead r at.oracle) at.world j
+    can_move =
+        at_place (Can (net tells within_lead r at.oracle) at.world) (event_list tells r trace laws first core queue now at) k (network.Part j)
+        (enabled_are tells r trace laws first core queue now at).each part_at
+
+    pub goes_now : can_go core.pace j ≡ true
+    goes_now = ((told tells r trace laws first core queue now at).part j can_move.part).1 can_move
+
+    pub below : j < length core.pace.parts
+    below = omega (arith, can_move.part, at.shows.pace.count)
+
+    -- the operation of a part
+    pub part_step : (new : Cores) (after : ℕ → ℕ → List (SentMail tells)) (later : Counts) → PartGoes tells r first j core new queue after now later
+        → StepsTo tells r trace first k (record { core = core; queue = queue; now = now }) (record { core = new; queue = after; now = later }) at (event.Part j)
+    part_step new after later goes_to =
+        let to = goes_to at in
+        record {
+          there = to.0;
+          does = record {
+            events = event_list tells r trace laws first core queue now at;
+            enabled = enabled_are tells r trace laws first core queue now at;
+            which = network.Part j;
+            kth = part_at;
+            after = to.1;
+            answers = refl;
+          };
+          falls = (goes tells r trace laws first core queue now at).falls (network.Part j) to.0.world can_move to.1;
+          leaves = tt;
+          hands = λ t. (laws.works t at.oracle at.world at.reached).part j to.0.world can_move to.1;
+        }
+
+  -- some event can happen while the run goes on
+  pub some_event : core.outcome ≡ out.Going → 0 < length (events core.pace)
+  some_event going =
+      let e = (goes tells r trace laws first core queue now at).some_event (not_over at.world.over at.shows.over) in
+      let c = (enabled_are tells r trace laws first core queue now at).all e.0 e.1 in
+      omega (
+        arith,
+        c.1,
+        how_many tells r at.oracle at.world core.pace at.shows.pace.count (told tells r trace laws first core queue now at) (goes tells r trace laws first core queue now at)
+            (place tells r trace laws first core queue now at).0 (place tells r trace laws first core queue now at).1,
+      )
+    where
+      not_over : (o : Option ℕ) → OverAs r at.oracle o core.outcome → o ≡ None
+      not_over None h = refl
+      not_over (Some n) h = go (cases_eq n (last_of r at.oracle))
+        where
+          go : (n ≡ last_of r at.oracle) ⊎ (n ≡ last_of r at.oracle → ⊥) → Some n ≡ None
+          go (inl e) = absurd (going_done (sym going ∙ h.0 e))
+          go (inr e) = let m = h.1 e in absurd (still_going m.0 (sym going ∙ m.2))
+
+  -- the list of those that can happen
+  pub enabled_list : (es : List network.Event) × AreEnabled tells r at.oracle at.world es × (length es ≡ length (events core.pace))
+  enabled_list = (
+    event_list tells r trace laws first core queue now at,
+    enabled_are tells r trace laws first core queue now at,
+    how_many tells r at.oracle at.world core.pace at.shows.pace.count (told tells r trace laws first core queue now at) (goes tells r trace laws first core queue now at)
+        (place tells r trace laws first core queue now at).0 (place tells r trace laws first core queue now at).1,
+  )

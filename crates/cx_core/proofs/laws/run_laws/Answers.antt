@@ -1,0 +1,29 @@
+use Rattle.cx_parts.specs.Beginnings.{run_of}
+use Rattle.cx_parts.proofs.FitLaws.{some_part}
+use Rattle.cx_parts.proofs.WholeRun.{names, true_states}
+use Rattle.cx_flat.specs.declared.op.Op.TheVariants.{Piece}
+use Rattle.cx_reached.proofs.JobRuns.{run_is}
+use Rattle.cx_core.proofs.OutLaws.{outputs_among}
+use Rattle.cx_core.proofs.laws.run_laws.Goals as goal
+
+pub returns : goal.returns
+returns c = λ told rules b begins.
+    let ready = c.requires in
+    let r = run_of c.args.job.now rules b in
+    let run = run_is c.args.job.now ready.whole ready.shapes ready.interior ready.cut c.flat_is_run.ensures c.all_ways.ensures c.operation_needs_met.ensures rules b begins in
+    record {
+      cut = run.cut;
+      some_part = some_part r run;
+      states = true_states r run;
+      outputs = λ pc v e. ((names r run (Piece v) pc e).0, outputs_among r.setup pc v e);
+      steps = c.each_event_keeps.ensures told rules b begins;
+      pace = c.pace_tells.ensures told rules b begins;
+      goes_on = c.each_state_goes_on.ensures told rules b begins;
+      way_kept = c.each_event_keeps_way.ensures told rules b begins;
+      way = c.one_way.ensures told rules b begins;
+      works = c.works_in_order.ensures told rules b begins;
+      length_is = c.book_is_length.ensures told rules b begins;
+      ends = c.end_is_the_runs.ensures told rules b begins;
+      done = c.done_matches.ensures told rules b begins;
+      taken = c.taken_adds_up.ensures told rules b begins;
+    }

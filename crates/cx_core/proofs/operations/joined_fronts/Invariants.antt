@@ -1,0 +1,18 @@
+use Rattle.std.specs.Prelude.{ℕ, ◌≡◌, ◌<◌, ◌≤◌}
+use Rattle.cx_plan.specs.Lookups.{item}
+use Rattle.cx_plan.specs.Setups.{setup_of}
+use Rattle.cx_cut.specs.Cuts.{part_count}
+use Rattle.cx_gather.specs.Boards.{front}
+use Rattle.cx_parts.specs.Holding.{joined}
+use Rattle.cx_parts.specs.Work.{sum_over}
+use Rattle.cx_core.specs.Moving.{all_fronts}
+use Rattle.cx_core.proofs.operations.joined_fronts.Given as goal
+
+-- the numbers of the first parts are joined
+abbrev pub invariant-parts : goal.invariant-parts
+invariant-parts l = record {
+  some : 0 < l.a;
+  kind : l.number.kind ≡ (item (setup_of l.job) l.item).kind;
+  points : l.number.points ≡ sum_over l.a (λ b. (front l.boards b l.to).points);
+  number : l.number.number ≡ joined (item (setup_of l.job) l.item).kind (all_fronts l.boards l.to l.a);
+}

@@ -1,0 +1,36 @@
+-- A core as contracts see it.
+use Rattle.std.specs.Prelude.{ℕ, List, length, Option, None, Some}
+use Rattle.cx_plan.specs.declared.variable.VarId.{VarId}
+use Rattle.cx_model.specs.declared.ends.End.{End}
+use Rattle.cx_model.specs.declared.ends.End.TheVariants as ends
+use Rattle.cx_field.specs.Patches.{PatchValue}
+use Rattle.cx_gather.specs.Boards.{Given}
+use Rattle.cx_gather.specs.Gathering.{Buffers}
+use Rattle.cx_pace.specs.Events.{events}
+use Rattle.cx_pace.specs.Paces.{Paces}
+use Rattle.cx_core.specs.declared.answers.Outcome.{Outcome}
+use Rattle.cx_core.specs.declared.answers.Outcome.TheVariants.{Done, Overflow, WhileLimit, OutputLimit}
+
+-- Where the parts stand, their patches, the numbers that they have given for reductions, the writer's buffers, the end that the
+-- least of the parts that met one has met, how the run has ended, how long the output is, and the variable whose text came last.
+pub record Cores : Type 0 where
+  pub pace : Paces
+  pub patches : List PatchValue
+  pub given : Given
+  pub buffers : Buffers
+  pub met : Outcome
+  pub outcome : Outcome
+  pub length : ℕ
+  pub section : VarId
+
+-- the outcome of an end, and of none
+abbrev pub outcome_of : Option End → Outcome
+outcome_of None = Done
+outcome_of (Some ends.Done) = Done
+outcome_of (Some (ends.Overflow iteration path)) = Overflow iteration path
+outcome_of (Some (ends.WhileLimit iteration path)) = WhileLimit iteration path
+outcome_of (Some (ends.OutputLimit iteration)) = OutputLimit iteration
+
+-- how many events can happen
+abbrev pub enabled_in : Cores → ℕ
+enabled_in core = length (events core.pace)

@@ -1,0 +1,9 @@
+pub mod Cores
+pub mod Shows
+pub mod Steps
+pub mod Hands
+pub mod Moving
+pub mod Starts
+pub mod Writes
+pub mod Laws
+pub mod Texts

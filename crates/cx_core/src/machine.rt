@@ -1,0 +1,92 @@
+//! The core, and what it lends.
+ghost use Rattle.std.specs.Prelude.{◌≡◌, ◌<◌, length};
+ghost use Rattle.cx_gather.specs.Gathering.{piece_of};
+ghost use Rattle.cx_core.specs.Cores.{enabled_in};
+ghost use Rattle.cx_core.specs.Hands.{last_number, HasScalar};
+
+use crate::answers::Outcome;
+use cx_chk::Checkpoint;
+use cx_field::Patch;
+use cx_gather::{Boards, Gathering};
+use cx_pace::Pace;
+use cx_plan::VarId;
+use cx_text::List;
+use std::marker::Model;
+
+/// The parts of a run and its writer, between two events.
+///
+/// Each event is one operation of one part or one piece of work of the writer. The parts exchange messages by a wire, and give each
+/// other their numbers for reductions by boards of the core.
+#[derive(Drop)]
+pub struct Core {
+    pub(crate) pace: Pace,
+    pub(crate) patches: Vec<Patch>,
+    pub(crate) boards: Boards,
+    pub(crate) gathering: Gathering,
+    /// The end that the least of the parts that met one has met.
+    pub(crate) met: Outcome,
+    pub(crate) outcome: Outcome,
+    /// How long the output is.
+    pub(crate) length: u64,
+    /// The variable whose text came last.
+    pub(crate) section: VarId,
+}
+
+impl Model for Core {
+    ghost use Rattle.cx_core.specs.Cores.{Cores};
+
+    ghost Value = { Cores };
+
+    ghost view = { λ c. record {
+      pace = c.pace;
+      patches = c.patches.items;
+      given = c.boards;
+      buffers = c.gathering;
+      met = c.met;
+      outcome = c.outcome;
+      length = c.length;
+      section = c.section;
+    } };
+}
+
+impl Core {
+    /// How many events can happen.
+    pub fn enabled(&self) -> u64
+        ensures { result ≡ enabled_in self.now }
+    {
+        self.pace.enabled()
+    }
+
+    /// The numbers of the variable whose text came last: its whole current level, x fastest, or a scalar's number.
+    pub fn piece(&self) -> &List<i64>
+        requires { self.now.section.0 < length self.now.buffers.pieces }
+        ensures { result.now ≡ piece_of self.now.buffers self.now.section }
+    {
+        self.gathering.piece(self.section)
+    }
+
+    /// The checkpoint that came last.
+    pub fn state(&self) -> &Checkpoint
+        ensures { result.now ≡ self.now.buffers.state }
+    {
+        self.gathering.state()
+    }
+
+    /// How the run has ended, or that it goes on.
+    pub fn outcome(&self) -> &Outcome
+        ensures { result.now ≡ self.now.outcome }
+    {
+        &self.outcome
+    }
+
+    /// A scalar's number as the first part has it. All parts have it in a run that is done.
+    pub fn last(&self, v: VarId) -> i64
+        requires { HasScalar self.now v }
+        ensures { result ≡ last_number self.now v }
+    {
+        match self.patches.first() {
+            None => unreachable!(),
+            Some(patch) => patch.scalar(v),
+        }
+    }
+}
