@@ -1,5 +1,5 @@
 -- What the operation of a part that can go asks for is there.
-use Rattle.std.proofs.Common.{◌≡◌, ℕ, zero, suc, ◌<◌, ◌≤◌, ◌^◌, true, List, [], length, drop, get_or, Option, Some, refl, sym, ap, ◌∙◌, subst, arith, length-drop}
+use Rattle.std.proofs.Common.{◌≡◌, ℕ, ◌<◌, ◌≤◌, ◌^◌, true, List, [], length, drop, get_or, Some, refl, sym, ap, ◌∙◌, subst, arith, length-drop}
 use Rattle.std.specs.Prelude.{slice_get}
 use Rattle.cx_grid.specs.Boxes.{point_count}
 use Rattle.cx_plan.specs.declared.job.Job.{Job}
@@ -8,29 +8,28 @@ use Rattle.cx_plan.specs.declared.item.ItemKind.TheVariants.{Cell, Scalar, Sum, 
 use Rattle.cx_plan.specs.Setups.{Setup, setup_of}
 use Rattle.cx_plan.specs.Lookups.{item}
 use Rattle.cx_reduce.specs.Partials.{IsReduction}
-use Rattle.cx_cut.specs.Cuts.{Parts, owned, part_count}
+use Rattle.cx_cut.specs.Cuts.{owned, part_count}
 use Rattle.cx_field.specs.Patches.{PatchValue}
 use Rattle.cx_flat.specs.declared.op.Op.{Op}
 use Rattle.cx_flat.specs.declared.op.Op.TheVariants as op
 use Rattle.cx_flat.specs.Code.{op_at, code}
 use Rattle.cx_ghost.specs.Takes.{needed, BeginsWith}
 use Rattle.cx_wire.specs.Messages.{Sent as SentMail}
-use Rattle.cx_parts.specs.Operations.{NamesWell, IsRunItem, is_reduction}
+use Rattle.cx_parts.specs.Operations.{NamesWell, is_reduction}
 use Rattle.cx_parts.specs.Runs.{Run, parts_in, cut_of}
-use Rattle.cx_parts.specs.Work.{sum_over}
 use Rattle.cx_parts.proofs.CountLaws.{sum_same}
 use Rattle.cx_parts.proofs.WholeRun.{names_at}
 use Rattle.cx_part.specs.Frames.{IsPatchOf}
 use Rattle.cx_part.specs.Jobs.{IsChecked, IsCutOf, IsOperation}
 use Rattle.cx_part.proofs.OwnedLaws.{owned_few}
-use Rattle.cx_gather.specs.Boards.{Given, IsReady, front}
+use Rattle.cx_gather.specs.Boards.{front}
 use Rattle.cx_gather.specs.Checkpoints.{HoldsState}
 use Rattle.cx_gather.specs.Gathering.{HasPiece}
 use Rattle.cx_pace.specs.Paces.{op_of}
 use Rattle.cx_core.specs.Cores.{Cores}
 use Rattle.cx_core.specs.Moving.{Holdings, HasFronts, Asks, CanOperate}
-use Rattle.cx_core.specs.Steps.{Counts, IsAt}
-use Rattle.cx_core.proofs.MovedStates.{Ready, world, oracle, its, next, network}
+use Rattle.cx_core.specs.Steps.{Counts}
+use Rattle.cx_core.proofs.MovedStates.{Ready, world, oracle, its, next}
 use Rattle.cx_core.proofs.TakeMoves.{begins_with}
 use Rattle.cx_core.proofs.JoinMoves.{some_front, front_kind, front_count}
 use Rattle.cx_core.proofs.PieceMoves.{has_piece}

@@ -1,21 +1,19 @@
 -- The patch of a part in a run, with its numbers.
-use Rattle.std.proofs.Common.{◌≡◌, ℕ, suc, ◌<◌, ◌≤◌, List, [], length, map, replicate, arith, refl, sym, ap, ◌∙◌, subst, ℤ, pos, ◌+ℤ◌, ◌≤ℤ◌, ◌<ℤ◌}
+use Rattle.std.proofs.Common.{◌≡◌, ℕ, suc, ◌<◌, List, [], length, map, replicate, arith, refl, sym, ap, ◌∙◌, subst, ℤ, pos, ◌+ℤ◌, ◌≤ℤ◌, ◌<ℤ◌}
 use Rattle.std.specs.Prelude.{slice_index_or}
 use Rattle.std.proofs.lemmas.Int.{ints}
 use Rattle.std.proofs.lemmas.List.{get_or-map, get_or-replicate, length-map, length-replicate}
 use Rattle.cx_grid.specs.declared.boxes.Box3.{Box3}
-use Rattle.cx_grid.specs.declared.shapes.Shape.{Shape}
-use Rattle.cx_grid.specs.Boxes.{point_count, IsBox, IsSmall}
+use Rattle.cx_grid.specs.Boxes.{IsBox, IsSmall}
 use Rattle.cx_plan.specs.declared.variable.VarInfo.{VarInfo}
 use Rattle.cx_plan.specs.Lookups.{no_variable}
 use Rattle.cx_plan.specs.Setups.{Setup}
 use Rattle.cx_rule.specs.States.{State}
 use Rattle.cx_cut.specs.Axis.{own_low, own_high, IsAxisCut}
-use Rattle.cx_cut.specs.Cuts.{Parts, part_count, owned, local}
+use Rattle.cx_cut.specs.Cuts.{owned, local}
 use Rattle.cx_cut.proofs.AxisFacts.{start_more, start_le}
 use Rattle.cx_cut.proofs.Boxed.{place_below}
-use Rattle.cx_cut.proofs.Tiled.{tiles}
-use Rattle.cx_field.specs.Patches.{PatchValue, IsPart, IsPatch, number_count, unstaged}
+use Rattle.cx_field.specs.Patches.{PatchValue, IsPart, number_count, unstaged}
 use Rattle.cx_field.proofs.PartLaws.{local_box, local_small}
 use Rattle.cx_parts.specs.Holding.{IsHeld}
 use Rattle.cx_parts.specs.Runs.{Run, parts_in, cut_of}

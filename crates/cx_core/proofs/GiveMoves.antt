@@ -1,34 +1,29 @@
 -- Giving: a part's number for a reduction stands at the ends of its boards.
-use Rattle.std.proofs.Common.{◌≡◌, ℕ, zero, suc, ◌<◌, ◌⊎◌, inl, inr, Bool, true, false, ℤ, List, [], ◌∷◌, ◌++◌, set, length, map, cond, eqb, drop, Option, Some, None, refl, sym, ap, ◌∙◌, subst, arith, eq-eqb, append_assoc, append-nil}
+use Rattle.std.proofs.Common.{◌≡◌, ℕ, suc, ◌<◌, ◌⊎◌, inl, inr, Bool, true, false, List, [], ◌∷◌, ◌++◌, map, cond, eqb, Some, refl, sym, ap, ◌∙◌, subst, arith, eq-eqb, append_assoc, append-nil}
 use Rattle.std.specs.List.{AllZip}
-use Rattle.std.specs.Prelude.{slice_get}
-use Rattle.std.proofs.lemmas.Bool.{cases_eq, ne_eqb, cond-true, cond-false}
+use Rattle.std.proofs.lemmas.Bool.{cases_eq, ne_eqb}
 use Rattle.cx_grid.specs.Boxes.{point_count}
 use Rattle.cx_plan.specs.Lookups.{item}
-use Rattle.cx_rule.specs.States.{State, scalar_of}
-use Rattle.cx_field.specs.Patches.{PatchValue}
+use Rattle.cx_rule.specs.States.{scalar_of}
 use Rattle.cx_reduce.specs.Partials.{Reduced}
 use Rattle.cx_cut.specs.Cuts.{owned}
-use Rattle.cx_flat.specs.declared.op.Op.{Op}
 use Rattle.cx_flat.specs.declared.op.Op.TheVariants as op
 use Rattle.cx_flat.specs.Flats.{control_after}
-use Rattle.cx_network.specs.Machine.{World, Part, After, put, taken_now, queue_after}
+use Rattle.cx_network.specs.Machine.{Part, After, taken_now, queue_after}
 use Rattle.cx_network.proofs.Put.{put_same, put_other}
 use Rattle.cx_wire.specs.Messages.{Sent as SentMail}
-use Rattle.cx_parts.specs.Holding.{Held}
-use Rattle.cx_parts.specs.Moves.{Message, Given, Channel, Wire, Board, op_wants, op_posts, op_hands, faces_by, number_by, held_values, Moves}
+use Rattle.cx_parts.specs.Moves.{Given, Wire, Board, op_wants, op_posts, faces_by, number_by, held_values, Moves}
 use Rattle.cx_parts.specs.Nets.{points_of, values_of_op}
 use Rattle.cx_parts.specs.Runs.{Run, parts_in, cut_of}
-use Rattle.cx_part.specs.Exchanges.{ShowsQueue}
 use Rattle.cx_pace.specs.Events.{work_of}
 use Rattle.cx_gather.specs.Boards.{queue as waiting, Gives}
 use Rattle.cx_gather.specs.Gathering.{HasRoom}
 use Rattle.cx_core.specs.Cores.{Cores}
-use Rattle.cx_core.specs.Shows.{ShowsPart, ShowsGiven, kinds_by, kinds_given, kinds_joined, kind_of}
+use Rattle.cx_core.specs.Shows.{ShowsGiven, kinds_by, kinds_given, kinds_joined, kind_of}
 use Rattle.cx_core.specs.Steps.{Counts, IsAt}
 use Rattle.cx_core.proofs.ZipLaws.{zip_append}
-use Rattle.cx_core.proofs.MovedStates.{Ready, MovedTo, world, oracle, its, next, network, places, moved_at}
-use Rattle.cx_core.proofs.QuietMoves.{PostsNone, wires_kept, pieces_kept, hands_by, values_none, sum_none, op_is, joined_kept, given_kept}
+use Rattle.cx_core.proofs.MovedStates.{Ready, world, oracle, its, next, network, places, moved_at}
+use Rattle.cx_core.proofs.QuietMoves.{wires_kept, pieces_kept, hands_by, values_none, sum_none, op_is, joined_kept}
 use Rattle.cx_core.proofs.QuietOperations.{held_with}
 use Rattle.cx_core.proofs.PostMoves.{LeavesPart, still_shown, shown_with, patches_set, points_none, queue_grown, posts_there}
 

@@ -1,25 +1,23 @@
 -- The next operation of a part, done on a core.
-use Rattle.std.proofs.Common.{◌≡◌, ℕ, zero, suc, ◌<◌, ◌≤◌, ◌%◌, ◌^◌, Bool, true, ℤ, List, set, length, Option, Some, None, refl, sym, ap, ◌∙◌, subst, arith}
+use Rattle.std.proofs.Common.{◌≡◌, ℕ, ◌<◌, ◌≤◌, ◌%◌, ◌^◌, Bool, true, ℤ, List, set, length, Option, Some, None, refl, sym, ap, ◌∙◌, subst, arith}
 use Rattle.std.specs.Prelude.{slice_get, IsTrue, IsErrOf, OnOk, Result, Ok, Err}
 use Rattle.cx_plan.specs.declared.job.Job.{Job}
 use Rattle.cx_plan.specs.declared.variable.VarId.{VarId}
-use Rattle.cx_plan.specs.Setups.{Setup, setup_of}
+use Rattle.cx_plan.specs.Setups.{setup_of}
 use Rattle.cx_rule.specs.Routine.{Rule}
 use Rattle.cx_rule.specs.States.{scalar_of}
 use Rattle.cx_field.specs.Patches.{PatchValue}
-use Rattle.cx_cut.specs.Cuts.{Parts, IsCut, IsWhole, part_count}
+use Rattle.cx_cut.specs.Cuts.{IsCut, IsWhole, part_count}
 use Rattle.cx_cut.specs.Faults.{parts_of}
 use Rattle.cx_flat.specs.declared.op.Op.{Op}
 use Rattle.cx_flat.specs.declared.op.Op.TheVariants as op
 use Rattle.cx_flat.specs.Code.{code}
-use Rattle.cx_flat.specs.Flats.{Control}
 use Rattle.cx_network.specs.Machine.{Part, After}
 use Rattle.cx_way.specs.Steps.{IsReached, IsTested}
 use Rattle.cx_wire.specs.Messages.{Sent as SentMail}
 use Rattle.cx_parts.specs.Beginnings.{Beginning, Afresh, From, IsBeginning, run_of}
-use Rattle.cx_parts.specs.Holding.{Held}
 use Rattle.cx_parts.specs.Nets.{net, within_lead}
-use Rattle.cx_parts.specs.Runs.{Run, parts_in, cut_of}
+use Rattle.cx_parts.specs.Runs.{Run, cut_of}
 use Rattle.cx_parts.proofs.WholeRun.{IsRun, job_run, shape}
 use Rattle.cx_part.specs.Frames.{IsPatchOf}
 use Rattle.cx_part.specs.Jobs.{IsChecked, IsCutOf, IsRunOf}
@@ -36,7 +34,7 @@ use Rattle.cx_core.specs.Cores.{Cores}
 use Rattle.cx_core.specs.Moving.{Holdings, Operates, CanOperate, MoveLaws, followed}
 use Rattle.cx_core.specs.Starts.{IsReady}
 use Rattle.cx_core.specs.Steps.{Counts, IsAt}
-use Rattle.cx_core.proofs.MovedStates.{Ready, world, oracle, its, next, network}
+use Rattle.cx_core.proofs.MovedStates.{Ready, world, oracle, its, next}
 use Rattle.cx_core.proofs.AsksLaws.{can_operate}
 use Rattle.cx_core.proofs.Operated.{operated_goes, operated_meets}
 

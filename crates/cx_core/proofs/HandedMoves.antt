@@ -1,48 +1,25 @@
 -- Pieces: what a part hands in stands in the writer's buffers, and what stands there stays.
-use Rattle.std.proofs.Common.{◌≡◌, ℕ, zero, suc, ◌+◌, ◌-◌, ◌<◌, ◌≤◌, ◌⊎◌, inl, inr, Bool, true, false, not, ◌&&◌, ◌||◌, ℤ, List, [], ◌∷◌, ◌++◌, set, length, cond, eqb, ltb, take, drop, Option, Some, None, refl, sym, ap, ◌∙◌, subst, arith, append_assoc, append-nil, length-append, get_or-set_other, get_or-set_same, eqb-true, eq-eqb, lt-ltb, le-ltb}
+use Rattle.std.proofs.Common.{◌≡◌, ℕ, zero, suc, ◌+◌, ◌-◌, ◌<◌, ◌≤◌, ◌⊎◌, inl, inr, Bool, true, false, not, ◌&&◌, ◌||◌, List, [], ◌∷◌, ◌++◌, length, cond, ltb, take, Some, refl, sym, ap, ◌∙◌, subst, arith, append_assoc, append-nil, length-append, lt-ltb, le-ltb}
 use Rattle.std.specs.List.{AllZip, list_any}
 use Rattle.std.specs.Option.{option_to_list}
-use Rattle.std.proofs.lemmas.Bool.{cases_lt, cases_eq, ne_eqb, both_ways, and_parts}
+use Rattle.std.proofs.lemmas.Bool.{cases_lt, cases_eq, and_parts}
 use Rattle.std.proofs.lemmas.List.{append_cancel_left, take-append-le}
 use Rattle.std.proofs.Math.Seq.{take-append-add, take-length}
-use Rattle.cx_plan.specs.declared.variable.VarId.{VarId}
-use Rattle.cx_plan.specs.Setups.{Setup}
-use Rattle.cx_plan.specs.Lookups.{is_scalar}
-use Rattle.cx_rule.specs.Meter.{raised}
-use Rattle.cx_rule.specs.States.{State, level_of, scalar_of}
-use Rattle.cx_cut.specs.Tiling.{Tiles}
-use Rattle.cx_cut.proofs.Tiled.{tiles}
-use Rattle.cx_field.specs.Patches.{PatchValue, unstaged}
-use Rattle.cx_flat.specs.declared.op.Op.{Op}
-use Rattle.cx_flat.specs.declared.op.Op.TheVariants as op
-use Rattle.cx_flat.specs.Flats.{control_after}
-use Rattle.cx_network.specs.Machine.{World, Part, After, put, taken_now}
 use Rattle.cx_network.proofs.Put.{put_same, put_other}
 use Rattle.cx_wire.specs.Messages.{Sent as SentMail}
-use Rattle.cx_parts.specs.Holding.{Held}
-use Rattle.cx_parts.specs.Moves.{Message, Given, Sent, Handed, Channel, Wire, Board, op_wants, op_posts, op_hands, piece_by, state_by, held_values, Moves}
-use Rattle.cx_parts.specs.Nets.{points_of, values_of_op}
-use Rattle.cx_parts.specs.Runs.{Run, Oracle, parts_in, cut_of, next_op, guided}
-use Rattle.cx_part.specs.Frames.{IsPatchOf}
-use Rattle.cx_gather.specs.Gathering.{Buffers, HasRoom, HasPiece, piece_of, piece_put, with_piece, with_state}
-use Rattle.cx_gather.specs.Pieces.{HoldsPiece, HoldsPart}
-use Rattle.cx_gather.proofs.PieceLaws.{IsPartOf, piece_holds, piece_stays, state_holds, state_stays, state_room}
-use Rattle.cx_gather.proofs.RoomLaws.{piece_room, state_kept}
-use Rattle.cx_pace.specs.declared.standing.Standing.{Standing}
+use Rattle.cx_parts.specs.Moves.{Message}
+use Rattle.cx_parts.specs.Runs.{Run, Oracle, parts_in, next_op}
 use Rattle.cx_pace.specs.declared.standing.Work.{Work}
-use Rattle.cx_pace.specs.Paces.{Paces, part_of, op_of, iteration_of}
-use Rattle.cx_pace.specs.Events.{work_of, same_buffer, is_room, has_room, can_go, goes_on, is_near, is_ready}
-use Rattle.cx_pace.specs.Steps.{moved_on, works_after, handed_after}
+use Rattle.cx_pace.specs.Paces.{part_of, op_of}
+use Rattle.cx_pace.specs.Events.{work_of, same_buffer, is_room, has_room, goes_on, is_near, is_ready}
+use Rattle.cx_pace.specs.Steps.{works_after, handed_after}
 use Rattle.cx_pace.specs.Shows.{works_before, work_there}
 use Rattle.cx_core.specs.Cores.{Cores}
-use Rattle.cx_core.specs.Shows.{ShowsPart, HoldsFor, HoldsWork, kinds_by}
-use Rattle.cx_core.specs.Steps.{Counts, IsAt}
+use Rattle.cx_core.specs.Shows.{HoldsWork}
+use Rattle.cx_core.specs.Steps.{Counts}
 use Rattle.cx_core.proofs.ZipLaws.{zip_append, zip_into}
-use Rattle.cx_core.proofs.MovedStates.{Ready, world, oracle, its, next, network, moved_at}
-use Rattle.cx_core.proofs.QuietMoves.{wires_kept, boards_kept, kinds_kept, values_none, sum_none, moved_pace, handed_its, handed_other, works_are, work_is, op_is, pieces_after}
-use Rattle.cx_core.proofs.QuietOperations.{held_with}
-use Rattle.cx_core.proofs.CutPatches.{part_of_cut}
-use Rattle.cx_core.proofs.PostMoves.{LeavesPart, still_shown, shown_with, patches_set, points_none}
+use Rattle.cx_core.proofs.MovedStates.{Ready, world, oracle, its, next, network}
+use Rattle.cx_core.proofs.QuietMoves.{moved_pace, handed_its, handed_other, works_are, work_is, pieces_after}
 
 -- ---- lists
 

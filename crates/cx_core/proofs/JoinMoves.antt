@@ -1,34 +1,32 @@
 -- Joining: the front numbers of all boards to a part are those of the reduction, and the number of all parts goes to its scalar.
-use Rattle.std.proofs.Common.{◌≡◌, ℕ, zero, suc, ◌+◌, ◌-◌, ◌<◌, ◌≤◌, ◌⊎◌, inl, inr, Bool, true, false, ℤ, List, [], ◌∷◌, ◌++◌, get_or, map, set, length, cond, eqb, take, drop, Option, Some, None, refl, sym, ap, ◌∙◌, subst, arith, append_assoc, append-nil, eq-eqb}
+use Rattle.std.proofs.Common.{◌≡◌, ℕ, zero, suc, ◌+◌, ◌-◌, ◌<◌, ◌≤◌, ◌⊎◌, inl, inr, Bool, true, false, ℤ, List, [], ◌∷◌, ◌++◌, get_or, map, set, length, cond, eqb, take, drop, Some, None, refl, sym, ap, ◌∙◌, subst, arith, append_assoc, append-nil, eq-eqb}
 use Rattle.std.specs.List.{AllZip}
-use Rattle.std.proofs.lemmas.Bool.{cases_lt, cases_eq, ne_eqb, both_ways}
+use Rattle.std.proofs.lemmas.Bool.{cases_eq, ne_eqb, both_ways}
 use Rattle.std.proofs.lemmas.List.{append_cancel_left}
 use Rattle.cx_grid.specs.Boxes.{point_count}
 use Rattle.cx_plan.specs.declared.item.ItemKind.{ItemKind}
 use Rattle.cx_plan.specs.declared.variable.VarId.{VarId}
 use Rattle.cx_plan.specs.Lookups.{item}
 use Rattle.cx_rule.specs.Meter.{raised, raised_none}
-use Rattle.cx_rule.specs.States.{State, scalar_of}
+use Rattle.cx_rule.specs.States.{scalar_of}
 use Rattle.cx_model.specs.declared.ends.End.{End}
 use Rattle.cx_reduce.specs.Partials.{Reduced}
 use Rattle.cx_cut.specs.Cuts.{owned}
 use Rattle.cx_field.specs.Patches.{PatchValue}
-use Rattle.cx_field.specs.Sweeps.{RoseWithin}
 use Rattle.cx_flat.specs.declared.op.Op.{Op}
 use Rattle.cx_flat.specs.declared.op.Op.TheVariants as op
 use Rattle.cx_flat.specs.Flats.{control_after}
 use Rattle.cx_flat.specs.Ways.{Paired, is_receiving}
-use Rattle.cx_network.specs.Machine.{World, Part, After, put, taken_now, queue_after}
+use Rattle.cx_network.specs.Machine.{Part, After, taken_now, queue_after}
 use Rattle.cx_network.proofs.Put.{put_same, put_other}
 use Rattle.cx_wire.specs.Messages.{Sent as SentMail}
-use Rattle.cx_parts.specs.Holding.{Held, joined, join_turn}
-use Rattle.cx_parts.specs.Moves.{Message, Given, Sent, Handed, Channel, Wire, Board, sender, receiver, is_there, op_wants, op_posts, op_hands, faces_by, number_by, held_values, given_number, all_given, Gives, Moves}
+use Rattle.cx_parts.specs.Holding.{joined, join_turn}
+use Rattle.cx_parts.specs.Moves.{Message, Given, Sent, Handed, Wire, Board, is_there, op_wants, op_posts, faces_by, number_by, held_values, given_number, all_given, Gives, Moves}
 use Rattle.cx_parts.specs.Nets.{points_of, values_of_op}
-use Rattle.cx_parts.specs.Runs.{Run, Oracle, parts_in, cut_of, next_op, guided}
+use Rattle.cx_parts.specs.Runs.{Run, Oracle, parts_in, cut_of}
 use Rattle.cx_parts.proofs.PairLaws.{are_there}
 use Rattle.cx_parts.proofs.Ways.{scalars_at, op_there, pair_there, first_quiet}
 use Rattle.cx_part.specs.Frames.{IsPatchOf}
-use Rattle.cx_part.specs.Exchanges.{ShowsQueue}
 use Rattle.cx_gather.specs.Boards.{queue as waiting, Takes, front, no_number}
 use Rattle.cx_gather.specs.Gathering.{HasRoom}
 use Rattle.cx_pace.specs.Events.{work_of}
@@ -38,7 +36,7 @@ use Rattle.cx_core.specs.Cores.{Cores, outcome_of}
 use Rattle.cx_core.specs.Moving.{all_fronts}
 use Rattle.cx_core.specs.Shows.{ShowsGiven, kinds_by, kinds_given, kinds_joined, kind_of}
 use Rattle.cx_core.specs.Steps.{Counts, IsAt}
-use Rattle.cx_core.proofs.ZipLaws.{zip_take, zip_drop}
+use Rattle.cx_core.proofs.ZipLaws.{zip_drop}
 use Rattle.cx_core.proofs.MovedStates.{Ready, world, oracle, its, next, network, places, can, moved_at, met_at}
 use Rattle.cx_core.proofs.QuietMoves.{cond_both, drop_zero, wires_kept, pieces_kept, hands_by, values_none, sum_none, op_is, given_kept}
 use Rattle.cx_core.proofs.QuietOperations.{held_with, Leaves, some_gives, none_gives}

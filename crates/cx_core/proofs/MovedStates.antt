@@ -1,10 +1,9 @@
 -- The operation of a part leads to a state that is shown, where each piece of what it leaves is shown.
-use Rattle.std.proofs.Common.{◌≡◌, ℕ, zero, suc, ◌+◌, ◌-◌, ◌<◌, ◌≤◌, ◌%◌, ◌^◌, min, max, ◌⊎◌, inl, inr, true, List, [], ◌∷◌, ◌++◌, length, take, set, map, Option, Some, None, refl, sym, ap, ◌∙◌, subst, arith, length-set}
+use Rattle.std.proofs.Common.{◌≡◌, ℕ, zero, suc, ◌+◌, ◌-◌, ◌<◌, ◌≤◌, ◌%◌, ◌^◌, min, max, ◌⊎◌, inl, inr, true, List, ◌++◌, length, take, set, map, Some, None, refl, sym, ap, ◌∙◌, subst, arith, length-set}
 use Rattle.std.specs.List.{AllZip}
 use Rattle.std.specs.Prelude.{slice_get}
 use Rattle.std.proofs.Math.Nat.{add-mod-mod}
-use Rattle.std.proofs.lemmas.Bool.{cases_lt, cases_eq}
-use Rattle.cx_plan.specs.declared.item.ItemKind.{ItemKind}
+use Rattle.std.proofs.lemmas.Bool.{cases_eq}
 use Rattle.cx_rule.specs.Meter.{raised, raised_twice}
 use Rattle.cx_rule.specs.States.{scalar_of}
 use Rattle.cx_model.specs.declared.ends.End.{End}

@@ -1,13 +1,11 @@
 -- What the calls of each operation say, as what the operation does.
-use Rattle.std.proofs.Common.{◌≡◌, ℕ, ◌+◌, ◌%◌, ◌^◌, List, [], Option, Some, None, refl, sym, ap, ◌∙◌, subst}
+use Rattle.std.proofs.Common.{◌≡◌, ℕ, ◌+◌, ◌%◌, ◌^◌, List, [], Option, None, refl, sym, ap, ◌∙◌, subst}
 use Rattle.cx_grid.specs.Boxes.{point_count}
 use Rattle.cx_plan.specs.declared.job.Job.{Job}
 use Rattle.cx_plan.specs.declared.variable.VarId.{VarId}
 use Rattle.cx_plan.specs.Setups.{Setup, setup_of}
 use Rattle.cx_plan.specs.Lookups.{item}
 use Rattle.cx_reduce.specs.Partials.{Reduced}
-use Rattle.cx_cut.specs.Cuts.{owned}
-use Rattle.cx_field.specs.Patches.{PatchValue}
 use Rattle.cx_flat.specs.declared.op.Op.{Op}
 use Rattle.cx_flat.specs.declared.op.Op.TheVariants as op
 use Rattle.cx_flat.specs.Flats.{Control}
@@ -20,7 +18,7 @@ use Rattle.cx_part.specs.Exchanges.{Posts, Takes, ShowsTaken, sum_taken}
 use Rattle.cx_part.specs.Frames.{KeepsFrame, IsPatchOf}
 use Rattle.cx_part.specs.Jobs.{IsRunOf}
 use Rattle.cx_core.specs.declared.answers.Outcome.{Outcome}
-use Rattle.cx_core.specs.Moving.{Holdings, Operates, Turns, LoopTests, Joins, Offers, Sends, Fills}
+use Rattle.cx_core.specs.Moving.{Holdings, Operates, Turns, LoopTests, Joins}
 
 module _ {tells : Type 0} (r : Run) (k count iteration i : ℕ) (c : Control) (o : Op) (was is : Holdings tells) (met : Option Outcome) where
   pub swept : o ≡ op.Sweep i → iteration ≡ c.iteration → Turns r k (op.Sweep i) iteration was.patch is.patch was.now.points is.now.points met → KeepsFrame was.patch is.patch

@@ -1,11 +1,10 @@
 -- What an operation does leads to a state that is shown.
-use Rattle.std.proofs.Common.{◌≡◌, ℕ, zero, suc, ◌+◌, ◌<◌, ◌≤◌, ◌%◌, ◌^◌, Bool, true, false, ℤ, List, [], ◌∷◌, set, length, Option, Some, None, refl, sym, ap, ◌∙◌, subst, arith}
+use Rattle.std.proofs.Common.{◌≡◌, ℕ, ◌≤◌, ◌%◌, ◌^◌, true, List, set, Some, None, refl, sym, ap, ◌∙◌, subst, arith}
 use Rattle.std.specs.Prelude.{slice_get}
 use Rattle.std.proofs.lemmas.Bool.{both_ways}
-use Rattle.cx_plan.specs.declared.variable.VarId.{VarId}
 use Rattle.cx_plan.specs.Lookups.{item}
 use Rattle.cx_rule.specs.Meter.{raised, raised_none}
-use Rattle.cx_rule.specs.States.{State, scalar_of, rotate}
+use Rattle.cx_rule.specs.States.{scalar_of, rotate}
 use Rattle.cx_model.specs.declared.ends.End.{End}
 use Rattle.cx_field.specs.Patches.{PatchValue}
 use Rattle.cx_field.specs.Sweeps.{RoseWithin}
@@ -14,22 +13,20 @@ use Rattle.cx_flat.specs.declared.op.Op.TheVariants as op
 use Rattle.cx_flat.specs.Flats.{is_halt}
 use Rattle.cx_network.specs.Machine.{Part, After, taken_now}
 use Rattle.cx_wire.specs.Messages.{Sent as SentMail}
-use Rattle.cx_parts.specs.Holding.{Held, joined, join_turn}
-use Rattle.cx_parts.specs.Moves.{Message, Channel, Filled}
-use Rattle.cx_parts.specs.Nets.{points_of, values_of_op}
+use Rattle.cx_parts.specs.Holding.{joined, join_turn}
+use Rattle.cx_parts.specs.Moves.{Filled}
+use Rattle.cx_parts.specs.Nets.{points_of}
 use Rattle.cx_parts.specs.Runs.{Run, parts_in, cut_of}
 use Rattle.cx_part.specs.Frames.{IsPatchOf, KeepsFrame}
 use Rattle.cx_part.specs.Items.{computed}
 use Rattle.cx_part.proofs.FrameLaws.{still_of}
-use Rattle.cx_gather.specs.Boards.{Given}
-use Rattle.cx_gather.specs.Gathering.{Buffers}
 use Rattle.cx_pace.specs.Steps.{moved_on, met_by}
 use Rattle.cx_reached.specs.Endings.{end_met_by}
 use Rattle.cx_core.specs.declared.answers.Outcome.{Outcome}
 use Rattle.cx_core.specs.Cores.{Cores, outcome_of}
 use Rattle.cx_core.specs.Moving.{Holdings, Operates, all_fronts}
 use Rattle.cx_core.specs.Steps.{Counts, IsAt}
-use Rattle.cx_core.proofs.MovedStates.{Ready, world, oracle, its, next, network, can}
+use Rattle.cx_core.proofs.MovedStates.{Ready, world, its, next, network, can}
 use Rattle.cx_core.proofs.QuietOperations.{Leaves, is_quiet, numbers_after, quiet_goes, quiet_meets}
 use Rattle.cx_core.proofs.PostMoves.{LeavesPart, post_goes, set_there}
 use Rattle.cx_core.proofs.GiveMoves.{give_goes}

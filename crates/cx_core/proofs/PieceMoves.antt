@@ -1,32 +1,29 @@
 -- The operations that hand in a piece: of a variable's output, and of a checkpoint.
-use Rattle.std.proofs.Common.{◌≡◌, ℕ, zero, suc, ◌<◌, ◌≤◌, ◌⊎◌, inl, inr, Bool, true, false, ℤ, pos, get_or, List, [], ◌∷◌, ◌++◌, set, length, cond, eqb, Option, Some, None, refl, sym, ap, ◌∙◌, subst, arith, get_or-set_other, get_or-set_same, eqb-true, eq-eqb}
+use Rattle.std.proofs.Common.{◌≡◌, ℕ, ◌<◌, ◌≤◌, ◌⊎◌, inl, inr, Bool, true, false, ℤ, pos, get_or, List, [], ◌∷◌, length, eqb, Option, Some, None, refl, sym, ap, ◌∙◌, subst, get_or-set_other, eq-eqb}
 use Rattle.std.proofs.lemmas.Bool.{cases_eq}
 use Rattle.std.proofs.lemmas.List.Elements.{All-get_or}
 use Rattle.cx_grid.specs.Grid.{whole}
-use Rattle.cx_plan.specs.declared.job.Job.{Job}
 use Rattle.cx_plan.specs.declared.variable.VarId.{VarId}
 use Rattle.cx_plan.specs.declared.variable.VarInfo.{VarInfo}
 use Rattle.cx_plan.specs.Setups.{Setup, setup_of}
 use Rattle.cx_plan.specs.Lookups.{is_scalar, no_variable}
 use Rattle.cx_plan.specs.Regions.{is_among}
-use Rattle.cx_plan.specs.Whole.{IsWhole}
 use Rattle.cx_rule.specs.States.{State, level_of, scalar_of}
 use Rattle.cx_cut.specs.Cuts.{Parts, local}
 use Rattle.cx_cut.specs.Tiling.{Tiles}
 use Rattle.cx_cut.proofs.Tiled.{tiles}
 use Rattle.cx_field.specs.Patches.{PatchValue, unstaged}
-use Rattle.cx_flat.specs.declared.op.Op.{Op}
 use Rattle.cx_flat.specs.declared.op.Op.TheVariants as op
 use Rattle.cx_flat.specs.Code.{op_at, code}
 use Rattle.cx_flat.specs.Flats.{control_after}
-use Rattle.cx_network.specs.Machine.{World, Part, After, taken_now}
+use Rattle.cx_network.specs.Machine.{Part, After, taken_now}
 use Rattle.cx_wire.specs.Messages.{Sent as SentMail}
-use Rattle.cx_parts.specs.Holding.{Held, IsHeld, number_at}
+use Rattle.cx_parts.specs.Holding.{IsHeld, number_at}
 use Rattle.cx_parts.specs.Operations.{NamesWell}
-use Rattle.cx_parts.specs.Moves.{Message, Given, Sent, Handed, Channel, Wire, Board, op_wants, op_posts, op_hands, piece_by, state_by, held_values, Moves}
+use Rattle.cx_parts.specs.Moves.{Message, Given, Sent, Handed, Wire, Board, op_wants, op_posts, op_hands, piece_by, state_by, held_values, Moves}
 use Rattle.cx_parts.specs.Nets.{points_of, values_of_op}
 use Rattle.cx_parts.specs.Runs.{Run, parts_in, cut_of}
-use Rattle.cx_parts.proofs.WholeRun.{IsRun, names_at}
+use Rattle.cx_parts.proofs.WholeRun.{names_at}
 use Rattle.cx_gather.specs.Gathering.{Buffers, HasRoom, HasPiece, piece_of, piece_put, with_piece, with_state}
 use Rattle.cx_gather.specs.Pieces.{HoldsPiece, HoldsPart}
 use Rattle.cx_gather.proofs.CheckpointLaws.{info}
@@ -35,12 +32,11 @@ use Rattle.cx_gather.proofs.PieceOps.{piece_among}
 use Rattle.cx_gather.proofs.RoomLaws.{piece_room, state_kept}
 use Rattle.cx_pace.specs.declared.standing.Work.{Work}
 use Rattle.cx_pace.specs.Events.{work_of, same_buffer}
-use Rattle.cx_pace.specs.Steps.{moved_on}
 use Rattle.cx_core.specs.Cores.{Cores}
-use Rattle.cx_core.specs.Shows.{ShowsPart, HoldsFor, HoldsWork, kinds_by}
+use Rattle.cx_core.specs.Shows.{HoldsFor, HoldsWork, kinds_by}
 use Rattle.cx_core.specs.Steps.{Counts, IsAt}
-use Rattle.cx_core.proofs.MovedStates.{Ready, world, oracle, its, next, network, moved_at}
-use Rattle.cx_core.proofs.QuietMoves.{wires_kept, boards_kept, kinds_kept, values_none, sum_none, moved_pace}
+use Rattle.cx_core.proofs.MovedStates.{Ready, world, its, next, network, moved_at}
+use Rattle.cx_core.proofs.QuietMoves.{wires_kept, boards_kept, kinds_kept, values_none, sum_none}
 use Rattle.cx_core.proofs.QuietOperations.{held_with}
 use Rattle.cx_core.proofs.CutPatches.{part_of_cut}
 use Rattle.cx_core.proofs.PostMoves.{LeavesPart, still_shown, shown_with, patches_set, points_none}

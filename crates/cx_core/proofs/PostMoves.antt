@@ -1,20 +1,18 @@
 -- Posting: a part's faces stand at the ends of its queues.
-use Rattle.std.proofs.Common.{◌≡◌, ℕ, zero, suc, ◌<◌, ◌⊎◌, inl, inr, Bool, true, false, ℤ, List, [], ◌∷◌, ◌++◌, set, length, cond, eqb, drop, Option, Some, None, refl, sym, ap, ◌∙◌, subst}
+use Rattle.std.proofs.Common.{◌≡◌, ℕ, zero, suc, ◌<◌, ◌⊎◌, inl, inr, List, [], ◌∷◌, ◌++◌, set, length, cond, eqb, drop, Some, refl, sym, ap, ◌∙◌, subst}
 use Rattle.std.specs.Prelude.{slice_get}
 use Rattle.std.proofs.lemmas.Bool.{cases_eq, ne_eqb, cond-false}
 use Rattle.cx_plan.specs.declared.variable.VarId.{VarId}
 use Rattle.cx_rule.specs.Meter.{raised, raised_none}
-use Rattle.cx_rule.specs.States.{State, scalar_of}
+use Rattle.cx_rule.specs.States.{scalar_of}
 use Rattle.cx_field.specs.Patches.{PatchValue}
-use Rattle.cx_flat.specs.declared.op.Op.{Op}
 use Rattle.cx_flat.specs.declared.op.Op.TheVariants as op
 use Rattle.cx_flat.specs.Flats.{control_after}
-use Rattle.cx_network.specs.Machine.{World, Part, After, taken_now, queue_after}
+use Rattle.cx_network.specs.Machine.{Part, After, taken_now, queue_after}
 use Rattle.cx_wire.specs.Messages.{Sent as SentMail}
-use Rattle.cx_parts.specs.Holding.{Held}
-use Rattle.cx_parts.specs.Moves.{Message, Channel, Wire, Board, sender, receiver, is_there, op_wants, op_posts, op_hands, faces_by, number_by, held_values, Moves}
+use Rattle.cx_parts.specs.Moves.{Channel, Wire, Board, sender, receiver, is_there, op_wants, op_posts, faces_by, number_by, held_values, Moves}
 use Rattle.cx_parts.specs.Nets.{points_of, values_of_op}
-use Rattle.cx_parts.specs.Runs.{Run, parts_in, cut_of}
+use Rattle.cx_parts.specs.Runs.{Run, parts_in}
 use Rattle.cx_parts.proofs.PairLaws.{are_there}
 use Rattle.cx_part.specs.Exchanges.{ShowsMessage, ShowsQueue, Posts, posted_to}
 use Rattle.cx_pace.specs.Events.{work_of}
@@ -24,8 +22,8 @@ use Rattle.cx_core.specs.Cores.{Cores}
 use Rattle.cx_core.specs.Shows.{ShowsPart, kinds_by}
 use Rattle.cx_core.specs.Steps.{Counts, IsAt}
 use Rattle.cx_core.proofs.ZipLaws.{zip_append}
-use Rattle.cx_core.proofs.MovedStates.{Ready, MovedTo, world, oracle, its, next, network, moved_at}
-use Rattle.cx_core.proofs.QuietMoves.{PostsNone, cond_both, drop_zero, boards_kept, kinds_kept, pieces_kept, hands_by, values_none, sum_none}
+use Rattle.cx_core.proofs.MovedStates.{Ready, world, its, next, network, moved_at}
+use Rattle.cx_core.proofs.QuietMoves.{cond_both, drop_zero, boards_kept, kinds_kept, pieces_kept, hands_by, values_none, sum_none}
 use Rattle.cx_core.proofs.QuietOperations.{held_with}
 
 pub set_there : {A : Type 0} (xs : List A) (k : ℕ) (x : A) → slice_get xs k ≡ Some x → set xs k x ≡ xs

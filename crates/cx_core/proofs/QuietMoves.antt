@@ -1,38 +1,32 @@
 -- What an operation leaves that it doesn't touch.
-use Rattle.std.proofs.Common.{◌≡◌, ℕ, zero, suc, ◌+◌, ◌<◌, ◌≤◌, ◌%◌, ◌^◌, ◌⊎◌, inl, inr, Bool, true, false, ℤ, List, [], ◌∷◌, ◌++◌, length, take, drop, set, map, get_or, cond, eqb, Option, Some, None, refl, sym, ap, ◌∙◌, subst, arith, append-nil, get_or-set_same, get_or-set_other}
+use Rattle.std.proofs.Common.{◌≡◌, ℕ, zero, suc, ◌+◌, ◌<◌, ◌%◌, ◌^◌, ◌⊎◌, inl, inr, Bool, true, false, ℤ, List, [], ◌∷◌, ◌++◌, length, take, drop, map, cond, eqb, None, refl, sym, ap, ◌∙◌, subst, arith, append-nil, get_or-set_same, get_or-set_other}
 use Rattle.std.specs.List.{AllZip}
 use Rattle.std.proofs.lemmas.Bool.{cases_eq}
 use Rattle.cx_grid.specs.declared.shapes.Side.{Side}
 use Rattle.cx_plan.specs.declared.variable.VarId.{VarId}
-use Rattle.cx_plan.specs.declared.item.ItemKind.{ItemKind}
-use Rattle.cx_rule.specs.Meter.{raised}
 use Rattle.cx_rule.specs.States.{State, scalar_of}
 use Rattle.cx_flat.specs.declared.op.Op.{Op}
 use Rattle.cx_flat.specs.declared.op.Op.TheVariants as op
-use Rattle.cx_flat.specs.Flats.{Flat}
-use Rattle.cx_flat.specs.Ways.{Paired, is_sending, is_receiving}
-use Rattle.cx_network.specs.Machine.{World, put, taken_now, queue_after}
-use Rattle.cx_network.proofs.Put.{put_same, put_other, at_put}
+use Rattle.cx_flat.specs.Ways.{Paired}
+use Rattle.cx_network.specs.Machine.{put, taken_now, queue_after}
+use Rattle.cx_network.proofs.Put.{at_put}
 use Rattle.cx_wire.specs.Messages.{Sent as SentMail}
 use Rattle.cx_wire.specs.Received.{counted, counted_none}
-use Rattle.cx_parts.specs.Holding.{Held}
 use Rattle.cx_parts.specs.Moves.{Message, Channel, Wire, Board, sender, receiver, is_there, op_wants, op_posts, op_hands, held_values, piece_by, state_by}
 use Rattle.cx_parts.specs.Nets.{values_of_op, values_sum}
-use Rattle.cx_parts.specs.Runs.{Run, Oracle, parts_in, next_op, guided}
+use Rattle.cx_parts.specs.Runs.{Run, parts_in, next_op}
 use Rattle.cx_parts.specs.Work.{sum_over}
 use Rattle.cx_parts.proofs.Ways.{scalars_at, op_there, pair_there}
-use Rattle.cx_parts.proofs.WholeRun.{IsRun}
 use Rattle.cx_part.specs.Exchanges.{ShowsQueue}
 use Rattle.cx_gather.specs.Boards.{Given, queue as waiting}
 use Rattle.cx_pace.specs.declared.standing.Standing.{Standing}
-use Rattle.cx_pace.specs.declared.standing.Work.{Work}
 use Rattle.cx_pace.specs.Paces.{Paces, part_of, op_of, iteration_of, no_part}
 use Rattle.cx_pace.specs.Events.{work_of}
 use Rattle.cx_pace.specs.Steps.{moved_on, works_after, handed_after}
 use Rattle.cx_reached.specs.Sums.{sum_taken_now}
 use Rattle.cx_core.specs.Cores.{Cores}
 use Rattle.cx_core.specs.Shows.{ShowsGiven, HoldsWork, kinds_given, kinds_joined, kinds_by, kind_of}
-use Rattle.cx_core.specs.Steps.{Counts, IsAt}
+use Rattle.cx_core.specs.Steps.{Counts}
 use Rattle.cx_core.proofs.MovedStates.{Ready, world, oracle, its, next, network, places, mod_more}
 
 pub take_zero : {A : Type 0} (xs : List A) → take 0 xs ≡ []

@@ -1,5 +1,5 @@
 -- Operations that touch the part's own numbers alone: a sweep, an application, a rotation, tests and jumps.
-use Rattle.std.proofs.Common.{◌≡◌, ℕ, zero, suc, Bool, true, false, ℤ, List, [], ◌∷◌, set, length, Option, Some, None, refl, sym, ap, ◌∙◌, subst}
+use Rattle.std.proofs.Common.{◌≡◌, ℕ, suc, Bool, true, false, ℤ, List, [], set, length, Option, Some, None, refl, sym, ap, subst}
 use Rattle.std.proofs.lemmas.Bool.{both_ways}
 use Rattle.cx_grid.specs.declared.shapes.Side.{Side}
 use Rattle.cx_plan.specs.declared.variable.VarId.{VarId}
@@ -14,9 +14,9 @@ use Rattle.cx_flat.specs.Flats.{control_after}
 use Rattle.cx_network.specs.Machine.{Part, After, taken_now}
 use Rattle.cx_wire.specs.Messages.{Sent as SentMail}
 use Rattle.cx_parts.specs.Holding.{Held}
-use Rattle.cx_parts.specs.Moves.{Message, Channel, Wire, Board, op_wants, op_posts, op_hands, Goes, Gives, Moves, turn_state}
+use Rattle.cx_parts.specs.Moves.{Message, Channel, Wire, Board, op_wants, op_posts, op_hands, Gives, Moves, turn_state}
 use Rattle.cx_parts.specs.Nets.{points_of, values_of_op}
-use Rattle.cx_parts.specs.Runs.{Run, parts_in, cut_of}
+use Rattle.cx_parts.specs.Runs.{Run, cut_of}
 use Rattle.cx_part.specs.Frames.{IsPatchOf}
 use Rattle.cx_part.specs.Items.{computed}
 use Rattle.cx_pace.specs.Events.{work_of}
@@ -24,10 +24,10 @@ use Rattle.cx_pace.specs.Steps.{moved_on, met_by}
 use Rattle.cx_reached.specs.Endings.{end_met_by}
 use Rattle.cx_gather.specs.Gathering.{HasRoom}
 use Rattle.cx_core.specs.Cores.{Cores, outcome_of}
-use Rattle.cx_core.specs.Shows.{ShowsPart, kinds_by}
+use Rattle.cx_core.specs.Shows.{kinds_by}
 use Rattle.cx_core.specs.Steps.{Counts, IsAt}
-use Rattle.cx_core.proofs.MovedStates.{Ready, MovedTo, MetTo, world, oracle, its, next, network, moved_at, met_at}
-use Rattle.cx_core.proofs.QuietMoves.{PostsNone, wires_kept, boards_kept, kinds_kept, pieces_kept, values_none, sum_none}
+use Rattle.cx_core.proofs.MovedStates.{Ready, world, its, next, network, moved_at, met_at}
+use Rattle.cx_core.proofs.QuietMoves.{wires_kept, boards_kept, kinds_kept, pieces_kept, values_none, sum_none}
 
 abbrev pub is_quiet : Op → Bool
 is_quiet (op.Sweep i) = true

@@ -5,26 +5,24 @@ use Rattle.cx_grid.specs.declared.shapes.Side.{Side}
 use Rattle.cx_grid.specs.declared.shapes.Side.TheVariants.{Low, High}
 use Rattle.cx_plan.specs.declared.variable.VarId.{VarId}
 use Rattle.cx_rule.specs.Meter.{raised, raised_none}
-use Rattle.cx_rule.specs.States.{State, scalar_of}
-use Rattle.cx_cut.specs.Cuts.{Parts}
+use Rattle.cx_rule.specs.States.{scalar_of}
 use Rattle.cx_cut.specs.Neighbours.{partner}
 use Rattle.cx_field.specs.Patches.{PatchValue}
 use Rattle.cx_flat.specs.declared.op.Op.{Op}
 use Rattle.cx_flat.specs.declared.op.Op.TheVariants as op
 use Rattle.cx_flat.specs.Flats.{control_after}
 use Rattle.cx_flat.specs.Ways.{Paired, is_receiving}
-use Rattle.cx_network.specs.Machine.{World, Part, After, taken_now, queue_after}
-use Rattle.cx_network.specs.Agreement.{Script, Fits, takes}
+use Rattle.cx_network.specs.Machine.{Part, After, taken_now, queue_after}
+use Rattle.cx_network.specs.Agreement.{Fits, takes}
 use Rattle.cx_network.proofs.Steps.{found}
 use Rattle.cx_model.specs.Turns.{values_of}
 use Rattle.cx_wire.specs.Messages.{Sent as SentMail}
 use Rattle.cx_wire.specs.Received.{counted}
 use Rattle.cx_ghost.specs.Posts as ghosts
 use Rattle.cx_ghost.specs.Takes.{needed, IsFace, BeginsWith}
-use Rattle.cx_parts.specs.Holding.{Held}
-use Rattle.cx_parts.specs.Moves.{Head, Message, Sent, Channel, Wire, Board, sender, receiver, is_at, only, is_there, takes_from, face_head, op_wants, op_posts, op_hands, faces_by, number_by, held_values, Filled, Moves}
+use Rattle.cx_parts.specs.Moves.{Sent, Wire, Board, is_at, only, is_there, takes_from, face_head, op_wants, op_posts, faces_by, number_by, held_values, Filled, Moves}
 use Rattle.cx_parts.specs.Nets.{points_of, values_of_op}
-use Rattle.cx_parts.specs.Runs.{Run, Oracle, parts_in, cut_of, undivided}
+use Rattle.cx_parts.specs.Runs.{Run, parts_in, cut_of, undivided}
 use Rattle.cx_parts.specs.Truths.{script, Agrees, GivesAt, Books}
 use Rattle.cx_parts.proofs.FitLaws.{lead_fits}
 use Rattle.cx_parts.proofs.MutualLaws.{partners_mutual}

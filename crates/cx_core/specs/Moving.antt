@@ -1,5 +1,5 @@
 -- What the operation of a part does to its patch, the boards, the writer's buffers, the wire and the meter, and where it leads.
-use Rattle.std.specs.Prelude.{ℕ, zero, suc, ◌+◌, ◌<◌, ◌≤◌, ◌≡◌, ◌%◌, ◌^◌, true, Bool, IsTrue, ℤ, List, [], ◌∷◌, ◌++◌, length, Option, Some, None, slice_get, ⊤}
+use Rattle.std.specs.Prelude.{ℕ, zero, suc, ◌+◌, ◌<◌, ◌≤◌, ◌≡◌, ◌%◌, ◌^◌, Bool, IsTrue, ℤ, List, [], ◌∷◌, ◌++◌, length, Option, Some, None, ⊤}
 use Rattle.cx_grid.specs.Boxes.{point_count}
 use Rattle.cx_plan.specs.declared.job.Job.{Job}
 use Rattle.cx_plan.specs.declared.variable.VarId.{VarId}
@@ -14,13 +14,11 @@ use Rattle.cx_reduce.specs.Partials.{Reduced, IsReduction}
 use Rattle.cx_cut.specs.Cuts.{Parts, owned, part_count}
 use Rattle.cx_flat.specs.declared.op.Op.{Op}
 use Rattle.cx_flat.specs.declared.op.Op.TheVariants.{Sweep, Apply, Give, Join, Post, Take, Test, Open, Turn, Again, Rotate, Due, Written, Skip, Next, Piece, Save, Halt}
-use Rattle.cx_flat.specs.Code.{code}
-use Rattle.cx_flat.specs.Flats.{Control, last_turns}
+use Rattle.cx_flat.specs.Flats.{Control}
 use Rattle.cx_flat.specs.Laws.{FlatIsRun}
 use Rattle.cx_flat.specs.Places.{OperationsMet}
 use Rattle.cx_flat.specs.Ways.{WaysEnd}
 use Rattle.cx_network.specs.Machine.{After, Part}
-use Rattle.cx_way.specs.Steps.{IsReached}
 use Rattle.cx_wire.specs.Messages.{Sent as SentMail}
 use Rattle.cx_wire.specs.Received.{counted}
 use Rattle.cx_gather.specs.Boards.{Given, IsReady, front, Gives, Takes as Joined}
@@ -40,8 +38,6 @@ use Rattle.cx_part.specs.Exchanges.{Posts, Takes, ShowsTaken, sum_taken}
 use Rattle.cx_part.specs.Frames.{IsPatchOf, KeepsFrame}
 use Rattle.cx_part.specs.Items.{computed}
 use Rattle.cx_part.specs.Jobs.{IsChecked, IsCutOf, IsOperation}
-use Rattle.cx_pace.specs.Paces.{part_of, op_of}
-use Rattle.cx_pace.specs.Events.{can_go}
 use Rattle.cx_pace.specs.Shows.{PaceTells}
 use Rattle.cx_pace.specs.Steps.{moved_on, met_by}
 use Rattle.cx_reached.specs.Endings.{end_met_by}

@@ -6,7 +6,6 @@ use Rattle.cx_plan.specs.Setups.{setup_of}
 use Rattle.cx_rule.specs.States.{scalar_of}
 use Rattle.cx_field.specs.Patches.{PatchValue}
 use Rattle.cx_cut.specs.Cuts.{Parts, part_count}
-use Rattle.cx_disk.specs.Cause.{HasCause}
 use Rattle.cx_flat.specs.declared.op.Op.{Op}
 use Rattle.cx_way.specs.Steps.{IsReached, IsTested}
 use Rattle.cx_part.specs.Tests.{CanTest, tested_number}

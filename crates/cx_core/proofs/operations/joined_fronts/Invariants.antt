@@ -1,7 +1,6 @@
-use Rattle.std.specs.Prelude.{ℕ, ◌≡◌, ◌<◌, ◌≤◌}
+use Rattle.std.specs.Prelude.{◌≡◌, ◌<◌}
 use Rattle.cx_plan.specs.Lookups.{item}
 use Rattle.cx_plan.specs.Setups.{setup_of}
-use Rattle.cx_cut.specs.Cuts.{part_count}
 use Rattle.cx_gather.specs.Boards.{front}
 use Rattle.cx_parts.specs.Holding.{joined}
 use Rattle.cx_parts.specs.Work.{sum_over}

@@ -1,4 +1,4 @@
-use Rattle.std.proofs.Common.{refl, subst, ◌∙◌}
+use Rattle.std.proofs.Common.{refl, subst}
 use Rattle.cx_plan.specs.Setups.{setup_of}
 use Rattle.cx_part.specs.Jobs.{IsOperation}
 use Rattle.cx_part.specs.Tests.{CanTest}
