@@ -59,7 +59,8 @@ pub(crate) fn go<W: Wire>(
     requires going { can_go core.old.pace part ≡ true }
     requires parts { part_count core.old.pace.cut ≤ W.parts wire.old }
     ensures goes { (b : Beginning) → IsBeginning (setup_of job.now) b → (first : Counts)
-        → OnOk result (PartGoes (IsTrue W.tells) (run_of job.now (map rule routines.now) b) first part
+        → OnOk result (PartGoes (IsTrue W.tells)
+        (run_of job.now (map rule routines.now) b) first part
         core.old core.new (W.queue wire.old) (W.queue wire.new)
         (counts meter.old (W.received wire.old) (W.sum wire.old))
         (counts meter.new (W.received wire.new) (W.sum wire.new))) }

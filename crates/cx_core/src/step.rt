@@ -44,7 +44,8 @@ impl Core {
         requires job { IsReady job.now }
         requires routines { FitJob (map spec_of routines.now) (setup_of job.now) }
         requires there { IsRunning (IsTrue W.tells) job.now (map rule routines.now)
-            (stands_at self.old (W.queue wire.old) meter.old (W.received wire.old) (W.sum wire.old)) }
+            (stands_at self.old
+            (W.queue wire.old) meter.old (W.received wire.old) (W.sum wire.old)) }
         requires k { k < enabled_in self.old }
         requires parts { part_count (parts_of job.now.shape job.now.cut) ≤ W.parts wire.old }
         ensures does { (b : Beginning) → IsBeginning (setup_of job.now) b → (first : Counts)

@@ -318,7 +318,8 @@ fn put_variables(alloc: Global, all: &mut Vec<List<i64>>, vars: &[VarInfo], patc
     requires room { length all.old.items ≡ total level_count vars.now }
     requires points { All (λ (level : ListOf ℤ). length level ≡ point_count (whole patch.now.shape))
         all.old.items }
-    ensures { all.new.items ≡ put_all patch.now (levels_in vars.now patch.now.numbers) all.old.items }
+    ensures { all.new.items
+        ≡ put_all patch.now (levels_in vars.now patch.now.numbers) all.old.items }
 {
     let mut place = 0;
     'vars: for v in 0..vars.len() {

@@ -66,7 +66,8 @@ fn put_row(level: &mut Vec<i64>, patch: &Patch, v: VarId, number: u8, low: Point
 fn put_rows(level: &mut Vec<i64>, patch: &Patch, v: VarId, number: u8)
     requires stored { IsGridLevel patch.now v number }
     requires room { length level.old.items ≡ point_count (whole patch.now.shape) }
-    ensures { level.new.items ≡ put patch.now (level_of patch.now.numbers v number) level.old.items }
+    ensures { level.new.items
+        ≡ put patch.now (level_of patch.now.numbers v number) level.old.items }
 {
     let starts = row_starts(patch.owned());
     'rows: for i in 0..count(&starts) {
@@ -116,7 +117,8 @@ fn put_level_at(
 )
     requires stored { IsGridLevel patch.now v number }
     requires at { at < length all.old.items }
-    requires room { length (slice_index_or all.old.items at []) ≡ point_count (whole patch.now.shape) }
+    requires room { length (slice_index_or all.old.items at [])
+        ≡ point_count (whole patch.now.shape) }
     ensures { all.new.items ≡ slice_set all.old.items at
         (put patch.now (level_of patch.now.numbers v number) (slice_index_or all.old.items at [])) }
 {

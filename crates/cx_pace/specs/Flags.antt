@@ -40,7 +40,7 @@ pub record IsAlone (p q : Paces) (k : ℕ) : Type 0 where
 abbrev pub IsRight : Paces → List Bool → ℕ → Type 0
 IsRight p flags i = slice_index_or flags i false ≡ can_go p i
 
--- flags that are right stay so, and that of a part becomes right
+-- flags that are right stay so
 pub record IsKept (p : Paces) (old new : List Bool) : Type 0 where
   pub count : length new ≡ length old
   pub kept : (i : ℕ) → IsRight p old i → IsRight p new i

@@ -73,7 +73,7 @@ abbrev pub twin_from : ℕ → ℕ → Control → List Standing → Option ℕ
 twin_from n k here [] = None
 twin_from n k here (s ∷ ss) = if not (n == k) && same_place s.place here then Some n else twin_from (suc n) k here ss
 
--- the hindmost place once part k has left its place: where another part stands, if it is known
+-- a part at the hindmost place once part k has left its own, if one is known
 abbrev pub other_hind : Paces → ℕ → Option ℕ
 other_hind p k = if k == p.hind then twin_from 0 k (part_of p k).place p.parts else Some p.hind
 
