@@ -44,7 +44,7 @@ use Rattle.cx_core.specs.Cores.{Cores}
 use Rattle.cx_core.specs.Laws.{RunLaws}
 use Rattle.cx_core.specs.Shows.{Shows, ShowsGiven, HoldsWork, kind_of}
 use Rattle.cx_core.specs.Starts.{begins_in, iteration_in, length_in, CanBegin, AreEmpty, ArePatches}
-use Rattle.cx_core.specs.Steps.{Counts, IsAt}
+use Rattle.cx_core.specs.Steps.{Counts, IsAt, Begins}
 
 -- ---- nothing
 
@@ -142,8 +142,11 @@ module _ (tells : Type 0) (r : Run) (trace : Trace) (laws : RunLaws tells r trac
   none_taken t =
       sum_same (parts_in r) (λ a. sum_over (parts_in r) (λ b. 0)) (λ a. 0) (λ a l. sum_none (parts_in r)) ∙ sum_none (parts_in r)
 
-  pub begins_at : (first : Counts) → (tells → first.sum < 2 ^ 64) → IsAt tells r first core queue first
-  begins_at first small = record {
+  sum_is : (s n : ℕ) → s < 2 ^ 64 → n ≡ 0 → s ≡ (s + n) % 2 ^ 64
+  sum_is s n l e = omega (arith, l, e)
+
+  abbrev at_first : (first : Counts) → (tells → first.sum < 2 ^ 64) → IsAt tells r first core queue first
+  at_first first small = record {
     world = begun (net tells within_lead r (truth r));
     oracle = truth r;
     reached = laws.steps.begins;
@@ -152,9 +155,9 @@ module _ (tells : Type 0) (r : Run) (trace : Trace) (laws : RunLaws tells r trac
     values = counted_none first.values;
     sum = λ t. sum_is first.sum (taken_sum t r (truth r) (begun (net tells within_lead r (truth r)))) (small t) (none_taken t);
   }
-    where
-      sum_is : (s n : ℕ) → s < 2 ^ 64 → n ≡ 0 → s ≡ (s + n) % 2 ^ 64
-      sum_is s n l e = omega (arith, l, e)
+
+  pub begins_at : (first : Counts) → (tells → first.sum < 2 ^ 64) → Begins tells r first core queue
+  begins_at first small = record { at = at_first first small; nothing_done = refl }
 
 -- ---- the core that is made
 

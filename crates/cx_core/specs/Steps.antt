@@ -4,7 +4,7 @@ use Rattle.cx_plan.specs.declared.job.Job.{Job}
 use Rattle.cx_plan.specs.Setups.{setup_of}
 use Rattle.cx_rule.specs.Meter.{raised}
 use Rattle.cx_rule.specs.Routine.{Rule}
-use Rattle.cx_network.specs.Machine.{World, Can, After, left}
+use Rattle.cx_network.specs.Machine.{World, Can, After, left, begun}
 use Rattle.cx_network.specs.Machine as network
 use Rattle.cx_wire.specs.Messages.{Sent as SentMail}
 use Rattle.cx_wire.specs.Received.{counted}
@@ -16,6 +16,7 @@ use Rattle.cx_parts.specs.Laws.{IsReachedState}
 use Rattle.cx_parts.specs.Moves.{Message, Channel}
 use Rattle.cx_parts.specs.Nets.{net, within_lead, taken_sum}
 use Rattle.cx_parts.specs.Runs.{Run, Oracle, parts_in, next_op, guided}
+use Rattle.cx_parts.specs.Truths.{truth}
 use Rattle.cx_core.specs.declared.answers.Event.{Event}
 use Rattle.cx_core.specs.declared.answers.Event.TheVariants.{Part, Section, Save, End}
 use Rattle.cx_core.specs.Cores.{Cores}
@@ -49,6 +50,11 @@ pub record IsAt (tells : Type 0) (r : Run) (first : Counts) (core : Cores) (queu
   pub points : now.points ≡ raised first.points (world.meter 0)
   pub values : now.values ≡ counted first.values (world.meter 1)
   pub sum : (t : tells) → now.sum ≡ (first.sum + taken_sum t r oracle world) % 2 ^ 64
+
+-- where a run begins: nobody has done anything
+pub record Begins (tells : Type 0) (r : Run) (first : Counts) (core : Cores) (queue : ℕ → ℕ → List (SentMail tells)) : Type 0 where
+  pub at : IsAt tells r first core queue first
+  pub nothing_done : at.world ≡ begun (net tells within_lead r (truth r))
 
 -- in a run of the job by these rules, from some beginning
 pub record IsRunning (tells : Type 0) (job : Job) (rules : List Rule) (is : Standing tells) : Type 0 where

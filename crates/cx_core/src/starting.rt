@@ -13,7 +13,7 @@ ghost use Rattle.cx_parts.specs.Nets.{held_first};
 ghost use Rattle.cx_part.specs.Jobs.{IsCutOf};
 ghost use Rattle.cx_part.specs.Frames.{IsPatchOf};
 ghost use Rattle.cx_core.specs.Starts.{IsReady, CanBegin, AreEmpty, begins_in, iteration_in, length_in, ArePatches, HasFirst, filled_first};
-ghost use Rattle.cx_core.specs.Steps.{Counts, IsAt};
+ghost use Rattle.cx_core.specs.Steps.{Counts, Begins};
 
 use crate::answers::Outcome;
 use crate::laws::run_laws;
@@ -40,9 +40,9 @@ impl Core {
         requires state { CanBegin (setup_of job.now) (option_copied state) }
         ensures { (told : Bool) (rules : ListOf Rule) (queue : ℕ → ℕ → ListOf (Sent (IsTrue told)))
             (first : Counts) → AreEmpty queue → (IsTrue told → first.sum < 2 ^ 64)
-            → IfOk result (λ core. IsAt (IsTrue told)
+            → IfOk result (λ core. Begins (IsTrue told)
             (run_of job.now rules (begins_in (setup_of job.now) (option_copied state.entry)))
-            first core queue first) }
+            first core queue) }
     {
         run_laws(job);
         let cut = cut_of(alloc, job)?;
