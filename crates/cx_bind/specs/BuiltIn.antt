@@ -111,7 +111,7 @@ width_parameters n =
 
 abbrev pub turn_parameters : ℕ → List Param
 turn_parameters n =
-    int_parameter n (codes "driver") (codes "lead") (pos 0) (pos 0) (codes "0")
+    int_parameter n (codes "driver") (codes "lead") (pos 0) (pos 64) (codes "0")
     ∷ int_parameter n (codes "driver") (codes "while_limit") (pos 1) (pos 1000000) (codes "1000")
     ∷ []
 

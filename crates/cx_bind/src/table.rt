@@ -266,7 +266,7 @@ fn push_turns(alloc: Global, table: &mut List<Param>, n: u32) -> Result<(), Memo
         number: n,
         implementation: b"driver",
     };
-    push_int(alloc, table, &owner, b"lead", (0, 0), b"0")?;
+    push_int(alloc, table, &owner, b"lead", (0, 64), b"0")?;
     push_int(
         alloc,
         table,

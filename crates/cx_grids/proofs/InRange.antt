@@ -118,12 +118,6 @@ module _ (thorns : List Thorn) (settings : List Setting) (none : assign_fault th
   parts Y = one (codes "driver") (codes "parts_y") (pos 1) (pos 512) (codes "1") 16 refl (λ dir. refl) refl
   parts Z = one (codes "driver") (codes "parts_z") (pos 1) (pos 512) (codes "1") 17 refl (λ dir. refl) refl
 
-  leads : IsBetween (pos 0) (pos 64) (number_at values (codes "driver::lead"))
-  leads =
-      let none_ahead : IsBetween (pos 0) (pos 0) (number_at values (codes "driver::lead")) = one (codes "driver") (codes "lead") (pos 0) (pos 0) (codes "0") 21 refl (λ dir. refl) refl in
-      let most : number_at values (codes "driver::lead") ≤ℤ pos 0 = none_ahead.1 in
-      (none_ahead.0, omega (arith, ints))
-
   -- the numbers of settings without a fault
   pub are_in_range : AreInRange values
   are_in_range =
@@ -134,7 +128,7 @@ module _ (thorns : List Thorn) (settings : List Setting) (none : assign_fault th
         ghosts = ghosts;
         all_ghosts = unset (codes "driver") (codes "ghost_size") (pos 0) (pos 8) (codes "-1") 7 refl (λ dir. refl) refl;
         parts = parts;
-        lead = leads;
+        lead = one (codes "driver") (codes "lead") (pos 0) (pos 64) (codes "0") 21 refl (λ dir. refl) refl;
         while_limit = one (codes "driver") (codes "while_limit") (pos 1) (pos 1000000) (codes "1000") 22 refl (λ dir. refl) refl;
         out_every = one (codes "IO") (codes "out_every") (negsuc 0) (pos 1000000) (codes "1") 25 refl (λ dir. refl) refl;
         checkpoint_every = one (codes "IO") (codes "checkpoint_every") (negsuc 0) (pos 1000000) (codes "-1") 26 refl (λ dir. refl) refl;

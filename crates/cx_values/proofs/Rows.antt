@@ -61,7 +61,7 @@ row_yes : assign_fault [] (set (codes "driver") (codes "periodic") (codes "2") 7
 unfolding assign_fault names
 row_yes = refl
 
-row_lead : assign_fault [] (set (codes "PUGH") (codes "lead") (codes "1") 7 ∷ []) ≡ Some (OutOfRange 7)
+row_lead : assign_fault [] (set (codes "PUGH") (codes "lead") (codes "65") 7 ∷ []) ≡ Some (OutOfRange 7)
 unfolding assign_fault names
 row_lead = refl
 

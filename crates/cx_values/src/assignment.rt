@@ -48,8 +48,7 @@ fn assign_by(
 /// settings are, in the order of the file, and each for the faults in the order in which ValueFault has them. A full
 /// name goes before every other name; then a global parameter is named by its thorn or by its name alone, and last a
 /// restricted one by its thorn. An element that two settings set, by whatever names, is Twice. Of the built-in
-/// parameters, `IO::recover_dir` may only be the folder of checkpoints, `IO::checkpoint_ID` only off, and
-/// `driver::lead` only 0: all else is OutOfRange.
+/// parameters, `IO::recover_dir` may only be the folder of checkpoints, and `IO::checkpoint_ID` only off: all else is OutOfRange.
 pub fn assign(alloc: Global, bound: &Bound, settings: &Settings) -> Result<Values, ValueFault>
     ensures { Assigns bound.now settings.now.list result }
 {

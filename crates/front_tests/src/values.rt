@@ -73,7 +73,7 @@ const FAULTS: &[(&[u8], &str, u32)] = &[
     (b"all[0] = 1\n", "Index", 1),
     (b"kinds::all = 1\nNames::all = 1\n", "Twice", 2),
     (b"wave::pattern = comb\n", "OutOfRange", 1),
-    (b"driver::lead = 1\n", "OutOfRange", 1),
+    (b"driver::lead = 65\n", "OutOfRange", 1),
     (b"driver::widths_x = \"4 16777217\"\n", "BadSpelling", 1),
     (b"IO::recover_dir = a\nIO::checkpoint_dir = a\n", "", 0),
     (
