@@ -6,9 +6,10 @@ ghost use Rattle.cx_disk.specs.MemoryLaws.{sound_of};
 
 use crate::{Disk, DiskFault, MemoryDisk};
 use cx_text::{Memory, Text};
+use std::marker::Model;
 
 /// A disk in memory that passes so many calls, and then fails every call. A write or a cut that fails leaves the files as
-/// they read, and is noted as stopped.
+/// they read, and is noted as stopped. Contracts see the disk, how many calls more it passes, and how often it has failed.
 #[derive(Debug, Drop)]
 pub struct FuseDisk {
     disk: MemoryDisk,
@@ -16,12 +17,22 @@ pub struct FuseDisk {
     faults: u64,
 }
 
+impl Model for FuseDisk {
+    ghost use Rattle.cx_disk.specs.Fuse.{Fuse};
+
+    ghost Value = { Fuse };
+
+    ghost view = { λ fuse. record {
+      disk = fuse.disk;
+      calls = fuse.calls;
+      faults = fuse.faults;
+    } };
+}
+
 impl FuseDisk {
     /// The disk that passes so many calls.
     pub fn new(disk: MemoryDisk, calls: u64) -> Self
-        ensures disk { result.disk ≡ disk }
-        ensures calls { result.calls ≡ calls }
-        ensures faults { result.faults ≡ 0 }
+        ensures { result ≡ record { disk = disk; calls = calls; faults = 0 } }
     {
         FuseDisk {
             disk,
@@ -30,8 +41,8 @@ impl FuseDisk {
         }
     }
 
-    /// A disk that isn't mounted, of files that a crash may leave now: what isn't settled is left in part, by the choice.
-    /// Choice 0 leaves nothing of it, and 1 all of it.
+    /// A disk that isn't mounted, of files that a crash may leave now: what came since the last sync of any file is left in
+    /// part, by the choice. Choice 0 leaves nothing of it, and 1 all of it.
     pub fn into_image(self, choice: u64) -> Result<MemoryDisk, Memory>
         ensures image { IfOk result (IsImageOf (view_of self.disk)) }
     {
