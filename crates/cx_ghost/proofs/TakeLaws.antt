@@ -1,5 +1,5 @@
 -- What a part takes, one side after the other.
-use Rattle.std.proofs.Common.{◌≡◌, ℕ, ◌+◌, ◌*◌, ◌<◌, ◌%◌, Bool, true, false, ◌&&◌, List, [], ◌∷◌, ◌++◌, length, drop, refl, sym, ap, ◌∙◌, subst, Option, Some, None, ◌==◌, eq-eqb, ◌⊎◌, inl, inr, Result, Ok, Err, OnOk, OnErr}
+use Rattle.std.proofs.Common.{◌≡◌, ℕ, ◌+◌, ◌*◌, ◌<◌, ◌%◌, ◌^◌, Bool, cond, IsTrue, true, false, ◌&&◌, List, [], ◌∷◌, ◌++◌, length, drop, refl, sym, ap, ◌∙◌, subst, Option, Some, None, ◌==◌, eq-eqb, ◌⊎◌, inl, inr, Result, Ok, Err, OnOk, OnErr, arith, ◌≢◌}
 use Rattle.std.specs.Prelude.{if◌then◌else◌}
 use Rattle.std.proofs.Math.Nat.{mod-add-mod, add_assoc}
 use Rattle.cx_grid.specs.declared.boxes.Point.{Point}
@@ -14,9 +14,13 @@ use Rattle.cx_cut.specs.Neighbours.{partner, Neighbours}
 use Rattle.cx_field.specs.Patches.{PatchValue, setup_in, values_in, with_numbers}
 use Rattle.cx_field.specs.Faces.{AreGrid, halo_in, IsFilled, variable_at}
 use Rattle.cx_wire.specs.Messages.{Sent}
-use Rattle.cx_wire.specs.Received.{sum_of}
+use Rattle.cx_wire.specs.Queues.{SameQueues}
+use Rattle.cx_wire.specs.Received.{counted, counted_none, sum_of}
+use Rattle.cx_wire.specs.declared.wire.Wire.{Ghosts}
+use Rattle.cx_ghost.specs.declared.faults.TakeFault.{TakeFault}
+use Rattle.cx_ghost.specs.declared.faults.TakeFault.TheVariants.{NotYet, Wire}
 use Rattle.cx_ghost.specs.Posts.{CanExchange, face_count, is_at, only}
-use Rattle.cx_ghost.specs.Takes.{BeginsWith, IsReady, missing_of, missing_from, front_values, behind_high, TakesNeeded, Fills, Keeps, sum_from, StartsWith, IsFronted, FilledFrom, taken_sum}
+use Rattle.cx_ghost.specs.Takes.{BeginsWith, IsReady, missing_of, missing_from, front_values, behind_high, TakesNeeded, Fills, Keeps, sum_from, StartsWith, IsFronted, FilledFrom, taken_sum, count_from, TakesHigh, Stops}
 use Rattle.cx_ghost.proofs.PostLaws.{halo_is}
 use Rattle.cx_ghost.proofs.Sides.{some_at}
 
@@ -219,3 +223,61 @@ sums c k d told q m o_high o_low old mid new bound is_high is_low first second s
     ∙ ap (λ n. (old + (n + sum_from told o_low (λ a. m a k))) % bound) (ap (λ u. sum_from told u (λ a. q a k)) is_high)
     ∙ ap (λ n. (old + (sum_from told (partner c k d High) (λ a. q a k) + n)) % bound)
     (ap (λ u. sum_from told u (λ a. m a k)) is_low ∙ sum_same told (partner c k d Low) (λ a. m a k) (behind_high c k d q) same)
+
+-- ---- where the wire fails
+
+no_drop : {A : Type 0} (t : Bool) (q : List A) → q ≡ drop (cond (t && false) 1 0) q
+no_drop true q = refl
+no_drop false q = refl
+
+module _ {W : Type 0} (g : Ghosts W) (c : Parts) (k d : ℕ) (vars : List VarId) (old : PatchValue) (wire : W) where
+  -- nothing was received
+  takes_none : (new : PatchValue) (after : W) → new ≡ old → SameQueues (g.queue wire) (g.queue after) → g.received after ≡ g.received wire
+      → ((told : IsTrue g.tells) → g.sum after ≡ g.sum wire) → ((told : IsTrue g.tells) → g.sum wire < 2 ^ 64) → TakesHigh g c k d vars None old new wire after
+  takes_none new after same queues count sum fits =
+      record {
+        patch = same;
+        queues = λ a b. queues a b ∙ no_drop (b == k) (g.queue wire a b);
+        received = count ∙ counted_none (g.received wire);
+        sum = λ told. sum told ∙ let f = fits told in omega (arith, f);
+      }
+
+  pub stops_high : {A : Type 0} (new : PatchValue) (after : W) (o : Option ℕ) (r : Result A TakeFault) → o ≡ partner c k d High → o ≢ None → new ≡ old
+      → SameQueues (g.queue wire) (g.queue after) → g.received after ≡ g.received wire → ((told : IsTrue g.tells) → g.sum after ≡ g.sum wire)
+      → ((told : IsTrue g.tells) → g.sum wire < 2 ^ 64) → Stops g c k d vars old new wire after r
+  stops_high new after o (Ok x) is there same queues count sum fits = tt
+  stops_high new after o (Err (NotYet a b)) is there same queues count sum fits = tt
+  stops_high new after o (Err Wire) is there same queues count sum fits =
+      (High, subst (λ (u : Option ℕ). u ≢ None) is there, takes_none new after same queues count sum fits)
+
+  -- what the high neighbour sent was received
+  module _ (mid : PatchValue) (between : W) (o_high : Option ℕ) (is_high : o_high ≡ partner c k d High) (can : CanExchange c k d vars old)
+      (filled : FilledFrom (IsTrue g.tells) o_high (λ a. g.queue wire a k) vars (halo_in old d High) old mid)
+      (queues : (a b : ℕ) → g.queue between a b ≡ drop (if b == k && is_at o_high a then 1 else 0) (g.queue wire a b))
+      (received : g.received between ≡ counted (g.received wire) (count_from o_high (length vars * point_count (halo_in old d High))))
+      (sum : (told : IsTrue g.tells) → g.sum between ≡ (g.sum wire + sum_from told o_high (λ a. g.queue wire a k)) % 2 ^ 64) where
+    takes_high : TakesHigh g c k d vars (partner c k d High) old mid wire between
+    takes_high =
+        subst (λ o. TakesHigh g c k d vars o old mid wire between) is_high
+        (record {
+          patch = subst (λ (b : Box3). FilledFrom (IsTrue g.tells) o_high (λ a. g.queue wire a k) vars b old mid) (halo_is c k d vars old can High) filled;
+          queues = queues;
+          received = received ∙ ap (λ (b : Box3). counted (g.received wire) (count_from o_high (length vars * point_count b))) (halo_is c k d vars old can High);
+          sum = sum;
+        })
+
+    pub stops_low : {A : Type 0} (new : PatchValue) (after : W) (o_low : Option ℕ) (r : Result A TakeFault) → o_low ≡ partner c k d Low → OnErr r (o_low ≢ None)
+        → OnErr r (new ≡ mid) → OnErr r (SameQueues (g.queue between) (g.queue after)) → OnErr r (g.received after ≡ g.received between)
+        → ((told : IsTrue g.tells) → OnErr r (g.sum after ≡ g.sum between)) → Stops g c k d vars old new wire after r
+    stops_low new after o_low (Ok x) is there same still count summed = tt
+    stops_low new after o_low (Err (NotYet a b)) is there same still count summed = tt
+    stops_low new after o_low (Err Wire) is there same still count summed = (
+      Low,
+      subst (λ (u : Option ℕ). u ≢ None) is there,
+      record {
+        patch = subst (λ (p : PatchValue). FilledFrom (IsTrue g.tells) (partner c k d High) (λ a. g.queue wire a k) vars (halo_of c k d High) old p) (sym same) takes_high.patch;
+        queues = λ a b. still a b ∙ takes_high.queues a b;
+        received = count ∙ takes_high.received;
+        sum = λ told. summed told ∙ takes_high.sum told;
+      },
+    )

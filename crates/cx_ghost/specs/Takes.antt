@@ -1,5 +1,5 @@
 -- What a part needs in a direction, and what taking it leaves.
-use Rattle.std.specs.Prelude.{ℕ, ◌+◌, ◌*◌, ◌≡◌, ◌==◌, ◌&&◌, ◌⊎◌, true, ℤ, List, [], ◌∷◌, ◌++◌, length, map, drop, Option, Some, None, Result, Ok, Err, if◌then◌else◌, ⊤}
+use Rattle.std.specs.Prelude.{ℕ, ◌+◌, ◌*◌, ◌%◌, ◌^◌, ◌≡◌, ◌≢◌, ◌==◌, ◌&&◌, IsTrue, ◌⊎◌, true, ℤ, List, [], ◌∷◌, ◌++◌, length, map, drop, Option, Some, None, Result, Ok, Err, if◌then◌else◌, ⊤}
 use Rattle.cx_grid.specs.declared.boxes.Point.{Point}
 use Rattle.cx_grid.specs.declared.boxes.Box3.{Box3}
 use Rattle.cx_grid.specs.declared.shapes.Side.{Side}
@@ -15,7 +15,8 @@ use Rattle.cx_cut.specs.Neighbours.{partner}
 use Rattle.cx_field.specs.Patches.{PatchValue, setup_in, values_in, with_numbers}
 use Rattle.cx_field.specs.Faces.{IsFilled, Filled}
 use Rattle.cx_wire.specs.Messages.{Sent}
-use Rattle.cx_wire.specs.Received.{sum_of}
+use Rattle.cx_wire.specs.Received.{counted, sum_of}
+use Rattle.cx_wire.specs.declared.wire.Wire.{Ghosts}
 use Rattle.cx_ghost.specs.declared.faults.TakeFault.{TakeFault}
 use Rattle.cx_ghost.specs.declared.faults.TakeFault.TheVariants.{NotYet, Wire}
 use Rattle.cx_ghost.specs.Posts.{is_at, only, face_count}
@@ -145,3 +146,28 @@ abbrev pub FilledFrom : (tells : Type 0) → Option ℕ → (ℕ → List (Sent 
 FilledFrom tells None q vars b old new = new ≡ old
 FilledFrom tells (Some a) q vars b old new =
     (values : List ℤ) × ((told : tells) → values ≡ front_values told (q a)) × Filled old new vars b values
+
+-- ---- what is left where the wire failed
+
+-- what was received before the message from a side was asked for: the high neighbour's, before the low one's
+abbrev pub taken_before : Parts → ℕ → ℕ → Side → Option ℕ
+taken_before c k d High = None
+taken_before c k d Low = partner c k d High
+
+-- The message from the high neighbour alone was received, where that is `from`; with none, nothing was. The ghosts at the high side are
+-- filled from it.
+pub record TakesHigh {W : Type 0} (g : Ghosts W) (c : Parts) (k d : ℕ) (vars : List VarId) (from : Option ℕ) (old new : PatchValue) (wire after : W) : Type 0 where
+  pub patch : FilledFrom (IsTrue g.tells) from (λ a. g.queue wire a k) vars (halo_of c k d High) old new
+  pub queues : (a b : ℕ) → g.queue after a b ≡ drop (if b == k && is_at from a then 1 else 0) (g.queue wire a b)
+  pub received : g.received after
+      ≡ counted (g.received wire) (count_from from (length vars * point_count (halo_of c k d High)))
+  pub sum : (told : IsTrue g.tells)
+      → g.sum after ≡ (g.sum wire + sum_from told from (λ a. g.queue wire a k)) % 2 ^ 64
+
+-- The wire failed at the message from a side, where there is a neighbour. What was received before it is taken, and all else is as
+-- before.
+abbrev pub Stops : {W A : Type 0} → Ghosts W → Parts → ℕ → ℕ → List VarId → (old new : PatchValue) → (wire after : W) → Result A TakeFault → Type 0
+Stops g c k d vars old new wire after (Ok x) = ⊤
+Stops g c k d vars old new wire after (Err (NotYet a b)) = ⊤
+Stops g c k d vars old new wire after (Err Wire) =
+    (side : Side) × (partner c k d side ≢ None) × TakesHigh g c k d vars (taken_before c k d side) old new wire after

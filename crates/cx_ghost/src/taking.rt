@@ -1,12 +1,13 @@
 //! What a part takes in a direction.
-ghost use Rattle.std.specs.Prelude.{◌≡◌, ◌<◌, ◌≤◌, ◌+◌, ◌*◌, ◌%◌, ◌^◌, ℕ, length, drop, IsTrue, IfErr, OnOk, OnErr, if◌then◌else◌, ◌==◌, ◌&&◌};
+ghost use Rattle.std.specs.Prelude.{◌≡◌, ◌≢◌, ◌<◌, ◌≤◌, ◌+◌, ◌*◌, ◌%◌, ◌^◌, ℕ, length, drop, IsTrue, None, IfErr, OnOk, OnErr, if◌then◌else◌, ◌==◌, ◌&&◌};
 ghost use Rattle.cx_disk.specs.Cause.{HasCause};
 ghost use Rattle.cx_grid.specs.Boxes.{point_count};
 ghost use Rattle.cx_cut.specs.Cuts.{part_count};
 ghost use Rattle.cx_field.specs.Faces.{AreGrid, halo_in};
+ghost use Rattle.cx_wire.specs.Queues.{SameQueues};
 ghost use Rattle.cx_wire.specs.Received.{counted};
 ghost use Rattle.cx_ghost.specs.Posts.{CanExchange, IsBelow, is_at};
-ghost use Rattle.cx_ghost.specs.Takes.{IsReady, missing, missing_from, TellsMissing, Fills, Keeps, TakesNeeded, taken_count, taken_sum, IsNotYet, FindsMissing, FilledFrom, IsFronted, count_from, sum_from};
+ghost use Rattle.cx_ghost.specs.Takes.{IsReady, missing, missing_from, TellsMissing, Fills, Keeps, TakesNeeded, Stops, taken_count, taken_sum, IsNotYet, FindsMissing, FilledFrom, IsFronted, count_from, sum_from};
 
 use crate::faults::TakeFault;
 use crate::partner::partner;
@@ -27,7 +28,8 @@ use cx_wire::Wire;
 /// # Errors
 ///
 /// `NotYet(from, to)`: the message of that pair isn't there, the high neighbour's being sought first. Nothing is received then.
-/// `Wire`: the wire failed. The ghosts may be filled in part.
+/// `Wire`: the wire failed. Either nothing has changed, or the high neighbour's message alone was received and its ghosts are
+/// filled.
 pub fn take<W: Wire>(
     patch: &mut Patch,
     cut: &Cut,
@@ -48,6 +50,8 @@ pub fn take<W: Wire>(
         (W.received wire.new ≡ counted (W.received wire.old) (taken_count cut.now k dir vars.now)) }
     ensures sum { (told : IsTrue W.tells) → OnOk result (W.sum wire.new
         ≡ (W.sum wire.old + taken_sum told cut.now k dir (W.queue wire.old)) % 2 ^ 64) }
+    ensures stopped { Stops W.Wire cut.now k dir vars.now
+        patch.old patch.new wire.old wire.new result }
     ensures untouched { IsNotYet result → patch.new ≡ patch.old }
     ensures unreceived { IsNotYet result → wire.new ≡ wire.old }
     ensures parts { W.parts wire.new ≡ W.parts wire.old }
@@ -120,7 +124,11 @@ fn fill_from<W: Wire>(
         (length vars.now * point_count (halo_in patch.old ghosts.dir ghosts.side)) }
     ensures filled { OnOk result (FilledFrom (IsTrue W.tells) from (λ a. W.queue wire.old a k)
         vars.now (halo_in patch.old ghosts.dir ghosts.side) patch.old patch.new) }
+    ensures needed { OnErr result (from ≢ None) }
     ensures unfilled { OnErr result (patch.new ≡ patch.old) }
+    ensures unreceived { OnErr result (SameQueues (W.queue wire.old) (W.queue wire.new)) }
+    ensures same { OnErr result (W.received wire.new ≡ W.received wire.old) }
+    ensures same_sum { IsTrue W.tells → OnErr result (W.sum wire.new ≡ W.sum wire.old) }
     ensures queues { OnOk result ((a b : ℕ) → W.queue wire.new a b
         ≡ drop (if b == k && is_at from a then 1 else 0) (W.queue wire.old a b)) }
     ensures received { OnOk result (W.received wire.new ≡ counted (W.received wire.old)

@@ -8,6 +8,39 @@ use Rattle.cx_wire.specs.Messages.{Sent, sent, front_head}
 use Rattle.cx_wire.specs.Queues.{at_pair, Gains, Loses, SameQueues}
 use Rattle.cx_wire.specs.Altering.{with_first}
 
+-- ---- what is told, as mails
+
+abbrev told : (ℕ → ℕ → List Mail) → ℕ → ℕ → List (Sent (IsTrue true))
+told q a b = map sent (q a b)
+
+abbrev mail_of : Sent (IsTrue true) → Mail
+mail_of m = record { head = m.head; values = m.values refl }
+
+mails : (q : List Mail) → map mail_of (map sent q) ≡ q
+mails [] = refl
+mails (m ∷ q) = rw (mails q) refl
+
+mail_pair : (v : Bool) (m : Mail) → map mail_of (cond v (sent m ∷ []) []) ≡ cond v (m ∷ []) []
+mail_pair true m = refl
+mail_pair false m = refl
+
+pub mails_gain : (q r : ℕ → ℕ → List Mail) (f o : ℕ) (m : Mail) → Gains (told q) (told r) f o (sent m) → Gains q r f o m
+mails_gain q r f o m gains a b =
+    sym (mails (r a b)) ∙ ap (map mail_of) (gains a b)
+    ∙ map-append mail_of (map sent (q a b)) (at_pair f o (sent m) a b)
+    ∙ rw (mails (q a b), mail_pair (a == f && b == o) m) refl
+
+pub mails_lose : (q r : ℕ → ℕ → List Mail) (f o : ℕ) (m : Mail) → Loses (told q) (told r) f o (sent m) → Loses q r f o m
+mails_lose q r f o m loses a b =
+    sym (mails (q a b)) ∙ ap (map mail_of) (loses a b)
+    ∙ map-append mail_of (at_pair f o (sent m) a b) (map sent (r a b))
+    ∙ rw (mails (r a b), mail_pair (a == f && b == o) m) refl
+
+pub mails_stay : (q r : ℕ → ℕ → List Mail) → SameQueues (told q) (told r) → SameQueues q r
+mails_stay q r same a b = sym (mails (r a b)) ∙ ap (map mail_of) (same a b) ∙ mails (q a b)
+
+-- ---- heads alone
+
 -- what is never told
 never : IsTrue false → List ℤ
 never t = absurd cc
@@ -33,9 +66,6 @@ same_bare m n e = rw e (ap (λ (v : IsTrue false → List ℤ). record { head = 
 hidden_pair : (v : Bool) (m : Sent (IsTrue true)) → map hidden (cond v (m ∷ []) []) ≡ cond v (hidden m ∷ []) []
 hidden_pair true m = refl
 hidden_pair false m = refl
-
-abbrev told : (ℕ → ℕ → List Mail) → ℕ → ℕ → List (Sent (IsTrue true))
-told q a b = map sent (q a b)
 
 abbrev kept_back : (ℕ → ℕ → List Mail) → ℕ → ℕ → List (Sent (IsTrue false))
 kept_back q a b = map sent (q a b)

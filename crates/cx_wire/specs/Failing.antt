@@ -1,5 +1,5 @@
 -- A wire in memory that fails at some calls.
-use Rattle.std.specs.Prelude.{ℕ, ◌+◌, ◌-◌, ◌^◌, List, min}
+use Rattle.std.specs.Prelude.{ℕ, ◌+◌, ◌-◌, ◌^◌, ◌≡◌, ◌≢◌, List, min, Result, Err}
 use Rattle.std.specs.List.{Contains}
 use Rattle.cx_wire.specs.Memory.{Carried}
 
@@ -28,3 +28,9 @@ failed w = record w { calls = next_count w.calls; faults = next_count w.faults }
 
 abbrev pub passed : Failing → Failing
 passed w = record w { calls = next_count w.calls }
+
+-- A call whose number is among those that fail answers this fault, and the two counts alone have changed. Any other call never answers it;
+-- the wire within does it, and one call more is counted.
+pub record FailsAt {T F : Type 0} (fault : F) (old new : Failing) (result : Result T F) : Type 0 where
+  pub fails : FailsNext old → (result ≡ Err fault) × (new ≡ failed old)
+  pub passes : (FailsNext old → ⊥) → (result ≢ Err fault) × (new ≡ record (passed old) { wire = new.wire })

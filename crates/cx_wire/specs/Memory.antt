@@ -1,5 +1,5 @@
 -- A wire in memory: its queues by number, and what it has given out.
-use Rattle.std.specs.Prelude.{ℕ, ◌+◌, ◌*◌, ◌%◌, ◌^◌, ◌<◌, ◌≡◌, nat_lt, ◌&&◌, List, [], length, map, slice_index_or, replicate, if◌then◌else◌}
+use Rattle.std.specs.Prelude.{ℕ, ◌+◌, ◌*◌, ◌%◌, ◌^◌, ◌<◌, ◌≡◌, nat_lt, ◌&&◌, true, false, IsTrue, List, [], length, map, slice_index_or, replicate, if◌then◌else◌}
 use Rattle.std.proofs.Common.{arith}
 use Rattle.std.proofs.lemmas.Nat.{mod_below}
 use Rattle.cx_wire.specs.declared.mail.Mail.{Mail}
@@ -28,6 +28,13 @@ queue_of w = queue_in w.parts w.queues
 -- the same as a wire shows it, telling the values or not
 abbrev pub sent_queue : {tells : Type 0} → Carried → ℕ → ℕ → List (Sent tells)
 sent_queue w a b = map sent (queue_of w a b)
+
+-- the queues of a wire that tells, and of one that doesn't
+abbrev pub told_queue : Carried → ℕ → ℕ → List (Sent (IsTrue true))
+told_queue w = sent_queue w
+
+abbrev pub bare_queue : Carried → ℕ → ℕ → List (Sent (IsTrue false))
+bare_queue w = sent_queue w
 
 -- the sum of what it has given out
 abbrev pub carried_sum : Carried → ℕ

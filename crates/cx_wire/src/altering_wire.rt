@@ -1,6 +1,11 @@
 //! A wire in memory that alters a value.
-ghost use Rattle.std.specs.Prelude.{◌≡◌, ◌<◌, length, IfSome, Some, slice_get};
-ghost use Rattle.cx_wire.specs.Altering.{altering_wire, with_first};
+ghost use Rattle.std.specs.Prelude.{◌≡◌, ◌<◌, ◌+◌, ◌%◌, ◌^◌, length, OnOk, OnErr, IfOk, IfErr};
+ghost use Rattle.cx_disk.specs.Cause.{HasCause};
+ghost use Rattle.cx_wire.specs.Messages.{sent, IsCounted};
+ghost use Rattle.cx_wire.specs.Queues.{Gains, Loses, SameQueues, fault_alone};
+ghost use Rattle.cx_wire.specs.Received.{counted, sum_of};
+ghost use Rattle.cx_wire.specs.Memory.{queue_of, bare_queue, carried_sum};
+ghost use Rattle.cx_wire.specs.Altering.{altering_wire, due, with_first, Alters};
 
 use crate::mail::{Head, Mail};
 use crate::memory_wire::MemoryWire;
@@ -36,14 +41,20 @@ impl AlteringWire {
         }
     }
 
-    /// The first value of a mail that part `from` sends, where 1 is to be added to it.
+    /// The value of a mail that part `from` sends to which 1 is to be added, if any.
     fn due(&self, from: u32, mail: &Mail) -> Option<i64>
-        ensures { IfSome result (λ first. slice_get mail.now.values 0 ≡ Some first) }
+        ensures { result ≡ due self.now from mail.now }
     {
-        if self.altered || from != 0 || mail.head.side != Side::Low {
+        if self.altered {
             return None;
         }
-        mail.values.as_slice().first().copied()
+        if from != 0 {
+            return None;
+        }
+        match mail.head.side {
+            Side::Low => mail.values.as_slice().first().copied(),
+            Side::High => None,
+        }
     }
 }
 
@@ -78,7 +89,21 @@ impl Wire for AlteringWire {
 
     ghost sum_fits = { λ w _. carried_sum_fits w.wire };
 
-    fn send(&mut self, from: u32, to: u32, mail: Mail) -> Result<(), (WireFault, Mail)> {
+    fn send(&mut self, from: u32, to: u32, mail: Mail) -> Result<(), (WireFault, Mail)>
+        requires from { from < self.old.wire.parts }
+        requires to { to < self.old.wire.parts }
+        requires counted { IsCounted mail }
+        ensures alters { Alters self.old self.new from to mail result }
+        ensures sent { OnOk result
+            (Gains (bare_queue self.old.wire) (bare_queue self.new.wire) from to (sent mail)) }
+        ensures unsent { OnErr result
+            (SameQueues (bare_queue self.old.wire) (bare_queue self.new.wire)) }
+        ensures back { IfErr result (λ e. e.1 ≡ mail) }
+        ensures parts { self.new.wire.parts ≡ self.old.wire.parts }
+        ensures received { self.new.wire.received ≡ self.old.wire.received }
+        ensures sum { carried_sum self.new.wire ≡ carried_sum self.old.wire }
+        ensures cause { HasCause WireFault.Failed 0 0 (fault_alone result) }
+    {
         let Some(first) = self.due(from, &mail) else {
             return self.wire.send(from, to, mail);
         };
@@ -98,7 +123,28 @@ impl Wire for AlteringWire {
         self.wire.front(from, to)
     }
 
-    fn receive(&mut self, from: u32, to: u32) -> Result<Mail, WireFault> {
+    fn receive(&mut self, from: u32, to: u32) -> Result<Mail, WireFault>
+        requires from { from < self.old.wire.parts }
+        requires to { to < self.old.wire.parts }
+        requires some { 0 < length (bare_queue self.old.wire from to) }
+        ensures altered { self.new.altered ≡ self.old.altered }
+        ensures mail { IfOk result (λ mail.
+            Loses (queue_of self.old.wire) (queue_of self.new.wire) from to mail) }
+        ensures taken { IfOk result (λ mail.
+            Loses (bare_queue self.old.wire) (bare_queue self.new.wire) from to (sent mail)) }
+        ensures counted { IfOk result (λ mail. IsCounted mail) }
+        ensures left { OnErr result
+            (SameQueues (bare_queue self.old.wire) (bare_queue self.new.wire)) }
+        ensures parts { self.new.wire.parts ≡ self.old.wire.parts }
+        ensures received { IfOk result (λ mail.
+            self.new.wire.received ≡ counted self.old.wire.received mail.head.count) }
+        ensures added { IfOk result (λ mail. carried_sum self.new.wire
+            ≡ (carried_sum self.old.wire + sum_of mail.values) % 2 ^ 64) }
+        ensures same { OnErr result (self.new.wire.received ≡ self.old.wire.received) }
+        ensures same_sum { OnErr result (carried_sum self.new.wire ≡ carried_sum self.old.wire) }
+        ensures cause { HasCause WireFault.Failed 0 0 result }
+        ensures takes_no_memory { IfErr result (λ fault. fault ≡ WireFault.Failed) }
+    {
         self.wire.receive(from, to)
     }
 }

@@ -1,7 +1,11 @@
 //! A wire in memory that fails at some calls.
-ghost use Rattle.std.specs.Prelude.{◌≡◌, ◌≤◌, ◌↔◌, IsTrue, if◌then◌else◌};
-ghost use Rattle.cx_disk.specs.Cause.{Rose};
-ghost use Rattle.cx_wire.specs.Failing.{FailsNext, failing_wire, failed, passed};
+ghost use Rattle.std.specs.Prelude.{◌≡◌, ◌<◌, ◌≤◌, ◌+◌, ◌%◌, ◌^◌, ◌↔◌, IsTrue, if◌then◌else◌, length, OnOk, OnErr, IfOk, IfErr};
+ghost use Rattle.cx_disk.specs.Cause.{Rose, HasCause};
+ghost use Rattle.cx_wire.specs.Messages.{sent, IsCounted};
+ghost use Rattle.cx_wire.specs.Queues.{Gains, Loses, SameQueues, fault_alone};
+ghost use Rattle.cx_wire.specs.Received.{counted, sum_of};
+ghost use Rattle.cx_wire.specs.Memory.{told_queue, carried_sum};
+ghost use Rattle.cx_wire.specs.Failing.{FailsNext, FailsAt, failing_wire, failed, passed};
 
 use crate::mail::{Head, Mail};
 use crate::memory_wire::MemoryWire;
@@ -78,7 +82,22 @@ impl Wire for FailingWire {
 
     ghost sum_fits = { λ w _. carried_sum_fits w.wire };
 
-    fn send(&mut self, from: u32, to: u32, mail: Mail) -> Result<(), (WireFault, Mail)> {
+    fn send(&mut self, from: u32, to: u32, mail: Mail) -> Result<(), (WireFault, Mail)>
+        requires from { from < self.old.wire.parts }
+        requires to { to < self.old.wire.parts }
+        requires counted { IsCounted mail }
+        ensures fails { FailsAt (WireFault.Failed, mail) self.old self.new result }
+        ensures sent { OnOk result
+            (Gains (told_queue self.old.wire) (told_queue self.new.wire) from to (sent mail)) }
+        ensures unsent { OnErr result
+            (SameQueues (told_queue self.old.wire) (told_queue self.new.wire)) }
+        ensures back { IfErr result (λ e. e.1 ≡ mail) }
+        ensures parts { self.new.wire.parts ≡ self.old.wire.parts }
+        ensures received { self.new.wire.received ≡ self.old.wire.received }
+        ensures sum { carried_sum self.new.wire ≡ carried_sum self.old.wire }
+        ensures cause { HasCause WireFault.Failed
+            self.old.faults self.new.faults (fault_alone result) }
+    {
         if self.fails() {
             return Err((WireFault::Failed, mail));
         }
@@ -89,7 +108,26 @@ impl Wire for FailingWire {
         self.wire.front(from, to)
     }
 
-    fn receive(&mut self, from: u32, to: u32) -> Result<Mail, WireFault> {
+    fn receive(&mut self, from: u32, to: u32) -> Result<Mail, WireFault>
+        requires from { from < self.old.wire.parts }
+        requires to { to < self.old.wire.parts }
+        requires some { 0 < length (told_queue self.old.wire from to) }
+        ensures fails { FailsAt WireFault.Failed self.old self.new result }
+        ensures taken { IfOk result (λ mail.
+            Loses (told_queue self.old.wire) (told_queue self.new.wire) from to (sent mail)) }
+        ensures counted { IfOk result (λ mail. IsCounted mail) }
+        ensures left { OnErr result
+            (SameQueues (told_queue self.old.wire) (told_queue self.new.wire)) }
+        ensures parts { self.new.wire.parts ≡ self.old.wire.parts }
+        ensures received { IfOk result (λ mail.
+            self.new.wire.received ≡ counted self.old.wire.received mail.head.count) }
+        ensures added { IfOk result (λ mail. carried_sum self.new.wire
+            ≡ (carried_sum self.old.wire + sum_of mail.values) % 2 ^ 64) }
+        ensures same { OnErr result (self.new.wire.received ≡ self.old.wire.received) }
+        ensures same_sum { OnErr result (carried_sum self.new.wire ≡ carried_sum self.old.wire) }
+        ensures cause { HasCause WireFault.Failed self.old.faults self.new.faults result }
+        ensures takes_no_memory { IfErr result (λ fault. fault ≡ WireFault.Failed) }
+    {
         if self.fails() {
             return Err(WireFault::Failed);
         }

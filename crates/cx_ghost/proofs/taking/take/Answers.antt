@@ -5,7 +5,7 @@ use Rattle.cx_grid.specs.Boxes.{point_count}
 use Rattle.cx_cut.specs.Neighbours.{partner}
 use Rattle.cx_cut.proofs.NeighbourLaws.{neighbours}
 use Rattle.cx_ghost.proofs.PostLaws.{halo_is, on_ok}
-use Rattle.cx_ghost.proofs.TakeLaws.{high_ready, low_ready, taken_by, behind_is, takes_needed, can_mid, either_keeps, both_fill, sums}
+use Rattle.cx_ghost.proofs.TakeLaws.{high_ready, low_ready, taken_by, behind_is, takes_needed, can_mid, either_keeps, both_fill, sums, stops_high, stops_low}
 use Rattle.cx_ghost.proofs.taking.take.Goals as goal
 
 pub fill_from-requires-clause-front : goal.fill_from-requires-clause-front
@@ -80,3 +80,17 @@ returns-clause-sum g c = λ told.
     (behind_is c.args.cut.now c.args.k c.args.dir (g.W.Wire.queue c.args.wire.now) (g.W.Wire.queue c.fill_from.new.wire)
     (taken_by c.args.k c.partner-high.result (partner c.args.cut.now c.args.k c.args.dir High) (g.W.Wire.queue c.args.wire.now) (g.W.Wire.queue c.fill_from.new.wire) c.partner-high.ensures.value c.in_ok-fill_from.ensures.queues)))
     (c.fill_from-2.ensures.sum told)
+
+pub returns-clause-stopped : goal.returns-clause-stopped
+returns-clause-stopped g c =
+    stops_low g.W.Wire c.args.cut.now c.args.k c.args.dir c.args.vars.now c.args.patch.now c.args.wire.now c.fill_from.new.patch c.fill_from.new.wire
+    c.partner-high.result c.partner-high.ensures.value c.requires.can
+    c.in_ok-fill_from.ensures.filled c.in_ok-fill_from.ensures.queues c.in_ok-fill_from.ensures.received c.in_ok-fill_from.ensures.sum
+    c.fill_from-2.new.patch c.fill_from-2.new.wire c.partner-low.result c.fill_from-2.result c.partner-low.ensures.value c.fill_from-2.ensures.needed
+    c.fill_from-2.ensures.unfilled c.fill_from-2.ensures.unreceived c.fill_from-2.ensures.same c.fill_from-2.ensures.same_sum
+
+pub returns-in_err-fill_from-clause-stopped : goal.returns-in_err-fill_from-clause-stopped
+returns-in_err-fill_from-clause-stopped g c =
+    stops_high g.W.Wire c.args.cut.now c.args.k c.args.dir c.args.vars.now c.args.patch.now c.args.wire.now c.fill_from.new.patch c.fill_from.new.wire
+    c.partner-high.result c.from_residual-in_err-fill_from.result c.partner-high.ensures.value c.in_err-fill_from.ensures.needed c.in_err-fill_from.ensures.unfilled
+    c.in_err-fill_from.ensures.unreceived c.in_err-fill_from.ensures.same c.in_err-fill_from.ensures.same_sum (g.met.W.Wire.sum_fits c.args.wire.now)
