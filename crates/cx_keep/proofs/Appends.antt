@@ -6,9 +6,9 @@ use Rattle.std.proofs.lemmas.List.{take_all, drop_all, take_at, append-nil, take
 use Rattle.cx_disk.specs.Disk.{Files, View, IsView, Changes, Torn, Holds, Passes, OthersSame}
 use Rattle.cx_chk.specs.declared.checkpoint.Checkpoint.{Checkpoint}
 use Rattle.cx_chk.specs.Slots.{header_of, SlotsSettled}
-use Rattle.cx_keep.specs.Trails.{Course, OutputsReach, GoesAsFar, IsTrailOf, Stands, IsFrontOf, IsNextPiece, Counts, text_of, length_in, file_of_output}
+use Rattle.cx_keep.specs.Trails.{Course, OutputsReach, GoesAsFar, IsTrailOf, AreWithin, Stands, IsFrontOf, IsNextPiece, Counts, text_of, length_in, file_of_output}
 use Rattle.cx_keep.specs.Keeping.{Keeper, output_file}
-use Rattle.cx_keep.proofs.Stays.{of_run_at, newest_same, trail_at}
+use Rattle.cx_keep.proofs.Stays.{of_run_at, newest_same, trail_at, within_more}
 
 -- what was before the offset, in both, is there after a torn write
 torn_far : (at k n : ℕ) (text d c : List ℕ) → Torn at k d c → n ≤ at → GoesAsFar n text d → GoesAsFar n text c
@@ -70,8 +70,21 @@ module _ (course : Course) (newest : Option ℕ) (next : Option Checkpoint) (j :
         | inr ne ↦ subst (λ (b : List ℕ). GoesAsFar (length_in chk k) (text_of course k) b) (sym (d.2.others (file_of_output k) (λ same. ne (let e : 8 + k ≡ 8 + j = same in omega arith)))) (all d.0 d.1 k lt)
       ]
 
-  pub append_trail : (c : Files) → new.images c → IsTrailOf course newest c
-  append_trail c now = trail_at course newest next old st c (same_slots c now) (reach c now)
+  bounded : (o : Option Checkpoint) → IfSome o (λ d. (c : Files) (i : ℕ) → old.images c → i < length course.outputs → length (c (file_of_output i)) ≤ length_in d i) → IfSome o (λ d. length (old.seen (file_of_output j)) + length piece ≤ length_in d j)
+      → IfSome o (λ d. (c : Files) (i : ℕ) → new.images c → i < length course.outputs → length (c (file_of_output i)) ≤ length_in d i)
+  bounded None h room = tt
+  bounded (Some e) h room = λ c i now lt.
+      let d = passes.crash c now in
+      elim (cases_eq i j) as (λ _. length (c (file_of_output i)) ≤ length_in e i) [
+        | inl same ↦ subst (λ (k : ℕ). length (c (file_of_output k)) ≤ length_in e k) (sym same) (let a = d.2.this.no_longer in let b = h d.0 j d.1 fits.output in let r = room in omega arith)
+        | inr ne ↦ subst (λ (b : List ℕ). length b ≤ length_in e i) (sym (d.2.others (file_of_output i) (λ same. ne (let q : 8 + i ≡ 8 + j = same in omega arith)))) (h d.0 i d.1 lt)
+      ]
+
+  append_within : (c : Files) → new.images c → AreWithin course next c
+  append_within c now = within_more next (λ d h i lt. h c i now lt) (bounded next st.within fits.within)
+
+  pub append_trail : (c : Files) → new.images c → IsTrailOf course newest next c
+  append_trail c now = trail_at course newest next old st c (same_slots c now) (reach c now) (append_within c now)
 
   pub append_stands : OthersSame (file_of_output j) old.seen new.seen → Holds (length (old.seen (file_of_output j))) piece (old.seen (file_of_output j)) (new.seen (file_of_output j)) → Stands course newest next new
   append_stands others holds =
@@ -89,13 +102,3 @@ module _ (course : Course) (newest : Option ℕ) (next : Option Checkpoint) (j :
         ];
         within = bounded next st.within fits.within;
       }
-    where
-      bounded : (o : Option Checkpoint) → IfSome o (λ d. (c : Files) (i : ℕ) → old.images c → i < length course.outputs → length (c (file_of_output i)) ≤ length_in d i) → IfSome o (λ d. length (old.seen (file_of_output j)) + length piece ≤ length_in d j)
-          → IfSome o (λ d. (c : Files) (i : ℕ) → new.images c → i < length course.outputs → length (c (file_of_output i)) ≤ length_in d i)
-      bounded None h room = tt
-      bounded (Some e) h room = λ c i now lt.
-          let d = passes.crash c now in
-          elim (cases_eq i j) as (λ _. length (c (file_of_output i)) ≤ length_in e i) [
-            | inl same ↦ subst (λ (k : ℕ). length (c (file_of_output k)) ≤ length_in e k) (sym same) (let a = d.2.this.no_longer in let b = h d.0 j d.1 fits.output in let r = room in omega arith)
-            | inr ne ↦ subst (λ (b : List ℕ). length b ≤ length_in e i) (sym (d.2.others (file_of_output i) (λ same. ne (let q : 8 + i ≡ 8 + j = same in omega arith)))) (h d.0 i d.1 lt)
-          ]

@@ -7,7 +7,7 @@ use Rattle.cx_disk.specs.Moments.{IsQuiet}
 use Rattle.cx_disk.proofs.Moments.{joins, weaker}
 use Rattle.cx_chk.specs.declared.checkpoint.Checkpoint.{Checkpoint}
 use Rattle.cx_chk.specs.Slots.{header_of, SlotsSettled}
-use Rattle.cx_keep.specs.Trails.{Course, Has, IsOfRun, OutputsReach, GoesAsFar, IsTrail, IsTrailOf, NewestIs, Stands, IsFrontOf, text_of, length_in, file_of_output}
+use Rattle.cx_keep.specs.Trails.{Course, Has, IsOfRun, OutputsReach, GoesAsFar, IsTrail, NewestIs, Stands, IsFrontOf, text_of, length_in, file_of_output}
 use Rattle.cx_keep.specs.Resuming.{IsCutTo, IsTrimmed, AreLong, CutsOutputs, AreCut, SlotsSame, AreTrails, IsMonotone, IsTrailFrom, IsResumed}
 use Rattle.cx_keep.specs.Beginning.{IsLeft}
 use Rattle.cx_keep.proofs.Stays.{of_run_at, newest_same, within_more, reach_same}
@@ -41,19 +41,16 @@ module _ (course : Course) (monotone : IsMonotone course) (chk : Checkpoint) (ha
       let le = monotone s.checkpoint chk s.of_run has (omega arith) j out in
       let r = records j out in omega arith
 
-  -- at each moment of the cut each image is a trail with the same newest
-  pub cut_trail : (c : Files) → IsCutTo lengths count old c → IsTrailOf course (Some chk.iteration) c
-  cut_trail c cut = record {
-    trail = λ slot n lt head.
-        let back = sym (ap header_of (cut.slots slot lt)) ∙ head in
-        let t = trails cut.image cut.was slot n lt back in (
-          of_run_at (cut.image slot) (c slot) (cut.slots slot lt) t.0,
-          λ j out.
-              cut_far (length_in t.0.checkpoint j) (slice_index lengths j) (text_of course j) (cut.image (file_of_output j)) (c (file_of_output j)) (cut.outputs j (omega arith))
-              (no_longer (cut.image slot) slot n lt (settled slot lt cut.image cut.was) back t.0 j out) (t.1 j out),
-        );
-    newest_is = newest_same old.seen c (λ s lt. cut.slots s lt ∙ settled s lt cut.image cut.was) (Some chk.iteration) newest;
-  }
+  -- at each moment of the cut each image is a trail
+  pub cut_trail : (c : Files) → IsCutTo lengths count old c → IsTrail course c
+  cut_trail c cut slot n lt head =
+      let back = sym (ap header_of (cut.slots slot lt)) ∙ head in
+      let t = trails cut.image cut.was slot n lt back in (
+        of_run_at (cut.image slot) (c slot) (cut.slots slot lt) t.0,
+        λ j out.
+            cut_far (length_in t.0.checkpoint j) (slice_index lengths j) (text_of course j) (cut.image (file_of_output j)) (c (file_of_output j)) (cut.outputs j (omega arith))
+            (no_longer (cut.image slot) slot n lt (settled slot lt cut.image cut.was) back t.0 j out) (t.1 j out),
+      )
 
   -- and after it the keeper's fact holds
   pub cut_stands : (new : View) (next : Option Checkpoint) → OutputsReach course chk old.seen → IfSome next (λ d. (j : ℕ) → j < length course.outputs → length_in chk j ≤ length_in d j)
@@ -116,7 +113,7 @@ cut_moments course monotone chk old mid new counts trails quiet settled sound re
       was = from.1;
       slots = λ s lt. cut.slots s lt ∙ from.2 s;
       shorter = λ j out. let e = ap length (from.2 (file_of_output j)) in let le = cut_shorter (slice_index chk.lengths j) (cut.image (file_of_output j)) (c (file_of_output j)) (cut.outputs j (omega arith)) in omega arith;
-      trail = (cut_trail course monotone chk r.of_run chk.lengths (length chk.lengths) counts (λ j out. refl) mid sound (trails_quiet course old mid trails quiet) settled r.newest c cut).trail;
+      trail = cut_trail course monotone chk r.of_run chk.lengths (length chk.lengths) counts (λ j out. refl) mid sound (trails_quiet course old mid trails quiet) settled r.newest c cut;
     })
 
 -- what the cut leaves, of whatever the outputs held

@@ -62,9 +62,9 @@ pub record KeepsRest (old new : View) : Type 0 where
   pub output : KeepsOutput old.seen new.seen
   pub slots : SlotsSettled old → SlotsSettled new
 
--- at each moment each image is a trail with the newest that was
+-- at each moment each image is a trail with the newest that was, and not past the next checkpoint
 abbrev pub AppendMoments : List ℕ → View → View → Type 0
-AppendMoments bytes old new = (course : Course) (newest : Option ℕ) (next : Option Checkpoint) → CanAppend course newest next bytes old → LeavesOnly old new (IsTrailOf course newest)
+AppendMoments bytes old new = (course : Course) (newest : Option ℕ) (next : Option Checkpoint) → CanAppend course newest next bytes old → LeavesOnly old new (IsTrailOf course newest next)
 
 -- ---- a checkpoint
 
@@ -77,6 +77,6 @@ pub record CanSave (course : Course) (newest : Option ℕ) (next : Option Checkp
 abbrev pub SaveStands : Checkpoint → View → View → Type 0
 SaveStands c old new = (course : Course) (newest : Option ℕ) (next later : Option Checkpoint) → CanSave course newest next c old → IsLater course (Some c) later → Stands course (Some c.iteration) later new
 
--- at each moment each image is a trail with the newest that was, or with this one
+-- at each moment each image is a trail with the newest that was, or with this one, and not past the next checkpoint
 abbrev pub SaveMoments : Checkpoint → View → View → Type 0
-SaveMoments c old new = (course : Course) (newest : Option ℕ) (next : Option Checkpoint) → CanSave course newest next c old → LeavesOnly old new (λ f. IsTrailOf course newest f ⊎ IsTrailOf course (Some c.iteration) f)
+SaveMoments c old new = (course : Course) (newest : Option ℕ) (next : Option Checkpoint) → CanSave course newest next c old → LeavesOnly old new (λ f. IsTrailOf course newest next f ⊎ IsTrailOf course (Some c.iteration) next f)

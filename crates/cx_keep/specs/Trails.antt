@@ -65,10 +65,15 @@ pub record Stands (course : Course) (newest : Option ℕ) (next : Option Checkpo
   pub fronts : (j : ℕ) → j < length course.outputs → IsFrontOf (text_of course j) (v.seen (file_of_output j))
   pub within : IfSome next (λ d. (c : Files) (j : ℕ) → v.images c → j < length course.outputs → length (c (file_of_output j)) ≤ length_in d j)
 
--- an image at a moment in a call: a trail with this newest
-pub record IsTrailOf (course : Course) (newest : Option ℕ) (c : Files) : Type 0 where
+-- no output goes past the next checkpoint
+abbrev pub AreWithin : Course → Option Checkpoint → Files → Type 0
+AreWithin course next c = IfSome next (λ d. (j : ℕ) → j < length course.outputs → length (c (file_of_output j)) ≤ length_in d j)
+
+-- an image at a moment in a call: a trail with this newest, and with no output past the next checkpoint
+pub record IsTrailOf (course : Course) (newest : Option ℕ) (next : Option Checkpoint) (c : Files) : Type 0 where
   pub trail : IsTrail course c
   pub newest_is : NewestIs c newest
+  pub within : AreWithin course next c
 
 -- a piece is what comes next in an output's text, and not past the next checkpoint
 pub record IsNextPiece (course : Course) (next : Option Checkpoint) (j : ℕ) (piece : List ℕ) (file : List ℕ) : Type 0 where

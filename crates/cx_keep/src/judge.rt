@@ -1,10 +1,10 @@
 //! The tests of what the newest slot holds.
-ghost use Rattle.std.specs.Prelude.{◌≡◌, ◌<◌, ◌≤◌, ◌+◌, Some, length, bytes_eq, IsTrue, IfOk};
+ghost use Rattle.std.specs.Prelude.{◌≡◌, ◌<◌, ◌≤◌, ◌+◌, true, Some, length, bytes_eq, IsTrue, IfOk};
 ghost use Rattle.cx_disk.specs.Cause.{HasCause};
 ghost use Rattle.cx_disk.specs.Moments.{IsQuiet};
 ghost use Rattle.cx_plan.specs.Whole.{IsWhole};
 ghost use Rattle.cx_chk.specs.Slots.{slot_count};
-ghost use Rattle.cx_keep.specs.Fits.{output_count};
+ghost use Rattle.cx_keep.specs.Fits.{output_count, fits_job};
 ghost use Rattle.cx_keep.specs.Tests.{Answers, tested, or_short, short_in, short_from};
 
 use crate::fault::BeginFault;
@@ -96,6 +96,8 @@ pub fn judge<D: Disk>(
     requires whole { IsWhole job.now }
     ensures tests { D.tells → Answers (λ c. c) result
         (tested job.now (D.view disk.old).seen slot) }
+    ensures key { IfOk result (λ c. c.key ≡ job.now.key) }
+    ensures fits { IfOk result (λ c. fits_job job.now c ≡ true) }
     ensures one { IfOk result (λ c. length c.lengths ≡ output_count) }
     ensures quiet { D.tells → IsQuiet (D.view disk.old) (D.view disk.new) }
     ensures mounted { IsTrue (D.mounted disk.new) }

@@ -1,11 +1,12 @@
 //! The keeper of a run's output and checkpoints.
-ghost use Rattle.std.specs.Prelude.{◌≡◌, ◌≤◌, ◌+◌, ◌^◌, length, IsTrue, OnOk, OnErr, IfOk, IfErr, vec_len};
+ghost use Rattle.std.specs.Prelude.{◌≡◌, ◌≤◌, ◌+◌, ◌^◌, true, length, IsTrue, OnOk, OnErr, IfOk, IfErr, IfSome, vec_len};
 ghost use Rattle.cx_disk.specs.Disk.{IsNamed};
 ghost use Rattle.cx_disk.specs.Cause.{HasCause};
 ghost use Rattle.cx_disk.specs.Moments.{IsQuiet};
 ghost use Rattle.cx_plan.specs.Whole.{IsWhole};
 ghost use Rattle.cx_chk.specs.Encoding.{IsCheckpoint};
 ghost use Rattle.cx_chk.specs.Slots.{SlotsSettled, OutputsSame, IsSaving, IsSaved};
+ghost use Rattle.cx_keep.specs.Fits.{fits_job};
 ghost use Rattle.cx_keep.specs.Tests.{Answers, begun};
 ghost use Rattle.cx_keep.specs.Trails.{Counts, OutputsSettled};
 ghost use Rattle.cx_keep.specs.Beginning.{HasLengths, LeavesAsIs, IsStarted, StartMoments, lengths_left};
@@ -87,6 +88,8 @@ impl Keep {
             (λ r. IsStarted job.now.recover r.1 (D.view disk.old) (D.view disk.new)) }
         ensures moments { D.tells →
             StartMoments job.now.recover (D.view disk.old) (D.view disk.new) }
+        ensures key { IfOk result (λ r. IfSome r.1 (λ c. c.key ≡ job.now.key)) }
+        ensures fits { IfOk result (λ r. IfSome r.1 (λ c. fits_job job.now c ≡ true)) }
         ensures keeper { IfOk result (λ r. (r.0 ≡ keeper_of job.now r.1) × HasLengths r.1) }
         ensures mounted { IsTrue (D.mounted disk.new) }
         ensures folders { D.folders disk.new ≡ D.folders disk.old }
@@ -103,7 +106,8 @@ impl Keep {
     }
 
     /// Begins a run: mounts the disk with the job's folders, tests its files, settles them, and cuts the output. The run goes on
-    /// from the checkpoint of the answer, whose recorded length the output then has, or with none from an empty output.
+    /// from the checkpoint of the answer, whose recorded length the output then has, or with none from an empty output. On any
+    /// disk, a checkpoint that is answered has the job's key and fits the job.
     ///
     /// The newest slot is the open one of the greatest iteration, of equal ones the first. With `Recover::No` all slots are
     /// closed and none is tested. A start that is refused by one of the tests, which are made in this order, changes no byte.
@@ -126,6 +130,8 @@ impl Keep {
             (λ r. IsStarted job.now.recover r.1 (D.view disk.old) (D.view disk.new)) }
         ensures moments { D.tells →
             StartMoments job.now.recover (D.view disk.old) (D.view disk.new) }
+        ensures key { IfOk result (λ r. IfSome r.1 (λ c. c.key ≡ job.now.key)) }
+        ensures fits { IfOk result (λ r. IfSome r.1 (λ c. fits_job job.now c ≡ true)) }
         ensures keeper { IfOk result (λ r. (r.0 ≡ keeper_of job.now r.1) × HasLengths r.1) }
         ensures mounted { OnOk result (IsTrue (D.mounted disk.new)) }
         ensures folders { OnOk result

@@ -1,10 +1,10 @@
 //! The start of a run on a mounted disk: the tests, and then the slots settled and the output cut.
-ghost use Rattle.std.specs.Prelude.{◌≡◌, ◌≢◌, ◌<◌, Some, None, length, IsTrue, OnOk, IfOk, IfErr, IfSome};
+ghost use Rattle.std.specs.Prelude.{◌≡◌, ◌≢◌, ◌<◌, true, Some, None, length, IsTrue, OnOk, IfOk, IfErr, IfSome};
 ghost use Rattle.cx_disk.specs.Cause.{HasCause};
 ghost use Rattle.cx_plan.specs.Whole.{IsWhole};
 ghost use Rattle.cx_plan.specs.declared.job.Recover.TheVariants as recovers;
 ghost use Rattle.cx_chk.specs.Slots.{slot_count, newest_below};
-ghost use Rattle.cx_keep.specs.Fits.{output_count};
+ghost use Rattle.cx_keep.specs.Fits.{output_count, fits_job};
 ghost use Rattle.cx_keep.specs.Tests.{Answers, tested, begun};
 ghost use Rattle.cx_keep.specs.Beginning.{HasLengths, LeavesAsIs, IsStarted, StartMoments};
 
@@ -72,6 +72,8 @@ fn go_on<D: Disk>(
         (λ c. IsStarted recovers.Autoprobe (Some c) (D.view disk.old) (D.view disk.new)) }
     ensures moments { D.tells →
         StartMoments recovers.Autoprobe (D.view disk.old) (D.view disk.new) }
+    ensures key { IfOk result (λ c. c.key ≡ job.now.key) }
+    ensures fits { IfOk result (λ c. fits_job job.now c ≡ true) }
     ensures one { IfOk result (λ c. length c.lengths ≡ output_count) }
     ensures mounted { IsTrue (D.mounted disk.new) }
     ensures folders { D.folders disk.new ≡ D.folders disk.old }
@@ -95,6 +97,8 @@ fn with_none<D: Disk>(disk: &mut D, job: &Job) -> Result<Option<Checkpoint>, Beg
         (λ found. IsStarted job.now.recover found (D.view disk.old) (D.view disk.new)) }
     ensures moments { D.tells →
         StartMoments job.now.recover (D.view disk.old) (D.view disk.new) }
+    ensures key { IfOk result (λ found. IfSome found (λ c. c.key ≡ job.now.key)) }
+    ensures fits { IfOk result (λ found. IfSome found (λ c. fits_job job.now c ≡ true)) }
     ensures one { IfOk result HasLengths }
     ensures mounted { IsTrue (D.mounted disk.new) }
     ensures folders { D.folders disk.new ≡ D.folders disk.old }
@@ -129,6 +133,8 @@ fn with_newest<D: Disk>(
         (λ found. IsStarted job.now.recover found (D.view disk.old) (D.view disk.new)) }
     ensures moments { D.tells →
         StartMoments job.now.recover (D.view disk.old) (D.view disk.new) }
+    ensures key { IfOk result (λ found. IfSome found (λ c. c.key ≡ job.now.key)) }
+    ensures fits { IfOk result (λ found. IfSome found (λ c. fits_job job.now c ≡ true)) }
     ensures one { IfOk result HasLengths }
     ensures mounted { IsTrue (D.mounted disk.new) }
     ensures folders { D.folders disk.new ≡ D.folders disk.old }
@@ -158,6 +164,8 @@ fn with_slot<D: Disk>(
         (λ found. IsStarted job.now.recover found (D.view disk.old) (D.view disk.new)) }
     ensures moments { D.tells →
         StartMoments job.now.recover (D.view disk.old) (D.view disk.new) }
+    ensures key { IfOk result (λ found. IfSome found (λ c. c.key ≡ job.now.key)) }
+    ensures fits { IfOk result (λ found. IfSome found (λ c. fits_job job.now c ≡ true)) }
     ensures one { IfOk result HasLengths }
     ensures mounted { IsTrue (D.mounted disk.new) }
     ensures folders { D.folders disk.new ≡ D.folders disk.old }
@@ -186,6 +194,8 @@ fn with_kept<D: Disk>(
         (λ found. IsStarted job.now.recover found (D.view disk.old) (D.view disk.new)) }
     ensures moments { D.tells →
         StartMoments job.now.recover (D.view disk.old) (D.view disk.new) }
+    ensures key { IfOk result (λ found. IfSome found (λ c. c.key ≡ job.now.key)) }
+    ensures fits { IfOk result (λ found. IfSome found (λ c. fits_job job.now c ≡ true)) }
     ensures one { IfOk result HasLengths }
     ensures mounted { IsTrue (D.mounted disk.new) }
     ensures folders { D.folders disk.new ≡ D.folders disk.old }
@@ -211,6 +221,8 @@ pub fn start<D: Disk>(
         (λ found. IsStarted job.now.recover found (D.view disk.old) (D.view disk.new)) }
     ensures moments { D.tells →
         StartMoments job.now.recover (D.view disk.old) (D.view disk.new) }
+    ensures key { IfOk result (λ found. IfSome found (λ c. c.key ≡ job.now.key)) }
+    ensures fits { IfOk result (λ found. IfSome found (λ c. fits_job job.now c ≡ true)) }
     ensures one { IfOk result HasLengths }
     ensures mounted { IsTrue (D.mounted disk.new) }
     ensures folders { D.folders disk.new ≡ D.folders disk.old }
