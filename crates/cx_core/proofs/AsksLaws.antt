@@ -64,16 +64,20 @@ module _ {tells : Type 0} {r : Run} {first : Counts} {old : Cores} {queue : ℕ 
     fronts i e =
         let n = names (op.Join i) e in
         let c = s.at.shows.senders in
+        let kind = front_kind s i e 0 (let l = s.part in omega (arith, l)) ∙ ap (λ (x : Setup). (item x i).kind) setup in
         record {
           there = n.0.0;
-          reduction = reduction_is (item (setup_of job) i).kind n.1;
-          senders = c ∙ sym count_is;
-          ready = λ a l. dropped_some (get_or old.given.taken k 0) (get_or old.given.given a []) (some_front s i e a (omega (arith, c, l)));
-          kinds = λ a l. front_kind s i e a (let q = count_is in omega (arith, q, l)) ∙ ap (λ (x : Setup). (item x i).kind) setup;
-          few = subst (λ n. n ≤ 2 ^ 24)
-              (sym (sum_same (part_count old.pace.cut) (λ a. (front old.given a k).points) (λ a. point_count (owned old.pace.cut a))
-              (λ a l. front_count s i e a (let q = count_is in omega (arith, q, l)) ∙ ap (λ c. point_count (owned c a)) (sym cut_is))))
-              (owned_few old.pace.cut whole.whole);
+          kind = kind;
+          fronts = record {
+            senders = c ∙ sym count_is;
+            ready = λ a l. dropped_some (get_or old.given.taken k 0) (get_or old.given.given a []) (some_front s i e a (omega (arith, c, l)));
+            reduction = subst IsReduction (sym kind) (reduction_is (item (setup_of job) i).kind n.1);
+            kinds = λ a l. front_kind s i e a (let q = count_is in omega (arith, q, l)) ∙ ap (λ (x : Setup). (item x i).kind) setup ∙ sym kind;
+            few = subst (λ n. n ≤ 2 ^ 24)
+                (sym (sum_same (part_count old.pace.cut) (λ a. (front old.given a k).points) (λ a. point_count (owned old.pace.cut a))
+                (λ a l. front_count s i e a (let q = count_is in omega (arith, q, l)) ∙ ap (λ c. point_count (owned c a)) (sym cut_is))))
+                (owned_few old.pace.cut whole.whole);
+          };
         }
 
     pub asks : (o : Op) → next s ≡ o → Asks job old.pace.cut k o holding

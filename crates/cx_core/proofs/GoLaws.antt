@@ -1,5 +1,5 @@
 -- The next operation of a part, done on a core.
-use Rattle.std.proofs.Common.{◌≡◌, ℕ, ◌<◌, ◌≤◌, ◌%◌, ◌^◌, Bool, true, ℤ, List, set, length, Option, Some, None, refl, sym, ap, ◌∙◌, subst, arith}
+use Rattle.std.proofs.Common.{◌≡◌, ℕ, ◌<◌, ◌≤◌, ◌%◌, ◌^◌, inl, inr, Bool, true, ℤ, List, set, length, Option, Some, None, refl, sym, ap, ◌∙◌, subst, arith}
 use Rattle.std.specs.Prelude.{slice_get, IsTrue, IsErrOf, OnOk, Result, Ok, Err}
 use Rattle.cx_plan.specs.declared.job.Job.{Job}
 use Rattle.cx_plan.specs.declared.variable.VarId.{VarId}
@@ -31,10 +31,11 @@ use Rattle.cx_pace.specs.Events.{can_go}
 use Rattle.cx_pace.specs.Steps.{moved_on, met_by}
 use Rattle.cx_core.specs.declared.answers.Outcome.{Outcome}
 use Rattle.cx_core.specs.Cores.{Cores}
-use Rattle.cx_core.specs.Moving.{Holdings, Operates, CanOperate, MoveLaws, followed}
+use Rattle.cx_core.specs.Moving.{Holdings, Operates, CanOperate, MoveLaws, MovesOn, followed}
 use Rattle.cx_core.specs.Starts.{IsReady}
 use Rattle.cx_core.specs.Steps.{Counts, IsAt}
 use Rattle.cx_core.proofs.MovedStates.{Ready, world, oracle, its, next}
+use Rattle.cx_core.proofs.KeptKeys.{key_stays}
 use Rattle.cx_core.proofs.AsksLaws.{can_operate}
 use Rattle.cx_core.proofs.Operated.{operated_goes, operated_meets}
 
@@ -196,18 +197,37 @@ module _ (job : Job) (rules : List Rule) (ready : IsReady job) (laws : MoveLaws 
 
       pub follows : (met : Option Outcome) → Said met → new ≡ followed (setup_of job) mid k (scalar_of was.numbers) met
           → (to : IsAt (IsTrue told) (run_of job rules b) first new after later) × After (net (IsTrue told) within_lead (run_of job rules b) at.oracle) at.world (Part k) to.world
+          × MovesOn (run_of job rules b).setup k old new
       follows None h e =
           let all = e ∙ ap (λ (m : Cores). followed (setup_of job) m k (scalar_of was.numbers) None) mid_is in
-          goes_on was is here new after later (ap (λ (n : Cores). n.patches) all) (ap (λ (n : Cores). n.length) all) (ap (λ (n : Cores). n.outcome) all)
+          let there = goes_on was is here new after later (ap (λ (n : Cores). n.patches) all) (ap (λ (n : Cores). n.length) all) (ap (λ (n : Cores). n.outcome) all)
           (ap (λ (n : Cores). n.pace) all) (ap (λ (n : Cores). n.met) all)
           (subst (λ (n : Cores). Operates (run_of job rules b) k (part_of old.pace k).place (part_of old.pace k).count (op_of old.pace k) was_holding (record { patch = is; given = n.given; buffers = n.buffers; queue = after; now = later }) None)
-          (sym all) (said None h))
+          (sym all) (said None h)) in (
+            there.0,
+            there.1,
+            record {
+              pace = inl (scalar_of was.numbers, ap (λ (n : Cores). n.pace) all ∙ ap (λ x. moved_on x old.pace k (scalar_of was.numbers)) (sym run_of_job.setup));
+              key = ap (λ (n : Cores). n.buffers.state.key) all ∙ key_stays (run_of job rules b) k (part_of old.pace k).place (part_of old.pace k).count (op_of old.pace k) was_holding is_holding None (said None h);
+              length = ap (λ (n : Cores). n.length) all;
+              outcome = ap (λ (n : Cores). n.outcome) all;
+            },
+          )
       follows (Some m) h e =
           let all = e ∙ ap (λ (q : Cores). followed (setup_of job) q k (scalar_of was.numbers) (Some m)) mid_is in
-          meets was is here new after later (ap (λ (n : Cores). n.patches) all) (ap (λ (n : Cores). n.length) all) (ap (λ (n : Cores). n.outcome) all)
+          let there = meets was is here new after later (ap (λ (n : Cores). n.patches) all) (ap (λ (n : Cores). n.length) all) (ap (λ (n : Cores). n.outcome) all)
           m (ap (λ (n : Cores). n.pace) all) (ap (λ (n : Cores). n.met) all)
           (subst (λ (n : Cores). Operates (run_of job rules b) k (part_of old.pace k).place (part_of old.pace k).count (op_of old.pace k) was_holding (record { patch = is; given = n.given; buffers = n.buffers; queue = after; now = later }) (Some m))
-          (sym all) (said (Some m) h))
+          (sym all) (said (Some m) h)) in (
+            there.0,
+            there.1,
+            record {
+              pace = inr (ap (λ (n : Cores). n.pace) all);
+              key = ap (λ (n : Cores). n.buffers.state.key) all ∙ key_stays (run_of job rules b) k (part_of old.pace k).place (part_of old.pace k).count (op_of old.pace k) was_holding is_holding (Some m) (said (Some m) h);
+              length = ap (λ (n : Cores). n.length) all;
+              outcome = ap (λ (n : Cores). n.outcome) all;
+            },
+          )
 
 -- what follows at Ok
 pub on_ok : {T E A B : Type 0} (r : Result T E) → OnOk r A → (A → B) → OnOk r B

@@ -23,5 +23,9 @@ pub mod PieceMoves
 pub mod Operated
 pub mod FrontNumbers
 pub mod AsksLaws
+pub mod RankLaws
+pub mod PlaceRanks
+pub mod LeftLaws
+pub mod KeptKeys
 pub mod GoLaws
 pub mod OperateLaws

@@ -1,6 +1,7 @@
 -- Which event a step does, and how many can happen.
-use Rattle.std.proofs.Common.{◌≡◌, ℕ, zero, suc, ◌<◌, ◌⊎◌, inl, inr, true, List, [], ◌∷◌, length, get_or, slice_get, All, Option, Some, None, arith, refl, sym, ◌∙◌, subst}
+use Rattle.std.proofs.Common.{◌≡◌, ℕ, zero, suc, ◌<◌, ◌⊎◌, inl, inr, true, List, [], ◌∷◌, length, get_or, slice_get, All, ℤ, Option, Some, None, arith, refl, sym, ◌∙◌, subst}
 use Rattle.std.proofs.lemmas.Bool.{cases_eq}
+use Rattle.cx_plan.specs.declared.variable.VarId.{VarId}
 use Rattle.cx_model.specs.declared.ends.End.{End}
 use Rattle.cx_model.specs.declared.ends.End.TheVariants as ends
 use Rattle.cx_model.specs.Traces.{Trace}
@@ -8,7 +9,10 @@ use Rattle.cx_network.specs.Machine.{Can, CanMove}
 use Rattle.cx_network.specs.Machine as network
 use Rattle.cx_wire.specs.Messages.{Sent as SentMail}
 use Rattle.cx_pace.specs.declared.standing.Next.TheVariants as next
+use Rattle.cx_pace.specs.Paces.{Paces, part_of}
 use Rattle.cx_pace.specs.Events.{can_go, events}
+use Rattle.cx_pace.specs.Steps.{moved_on, met_by}
+use Rattle.cx_way.specs.Steps.{IsReached}
 use Rattle.cx_parts.specs.Nets.{net, within_lead}
 use Rattle.cx_parts.specs.Runs.{Run, last_of}
 use Rattle.cx_core.specs.declared.answers.Event.TheVariants as event
@@ -16,9 +20,11 @@ use Rattle.cx_core.specs.declared.answers.Outcome.TheVariants as out
 use Rattle.cx_core.specs.Cores.{Cores, outcome_of}
 use Rattle.cx_core.specs.Hands.{StepsTo}
 use Rattle.cx_core.specs.Laws.{RunLaws}
-use Rattle.cx_core.specs.Moving.{PartGoes}
+use Rattle.cx_core.specs.Left.{steps_left}
+use Rattle.cx_core.specs.Moving.{PartGoes, MovesOn}
 use Rattle.cx_core.specs.Shows.{OverAs}
 use Rattle.cx_core.specs.Steps.{Counts, IsAt, AreEnabled}
+use Rattle.cx_core.proofs.LeftLaws.{less_moved, less_met}
 use Rattle.cx_core.proofs.EventLaws.{event_of, get_map, how_many}
 use Rattle.cx_core.proofs.WriterLaws.{told, goes, place, event_list, enabled_are}
 
@@ -64,6 +70,21 @@ module _ (tells : Type 0) (r : Run) (trace : Trace) (laws : RunLaws tells r trac
     pub below : j < length core.pace.parts
     below = omega (arith, can_move.part, at.shows.pace.count)
 
+    reached : (i : ℕ) → i < length core.pace.parts → IsReached r.setup (part_of core.pace i).place
+    reached i l = (told tells r trace laws first core queue now at).reached i (omega (arith, l, at.shows.pace.count))
+
+    -- it leaves less to do
+    part_less : (new : Cores) → MovesOn r.setup j core new → steps_left r.setup new.pace < steps_left r.setup core.pace
+    part_less new moves = go moves.pace
+      where
+        go : ((s : VarId → ℤ) × (new.pace ≡ moved_on r.setup core.pace j s)) ⊎ (new.pace ≡ met_by core.pace j) → steps_left r.setup new.pace < steps_left r.setup core.pace
+        go (inl h) =
+            subst (λ (p : Paces). steps_left r.setup p < steps_left r.setup core.pace) (sym h.1)
+            (less_moved r.setup laws.ways laws.places core.pace at.shows.pace.ops reached j below goes_now h.0)
+        go (inr h) =
+            subst (λ (p : Paces). steps_left r.setup p < steps_left r.setup core.pace) (sym h)
+            (less_met r.setup laws.ways laws.places core.pace at.shows.pace.ops reached j below goes_now)
+
     -- the operation of a part
     pub part_step : (new : Cores) (after : ℕ → ℕ → List (SentMail tells)) (later : Counts) → PartGoes tells r first j core new queue after now later
         → StepsTo tells r trace first k (record { core = core; queue = queue; now = now }) (record { core = new; queue = after; now = later }) at (event.Part j)
@@ -80,7 +101,9 @@ module _ (tells : Type 0) (r : Run) (trace : Trace) (laws : RunLaws tells r trac
             answers = refl;
           };
           falls = (goes tells r trace laws first core queue now at).falls (network.Part j) to.0.world can_move to.1;
-          leaves = tt;
+          less = part_less new to.2;
+          leaves = (to.2.length, to.2.outcome);
+          key = to.2.key;
           hands = λ t. (laws.works t at.oracle at.world at.reached).part j to.0.world can_move to.1;
         }
 

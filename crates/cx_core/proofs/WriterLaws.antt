@@ -50,6 +50,7 @@ use Rattle.cx_core.specs.Steps.{Counts, Standing as Place, IsAt, AreEnabled, Ans
 use Rattle.cx_core.specs.Writes.{length_behind, text_written, limit_met, state_written, ended_by, run_ended}
 use Rattle.cx_core.proofs.EventLaws.{event_of, get_map, work_place, are_enabled}
 use Rattle.cx_core.proofs.FrontLaws.{Front, front, zip_weaker, holds_front, holds_on, less_of}
+use Rattle.cx_core.proofs.LeftLaws.{less_written, less_over}
 use Rattle.cx_core.proofs.HandLaws.{text_entry, piece_is, works_are, outcome_is}
 use Rattle.cx_core.proofs.PieceLaws.{writes_on, writes_full}
 
@@ -135,6 +136,10 @@ in_front_by false false true e = absurd (end_write (some_is next.End next.Write 
     end_write : next.End ≡ next.Write → ⊥
     end_write h = cc
 in_front_by false false false e = absurd (none_some next.Write e)
+
+not_over : (over in_front at_end : Bool) (x : PaceEvent) → writer_by over in_front at_end ≡ Some x → over ≡ false
+not_over true i a x e = absurd (none_some x e)
+not_over false i a x e = refl
 
 -- ---- ends
 
@@ -272,9 +277,10 @@ module _ (tells : Type 0) (r : Run) (trace : Trace) (laws : RunLaws tells r trac
         pub goes_on : (e : Event) → WritesAt tells r (next_op r (guided r o n).control) (guided r o n).control.iteration (fronts w) w.book (Some book)
             → e ≡ work_event (next_op r (guided r o n).control) (guided r o n).control.iteration
             → Leaves r.setup core behind e
+            → buffers.state.key ≡ core.buffers.state.key
             → (tells → HandsOut r trace behind (handed_out r w) (handed_out r (wrote_at w n book)) e)
             → StepsTo tells r trace first k was (record { core = behind; queue = queue; now = now }) at e
-        goes_on e writes answers leaves hands =
+        goes_on e writes answers leaves key hands =
             let kept = keeps.wrote n book nx writes in
             record {
               there = record { world = wrote_at w n book; oracle = o; reached = kept.0; shows = wrote_shows kept.1; points = at.points; values = at.values; sum = at.sum };
@@ -287,7 +293,9 @@ module _ (tells : Type 0) (r : Run) (trace : Trace) (laws : RunLaws tells r trac
                 answers = subst (λ x. AnswersWork r o n x e) (sym nx.going) answers;
               };
               falls = goes.falls (network.Write n) (wrote_at w n book) nx (inl (book, writes, refl));
+              less = less_written r.setup core.pace work first_work;
               leaves = leaves;
+              key = key;
               hands = hands;
             }
 
@@ -326,6 +334,7 @@ module _ (tells : Type 0) (r : Run) (trace : Trace) (laws : RunLaws tells r trac
             goes_on core.buffers (length_behind r.setup v i core) v (λ j var state h. h) shows.room (event.Section v i) writes
             (ap (event.Section v) piece.at ∙ sym (ap (λ p. work_event p (guided r o n).control.iteration) piece.op))
             (refl, l, has_piece)
+            refl
             hands
           where
             writes : WritesAt tells r (next_op r (guided r o n).control) (guided r o n).control.iteration (fronts w) w.book (Some (length_behind r.setup v i core))
@@ -345,6 +354,7 @@ module _ (tells : Type 0) (r : Run) (trace : Trace) (laws : RunLaws tells r trac
               (undivided r n).state,
               added core.buffers (length_behind r.setup v i core) v (λ j var state h. h) shows.room t writes ∙ ap (λ (es : List Entry). handed_out r w ++ es) (entry t),
               piece_is tells t r trace laws n (fronts w) (makes t) core.buffers v (op_is t (Piece v) piece.op) has_piece (held_piece t),
+              refl,
             )
 
         module _ (l : greatest_output < length_behind r.setup v i core) where
@@ -386,7 +396,9 @@ module _ (tells : Type 0) (r : Run) (trace : Trace) (laws : RunLaws tells r trac
               answers = refl;
             };
             falls = goes.falls (network.Write n) (over_at w n) nx (inr (writes, refl));
+            less = less_over r.setup core.pace (not_over core.pace.over (all_in core.pace) (all_stand core.pace) next.Write is_write);
             leaves = inr (v, i, refl, l);
+            key = refl;
             hands = λ t. (
               (laws.works t o w at.reached).over n (network.Write n) (over_at w n) nx (inr (writes, refl)) refl,
               works_are tells t r trace laws first limit_place limit_at n refl,
@@ -421,6 +433,7 @@ module _ (tells : Type 0) (r : Run) (trace : Trace) (laws : RunLaws tells r trac
             goes_on named core.length core.section on_named room_named (event.Save i) writes
             (ap event.Save saves.1 ∙ sym (ap (λ p. work_event p (guided r o n).control.iteration) saves.0))
             (refl, room_named.state)
+            refl
             hands
           where
             writes : WritesAt tells r (next_op r (guided r o n).control) (guided r o n).control.iteration (fronts w) w.book (Some core.length)
@@ -493,7 +506,9 @@ module _ (tells : Type 0) (r : Run) (trace : Trace) (laws : RunLaws tells r trac
         answers = refl;
       };
       falls = goes.falls network.End (over_at w (end_of N w)) can refl;
+      less = less_over r.setup core.pace (not_over core.pace.over (all_in core.pace) (all_stand core.pace) next.End is_end);
       leaves = inl refl;
+      key = refl;
       hands = λ t. (
         (laws.works t o w at.reached).over (end_of N w) network.End (over_at w (end_of N w)) can refl refl,
         works_are tells t r trace laws first end_place end_at (end_of N w) refl,

@@ -25,6 +25,8 @@ use Rattle.cx_core.specs.declared.answers.Outcome.TheVariants.{Going, Done}
 use Rattle.cx_core.specs.Cores.{Cores, outcome_of, enabled_in}
 use Rattle.cx_core.specs.Writes.{length_behind, text_written, state_written, limit_met, run_ended}
 use Rattle.cx_core.specs.Steps.{Counts, Standing, IsAt, AreEnabled, DoesEvent}
+use Rattle.cx_core.specs.Left.{steps_left}
+use Rattle.cx_core.specs.Texts.{text_of_piece}
 
 -- a variable's whole current level, or a scalar's number
 abbrev pub whole_piece : Setup → VarId → State → List ℤ
@@ -47,6 +49,7 @@ HandsOut r trace core before now (Part k) = now ≡ before
 HandsOut r trace core before now (Section v iteration) =
     (text : List ℕ) × (state : State) × (now ≡ before ++ Wrote v iteration text state ∷ [])
     × (piece_of core.buffers v ≡ whole_piece r.setup v state)
+    × (text ≡ text_of_piece r.setup iteration v (piece_of core.buffers v))
 HandsOut r trace core before now (Save iteration) =
     (state : State) × (now ≡ before ++ Saved iteration state ∷ [])
     × IsCheckpointOf r.setup core.buffers.state iteration state (r.so_far + length (output_of before))
@@ -61,10 +64,10 @@ pub record HasTotals (r : Run) (trace : Trace) (first now : Counts) : Type 0 whe
 
 -- ---- steps
 
--- What the writer's answers leave of the core, whatever its wire tells. A text or a checkpoint is there to be lent; the run is over by the
--- end that was met, or by a text with which the output would pass its limit.
+-- What an answer leaves of the core, whatever its wire tells. A part's operation leaves the output as long as it is. A text or a
+-- checkpoint is there to be lent; the run is over by the end that was met, or by a text with which the output would pass its limit.
 abbrev pub Leaves : Setup → (was is : Cores) → Event → Type 0
-Leaves setup was is (Part k) = Unit {0}
+Leaves setup was is (Part k) = (is.length ≡ was.length) × (is.outcome ≡ was.outcome)
 Leaves setup was is (Section v iteration) =
     (is ≡ text_written setup v iteration was) × (is.length ≤ greatest_output) × HasPiece setup is.buffers v
 Leaves setup was is (Save iteration) = (is ≡ state_written iteration was) × HoldsState setup is.buffers.state
@@ -72,13 +75,16 @@ Leaves setup was is End =
     (is ≡ run_ended was)
     ⊎ ((v : VarId) × (iteration : ℕ) × (is ≡ limit_met iteration was) × (greatest_output < length_behind setup v iteration was))
 
--- A step from where a core is: it does the k-th event that can happen, and leads where the core is then, with less left to do. Where
--- the wire tells what it carries, it hands out what the run does next.
+-- A step from where a core is: it does the k-th event that can happen, and leads where the core is then, with less left to do, also by
+-- where the parts stand alone. The key of the checkpoints stays. Where the wire tells what it carries, it hands out what the run does
+-- next.
 pub record StepsTo (tells : Type 0) (r : Run) (trace : Trace) (first : Counts) (k : ℕ) (was is : Standing tells) (at : IsAt tells r first was.core was.queue was.now) (event : Event) : Type 0 where
   pub there : IsAt tells r first is.core is.queue is.now
   pub does : DoesEvent tells r k at.oracle at.world there.world event
   pub falls : left (net tells within_lead r there.oracle) there.world < left (net tells within_lead r at.oracle) at.world
+  pub less : steps_left r.setup is.core.pace < steps_left r.setup was.core.pace
   pub leaves : Leaves r.setup was.core is.core event
+  pub key : is.core.buffers.state.key ≡ was.core.buffers.state.key
   pub hands : tells → HandsOut r trace is.core (handed_out r at.world) (handed_out r there.world) event
 
 -- ---- what is lent

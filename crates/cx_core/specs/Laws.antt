@@ -7,6 +7,8 @@ use Rattle.cx_model.specs.Traces.{Trace}
 use Rattle.cx_cut.specs.Cuts.{IsCut}
 use Rattle.cx_flat.specs.declared.op.Op.TheVariants.{Piece}
 use Rattle.cx_flat.specs.Code.{op_at, code}
+use Rattle.cx_flat.specs.Ways.{WaysEnd}
+use Rattle.cx_way.specs.Steps.{PlacesFit}
 use Rattle.cx_pace.specs.Shows.{PaceTells}
 use Rattle.cx_parts.specs.Laws.{StepsKeep}
 use Rattle.cx_parts.specs.Runs.{Run, cut_of, parts_in, undivided}
@@ -18,6 +20,8 @@ use Rattle.cx_reached.specs.Works.{BookIsLength, OneWay, WorksInOrder}
 pub record RunLaws (tells : Type 0) (r : Run) (trace : Trace) : Type 0 where
   pub cut : IsCut (cut_of r)
   pub some_part : 0 < parts_in r
+  pub ways : WaysEnd r.setup
+  pub places : PlacesFit r.setup
   pub states : (n : ℕ) → IsState r.setup (undivided r n).state
   -- what is written as output is a variable that the job names for it
   pub outputs : (pc : ℕ) (v : VarId) → op_at (code r.setup) pc ≡ Piece v

@@ -1,6 +1,7 @@
 pub mod Cores
 pub mod Shows
 pub mod Steps
+pub mod Left
 pub mod Hands
 pub mod Moving
 pub mod Starts

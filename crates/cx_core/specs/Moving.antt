@@ -1,5 +1,5 @@
 -- What the operation of a part does to its patch, the boards, the writer's buffers, the wire and the meter, and where it leads.
-use Rattle.std.specs.Prelude.{ℕ, zero, suc, ◌+◌, ◌<◌, ◌≤◌, ◌≡◌, ◌%◌, ◌^◌, Bool, IsTrue, ℤ, List, [], ◌∷◌, ◌++◌, length, Option, Some, None, ⊤}
+use Rattle.std.specs.Prelude.{ℕ, zero, suc, ◌+◌, ◌<◌, ◌≤◌, ◌≡◌, ◌%◌, ◌^◌, ◌⊎◌, Bool, IsTrue, ℤ, List, [], ◌∷◌, ◌++◌, length, Option, Some, None, ⊤}
 use Rattle.cx_grid.specs.Boxes.{point_count}
 use Rattle.cx_plan.specs.declared.job.Job.{Job}
 use Rattle.cx_plan.specs.declared.variable.VarId.{VarId}
@@ -165,14 +165,19 @@ Operates r k c count Halt was is met = (met ≡ None) × (is ≡ was)
 
 -- ---- what an operation asks for
 
--- a number of the item's kind waits on each board to the part, together over the points of the grid at most
-pub record HasFronts (job : Job) (cut : Parts) (k i : ℕ) (given : Given) : Type 0 where
-  pub there : i < length job.items
-  pub reduction : IsReduction (item (setup_of job) i).kind
+-- a number of one kind waits on each board to the part, together over the points of the grid at most
+pub record AreFronts (cut : Parts) (k : ℕ) (given : Given) : Type 0 where
   pub senders : length given.given ≡ part_count cut
   pub ready : IsReady given k
-  pub kinds : (a : ℕ) → a < part_count cut → (front given a k).kind ≡ (item (setup_of job) i).kind
+  pub reduction : IsReduction (front given 0 k).kind
+  pub kinds : (a : ℕ) → a < part_count cut → (front given a k).kind ≡ (front given 0 k).kind
   pub few : sum_over (part_count cut) (λ a. (front given a k).points) ≤ 2 ^ 24
+
+-- and it is that of the item
+pub record HasFronts (job : Job) (cut : Parts) (k i : ℕ) (given : Given) : Type 0 where
+  pub there : i < length job.items
+  pub kind : (front given 0 k).kind ≡ (item (setup_of job) i).kind
+  pub fronts : AreFronts cut k given
 
 abbrev pub Asks : {tells : Type 0} → Job → Parts → ℕ → Op → Holdings tells → Type 0
 Asks job cut k (Sweep i) was = i < length job.items
@@ -223,9 +228,18 @@ pub record MoveLaws (job : Job) (rules : List Rule) : Type 0 where
   pub pace : (told : Bool) (b : Beginning) → IsBeginning (setup_of job) b → PaceTells (IsTrue told) (run_of job rules b)
   pub taken : (told : Bool) (b : Beginning) → IsBeginning (setup_of job) b → TakenAddsUp (IsTrue told) (run_of job rules b)
 
+-- Where part k stands behind its operation, or that it has met an end. The key of the checkpoints, the output's length and the outcome
+-- stay.
+pub record MovesOn (setup : Setup) (k : ℕ) (old new : Cores) : Type 0 where
+  pub pace : ((scalars : VarId → ℤ) × (new.pace ≡ moved_on setup old.pace k scalars)) ⊎ (new.pace ≡ met_by old.pace k)
+  pub key : new.buffers.state.key ≡ old.buffers.state.key
+  pub length : new.length ≡ old.length
+  pub outcome : new.outcome ≡ old.outcome
+
 -- From where they are the operation of part k leads to a state that they show after it.
 abbrev pub PartGoes : (tells : Type 0) → Run → Counts → ℕ → (old new : Cores) → (queue after : ℕ → ℕ → List (SentMail tells))
     → (now later : Counts) → Type 0
 PartGoes tells r first k old new queue after now later =
     (at : IsAt tells r first old queue now)
     → (to : IsAt tells r first new after later) × After (net tells within_lead r at.oracle) at.world (Part k) to.world
+    × MovesOn r.setup k old new

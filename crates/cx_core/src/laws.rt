@@ -17,6 +17,7 @@ use cx_reached::{
     book_is_length, done_matches, each_event_keeps_way, each_state_goes_on, end_is_the_runs,
     one_way, taken_adds_up, works_in_order,
 };
+use cx_way::places_fit;
 
 /// What the laws say of each run of a job. It does nothing that shows; its clause is the law.
 pub(crate) fn run_laws(job: &Job)
@@ -27,6 +28,7 @@ pub(crate) fn run_laws(job: &Job)
 {
     flat_is_run(job);
     all_ways(job);
+    places_fit(job);
     operation_needs_met(job);
     each_event_keeps(job);
     pace_tells(job);

@@ -12,7 +12,7 @@ ghost use Rattle.cx_parts.specs.Holding.{joined};
 ghost use Rattle.cx_parts.specs.Runs.{Run, cut_of, parts_in};
 ghost use Rattle.cx_part.specs.Frames.{IsPatchFor, IsPatchOf, KeepsFrame};
 ghost use Rattle.cx_part.specs.Jobs.{IsChecked, IsOperation, IsRunOf};
-ghost use Rattle.cx_core.specs.Moving.{CanOperate, HasFronts, Joins, LoopTests, Operates, Turns, all_fronts, fault_of, holdings};
+ghost use Rattle.cx_core.specs.Moving.{AreFronts, CanOperate, HasFronts, Joins, LoopTests, Operates, Turns, all_fronts, fault_of, holdings};
 ghost use Rattle.cx_core.specs.declared.answers.CoreFault.TheVariants as faults;
 ghost use Rattle.cx_core.specs.declared.answers.Outcome.TheVariants as outcomes;
 
@@ -114,13 +114,12 @@ pub(crate) fn apply(
 }
 
 /// The number of all parts for a reduction: the front numbers of all boards to a part, joined.
-fn joined_fronts(job: &Job, cut: &Cut, boards: &Boards, item: u32, to: u32) -> Partial
-    requires fronts { HasFronts job.now cut.now to item boards.now }
+fn joined_fronts(cut: &Cut, boards: &Boards, to: u32) -> Partial
+    requires fronts { AreFronts cut.now to boards.now }
     requires part { to < part_count cut.now }
     ensures { result.number ≡ joined
-        (item_of (setup_of job.now) item).kind (all_fronts boards.now to (part_count cut.now)) }
+        (front boards.now 0 to).kind (all_fronts boards.now to (part_count cut.now)) }
 {
-    let _ = job;
     let mut number = boards.front(0, to).copy();
     'parts: for a in 1..cut.count() {
         number = join_numbers(number, boards.front(a, to).copy());
@@ -148,7 +147,7 @@ pub(crate) fn join(
         → IfOk result
         (Joins r part item iteration boards.old boards.new patch.old patch.new) }
 {
-    let number = joined_fronts(job, cut, boards, item, part);
+    let number = joined_fronts(cut, boards, part);
     match cx_part::join(job, item, patch, number) {
         Ok(()) => {
             boards.take(part);

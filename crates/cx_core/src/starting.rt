@@ -14,6 +14,7 @@ ghost use Rattle.cx_part.specs.Jobs.{IsCutOf};
 ghost use Rattle.cx_part.specs.Frames.{IsPatchOf};
 ghost use Rattle.cx_core.specs.Starts.{IsReady, CanBegin, AreEmpty, begins_in, iteration_in, length_in, ArePatches, HasFirst, filled_first};
 ghost use Rattle.cx_core.specs.Steps.{Counts, Begins};
+ghost use Rattle.cx_core.specs.declared.answers.Outcome.TheVariants as outcomes;
 
 use crate::answers::Outcome;
 use crate::laws::run_laws;
@@ -38,11 +39,14 @@ impl Core {
     pub fn start(alloc: Global, job: &Job, state: Option<&Checkpoint>) -> Result<Core, Memory>
         requires job { IsReady job.now }
         requires state { CanBegin (setup_of job.now) (option_copied state) }
-        ensures { (told : Bool) (rules : ListOf Rule) (queue : ℕ → ℕ → ListOf (Sent (IsTrue told)))
+        ensures begins { (told : Bool) (rules : ListOf Rule) (queue : ℕ → ℕ → ListOf (Sent (IsTrue told)))
             (first : Counts) → AreEmpty queue → (IsTrue told → first.sum < 2 ^ 64)
             → IfOk result (λ core. Begins (IsTrue told)
             (run_of job.now rules (begins_in (setup_of job.now) (option_copied state.entry)))
             first core queue) }
+        ensures key { IfOk result (λ core. core.buffers.state.key ≡ job.now.key) }
+        ensures length { IfOk result (λ core. core.length ≡ length_in (option_copied state.entry)) }
+        ensures going { IfOk result (λ core. core.outcome ≡ outcomes.Going) }
     {
         run_laws(job);
         let cut = cut_of(alloc, job)?;

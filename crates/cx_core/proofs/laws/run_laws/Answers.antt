@@ -1,8 +1,12 @@
+use Rattle.std.proofs.Common.{sym, subst}
+use Rattle.cx_flat.specs.Ways.{WaysEnd}
+use Rattle.cx_way.specs.Steps.{PlacesFit}
 use Rattle.cx_parts.specs.Beginnings.{run_of}
 use Rattle.cx_parts.proofs.FitLaws.{some_part}
 use Rattle.cx_parts.proofs.WholeRun.{names, true_states}
 use Rattle.cx_flat.specs.declared.op.Op.TheVariants.{Piece}
 use Rattle.cx_reached.proofs.JobRuns.{run_is}
+use Rattle.cx_core.proofs.StartLaws.{setup_same}
 use Rattle.cx_core.proofs.OutLaws.{outputs_among}
 use Rattle.cx_core.proofs.laws.run_laws.Goals as goal
 
@@ -14,6 +18,8 @@ returns c = λ told rules b begins.
     record {
       cut = run.cut;
       some_part = some_part r run;
+      ways = subst WaysEnd (sym (setup_same c.args.job.now rules b)) c.all_ways.ensures;
+      places = subst PlacesFit (sym (setup_same c.args.job.now rules b)) c.places_fit.ensures;
       states = true_states r run;
       outputs = λ pc v e. ((names r run (Piece v) pc e).0, outputs_among r.setup pc v e);
       steps = c.each_event_keeps.ensures told rules b begins;

@@ -1,6 +1,4 @@
 use Rattle.std.proofs.Common.{◌+◌, ◌≤◌, ◌^◌, ◌∙◌, sym, subst, arith}
-use Rattle.cx_plan.specs.Lookups.{item as item_of}
-use Rattle.cx_plan.specs.Setups.{setup_of}
 use Rattle.cx_cut.specs.Cuts.{part_count}
 use Rattle.cx_reduce.specs.Partials.{Reduced}
 use Rattle.cx_gather.specs.Boards.{front}
@@ -18,7 +16,7 @@ join-number-requires-clause-few c =
 pub parts-preserved : goal.parts-preserved
 parts-preserved c =
     let some = c.parts.invariant.some in
-    let kind = (item_of (setup_of c.args.job.now) c.args.item).kind in
+    let kind = (front c.args.boards.now 0 c.args.to).kind in
     record {
       some = omega (arith, some);
       kind = more_kind c.args.boards.now c.args.to c.parts.a kind c.requires.fronts.reduction some c.parts.number c.copy.result c.join-number.result

@@ -1,6 +1,4 @@
 use Rattle.std.specs.Prelude.{◌≡◌, ◌<◌}
-use Rattle.cx_plan.specs.Lookups.{item}
-use Rattle.cx_plan.specs.Setups.{setup_of}
 use Rattle.cx_gather.specs.Boards.{front}
 use Rattle.cx_parts.specs.Holding.{joined}
 use Rattle.cx_parts.specs.Work.{sum_over}
@@ -11,7 +9,7 @@ use Rattle.cx_core.proofs.operations.joined_fronts.Given as goal
 abbrev pub invariant-parts : goal.invariant-parts
 invariant-parts l = record {
   some : 0 < l.a;
-  kind : l.number.kind ≡ (item (setup_of l.job) l.item).kind;
+  kind : l.number.kind ≡ (front l.boards 0 l.to).kind;
   points : l.number.points ≡ sum_over l.a (λ b. (front l.boards b l.to).points);
-  number : l.number.number ≡ joined (item (setup_of l.job) l.item).kind (all_fronts l.boards l.to l.a);
+  number : l.number.number ≡ joined (front l.boards 0 l.to).kind (all_fronts l.boards l.to l.a);
 }

@@ -10,8 +10,8 @@ use Rattle.cx_core.specs.Starts.{begins_in}
 use Rattle.cx_core.proofs.StartLaws.{IsMade, begins_at, can_begin, is_fresh}
 use Rattle.cx_core.proofs.machine.Core.start.Goals as goal
 
-pub returns : goal.returns
-returns c = λ told rules queue first empty small.
+pub returns-clause-begins : goal.returns-clause-begins
+returns-clause-begins c = λ told rules queue first empty small.
     let job = c.args.job.now in
     let state = option_copied c.args.state in
     let b = begins_in (setup_of job) state in
