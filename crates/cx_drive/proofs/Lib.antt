@@ -1,0 +1,10 @@
+pub mod DriveLaws
+pub mod Elements
+pub mod FoundLaws
+pub mod FromLaws
+pub mod NumberLaws
+pub mod StartLaws
+pub mod StopLaws
+pub mod Works
+pub mod TurnLaws
+pub mod WholeLaws

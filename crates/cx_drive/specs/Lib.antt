@@ -1,0 +1,6 @@
+pub mod Lent
+pub mod Drives
+pub mod Faults
+pub mod Numbers
+pub mod Going
+pub mod Laws

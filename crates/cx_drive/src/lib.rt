@@ -1,0 +1,12 @@
+//! A run of a job: a source of turns drives the core, and the keeper keeps what it hands out.
+#![tactic(auto)]
+
+mod driving;
+mod event;
+mod fault;
+mod laws;
+mod numbers;
+mod turn;
+
+pub use driving::drive;
+pub use fault::DriveFault;
