@@ -1,0 +1,4 @@
+mod NumberLaws
+mod WalkLaws
+mod RecordLaws
+mod RecordSamples

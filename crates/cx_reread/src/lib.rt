@@ -1,0 +1,6 @@
+//! The output of a job's run, read back.
+#![tactic(auto)]
+
+mod reread;
+
+pub use reread::{output_spells, reread_output};
