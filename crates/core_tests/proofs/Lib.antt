@@ -1,0 +1,3 @@
+pub mod JobLaws
+pub mod RunLaws
+pub mod WireLaws

@@ -1,0 +1,113 @@
+//! Jobs from files.
+
+ghost use Rattle.std.specs.Prelude.{◌≡◌, map, IfOk};
+ghost use Rattle.cx_cut.specs.Cuts.{part_count};
+ghost use Rattle.cx_cut.specs.Faults.{parts_of};
+ghost use Rattle.cx_plan.specs.Setups.{setup_of};
+ghost use Rattle.cx_rule.specs.Jobs.{FitJob};
+ghost use Rattle.cx_wire.specs.Memory.{told_queue, bare_queue};
+ghost use Rattle.cx_core.specs.Starts.{AreEmpty, IsReady};
+
+use crate::samples::{FILES, File};
+use cx_cut::cut;
+use cx_job::{MemoryShelf, make_job};
+use cx_plan::Job;
+use cx_rule::Routine;
+use cx_text::{List, Memory, Text};
+use cx_wire::{AlteringWire, MemoryWire, NotingWire};
+use std::alloc::Global;
+use std::test::Fail;
+
+fn push_files(alloc: Global, list: &mut Vec<(Text, Text)>, files: &[File]) -> Result<(), Memory> {
+    for file in files {
+        list.push((
+            Text::from_slice(alloc, file.name)?,
+            Text::from_slice(alloc, file.bytes)?,
+        ))?;
+    }
+    Ok(())
+}
+
+/// A shelf with the parameter file `t.par`, which has more lines behind those of a file, and with other files before the samples'.
+fn shelf(alloc: Global, file: &[u8], more: &[u8], others: &[File]) -> Result<MemoryShelf, Memory> {
+    let mut text = Text::from_slice(alloc, file)?;
+    text.push_slice(more)?;
+    let mut list = Vec::new(alloc);
+    list.push((Text::from_slice(alloc, b"t.par")?, text))?;
+    push_files(alloc, &mut list, others)?;
+    push_files(alloc, &mut list, FILES)?;
+    Ok(MemoryShelf::new(List::new(list)))
+}
+
+/// More routines than any test has.
+const MOST_ROUTINES: usize = 16;
+
+/// The job of a file with more lines, and of others in place of the samples'.
+pub(crate) fn job(
+    alloc: Global,
+    file: &[u8],
+    more: &[u8],
+    others: &[File],
+    routines: &[Box<dyn Routine>],
+) -> Result<Job, Fail>
+    ensures ready { IfOk result (λ job. IsReady job) }
+    ensures fit { IfOk result (λ job. FitJob (map spec_of routines.now) (setup_of job)) }
+{
+    if routines.len() > MOST_ROUTINES {
+        return Err(Fail::new("there are more routines"));
+    }
+    let mut shelf = shelf(alloc, file, more, others)?;
+    let name = Text::from_slice(alloc, b"t.par")?;
+    match make_job(alloc, &mut shelf, &name, routines) {
+        Ok(job) => Ok(job),
+        Err(_) => Err(Fail::new("the files make no job")),
+    }
+}
+
+/// How many parts a job's grid is cut into.
+pub(crate) fn parts(alloc: Global, job: &Job) -> Result<u32, Fail>
+    requires { IsReady job.now }
+    ensures { IfOk result (λ parts. parts ≡ part_count (parts_of job.now.shape job.now.cut)) }
+{
+    match cut(alloc, &job.shape, &job.cut) {
+        Ok(cut) => Ok(cut.count()),
+        Err(_) => Err(Fail::new("the grid isn't cut")),
+    }
+}
+
+/// A wire in memory between the parts of a job.
+pub(crate) fn wire(alloc: Global, job: &Job) -> Result<MemoryWire, Fail>
+    requires { IsReady job.now }
+    ensures parts { IfOk result (λ wire.
+        wire.parts ≡ part_count (parts_of job.now.shape job.now.cut)) }
+    ensures told { IfOk result (λ wire. AreEmpty (told_queue wire)) }
+    ensures bare { IfOk result (λ wire. AreEmpty (bare_queue wire)) }
+{
+    let parts = parts(alloc, job)?;
+    let wire = MemoryWire::new(alloc, parts)?;
+    Ok(wire)
+}
+
+/// The same wire, but a value is altered on its way.
+pub(crate) fn altering(alloc: Global, job: &Job) -> Result<AlteringWire, Fail>
+    requires { IsReady job.now }
+    ensures parts { IfOk result (λ wire.
+        wire.wire.parts ≡ part_count (parts_of job.now.shape job.now.cut)) }
+    ensures bare { IfOk result (λ wire. AreEmpty (bare_queue wire.wire)) }
+{
+    let carried = wire(alloc, job)?;
+    let altering = AlteringWire::new(carried);
+    Ok(altering)
+}
+
+/// The same wire, with notes of what is sent.
+pub(crate) fn noting(alloc: Global, job: &Job) -> Result<NotingWire, Fail>
+    requires { IsReady job.now }
+    ensures parts { IfOk result (λ wire.
+        wire.wire.parts ≡ part_count (parts_of job.now.shape job.now.cut)) }
+    ensures told { IfOk result (λ wire. AreEmpty (told_queue wire.wire)) }
+{
+    let carried = wire(alloc, job)?;
+    let noting = NotingWire::new(alloc, carried);
+    Ok(noting)
+}

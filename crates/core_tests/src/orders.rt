@@ -1,0 +1,105 @@
+//! Every order of the events of two parts and the writer, one after another.
+
+ghost use Rattle.std.specs.Prelude.{map};
+ghost use Rattle.cx_plan.specs.Setups.{setup_of};
+ghost use Rattle.cx_rule.specs.Jobs.{FitJob};
+ghost use Rattle.cx_core.specs.Starts.{IsReady};
+
+use crate::jobs::{job, parts, wire};
+use crate::runs::{Came, is_empty, run};
+use crate::samples::{File, NO_EXCHANGE, ONE_EXCHANGE, TWO_CELLS, TWO_CELLS_OUTPUT};
+use crate::turns::EachOrder;
+use cx_plan::Job;
+use cx_rule::{Meter, Routine};
+use cx_thorn_ca::CaInit;
+use std::test::Fail;
+
+/// More orders than there are.
+const MOST: u64 = 20_000;
+
+/// How many orders there are, and whether each ended with the same output, the same that was counted, and empty queues.
+#[derive(Clone, Copy, Debug, PartialEq, Eq)]
+struct Orders {
+    count: u64,
+    same: bool,
+}
+
+/// How many points were computed, how many values received, and their sum.
+type Counted = (u128, u64, u64);
+
+/// Whether a run in the next order ends as it should.
+fn ends_so(
+    rt: &HostRuntime,
+    job: &Job,
+    want: Counted,
+    routines: &[Box<dyn Routine>],
+    turns: &mut EachOrder,
+) -> Result<bool, Fail>
+    requires ready { IsReady job.now }
+    requires fit { FitJob (map spec_of routines.now) (setup_of job.now) }
+{
+    let alloc = rt.alloc();
+    let parts = parts(alloc, job)?;
+    let mut wire = wire(alloc, job)?;
+    let mut meter = Meter::new(rt);
+    let came = run(alloc, job, routines, &mut wire, turns, &mut meter)?;
+    let counted = (meter.count(), wire.received(), wire.received_sum());
+    let empty = is_empty(&wire, parts);
+    Ok(is_right(&came, counted == want) && empty && !turns.is_too_long())
+}
+
+/// Whether the output is the right one, and what was counted too.
+fn is_right(came: &Came, counted: bool) -> bool {
+    counted
+        && came.ended.as_slice() == b"Done".as_slice()
+        && came.output.as_slice() == TWO_CELLS_OUTPUT
+}
+
+/// All orders of a job with these files.
+fn each_order(
+    rt: &HostRuntime,
+    others: &[File],
+    want: Counted,
+    routines: &[Box<dyn Routine>],
+) -> Result<Orders, Fail> {
+    let job = job(rt.alloc(), TWO_CELLS, b"", others, routines)?;
+    let mut turns = EachOrder::new();
+    let mut same = true;
+    'orders: for before in 0..MOST {
+        same &= ends_so(rt, &job, want, routines, &mut turns)?;
+        if !turns.advance() {
+            return Ok(Orders {
+                count: before + 1,
+                same,
+            });
+        }
+    }
+    Err(Fail::new("there are more orders"))
+}
+
+/// The same with the routine of the start.
+fn orders_of_two_cells(rt: &HostRuntime, others: &[File], want: Counted) -> Result<Orders, Fail> {
+    let alloc = rt.alloc();
+    let mut routines: Vec<Box<dyn Routine>> = Vec::new(alloc);
+    routines.push(Box::new(alloc, CaInit::new(alloc)?)?)?;
+    each_order(rt, others, want, &routines)
+}
+
+/// Each part does five operations: it starts at its point and both ghosts, skips a step and what is due, hands in its piece, and is done. The text comes behind both
+/// pieces, and the end behind all.
+#[test]
+fn each_order_without_messages(rt: HostRuntime) -> Result<(), Fail> {
+    let orders = orders_of_two_cells(&rt, NO_EXCHANGE, (6, 0, 0))?;
+    assert_eq!(rt; orders.count, 644);
+    assert!(rt; orders.same);
+    Ok(())
+}
+
+/// Here each part also sends its faces, and takes its neighbour's once these were sent: seven operations.
+#[test]
+fn each_order_with_messages(rt: HostRuntime) -> Result<(), Fail> {
+    let orders = orders_of_two_cells(&rt, ONE_EXCHANGE, (6, 4, 2))?;
+    assert_eq!(rt; orders.count, 3864);
+    assert!(rt; orders.same);
+    Ok(())
+}

@@ -1,0 +1,252 @@
+//! Worked examples, cut into parts that may run ahead of each other, in many orders of events.
+
+ghost use Rattle.std.specs.Prelude.{map};
+ghost use Rattle.cx_plan.specs.Setups.{setup_of};
+ghost use Rattle.cx_rule.specs.Jobs.{FitJob};
+ghost use Rattle.cx_core.specs.Starts.{IsReady};
+
+use crate::ends::DiffEnds;
+use crate::jobs::{job, parts, wire};
+use crate::runs::{Came, is_empty, run};
+use crate::samples::{CA, CA_OUTPUT, ENDS, File, HEAT, HEAT_OUTPUT, SHORT_HEAT, SUM};
+use cx_plan::Job;
+use cx_rule::{Meter, Routine};
+use cx_thorn_ca::{CaCount, CaInit, CaStep, CaZero};
+use cx_thorn_pde::{DiffFlat, DiffInit, DiffStep, DiffSum};
+use cx_turns::{SeededTurns, Turns};
+use std::test::Fail;
+
+/// A job, and what comes of it in any order of events. Where its run isn't done nothing is said of what was counted.
+struct Row {
+    file: &'static [u8],
+    more: &'static [u8],
+    others: &'static [File],
+    ended: &'static [u8],
+    output: &'static [u8],
+    counted: Option<Counted>,
+}
+
+/// How many points were computed, how many values received, and their sum.
+#[derive(Clone, Copy, Debug, PartialEq, Eq)]
+struct Counted {
+    points: u128,
+    values: u64,
+    sum: u64,
+}
+
+/// What a run came to over a wire in memory, what was counted, and whether no message is left.
+#[derive(Drop)]
+struct Told {
+    came: Came,
+    counted: Counted,
+    empty: bool,
+}
+
+const CELLS: &[Row] = &[
+    Row {
+        file: CA,
+        more: b"driver::lead = 64\n",
+        others: &[],
+        ended: b"Done",
+        output: CA_OUTPUT,
+        counted: Some(Counted {
+            points: 26,
+            values: 4,
+            sum: 0,
+        }),
+    },
+    Row {
+        file: CA,
+        more: b"driver::lead = 64\ndriver::parts_x = 2\n",
+        others: &[],
+        ended: b"Done",
+        output: CA_OUTPUT,
+        counted: Some(Counted {
+            points: 28,
+            values: 8,
+            sum: 1,
+        }),
+    },
+    Row {
+        file: CA,
+        more: b"driver::lead = 64\ndriver::parts_x = 8\n",
+        others: &[],
+        ended: b"Done",
+        output: CA_OUTPUT,
+        counted: Some(Counted {
+            points: 40,
+            values: 32,
+            sum: 8,
+        }),
+    },
+    Row {
+        file: CA,
+        more: b"driver::lead = 64\ndriver::widths_x = \"3 5\"\n",
+        others: &[],
+        ended: b"Done",
+        output: CA_OUTPUT,
+        counted: Some(Counted {
+            points: 28,
+            values: 8,
+            sum: 1,
+        }),
+    },
+];
+
+const HEATS: &[Row] = &[
+    Row {
+        file: HEAT,
+        more: b"driver::lead = 0\n",
+        others: SHORT_HEAT,
+        ended: b"Overflow 7 EVOL/diff_step",
+        output: HEAT_OUTPUT,
+        counted: None,
+    },
+    Row {
+        file: HEAT,
+        more: b"driver::lead = 1\n",
+        others: SHORT_HEAT,
+        ended: b"Overflow 7 EVOL/diff_step",
+        output: HEAT_OUTPUT,
+        counted: None,
+    },
+    Row {
+        file: HEAT,
+        more: b"driver::lead = 8\n",
+        others: SHORT_HEAT,
+        ended: b"Overflow 7 EVOL/diff_step",
+        output: HEAT_OUTPUT,
+        counted: None,
+    },
+];
+
+const SUMS: &[Row] = &[
+    Row {
+        file: SUM,
+        more: b"diff::edge = 9223372036854775807\n",
+        others: ENDS,
+        ended: b"Overflow 0 ANALYSIS/diff_sum",
+        output: b"",
+        counted: None,
+    },
+    Row {
+        file: SUM,
+        more: b"diff::edge = 9223372036854775807\ndriver::parts_x = 2\n",
+        others: ENDS,
+        ended: b"Overflow 0 ANALYSIS/diff_sum",
+        output: b"",
+        counted: None,
+    },
+    Row {
+        file: SUM,
+        more: b"diff::edge = -1\n",
+        others: ENDS,
+        ended: b"Done",
+        output: b"# diff::total iteration 0 value 9223372036854775806\n",
+        counted: None,
+    },
+    Row {
+        file: SUM,
+        more: b"diff::edge = -1\ndriver::parts_x = 2\n",
+        others: ENDS,
+        ended: b"Done",
+        output: b"# diff::total iteration 0 value 9223372036854775806\n",
+        counted: None,
+    },
+];
+
+/// A run over a wire in memory, in the order of a seed.
+fn run_by_seed(
+    rt: &HostRuntime,
+    job: &Job,
+    routines: &[Box<dyn Routine>],
+    seed: u64,
+) -> Result<Told, Fail>
+    requires ready { IsReady job.now }
+    requires fit { FitJob (map spec_of routines.now) (setup_of job.now) }
+{
+    let alloc = rt.alloc();
+    let parts = parts(alloc, job)?;
+    let mut wire = wire(alloc, job)?;
+    let mut turns = SeededTurns::new();
+    turns.start(seed);
+    let mut meter = Meter::new(rt);
+    let came = run(alloc, job, routines, &mut wire, &mut turns, &mut meter)?;
+    let empty = is_empty(&wire, parts);
+    let counted = Counted {
+        points: meter.count(),
+        values: wire.received(),
+        sum: wire.received_sum(),
+    };
+    Ok(Told {
+        came,
+        counted,
+        empty,
+    })
+}
+
+/// The runs of a row's job, in the orders of ten seeds.
+fn ten_runs_with(
+    rt: &HostRuntime,
+    row: &Row,
+    routines: &[Box<dyn Routine>],
+) -> Result<Vec<Told>, Fail> {
+    let job = job(rt.alloc(), row.file, row.more, row.others, routines)?;
+    let mut all = Vec::new(rt.alloc());
+    'seeds: for seed in 0..10_u64 {
+        all.push(run_by_seed(rt, &job, routines, seed)?)?;
+    }
+    Ok(all)
+}
+
+/// The same with the routines of the automaton and of the heat.
+fn ten_runs(rt: &HostRuntime, row: &Row) -> Result<Vec<Told>, Fail> {
+    let alloc = rt.alloc();
+    let mut routines: Vec<Box<dyn Routine>> = Vec::new(alloc);
+    routines.push(Box::new(alloc, CaInit::new(alloc)?)?)?;
+    routines.push(Box::new(alloc, CaStep::new(alloc)?)?)?;
+    routines.push(Box::new(alloc, CaZero::new(alloc)?)?)?;
+    routines.push(Box::new(alloc, CaCount::new(alloc)?)?)?;
+    routines.push(Box::new(alloc, DiffInit::new(alloc)?)?)?;
+    routines.push(Box::new(alloc, DiffEnds::new(alloc)?)?)?;
+    routines.push(Box::new(alloc, DiffStep::new(alloc)?)?)?;
+    routines.push(Box::new(alloc, DiffFlat::new(alloc)?)?)?;
+    routines.push(Box::new(alloc, DiffSum::new(alloc)?)?)?;
+    ten_runs_with(rt, row, &routines)
+}
+
+#[test]
+fn cells_of_any_cut(rt: HostRuntime) -> Result<(), Fail> {
+    for row in CELLS {
+        for told in ten_runs(&rt, row)? {
+            assert_eq!(rt; told.came.ended.as_slice(), row.ended);
+            assert_eq!(rt; told.came.output.as_slice(), row.output);
+            assert_eq!(rt; Some(told.counted), row.counted);
+            assert!(rt; told.empty);
+        }
+    }
+    assert_eq!(rt; CA_OUTPUT.len(), 141);
+    Ok(())
+}
+
+#[test]
+fn heat_that_overflows(rt: HostRuntime) -> Result<(), Fail> {
+    for row in HEATS {
+        for told in ten_runs(&rt, row)? {
+            assert_eq!(rt; told.came.ended.as_slice(), row.ended);
+            assert_eq!(rt; told.came.output.as_slice(), row.output);
+        }
+    }
+    Ok(())
+}
+
+#[test]
+fn sums_of_two_points(rt: HostRuntime) -> Result<(), Fail> {
+    for row in SUMS {
+        for told in ten_runs(&rt, row)? {
+            assert_eq!(rt; told.came.ended.as_slice(), row.ended);
+            assert_eq!(rt; told.came.output.as_slice(), row.output);
+        }
+    }
+    Ok(())
+}
