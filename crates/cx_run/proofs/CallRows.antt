@@ -1,51 +1,91 @@
 -- The definitions on command lines and on what is printed for them.
-use Rattle.std.proofs.Common.{◌≡◌, [], ◌∷◌, codes, refl, arith}
+use Rattle.std.proofs.Common.{◌≡◌, [], ◌∷◌, codes, Some, None, refl}
 use Rattle.std.specs.Fmt.{digits}
 use Rattle.cx_job.specs.declared.fault.JobFault.TheVariants as faults
+use Rattle.cx_keep.specs.declared.fault.BeginFault.TheVariants as begins
 use Rattle.cx_model.specs.declared.ends.End.TheVariants as ends
-use Rattle.cx_run.specs.Answer.{text_of, answer_of}
-use Rattle.cx_run.specs.Words.{Asks, IsUsage}
+use Rattle.cx_run.specs.Answers.{text_of, answer_of}
+use Rattle.cx_run.specs.Words.{asked, request}
 use Rattle.cx_run.specs.declared.reply.Answer.TheVariants as a
 use Rattle.cx_run.specs.declared.words.Command.TheVariants as commands
 
-asks_for_a_run : Asks (codes "run" ∷ codes "ca.par" ∷ []) commands.Run (codes "ca.par")
-asks_for_a_run = record { words_are = refl; name = λ e. absurd (omega (arith, e)) }
+a_run : asked (codes "run" ∷ codes "ca.par" ∷ []) ≡ Some (request commands.Run (codes "ca.par") 0)
+a_run = refl
 
-asks_for_a_schedule : Asks (codes "schedule" ∷ codes "ca.par" ∷ []) commands.Schedule (codes "ca.par")
-asks_for_a_schedule = record { words_are = refl; name = λ e. absurd (omega (arith, e)) }
+a_seed_behind : asked (codes "run" ∷ codes "ca.par" ∷ codes "--turns" ∷ codes "12" ∷ []) ≡ Some (request commands.Run (codes "ca.par") 12)
+a_seed_behind = refl
 
-no_words : IsUsage []
-no_words command file asks = let e = asks.words_are in absurd cc
+a_seed_before : asked (codes "run" ∷ codes "--turns" ∷ codes "7" ∷ codes "ca.par" ∷ []) ≡ Some (request commands.Run (codes "ca.par") 7)
+a_seed_before = refl
 
-one_word : IsUsage (codes "run" ∷ [])
-one_word command file asks = let e = asks.words_are in absurd cc
+a_joined_seed : asked (codes "run" ∷ codes "ca.par" ∷ codes "--turns=007" ∷ []) ≡ Some (request commands.Run (codes "ca.par") 7)
+a_joined_seed = refl
+
+a_joined_seed_before : asked (codes "run" ∷ codes "--turns=3" ∷ codes "ca.par" ∷ []) ≡ Some (request commands.Run (codes "ca.par") 3)
+a_joined_seed_before = refl
+
+two_seeds : asked (codes "run" ∷ codes "--turns=3" ∷ codes "ca.par" ∷ codes "--turns=3" ∷ []) ≡ None
+two_seeds = refl
+
+no_seed : asked (codes "run" ∷ codes "ca.par" ∷ codes "--turns" ∷ []) ≡ None
+no_seed = refl
+
+an_empty_seed : asked (codes "run" ∷ codes "ca.par" ∷ codes "--turns=" ∷ []) ≡ None
+an_empty_seed = refl
+
+a_schedule : asked (codes "schedule" ∷ codes "ca.par" ∷ []) ≡ Some (request commands.Schedule (codes "ca.par") 0)
+a_schedule = refl
+
+a_schedule_with_a_seed : asked (codes "schedule" ∷ codes "ca.par" ∷ codes "--turns=1" ∷ []) ≡ None
+a_schedule_with_a_seed = refl
+
+no_words : asked [] ≡ None
+no_words = refl
+
+one_word : asked (codes "run" ∷ []) ≡ None
+one_word = refl
+
+a_dash : asked (codes "run" ∷ codes "-x" ∷ []) ≡ None
+a_dash = refl
 
 -- the usage text as it stands on the screen
-usage_line : text_of a.Usage [] ≡ codes "usage: cactus run FILE\n       cactus check FILE\n       cactus schedule FILE\n       cactus describe FILE\n       cactus parts FILE\n"
+usage_line : text_of a.Usage ≡ codes "usage: cactus run FILE [--turns SEED]\n       cactus check FILE\n       cactus schedule FILE\n       cactus describe FILE\n       cactus parts FILE\n"
 usage_line = refl
 
-done : text_of (a.Done 2) (codes "ca.par") ≡ codes "done: iteration 2\n"
+done : text_of (a.Done 2) ≡ codes "done: iteration 2\n"
 unfolding digits
 done = refl
 
-no_file : text_of (answer_of (faults.NoFile (codes "none.par"))) (codes "none.par") ≡ codes "refused: NoFile none.par\n"
+no_file : text_of (answer_of (faults.NoFile (codes "none.par"))) ≡ codes "refused: NoFile none.par\n"
 no_file = refl
 
-not_built : text_of a.NotBuilt (codes "b.par") ≡ codes "refused: NotBuilt b.par\n"
-not_built = refl
-
-ended_early : text_of (a.Ended (ends.Overflow 7 (codes "EVOL/diff_step"))) (codes "heat.par") ≡ codes "ended: Overflow 7 EVOL/diff_step\n"
+ended_early : text_of (a.Ended (ends.Overflow 7 (codes "EVOL/diff_step"))) ≡ codes "ended: Overflow 7 EVOL/diff_step\n"
 unfolding digits
 ended_early = refl
 
-ended_while : text_of (a.Ended (ends.WhileLimit 1 (codes "EVOL/control_spin"))) (codes "b.par") ≡ codes "ended: WhileLimit 1 EVOL/control_spin\n"
+ended_while : text_of (a.Ended (ends.WhileLimit 1 (codes "EVOL/control_spin"))) ≡ codes "ended: WhileLimit 1 EVOL/control_spin\n"
 unfolding digits
 ended_while = refl
 
-ended_nowhere : text_of (a.Ended (ends.Overflow 0 [])) (codes "b.par") ≡ codes "ended: Overflow 0 -\n"
+ended_nowhere : text_of (a.Ended (ends.Overflow 0 [])) ≡ codes "ended: Overflow 0 -\n"
 unfolding digits
 ended_nowhere = refl
 
-ended_full : text_of (a.Ended (ends.OutputLimit 12)) (codes "b.par") ≡ codes "ended: OutputLimit 12\n"
+ended_full : text_of (a.Ended (ends.OutputLimit 12)) ≡ codes "ended: OutputLimit 12\n"
 unfolding digits
 ended_full = refl
+
+no_checkpoint : text_of (a.Recovery begins.NoCheckpoint) ≡ codes "recovery: NoCheckpoint\n"
+no_checkpoint = refl
+
+damaged : text_of (a.Recovery (begins.Damaged 1)) ≡ codes "recovery: Damaged 1\n"
+unfolding digits
+damaged = refl
+
+output_short : text_of (a.Recovery (begins.OutputShort 10 300)) ≡ codes "recovery: OutputShort 10 300\n"
+unfolding digits
+output_short = refl
+
+other_job : text_of (a.Recovery (begins.OtherJob (codes "parameter wave::amount = \"5\"") (codes "parameter wave::amount = \"6\"")))
+    ≡ codes "recovery: OtherJob\nparameter wave::amount = \"5\"\nparameter wave::amount = \"6\"\n"
+other_job = refl

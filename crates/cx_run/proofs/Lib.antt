@@ -1,8 +1,10 @@
 pub mod Fronts
-pub mod Progress
-pub mod Explaining
-pub mod ForJob
+pub mod Ends
+pub mod Stillness
+pub mod Running
+pub mod Asked
 pub mod Clauses
+pub mod Readings
 mod FaultRows
 mod CallRows
 mod CutRows

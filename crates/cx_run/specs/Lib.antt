@@ -4,6 +4,7 @@ pub mod Words
 pub mod FaultWords
 pub mod CutTexts
 pub mod Texts
-pub mod Built
-pub mod Fault
-pub mod Answer
+pub mod Calls
+pub mod Answers
+pub mod Causes
+pub mod Clauses

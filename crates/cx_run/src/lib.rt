@@ -1,9 +1,8 @@
-//! The top call: from the words of the command line to what is printed, the output file and the status.
+//! The top call: from the words of the command line to what is printed, the files of a run and the status.
 #![tactic(auto)]
 
 mod call;
 mod cut_texts;
-mod driver;
 mod fault_words;
 mod reply;
 mod sink;

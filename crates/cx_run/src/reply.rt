@@ -1,77 +1,83 @@
 //! What the top call prints and answers.
-ghost use Rattle.std.specs.Prelude.{◌≡◌, ◌++◌, ◌≤◌, ◌⊎◌, ◌∷◌, [], codes, IfOk, OnOk};
+ghost use Rattle.std.specs.Prelude.{◌≡◌, ◌≢◌, ◌++◌, ◌≤◌, ◌⊎◌, ◌∷◌, [], codes, IfOk, OnOk};
 ghost use Rattle.std.specs.Fmt.{decimal};
-ghost use Rattle.cx_run.specs.Answer.{answer_of, Says, IsCutOff, WasSaid};
+ghost use Rattle.cx_core.specs.declared.answers.Outcome.{Outcome};
+ghost use Rattle.cx_run.specs.Answers.{answer_at, answer_for, answer_of, end_in, Says, IsCutOff, WasSaid};
 ghost use Rattle.cx_run.specs.FaultWords.{or_dash, spaced};
-ghost use Rattle.cx_run.specs.Texts.{done_text, end_words, ended_text, not_built_text};
+ghost use Rattle.cx_run.specs.Texts.{begin_words, done_text, end_words, ended_text, recovery_text};
+ghost use Rattle.cx_run.specs.declared.reply.Answer.{Answer};
 
 use crate::fault_words::{push_name, push_number, refused_text};
 use crate::sink::Sink;
+use cx_core::Outcome;
+use cx_drive::DriveFault;
 use cx_job::JobFault;
+use cx_keep::BeginFault;
 use cx_model::End;
 use cx_text::{Memory, Text};
 use std::alloc::Global;
 
 const USAGE: &[u8] =
-    b"usage: cactus run FILE\n       cactus check FILE\n       cactus schedule FILE\n       cactus describe FILE\n       cactus parts FILE\n";
+    b"usage: cactus run FILE [--turns SEED]\n       cactus check FILE\n       cactus schedule FILE\n       cactus describe FILE\n       cactus parts FILE\n";
 
 /// What came of a call.
 #[derive(Debug, Drop)]
 pub enum Answer {
     /// A run is done up to this iteration.
     Done(u64),
-    /// The file makes a job.
-    Accepted,
     /// The file makes a job, and this is what was asked of it.
     Text(Text),
     /// The words ask for nothing that there is.
     Usage,
     /// The file makes no job, and neither the shelf nor memory is the reason.
     Refused(JobFault),
-    /// The run of the job that the file makes isn't built.
-    NotBuilt,
     /// A run came to this end, which isn't Done.
     Ended(End),
     /// The shelf failed.
     Shelf,
     /// The disk failed.
     Disk,
+    /// The wire failed.
+    Wire,
     /// Memory was wanting.
     Memory,
+    /// A run couldn't begin on what the disk holds.
+    Recovery(BeginFault),
 }
 
 impl Answer {
-    ghost use Rattle.cx_run.specs.Answer.{status_of, text_of};
+    ghost use Rattle.cx_run.specs.Answers.{status_of, text_of};
 
     /// The status of the program.
     pub fn status(&self) -> u8
         ensures { result ≡ status_of self.now }
     {
         match self {
-            Answer::Done(_) | Answer::Accepted | Answer::Text(_) => 0,
+            Answer::Done(_) | Answer::Text(_) => 0,
             Answer::Usage => 1,
-            Answer::Refused(_) | Answer::NotBuilt => 2,
+            Answer::Refused(_) => 2,
             Answer::Ended(_) => 3,
-            Answer::Shelf | Answer::Disk => 4,
+            Answer::Shelf | Answer::Disk | Answer::Wire => 4,
             Answer::Memory => 5,
+            Answer::Recovery(_) => 6,
         }
     }
 
-    /// The text that is printed for a file. It fails where memory is wanting.
-    pub fn text(self, alloc: Global, file: &[u8]) -> Result<Text, Memory>
-        ensures { IfOk result (λ text. text ≡ text_of self file.now) }
+    /// The text that is printed. It fails where memory is wanting.
+    pub fn text(self, alloc: Global) -> Result<Text, Memory>
+        ensures { IfOk result (λ text. text ≡ text_of self) }
     {
         match self {
             Answer::Done(iteration) => done_text(alloc, iteration),
-            Answer::Accepted => Text::from_slice(alloc, b"accepted\n"),
             Answer::Text(text) => Ok(text),
             Answer::Usage => Text::from_slice(alloc, USAGE),
             Answer::Refused(fault) => refused_text(alloc, &fault),
-            Answer::NotBuilt => not_built_text(alloc, file),
             Answer::Ended(end) => ended_text(alloc, &end),
             Answer::Shelf => Text::from_slice(alloc, b"device: shelf\n"),
             Answer::Disk => Text::from_slice(alloc, b"device: disk\n"),
+            Answer::Wire => Text::from_slice(alloc, b"device: wire\n"),
             Answer::Memory => Text::from_slice(alloc, b"memory\n"),
+            Answer::Recovery(fault) => recovery_text(alloc, &fault),
         }
     }
 }
@@ -87,22 +93,63 @@ pub(crate) fn answer_of(fault: JobFault) -> Answer
     }
 }
 
+/// Why a run stopped before its end, as an answer.
+pub(crate) fn answer_for(fault: DriveFault) -> Answer
+    ensures { result ≡ answer_for fault }
+{
+    match fault {
+        DriveFault::Recovery(fault) => Answer::Recovery(fault),
+        DriveFault::Disk => Answer::Disk,
+        DriveFault::Wire => Answer::Wire,
+        DriveFault::Memory => Answer::Memory,
+    }
+}
+
+/// The end of a run that is over. It fails where memory is wanting.
+fn end_in(alloc: Global, outcome: &Outcome) -> Result<End, Memory>
+    requires over { outcome.now ≢ Outcome.Going }
+    ensures { IfOk result (λ end. end ≡ end_in outcome.now) }
+{
+    match outcome {
+        Outcome::Going => unreachable!(),
+        Outcome::Done => Ok(End::Done),
+        Outcome::Overflow(iteration, path) => {
+            Ok(End::Overflow(*iteration, Text::from_slice(alloc, path.as_slice())?))
+        }
+        Outcome::WhileLimit(iteration, path) => {
+            Ok(End::WhileLimit(*iteration, Text::from_slice(alloc, path.as_slice())?))
+        }
+        Outcome::OutputLimit(iteration) => Ok(End::OutputLimit(*iteration)),
+    }
+}
+
+/// An end as an answer, by the last iteration of a run that is done.
+fn answer_at(itlast: u64, end: End) -> Answer
+    ensures { result ≡ answer_at itlast end }
+{
+    match end {
+        End::Done => Answer::Done(itlast),
+        end => Answer::Ended(end),
+    }
+}
+
+/// The outcome of a run that is over, as an answer, by the last iteration of its job, or want of memory.
+pub(crate) fn answer_to_outcome(alloc: Global, itlast: u64, outcome: &Outcome) -> Answer
+    requires over { outcome.now ≢ Outcome.Going }
+    ensures { (result ≡ Answer.Memory) ⊎ (result ≡ answer_at itlast (end_in outcome.now)) }
+{
+    match end_in(alloc, outcome) {
+        Ok(end) => answer_at(itlast, end),
+        Err(Memory) => Answer::Memory,
+    }
+}
+
 /// The text of a run that is done up to this iteration.
 fn done_text(alloc: Global, iteration: u64) -> Result<Text, Memory>
     ensures { IfOk result (λ text. text ≡ done_text iteration) }
 {
     let text = format!(in alloc; "done: iteration {iteration}\n")?;
     Ok(Text::new(text.into_bytes()))
-}
-
-/// The text of a run that isn't built.
-fn not_built_text(alloc: Global, file: &[u8]) -> Result<Text, Memory>
-    ensures { IfOk result (λ text. text ≡ not_built_text file.now) }
-{
-    let mut text = Text::from_slice(alloc, b"refused: NotBuilt ")?;
-    text.push_slice(file)?;
-    text.push_slice(b"\n")?;
-    Ok(text)
 }
 
 /// Adds the name of an end, its iteration and its path.
@@ -121,12 +168,12 @@ fn push_stop(
     push_name(text, path.as_slice())
 }
 
-/// Adds the name of an end and its iteration.
-fn push_limit(text: &mut Text, alloc: Global, name: &[u8], iteration: u64) -> Result<(), Memory>
-    ensures { OnOk result (text.new ≡ text.old ++ spaced (name.now ∷ decimal iteration ∷ [])) }
+/// Adds a name and a number.
+fn push_numbered(text: &mut Text, alloc: Global, name: &[u8], number: u64) -> Result<(), Memory>
+    ensures { OnOk result (text.new ≡ text.old ++ spaced (name.now ∷ decimal number ∷ [])) }
 {
     text.push_slice(name)?;
-    push_number(text, alloc, iteration)
+    push_number(text, alloc, number)
 }
 
 /// Adds the words of an end.
@@ -137,7 +184,7 @@ fn push_end(text: &mut Text, alloc: Global, end: &End) -> Result<(), Memory>
         End::Done => text.push_slice(b"Done"),
         End::Overflow(iteration, path) => push_stop(text, alloc, b"Overflow", *iteration, path),
         End::WhileLimit(iteration, path) => push_stop(text, alloc, b"WhileLimit", *iteration, path),
-        End::OutputLimit(iteration) => push_limit(text, alloc, b"OutputLimit", *iteration),
+        End::OutputLimit(iteration) => push_numbered(text, alloc, b"OutputLimit", *iteration),
     }
 }
 
@@ -151,14 +198,66 @@ fn ended_text(alloc: Global, end: &End) -> Result<Text, Memory>
     Ok(text)
 }
 
-/// Prints an answer for a file and gives its status; want of memory in its place; 4 where the sink fails.
-pub(crate) fn reply<O: Sink>(alloc: Global, answer: Answer, file: &[u8], out: &mut O) -> u8
-    ensures said { WasSaid O.tells file.now answer result
-        (O.written out.old) (O.written out.new) (O.faults out.old) (O.faults out.new) }
+/// Adds a name, and two texts behind it on lines of their own.
+fn push_lines(text: &mut Text, name: &[u8], a: &Text, b: &Text) -> Result<(), Memory>
+    ensures { OnOk result (text.new ≡ text.old ++ (name.now ++ 10 ∷ a.now ++ 10 ∷ b.now)) }
+{
+    text.push_slice(name)?;
+    text.push_slice(b"\n")?;
+    text.push_slice(a.as_slice())?;
+    text.push_slice(b"\n")?;
+    text.push_slice(b.as_slice())
+}
+
+/// Adds a name and two numbers.
+fn push_both(text: &mut Text, alloc: Global, name: &[u8], a: u64, b: u64) -> Result<(), Memory>
+    ensures { OnOk result
+        (text.new ≡ text.old ++ spaced (name.now ∷ decimal a ∷ decimal b ∷ [])) }
+{
+    text.push_slice(name)?;
+    push_number(text, alloc, a)?;
+    push_number(text, alloc, b)
+}
+
+/// Adds the words of a start that was refused.
+fn push_begin(text: &mut Text, alloc: Global, fault: &BeginFault) -> Result<(), Memory>
+    ensures { OnOk result (text.new ≡ text.old ++ begin_words fault.now) }
+{
+    match fault {
+        BeginFault::Disk => text.push_slice(b"Disk"),
+        BeginFault::NoCheckpoint => text.push_slice(b"NoCheckpoint"),
+        BeginFault::OtherJob(kept, own) => push_lines(text, b"OtherJob", kept, own),
+        BeginFault::Damaged(slot) => push_numbered(text, alloc, b"Damaged", u64::from(*slot)),
+        BeginFault::OutputShort(has, recorded) => {
+            push_both(text, alloc, b"OutputShort", *has, *recorded)
+        }
+        BeginFault::Memory => text.push_slice(b"Memory"),
+    }
+}
+
+/// The text of a start that was refused.
+fn recovery_text(alloc: Global, fault: &BeginFault) -> Result<Text, Memory>
+    ensures { IfOk result (λ text. text ≡ recovery_text fault.now) }
+{
+    let mut text = Text::from_slice(alloc, b"recovery: ")?;
+    push_begin(&mut text, alloc, fault)?;
+    text.push_slice(b"\n")?;
+    Ok(text)
+}
+
+/// Prints an answer and gives its status; want of memory in its place; 4 where the sink fails.
+pub(crate) fn reply<O: Sink>(alloc: Global, answer: Answer, out: &mut O) -> u8
+    ensures said { WasSaid (record {
+      tells = O.tells;
+      same = out.new ≡ out.old;
+      old = O.written out.old;
+      new = O.written out.new;
+      faults = record { old = O.faults out.old; new = O.faults out.new };
+    }) answer result }
     ensures later { O.faults out.old ≤ O.faults out.new }
 {
     let status = answer.status();
-    match answer.text(alloc, file) {
+    match answer.text(alloc) {
         Ok(text) => say(out, text.as_slice(), status),
         Err(Memory) => say(out, b"memory\n", 5),
     }
@@ -166,10 +265,19 @@ pub(crate) fn reply<O: Sink>(alloc: Global, answer: Answer, file: &[u8], out: &m
 
 /// Prints a text. Where the sink fails the status is 4.
 fn say<O: Sink>(out: &mut O, text: &[u8], status: u8) -> u8
-    ensures printed { Says O.tells status text.now result
-        (O.written out.old) (O.written out.new) (O.faults out.old) (O.faults out.new)
-        ⊎ IsCutOff O.tells text.now result
-        (O.written out.old) (O.written out.new) (O.faults out.old) (O.faults out.new) }
+    ensures printed { Says (record {
+      tells = O.tells;
+      same = out.new ≡ out.old;
+      old = O.written out.old;
+      new = O.written out.new;
+      faults = record { old = O.faults out.old; new = O.faults out.new };
+    }) status text.now result ⊎ IsCutOff (record {
+      tells = O.tells;
+      same = out.new ≡ out.old;
+      old = O.written out.old;
+      new = O.written out.new;
+      faults = record { old = O.faults out.old; new = O.faults out.new };
+    }) text.now result }
     ensures later { O.faults out.old ≤ O.faults out.new }
 {
     match out.put(text) {

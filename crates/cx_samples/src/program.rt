@@ -2,13 +2,15 @@
 
 ghost use Rattle.std.specs.Prelude.{◌≡◌, IfOk, OnErr};
 ghost use Rattle.std.specs.Process.{exit_status};
-ghost use Rattle.cx_run.specs.Answer.{IsStatusFor};
+ghost use Rattle.cx_run.specs.Answers.{IsStatusFor};
 
 use crate::routines::answer;
 use cx_disk::FolderDisk;
 use cx_rule::Meter;
 use cx_run::{FolderShelf, StdoutSink};
 use cx_text::{Memory, Text};
+use cx_turns::SeededTurns;
+use cx_wire::MemoryWire;
 use std::env;
 use std::io::{self, ErrorKind};
 use std::process::ExitCode;
@@ -44,16 +46,23 @@ fn wanting(rt: &HostRuntime) -> ExitCode
     ExitCode::from(5)
 }
 
-/// What the top call answers over the current folder and standard output.
+/// The greatest number of parts that a grid is cut into.
+const MOST_PARTS: u32 = 512;
+
+/// What the top call answers over the current folder, a wire in memory, turns from a seed and standard output.
 fn in_folder(rt: &HostRuntime, words: &[Text]) -> Result<u8, Memory>
     ensures { IfOk result (IsStatusFor words.now) }
 {
     let alloc = rt.alloc();
     let mut shelf = FolderShelf::new(rt.clone()?);
     let mut disk = FolderDisk::new(rt.clone()?, alloc);
+    let mut wire = MemoryWire::new(alloc, MOST_PARTS)?;
+    let mut turns = SeededTurns::new();
     let mut out = StdoutSink::new(rt.clone()?);
     let mut meter = Meter::new(rt);
-    answer(alloc, words, &mut shelf, &mut disk, &mut out, &mut meter)
+    answer(
+        alloc, words, &mut shelf, &mut disk, &mut wire, &mut turns, &mut out, &mut meter,
+    )
 }
 
 /// The words after the program's name. Words that aren't text are those of no command, as no words are.

@@ -1,11 +1,11 @@
 //! The routines of the sample thorns, handed to the top call.
 
-ghost use Rattle.std.specs.Prelude.{◌≡◌, ℕ, List as ListOf, Ok, IfOk, map};
+ghost use Rattle.std.specs.Prelude.{◌≡◌, ◌≤◌, ◌<◌, ◌^◌, IsTrue, Ok, Some, IfOk, map};
+ghost use Rattle.cx_core.specs.Starts.{AreEmpty};
 ghost use Rattle.cx_job.specs.Making.{Made};
 ghost use Rattle.cx_plan.specs.declared.job.Job.{Job};
-ghost use Rattle.cx_run.specs.Answer.{IsStatusFor};
-ghost use Rattle.cx_run.specs.Words.{Asks};
-ghost use Rattle.cx_run.specs.declared.words.Command.{Command};
+ghost use Rattle.cx_run.specs.Answers.{IsStatusFor};
+ghost use Rattle.cx_run.specs.Words.{Request, asked};
 ghost use Rattle.cx_samples.specs.Samples.{sample_rules, sample_specs};
 
 use cx_disk::Disk;
@@ -17,6 +17,8 @@ use cx_thorn_pde::{
     ControlSet, ControlSpin, DiffFlat, DiffInit, DiffScalar, DiffStep, DiffSum, WaveCopy, WaveFlat,
     WaveInit, WaveInit1, WaveScalar, WaveStep, WaveSum,
 };
+use cx_turns::Turns;
+use cx_wire::Wire;
 use std::alloc::Global;
 
 /// The words of the command line, and where the memory for their answer comes from.
@@ -26,19 +28,25 @@ struct CommandLine<'a> {
     words: &'a [Text],
 }
 
-/// What the top call answers over these devices, with the routines of all sample thorns.
+/// What the top call answers over these devices, with the routines of all sample thorns. The wire serves 512 parts, and its queues are
+/// empty.
 ///
 /// # Errors
 ///
 /// `Memory` where there is no room for the routines.
-pub fn answer<H: Shelf, D: Disk, O: Sink>(
+pub fn answer<H: Shelf, D: Disk, W: Wire, T: Turns, O: Sink>(
     alloc: Global,
     words: &[Text],
     shelf: &mut H,
     disk: &mut D,
+    wire: &mut W,
+    turns: &mut T,
     out: &mut O,
     meter: &mut Meter,
 ) -> Result<u8, Memory>
+    requires parts { 512 ≤ W.parts wire.old }
+    requires empty { AreEmpty (W.queue wire.old) }
+    requires sum { IsTrue W.tells → W.sum wire.old < 2 ^ 64 }
     ensures { IfOk result (IsStatusFor words.now) }
 {
     let mut routines: Vec<Box<dyn Routine>> = Vec::new(alloc);
@@ -65,25 +73,32 @@ pub fn answer<H: Shelf, D: Disk, O: Sink>(
     routines.push(Box::new(alloc, ControlSet::new(alloc)?)?)?;
     routines.push(Box::new(alloc, ControlSpin::new(alloc)?)?)?;
     let line = CommandLine { alloc, words };
-    Ok(answer_with(line, shelf, disk, out, &routines, meter))
+    Ok(answer_with(line, shelf, disk, wire, turns, out, &routines, meter))
 }
 
 /// The top call with the sample thorns' routines.
-fn answer_with<H: Shelf, D: Disk, O: Sink>(
+fn answer_with<H: Shelf, D: Disk, W: Wire, T: Turns, O: Sink>(
     line: CommandLine<'_>,
     shelf: &mut H,
     disk: &mut D,
+    wire: &mut W,
+    turns: &mut T,
     out: &mut O,
     routines: &[Box<dyn Routine>],
     meter: &mut Meter,
 ) -> u8
     requires rules { map rule routines.now ≡ sample_rules }
     requires specs { map spec_of routines.now ≡ sample_specs }
+    requires parts { 512 ≤ W.parts wire.old }
+    requires empty { AreEmpty (W.queue wire.old) }
+    requires sum { IsTrue W.tells → W.sum wire.old < 2 ^ 64 }
     ensures status { IsStatusFor line.entry.words.now result }
     // The command is done only where the file makes a job with the sample thorns' routines.
-    ensures done { result ≡ 0 → (command : Command) × (file : ListOf ℕ) × (job : Job)
-        × Asks line.entry.words.now command file
-        × (H.tells → Made file sample_specs (H.held shelf.old) (Ok job)) }
+    ensures done { result ≡ 0 → (request : Request) × (job : Job)
+        × (asked line.entry.words.now ≡ Some request)
+        × (H.tells → Made request.file sample_specs (H.held shelf.old) (Ok job)) }
 {
-    cactus(line.alloc, line.words, shelf, disk, out, routines, meter)
+    cactus(
+        line.alloc, line.words, shelf, disk, wire, turns, out, routines, meter,
+    )
 }

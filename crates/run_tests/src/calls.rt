@@ -1,5 +1,6 @@
 //! The top call over objects in memory and over devices that fail.
 
+use crate::carriers::wire;
 use crate::cuts::CUTS;
 use crate::devices::{HollowDisk, LateShelf};
 use crate::faults::{FAULTS, IF_AROUND, IF_NOWHERE, PLAIN, SAMPLE_FAULTS};
@@ -10,6 +11,7 @@ use cx_rule::Meter;
 use cx_run::{FolderShelf, MemoryShelf, MemorySink, Shelf, Sink};
 use cx_samples::answer;
 use cx_text::{List, Memory, Text};
+use cx_turns::SeededTurns;
 use std::alloc::Global;
 use std::fs;
 use std::test::Fail;
@@ -57,7 +59,7 @@ const PARAMETER_FILES: &[File] = &[
     },
 ];
 
-const USAGE: &[u8] = b"usage: cactus run FILE\n\
+const USAGE: &[u8] = b"usage: cactus run FILE [--turns SEED]\n\
         \x20      cactus check FILE\n\
         \x20      cactus schedule FILE\n\
         \x20      cactus describe FILE\n\
@@ -169,6 +171,21 @@ const ANSWERS: &[Asked] = &[
         printed: USAGE,
     },
     Asked {
+        words: &[b"run", b"--turns", b"1"],
+        status: 1,
+        printed: USAGE,
+    },
+    Asked {
+        words: &[b"run", b"ca.par", b"--turns=18446744073709551616"],
+        status: 1,
+        printed: USAGE,
+    },
+    Asked {
+        words: &[b"check", b"ca.par", b"--turns=1"],
+        status: 1,
+        printed: USAGE,
+    },
+    Asked {
         words: &[b"make", b"1", b"7"],
         status: 1,
         printed: USAGE,
@@ -205,6 +222,16 @@ const ANSWERS: &[Asked] = &[
     },
     Asked {
         words: &[b"run", b"ca.par"],
+        status: 0,
+        printed: b"done: iteration 2\n",
+    },
+    Asked {
+        words: &[b"run", b"--turns=3", b"ca.par"],
+        status: 0,
+        printed: b"done: iteration 2\n",
+    },
+    Asked {
+        words: &[b"run", b"ca.par", b"--turns", b"3"],
         status: 0,
         printed: b"done: iteration 2\n",
     },
@@ -250,17 +277,10 @@ const ANSWERS: &[Asked] = &[
     },
 ];
 
-/// Lines of jobs that `run` doesn't run yet: checkpoints, and other beginnings than afresh.
-const UNBUILT: &[&[u8]] = &[
-    b"IO::checkpoint_every = 5\n",
-    b"IO::checkpoint_on_terminate = yes\n",
-    b"IO::recover = auto\n",
-    b"IO::recover = autoprobe\n",
-];
-
 /// Jobs, each with how many calls of the disk its run makes, its status, and what two runs print whose disk fails once.
 struct Writer {
     file: &'static [u8],
+    more: &'static [u8],
     calls: u64,
     status: u8,
     printed: &'static [u8],
@@ -269,7 +289,8 @@ struct Writer {
 const WRITERS: &[Writer] = &[
     Writer {
         file: CA,
-        calls: 10,
+        more: b"IO::checkpoint_every = 1\nIO::recover = \"autoprobe\"\n",
+        calls: 45,
         status: 0,
         printed: b"device: disk\ndone: iteration 2\n",
     },
@@ -277,7 +298,8 @@ const WRITERS: &[Writer] = &[
         file: b"ActiveThorns = \"Control\"\n\
         control::drop = 0\n\
         IO::out_vars = \"control::count\"\n",
-        calls: 6,
+        more: b"IO::recover = \"autoprobe\"\n",
+        calls: 21,
         status: 3,
         printed: b"device: disk\nended: WhileLimit 1 EVOL/control_spin\n",
     },
@@ -296,7 +318,7 @@ const GRIDS: &[&[u8]] = &[
     b"driver::ghost_size_x = 3\ndriver::periodic = yes\n",
 ];
 
-fn texts(alloc: Global, words: &[&[u8]]) -> Result<Vec<Text>, Memory> {
+pub(crate) fn texts(alloc: Global, words: &[&[u8]]) -> Result<Vec<Text>, Memory> {
     let mut texts = Vec::new(alloc);
     for word in words {
         texts.push(Text::from_slice(alloc, word)?)?;
@@ -323,33 +345,68 @@ fn shelf(alloc: Global, files: &[File], more: &[File]) -> Result<MemoryShelf, Me
 }
 
 /// A sink that fails in the calls of these numbers.
-fn sink(alloc: Global, fail: &[u64]) -> Result<MemorySink, Memory> {
+pub(crate) fn sink(alloc: Global, fail: &[u64]) -> Result<MemorySink, Memory> {
     MemorySink::new(alloc, 10_000, List::new(fail.to_vec(alloc)?))
 }
 
-/// What a call came to: its status, what is printed, the output file and how many points are computed.
+/// What a call came to: its status, what is printed, the output file, and how much is computed and exchanged.
 #[derive(Drop)]
-struct Outcome {
-    status: u8,
-    printed: Vec<u8>,
-    output: Vec<u8>,
-    points: u128,
+pub(crate) struct Outcome {
+    pub(crate) status: u8,
+    pub(crate) printed: Vec<u8>,
+    pub(crate) output: Vec<u8>,
+    pub(crate) points: u128,
+    pub(crate) received: u64,
+    pub(crate) sum: u64,
 }
 
-/// What a command comes to over a shelf, on a new disk.
-fn answer_to(rt: &HostRuntime, words: &[&[u8]], shelf: &mut MemoryShelf) -> Result<Outcome, Fail> {
+/// What a command comes to over a shelf and a disk, whose output isn't looked at.
+pub(crate) fn answer_over<H: Shelf, D: Disk>(
+    rt: &HostRuntime,
+    words: &[&[u8]],
+    shelf: &mut H,
+    disk: &mut D,
+) -> Result<Outcome, Fail> {
     let alloc = rt.alloc();
     let words = texts(alloc, words)?;
-    let mut disk = MemoryDisk::new(alloc, List::empty(alloc));
+    let mut wire = wire(alloc)?;
+    let mut turns = SeededTurns::new();
     let mut out = sink(alloc, &[])?;
     let mut meter = Meter::new(rt);
-    let status = answer(alloc, &words, shelf, &mut disk, &mut out, &mut meter)?;
+    let status = answer(
+        alloc, &words, shelf, disk, &mut wire, &mut turns, &mut out, &mut meter,
+    )?;
     Ok(Outcome {
         status,
         printed: out.bytes().to_vec(alloc)?,
-        output: disk.bytes(8).to_vec(alloc)?,
+        output: Vec::new(alloc),
         points: meter.count(),
+        received: wire.received(),
+        sum: wire.received_sum(),
     })
+}
+
+/// What a command comes to over a shelf, on this disk.
+pub(crate) fn answer_on(
+    rt: &HostRuntime,
+    words: &[&[u8]],
+    shelf: &mut MemoryShelf,
+    disk: &mut MemoryDisk,
+) -> Result<Outcome, Fail> {
+    let mut came = answer_over(rt, words, shelf, disk)?;
+    came.output = disk.bytes(8).to_vec(rt.alloc())?;
+    Ok(came)
+}
+
+/// What a command comes to over a shelf, on a new disk.
+pub(crate) fn answer_to(
+    rt: &HostRuntime,
+    words: &[&[u8]],
+    shelf: &mut MemoryShelf,
+) -> Result<Outcome, Fail> {
+    let alloc = rt.alloc();
+    let mut disk = MemoryDisk::new(alloc, List::empty(alloc));
+    answer_on(rt, words, shelf, &mut disk)
 }
 
 /// A shelf with the parameter file `t.par`, which has more lines behind those of a file, and with other files.
@@ -503,25 +560,6 @@ fn runs_of_jobs(rt: HostRuntime) -> Result<(), Fail> {
 }
 
 #[test]
-fn jobs_that_are_accepted_and_not_built(rt: HostRuntime) -> Result<(), Fail> {
-    let alloc = rt.alloc();
-    for more in UNBUILT {
-        let mut shelf = shelf_with(alloc, CA, more, &[])?;
-        let checked = answer_to(&rt, &[b"check", b"t.par"], &mut shelf)?;
-        assert_eq!(rt; checked.printed.as_slice(), b"accepted\n".as_slice());
-        let refused = answer_to(&rt, &[b"run", b"t.par"], &mut shelf)?;
-        assert_eq!(rt; refused.status, 2);
-        assert_eq!(rt;
-            refused.printed.as_slice(),
-            b"refused: NotBuilt t.par\n".as_slice()
-        );
-        assert_eq!(rt; refused.output.len(), 0);
-        assert_eq!(rt; refused.points, 0);
-    }
-    Ok(())
-}
-
-#[test]
 fn file_that_is_too_long(rt: HostRuntime) -> Result<(), Fail> {
     let alloc = rt.alloc();
     let name = Text::from_slice(alloc, b"long.par")?;
@@ -547,22 +585,22 @@ struct Twice {
 }
 
 /// Runs a job twice over a disk that fails in one call.
-fn run_twice(rt: &HostRuntime, file: &[u8], fail: u64) -> Result<Twice, Fail> {
+fn run_twice(rt: &HostRuntime, file: &[u8], more: &[u8], fail: u64) -> Result<Twice, Fail> {
     let alloc = rt.alloc();
-    let words = texts(alloc, &[b"run", b"t.par"])?;
-    let mut shelf = shelf_with(alloc, file, b"", &[])?;
+    let words: &[&[u8]] = &[b"run", b"t.par"];
+    let mut shelf = shelf_with(alloc, file, more, &[])?;
     let mut disk = HollowDisk::new(alloc, fail);
-    let mut out = sink(alloc, &[])?;
-    let mut meter = Meter::new(rt);
-    let first = answer(alloc, &words, &mut shelf, &mut disk, &mut out, &mut meter)?;
+    let first = answer_over(rt, words, &mut shelf, &mut disk)?;
     let first_calls = disk.calls();
-    let second = answer(alloc, &words, &mut shelf, &mut disk, &mut out, &mut meter)?;
+    let second = answer_over(rt, words, &mut shelf, &mut disk)?;
+    let mut printed = first.printed;
+    printed.extend_from_slice(&second.printed)?;
     Ok(Twice {
-        first,
+        first: first.status,
         first_calls,
-        second,
+        second: second.status,
         calls: disk.calls(),
-        printed: out.bytes().to_vec(alloc)?,
+        printed,
     })
 }
 
@@ -570,7 +608,7 @@ fn run_twice(rt: &HostRuntime, file: &[u8], fail: u64) -> Result<Twice, Fail> {
 fn disk_that_fails_once(rt: HostRuntime) -> Result<(), Fail> {
     for writer in WRITERS {
         for fail in 0..writer.calls {
-            let came = run_twice(&rt, writer.file, fail)?;
+            let came = run_twice(&rt, writer.file, writer.more, fail)?;
             assert_eq!(rt; came.first, 4);
             assert_eq!(rt; came.first_calls, fail + 1);
             assert_eq!(rt; came.second, writer.status);
@@ -581,22 +619,54 @@ fn disk_that_fails_once(rt: HostRuntime) -> Result<(), Fail> {
     Ok(())
 }
 
-#[test]
-fn shelf_and_sink_that_fail_once(rt: HostRuntime) -> Result<(), Fail> {
+/// Runs `ca.par` over a shelf and a sink, on a disk that does nothing.
+fn run_again(rt: &HostRuntime, shelf: &mut LateShelf, out: &mut MemorySink) -> Result<u8, Fail> {
     let alloc = rt.alloc();
     let words = texts(alloc, &[b"run", b"ca.par"])?;
-    let mut shelf = LateShelf::new(SAMPLES);
     let mut disk = HollowDisk::new(alloc, 100);
-    let mut out = sink(alloc, &[1])?;
-    let mut meter = Meter::new(&rt);
-    for status in [4, 4, 0] {
-        let given = answer(alloc, &words, &mut shelf, &mut disk, &mut out, &mut meter)?;
-        assert_eq!(rt; given, status);
+    let mut wire = wire(alloc)?;
+    let mut turns = SeededTurns::new();
+    let mut meter = Meter::new(rt);
+    Ok(answer(
+        alloc, &words, shelf, &mut disk, &mut wire, &mut turns, out, &mut meter,
+    )?)
+}
+
+/// The statuses of two runs over a shelf that fails in one reading, and what they print.
+fn read_late(rt: &HostRuntime, fail: u64) -> Result<(u8, u8, Vec<u8>), Fail> {
+    let alloc = rt.alloc();
+    let mut shelf = LateShelf::new(SAMPLES, fail);
+    let mut out = sink(alloc, &[])?;
+    let first = run_again(rt, &mut shelf, &mut out)?;
+    let second = run_again(rt, &mut shelf, &mut out)?;
+    Ok((first, second, out.bytes().to_vec(alloc)?))
+}
+
+// The parameter file, the list of thorns, and four files of the one thorn.
+#[test]
+fn shelf_that_fails_once(rt: HostRuntime) -> Result<(), Fail> {
+    for fail in 0..6 {
+        let (first, second, printed) = read_late(&rt, fail)?;
+        assert_eq!(rt; first, 4);
+        assert_eq!(rt; second, 0);
+        assert_eq!(rt;
+            printed.as_slice(),
+            b"device: shelf\ndone: iteration 2\n".as_slice()
+        );
     }
-    assert_eq!(rt;
-        out.bytes(),
-        b"device: shelf\ndone: iteration 2\n".as_slice()
-    );
+    Ok(())
+}
+
+#[test]
+fn sink_that_fails_once(rt: HostRuntime) -> Result<(), Fail> {
+    let mut shelf = LateShelf::new(SAMPLES, 1000);
+    let mut out = sink(rt.alloc(), &[0])?;
+    let first = run_again(&rt, &mut shelf, &mut out)?;
+    assert_eq!(rt; first, 4);
+    assert_eq!(rt; out.bytes().len(), 0);
+    let second = run_again(&rt, &mut shelf, &mut out)?;
+    assert_eq!(rt; second, 0);
+    assert_eq!(rt; out.bytes(), b"done: iteration 2\n".as_slice());
     Ok(())
 }
 

@@ -1,4 +1,4 @@
-//! Devices that fail in one call, and tell nothing.
+//! Devices that fail in one call, and tell nothing; and sources of turns that always pick alike.
 ghost use Rattle.std.specs.Prelude.{◌≡◌, IfErr, false};
 ghost use Rattle.cx_disk.specs.Cause.{HasCause};
 ghost use Rattle.cx_disk.specs.Disk.{untold};
@@ -8,20 +8,28 @@ use crate::samples::File;
 use cx_disk::{Disk, DiskFault};
 use cx_run::{Shelf, ShelfFault};
 use cx_text::Text;
+use cx_turns::Turns;
 use std::alloc::Global;
 
-/// A shelf that fails at the first reading of its list of thorns, and then has these files.
+/// A shelf of these files, which fails in the reading of one number; the first reading is number 0.
 #[derive(Drop)]
 pub struct LateShelf {
     files: &'static [File],
+    calls: u64,
+    fail: u64,
     faults: u64,
 }
 
 impl LateShelf {
-    pub fn new(files: &'static [File]) -> Self
+    pub fn new(files: &'static [File], fail: u64) -> Self
         ensures faults { result.faults ≡ 0 }
     {
-        LateShelf { files, faults: 0 }
+        LateShelf {
+            files,
+            calls: 0,
+            fail,
+            faults: 0,
+        }
     }
 
     /// The bytes of the first file of a name.
@@ -33,6 +41,19 @@ impl LateShelf {
         }
         None
     }
+
+    fn counted(&mut self) -> Result<(), ShelfFault>
+        ensures cause { HasCause ShelfFault.Failed self.old.faults self.new.faults result }
+        ensures failed { IfErr result (λ fault. fault ≡ ShelfFault.Failed) }
+    {
+        let call = self.calls;
+        self.calls = call.saturating_add(1);
+        if call == self.fail {
+            self.faults = self.faults.saturating_add(1);
+            return Err(ShelfFault::Failed);
+        }
+        Ok(())
+    }
 }
 
 impl Shelf for LateShelf {
@@ -43,10 +64,7 @@ impl Shelf for LateShelf {
     ghost faults = { λ shelf. shelf.faults };
 
     fn read(&mut self, alloc: Global, name: &Text) -> Result<Option<Vec<u8>>, ShelfFault> {
-        if self.faults == 0 && name.as_slice() == b"ThornList".as_slice() {
-            self.faults = 1;
-            return Err(ShelfFault::Failed);
-        }
+        self.counted()?;
         match self.find(name.as_slice()) {
             Some(bytes) => Ok(Some(bytes.to_vec(alloc)?)),
             None => Ok(None),
@@ -149,5 +167,29 @@ impl Disk for HollowDisk {
 
     fn sync(&mut self, _file: u32) -> Result<(), DiskFault> {
         self.counted()
+    }
+}
+
+/// Turns that always pick the first event.
+#[derive(Drop)]
+pub struct FirstTurns;
+
+impl Turns for FirstTurns {
+    fn start(&mut self, _seed: u64) {}
+
+    fn pick(&mut self, _n: u64) -> u64 {
+        0
+    }
+}
+
+/// Turns that always pick the last event.
+#[derive(Drop)]
+pub struct LastTurns;
+
+impl Turns for LastTurns {
+    fn start(&mut self, _seed: u64) {}
+
+    fn pick(&mut self, n: u64) -> u64 {
+        n - 1
     }
 }

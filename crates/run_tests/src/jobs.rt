@@ -11,7 +11,7 @@ pub struct Run {
     pub status: u8,
     pub printed: &'static [u8],
     pub output: &'static [u8],
-    /// How many points are computed, where the run is done.
+    /// How many points the parts compute, where the run is done.
     pub points: Option<u128>,
 }
 
@@ -139,7 +139,7 @@ pub const RUNS: &[Run] = &[
         status: 0,
         printed: b"done: iteration 2\n",
         output: CA_OUTPUT,
-        points: Some(24),
+        points: Some(26),
     },
     Run {
         file: OTHER_ORDER,
@@ -148,7 +148,7 @@ pub const RUNS: &[Run] = &[
         status: 0,
         printed: b"done: iteration 2\n",
         output: CA_OUTPUT,
-        points: Some(24),
+        points: Some(26),
     },
     Run {
         file: CA,
@@ -157,7 +157,7 @@ pub const RUNS: &[Run] = &[
         status: 0,
         printed: b"done: iteration 2\n",
         output: CA_OUTPUT,
-        points: Some(24),
+        points: Some(28),
     },
     Run {
         file: CA,
@@ -166,7 +166,7 @@ pub const RUNS: &[Run] = &[
         status: 0,
         printed: b"done: iteration 2\n",
         output: CA_OUTPUT,
-        points: Some(24),
+        points: Some(40),
     },
     Run {
         file: CA,
@@ -175,7 +175,7 @@ pub const RUNS: &[Run] = &[
         status: 0,
         printed: b"done: iteration 2\n",
         output: CA_OUTPUT,
-        points: Some(24),
+        points: Some(28),
     },
     Run {
         file: FIRST_ROW,
@@ -186,7 +186,7 @@ pub const RUNS: &[Run] = &[
         output: b"# ca::cell iteration 0 size 8\n\
             0 0 0 1 0 0 0 0\n\
             \n",
-        points: Some(8),
+        points: Some(10),
     },
     // The other examples.
     Run {
@@ -196,7 +196,7 @@ pub const RUNS: &[Run] = &[
         status: 0,
         printed: b"done: iteration 4\n",
         output: LIFE_OUTPUT,
-        points: Some(320),
+        points: Some(356),
     },
     Run {
         file: LIFE,
@@ -206,7 +206,7 @@ pub const RUNS: &[Run] = &[
         status: 0,
         printed: b"done: iteration 4\n",
         output: LIFE_OUTPUT,
-        points: Some(320),
+        points: Some(424),
     },
     Run {
         file: GLIDER,
@@ -259,7 +259,7 @@ pub const RUNS: &[Run] = &[
             0 0 0 0 0 0 0 0 0 0 0 0\n\
             \n\
             # life::live iteration 48 value 5\n",
-        points: Some(7056),
+        points: Some(7108),
     },
     Run {
         file: WAVE,
@@ -273,7 +273,7 @@ pub const RUNS: &[Run] = &[
             # wave::phi iteration 1 size 6\n\
             0 8 -8 8 0 0\n\
             \n",
-        points: Some(12),
+        points: Some(14),
     },
     Run {
         file: HEAT,
@@ -355,7 +355,7 @@ pub const RUNS: &[Run] = &[
             5 5 5 5 5 5 5 5 5 5 5 5 5 5 5 5 5 5 5 5 5 5 5 5 5 5 5 5 5 5 5 5 5 5 5 5 5 5 5 5\n\
             \n\
             # wave::total iteration 40 value 200\n",
-        points: Some(4924),
+        points: Some(4944),
     },
     // A sum that leaves 64 bits, and one whose parts alone do.
     Run {
@@ -559,7 +559,7 @@ pub const RUNS: &[Run] = &[
             # diff::u iteration 2 size 6\n\
             0 0 8 0 0 0\n\
             \n",
-        points: Some(7),
+        points: Some(9),
     },
     Run {
         file: b"ActiveThorns = \"DiffInt Control\"\n\
@@ -594,7 +594,7 @@ pub const RUNS: &[Run] = &[
             0 2 4 2 0 0\n\
             \n\
             # control::count iteration 2 value 0\n",
-        points: Some(15),
+        points: Some(17),
     },
     // Three directions, of which one is periodic.
     Run {
@@ -641,7 +641,7 @@ pub const RUNS: &[Run] = &[
             184 184 797 797\n\
             184 184 797 797\n\
             \n",
-        points: Some(96),
+        points: Some(176),
     },
     // A scalar alone, and nothing.
     Run {
@@ -669,7 +669,7 @@ pub const RUNS: &[Run] = &[
         status: 0,
         printed: b"done: iteration 2\n",
         output: b"",
-        points: Some(24),
+        points: Some(26),
     },
     Run {
         file: CA,
@@ -678,7 +678,7 @@ pub const RUNS: &[Run] = &[
         status: 0,
         printed: b"done: iteration 2\n",
         output: b"",
-        points: Some(24),
+        points: Some(26),
     },
     Run {
         file: b"ActiveThorns = \"ElemCA\"\n\
@@ -691,7 +691,7 @@ pub const RUNS: &[Run] = &[
         status: 0,
         printed: b"done: iteration 2\n",
         output: b"",
-        points: Some(24),
+        points: Some(26),
     },
     // Checkpoints that are never due.
     Run {
@@ -702,6 +702,6 @@ pub const RUNS: &[Run] = &[
         status: 0,
         printed: b"done: iteration 2\n",
         output: CA_OUTPUT,
-        points: Some(24),
+        points: Some(26),
     },
 ];

@@ -1,8 +1,10 @@
-//! Tests of the top call with the sample thorns, of their schedules as lists of operations, and of the folder as a shelf.
+//! Tests of the top call with the sample thorns, also in parts and on disks that stop, of their schedules as lists of operations, and of the folder as a shelf.
 #![tactic(auto)]
 
 #[cfg(test)]
 mod calls;
+#[cfg(test)]
+mod carriers;
 #[cfg(test)]
 mod cuts;
 #[cfg(test)]
@@ -14,4 +16,10 @@ mod flats;
 #[cfg(test)]
 mod jobs;
 #[cfg(test)]
+mod parts;
+#[cfg(test)]
 mod samples;
+#[cfg(test)]
+mod stops;
+#[cfg(test)]
+mod wires;

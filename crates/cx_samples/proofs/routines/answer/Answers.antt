@@ -13,12 +13,12 @@ use Rattle.cx_samples.proofs.Handed.{Handed, none_yet, pushed, rules_of, specs_o
 use Rattle.cx_samples.proofs.routines.answer.Given.{Over}
 use Rattle.cx_samples.proofs.routines.answer.Goals as goal
 
-handed : (g : Over) (c : goal.After-answer_with-arg-4-1 g) → Handed c.push-22.new.self.items (λ z. ((dyn-1-ghosts g.row.H g.row.D g.row.O g.H.Shelf g.H.Shelf-dict g.D.Disk g.D.Disk-dict g.O.Sink g.O.Sink-dict (own-1, lawful-own-1)).0.entry z.vtable).1.rule z.value) (λ z. ((dyn-1-ghosts g.row.H g.row.D g.row.O g.H.Shelf g.H.Shelf-dict g.D.Disk g.D.Disk-dict g.O.Sink g.O.Sink-dict (own-1, lawful-own-1)).0.entry z.vtable).1.spec_of z.value) sample_rules sample_specs
+handed : (g : Over) (c : goal.After-answer_with-arg-6-1 g) → Handed c.push-22.new.self.items (λ z. ((dyn-1-ghosts g.row.H g.row.D g.row.W g.row.T g.row.O g.H.Shelf g.H.Shelf-dict g.D.Disk g.D.Disk-dict g.W.Wire g.W.Wire-dict g.T.Turns g.T.Turns-dict g.O.Sink g.O.Sink-dict (own-1, lawful-own-1)).0.entry z.vtable).1.rule z.value) (λ z. ((dyn-1-ghosts g.row.H g.row.D g.row.W g.row.T g.row.O g.H.Shelf g.H.Shelf-dict g.D.Disk g.D.Disk-dict g.W.Wire g.W.Wire-dict g.T.Turns g.T.Turns-dict g.O.Sink g.O.Sink-dict (own-1, lawful-own-1)).0.entry z.vtable).1.spec_of z.value) sample_rules sample_specs
 handed g c =
-    let h0 = none_yet c.new-routines.result.items (λ z. ((dyn-1-ghosts g.row.H g.row.D g.row.O g.H.Shelf g.H.Shelf-dict g.D.Disk g.D.Disk-dict g.O.Sink g.O.Sink-dict (own-1, lawful-own-1)).0.entry z.vtable).1.rule z.value) (λ z. ((dyn-1-ghosts g.row.H g.row.D g.row.O g.H.Shelf g.H.Shelf-dict g.D.Disk g.D.Disk-dict g.O.Sink g.O.Sink-dict (own-1, lawful-own-1)).0.entry z.vtable).1.spec_of z.value) c.new-routines.ensures.items in
+    let h0 = none_yet c.new-routines.result.items (λ z. ((dyn-1-ghosts g.row.H g.row.D g.row.W g.row.T g.row.O g.H.Shelf g.H.Shelf-dict g.D.Disk g.D.Disk-dict g.W.Wire g.W.Wire-dict g.T.Turns g.T.Turns-dict g.O.Sink g.O.Sink-dict (own-1, lawful-own-1)).0.entry z.vtable).1.rule z.value) (λ z. ((dyn-1-ghosts g.row.H g.row.D g.row.W g.row.T g.row.O g.H.Shelf g.H.Shelf-dict g.D.Disk g.D.Disk-dict g.W.Wire g.W.Wire-dict g.T.Turns g.T.Turns-dict g.O.Sink g.O.Sink-dict (own-1, lawful-own-1)).0.entry z.vtable).1.spec_of z.value) c.new-routines.ensures.items in
     let more = pushed c.new-routines.result.items
-    (λ t h. ((dyn-1-ghosts g.row.H g.row.D g.row.O g.H.Shelf g.H.Shelf-dict g.D.Disk g.D.Disk-dict g.O.Sink g.O.Sink-dict (own-1, lawful-own-1)).0.entry t).1.rule h)
-    (λ t h. ((dyn-1-ghosts g.row.H g.row.D g.row.O g.H.Shelf g.H.Shelf-dict g.D.Disk g.D.Disk-dict g.O.Sink g.O.Sink-dict (own-1, lawful-own-1)).0.entry t).1.spec_of h) (λ z. z.vtable) (λ z. z.value) in
+    (λ t h. ((dyn-1-ghosts g.row.H g.row.D g.row.W g.row.T g.row.O g.H.Shelf g.H.Shelf-dict g.D.Disk g.D.Disk-dict g.W.Wire g.W.Wire-dict g.T.Turns g.T.Turns-dict g.O.Sink g.O.Sink-dict (own-1, lawful-own-1)).0.entry t).1.rule h)
+    (λ t h. ((dyn-1-ghosts g.row.H g.row.D g.row.W g.row.T g.row.O g.H.Shelf g.H.Shelf-dict g.D.Disk g.D.Disk-dict g.W.Wire g.W.Wire-dict g.T.Turns g.T.Turns-dict g.O.Sink g.O.Sink-dict (own-1, lawful-own-1)).0.entry t).1.spec_of h) (λ z. z.vtable) (λ z. z.value) in
     let h1 = more _ _ _ _ _ _ ca_init_rule ca_init_spec h0 c.in_ok-push.ensures.items c.into_dyn_box.ensures.0 (λ h. refl) (λ h. refl) in
     let h2 = more _ _ _ _ _ _ ca_step_rule ca_step_spec h1 c.in_ok-push-2.ensures.items c.into_dyn_box-in_ok-new-4.ensures.0 (λ h. refl) (λ h. refl) in
     let h3 = more _ _ _ _ _ _ ca_zero_rule ca_zero_spec h2 c.in_ok-push-3.ensures.items c.into_dyn_box-in_ok-new-6.ensures.0 (λ h. refl) (λ h. refl) in

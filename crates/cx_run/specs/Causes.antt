@@ -1,0 +1,137 @@
+-- What stands behind each answer.
+use Rattle.std.specs.Prelude.{◌≡◌, ◌≢◌, ◌⊎◌, ℕ, List, Option, None, Some, Result, Ok, Err}
+use Rattle.cx_disk.specs.Disk.{Files, IsNamed}
+use Rattle.cx_plan.specs.Setups.{setup_of}
+use Rattle.cx_plan.specs.Whole.{IsWhole}
+use Rattle.cx_plan.specs.declared.job.Job.{Job}
+use Rattle.cx_rule.specs.Jobs.{FitJob}
+use Rattle.cx_model.specs.Runs.{end as end_of, end_by}
+use Rattle.cx_model.specs.declared.ends.End.{End}
+use Rattle.cx_model.specs.declared.ends.End.TheVariants.{Done}
+use Rattle.cx_chk.specs.declared.checkpoint.Checkpoint.{Checkpoint}
+use Rattle.cx_keep.specs.Tests.{begun}
+use Rattle.cx_keep.specs.Resuming.{AreTrails}
+use Rattle.cx_keep.specs.Trails.{NewestIs}
+use Rattle.cx_course.specs.Beginnings.{run_from}
+use Rattle.cx_course.specs.Starts.{BeginsOn}
+use Rattle.cx_course.specs.Works.{LastIs}
+use Rattle.cx_job.specs.Making.{Made, Makes as MakesWith}
+use Rattle.cx_job.specs.declared.fault.JobFault.{JobFault}
+use Rattle.cx_drive.specs.Lent.{HasRisen}
+use Rattle.cx_drive.specs.Drives.{Drive, course, AreTold, StartsWell, HasWholeOutput, HasWorked, IsRefused, LeavesTrails}
+use Rattle.cx_run.specs.Answers.{answer_of}
+use Rattle.cx_run.specs.Calls.{Work, Call, IsStill, driven}
+use Rattle.cx_run.specs.Texts.{command_text}
+use Rattle.cx_run.specs.Words.{Request, asked}
+use Rattle.cx_run.specs.declared.reply.Answer.{Answer}
+use Rattle.cx_run.specs.declared.reply.Answer.TheVariants as a
+use Rattle.cx_run.specs.declared.words.Command.{Command}
+use Rattle.cx_run.specs.declared.words.Command.TheVariants.{Run}
+
+-- ---- a run that came to its end
+
+-- the last checkpoint of the run is the newest one of each image
+abbrev pub HasLast : Drive → Type 0
+HasLast d =
+    (image : Files) → d.disk.new.images image → (n : Option ℕ) × NewestIs image n × LastIs (course d) n
+
+-- from a disk that it can go on from: the undivided run's output and end, and its work where it is
+-- done
+pub record HasCome (d : Drive) (end : End) : Type 0 where
+  pub output : HasWholeOutput d
+  pub end_is : end_of (setup_of d.job) d.rules ≡ end
+  pub work : end ≡ Done → HasWorked d
+  pub last : HasLast d
+
+-- The run began with the checkpoint that was found on the disk, or with none, and ended as the
+-- undivided run does from there, in the job's folders.
+pub record HasRun (w : Work) (job : Job) (end : End) : Type 0 where
+  pub found : Option Checkpoint
+  pub began : w.disk.tells → begun job w.disk.old.seen ≡ Ok found
+  pub ends : AreTold (driven w job) → end_by (run_from (setup_of job) w.rules found).outcome ≡ end
+  pub come : AreTold (driven w job) → StartsWell (driven w job) → HasCome (driven w job) end
+  pub folders : IsNamed job.out_dir job.chk_dir w.folders
+
+-- ---- a command with a job
+
+-- a run that is done
+pub record IsDone (w : Work) (command : Command) (job : Job) (iteration : ℕ) : Type 0 where
+  pub command_is : command ≡ Run
+  pub last : iteration ≡ job.itlast
+  pub run : HasRun w job Done
+
+-- a run that came to another end
+pub record IsEnded (w : Work) (command : Command) (job : Job) (end : End) : Type 0 where
+  pub command_is : command ≡ Run
+  pub other : end ≢ Done
+  pub run : HasRun w job end
+
+-- a command that isn't a run has this text
+pub record IsTold (w : Work) (command : Command) (job : Job) (text : List ℕ) : Type 0 where
+  pub command_is : command ≢ Run
+  pub text_is : text ≡ command_text command job
+  pub still : IsStill w
+
+-- what comes of it
+abbrev pub Comes : Work → Command → Job → Answer → Type 0
+Comes w command job (a.Done iteration) = IsDone w command job iteration
+Comes w command job (a.Text text) = IsTold w command job text
+Comes w command job (a.Ended end) = IsEnded w command job end
+Comes w command job (a.Recovery fault) = (command ≡ Run) × IsRefused (driven w job) fault
+Comes w command job a.Disk = (command ≡ Run) × HasRisen w.disk.faults
+Comes w command job a.Wire = (command ≡ Run) × HasRisen w.wire.faults
+Comes w command job a.Memory = command ≢ Run → IsStill w
+Comes w command job a.Usage = ⊥
+Comes w command job (a.Refused fault) = ⊥
+Comes w command job a.Shelf = ⊥
+
+-- each image of the disk was a trail of the job
+abbrev pub WereTrails : Work → Job → Type 0
+WereTrails w job = AreTrails (course (driven w job)) w.disk.old
+
+-- A run that began on trails is refused only where a checkpoint is asked for and there is none, and leaves trails at each moment.
+pub record ComesTo (w : Work) (command : Command) (job : Job) (answer : Answer) : Type 0 where
+  pub cause : Comes w command job answer
+  pub begins : command ≡ Run → w.disk.tells → WereTrails w job → BeginsOn job w.rules w.disk.old.seen
+  pub trails : AreTold (driven w job) → WereTrails w job → LeavesTrails (driven w job)
+
+-- ---- what was asked for
+
+-- `make_job` answers so, on the shelf that was lent
+abbrev pub MakesAs : Call → Request → Result Job JobFault → Type 0
+MakesAs c r found =
+    MakesWith c.shelf.tells (Made r.file c.specs)
+    c.shelf.old c.shelf.new c.shelf.faults.old c.shelf.faults.new found
+
+-- what follows for a job that was made
+pub record FollowsJob (c : Call) (command : Command) (job : Job) (answer : Answer) : Type 0 where
+  pub whole : IsWhole job
+  pub fit : FitJob c.specs (setup_of job)
+  pub comes : ComesTo c.work command job answer
+
+-- and for a fault: it is the answer, and nothing but the shelf was touched
+pub record FollowsFault (c : Call) (fault : JobFault) (answer : Answer) : Type 0 where
+  pub answer_is : answer ≡ answer_of fault
+  pub still : IsStill c.work
+
+abbrev pub Follows : Call → Command → Result Job JobFault → Answer → Type 0
+Follows c command (Ok job) answer = FollowsJob c command job answer
+Follows c command (Err fault) answer = FollowsFault c fault answer
+
+-- what `make_job` answered for a request, and what follows
+pub record IsAsked (c : Call) (answer : Answer) : Type 0 where
+  pub request : Request
+  pub asks : asked c.words ≡ Some request
+  pub found : Result Job JobFault
+  pub makes : MakesAs c request found
+  pub follows : Follows c request.command found answer
+
+-- the words ask for nothing that there is, and nothing was touched
+pub record IsWrongUse (c : Call) (answer : Answer) : Type 0 where
+  pub words : asked c.words ≡ None
+  pub answer_is : answer ≡ a.Usage
+  pub shelf : c.shelf.same
+  pub still : IsStill c.work
+
+abbrev pub Explains : Call → Answer → Type 0
+Explains c answer = IsWrongUse c answer ⊎ IsAsked c answer

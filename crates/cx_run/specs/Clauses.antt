@@ -1,0 +1,139 @@
+-- The clauses of the top call.
+use Rattle.std.specs.Prelude.{◌≡◌, ◌≢◌, ◌⊎◌, ℕ, ◌<◌, ◌≤◌, List, Option, None, Some, Ok, Err}
+use Rattle.cx_disk.specs.Moments.{IsQuiet}
+use Rattle.cx_plan.specs.Setups.{setup_of}
+use Rattle.cx_plan.specs.declared.job.Job.{Job}
+use Rattle.cx_model.specs.Runs.{end as end_of, end_by}
+use Rattle.cx_model.specs.declared.ends.End.{End}
+use Rattle.cx_model.specs.declared.ends.End.TheVariants.{Done, Overflow, WhileLimit, OutputLimit}
+use Rattle.cx_chk.specs.declared.checkpoint.Checkpoint.{Checkpoint}
+use Rattle.cx_keep.specs.Tests.{begun}
+use Rattle.cx_keep.specs.declared.fault.BeginFault.{BeginFault}
+use Rattle.cx_keep.specs.declared.fault.BeginFault.TheVariants.{NoCheckpoint}
+use Rattle.cx_course.specs.Beginnings.{run_from}
+use Rattle.cx_job.specs.Making.{without_witness}
+use Rattle.cx_job.specs.declared.fault.JobFault.{JobFault}
+use Rattle.cx_drive.specs.Lent.{HasRisen}
+use Rattle.cx_drive.specs.Drives.{StartsWell, HasWholeOutput, HasWorked, LeavesTrails}
+use Rattle.cx_run.specs.Answers.{text_of, Says, WasSaid}
+use Rattle.cx_run.specs.Calls.{Lent, Work, Call, Makes, IsRun, AreTold, IsStill, driven}
+use Rattle.cx_run.specs.Causes.{HasLast, Explains, WereTrails}
+use Rattle.cx_run.specs.Words.{Request, asked}
+use Rattle.cx_run.specs.declared.reply.Answer.{Answer}
+use Rattle.cx_run.specs.declared.reply.Answer.TheVariants as a
+use Rattle.cx_run.specs.declared.words.Command.TheVariants.{Run}
+
+-- ---- a run
+
+-- it came to its end
+abbrev pub IsEnd : ℕ → Type 0
+IsEnd result = (result ≡ 0) ⊎ (result ≡ 3)
+
+-- What it leaves of a disk that it could go on from: the undivided run's output, its last checkpoint
+-- as the newest one, and no other end than the undivided run's. Where it is done, what was computed
+-- and exchanged is what was left to do.
+pub record Leaves (w : Work) (job : Job) (result : ℕ) : Type 0 where
+  pub output : IsEnd result → HasWholeOutput (driven w job)
+  pub last : IsEnd result → HasLast (driven w job)
+  pub done : result ≡ 0 → end_of (setup_of job) w.rules ≡ Done
+  pub ended : result ≡ 3 → end_of (setup_of job) w.rules ≢ Done
+  pub work : result ≡ 0 → HasWorked (driven w job)
+
+abbrev pub RunsWell : Call → ℕ → Type 0
+RunsWell c result =
+    (job : Job) → IsRun c job → StartsWell (driven c.work job) → Leaves c.work job result
+
+-- at every status: from trails each image of each moment is a trail
+abbrev pub KeepsTrails : Call → Type 0
+KeepsTrails c = (job : Job) → IsRun c job → WereTrails c.work job → LeavesTrails (driven c.work job)
+
+-- ---- what is printed
+
+-- an answer was said that has its cause
+pub record IsAnswered (c : Call) (sink : Lent (List ℕ)) (result : ℕ) : Type 0 where
+  pub answer : Answer
+  pub cause : Explains c answer
+  pub said : WasSaid sink answer result
+
+-- ---- what isn't touched
+
+-- no byte of the disk, at any moment, no queue, no count of the wire, and not the meter
+pub record IsUntouched (w : Work) : Type 0 where
+  pub disk : w.disk.tells → IsQuiet w.disk.old w.disk.new
+  pub wire : w.wire.same
+  pub meter : w.meter.new ≡ w.meter.old
+
+pub record Spares (c : Call) (result : ℕ) : Type 0 where
+  pub refused : (result ≡ 1) ⊎ ((result ≡ 2) ⊎ (result ≡ 6)) → IsUntouched c.work
+  pub wrong_use : asked c.words ≡ None → c.shelf.same × IsStill c.work
+  pub other_command : (r : Request) → asked c.words ≡ Some r → r.command ≢ Run → IsStill c.work
+  pub no_job : c.shelf.tells → (r : Request) (fault : JobFault) → asked c.words ≡ Some r
+      → Makes c r (Err fault) → IsStill c.work
+
+-- ---- what must be answered
+
+-- no device failed
+pub record IsCalm (c : Call) (sink : Lent (List ℕ)) : Type 0 where
+  pub shelf : HasRisen c.shelf.faults → ⊥
+  pub disk : HasRisen c.work.disk.faults → ⊥
+  pub wire : HasRisen c.work.wire.faults → ⊥
+  pub sink_ : HasRisen sink.faults → ⊥
+
+abbrev pub status_at : End → ℕ
+status_at Done = 0
+status_at (Overflow iteration path) = 3
+status_at (WhileLimit iteration path) = 3
+status_at (OutputLimit iteration) = 3
+
+-- the files make no job
+abbrev pub MakesNone : Call → Request → Type 0
+MakesNone c r = (job : Job) → Makes c r (Ok job) → ⊥
+
+-- the status that is due where no device fails and memory suffices
+pub data Gives (c : Call) : ℕ → Type 0 where
+  usage : asked c.words ≡ None → Gives c 1
+  refused : c.shelf.tells → (r : Request) → asked c.words ≡ Some r → MakesNone c r → Gives c 2
+  told : c.shelf.tells → (r : Request) (job : Job) → asked c.words ≡ Some r → r.command ≢ Run
+      → Makes c r (Ok job) → Gives c 0
+  recovery : AreTold c → (job : Job) (fault : BeginFault) → IsRun c job
+      → begun job c.work.disk.old.seen ≡ Err fault → Gives c 6
+  run : AreTold c → (job : Job) (found : Option Checkpoint) → IsRun c job
+      → begun job c.work.disk.old.seen ≡ Ok found
+      → Gives c (status_at (end_by (run_from (setup_of job) c.work.rules found).outcome))
+  -- from trails, or where old checkpoints are given up, unless a checkpoint is asked for and none is there
+  well : AreTold c → (job : Job) → IsRun c job → StartsWell (driven c.work job)
+      → begun job c.work.disk.old.seen ≢ Err NoCheckpoint
+      → Gives c (status_at (end_of (setup_of job) c.work.rules))
+
+-- refused for this fault, but for the cycle or the path that is shown
+pub record IsRefusedFor (fault : JobFault) (sink : Lent (List ℕ)) (result : ℕ) : Type 0 where
+  pub told : JobFault
+  pub alike : without_witness told ≡ without_witness fault
+  pub said : Says sink 2 (text_of (a.Refused told)) result
+
+pub record Owes (c : Call) (sink : Lent (List ℕ)) (result : ℕ) : Type 0 where
+  pub status : IsCalm c sink → (status : ℕ) → Gives c status → (result ≡ status) ⊎ (result ≡ 5)
+  pub fault : c.shelf.tells → (r : Request) (fault : JobFault) → asked c.words ≡ Some r
+      → Makes c r (Err fault) → (HasRisen c.shelf.faults → ⊥) → (HasRisen sink.faults → ⊥)
+      → IsRefusedFor fault sink result ⊎ (result ≡ 5)
+  pub sink_failed : sink.faults.old < sink.faults.new → result ≡ 4
+
+-- ---- whatever is answered
+
+-- the shelf's files are as they were, and no count of faults falls
+pub record IsKept (c : Call) (sink : Lent (List ℕ)) : Type 0 where
+  pub held : c.shelf.tells → c.shelf.new ≡ c.shelf.old
+  pub shelf : c.shelf.faults.old ≤ c.shelf.faults.new
+  pub disk : c.work.disk.faults.old ≤ c.work.disk.faults.new
+  pub wire : c.work.wire.faults.old ≤ c.work.wire.faults.new
+  pub sink_ : sink.faults.old ≤ sink.faults.new
+
+-- ---- all of it
+
+pub record Obeys (c : Call) (sink : Lent (List ℕ)) (result : ℕ) : Type 0 where
+  pub run : AreTold c → RunsWell c result
+  pub trails : AreTold c → KeepsTrails c
+  pub printed : IsAnswered c sink result
+  pub untouched : Spares c result
+  pub owed : Owes c sink result
+  pub kept : IsKept c sink

@@ -1,0 +1,415 @@
+//! Checkpoints: runs that stop anywhere and are started again, and starts that are refused.
+
+use crate::calls::{Outcome, answer_on, answer_over, answer_to, shelf_with};
+use crate::jobs::CA_OUTPUT;
+use crate::parts::{LEFT, SHORT_FIELD};
+use crate::samples::{CA, File};
+use cx_disk::{FuseDisk, MemoryDisk};
+use cx_text::{List, Text};
+use std::alloc::Global;
+use std::test::Fail;
+
+/// Waves in a box of forty points, with two checkpoints.
+const BOX_FILE: &[u8] = b"!DESC \"Waves in a box of forty points\"\n\
+    ActiveThorns = \"PUGH IOUtil\"\n\
+    ActiveThorns = \"WaveInt DiffInt ElemCA Control\"\n\
+    \n\
+    Cactus::cctk_run_title = \"box\"\n\
+    Cactus::terminate      = \"iteration\"\n\
+    Cactus::cctk_itlast    = 40\n\
+    \n\
+    driver::global_nx  = 40\n\
+    driver::ghost_size = 1      # one ghost point per side\n\
+    driver::parts_x    = 3\n\
+    \n\
+    wave::pattern = \"uniform\"\n\
+    wave::amount  = 5\n\
+    wave::sum     = yes\n\
+    \n\
+    IO::out_dir          = $parfile\n\
+    IO::out_every        = 20\n\
+    IO::out_vars         = \"wave::phi\n\
+    \x20                       wave::total\"\n\
+    IO::checkpoint_every = 20\n\
+    IO::checkpoint_keep  = 2\n\
+    IO::recover          = \"autoprobe\"\n";
+
+/// The same without the number of parts, the amount and how it begins.
+const BOX_REST: &[u8] = b"ActiveThorns = \"PUGH IOUtil\"\n\
+    ActiveThorns = \"WaveInt DiffInt ElemCA Control\"\n\
+    Cactus::cctk_run_title = \"box\"\n\
+    Cactus::terminate = \"iteration\"\n\
+    Cactus::cctk_itlast = 40\n\
+    driver::global_nx = 40\n\
+    driver::ghost_size = 1\n\
+    wave::pattern = \"uniform\"\n\
+    wave::sum = yes\n\
+    IO::out_dir = $parfile\n\
+    IO::out_every = 20\n\
+    IO::out_vars = \"wave::phi\n\
+    \x20                       wave::total\"\n\
+    IO::checkpoint_every = 20\n\
+    IO::checkpoint_keep = 2\n";
+
+const BOX_THORNS: &[File] = &[File {
+    name: b"ThornList",
+    bytes: b"# thorns of the box\n\
+        !TARGET = $ARR\n\
+        CactusPUGH/PUGH\n\
+        CactusBase/IOUtil\n\
+        Integer/WaveInt\n\
+        Integer/DiffInt\n\
+        Integer/ElemCA\n\
+        Integer/Control\n",
+}];
+
+/// Its output, 451 bytes.
+const BOX_OUTPUT: &[u8] = b"# wave::phi iteration 0 size 40\n\
+    5 5 5 5 5 5 5 5 5 5 5 5 5 5 5 5 5 5 5 5 5 5 5 5 5 5 5 5 5 5 5 5 5 5 5 5 5 5 5 5\n\
+    \n\
+    # wave::total iteration 0 value 200\n\
+    # wave::phi iteration 20 size 40\n\
+    5 5 5 5 5 5 5 5 5 5 5 5 5 5 5 5 5 5 5 5 5 5 5 5 5 5 5 5 5 5 5 5 5 5 5 5 5 5 5 5\n\
+    \n\
+    # wave::total iteration 20 value 200\n\
+    # wave::phi iteration 40 size 40\n\
+    5 5 5 5 5 5 5 5 5 5 5 5 5 5 5 5 5 5 5 5 5 5 5 5 5 5 5 5 5 5 5 5 5 5 5 5 5 5 5 5\n\
+    \n\
+    # wave::total iteration 40 value 200\n";
+
+const RUN: &[&[u8]] = &[b"run", b"t.par"];
+
+/// What a run of a job over a disk comes to.
+fn run_on(
+    rt: &HostRuntime,
+    file: &[u8],
+    more: &[u8],
+    others: &[File],
+    disk: &mut MemoryDisk,
+) -> Result<Outcome, Fail> {
+    let mut shelf = shelf_with(rt.alloc(), file, more, others)?;
+    answer_on(rt, RUN, &mut shelf, disk)
+}
+
+/// What a run over a disk that stops behind so many calls comes to, and what is left of the disk.
+fn run_stopped(
+    rt: &HostRuntime,
+    file: &[u8],
+    more: &[u8],
+    disk: MemoryDisk,
+    calls: u64,
+    choice: u64,
+) -> Result<(u8, MemoryDisk), Fail> {
+    let mut shelf = shelf_with(rt.alloc(), file, more, &[])?;
+    let mut fuse = FuseDisk::new(disk, calls);
+    let came = answer_over(rt, RUN, &mut shelf, &mut fuse)?;
+    Ok((came.status, fuse.into_image(choice)?))
+}
+
+fn empty_disk(alloc: Global) -> MemoryDisk {
+    MemoryDisk::new(alloc, List::empty(alloc))
+}
+
+/// A disk with the files of another, of which one is cut to a length.
+fn cut_disk(alloc: Global, disk: &MemoryDisk, cut: usize, to: usize) -> Result<MemoryDisk, Fail> {
+    let mut files = List::empty(alloc);
+    for file in 0..9 {
+        let bytes = disk.bytes(file);
+        let kept = if file == cut {
+            bytes.get(..to).unwrap_or(bytes)
+        } else {
+            bytes
+        };
+        files.push(Text::from_slice(alloc, kept)?)?;
+    }
+    Ok(MemoryDisk::new(alloc, files))
+}
+
+/// The disk that the box leaves.
+fn box_disk(rt: &HostRuntime) -> Result<MemoryDisk, Fail> {
+    let mut disk = empty_disk(rt.alloc());
+    run_on(rt, BOX_FILE, b"", BOX_THORNS, &mut disk)?;
+    Ok(disk)
+}
+
+/// How its two slots begin, with the checkpoints of iterations 20 and 40.
+const BOX_SLOTS: &[(usize, &[u8])] = &[
+    (0, b"\x01CXCHKPT\x01\0\0\0\0\0\0\0\x14"),
+    (1, b"\x01CXCHKPT\x01\0\0\0\0\0\0\0\x28"),
+];
+
+#[test]
+fn box_with_checkpoints(rt: HostRuntime) -> Result<(), Fail> {
+    let mut disk = empty_disk(rt.alloc());
+    let came = run_on(&rt, BOX_FILE, b"", BOX_THORNS, &mut disk)?;
+    assert_eq!(rt; came.status, 0);
+    assert_eq!(rt; came.printed.as_slice(), b"done: iteration 40\n".as_slice());
+    assert_eq!(rt; came.output.as_slice(), BOX_OUTPUT);
+    assert_eq!(rt; came.output.len(), 451);
+    assert_eq!(rt; came.points, 4944);
+    assert_eq!(rt; came.received, 480);
+    for (slot, front) in BOX_SLOTS {
+        assert!(rt; disk.bytes(*slot).starts_with(front));
+    }
+    assert_eq!(rt; disk.bytes(2).len(), 0);
+    Ok(())
+}
+
+/// How a run starts on a disk that the box has left, of which one file is cut, or on an empty one.
+struct Start {
+    /// Which file is cut, and to which length from its end.
+    cut: Option<(usize, usize)>,
+    more: &'static [u8],
+    status: u8,
+    printed: &'static [u8],
+    output: &'static [u8],
+}
+
+const STARTS: &[Start] = &[
+    Start {
+        cut: None,
+        more: b"driver::parts_x = 3\nwave::amount = 6\nIO::recover = \"autoprobe\"\n",
+        status: 6,
+        printed: b"recovery: OtherJob\n\
+            parameter wave::amount = \"5\"\n\
+            parameter wave::amount = \"6\"\n",
+        output: BOX_OUTPUT,
+    },
+    Start {
+        cut: Some((1, 1)),
+        more: b"driver::parts_x = 3\nwave::amount = 5\nIO::recover = \"autoprobe\"\n",
+        status: 6,
+        printed: b"recovery: Damaged 1\n",
+        output: BOX_OUTPUT,
+    },
+    Start {
+        cut: Some((8, 441)),
+        more: b"driver::parts_x = 3\nwave::amount = 5\nIO::recover = \"autoprobe\"\n",
+        status: 6,
+        printed: b"recovery: OutputShort 10 300\n",
+        output: b"# wave::ph",
+    },
+    // The newest checkpoint, that of iteration 40, has nothing left to do but the output of iteration 40.
+    Start {
+        cut: None,
+        more: b"driver::parts_x = 4\nwave::amount = 5\nIO::recover = \"auto\"\n",
+        status: 0,
+        printed: b"done: iteration 40\n",
+        output: BOX_OUTPUT,
+    },
+];
+
+#[test]
+fn starts_from_the_box(rt: HostRuntime) -> Result<(), Fail> {
+    let alloc = rt.alloc();
+    let left = box_disk(&rt)?;
+    for start in STARTS {
+        let (file, less) = start.cut.unwrap_or((0, 0));
+        let length = left.bytes(file).len();
+        let mut disk = cut_disk(alloc, &left, file, length.saturating_sub(less))?;
+        let came = run_on(&rt, BOX_REST, start.more, &[], &mut disk)?;
+        assert_eq!(rt; came.status, start.status);
+        assert_eq!(rt; came.printed.as_slice(), start.printed);
+        assert_eq!(rt; came.points, 0);
+        assert_eq!(rt; came.output.as_slice(), start.output);
+    }
+    Ok(())
+}
+
+#[test]
+fn start_afresh_from_the_box(rt: HostRuntime) -> Result<(), Fail> {
+    let mut disk = box_disk(&rt)?;
+    let came = run_on(
+        &rt,
+        BOX_REST,
+        b"driver::parts_x = 3\nwave::amount = 5\nIO::recover = \"no\"\n",
+        &[],
+        &mut disk,
+    )?;
+    assert_eq!(rt; came.status, 0);
+    assert_eq!(rt; came.points, 4944);
+    assert_eq!(rt; came.output.as_slice(), BOX_OUTPUT);
+    Ok(())
+}
+
+#[test]
+fn start_from_nothing(rt: HostRuntime) -> Result<(), Fail> {
+    let alloc = rt.alloc();
+    let mut shelf = shelf_with(alloc, CA, b"IO::recover = \"auto\"\n", &[])?;
+    let refused = answer_to(&rt, RUN, &mut shelf)?;
+    assert_eq!(rt; refused.status, 6);
+    assert_eq!(rt;
+        refused.printed.as_slice(),
+        b"recovery: NoCheckpoint\n".as_slice()
+    );
+    assert_eq!(rt; refused.points, 0);
+    let mut shelf = shelf_with(alloc, CA, b"IO::recover = \"autoprobe\"\n", &[])?;
+    let came = answer_to(&rt, RUN, &mut shelf)?;
+    assert_eq!(rt; came.status, 0);
+    assert_eq!(rt; came.output.as_slice(), CA_OUTPUT);
+    Ok(())
+}
+
+/// The box in three parts and in four, at leads 0 and 3.
+const BOX_LEADS: &[(&[u8], &[u8])] = &[
+    (
+        b"driver::parts_x = 3\nwave::amount = 5\nIO::recover = \"autoprobe\"\n",
+        b"driver::parts_x = 4\nwave::amount = 5\nIO::recover = \"autoprobe\"\n",
+    ),
+    (
+        b"driver::parts_x = 3\nwave::amount = 5\nIO::recover = \"autoprobe\"\ndriver::lead = 3\n",
+        b"driver::parts_x = 4\nwave::amount = 5\nIO::recover = \"autoprobe\"\ndriver::lead = 3\n",
+    ),
+];
+
+// The calls of the first run are: the mount, 8 looks at slots, 8 syncs of slots, a cut and a sync of the output (19); two pieces (21); the
+// first checkpoint, with the output's sync, 2 looks, a cut, a sync, a write of 0, a sync, the body and the gate with their syncs (32); two
+// pieces (34); the second one, with the output's sync, 5 looks, a cut, a sync, a write of 0 and a sync (44); and its body.
+const WITHIN_BODY: u64 = 44;
+
+// Those of the second run are: the mount, 10 looks at slots, or one more where the body is left; 2 at the newest, one at the output, and 8
+// syncs of slots; and the output's cut.
+const STOPS: &[(u64, u64)] = &[(0, 22), (1, 23)];
+
+/// A run of the box that goes on behind two that have stopped, by a choice of what a crash leaves and the calls of the second run.
+fn third_run(
+    rt: &HostRuntime,
+    three: &[u8],
+    four: &[u8],
+    stop: (u64, u64),
+) -> Result<Outcome, Fail> {
+    let (choice, calls) = stop;
+    let disk = empty_disk(rt.alloc());
+    let (first, disk) = run_stopped(rt, BOX_REST, three, disk, WITHIN_BODY, choice)?;
+    let (second, mut disk) = run_stopped(rt, BOX_REST, three, disk, calls, choice)?;
+    let mut came = run_on(rt, BOX_REST, four, &[], &mut disk)?;
+    if first != 4 || second != 4 {
+        came.status = 100;
+    }
+    Ok(came)
+}
+
+#[test]
+fn box_that_stops_twice(rt: HostRuntime) -> Result<(), Fail> {
+    for (three, four) in BOX_LEADS {
+        for stop in STOPS {
+            let came = third_run(&rt, three, four, *stop)?;
+            assert_eq!(rt; came.status, 0);
+            assert_eq!(rt; came.output.as_slice(), BOX_OUTPUT);
+            assert_eq!(rt; came.points, 2400);
+            assert_eq!(rt; came.received, 360);
+        }
+    }
+    Ok(())
+}
+
+const EACH: &[u8] = b"IO::checkpoint_every = 1\nIO::recover = \"autoprobe\"\n";
+
+/// The status of a run that stops behind so many calls of the disk, and what one comes to that is started on what a crash leaves.
+fn started_again(rt: &HostRuntime, calls: u64, choice: u64) -> Result<(u8, Outcome), Fail> {
+    let disk = empty_disk(rt.alloc());
+    let (stopped, mut disk) = run_stopped(rt, CA, EACH, disk, calls, choice)?;
+    let came = run_on(rt, CA, EACH, &[], &mut disk)?;
+    Ok((stopped, came))
+}
+
+/// How many calls a run of the automaton makes, with a checkpoint in each iteration: 19 up to the first piece, three pieces, 11 for the
+/// first checkpoint, 14 for the second one, and the output's sync.
+const AUTOMATON_CALLS: u64 = 48;
+
+#[test]
+fn automaton_that_stops_anywhere(rt: HostRuntime) -> Result<(), Fail> {
+    for calls in 0..AUTOMATON_CALLS {
+        let (stopped, came) = started_again(&rt, calls, calls % 3)?;
+        assert_eq!(rt; stopped, 4);
+        assert_eq!(rt; came.printed.as_slice(), b"done: iteration 2\n".as_slice());
+        assert_eq!(rt; came.output.as_slice(), CA_OUTPUT);
+    }
+    let (stopped, came) = started_again(&rt, AUTOMATON_CALLS, 0)?;
+    assert_eq!(rt; stopped, 0);
+    assert_eq!(rt; came.output.as_slice(), CA_OUTPUT);
+    Ok(())
+}
+
+/// What a run of the automaton comes to behind two that have stopped.
+fn started_thrice(rt: &HostRuntime, first: u64, second: u64) -> Result<Outcome, Fail> {
+    let disk = empty_disk(rt.alloc());
+    let (_, disk) = run_stopped(rt, CA, EACH, disk, first, first % 3)?;
+    let (_, mut disk) = run_stopped(rt, CA, EACH, disk, second, second % 3)?;
+    run_on(rt, CA, EACH, &[], &mut disk)
+}
+
+// The body of the first checkpoint, and the closing and the gate of the second one.
+const FIRST_STOPS: &[u64] = &[27, 40, 44];
+
+// Looks at slots, syncs of slots, the cut of the output, and what follows.
+const SECOND_STOPS: &[u64] = &[0, 5, 11, 13, 15, 20, 21, 22, 23, 24, 26, 28, 31, 34];
+
+#[test]
+fn automaton_that_stops_twice(rt: HostRuntime) -> Result<(), Fail> {
+    for first in FIRST_STOPS {
+        for second in SECOND_STOPS {
+            let came = started_thrice(&rt, *first, *second)?;
+            assert_eq!(rt; came.status, 0);
+            assert_eq!(rt; came.output.as_slice(), CA_OUTPUT);
+        }
+    }
+    Ok(())
+}
+
+/// Numbers that leave 16 bits in iteration 7, with a checkpoint in each third iteration.
+const LEAVES: &[u8] = b"ActiveThorns = \"DiffInt\"\n\
+    Cactus::cctk_itlast = 20\n\
+    driver::global_nx = 16\n\
+    driver::periodic = yes\n\
+    diff::factor = 256\n\
+    diff::amount = 100\n\
+    diff::start = 2\n\
+    IO::out_vars = \"diff::u\"\n\
+    IO::checkpoint_every = 3\n\
+    IO::recover = \"autoprobe\"\n";
+
+#[test]
+fn overflow_twice(rt: HostRuntime) -> Result<(), Fail> {
+    let mut disk = empty_disk(rt.alloc());
+    let first = run_on(&rt, LEAVES, b"", SHORT_FIELD, &mut disk)?;
+    assert_eq!(rt; first.status, 3);
+    assert_eq!(rt; first.output.as_slice(), LEFT);
+    let second = run_on(&rt, LEAVES, b"", SHORT_FIELD, &mut disk)?;
+    assert_eq!(rt; second.status, 3);
+    assert_eq!(rt;
+        second.printed.as_slice(),
+        b"ended: Overflow 7 EVOL/diff_step\n".as_slice()
+    );
+    assert_eq!(rt; second.output.as_slice(), LEFT);
+    assert!(rt; second.points <= 16);
+    Ok(())
+}
+
+/// What stands in a slot behind the key of the automaton's checkpoint of iteration 2: one output of 94 bytes, 2 living cells, and
+/// one level of 8 points.
+const VALUES: &[u8] = b"\0\0\0\x01\0\0\0\0\0\0\0\x5e\
+    \0\0\0\x01\0\0\0\0\0\0\0\x02\
+    \0\0\0\x01\0\0\0\0\0\0\0\x08\
+    \0\0\0\0\0\0\0\0\0\0\0\0\0\0\0\x01\0\0\0\0\0\0\0\0\0\0\0\0\0\0\0\0\
+    \0\0\0\0\0\0\0\0\0\0\0\0\0\0\0\x01\0\0\0\0\0\0\0\0\0\0\0\0\0\0\0\0";
+
+const TWO: &[u8] = b"IO::checkpoint_every = 2\ndriver::parts_x = 3\n";
+
+#[test]
+fn checkpoint_of_the_automaton(rt: HostRuntime) -> Result<(), Fail> {
+    let alloc = rt.alloc();
+    let mut disk = empty_disk(alloc);
+    run_on(&rt, CA, TWO, &[], &mut disk)?;
+    let mut shelf = shelf_with(alloc, CA, TWO, &[])?;
+    let described = answer_to(&rt, &[b"describe", b"t.par"], &mut shelf)?;
+    let slot = disk.bytes(0);
+    assert!(rt; slot.starts_with(b"\x01CXCHKPT\x01\0\0\0\0\0\0\0\x02\0\0"));
+    assert!(rt; slot.ends_with(VALUES));
+    let end = slot.len().saturating_sub(VALUES.len());
+    let key = slot.get(21..end).unwrap_or(&[]);
+    assert!(rt; described.printed.starts_with(key));
+    let rest = described.printed.get(key.len()..).unwrap_or(&[]);
+    assert!(rt; rest.starts_with(b"parameter driver::parts_x = \"3\"\n"));
+    Ok(())
+}

@@ -1,0 +1,102 @@
+//! Runs over wires that alter, note or fail, and turns that always pick alike.
+
+use crate::calls::{shelf_with, sink, texts};
+use crate::carriers::{altering, failing, noting};
+use crate::devices::{FirstTurns, LastTurns};
+use crate::jobs::CA_OUTPUT;
+use crate::samples::CA;
+use cx_disk::MemoryDisk;
+use cx_rule::Meter;
+use cx_samples::answer;
+use cx_text::List;
+use cx_turns::{SeededTurns, Turns};
+use std::test::Fail;
+
+const TWO_PARTS: &[u8] = b"driver::parts_x = 2\n";
+
+/// The automaton's output where part 1 is told in the first exchange that its right neighbour's cell lives.
+const ALTERED: &[u8] = b"# ca::cell iteration 0 size 8\n\
+    0 0 0 1 0 0 0 0\n\
+    \n\
+    # ca::cell iteration 1 size 8\n\
+    0 0 1 0 1 0 0 0\n\
+    \n\
+    # ca::cell iteration 2 size 8\n\
+    0 1 0 0 0 1 0 1\n\
+    \n";
+
+#[test]
+fn a_value_that_is_altered(rt: HostRuntime) -> Result<(), Fail> {
+    let alloc = rt.alloc();
+    let words = texts(alloc, &[b"run", b"t.par"])?;
+    let mut shelf = shelf_with(alloc, CA, TWO_PARTS, &[])?;
+    let mut disk = MemoryDisk::new(alloc, List::empty(alloc));
+    let mut wire = altering(alloc)?;
+    let mut turns = SeededTurns::new();
+    let mut out = sink(alloc, &[])?;
+    let mut meter = Meter::new(&rt);
+    let status = answer(
+        alloc, &words, &mut shelf, &mut disk, &mut wire, &mut turns, &mut out, &mut meter,
+    )?;
+    assert_eq!(rt; status, 0);
+    assert_eq!(rt; disk.bytes(8), ALTERED);
+    Ok(())
+}
+
+/// Whether the automaton's output comes of these turns, and from which part the first message is sent.
+fn first_sender<T: Turns>(rt: &HostRuntime, turns: &mut T) -> Result<(bool, Option<u32>), Fail> {
+    let alloc = rt.alloc();
+    let words = texts(alloc, &[b"run", b"t.par"])?;
+    let mut shelf = shelf_with(alloc, CA, TWO_PARTS, &[])?;
+    let mut disk = MemoryDisk::new(alloc, List::empty(alloc));
+    let mut wire = noting(alloc)?;
+    let mut out = sink(alloc, &[])?;
+    let mut meter = Meter::new(rt);
+    let status = answer(
+        alloc, &words, &mut shelf, &mut disk, &mut wire, turns, &mut out, &mut meter,
+    )?;
+    let right = status == 0 && disk.bytes(8) == CA_OUTPUT;
+    match wire.notes().as_slice() {
+        [] => Ok((right, None)),
+        [note, ..] => Ok((right, Some(note.0))),
+    }
+}
+
+#[test]
+fn picks_are_followed(rt: HostRuntime) -> Result<(), Fail> {
+    let first = first_sender(&rt, &mut FirstTurns)?;
+    assert!(rt; matches!(first, (true, Some(0))));
+    let last = first_sender(&rt, &mut LastTurns)?;
+    assert!(rt; matches!(last, (true, Some(1))));
+    Ok(())
+}
+
+/// What a run over a wire that fails in one call comes to, and what it prints.
+fn failed_at(rt: &HostRuntime, fail: u64) -> Result<(u8, Vec<u8>), Fail> {
+    let alloc = rt.alloc();
+    let words = texts(alloc, &[b"run", b"t.par"])?;
+    let mut shelf = shelf_with(alloc, CA, TWO_PARTS, &[])?;
+    let mut disk = MemoryDisk::new(alloc, List::empty(alloc));
+    let mut wire = failing(alloc, fail)?;
+    let mut turns = SeededTurns::new();
+    let mut out = sink(alloc, &[])?;
+    let mut meter = Meter::new(rt);
+    let status = answer(
+        alloc, &words, &mut shelf, &mut disk, &mut wire, &mut turns, &mut out, &mut meter,
+    )?;
+    Ok((status, out.bytes().to_vec(alloc)?))
+}
+
+// Two exchanges, in each of which both parts send and receive two messages.
+#[test]
+fn wire_that_fails_once(rt: HostRuntime) -> Result<(), Fail> {
+    for fail in 0..16 {
+        let (status, printed) = failed_at(&rt, fail)?;
+        assert_eq!(rt; status, 4);
+        assert_eq!(rt; printed.as_slice(), b"device: wire\n".as_slice());
+    }
+    let (status, printed) = failed_at(&rt, 16)?;
+    assert_eq!(rt; status, 0);
+    assert_eq!(rt; printed.as_slice(), b"done: iteration 2\n".as_slice());
+    Ok(())
+}
