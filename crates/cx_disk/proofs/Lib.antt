@@ -2,4 +2,5 @@ pub mod Files
 pub mod Tearing
 pub mod Memory
 pub mod Moments
+mod FailingLaws
 mod Rows

@@ -3,6 +3,7 @@ pub mod Disk
 pub mod Moments
 pub mod Memory
 pub mod Fuse
+pub mod Failing
 pub mod Folder
 pub mod MemoryLaws
 pub mod Image

@@ -2,7 +2,8 @@
 ghost use Rattle.std.specs.Prelude.{◌≡◌, ◌≢◌, ◌≤◌, ◌<◌, ◌+◌, ◌-◌, ◌++◌, length, take, drop, min, vec_len, IsTrue, OnOk, IfOk, ◌↔◌, ◌^◌};
 ghost use Rattle.cx_disk.specs.Disk.{Torn, CutShort};
 ghost use Rattle.cx_disk.specs.Memory.{file_of, changed};
-ghost use Rattle.cx_disk.specs.Image.{Leaves, HasFile, Redoes, Tears, FollowsIn, IsLeft};
+ghost use Rattle.cx_disk.specs.Image.{Leaves, whole, HasFile, Redoes, Tears, FollowsIn, IsLeft};
+ghost use Rattle.cx_disk.specs.declared.image.Part.TheVariants.{Nothing, All};
 ghost use Rattle.cx_disk.specs.declared.note.Change.TheVariants.{Synced};
 
 use crate::memory_disk::{bytes_of, copied, fill};
@@ -10,18 +11,36 @@ use crate::{Change, Note};
 use cx_text::Text;
 use std::alloc::{AllocError, Global};
 
-// A seed below this number chooses the same of each change and place: 0 nothing of it, and 1 all of it.
-const PLAIN: u64 = 2;
+// How much a crash leaves of a change that isn't settled: nothing, all, or a part by a seed.
+#[derive(Clone, Copy)]
+enum Part {
+    Nothing,
+    All,
+    Torn(u64),
+}
 
-// Another seed, which is spread over all bits.
+// The next of a row of numbers that are spread over all bits.
 fn next_seed(seed: u64) -> u64 {
-    if seed < PLAIN {
-        return seed;
-    }
     let sum = seed.wrapping_add(0x9E37_79B9_7F4A_7C15);
     let once = (sum ^ (sum >> 30)).wrapping_mul(0xBF58_476D_1CE4_E5B9);
     let twice = (once ^ (once >> 27)).wrapping_mul(0x94D0_49BB_1331_11EB);
-    (twice ^ (twice >> 31)) | PLAIN
+    twice ^ (twice >> 31)
+}
+
+// How much is left of a change: nothing by choice 0, all by choice 1, and by any other what the change's seed says.
+fn part_by(choice: u64, seed: u64) -> Part
+    ensures nothing { choice ≡ 0 → result ≡ Nothing }
+    ensures all { choice ≡ 1 → result ≡ All }
+{
+    match choice {
+        0 => Part::Nothing,
+        1 => Part::All,
+        _ => match seed % 4 {
+            0 => Part::Nothing,
+            1 => Part::All,
+            _ => Part::Torn(seed),
+        },
+    }
 }
 
 // A number between two.
@@ -30,10 +49,7 @@ fn between(seed: u64, low: usize, high: usize) -> usize
     ensures least { low ≤ result }
     ensures greatest { result ≤ high }
 {
-    if seed == 0 || low == high {
-        return low;
-    }
-    if seed == 1 || seed % 4 == 3 {
+    if low == high || seed % 4 == 3 {
         return high;
     }
     low + (seed >> 8) as usize % (high - low)
@@ -41,20 +57,9 @@ fn between(seed: u64, low: usize, high: usize) -> usize
 
 // A byte that a crash may leave in the range of a write: the old or the new one, a gate that is open or shut, or any.
 fn torn_byte(seed: u64, old: Option<&u8>, new: Option<&u8>) -> u8 {
-    let old = match old {
-        Some(byte) => *byte,
-        None => 0,
-    };
-    let new = match new {
-        Some(byte) => *byte,
-        None => 0,
-    };
-    if seed < PLAIN {
-        return if seed == 0 { old } else { new };
-    }
     match seed % 5 {
-        0 => old,
-        1 => new,
+        0 => old.copied().unwrap_or(0),
+        1 => new.copied().unwrap_or(0),
         2 => 0,
         3 => 1,
         _ => (seed / 256 % 256) as u8,
@@ -138,15 +143,7 @@ fn torn_write(
 fn torn_cut(alloc: Global, old: &[u8], to: u64, seed: u64) -> Result<Vec<u8>, AllocError>
     ensures { IfOk result (λ front. CutShort to old.now front.items) }
 {
-    let low = old.len().min(to as usize);
-    let high = old.len();
-    let keep = if seed == 1 {
-        low
-    } else if seed == 0 {
-        high
-    } else {
-        between(seed, low, high)
-    };
+    let keep = between(seed, old.len().min(to as usize), old.len());
     old[..keep].to_vec(alloc)
 }
 
@@ -163,8 +160,21 @@ fn next_bytes(alloc: Global, change: &Change, old: &[u8]) -> Result<Vec<u8>, All
     }
 }
 
+// The bytes of a file after a change, though it was stopped.
+fn whole_bytes(alloc: Global, change: &Change, old: &[u8]) -> Result<Vec<u8>, AllocError>
+    ensures { IfOk result (λ new. new.items ≡ whole change.now old.now) }
+{
+    match change {
+        Change::Wrote { at, bytes } => written(alloc, old, *at, bytes.as_slice()),
+        Change::StoppedWrite { at, bytes } => written(alloc, old, *at, bytes.as_slice()),
+        Change::Cut { to } => old[..old.len().min(*to as usize)].to_vec(alloc),
+        Change::StoppedCut { to } => old[..old.len().min(*to as usize)].to_vec(alloc),
+        Change::Synced => old.to_vec(alloc),
+    }
+}
+
 // The bytes of a file that a crash may leave of a change.
-fn left_bytes(alloc: Global, change: &Change, old: &[u8], seed: u64) -> Result<Vec<u8>, AllocError>
+fn torn_change(alloc: Global, change: &Change, old: &[u8], seed: u64) -> Result<Vec<u8>, AllocError>
     ensures { IfOk result (λ new. Leaves change.now old.now new.items) }
 {
     match change {
@@ -173,6 +183,19 @@ fn left_bytes(alloc: Global, change: &Change, old: &[u8], seed: u64) -> Result<V
         Change::Cut { to } => torn_cut(alloc, old, *to, seed),
         Change::StoppedCut { to } => torn_cut(alloc, old, *to, seed),
         Change::Synced => old.to_vec(alloc),
+    }
+}
+
+// The bytes of a file of which a part of a change is left.
+fn left_bytes(alloc: Global, change: &Change, old: &[u8], part: Part) -> Result<Vec<u8>, AllocError>
+    ensures nothing { part ≡ Nothing → IfOk result (λ new. new.items ≡ old.now) }
+    ensures all { part ≡ All → IfOk result (λ new. new.items ≡ whole change.now old.now) }
+    ensures some { IfOk result (λ new. Leaves change.now old.now new.items) }
+{
+    match part {
+        Part::Nothing => old.to_vec(alloc),
+        Part::All => whole_bytes(alloc, change, old),
+        Part::Torn(seed) => torn_change(alloc, change, old, seed),
     }
 }
 
@@ -202,12 +225,30 @@ fn redo(alloc: Global, files: &mut Vec<Text>, note: &Note) -> Result<(), AllocEr
 }
 
 // Makes a change in part.
-fn tear(alloc: Global, files: &mut Vec<Text>, note: &Note, seed: u64) -> Result<(), AllocError>
-    ensures { OnOk result (Tears note.now (file_of files.old.items) (file_of files.new.items)) }
+fn tear(
+    alloc: Global,
+    files: &mut Vec<Text>,
+    note: &Note,
+    choice: u64,
+    seed: u64,
+) -> Result<(), AllocError>
+    ensures { OnOk result
+        (Tears choice note.now (file_of files.old.items) (file_of files.new.items)) }
 {
     let file = note.file as usize;
-    let bytes = left_bytes(alloc, &note.change, bytes_of(files, file), seed)?;
+    let part = part_by(choice, seed);
+    let bytes = left_bytes(alloc, &note.change, bytes_of(files, file), part)?;
     set_bytes(alloc, files, file, bytes)
+}
+
+// Makes one file of an image what it is among the files.
+fn settle(alloc: Global, files: &[Text], image: &mut Vec<Text>, file: u32) -> Result<(), AllocError>
+    ensures { OnOk result (HasFile file (file_of files.now file)
+        (file_of image.old.items) (file_of image.new.items)) }
+{
+    let file = file as usize;
+    let bytes = bytes_of(files, file).to_vec(alloc)?;
+    set_bytes(alloc, image, file, bytes)
 }
 
 // Whether a change is a sync.
@@ -220,23 +261,23 @@ fn is_sync(change: &Change) -> bool
     }
 }
 
-// Makes a change in the files, and in part in their image; a sync makes the image whole.
+// Makes a change in the files, and in part in their image; a sync makes its file whole there.
 fn follow(
     alloc: Global,
     files: &mut Vec<Text>,
     image: &mut Vec<Text>,
     note: &Note,
+    choice: u64,
     seed: u64,
 ) -> Result<(), AllocError>
     ensures { OnOk result
-        (FollowsIn note.now files.old.items image.old.items files.new.items image.new.items) }
+        (FollowsIn choice note.now files.old.items image.old.items files.new.items image.new.items) }
 {
     redo(alloc, files, note)?;
     if is_sync(&note.change) {
-        *image = copied(alloc, files)?;
-        Ok(())
+        settle(alloc, files, image, note.file)
     } else {
-        tear(alloc, image, note, seed)
+        tear(alloc, image, note, choice, seed)
     }
 }
 
@@ -247,14 +288,14 @@ pub(crate) fn image_of(
     notes: &[Note],
     choice: u64,
 ) -> Result<Vec<Text>, AllocError>
-    ensures { IfOk result (λ image. IsLeft first.now notes.now image.items) }
+    ensures { IfOk result (λ image. IsLeft choice first.now notes.now image.items) }
 {
     let mut files = copied(alloc, first)?;
     let mut image = copied(alloc, first)?;
-    let mut seed = next_seed(choice);
+    let mut seed = choice;
     'notes: for note in notes {
-        follow(alloc, &mut files, &mut image, note, seed)?;
         seed = next_seed(seed);
+        follow(alloc, &mut files, &mut image, note, choice, seed)?;
     }
     Ok(image)
 }

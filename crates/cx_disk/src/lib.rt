@@ -2,6 +2,7 @@
 #![tactic(auto)]
 
 mod disk;
+mod failing_disk;
 mod folder_disk;
 mod fuse_disk;
 mod image;
@@ -10,6 +11,7 @@ mod note;
 mod settle;
 
 pub use disk::{Disk, DiskFault};
+pub use failing_disk::FailingDisk;
 pub use folder_disk::FolderDisk;
 pub use fuse_disk::FuseDisk;
 pub use memory_disk::MemoryDisk;

@@ -1,7 +1,7 @@
 //! A disk in memory.
 ghost use Rattle.std.specs.Prelude.{◌≡◌, ◌≤◌, ◌<◌, ◌+◌, ◌++◌, ℕ, length, take, drop, vec_len, IsTrue, OnOk, OnErr, IfOk, true, false};
 ghost use Rattle.cx_disk.specs.Disk.{Files, SameFiles};
-ghost use Rattle.cx_disk.specs.Image.{IsImageOf};
+ghost use Rattle.cx_disk.specs.Image.{IsImageOf, IsChosenOf};
 ghost use Rattle.cx_disk.specs.Memory.{fresh, noted, stopped_write, stopped_cut, file_of, changed, view_of};
 ghost use Rattle.cx_disk.specs.MemoryLaws.{sound_of};
 
@@ -75,7 +75,8 @@ impl MemoryDisk {
 
     // A disk that isn't mounted, of one of the images that a crash may leave of this one, by a choice.
     pub(crate) fn image(&self, choice: u64) -> Result<MemoryDisk, AllocError>
-        ensures { IfOk result (IsImageOf (view_of self.now)) }
+        ensures image { IfOk result (IsImageOf (view_of self.now)) }
+        ensures chosen { IfOk result (IsChosenOf choice self.now) }
     {
         let files = image_of(self.alloc, self.first.as_slice(), &self.notes, choice)?;
         Ok(MemoryDisk::new(self.alloc, List::new(files)))
