@@ -1,3 +1,4 @@
 mod Tables
 mod Untold
 mod Alterings
+mod NewWires

@@ -1,6 +1,6 @@
 //! A wire in memory.
-ghost use Rattle.std.specs.Prelude.{◌≡◌, ◌<◌, ◌+◌, ◌*◌, ◌^◌, ◌++◌, ◌∷◌, [], length, IfOk, OnOk, OnErr, IfErr, vec_len, slice_index_or, slice_set, replicate};
-ghost use Rattle.cx_wire.specs.Memory.{new_wire, carried_sum};
+ghost use Rattle.std.specs.Prelude.{◌≡◌, ℕ, ◌<◌, ◌+◌, ◌*◌, ◌^◌, ◌++◌, ◌∷◌, [], length, IfOk, OnOk, OnErr, IfErr, vec_len, slice_index_or, slice_set, replicate};
+ghost use Rattle.cx_wire.specs.Memory.{new_wire, told_queue, bare_queue, carried_sum};
 ghost use Rattle.cx_wire.specs.Messages.{IsCounted};
 
 use crate::mail::{Head, Mail};
@@ -41,13 +41,15 @@ impl Model for MemoryWire {
 }
 
 impl MemoryWire {
-    /// A wire between so many parts, with empty queues.
+    /// A wire between so many parts, with empty queues, of which nothing was received.
     ///
     /// # Errors
     ///
     /// `Memory` where memory is wanting.
     pub fn new(alloc: Global, parts: u32) -> Result<Self, Memory>
-        ensures { IfOk result (λ wire. wire ≡ new_wire parts) }
+        ensures new { IfOk result (λ wire. wire ≡ new_wire parts) }
+        ensures told { IfOk result (λ wire. (a b : ℕ) → told_queue wire a b ≡ []) }
+        ensures bare { IfOk result (λ wire. (a b : ℕ) → bare_queue wire a b ≡ []) }
     {
         let queues = no_messages(alloc, parts as usize * parts as usize)?;
         Ok(MemoryWire {
