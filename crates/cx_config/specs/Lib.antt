@@ -1,4 +1,5 @@
 pub mod Shelf
+pub mod Failing
 pub mod Stages
 pub mod Reading
 pub mod NamesAndLevels

@@ -2,12 +2,14 @@
 #![tactic(auto)]
 
 mod configuring;
+mod failing_shelf;
 mod fault;
 mod folder;
 mod reading;
 mod shelf;
 
 pub use configuring::{Configured, configure};
+pub use failing_shelf::FailingShelf;
 pub use fault::ConfigFault;
 pub use folder::FolderShelf;
 pub use reading::ThornFiles;

@@ -91,7 +91,12 @@ impl Shelf for MemoryShelf {
 
     ghost faults = { λ _. 0 };
 
-    fn read(&mut self, alloc: Global, name: &Text) -> Result<Option<Vec<u8>>, ShelfFault> {
+    fn read(&mut self, alloc: Global, name: &Text) -> Result<Option<Vec<u8>>, ShelfFault>
+        ensures kept { self.new ≡ self.old }
+        ensures found { IfOk result (λ found. Gives found (looked_up self.old name.now)) }
+        ensures same { looked_up self.new ≡ looked_up self.old }
+        ensures cause { HasCause ShelfFault.Failed 0 0 result }
+    {
         match bytes_under(self.files.as_slice(), name) {
             Some(bytes) => Ok(Some(bytes.as_slice().to_vec(alloc)?)),
             None => Ok(None),
