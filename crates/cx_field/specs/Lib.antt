@@ -1,6 +1,5 @@
 pub mod Patches
 pub mod Zones
 pub mod Faces
-pub mod Filling
 pub mod Staging
 pub mod Sweeps

@@ -1,18 +1,7 @@
-//! The numbers of a part: read, written, staged and committed, point by point and face by face.
+//! An item over the points of a part that it computes, by the routine's own sweep.
 #![tactic(auto)]
 
-mod commit;
-mod faces;
-mod levels;
-mod part;
-mod patch;
-mod places;
-mod points;
-mod staging;
 mod sweep;
-mod windows;
-mod zone;
 
-pub use patch::Patch;
+pub use cx_rule::{Patch, Zone};
 pub use sweep::{apply_boundary, sweep_item};
-pub use zone::Zone;

@@ -30,7 +30,7 @@ use Rattle.cx_model.specs.Turns.{swept_at}
 use Rattle.cx_cut.specs.Cuts.{Parts, owned, local}
 use Rattle.cx_field.specs.Patches.{PatchValue, IsPart, with_numbers}
 use Rattle.cx_field.specs.Zones.{inner, nothing, first_of, in_zone, item_zone, zone_of, zone_points}
-use Rattle.cx_field.specs.declared.zone.Zone.{Zone}
+use Rattle.cx_rule.specs.declared.zone.Zone.{Zone}
 use Rattle.cx_field.specs.Sweeps.{RoseWithin, Sweeps, swept, swept_by, swept_zone}
 use Rattle.cx_field.proofs.PartPoints.{own_local}
 use Rattle.cx_field.proofs.SweptLaws.{cell_swept_of, declared, scalar_reads}

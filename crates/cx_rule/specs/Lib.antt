@@ -8,3 +8,9 @@ pub mod Specs
 pub mod Jobs
 pub mod States
 pub mod Sweeps
+pub mod Patches
+pub mod Zones
+pub mod Faces
+pub mod Filling
+pub mod Staging
+pub mod Swept

@@ -2,7 +2,9 @@
 ghost use Rattle.std.specs.Prelude.{◌≡◌, Some, None, length, IfOk, OnOk, OnErr};
 ghost use Rattle.cx_rule.specs.Routine.{Fits};
 
-use crate::{Cells, Meter, Overflow, Place, Routine, Spec, Window};
+use crate::sweep::sweep_rule;
+use crate::{Cells, Meter, Overflow, Patch, Place, Routine, Spec, Window, Zone};
+use cx_plan::Item;
 use cx_text::Memory;
 use std::alloc::Global;
 
@@ -73,5 +75,16 @@ impl<R: PointRule> Routine for RoutineOf<R> {
     ) -> Result<(), Overflow> {
         meter.add(1);
         self.rule.numbers(w, at, out)
+    }
+
+    fn sweep(
+        &self,
+        item: &Item,
+        patch: &mut Patch,
+        zone: &Zone,
+        iteration: u64,
+        meter: &mut Meter,
+    ) -> Result<(), Overflow> {
+        sweep_rule(&self.rule, item, patch, zone, iteration, meter)
     }
 }

@@ -3,10 +3,12 @@ ghost use Rattle.std.specs.Prelude.{◌≡◌, ◌<◌, ℤ, List as ListOf, map
 ghost use Rattle.cx_rule.specs.Meter.{raised};
 ghost use Rattle.cx_rule.specs.Seen.{Seen};
 ghost use Rattle.cx_rule.specs.Routine.{Fits, rule_at};
+ghost use Rattle.cx_rule.specs.Swept.{swept_zone, CanSweep, Sweeps};
 ghost use Rattle.cx_rule.specs.declared.place.Place.{Place};
 ghost use Rattle.cx_rule.specs.declared.spec.Spec.{Spec};
 
-use crate::{Cells, Meter, Place, Spec, Window};
+use crate::{Cells, Meter, Patch, Place, Spec, Window, Zone};
+use cx_plan::Item;
 
 /// A rule gives no numbers at a point: a number leaves its type.
 #[derive(Clone, Copy, Debug, PartialEq, Eq)]
@@ -45,6 +47,29 @@ pub trait Routine: Drop {
         ensures unchanged { OnErr result (out.new ≡ out.old) }
         ensures room { length out.new ≡ length out.old }
         ensures meter { meter.new ≡ raised meter.old 1 };
+
+    /// Computes an item of this routine at each point of its zone in a part, which are those of `Patch::item_points`. All are computed
+    /// from the numbers before, and counted.
+    ///
+    /// It asks for an item in a shape of the table of regions, no larger than the items that the patch was made for, that names
+    /// stored levels alone.
+    ///
+    /// # Errors
+    ///
+    /// `Overflow` exactly where the rule gives no numbers at one of these points, or a number leaves its variable's type. No number
+    /// of the part has changed then, though some may be staged, and the meter rose by at most the number of the points.
+    fn sweep(
+        &self,
+        item: &Item,
+        patch: &mut Patch,
+        zone: &Zone,
+        iteration: u64,
+        meter: &mut Meter,
+    ) -> Result<(), Overflow>
+        requires can { CanSweep (spec_of self.now) item.now patch.old }
+        requires zone { zone.now ≡ swept_zone patch.old item.now }
+        ensures swept { Sweeps patch.old (rule self.now) item.now iteration patch.new
+            meter.old meter.new result };
 }
 
 /// Computes a boxed routine's rule at one point, as its `point`.

@@ -1,5 +1,0 @@
-use Rattle.cx_field.proofs.PutLaws.{PutTo}
-use Rattle.cx_field.proofs.part.Part.put_levels.Given as goal
-
-abbrev pub invariant-writes : goal.invariant-writes
-invariant-writes l = PutTo l.initial.self l.self l.zone l.staged l.writes l.k

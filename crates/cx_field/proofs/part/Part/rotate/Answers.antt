@@ -1,9 +1,0 @@
-use Rattle.std.proofs.Common.{refl}
-use Rattle.cx_field.proofs.NumberLaws.{rotated_patch}
-use Rattle.cx_field.proofs.part.Part.rotate.Goals as goal
-
-pub invariant_of-self : goal.invariant_of-self
-invariant_of-self c = rw c.rotate_all.ensures (rotated_patch _ c.self.invariant)
-
-pub returns : goal.returns
-returns c = rw (← c.self.view_is, c.rotate_all.ensures) refl

@@ -1,5 +1,0 @@
-use Rattle.std.proofs.Common.{◌≡◌, take}
-use Rattle.cx_field.proofs.part.copies.Given as goal
-
-abbrev pub invariant-vars : goal.invariant-vars
-invariant-vars l = l.all ≡ take l.info-index l.vars

@@ -1,5 +1,0 @@
-use Rattle.cx_field.proofs.BufferLaws.{buffered}
-use Rattle.cx_field.proofs.patch.Patch.owned.Goals as goal
-
-pub returns-clause-patch : goal.returns-clause-patch
-returns-clause-patch c = rw (← c.self.view_is) (buffered _ _ _ _ c.owned.ensures.patch c.self.invariant)

@@ -1,4 +1,0 @@
-use Rattle.cx_field.proofs.patch.Patch.window.Goals as goal
-
-pub returns-clause-seen : goal.returns-clause-seen
-returns-clause-seen c = rw (← c.self.view_is) c.show.ensures.seen

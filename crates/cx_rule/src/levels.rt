@@ -1,0 +1,258 @@
+//! Lists of numbers, one for each level of a variable, or for each write.
+ghost use Rattle.std.specs.Prelude.{◌≡◌, ◌<◌, ◌≤◌, ◌+◌, IfOk, pos, replicate, [], length, map, slice_index_or, slice_set, All, if◌then◌else◌};
+ghost use Rattle.cx_grid.specs.Boxes.{IsBox, IsSmall, point_count, numbers_in};
+ghost use Rattle.cx_rule.specs.States.{rotated_levels};
+ghost use Rattle.cx_rule.specs.Staging.{put_from, staged_at, no_numbers, cleared, mixed_at};
+
+use crate::Cells;
+use crate::zone::{Zone, in_zone};
+use cx_grid::{Box3, count, point_at};
+use cx_text::Memory;
+use std::alloc::Global;
+use std::marker::Model;
+
+/// The numbers of one level. Contracts see the list.
+#[derive(Debug, Drop)]
+pub(crate) struct Level {
+    values: Vec<i64>,
+}
+
+impl Model for Level {
+    ghost use Rattle.std.specs.Prelude.{List, ℤ};
+
+    ghost Value = { List ℤ };
+
+    ghost view = { λ level. level.values.items };
+}
+
+impl Level {
+    /// So many numbers, all 0.
+    fn zeros(alloc: Global, count: usize) -> Result<Self, Memory>
+        ensures { IfOk result (λ level. level ≡ replicate count (pos 0)) }
+    {
+        Ok(Level {
+            values: vec![in alloc; 0; count]?,
+        })
+    }
+
+    /// The numbers.
+    pub(crate) fn as_slice(&self) -> &[i64]
+        ensures { result.now ≡ self.now }
+    {
+        &self.values
+    }
+
+    /// Sets one number.
+    pub(crate) fn set(&mut self, at: usize, value: i64)
+        requires { at < length self.old }
+        ensures { self.new ≡ slice_set self.old at value }
+    {
+        self.values[at] = value;
+    }
+
+    /// Sets numbers from a place on.
+    fn put_row(&mut self, at: usize, values: &[i64])
+        requires { at + length values.now ≤ length self.old }
+        ensures { self.new ≡ put_from at self.old values.now }
+    {
+        let numbers = &mut self.values;
+        let end = at + values.len();
+        numbers[at..end].copy_from_slice(values);
+    }
+
+    /// Sets all numbers to 0.
+    fn clear(&mut self)
+        ensures { self.new ≡ no_numbers self.old }
+    {
+        clear(&mut self.values);
+    }
+
+    /// Sets the numbers at a zone's points to other ones. There is one number for each point of the box.
+    fn put_zone(&mut self, b: &Box3, zone: &Zone, within: &[i64])
+        requires ordered { IsBox b.now }
+        requires small { IsSmall b.now }
+        requires room { length self.old ≡ point_count b.now }
+        requires within { length within.now ≡ point_count b.now }
+        ensures { self.new ≡ numbers_in b.now (mixed_at b.now zone.now within.now self.old) }
+    {
+        put_zone(&mut self.values, b, zone, within);
+    }
+}
+
+/// Sets all numbers to 0.
+fn clear(values: &mut Vec<i64>)
+    ensures { values.new.items ≡ no_numbers values.old.items }
+{
+    'values: for value in values.iter_mut() {
+        *value = 0;
+    }
+}
+
+/// Sets the numbers at a zone's points to other ones.
+fn put_zone(values: &mut Vec<i64>, b: &Box3, zone: &Zone, within: &[i64])
+    requires ordered { IsBox b.now }
+    requires small { IsSmall b.now }
+    requires room { length values.old.items ≡ point_count b.now }
+    requires within { length within.now ≡ point_count b.now }
+    ensures { values.new.items ≡ numbers_in b.now
+        (mixed_at b.now zone.now within.now values.old.items) }
+{
+    'points: for i in 0..count(b) {
+        put_if(values, i, within[i], in_zone(zone, point_at(b, i)));
+    }
+}
+
+/// Sets the number at a place, or leaves it.
+fn put_if(values: &mut Vec<i64>, at: usize, value: i64, put: bool)
+    requires { at < length values.old.items }
+    ensures { values.new.items ≡ (if put then slice_set values.old.items at value
+        else values.old.items) }
+{
+    if put {
+        values[at] = value;
+    }
+}
+
+/// Sets a number of one of several lists.
+fn set_number(levels: &mut Vec<Level>, k: usize, at: usize, value: i64)
+    requires level { k < length levels.old.items }
+    requires at { at < length (slice_index_or levels.old.items k []) }
+    ensures { levels.new.items
+        ≡ slice_set levels.old.items k
+        (slice_set (slice_index_or levels.old.items k []) at value) }
+{
+    let level = &mut levels[k];
+    level.set(at, value);
+}
+
+fn set_each(levels: &mut Vec<Level>, at: usize, cells: &Cells, count: usize)
+    requires count { count ≡ length cells.now }
+    requires levels { count ≤ length levels.old.items }
+    requires room { All (λ numbers. at < length numbers) levels.old.items }
+    ensures { levels.new.items ≡ staged_at at levels.old.items cells.now }
+{
+    'cells: for k in 0..count {
+        set_number(levels, k, at, cells.get(k));
+    }
+}
+
+fn clear_all(levels: &mut Vec<Level>)
+    ensures { levels.new.items ≡ cleared levels.old.items }
+{
+    'levels: for level in levels.iter_mut() {
+        level.clear();
+    }
+}
+
+/// Levels of numbers, the current one first. Contracts see the lists of their numbers.
+#[derive(Debug, Drop)]
+pub(crate) struct Levels {
+    levels: Vec<Level>,
+}
+
+impl Model for Levels {
+    ghost use Rattle.std.specs.Prelude.{List, ℤ};
+
+    ghost Value = { List (List ℤ) };
+
+    ghost view = { λ all. all.levels.items };
+}
+
+impl Levels {
+    /// So many levels of so many numbers, all 0.
+    pub(crate) fn zeros(alloc: Global, levels: usize, numbers: usize) -> Result<Self, Memory>
+        ensures { IfOk result (λ all. all ≡ replicate levels (replicate numbers (pos 0))) }
+    {
+        let mut all = Vec::new(alloc);
+        'levels: for _ in 0..levels {
+            all.push(Level::zeros(alloc, numbers)?)?;
+        }
+        Ok(Levels { levels: all })
+    }
+
+    /// How many levels there are.
+    pub(crate) fn len(&self) -> usize
+        ensures { result ≡ length self.now }
+    {
+        self.levels.len()
+    }
+
+    /// The numbers of a level.
+    pub(crate) fn get(&self, level: usize) -> &[i64]
+        requires { level < length self.now }
+        ensures { result.now ≡ slice_index_or self.now level [] }
+    {
+        self.levels[level].as_slice()
+    }
+
+    /// One number of a level.
+    pub(crate) fn number(&self, level: usize, at: usize) -> i64
+        requires level { level < length self.now }
+        requires at { at < length (slice_index_or self.now level []) }
+        ensures { result ≡ slice_index_or (slice_index_or self.now level []) at (pos 0) }
+    {
+        self.get(level)[at]
+    }
+
+    /// Sets one number of a level.
+    pub(crate) fn set(&mut self, level: usize, at: usize, value: i64)
+        requires level { level < length self.old }
+        requires at { at < length (slice_index_or self.old level []) }
+        ensures { self.new ≡ slice_set self.old level
+            (slice_set (slice_index_or self.old level []) at value) }
+    {
+        let numbers = &mut self.levels[level];
+        numbers.set(at, value);
+    }
+
+    /// Each level becomes the next older one, and the oldest the current one.
+    pub(crate) fn rotate(&mut self)
+        ensures { self.new ≡ rotated_levels self.old }
+    {
+        if !self.levels.is_empty() {
+            self.levels.rotate_right(1);
+        }
+    }
+
+    /// Sets numbers of a level from a place on.
+    pub(crate) fn put_row(&mut self, level: usize, at: usize, values: &[i64])
+        requires level { level < length self.old }
+        requires room { at + length values.now ≤ length (slice_index_or self.old level []) }
+        ensures { self.new ≡ slice_set self.old level
+            (put_from at (slice_index_or self.old level []) values.now) }
+    {
+        let numbers = &mut self.levels[level];
+        numbers.put_row(at, values);
+    }
+
+    /// Sets one number of each of the first levels, at the same place.
+    pub(crate) fn set_each(&mut self, at: usize, cells: &Cells, count: usize)
+        requires count { count ≡ length cells.now }
+        requires levels { count ≤ length self.old }
+        requires room { All (λ numbers. at < length numbers) self.old }
+        ensures { self.new ≡ staged_at at self.old cells.now }
+    {
+        set_each(&mut self.levels, at, cells, count);
+    }
+
+    /// Sets all numbers to 0.
+    pub(crate) fn clear(&mut self)
+        ensures { self.new ≡ cleared self.old }
+    {
+        clear_all(&mut self.levels);
+    }
+
+    /// Sets the numbers of a level at a zone's points to other ones. The level has one number for each point of the box.
+    pub(crate) fn put_zone(&mut self, level: usize, b: &Box3, zone: &Zone, within: &[i64])
+        requires level { level < length self.old }
+        requires ordered { IsBox b.now }
+        requires small { IsSmall b.now }
+        requires room { length (slice_index_or self.old level []) ≡ point_count b.now }
+        requires within { length within.now ≡ point_count b.now }
+        ensures { self.new ≡ slice_set self.old level (numbers_in b.now
+            (mixed_at b.now zone.now within.now (slice_index_or self.old level []))) }
+    {
+        let numbers = &mut self.levels[level];
+        numbers.put_zone(b, zone, within);
+    }
+}
