@@ -7,14 +7,18 @@ ghost use Rattle.indexmap.specs.IndexMap.{insert_entry};
 ghost use Rattle.cx_bind.specs.NameSets.{folded};
 ghost use Rattle.cx_bind.specs.NamePlaces.{place_of, at_name, Puts};
 
-use crate::name_set::folded_name;
+use crate::name_set::{fold_into, folded_name, is_folded};
 use cx_text::Memory;
 use indexmap::IndexMap;
 use std::alloc::Global;
 use std::marker::Model;
 
+/// Names up to this length are asked for by a copy in small letters, which takes no memory; longer ones, which no file that is read
+/// has, are looked for one by one.
+const LONGEST: usize = 256;
+
 /// A place for each of different names. Contracts see the names in small letters, in the order in which they came.
-#[derive(Drop)]
+#[derive(Debug, Drop)]
 pub struct NamePlaces {
     places: IndexMap<Vec<u8>, usize>,
 }
@@ -53,6 +57,30 @@ impl NamePlaces {
     {
         let key = folded_name(alloc, name)?;
         Ok(self.places.get(&key).copied())
+    }
+
+    /// The place of a name that has one. This takes no memory.
+    pub fn find(&self, name: &[u8]) -> Option<usize>
+        ensures { result ≡ place_of self.now name.now }
+    {
+        if name.len() > LONGEST {
+            return self.search(name);
+        }
+        let mut letters = [0; LONGEST];
+        let folded = fold_into(name, &mut letters);
+        self.places.get(folded).copied()
+    }
+
+    /// The place of a name that has one, by a look at each.
+    fn search(&self, name: &[u8]) -> Option<usize>
+        ensures { result ≡ place_of self.now name.now }
+    {
+        'names: for (key, place) in self.places.iter() {
+            if is_folded(name, key) {
+                return Some(*place);
+            }
+        }
+        None
     }
 
     /// What stands in a list at the place of a name.

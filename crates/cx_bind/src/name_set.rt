@@ -1,7 +1,8 @@
 //! Sets of names, in any case.
 
-ghost use Rattle.std.specs.Prelude.{◌≡◌, ◌++◌, ◌∷◌, [], not, false, IsTrue, IfOk, OnOk};
+ghost use Rattle.std.specs.Prelude.{◌≡◌, ◌≤◌, ◌++◌, ◌∷◌, [], not, false, length, IsTrue, IfOk, OnOk};
 ghost use Rattle.std.specs.Option.{option_copied};
+ghost use Rattle.std.specs.Str.{bytes_eq};
 ghost use Rattle.cx_text.specs.Lexemes.{same_name, among};
 ghost use Rattle.cx_bind.specs.NameSets.{folded, has, first_absent, Adds};
 
@@ -19,6 +20,32 @@ pub(crate) fn folded_name(alloc: Global, name: &[u8]) -> Result<Vec<u8>, Memory>
         bytes.push(byte.to_ascii_lowercase())?;
     }
     Ok(bytes)
+}
+
+/// A name in small letters, in a place for them.
+pub(crate) fn fold_into<'a>(name: &[u8], letters: &'a mut [u8]) -> &'a [u8]
+    requires { length name.now ≤ length letters.old }
+    ensures { result.now ≡ folded name.now }
+{
+    let folded = &mut letters[..name.len()];
+    folded.copy_from_slice(name);
+    folded.make_ascii_lowercase();
+    folded
+}
+
+/// Whether a name is this key in small letters.
+pub(crate) fn is_folded(name: &[u8], key: &[u8]) -> bool
+    ensures { result ≡ bytes_eq (folded name.now) key.now }
+{
+    if name.len() != key.len() {
+        return false;
+    }
+    'name: for (place, byte) in name.iter().enumerate() {
+        if byte.to_ascii_lowercase() != key[place] {
+            return false;
+        }
+    }
+    true
 }
 
 /// Different names. Contracts see them in small letters, in the order in which they came.

@@ -1,4 +1,6 @@
 pub mod Along
+pub mod Firsts
+pub mod TableLaws
 pub mod NameLaws
 pub mod GivenLaws
 pub mod AssignLaws

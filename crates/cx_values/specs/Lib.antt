@@ -3,3 +3,4 @@ pub mod Naming
 pub mod Special
 pub mod Faults
 pub mod Assigned
+pub mod Tables

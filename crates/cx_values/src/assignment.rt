@@ -12,6 +12,7 @@ use crate::given::all_given;
 use crate::naming::all_names;
 use crate::settings::checkpoint_dir;
 use crate::slots::{all_slots, check_defaults};
+use crate::tables::{Slots, Uses};
 use crate::uses::{all_globals, all_uses};
 use crate::values::Values;
 use cx_bind::{Bound, NamePlaces, Param, Thorn};
@@ -35,10 +36,10 @@ fn assign_by(
     let dir = checkpoint_dir(alloc, params, names, settings)?;
     let given = all_given(alloc, params, names, dir.as_slice(), settings)?;
     Ok(Values {
-        slots: all_slots(alloc, dir.as_slice(), params)?,
+        slots: Slots::new(alloc, all_slots(alloc, dir.as_slice(), params)?)?,
         given,
         uses: all_uses(alloc, params, names, thorns)?,
-        globals: all_globals(alloc, params)?,
+        globals: Uses::new(alloc, all_globals(alloc, params)?)?,
     })
 }
 

@@ -15,11 +15,11 @@ use crate::lookups::element;
 use crate::settings::find_parameter;
 use crate::special::{is_misspelled, is_stated};
 use crate::spelling::{held_value, value_of_text};
+use crate::tables::AllGiven;
 use crate::values::{Given, Held};
 use cx_bind::{NamePlaces, Param};
 use cx_param::{Value, allows};
 use cx_parfile::Setting;
-use cx_text::List;
 use std::alloc::Global;
 
 /// Tests that a value lies in the ranges of a parameter.
@@ -65,20 +65,11 @@ fn held_set(alloc: Global, dir: &[u8], param: &Param, setting: &Setting) -> Resu
     Ok(held_value(alloc, param.decl.ptype, param.ranges.as_slice(), value)?)
 }
 
-/// Whether an element is set already.
-fn is_set(given: &[Given], parameter: usize, element: u32) -> bool
-    ensures { result ≡ given_before given.now parameter element }
-{
-    given
-        .iter()
-        .any(|one| one.parameter == parameter && one.element == element)
-}
-
-fn check_new(given: &[Given], parameter: usize, element: u32, line: u32) -> Result<(), ValueFault>
+fn check_new(given: &AllGiven, parameter: usize, element: u32, line: u32) -> Result<(), ValueFault>
     ensures { Tells faults.Memory (twice_fault (given_before given.now parameter element) line)
         result }
 {
-    if is_set(given, parameter, element) {
+    if given.sets(parameter, element) {
         return Err(ValueFault::Twice(line));
     }
     Ok(())
@@ -88,7 +79,7 @@ fn check_new(given: &[Given], parameter: usize, element: u32, line: u32) -> Resu
 fn given_element(
     alloc: Global,
     dir: &[u8],
-    given: &[Given],
+    given: &AllGiven,
     setting: &Setting,
     param: &Param,
     target: (usize, u32),
@@ -112,7 +103,7 @@ fn given_element(
 fn given_parameter(
     alloc: Global,
     dir: &[u8],
-    given: &[Given],
+    given: &AllGiven,
     setting: &Setting,
     parameter: usize,
     param: &Param,
@@ -137,7 +128,7 @@ fn given_next(
     params: &[Param],
     names: &NamePlaces,
     dir: &[u8],
-    given: &[Given],
+    given: &AllGiven,
     setting: &Setting,
 ) -> Result<Given, ValueFault>
     ensures told { Tells faults.Memory
@@ -162,16 +153,16 @@ pub(crate) fn all_given(
     names: &NamePlaces,
     dir: &[u8],
     settings: &[Setting],
-) -> Result<List<Given>, ValueFault>
+) -> Result<AllGiven, ValueFault>
     ensures told { Tells faults.Memory
         (settings_fault params.now (place_of names.now) dir.now [] settings.now) result }
     ensures given { IfOk result
         (λ given. given ≡ flat_map (given_by params.now (place_of names.now)) settings.now) }
 {
-    let mut given = List::empty(alloc);
+    let mut given = AllGiven::new(alloc);
     'settings: for setting in settings {
-        let one = given_next(alloc, params, names, dir, given.as_slice(), setting)?;
-        given.push(one)?;
+        let one = given_next(alloc, params, names, dir, &given, setting)?;
+        given = given.with(one)?;
     }
     Ok(given)
 }

@@ -8,10 +8,11 @@ ghost use Rattle.cx_expr.specs.Known.{known};
 ghost use Rattle.cx_values.specs.Naming.{element};
 ghost use Rattle.cx_values.specs.Assigned.{is_given, held_in, holds, held_named, get, number, known_value, known_held, used_as, thorn_finds};
 
-use crate::values::{Given, Held, Slot, Use, Values};
+use crate::tables::{AllGiven, Uses};
+use crate::values::{Held, Slot, Values};
 use cx_expr::{Found, Lookup};
 use cx_param::Value;
-use cx_text::{Text, same_name};
+use cx_text::Text;
 
 /// The element that an index names.
 pub(crate) fn element(length: Option<u32>, index: Option<u32>) -> Option<u32>
@@ -24,53 +25,22 @@ pub(crate) fn element(length: Option<u32>, index: Option<u32>) -> Option<u32>
     }
 }
 
-fn given_to(given: &[Given], parameter: usize, element: u32) -> Option<&Given>
-    ensures { option_copied result ≡ find (is_given parameter element) given.now }
-{
-    given
-        .iter()
-        .find(|one| one.parameter == parameter && one.element == element)
-}
-
-fn held_in<'a>(given: &'a [Given], parameter: usize, slot: &'a Slot, element: u32) -> &'a Held
+fn held_in<'a>(given: &'a AllGiven, parameter: usize, slot: &'a Slot, element: u32) -> &'a Held
     ensures { result.now ≡ held_in given.now parameter slot.now element }
 {
-    match given_to(given, parameter, element) {
+    match given.find(parameter, element) {
         Some(one) => &one.held,
         None => &slot.default,
     }
 }
 
-fn find_place(slots: &[Slot], full: &[u8]) -> Option<usize>
-    ensures { result ≡ position (λ s. same_name s.full full.now) slots.now }
-{
-    slots
-        .iter()
-        .position(|slot| same_name(slot.full.as_slice(), full))
-}
-
-fn find_use<'a>(uses: &'a [Use], name: &[u8]) -> Option<&'a Use>
-    ensures { option_copied result ≡ find (λ u. same_name u.name name.now) uses.now }
-{
-    uses.iter().find(|one| same_name(one.name.as_slice(), name))
-}
-
-fn used_as(uses: &[Use], name: &[u8]) -> Option<usize>
-    ensures { result ≡ used_as name.now uses.now }
-{
-    match find_use(uses, name) {
-        Some(one) => Some(one.parameter),
-        None => None,
-    }
-}
-
 /// The parameter that a name names among a thorn's own uses, else among those of all thorns.
-fn used_by_any(uses: &[Use], globals: &[Use], name: &[u8]) -> Option<usize>
+fn used_by_any(uses: &Uses, globals: &Uses, name: &[u8]) -> Option<usize>
     ensures { result ≡ or_else (used_as name.now uses.now) (used_as name.now globals.now) }
 {
-    match used_as(uses, name) {
+    match uses.find(name) {
         Some(parameter) => Some(parameter),
-        None => used_as(globals, name),
+        None => globals.find(name),
     }
 }
 
@@ -80,13 +50,13 @@ impl Values {
     {
         let slot = self.slots.as_slice().get(parameter)?;
         let element = element(slot.length, index)?;
-        Some(held_in(self.given.as_slice(), parameter, slot, element))
+        Some(held_in(&self.given, parameter, slot, element))
     }
 
     fn find_by_name(&self, full: &Text, index: Option<u32>) -> Option<&Held>
         ensures { option_copied result ≡ held_named self.now full.now index }
     {
-        let parameter = find_place(self.slots.as_slice(), full.as_slice())?;
+        let parameter = self.slots.find(full.as_slice())?;
         self.find_held(index, parameter)
     }
 
@@ -153,8 +123,7 @@ impl ThornView<'_> {
             ≡ thorn_finds self.now.values.now self.now.thorn name.now index }
     {
         let uses = self.values.uses.as_slice().get(self.thorn as usize)?;
-        let globals = self.values.globals.as_slice();
-        let parameter = used_by_any(uses.as_slice(), globals, name.as_slice())?;
+        let parameter = used_by_any(uses, &self.values.globals, name.as_slice())?;
         self.values.find_held(index, parameter)
     }
 }

@@ -104,7 +104,12 @@ fn name_by(alloc: Global, thorns: &[Thorn], way: Way, param: &Param) -> Result<O
 }
 
 /// Gives a name a place, unless it has one.
-fn add_name(alloc: Global, places: &mut NamePlaces, name: &[u8], place: usize) -> Result<(), Memory>
+pub(crate) fn add_name(
+    alloc: Global,
+    places: &mut NamePlaces,
+    name: &[u8],
+    place: usize,
+) -> Result<(), Memory>
     ensures { OnOk result (Adds ((name.now, place) ∷ []) places.old places.new) }
 {
     if places.get(alloc, name)?.is_some() {

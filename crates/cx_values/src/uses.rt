@@ -8,6 +8,7 @@ ghost use Rattle.cx_bind.specs.Parameters.{shared_by};
 ghost use Rattle.cx_values.specs.Assigned.{use_as, own_use, used_by, uses_of, global_use};
 
 use crate::naming::is_global;
+use crate::tables::Uses;
 use crate::values::Use;
 use cx_bind::{NamePlaces, Param, Thorn, full_name, shared_by};
 use cx_param::ParamDecl;
@@ -128,14 +129,15 @@ pub(crate) fn all_uses(
     params: &[Param],
     names: &NamePlaces,
     thorns: &[Thorn],
-) -> Result<List<List<Use>>, Memory>
+) -> Result<List<Uses>, Memory>
     ensures { IfOk result
         (λ all. all
         ≡ map (uses_of params.now (place_of names.now)) (enumerate_from 0 thorns.now)) }
 {
     let mut all = List::empty(alloc);
     'thorns: for (number, thorn) in thorns.iter().enumerate() {
-        all.push(uses_of(alloc, params, names, number, thorn)?)?;
+        let uses = uses_of(alloc, params, names, number, thorn)?;
+        all.push(Uses::new(alloc, uses)?)?;
     }
     Ok(all)
 }

@@ -1,5 +1,6 @@
-//! The values of parameters, as plain data.
+//! The values of parameters, as plain data, with tables in which they are found.
 
+use crate::tables::{AllGiven, Slots, Uses};
 use cx_param::Value;
 use cx_text::{List, Text};
 
@@ -43,11 +44,11 @@ pub struct Use {
 #[derive(Debug, Drop)]
 pub struct Values {
     /// The parameters: the built-in ones, and then the thorns', in the order of activation and of their files.
-    pub slots: List<Slot>,
+    pub slots: Slots,
     /// What settings give, in the order of the file.
-    pub given: List<Given>,
+    pub given: AllGiven,
     /// Of each thorn its own parameters, and then those that it uses and extends.
-    pub uses: List<List<Use>>,
+    pub uses: List<Uses>,
     /// The global parameters, which all thorns use.
-    pub globals: List<Use>,
+    pub globals: Uses,
 }

@@ -1,0 +1,12 @@
+use Rattle.std.proofs.Common.{◌≡◌}
+use Rattle.std.specs.Map.{lookup}
+use Rattle.std.specs.Str.{bytes_eq}
+use Rattle.cx_bind.specs.NameSets.{folded}
+use Rattle.cx_bind.proofs.name_places.NamePlaces.search.Given as goal
+
+abbrev pub invariant-names : goal.invariant-names
+invariant-names l =
+    (goal.iterator-names).can_next l.key-iterator
+    × (goal.iterator-names).is_finite l.key-iterator
+    × (lookup (λ v. bytes_eq (folded l.name) v.items) l.key-iterator
+    ≡ lookup (λ v. bytes_eq (folded l.name) v.items) l.initial.key-iterator)
