@@ -23,7 +23,7 @@ use Rattle.cx_core.specs.Shows.{ShowsGiven, kinds_by, kinds_given, kinds_joined,
 use Rattle.cx_core.specs.Steps.{Counts, IsAt}
 use Rattle.cx_core.proofs.ZipLaws.{zip_append}
 use Rattle.cx_core.proofs.MovedStates.{Ready, world, oracle, its, next, network, places, moved_at}
-use Rattle.cx_core.proofs.QuietMoves.{wires_kept, pieces_kept, hands_by, values_none, sum_none, op_is, joined_kept}
+use Rattle.cx_core.proofs.QuietMoves.{wires_kept, others_kept, pieces_kept, hands_by, values_none, sum_none, op_is, joined_kept}
 use Rattle.cx_core.proofs.QuietOperations.{held_with}
 use Rattle.cx_core.proofs.PostMoves.{LeavesPart, still_shown, shown_with, patches_set, points_none, queue_grown, posts_there}
 
@@ -106,6 +106,7 @@ module _ {tells : Type 0} {r : Run} {first : Counts} {old : Cores} {queue : ℕ 
     patches_are = patches_set s new later l;
     shown = shown_with s new later l;
     wires = wires_kept s after same (λ a b. ap (λ o. op_wants r o (Wire a b)) is) (λ a b n faces number. ap (λ o. op_posts r o n faces number (Wire a b)) is);
+    others = others_kept s after same;
     senders = given.parts;
     boards = boards;
     kinds = kinds;

@@ -1,8 +1,8 @@
 -- Where wires tell, what the core hands out is the undivided run's.
-use Rattle.std.proofs.Common.{◌≡◌, ℕ, ◌+◌, ◌%◌, ◌^◌, ◌<◌, ◌⊎◌, inl, inr, Bool, true, false, ℤ, pos, List, [], ◌∷◌, length, get_or, slice_get, Option, Some, None, arith, refl, sym, ap, ◌∙◌, subst}
+use Rattle.std.proofs.Common.{◌≡◌, ℕ, ◌+◌, ◌%◌, ◌^◌, ◌<◌, ◌≤◌, ◌⊎◌, inl, inr, Bool, true, false, ℤ, pos, List, [], ◌∷◌, length, get_or, slice_get, Option, Some, None, arith, refl, sym, ap, ◌∙◌, subst}
 use Rattle.std.specs.Prelude.{if◌then◌else◌}
 use Rattle.std.specs.List.{AllZip}
-use Rattle.std.proofs.lemmas.Bool.{cases_eq}
+use Rattle.std.proofs.lemmas.Bool.{cases_eq, cases_lt}
 use Rattle.cx_grid.specs.Boxes.{point_count}
 use Rattle.cx_grid.specs.Grid.{whole}
 use Rattle.cx_plan.specs.declared.variable.VarId.{VarId}
@@ -158,6 +158,11 @@ module _ (tells : Type 0) (t : tells) (r : Run) (trace : Trace) (laws : RunLaws 
       matches : TotalsMatch t r trace o w
       matches = laws.done t o w at.reached (over ∙ ap Some at_last)
 
+      none_in : (a b : ℕ) → (a < parts_in r) ⊎ (parts_in r ≤ a) → (b < parts_in r) ⊎ (parts_in r ≤ b) → is.queue a b ≡ []
+      none_in a b (inl l) (inl m) = nothing ShowsMessage (is.queue a b) (subst (λ q. ShowsQueue (is.queue a b) q) (matches.wires a b l m) (at.shows.wires a b l m))
+      none_in a b (inl l) (inr m) = at.shows.others a b (λ i j. omega (arith, m, j))
+      none_in a b (inr l) c = at.shows.others a b (λ i j. omega (arith, l, i))
+
       pub is_done : IsDone tells r trace first is
       is_done = record {
         totals = record {
@@ -165,7 +170,7 @@ module _ (tells : Type 0) (t : tells) (r : Run) (trace : Trace) (laws : RunLaws 
           values = at.values ∙ ap (counted first.values) matches.counts.received;
           sum = at.sum t ∙ ap (λ s. (first.sum + s) % 2 ^ 64) matches.sum;
         };
-        none_left = λ a b l m. nothing ShowsMessage (is.queue a b) (subst (λ q. ShowsQueue (is.queue a b) q) (matches.wires a b l m) (at.shows.wires a b l m));
+        none_left = λ a b. none_in a b (cases_lt a (parts_in r)) (cases_lt b (parts_in r));
         last = λ state v e scalar.
             let p = first_there is.core.patches (parts_in r) at.shows.count laws.some_part in
             ap (λ (x : Option PatchValue). number_in x v) p.1 ∙ ap (λ ns. scalar_of ns v) (at.shows.patches 0 p.0 p.1).numbers

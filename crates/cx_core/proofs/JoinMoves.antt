@@ -38,7 +38,7 @@ use Rattle.cx_core.specs.Shows.{ShowsGiven, kinds_by, kinds_given, kinds_joined,
 use Rattle.cx_core.specs.Steps.{Counts, IsAt}
 use Rattle.cx_core.proofs.ZipLaws.{zip_drop}
 use Rattle.cx_core.proofs.MovedStates.{Ready, world, oracle, its, next, network, places, can, moved_at, met_at}
-use Rattle.cx_core.proofs.QuietMoves.{cond_both, drop_zero, wires_kept, pieces_kept, hands_by, values_none, sum_none, op_is, given_kept}
+use Rattle.cx_core.proofs.QuietMoves.{cond_both, drop_zero, wires_kept, others_kept, pieces_kept, hands_by, values_none, sum_none, op_is, given_kept}
 use Rattle.cx_core.proofs.QuietOperations.{held_with, Leaves, some_gives, none_gives}
 
 -- the kind that an operation joins
@@ -249,6 +249,7 @@ module _ {tells : Type 0} {r : Run} {first : Counts} {old : Cores} {queue : ℕ 
       patches_are = patches;
       shown = record { frame = frame; numbers = refl };
       wires = wires_kept s after same (λ a b. ap (λ o. op_wants r o (Wire a b)) is) (λ a b n faces number. ap (λ o. op_posts r o n faces number (Wire a b)) is);
+      others = others_kept s after same;
       senders = taken.parts;
       boards = boards;
       kinds = kinds;

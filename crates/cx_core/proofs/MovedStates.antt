@@ -1,5 +1,5 @@
 -- The operation of a part leads to a state that is shown, where each piece of what it leaves is shown.
-use Rattle.std.proofs.Common.{◌≡◌, ℕ, zero, suc, ◌+◌, ◌-◌, ◌<◌, ◌≤◌, ◌%◌, ◌^◌, min, max, ◌⊎◌, inl, inr, true, List, ◌++◌, length, take, set, map, Some, None, refl, sym, ap, ◌∙◌, subst, arith, length-set}
+use Rattle.std.proofs.Common.{◌≡◌, ℕ, zero, suc, ◌+◌, ◌-◌, ◌<◌, ◌≤◌, ◌%◌, ◌^◌, min, max, ◌⊎◌, inl, inr, true, List, [], ◌++◌, length, take, set, map, Some, None, refl, sym, ap, ◌∙◌, subst, arith, length-set}
 use Rattle.std.specs.List.{AllZip}
 use Rattle.std.specs.Prelude.{slice_get}
 use Rattle.std.proofs.Math.Nat.{add-mod-mod}
@@ -112,6 +112,7 @@ module _ {tells : Type 0} {r : Run} {first : Counts} {old : Cores} {queue : ℕ 
     pub shown : ShowsPart r k patch y
     pub wires : (a b : ℕ) → a < parts_in r → b < parts_in r
         → ShowsQueue (after a b) (queue_after network world k (Wire a b))
+    pub others : (a b : ℕ) → (a < parts_in r → b < parts_in r → ⊥) → after a b ≡ []
     pub senders : length new.given.given ≡ length old.given.given
     pub boards : (a b : ℕ) → a < parts_in r → b < parts_in r
         → AllZip (ShowsGiven r a) (waiting new.given a b) (queue_after network world k (Board a b))
@@ -205,6 +206,7 @@ module _ {tells : Type 0} {r : Run} {first : Counts} {old : Cores} {queue : ℕ 
       count = ap length m.patches_are ∙ length-set old.patches k m.patch ∙ s.at.shows.count;
       patches = λ j p g. subst (λ h. ShowsPart r j p h) (held_same j) (patch_at new.patches m.patch its m.patches_are m.shown j p g);
       wires = λ a b l i. subst (λ q. ShowsQueue q (world.queue (Wire a b))) (sym (m.queue_is a b)) (s.at.shows.wires a b l i);
+      others = λ a b n. m.queue_is a b ∙ s.at.shows.others a b n;
       senders = ap (λ g. length g.given) m.given_is ∙ s.at.shows.senders;
       boards = λ a b l i. subst (λ g. AllZip (ShowsGiven r a) (waiting g a b) (world.queue (Board a b))) (sym m.given_is) (s.at.shows.boards a b l i);
       kinds = λ a b l i. s.at.shows.kinds a b l i ∙ ap (λ g. kinds_joined r oracle (world.place b) ++ map kind_of (waiting g a b)) (sym m.given_is);
@@ -253,6 +255,7 @@ module _ {tells : Type 0} {r : Run} {first : Counts} {old : Cores} {queue : ℕ 
       count = ap length m.patches_are ∙ length-set old.patches k m.patch ∙ s.at.shows.count;
       patches = patch_at new.patches m.patch y m.patches_are m.shown;
       wires = m.wires;
+      others = m.others;
       senders = m.senders ∙ s.at.shows.senders;
       boards = m.boards;
       kinds = λ a b l i.

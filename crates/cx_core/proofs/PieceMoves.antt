@@ -36,7 +36,7 @@ use Rattle.cx_core.specs.Cores.{Cores}
 use Rattle.cx_core.specs.Shows.{HoldsFor, HoldsWork, kinds_by}
 use Rattle.cx_core.specs.Steps.{Counts, IsAt}
 use Rattle.cx_core.proofs.MovedStates.{Ready, world, its, next, network, moved_at}
-use Rattle.cx_core.proofs.QuietMoves.{wires_kept, boards_kept, kinds_kept, values_none, sum_none}
+use Rattle.cx_core.proofs.QuietMoves.{wires_kept, others_kept, boards_kept, kinds_kept, values_none, sum_none}
 use Rattle.cx_core.proofs.QuietOperations.{held_with}
 use Rattle.cx_core.proofs.CutPatches.{part_of_cut}
 use Rattle.cx_core.proofs.PostMoves.{LeavesPart, still_shown, shown_with, patches_set, points_none}
@@ -139,6 +139,7 @@ module _ {tells : Type 0} {r : Run} {first : Counts} {old : Cores} {queue : ℕ 
         patches_are = patches_set s new later l;
         shown = shown_with s new later l;
         wires = wires_kept s after same (λ a b. ap (λ o. op_wants r o (Wire a b)) is) (λ a b n faces number. ap (λ o. op_posts r o n faces number (Wire a b)) is);
+        others = others_kept s after same;
         senders = ap (λ g. length g.given) given;
         boards = boards_kept s new.given given (λ a b. ap (λ o. op_wants r o (Board a b)) is) (λ a b n faces number. ap (λ o. op_posts r o n faces number (Board a b)) is);
         kinds = kinds_kept s new.given given (ap (kinds_by r) is) (λ i e. no_join i (sym is ∙ e));
@@ -204,6 +205,7 @@ module _ {tells : Type 0} {r : Run} {first : Counts} {old : Cores} {queue : ℕ 
         patches_are = patches_set s new later l;
         shown = shown_with s new later l;
         wires = wires_kept s after same (λ a b. ap (λ o. op_wants r o (Wire a b)) is) (λ a b n faces number. ap (λ o. op_posts r o n faces number (Wire a b)) is);
+        others = others_kept s after same;
         senders = ap (λ g. length g.given) given;
         boards = boards_kept s new.given given (λ a b. ap (λ o. op_wants r o (Board a b)) is) (λ a b n faces number. ap (λ o. op_posts r o n faces number (Board a b)) is);
         kinds = kinds_kept s new.given given (ap (kinds_by r) is) (λ i e. never_join i (sym is ∙ e));

@@ -1,19 +1,24 @@
 -- Posting: a part's faces stand at the ends of its queues.
-use Rattle.std.proofs.Common.{◌≡◌, ℕ, zero, suc, ◌<◌, ◌⊎◌, inl, inr, List, [], ◌∷◌, ◌++◌, set, length, cond, eqb, drop, Some, refl, sym, ap, ◌∙◌, subst}
+use Rattle.std.proofs.Common.{◌≡◌, ℕ, zero, suc, ◌<◌, ◌≤◌, ◌⊎◌, inl, inr, false, List, [], ◌∷◌, ◌++◌, set, length, cond, eqb, drop, Option, Some, None, refl, sym, ap, ◌∙◌, subst, arith}
 use Rattle.std.specs.Prelude.{slice_get}
 use Rattle.std.proofs.lemmas.Bool.{cases_eq, ne_eqb, cond-false}
+use Rattle.cx_grid.specs.declared.shapes.Side.{Side}
+use Rattle.cx_grid.specs.declared.shapes.Side.TheVariants.{Low, High}
 use Rattle.cx_plan.specs.declared.variable.VarId.{VarId}
 use Rattle.cx_rule.specs.Meter.{raised, raised_none}
 use Rattle.cx_rule.specs.States.{scalar_of}
+use Rattle.cx_cut.specs.Neighbours.{partner}
 use Rattle.cx_field.specs.Patches.{PatchValue}
 use Rattle.cx_flat.specs.declared.op.Op.TheVariants as op
 use Rattle.cx_flat.specs.Flats.{control_after}
 use Rattle.cx_network.specs.Machine.{Part, After, taken_now, queue_after}
 use Rattle.cx_wire.specs.Messages.{Sent as SentMail}
-use Rattle.cx_parts.specs.Moves.{Channel, Wire, Board, sender, receiver, is_there, op_wants, op_posts, faces_by, number_by, held_values, Moves}
+use Rattle.cx_parts.specs.Moves.{Message, Sent, Channel, Wire, Board, sender, receiver, is_at, only, is_there, face_head, op_wants, op_posts, faces_by, number_by, held_values, Moves}
 use Rattle.cx_parts.specs.Nets.{points_of, values_of_op}
-use Rattle.cx_parts.specs.Runs.{Run, parts_in}
+use Rattle.cx_parts.specs.Operations.{NamesWell, IsExchange}
+use Rattle.cx_parts.specs.Runs.{Run, cut_of, parts_in}
 use Rattle.cx_parts.proofs.PairLaws.{are_there}
+use Rattle.cx_parts.proofs.WholeRun.{law, names_at, shape}
 use Rattle.cx_part.specs.Exchanges.{ShowsMessage, ShowsQueue, Posts, posted_to}
 use Rattle.cx_pace.specs.Events.{work_of}
 use Rattle.cx_pace.specs.Steps.{moved_on}
@@ -33,6 +38,10 @@ set_there (y ∷ ys) zero x e = ap (λ z. z ∷ ys) (inside y x e)
     inside : {A : Type 0} (a b : A) → Some a ≡ Some b → b ≡ a
     inside a b q = cc
 set_there (y ∷ ys) (suc k) x e = ap (λ zs. y ∷ zs) (set_there ys k x e)
+
+nothing : {tells : Type 0} (q : List (SentMail tells)) → ShowsQueue q [] → q ≡ []
+nothing [] h = refl
+nothing (m ∷ q) h = absurd h
 
 module _ {tells : Type 0} {r : Run} {first : Counts} {old : Cores} {queue : ℕ → ℕ → List (SentMail tells)} {now : Counts} {k : ℕ} (s : Ready tells r first old queue now k) where
   -- all but where the part stands, queues and buffers is as before
@@ -98,6 +107,37 @@ module _ {tells : Type 0} {r : Run} {first : Counts} {old : Cores} {queue : ℕ 
         (zip_append ShowsMessage (queue a b) p.0 ((world s).queue (Wire a b)) (cond (eqb a k) ((network s).posts (Wire a b) (its s)) [])
         (s.at.shows.wires a b i j) (subst (λ q. ShowsQueue p.0 q) (posted a b i j) p.2)))
 
+    -- a partner is a part
+    below : d < 3
+    below = by (subst (NamesWell r.setup) is (names_at r s.run (its s).control.pc)) (shape r s.run).most
+      where
+        by : IsExchange r.setup d vars → r.setup.shape.dims ≤ 3 → d < 3
+        by e m = let q = e.direction in omega (arith, q, m)
+
+    no_partner : (b : ℕ) → (b < parts_in r → ⊥) → (side : Side) → is_at (partner (cut_of r) k d side) b ≡ false
+    no_partner b none side = go (partner (cut_of r) k d side) refl
+      where
+        go : (o : Option ℕ) → partner (cut_of r) k d side ≡ o → is_at o b ≡ false
+        go None e = refl
+        go (Some j) e = ne_eqb j b (λ same. none (subst (λ n. n < parts_in r) same ((law r s.run).there k d side j s.part below e)))
+
+    nothing_posted : (b : ℕ) → (b < parts_in r → ⊥) → posted_to {tells = tells} r k (op.Post d vars) (its s).count l.patch.numbers b ≡ []
+    nothing_posted b none =
+        let faces = faces_by {tells = tells} r k (held_values r k l.patch.numbers) d vars in
+        let low : List (Message tells) = Sent (face_head r (its s).count k d Low vars) (faces Low) ∷ [] in
+        let high : List (Message tells) = Sent (face_head r (its s).count k d High vars) (faces High) ∷ [] in
+        ap (λ x. only x low ++ only (is_at (partner (cut_of r) k d High) b) high) (no_partner b none Low)
+        ∙ ap (λ y. only y high) (no_partner b none High)
+
+    others : (a b : ℕ) → (a < parts_in r → b < parts_in r → ⊥) → after a b ≡ []
+    others a b n =
+        let p = posts a b in
+        p.1 ∙ ap (λ q. q ++ p.0) (s.at.shows.others a b n) ∙ nothing p.0 (subst (λ ms. ShowsQueue p.0 ms) (by (cases_eq a k)) p.2)
+      where
+        by : (a ≡ k) ⊎ (a ≡ k → ⊥) → cond (eqb a k) (posted_to {tells = tells} r k (op.Post d vars) (its s).count l.patch.numbers b) [] ≡ []
+        by (inl e) = ap (λ ms. cond (eqb a k) ms []) (nothing_posted b (n (subst (λ i. i < parts_in r) (sym e) s.part))) ∙ cond_both (eqb a k) []
+        by (inr e) = cond-false (eqb a k) _ [] (ne_eqb a k e)
+
     pub post_goes : new.given ≡ old.given → new.buffers ≡ old.buffers
         → (to : IsAt tells r first new after later) × After (network s) (world s) (Part k) to.world
     post_goes given buffers = moved_at s new after later (held_with s (its s).numbers) (record {
@@ -108,6 +148,7 @@ module _ {tells : Type 0} {r : Run} {first : Counts} {old : Cores} {queue : ℕ 
       patches_are = patches_set new later l;
       shown = shown_with new later l;
       wires = wires;
+      others = others;
       senders = ap (λ g. length g.given) given;
       boards = boards_kept s new.given given (λ a b. ap (λ o. op_wants r o (Board a b)) is) (λ a b n faces number. ap (λ o. op_posts r o n faces number (Board a b)) is);
       kinds = kinds_kept s new.given given (ap (kinds_by r) is) (λ i e. no_join i (sym is ∙ e));

@@ -98,6 +98,9 @@ module _ {tells : Type 0} {r : Run} {first : Counts} {old : Cores} {queue : ℕ 
       subst (λ q. ShowsQueue (after a b) q) (sym (queue_kept (Wire a b) (e a b) (h a b)))
       (subst (λ q. ShowsQueue q ((world s).queue (Wire a b))) (sym (same a b)) (s.at.shows.wires a b l i))
 
+  pub others_kept : (after : ℕ → ℕ → List (SentMail tells)) → ((a b : ℕ) → after a b ≡ queue a b) → (a b : ℕ) → (a < parts_in r → b < parts_in r → ⊥) → after a b ≡ []
+  others_kept after same a b n = same a b ∙ s.at.shows.others a b n
+
   pub boards_kept : (given : Given) → given ≡ old.given → ((a b : ℕ) → op_wants r (next s) (Board a b) ≡ 0) → ((a b : ℕ) → PostsNone (Board a b))
       → (a b : ℕ) → a < parts_in r → b < parts_in r → AllZip (ShowsGiven r a) (waiting given a b) (queue_after (network s) (world s) k (Board a b))
   boards_kept given same e h a b l i =

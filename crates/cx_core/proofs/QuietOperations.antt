@@ -27,7 +27,7 @@ use Rattle.cx_core.specs.Cores.{Cores, outcome_of}
 use Rattle.cx_core.specs.Shows.{kinds_by}
 use Rattle.cx_core.specs.Steps.{Counts, IsAt}
 use Rattle.cx_core.proofs.MovedStates.{Ready, world, its, next, network, moved_at, met_at}
-use Rattle.cx_core.proofs.QuietMoves.{wires_kept, boards_kept, kinds_kept, pieces_kept, values_none, sum_none}
+use Rattle.cx_core.proofs.QuietMoves.{wires_kept, others_kept, boards_kept, kinds_kept, pieces_kept, values_none, sum_none}
 
 abbrev pub is_quiet : Op → Bool
 is_quiet (op.Sweep i) = true
@@ -296,6 +296,7 @@ module _ {tells : Type 0} {r : Run} {first : Counts} {old : Cores} {queue : ℕ 
       patches_are = l.patches_are;
       shown = record { frame = l.frame; numbers = refl };
       wires = wires_kept s after l.queue_is (λ a b. wants_wires r (next s) a b quiet) (λ a b n faces number. posts_wires r (next s) a b n faces number quiet);
+      others = others_kept s after l.queue_is;
       senders = ap (λ g. length g.given) l.given_is;
       boards = boards_kept s new.given l.given_is (λ a b. wants_boards r (next s) a b quiet) (λ a b n faces number. posts_boards r (next s) a b n faces number quiet);
       kinds = kinds_kept s new.given l.given_is (no_kinds r (next s) quiet) (λ i e. no_join (next s) i quiet e);

@@ -126,6 +126,7 @@ module _ (tells : Type 0) (r : Run) (trace : Trace) (laws : RunLaws tells r trac
     count = fresh_core.count;
     patches = λ k p e. let h = fresh_core.patches k p e in record { frame = h.0; numbers = h.1 };
     wires = λ a b l m. subst (λ (q : List (SentMail tells)). ShowsQueue {tells = tells} q []) (sym (none a b)) tt;
+    others = λ a b n. none a b;
     senders = ap (λ (g : Given). length g.given) fresh_core.given ∙ length-replicate (parts_in r) [];
     boards = λ a b l m. subst (λ (q : List Reduced). AllZip {B = Message tells} (ShowsGiven {tells = tells} r a) q []) (sym (none_there a b)) tt;
     kinds = λ a b l m. sym (ap (λ (xs : List Reduced). [] ++ map kind_of xs) (none_there a b));

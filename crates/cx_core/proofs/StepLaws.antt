@@ -1,5 +1,6 @@
 -- Which event a step does, and how many can happen.
-use Rattle.std.proofs.Common.{◌≡◌, ℕ, zero, suc, ◌<◌, ◌⊎◌, inl, inr, true, List, [], ◌∷◌, length, get_or, slice_get, All, ℤ, Option, Some, None, arith, refl, sym, ◌∙◌, subst}
+use Rattle.std.proofs.Common.{◌≡◌, ℕ, zero, suc, ◌<◌, ◌⊎◌, inl, inr, true, false, List, [], ◌∷◌, map, length, get_or, slice_get, All, ℤ, Option, Some, None, arith, refl, sym, ap, ◌∙◌, subst}
+use Rattle.std.specs.Prelude.{◌↔◌, option_map}
 use Rattle.std.proofs.lemmas.Bool.{cases_eq}
 use Rattle.cx_plan.specs.declared.variable.VarId.{VarId}
 use Rattle.cx_model.specs.declared.ends.End.{End}
@@ -8,17 +9,18 @@ use Rattle.cx_model.specs.Traces.{Trace}
 use Rattle.cx_network.specs.Machine.{Can, CanMove}
 use Rattle.cx_network.specs.Machine as network
 use Rattle.cx_wire.specs.Messages.{Sent as SentMail}
+use Rattle.cx_pace.specs.declared.standing.Next.{Next}
 use Rattle.cx_pace.specs.declared.standing.Next.TheVariants as next
 use Rattle.cx_pace.specs.Paces.{Paces, part_of}
-use Rattle.cx_pace.specs.Events.{can_go, events}
+use Rattle.cx_pace.specs.Events.{can_go, events, lies_ahead}
 use Rattle.cx_pace.specs.Steps.{moved_on, met_by}
 use Rattle.cx_way.specs.Steps.{IsReached}
 use Rattle.cx_parts.specs.Nets.{net, within_lead}
 use Rattle.cx_parts.specs.Runs.{Run, last_of}
 use Rattle.cx_core.specs.declared.answers.Event.TheVariants as event
 use Rattle.cx_core.specs.declared.answers.Outcome.TheVariants as out
-use Rattle.cx_core.specs.Cores.{Cores, outcome_of}
-use Rattle.cx_core.specs.Hands.{StepsTo}
+use Rattle.cx_core.specs.Cores.{Cores, outcome_of, enabled_in, ahead_in}
+use Rattle.cx_core.specs.Hands.{LiesAhead, StepsTo}
 use Rattle.cx_core.specs.Laws.{RunLaws}
 use Rattle.cx_core.specs.Left.{steps_left}
 use Rattle.cx_core.specs.Moving.{PartGoes, MovesOn}
@@ -48,6 +50,19 @@ still_going ends.Done e = cc
 still_going (ends.Overflow iteration path) e = cc
 still_going (ends.WhileLimit iteration path) e = cc
 still_going (ends.OutputLimit iteration) e = cc
+
+false_true : false ≡ true → ⊥
+false_true e = cc
+
+get_below : {X : Type 0} (xs : List X) (k : ℕ) (x : X) → slice_get xs k ≡ Some x → k < length xs
+get_below [] k x e = absurd (none_some x e)
+get_below (y ∷ ys) zero x e = omega arith
+get_below (y ∷ ys) (suc k) x e = let l = get_below ys k x e in omega (arith, l)
+
+get_mapped : {X Y : Type 0} (f : X → Y) (xs : List X) (k : ℕ) → slice_get (map f xs) k ≡ option_map f (slice_get xs k)
+get_mapped f [] k = refl
+get_mapped f (y ∷ ys) zero = refl
+get_mapped f (y ∷ ys) (suc k) = get_mapped f ys k
 
 going_done : out.Going ≡ out.Done → ⊥
 going_done e = cc
@@ -107,10 +122,21 @@ module _ (tells : Type 0) (r : Run) (trace : Trace) (laws : RunLaws tells r trac
           hands = λ t. (laws.works t at.oracle at.world at.reached).part j to.0.world can_move to.1;
         }
 
+  not_over : core.outcome ≡ out.Going → at.world.over ≡ None
+  not_over going = by at.world.over at.shows.over
+    where
+      by : (o : Option ℕ) → OverAs r at.oracle o core.outcome → o ≡ None
+      by None h = refl
+      by (Some n) h = go (cases_eq n (last_of r at.oracle))
+        where
+          go : (n ≡ last_of r at.oracle) ⊎ (n ≡ last_of r at.oracle → ⊥) → Some n ≡ None
+          go (inl e) = absurd (going_done (sym going ∙ h.0 e))
+          go (inr e) = let m = h.1 e in absurd (still_going m.0 (sym going ∙ m.2))
+
   -- some event can happen while the run goes on
   pub some_event : core.outcome ≡ out.Going → 0 < length (events core.pace)
   some_event going =
-      let e = (goes tells r trace laws first core queue now at).some_event (not_over at.world.over at.shows.over) in
+      let e = (goes tells r trace laws first core queue now at).some_event (not_over going) in
       let c = (enabled_are tells r trace laws first core queue now at).all e.0 e.1 in
       omega (
         arith,
@@ -118,20 +144,35 @@ module _ (tells : Type 0) (r : Run) (trace : Trace) (laws : RunLaws tells r trac
         how_many tells r at.oracle at.world core.pace at.shows.pace.count (told tells r trace laws first core queue now at) (goes tells r trace laws first core queue now at)
             (place tells r trace laws first core queue now at).0 (place tells r trace laws first core queue now at).1,
       )
+
+  -- an event that isn't behind the writer's next checkpoint
+  pub some_before : core.outcome ≡ out.Going → (k : ℕ) × (k < enabled_in core) × (ahead_in core k ≡ false)
+  some_before going =
+      let says = told tells r trace laws first core queue now at in
+      let x = says.some_before (not_over going) in
+      let y = says.events.all x.0 x.1 in
+      (y.0, get_below (events core.pace) y.0 x.0 y.1, ap (lies_ahead core.pace) y.1 ∙ x.2)
+
+  -- which ones are
+  lies_behind : (k : ℕ) → ahead_in core k ≡ true ↔ LiesAhead r at.oracle at.world (slice_get (event_list tells r trace laws first core queue now at) k)
+  lies_behind k =
+      subst (λ o. ahead_in core k ≡ true ↔ LiesAhead r at.oracle at.world o) (sym (get_mapped (event_of (place tells r trace laws first core queue now at).0) (events core.pace) k))
+      (by (slice_get (events core.pace) k) refl)
     where
-      not_over : (o : Option ℕ) → OverAs r at.oracle o core.outcome → o ≡ None
-      not_over None h = refl
-      not_over (Some n) h = go (cases_eq n (last_of r at.oracle))
-        where
-          go : (n ≡ last_of r at.oracle) ⊎ (n ≡ last_of r at.oracle → ⊥) → Some n ≡ None
-          go (inl e) = absurd (going_done (sym going ∙ h.0 e))
-          go (inr e) = let m = h.1 e in absurd (still_going m.0 (sym going ∙ m.2))
+      by : (o : Option Next) → slice_get (events core.pace) k ≡ o
+          → lies_ahead core.pace o ≡ true ↔ LiesAhead r at.oracle at.world (option_map (event_of (place tells r trace laws first core queue now at).0) o)
+      by (Some (next.Part j)) e = (told tells r trace laws first core queue now at).behind j (can_move k j e).part
+      by (Some next.Write) e = (false_true, λ h. absurd h)
+      by (Some next.End) e = (false_true, λ h. absurd h)
+      by None e = (false_true, λ h. absurd h)
 
   -- the list of those that can happen
   pub enabled_list : (es : List network.Event) × AreEnabled tells r at.oracle at.world es × (length es ≡ length (events core.pace))
+      × ((k : ℕ) → ahead_in core k ≡ true ↔ LiesAhead r at.oracle at.world (slice_get es k))
   enabled_list = (
     event_list tells r trace laws first core queue now at,
     enabled_are tells r trace laws first core queue now at,
     how_many tells r at.oracle at.world core.pace at.shows.pace.count (told tells r trace laws first core queue now at) (goes tells r trace laws first core queue now at)
         (place tells r trace laws first core queue now at).0 (place tells r trace laws first core queue now at).1,
+    lies_behind,
   )

@@ -111,6 +111,12 @@ begins r n a d vars false true low high [] h = absurd h
 begins r n a d vars false true low high (m ∷ q) h = (is_face r n a d vars High m high h.0, tt)
 begins r n a d vars false false low high q h = tt
 
+drop_empty : {A : Type 0} (n : ℕ) (xs : List A) → xs ≡ [] → drop n xs ≡ xs
+drop_empty zero [] e = refl
+drop_empty zero (x ∷ xs) e = refl
+drop_empty (suc n) [] e = refl
+drop_empty (suc n) (x ∷ xs) e = absurd cc
+
 module _ {tells : Type 0} {r : Run} {first : Counts} {old : Cores} {queue : ℕ → ℕ → List (SentMail tells)} {now : Counts} {k : ℕ} (s : Ready tells r first old queue now k)
     (d : ℕ) (vars : List VarId) (path : List ℕ) (is : next s ≡ op.Take d vars path) where
   wants_is : (a b : ℕ) → a < parts_in r → b < parts_in r → (network s).wants (Wire a b) (its s).control ≡ takes_from r b d a
@@ -194,6 +200,14 @@ module _ {tells : Type 0} {r : Run} {first : Counts} {old : Cores} {queue : ℕ 
             subst (λ c. ShowsQueue (cond c (drop (takes_from r k d a) (queue a b)) (queue a b)) (cond c (drop (takes_from r b d a) ((world s).queue (Wire a b))) ((world s).queue (Wire a b)))) (sym (ne_eqb b k n))
             (s.at.shows.wires a b l m)
 
+    -- nothing is taken of an empty queue
+    others : (a b : ℕ) → (a < parts_in r → b < parts_in r → ⊥) → after a b ≡ []
+    others a b n = took a b ∙ by (eqb b k) ∙ s.at.shows.others a b n
+      where
+        by : (c : Bool) → cond c (drop (takes_from r k d a) (queue a b)) (queue a b) ≡ queue a b
+        by true = drop_empty (takes_from r k d a) (queue a b) (s.at.shows.others a b n)
+        by false = refl
+
     pub take_goes : new.pace ≡ moved_on r.setup old.pace k (scalar_of (its s).numbers) → new.patches ≡ set old.patches k patch → IsPatchOf r.setup (cut_of r) k patch
         → new.given ≡ old.given → new.buffers ≡ old.buffers → new.length ≡ old.length → new.met ≡ old.met → new.outcome ≡ old.outcome
         → Filled tells r k d vars (taken_now (network s) (world s) k) (its s).numbers patch.numbers
@@ -208,6 +222,7 @@ module _ {tells : Type 0} {r : Run} {first : Counts} {old : Cores} {queue : ℕ 
       patches_are = patches;
       shown = record { frame = frame; numbers = refl };
       wires = wires;
+      others = others;
       senders = ap (λ g. length g.given) given;
       boards = boards_kept s new.given given (λ a b. ap (λ o. op_wants r o (Board a b)) is) (λ a b n faces number. ap (λ o. op_posts r o n faces number (Board a b)) is);
       kinds = kinds_kept s new.given given (ap (kinds_by r) is) (λ i e. join_no_take i d vars path (sym e ∙ is));

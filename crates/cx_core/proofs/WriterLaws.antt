@@ -192,6 +192,7 @@ module _ (tells : Type 0) (r : Run) (trace : Trace) (laws : RunLaws tells r trac
     count = shows.count;
     patches = shows.patches;
     wires = shows.wires;
+    others = shows.others;
     senders = shows.senders;
     boards = shows.boards;
     kinds = shows.kinds;
@@ -259,6 +260,7 @@ module _ (tells : Type 0) (r : Run) (trace : Trace) (laws : RunLaws tells r trac
           count = shows.count;
           patches = shows.patches;
           wires = shows.wires;
+          others = shows.others;
           senders = shows.senders;
           boards = shows.boards;
           kinds = shows.kinds;

@@ -1,12 +1,12 @@
 -- A core as contracts see it.
-use Rattle.std.specs.Prelude.{ℕ, List, length, Option, None, Some}
+use Rattle.std.specs.Prelude.{ℕ, Bool, List, length, Option, None, Some, slice_get}
 use Rattle.cx_plan.specs.declared.variable.VarId.{VarId}
 use Rattle.cx_model.specs.declared.ends.End.{End}
 use Rattle.cx_model.specs.declared.ends.End.TheVariants as ends
 use Rattle.cx_field.specs.Patches.{PatchValue}
 use Rattle.cx_gather.specs.Boards.{Given}
 use Rattle.cx_gather.specs.Gathering.{Buffers}
-use Rattle.cx_pace.specs.Events.{events}
+use Rattle.cx_pace.specs.Events.{events, lies_ahead}
 use Rattle.cx_pace.specs.Paces.{Paces}
 use Rattle.cx_core.specs.declared.answers.Outcome.{Outcome}
 use Rattle.cx_core.specs.declared.answers.Outcome.TheVariants.{Done, Overflow, WhileLimit, OutputLimit}
@@ -31,6 +31,10 @@ outcome_of (Some (ends.Overflow iteration path)) = Overflow iteration path
 outcome_of (Some (ends.WhileLimit iteration path)) = WhileLimit iteration path
 outcome_of (Some (ends.OutputLimit iteration)) = OutputLimit iteration
 
--- how many events can happen
+-- how many events can happen, and whether that of a number is the operation of a part that has handed in its piece of a checkpoint
+-- which isn't done
 abbrev pub enabled_in : Cores → ℕ
 enabled_in core = length (events core.pace)
+
+abbrev pub ahead_in : Cores → ℕ → Bool
+ahead_in core k = lies_ahead core.pace (slice_get (events core.pace) k)

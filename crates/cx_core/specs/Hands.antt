@@ -1,5 +1,5 @@
 -- What a step hands out where the wire tells what it carries: the works of the undivided run, in its order, and its end.
-use Rattle.std.specs.Prelude.{ℕ, ◌+◌, ◌%◌, ◌^◌, ◌<◌, ◌≤◌, ◌≡◌, ◌⊎◌, true, ℤ, pos, List, [], ◌∷◌, ◌++◌, length, slice_get, Option, Some, None, if◌then◌else◌}
+use Rattle.std.specs.Prelude.{ℕ, ◌+◌, ◌%◌, ◌^◌, ◌<◌, ◌≤◌, ◌≡◌, ◌↔◌, ◌⊎◌, true, false, ℤ, pos, List, [], ◌∷◌, ◌++◌, length, slice_get, Option, Some, None, if◌then◌else◌}
 use Rattle.cx_plan.specs.declared.variable.VarId.{VarId}
 use Rattle.cx_plan.specs.Setups.{Setup}
 use Rattle.cx_plan.specs.Lookups.{is_scalar, levels_of}
@@ -7,22 +7,25 @@ use Rattle.cx_rule.specs.States.{State, level_of, scalar_of}
 use Rattle.cx_rule.specs.Meter.{raised}
 use Rattle.cx_model.specs.Runs.{output_of, greatest_output}
 use Rattle.cx_model.specs.Traces.{Entry, Wrote, Saved, Trace, Goes, Ends, Outcome as TraceOutcome}
-use Rattle.cx_network.specs.Machine.{World, After, left}
+use Rattle.cx_network.specs.Machine.{World, left}
 use Rattle.cx_network.specs.Machine as network
 use Rattle.cx_field.specs.Patches.{PatchValue, IsScalar}
 use Rattle.cx_wire.specs.Received.{counted}
 use Rattle.cx_chk.specs.declared.checkpoint.Checkpoint.{Checkpoint}
 use Rattle.cx_gather.specs.Checkpoints.{HoldsState, state_of}
 use Rattle.cx_gather.specs.Gathering.{HasPiece, piece_of}
+use Rattle.cx_pace.specs.Shows.{IsBehindSave}
+use Rattle.cx_parts.specs.Holding.{Held}
+use Rattle.cx_parts.specs.Moves.{Message, Channel}
 use Rattle.cx_parts.specs.Nets.{net, within_lead}
-use Rattle.cx_parts.specs.Runs.{Run, cut_of, parts_in}
+use Rattle.cx_parts.specs.Runs.{Run, Oracle, cut_of, undivided, guided}
 use Rattle.cx_parts.specs.Work.{work, carried_count, total_sum}
 use Rattle.cx_reached.specs.Works.{works_of, handed_out}
 use Rattle.cx_core.specs.declared.answers.Event.{Event}
 use Rattle.cx_core.specs.declared.answers.Event.TheVariants.{Part, Section, Save, End}
 use Rattle.cx_core.specs.declared.answers.Outcome.{Outcome}
 use Rattle.cx_core.specs.declared.answers.Outcome.TheVariants.{Going, Done}
-use Rattle.cx_core.specs.Cores.{Cores, outcome_of, enabled_in}
+use Rattle.cx_core.specs.Cores.{Cores, outcome_of, enabled_in, ahead_in}
 use Rattle.cx_core.specs.Writes.{length_behind, text_written, state_written, limit_met, run_ended}
 use Rattle.cx_core.specs.Steps.{Counts, Standing, IsAt, AreEnabled, DoesEvent}
 use Rattle.cx_core.specs.Left.{steps_left}
@@ -109,7 +112,7 @@ HasScalar core v = HasScalarIn (slice_get core.patches 0) v
 -- the run is done: all was counted, and no message is left
 pub record IsDone (tells : Type 0) (r : Run) (trace : Trace) (first : Counts) (is : Standing tells) : Type 0 where
   pub totals : HasTotals r trace first is.now
-  pub none_left : (a b : ℕ) → a < parts_in r → b < parts_in r → is.queue a b ≡ []
+  pub none_left : (a b : ℕ) → is.queue a b ≡ []
   -- what is lent is the scalars of the last state
   pub last : (state : State) (v : VarId) → trace.outcome ≡ Goes state → is_scalar r.setup v ≡ true
       → last_number is.core v ≡ scalar_of state v
@@ -119,12 +122,23 @@ pub record Tells (tells : Type 0) (r : Run) (trace : Trace) (first : Counts) (is
   pub ended : (is.core.outcome ≡ Going → ⊥) → is.core.outcome ≡ ended_as trace.outcome
   pub done : is.core.outcome ≡ Done → IsDone tells r trace first is
 
+-- an event is the operation of a part that stands behind the writer's next checkpoint
+abbrev pub LiesAhead : {tells : Type 0} → Run → Oracle → World Held (Message tells) Channel ℕ → Option network.Event → Type 0
+LiesAhead r oracle w (Some (network.Part k)) = IsBehindSave r oracle w k
+LiesAhead r oracle w (Some (network.Write n)) = ⊥
+LiesAhead r oracle w (Some network.End) = ⊥
+LiesAhead r oracle w None = ⊥
+
 -- wherever a core is
 pub record Stands (tells : Type 0) (r : Run) (trace : Trace) (first : Counts) (is : Standing tells) (at : IsAt tells r first is.core is.queue is.now) : Type 0 where
   pub events : List network.Event
   pub enabled : AreEnabled tells r at.oracle at.world events
   pub count : enabled_in is.core ≡ length events
   pub some_event : is.core.outcome ≡ Going → 0 < enabled_in is.core
+  -- which of them lie behind the writer's next checkpoint; never do all. Where the wire tells, the way to it is the undivided run.
+  pub ahead : (k : ℕ) → k < enabled_in is.core → ahead_in is.core k ≡ true ↔ LiesAhead r at.oracle at.world (slice_get events k)
+  pub some_before : is.core.outcome ≡ Going → (k : ℕ) × (k < enabled_in is.core) × (ahead_in is.core k ≡ false)
+  pub way : tells → (n : ℕ) → guided r at.oracle n ≡ undivided r n
   -- each stored scalar can be lent
   pub scalars : (v : VarId) → v.0 < length r.setup.vars → 0 < levels_of r.setup v → is_scalar r.setup v ≡ true → HasScalar is.core v
   pub told : tells → Tells tells r trace first is

@@ -92,6 +92,8 @@ pub record Shows (tells : Type 0) (r : Run) (oracle : Oracle) (core : Cores) (qu
   pub count : length core.patches ≡ parts_in r
   pub patches : (k : ℕ) (p : PatchValue) → slice_get core.patches k ≡ Some p → ShowsPart r k p (w.held k)
   pub wires : (a b : ℕ) → a < parts_in r → b < parts_in r → ShowsQueue (queue a b) (w.queue (Wire a b))
+  -- no message is in any other queue
+  pub others : (a b : ℕ) → (a < parts_in r → b < parts_in r → ⊥) → queue a b ≡ []
   pub senders : length core.given.given ≡ parts_in r
   pub boards : (a b : ℕ) → a < parts_in r → b < parts_in r → AllZip (ShowsGiven r a) (waiting core.given a b) (w.queue (Board a b))
   -- each board has the kinds that its sender has given and its receiver hasn't joined

@@ -44,6 +44,10 @@ pub(crate) fn run_laws(job: &Job)
 
 /// Wherever a core is: it counts the events that can happen, one at least until the run is over.
 ///
+/// It tells which of them are operations of parts that stand behind the writer's next checkpoint, which is that of the first checkpoint
+/// place of the parts' way from the writer's place on, whether or not a part meets an end before it. Until the run is over there is one
+/// that isn't.
+///
 /// Where its wire tells what it carries, the run is over by the end of the undivided run. If that is none, all was counted that its
 /// entries say, no message is left, and each part has the scalars of its last state. It does nothing that shows; its clause is the
 /// law.

@@ -1,7 +1,7 @@
 //! The core, and what it lends.
 ghost use Rattle.std.specs.Prelude.{◌≡◌, ◌<◌, length};
 ghost use Rattle.cx_gather.specs.Gathering.{piece_of};
-ghost use Rattle.cx_core.specs.Cores.{enabled_in};
+ghost use Rattle.cx_core.specs.Cores.{ahead_in, enabled_in};
 ghost use Rattle.cx_core.specs.Hands.{last_number, HasScalar};
 
 use crate::answers::Outcome;
@@ -57,6 +57,16 @@ impl Core {
         self.pace.enabled()
     }
 
+    /// Whether the event of a number lies ahead: whether it is the operation of a part which stands behind the place of the checkpoint
+    /// that the writer saves next. Such a part has handed in its piece of it. No event does where no checkpoint is to come, and never do
+    /// all; `core_stands` says so of each place that a run comes to.
+    pub fn ahead(&self, k: u64) -> bool
+        requires { k < enabled_in self.now }
+        ensures { result ≡ ahead_in self.now k }
+    {
+        self.pace.ahead(k)
+    }
+
     /// The numbers of the variable whose text came last: its whole current level, x fastest, or a scalar's number.
     pub fn piece(&self) -> &List<i64>
         requires { self.now.section.0 < length self.now.buffers.pieces }
@@ -77,6 +87,13 @@ impl Core {
         ensures { result.now ≡ self.now.outcome }
     {
         &self.outcome
+    }
+
+    /// How long the output is.
+    pub fn length(&self) -> u64
+        ensures { result ≡ self.now.length }
+    {
+        self.length
     }
 
     /// A scalar's number as the first part has it. All parts have it in a run that is done.

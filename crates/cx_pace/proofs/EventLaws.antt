@@ -82,7 +82,7 @@ module _ (tells : Type 0) (r : Run) (run : IsRun r) (oracle : Oracle) (w : State
   going_is : not p.over ≡ true → w.over ≡ None
   going_is e = not_some w.over (ap not (sym sh.over) ∙ e)
 
-  over_is : w.over ≡ None → p.over ≡ false
+  pub over_is : w.over ≡ None → p.over ≡ false
   over_is e = sh.over ∙ ap is_some e
 
   pub can_true : (k : ℕ) → k < parts_in r → can_go p k ≡ true → CanMove (net tells within_lead r oracle) w k
@@ -201,7 +201,7 @@ module _ (tells : Type 0) (r : Run) (run : IsRun r) (oracle : Oracle) (w : State
       let x = has_work r (next_op r (guided r oracle n).control) (guided r oracle n).control.iteration is.0 (names_at r run (guided r oracle n).control.pc) is.1 in
       (x.work, x.is)
 
-  in_true : (n : ℕ) → IsWork (net tells within_lead r oracle) n → w.wrote ≤ n → ((k : ℕ) → k < parts_in r → n < w.place k) → all_in p ≡ true
+  pub in_true : (n : ℕ) → IsWork (net tells within_lead r oracle) n → w.wrote ≤ n → ((k : ℕ) → k < parts_in r → n < w.place k) → all_in p ≡ true
   in_true n is from all =
       let x = there_work n is in
       let fm = sh.foremost_part in

@@ -8,6 +8,7 @@ pub mod MoveLaws
 pub mod PaceLaws
 pub mod RoomLaws
 pub mod EventLaws
+pub mod AheadLaws
 pub mod KeepLaws
 pub mod OperationLaws
 pub mod OracleLaws

@@ -28,6 +28,7 @@ use Rattle.cx_pace.specs.Steps.{standing_at}
 use Rattle.cx_pace.specs.Shows.{State, ShowsPace, TellsEvents, KeepsPace, first_paces, PaceTells}
 use Rattle.cx_pace.proofs.StandLaws.{place_is, op_is}
 use Rattle.cx_pace.proofs.EventLaws.{can_true, true_can, write_true, true_write, end_true, true_end, front_work}
+use Rattle.cx_pace.proofs.AheadLaws.{behind_true, true_behind, some_before}
 use Rattle.cx_pace.proofs.KeepLaws.{met_kept, wrote_kept, full_kept, end_kept}
 use Rattle.cx_pace.proofs.ListedLaws.{are_events}
 use Rattle.cx_pace.proofs.PieceLaws.{pieces_are}
@@ -70,6 +71,8 @@ module _ (tells : Type 0) (r : Run) (run : IsRun r) (fit : PlacesFit r.setup) (f
       op = op_is tells r run oracle w p st sh;
       reached = λ k l. subst (IsReached r.setup) (sym (place_is tells r run oracle w p st sh k l ∙ way_is r oracle (w.place k)))
           (fit.reached (scalars_at r oracle) r.first.control (w.place k) first);
+      behind = λ k l. (behind_true tells r run oracle w p st sh k l, true_behind tells r run oracle w p st sh k l);
+      some_before = some_before tells r run oracle w p st sh;
     }
 
     keeps : KeepsPace tells r oracle w p

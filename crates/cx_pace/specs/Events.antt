@@ -112,3 +112,16 @@ writer_going p = writer_by p.over (all_in p) (all_stand p)
 
 abbrev pub events : Paces → List Next
 events p = map Part (parts_going p) ++ option_to_list (writer_going p)
+
+-- ---- behind the writer's next checkpoint
+
+-- a part has handed in its piece of a checkpoint that isn't done
+abbrev pub has_saved : Paces → ℕ → Bool
+has_saved p k = list_any (λ (w : Work). same_buffer w.var None) (take (part_of p k).handed p.works)
+
+-- an event is the operation of such a part
+abbrev pub lies_ahead : Paces → Option Next → Bool
+lies_ahead p (Some (Part k)) = has_saved p k
+lies_ahead p (Some Write) = false
+lies_ahead p (Some End) = false
+lies_ahead p None = false

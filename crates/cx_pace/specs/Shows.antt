@@ -1,6 +1,7 @@
 -- Where the parts stand in a state of a run in parts, and that this alone tells which events can happen.
-use Rattle.std.specs.Prelude.{ℕ, zero, suc, ◌+◌, ◌%◌, ◌^◌, ◌<◌, ◌≤◌, ◌≡◌, ◌↔◌, true, List, [], ◌++◌, length, Option, Some, None, is_some, slice_get}
+use Rattle.std.specs.Prelude.{ℕ, zero, suc, ◌+◌, ◌%◌, ◌^◌, ◌<◌, ◌≤◌, ◌≡◌, ◌↔◌, true, false, List, [], ◌++◌, length, Option, Some, None, is_some, slice_get}
 use Rattle.std.specs.Option.{option_to_list}
+use Rattle.cx_flat.specs.declared.op.Op.TheVariants.{Save}
 use Rattle.cx_flat.specs.Code.{code}
 use Rattle.cx_network.specs.Machine.{World, CanMove, IsNext, CanEnd, begun, taken_now, fronts, end_of}
 use Rattle.cx_network.specs.Machine as machine
@@ -17,7 +18,7 @@ use Rattle.cx_pace.specs.declared.standing.Work.{Work}
 use Rattle.cx_pace.specs.declared.standing.Next.{Next}
 use Rattle.cx_pace.specs.declared.standing.Next.TheVariants.{Part, Write, End}
 use Rattle.cx_pace.specs.Paces.{Paces, part_of, op_of}
-use Rattle.cx_pace.specs.Events.{work_of, can_go, writer_going, events}
+use Rattle.cx_pace.specs.Events.{work_of, can_go, writer_going, events, has_saved, lies_ahead}
 use Rattle.cx_pace.specs.Steps.{all_at, moved_on, met_by, wrote_one, over_now}
 
 -- the state of the network of a run
@@ -63,6 +64,19 @@ pub record ShowsPace (tells : Type 0) (r : Run) (oracle : Oracle) (w : State tel
   pub handed : (k : ℕ) → k < parts_in r
       → length (works_before r oracle (w.place k)) ≡ length (works_before r oracle w.wrote) + (part_of p k).handed
 
+-- ---- the writer's next checkpoint
+
+-- It is that of the first place, from the writer's place on, at which the parts hand in a checkpoint. That they come to this place isn't
+-- said: a part may meet an end before it.
+pub record IsNextSave (r : Run) (oracle : Oracle) (wrote n : ℕ) : Type 0 where
+  pub from : wrote ≤ n
+  pub save : next_op r (guided r oracle n).control ≡ Save
+  pub none_before : (m : ℕ) → wrote ≤ m → m < n → next_op r (guided r oracle m).control ≡ Save → ⊥
+
+-- a part stands behind it
+abbrev pub IsBehindSave : {tells : Type 0} → Run → Oracle → State tells → ℕ → Type 0
+IsBehindSave r oracle w k = (n : ℕ) × IsNextSave r oracle w.wrote n × (n < w.place k)
+
 -- ---- which events can happen
 
 -- an event can happen
@@ -89,6 +103,9 @@ pub record TellsEvents (tells : Type 0) (r : Run) (oracle : Oracle) (w : State t
   -- the operation of a part, and its place
   pub op : (k : ℕ) → k < parts_in r → op_of p k ≡ next_op r (w.held k).control
   pub reached : (k : ℕ) → k < parts_in r → IsReached r.setup (part_of p k).place
+  -- which parts stand behind the writer's next checkpoint, and that not only operations of such parts can happen
+  pub behind : (k : ℕ) → k < parts_in r → has_saved p k ≡ true ↔ IsBehindSave r oracle w k
+  pub some_before : w.over ≡ None → (e : Next) × CanHappen tells r oracle w e × (lies_ahead p (Some e) ≡ false)
 
 -- ---- what each event leaves
 

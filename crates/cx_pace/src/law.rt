@@ -20,8 +20,9 @@ use cx_way::places_fit;
 /// The job is whole, its items have their shapes, its grid has interior points, the region check accepts it, and its widths cut
 /// its grid. The run begins at its start, or in any whole state of the checkpoint place of an iteration, and goes by any rules.
 /// Then all parts at the first place show how the run begins. In each state that its events reach, a part can go exactly where
-/// the places say so, and so can the writer; the first work is that of the operation which is written next; and what each event
-/// leaves of the places shows the state that it leads to. It does nothing that shows; its clause is the law.
+/// the places say so, and so can the writer; the first work is that of the operation which is written next; a part stands behind the
+/// writer's next checkpoint exactly where the works say so, and some event can happen that isn't an operation of such a part; and what
+/// each event leaves of the places shows the state that it leads to. It does nothing that shows; its clause is the law.
 pub fn pace_tells(job: &Job)
     requires whole { IsWhole job.now }
     requires shapes { HasShapes (setup_of job.now) }

@@ -8,7 +8,7 @@ ghost use Rattle.cx_flat.specs.Code.{code};
 ghost use Rattle.cx_way.specs.Steps.{IsReached, IsTested};
 ghost use Rattle.cx_pace.specs.Paces.{part_of, op_of, iteration_of};
 ghost use Rattle.cx_pace.specs.declared.standing.Next.TheVariants as next;
-ghost use Rattle.cx_pace.specs.Events.{can_go, events, writer_going};
+ghost use Rattle.cx_pace.specs.Events.{can_go, events, lies_ahead, writer_going};
 ghost use Rattle.cx_pace.specs.Steps.{first_place, all_at, moved_on, met_by, wrote_one, over_now};
 
 use crate::flags::Flags;
@@ -80,6 +80,19 @@ impl Pace {
         match self.flags.event(k) {
             Some(next) => next,
             None => unreachable!(),
+        }
+    }
+
+    /// Whether the event of a number is an operation behind the writer's next checkpoint: that of a part which has handed in its piece of
+    /// a checkpoint that isn't done.
+    pub fn ahead(&self, k: u64) -> bool
+        requires { k < length (events self.now) }
+        ensures { result ≡ lies_ahead self.now (slice_get (events self.now) k) }
+    {
+        match self.event(k) {
+            Next::Part(part) => self.standings.has_saved(part),
+            Next::Write => false,
+            Next::End => false,
         }
     }
 

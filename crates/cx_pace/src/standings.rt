@@ -14,13 +14,13 @@ ghost use Rattle.cx_flat.specs.Flats.{is_halt, control_after};
 ghost use Rattle.cx_way.specs.Steps.{IsReached, IsTested};
 ghost use Rattle.cx_pace.specs.Paces.{part_of, op_of, iteration_of, other_hind};
 ghost use Rattle.cx_pace.specs.Flags.{IsAlone};
-ghost use Rattle.cx_pace.specs.Events.{is_ahead, goes_on, is_near, partner_at, waits_for, is_ready, work_of, has_room, can_go, all_in, all_stand, writer_going};
+ghost use Rattle.cx_pace.specs.Events.{is_ahead, goes_on, is_near, partner_at, waits_for, is_ready, work_of, has_room, can_go, all_in, all_stand, writer_going, has_saved};
 ghost use Rattle.cx_pace.specs.Steps.{standing_at, first_place, all_at, gone_on, with_hind, moved_on, met_by, wrote_one, over_now};
 
 use crate::order::{hindmost, is_before, twin};
 use crate::standing::{Next, Standing, Work};
 use crate::works::{
-    all_handed, hand_in, is_halt, is_room, is_some_work, one_less, take_first, work_of,
+    all_handed, hand_in, has_buffer, is_halt, is_room, is_some_work, one_less, take_first, work_of,
 };
 use cx_cut::Cut;
 use cx_flat::Op;
@@ -246,6 +246,16 @@ impl Standings {
         ensures { result ≡ has_room self.now k }
     {
         is_room(self.work(k), self.works.as_slice(), self.part(k).handed)
+    }
+
+    /// Whether a part has handed in its piece of a checkpoint that isn't done.
+    pub(crate) fn has_saved(&self, k: u32) -> bool
+        ensures { result ≡ has_saved self.now k }
+    {
+        match self.parts.as_slice().get(k as usize) {
+            None => false,
+            Some(part) => has_buffer(self.works.as_slice(), part.handed, None),
+        }
     }
 
     /// Whether a part can do its next operation.

@@ -54,7 +54,7 @@ fn same_buffer(first: Option<VarId>, second: Option<VarId>) -> bool
 }
 
 /// Whether one of the first works has this buffer.
-fn has_buffer(works: &[Work], count: usize, buffer: Option<VarId>) -> bool
+pub(crate) fn has_buffer(works: &[Work], count: usize, buffer: Option<VarId>) -> bool
     ensures { result ≡ list_any (λ w. same_buffer w.var buffer) (take count works.now) }
 {
     works
