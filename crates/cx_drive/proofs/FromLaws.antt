@@ -68,6 +68,7 @@ module _ (s : Setting) (found : Option Checkpoint) (was : Place s) (begins : IsB
         stands = ends.stands found was.is.now m.there;
         driven = λ d t y. m.driven d t (subst (λ (l : List Entry). IsDriven (kept_in s found) l was.view) (sym nothing_handed) y);
         settled = ends.settled;
+        length_is = ends.length_is;
       }
 
   pub run_leaves : (new : View) → LeavesImages s was new → RunLeaves s found was.view new

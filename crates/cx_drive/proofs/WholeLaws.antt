@@ -10,7 +10,7 @@ use Rattle.cx_rule.specs.Meter.{raised}
 use Rattle.cx_rule.specs.Routine.{Rule}
 use Rattle.cx_model.specs.Runs.{undivided_run, output}
 use Rattle.cx_model.specs.Traces.{Entry, Trace}
-use Rattle.cx_cut.specs.Cuts.{Parts, part_count}
+use Rattle.cx_cut.specs.Cuts.{Parts}
 use Rattle.cx_cut.specs.Faults.{parts_of}
 use Rattle.cx_disk.specs.Disk.{Files, View, LeavesOnly}
 use Rattle.cx_disk.proofs.Moments.{joins, weaker}
@@ -33,9 +33,10 @@ use Rattle.cx_course.specs.Starts.{BeginsOn}
 use Rattle.cx_course.specs.Works.{KeptRun, HasDone, IsAllDone, IsAtLeast, IsBegun, WorksFollow, course_by, works_by, newest_of, next_of, output_found}
 use Rattle.cx_core.specs.Cores.{Cores}
 use Rattle.cx_core.specs.Hands.{IsDone as IsCoreDone, ended_as}
+use Rattle.cx_core.specs.declared.answers.Outcome.TheVariants.{Done}
 use Rattle.cx_core.specs.Starts.{begins_in}
 use Rattle.cx_core.specs.Steps.{Counts, counts, stands_at}
-use Rattle.cx_drive.specs.Drives.{Drive, AreTold, StartsWell, HasEnded, HasRun, HasWorked, KeepsTrail, LeavesTrails, LendsScalars, IsNotBelow, cut_in, course, entries_left, from_place, newest}
+use Rattle.cx_drive.specs.Drives.{Drive, AreTold, StartsWell, HasEnded, HasRun, HasScalarsOf, HasWorked, KeepsTrail, LeavesTrails, LendsScalars, IsNotBelow, cut_in, course, entries_left, from_place, newest}
 use Rattle.cx_drive.specs.Going.{Setting, Place, IsDriven, IsImageOf, RunsFrom, RunLeaves, run_in, trace_in, kept_in, handed}
 use Rattle.cx_drive.specs.Laws.{DriveLaws}
 use Rattle.cx_drive.proofs.FoundLaws.{found_is, found_none, newest_is, newest_same_slots, not_below_same, place_is, place_no}
@@ -186,8 +187,23 @@ module _ (d : Drive) (laws : DriveLaws d.wire.tells d.job d.rules) (mid : View) 
     ended_by : d.wire.tells → core.outcome ≡ ended_as (run_from (setup_of d.job) d.rules found).outcome
     ended_by t = (runs.stands.told t).ended runs.over ∙ ap (λ (u : Trace). ended_as u.outcome) trace_is
 
+    -- by setup
+    run_setup : (run_in (setting d) found).setup ≡ setup_of d.job
+    run_setup = setup_is d.job d.rules (begins_in (setup_of d.job) found)
+
+    has_scalars : d.wire.tells → core.outcome ≡ Done → (run : Trace) → (trace_in (setting d) found).outcome ≡ run.outcome → HasScalarsOf run d core
+    has_scalars t is run same state v goes scalar =
+        ((runs.stands.told t).done is).last state v (same ∙ goes) (subst (λ (u : Setup). is_scalar u v ≡ true) (sym run_setup) scalar)
+
     pub has_run : HasRun d core
-    has_run = record { over = runs.over; found = found; began = is_begun; ended = λ told. ended_by told.1 }
+    has_run = record {
+      over = runs.over;
+      found = found;
+      began = is_begun;
+      ended = λ told. ended_by told.1;
+      scalars = λ told is. has_scalars told.1 is (run_from (setup_of d.job) d.rules found) (ap (λ (u : Trace). u.outcome) trace_is);
+      length_is = λ t. sym (runs.length_is t);
+    }
 
     -- nothing is left of the works
     none_left : (done left : List Entry) → works_by r ≡ done ++ left → works_by r ≡ done → left ≡ []
@@ -210,10 +226,7 @@ module _ (d : Drive) (laws : DriveLaws d.wire.tells d.job d.rules) (mid : View) 
     outcome : Finds → (trace_in (setting d) found).outcome ≡ (undivided_run (setup_of d.job) d.rules).outcome
     outcome fs = ap (λ (u : Trace). u.outcome) trace_is ∙ (goes_on fs).outcome
 
-    -- by setup, cut and entries
-    run_setup : (run_in (setting d) found).setup ≡ setup_of d.job
-    run_setup = setup_is d.job d.rules (begins_in (setup_of d.job) found)
-
+    -- by cut and entries
     run_cut : cut_of (run_in (setting d) found) ≡ cut_in d
     run_cut = cut_is d.job d.rules (begins_in (setup_of d.job) found)
 
@@ -231,7 +244,7 @@ module _ (d : Drive) (laws : DriveLaws d.wire.tells d.job d.rules) (mid : View) 
           ∙ ap (λ (n : ℕ). counted d.wire.old.received n) (same_work fs carried_count);
       sum = done.totals.sum
           ∙ ap (λ (n : ℕ). (d.wire.old.sum + n) % 2 ^ 64) (same_work fs total_sum);
-      none_left = λ a b i j. done.none_left a b (subst (λ (q : Parts). a < part_count q) (sym run_cut) i) (subst (λ (q : Parts). b < part_count q) (sym run_cut) j);
+      none_left = done.none_left;
     }
 
     pub has_ended : HasLengths found → (d.disk.tells → IsStarted d.job.recover found d.disk.old mid) → AreTold d → StartsWell d → HasEnded d core
@@ -246,7 +259,7 @@ module _ (d : Drive) (laws : DriveLaws d.wire.tells d.job d.rules) (mid : View) 
           };
           end = (runs.stands.told told.1).ended runs.over ∙ ap ended_as (outcome fs);
           work = λ is. has_worked fs ((runs.stands.told told.1).done is);
-          scalars = λ is state v goes scalar. ((runs.stands.told told.1).done is).last state v (outcome fs ∙ goes) (subst (λ (u : Setup). is_scalar u v ≡ true) (sym run_setup) scalar);
+          scalars = λ is. has_scalars told.1 is (undivided_run (setup_of d.job) d.rules) (outcome fs);
           last = λ image now. (
             newest_of r (handed runs.there),
             newest_same d.disk.new.seen image (λ s lt. driven.stands.slots s lt image now) (newest_of r (handed runs.there)) driven.stands.newest_is,

@@ -10,8 +10,8 @@ use Rattle.cx_rule.specs.Meter.{raised}
 use Rattle.cx_rule.specs.Routine.{Rule}
 use Rattle.cx_rule.specs.States.{State, scalar_of}
 use Rattle.cx_model.specs.Runs.{undivided_run, output}
-use Rattle.cx_model.specs.Traces.{Entry, Goes}
-use Rattle.cx_cut.specs.Cuts.{Parts, part_count}
+use Rattle.cx_model.specs.Traces.{Entry, Trace, Goes}
+use Rattle.cx_cut.specs.Cuts.{Parts}
 use Rattle.cx_cut.specs.Faults.{parts_of}
 use Rattle.cx_disk.specs.Disk.{Files, View, LeavesOnly}
 use Rattle.cx_disk.specs.Moments.{IsQuiet}
@@ -92,12 +92,16 @@ pub record HasWorked (d : Drive) : Type 0 where
   pub points : d.meter.new ≡ raised d.meter.old (work (setup_of d.job) (cut_in d) (entries_left d))
   pub values : d.wire.new.received ≡ counted d.wire.old.received (carried_count (setup_of d.job) (cut_in d) (entries_left d))
   pub sum : d.wire.new.sum ≡ (d.wire.old.sum + total_sum (setup_of d.job) (cut_in d) (entries_left d)) % 2 ^ 64
-  pub none_left : (a b : ℕ) → a < part_count (cut_in d) → b < part_count (cut_in d) → d.wire.new.queue a b ≡ []
+  pub none_left : (a b : ℕ) → d.wire.new.queue a b ≡ []
 
--- each scalar has the number of the undivided run's last state
-abbrev pub HasLastScalars : Drive → Cores → Type 0
-HasLastScalars d core = (state : State) (v : VarId) → (undivided_run (setup_of d.job) d.rules).outcome ≡ Goes state
+-- each scalar has the number of the last state of a run that is done
+abbrev pub HasScalarsOf : Trace → Drive → Cores → Type 0
+HasScalarsOf run d core = (state : State) (v : VarId) → run.outcome ≡ Goes state
     → is_scalar (setup_of d.job) v ≡ true → last_number core v ≡ scalar_of state v
+
+-- of the undivided run
+abbrev pub HasLastScalars : Drive → Cores → Type 0
+HasLastScalars d = HasScalarsOf (undivided_run (setup_of d.job) d.rules) d
 
 -- a run that came to its end, from a disk that it can go on from
 pub record HasEnded (d : Drive) (core : Cores) : Type 0 where
@@ -140,12 +144,16 @@ LeavesTrails d = LeavesOnly d.disk.old d.disk.new (KeepsTrail d)
 
 -- ---- answers
 
--- the run began with this checkpoint or none, and ended as the undivided run does that goes on from there
+-- the run began with this checkpoint or none, and ended as the undivided run does that goes on from there; its core tells how long the
+-- output's file is
 pub record HasRun (d : Drive) (core : Cores) : Type 0 where
   pub over : core.outcome ≢ Going
   pub found : Option Checkpoint
   pub began : d.disk.tells → begun d.job d.disk.old.seen ≡ Ok found
   pub ended : AreTold d → core.outcome ≡ ended_as (run_from (setup_of d.job) d.rules found).outcome
+  pub scalars : AreTold d → core.outcome ≡ Done
+      → HasScalarsOf (run_from (setup_of d.job) d.rules found) d core
+  pub length_is : d.disk.tells → core.length ≡ length (d.disk.new.seen output_file)
 
 -- a start that was refused: why, and nothing has changed
 pub record IsRefused (d : Drive) (fault : BeginFault) : Type 0 where

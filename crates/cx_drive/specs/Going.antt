@@ -147,6 +147,7 @@ pub record EndsAt (s : Setting) (was is : Place s) : Type 0 where
   pub stands : (found : Option Checkpoint) (first : Counts) (x : IsDriving s found first is)
       → Stands s.wire (run_in s found) (trace_in s found) first is.is x.at
   pub settled : s.disk → IsSettled is.view output_file
+  pub length_is : s.disk → length (is.view.seen output_file) ≡ is.is.core.length
 
 -- ---- the whole of it
 
@@ -158,6 +159,7 @@ pub record RunsFrom (s : Setting) (found : Option Checkpoint) (first : Counts) (
   pub driven : s.disk → s.wire → IsDriven (kept_in s found) [] old
       → IsDriven (kept_in s found) (handed there) p.view
   pub settled : s.disk → IsSettled p.view output_file
+  pub length_is : s.disk → length (p.view.seen output_file) ≡ p.is.core.length
 
 -- and what it leaves at each moment
 abbrev pub RunLeaves : (s : Setting) (found : Option Checkpoint) (old new : View) → Type 0

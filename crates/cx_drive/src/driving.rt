@@ -56,7 +56,6 @@ pub fn drive<D: Disk, W: Wire, T: Turns>(
     requires routines { FitJob (map spec_of routines.now) (setup_of job.now) }
     requires parts { part_count (parts_of job.now.shape job.now.cut) ≤ W.parts wire.old }
     requires empty { AreEmpty (W.queue wire.old) }
-    requires sum { IsTrue W.tells → W.sum wire.old < 2 ^ 64 }
     ensures drives { Drives (record {
       job = job.now;
       rules = map rule routines.now;
@@ -111,7 +110,6 @@ fn drive_from<D: Disk, W: Wire, T: Turns>(
     requires mounted { IsTrue (D.mounted disk.old) }
     requires files { D.file_count disk.old ≡ 9 }
     requires empty { AreEmpty (W.queue wire.old) }
-    requires sum { IsTrue W.tells → W.sum wire.old < 2 ^ 64 }
     requires keeper { (keep ≡ keeper_of job.now found) × HasLengths found }
     requires fits { IfSome found (λ c. fits_job job.now c ≡ true) }
     requires counts { D.tells → AreCounted keep.lengths (D.view disk.old) }

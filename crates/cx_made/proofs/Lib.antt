@@ -1,2 +1,2 @@
 mod Rows
-mod ScalarLaws
+pub mod ScalarLaws

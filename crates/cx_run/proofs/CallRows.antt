@@ -1,5 +1,5 @@
 -- The definitions on command lines and on what is printed for them.
-use Rattle.std.proofs.Common.{◌≡◌, [], ◌∷◌, codes, Some, None, refl}
+use Rattle.std.proofs.Common.{◌≡◌, [], ◌∷◌, codes, pos, Some, None, refl}
 use Rattle.std.specs.Fmt.{digits}
 use Rattle.cx_job.specs.declared.fault.JobFault.TheVariants as faults
 use Rattle.cx_keep.specs.declared.fault.BeginFault.TheVariants as begins
@@ -39,6 +39,27 @@ a_schedule = refl
 a_schedule_with_a_seed : asked (codes "schedule" ∷ codes "ca.par" ∷ codes "--turns=1" ∷ []) ≡ None
 a_schedule_with_a_seed = refl
 
+a_make : asked (codes "make" ∷ codes "007" ∷ codes "0064" ∷ []) ≡ Some (request (commands.Make 7 64) (codes "made.par") 0)
+a_make = refl
+
+the_greatest_make : asked (codes "make" ∷ codes "9223372036854775807" ∷ codes "1024" ∷ []) ≡ Some (request (commands.Make 9223372036854775807 1024) (codes "made.par") 0)
+the_greatest_make = refl
+
+a_seed_too_great : asked (codes "make" ∷ codes "9223372036854775808" ∷ codes "64" ∷ []) ≡ None
+a_seed_too_great = refl
+
+a_size_too_small : asked (codes "make" ∷ codes "1" ∷ codes "7" ∷ []) ≡ None
+a_size_too_small = refl
+
+a_size_too_great : asked (codes "make" ∷ codes "1" ∷ codes "1025" ∷ []) ≡ None
+a_size_too_great = refl
+
+a_size_of_five_digits : asked (codes "make" ∷ codes "1" ∷ codes "00008" ∷ []) ≡ None
+a_size_of_five_digits = refl
+
+no_size : asked (codes "make" ∷ codes "1" ∷ []) ≡ None
+no_size = refl
+
 no_words : asked [] ≡ None
 no_words = refl
 
@@ -49,12 +70,16 @@ a_dash : asked (codes "run" ∷ codes "-x" ∷ []) ≡ None
 a_dash = refl
 
 -- the usage text as it stands on the screen
-usage_line : text_of a.Usage ≡ codes "usage: cactus run FILE [--turns SEED]\n       cactus check FILE\n       cactus schedule FILE\n       cactus describe FILE\n       cactus parts FILE\n"
+usage_line : text_of a.Usage ≡ codes "usage: cactus run FILE [--turns SEED]\n       cactus check FILE\n       cactus schedule FILE\n       cactus describe FILE\n       cactus parts FILE\n       cactus make SEED SIZE\n"
 usage_line = refl
 
 done : text_of (a.Done 2) ≡ codes "done: iteration 2\n"
 unfolding digits
 done = refl
+
+made : text_of (a.Made 20 7 64 16459 (pos 628)) ≡ codes "done: iteration 20\nmade 7 64 points 4096 parts 16 output 16459 live 628\n"
+unfolding digits
+made = refl
 
 no_file : text_of (answer_of (faults.NoFile (codes "none.par"))) ≡ codes "refused: NoFile none.par\n"
 no_file = refl

@@ -1,8 +1,8 @@
 -- From what stands behind an answer, and what was said, to what the top call ensures.
-use Rattle.std.proofs.Common.{◌≡◌, ◌≢◌, ◌⊎◌, ◌∙◌, ℕ, ◌<◌, List, Option, Some, None, Result, Ok, Err, inl, inr, refl, sym, ap, subst, arith}
+use Rattle.std.proofs.Common.{◌≡◌, ◌≢◌, ◌⊎◌, ◌∙◌, ℕ, ℤ, ◌<◌, List, length, Option, Some, None, Result, Ok, Err, inl, inr, refl, sym, ap, subst, arith}
 use Rattle.cx_plan.specs.Setups.{setup_of}
 use Rattle.cx_plan.specs.declared.job.Job.{Job}
-use Rattle.cx_model.specs.Runs.{end_by, end as end_of}
+use Rattle.cx_model.specs.Runs.{output, end_by, end as end_of}
 use Rattle.cx_model.specs.declared.ends.End.{End}
 use Rattle.cx_model.specs.declared.ends.End.TheVariants as ends
 use Rattle.cx_chk.specs.declared.checkpoint.Checkpoint.{Checkpoint}
@@ -19,17 +19,19 @@ use Rattle.cx_job.specs.declared.fault.JobFault.{JobFault}
 use Rattle.cx_job.specs.declared.fault.JobFault.TheVariants as faults
 use Rattle.cx_job.specs.Making.{without_witness}
 use Rattle.cx_drive.specs.Lent.{HasRisen}
-use Rattle.cx_drive.specs.Drives.{LeavesTrails, StartsWell}
+use Rattle.cx_drive.specs.Drives.{HasWholeOutput, LeavesTrails, StartsWell}
 use Rattle.cx_run.specs.Answers.{answer_of, status_of, text_of, Says, WasSaid}
-use Rattle.cx_run.specs.Calls.{Lent, Work, Call, IsRun, AreTold, IsStill, driven}
+use Rattle.cx_run.specs.Calls.{Lent, Work, Call, Runs, IsRun, AreTold, IsStill, driven}
 use Rattle.cx_run.specs.Causes.{HasCome, HasRun, Comes, ComesTo, Follows, Explains}
-use Rattle.cx_run.specs.Clauses.{IsEnd, RunsWell, KeepsTrails, IsUntouched, Spares, IsCalm, status_at, Gives, IsRefusedFor, Owes}
+use Rattle.cx_run.specs.Sink.{Adds}
+use Rattle.cx_run.specs.Texts.{made_text}
+use Rattle.cx_run.specs.Clauses.{IsEnd, RunsWell, KeepsTrails, IsToldOf, SumsUp, IsUntouched, Spares, IsCalm, status_at, Gives, IsRefusedFor, Owes}
 use Rattle.cx_run.specs.Words.{Request, asked}
 use Rattle.cx_run.specs.declared.reply.Answer.{Answer}
 use Rattle.cx_run.specs.declared.reply.Answer.TheVariants as a
 use Rattle.cx_run.specs.declared.words.Command.{Command}
 use Rattle.cx_run.specs.declared.words.Command.TheVariants as commands
-use Rattle.cx_run.proofs.Asked.{HasFailed, shelf, memory, IsSorted, by_shelf, by_memory, refused, IsFaulty, IsFaultOf, sorted, not_asked, same_request, job_of, no_job, fault_of}
+use Rattle.cx_run.proofs.Asked.{HasFailed, shelf, memory, IsSorted, by_shelf, by_memory, refused, IsFaulty, IsFaultOf, sorted, not_asked, same_request, job_of, no_job, fault_of, spared}
 use Rattle.cx_run.proofs.Stillness.{still_trails}
 
 -- ---- what was said
@@ -40,6 +42,14 @@ said_status sink answer result s (inl (inl p)) e not4 not5 = sym p.status_is ∙
 said_status sink answer result s (inl (inr p)) e not4 not5 = absurd (not4 (sym e ∙ p.status_is))
 said_status sink answer result s (inr (inl p)) e not4 not5 = absurd (not5 (sym e ∙ p.status_is))
 said_status sink answer result s (inr (inr p)) e not4 not5 = absurd (not4 (sym e ∙ p.status_is))
+
+-- and so is the text
+pub said_text : (sink : Lent (List ℕ)) (answer : Answer) (result s : ℕ) → WasSaid sink answer result → result ≡ s → (s ≡ 4 → ⊥) → (s ≡ 5 → ⊥) → sink.tells
+    → Adds (text_of answer) sink.old sink.new
+said_text sink answer result s (inl (inl p)) e not4 not5 told = p.text_is told
+said_text sink answer result s (inl (inr p)) e not4 not5 told = absurd (not4 (sym e ∙ p.status_is))
+said_text sink answer result s (inr (inl p)) e not4 not5 told = absurd (not5 (sym e ∙ p.status_is))
+said_text sink answer result s (inr (inr p)) e not4 not5 told = absurd (not4 (sym e ∙ p.status_is))
 
 -- where the sink doesn't fail
 pub calm_status : (sink : Lent (List ℕ)) (answer : Answer) (result : ℕ) → WasSaid sink answer result → (HasRisen sink.faults → ⊥) → (result ≡ status_of answer) ⊎ (result ≡ 5)
@@ -62,6 +72,9 @@ record IsOver (w : Work) (job : Job) (status : ℕ) : Type 0 where
   pub run : HasRun w job end
   pub status_is : status ≡ status_at end
 
+runs_as : (command one : Command) → command ≡ one → Runs one → Runs command
+runs_as command one is runs = subst (λ (k : Command). Runs k) (sym is) runs
+
 not_end : (n : ℕ) → (n ≡ 0 → ⊥) → (n ≡ 3 → ⊥) → IsEnd n → ⊥
 not_end n not0 not3 (inl e) = not0 e
 not_end n not0 not3 (inr e) = not3 e
@@ -72,25 +85,25 @@ status_other (ends.Overflow iteration path) other = refl
 status_other (ends.WhileLimit iteration path) other = refl
 status_other (ends.OutputLimit iteration) other = refl
 
-over : (w : Work) (job : Job) (answer : Answer) → Comes w commands.Run job answer → IsEnd (status_of answer) → IsOver w job (status_of answer)
-over w job (a.Done iteration) x e = record { end = ends.Done; run = x.run; status_is = refl }
-over w job (a.Ended end) x e = record { end = end; run = x.run; status_is = status_other end x.other }
-over w job (a.Text text) x e = absurd (x.command_is refl)
-over w job (a.Recovery fault) x e = absurd (not_end 6 (λ z. absurd cc) (λ z. absurd cc) e)
-over w job a.Disk x e = absurd (not_end 4 (λ z. absurd cc) (λ z. absurd cc) e)
-over w job a.Wire x e = absurd (not_end 4 (λ z. absurd cc) (λ z. absurd cc) e)
-over w job a.Memory x e = absurd (not_end 5 (λ z. absurd cc) (λ z. absurd cc) e)
-over w job a.Usage x e = absurd x
-over w job (a.Refused fault) x e = absurd x
-over w job a.Shelf x e = absurd x
+over : (w : Work) (command : Command) (job : Job) (answer : Answer) → Runs command → Comes w command job answer → IsEnd (status_of answer) → IsOver w job (status_of answer)
+over w command job (a.Done iteration) runs x e = record { end = ends.Done; run = x.run; status_is = refl }
+over w command job (a.Made iteration seed size output live) runs x e = record { end = ends.Done; run = x.run; status_is = refl }
+over w command job (a.Ended end) runs x e = record { end = end; run = x.run; status_is = status_other end x.other }
+over w command job (a.Text text) runs x e = absurd (x.other runs)
+over w command job (a.Recovery fault) runs x e = absurd (not_end 6 (λ z. absurd cc) (λ z. absurd cc) e)
+over w command job a.Disk runs x e = absurd (not_end 4 (λ z. absurd cc) (λ z. absurd cc) e)
+over w command job a.Wire runs x e = absurd (not_end 4 (λ z. absurd cc) (λ z. absurd cc) e)
+over w command job a.Memory runs x e = absurd (not_end 5 (λ z. absurd cc) (λ z. absurd cc) e)
+over w command job a.Usage runs x e = absurd x
+over w command job (a.Refused fault) runs x e = absurd x
+over w command job a.Shelf runs x e = absurd x
 
 failed_not_end : (c : Call) (answer : Answer) → HasFailed c answer → IsEnd (status_of answer) → ⊥
 failed_not_end c answer (shelf is rose still) e = not_end 4 (λ z. absurd cc) (λ z. absurd cc) (subst (λ (x : Answer). IsEnd (status_of x)) is e)
 failed_not_end c answer (memory is still) e = not_end 5 (λ z. absurd cc) (λ z. absurd cc) (subst (λ (x : Answer). IsEnd (status_of x)) is e)
 
-run_of : (c : Call) (answer : Answer) → Explains c answer → c.shelf.tells → (job : Job) → IsRun c job → ComesTo c.work commands.Run job answer ⊎ HasFailed c answer
-run_of c answer x told job run =
-    subst (λ (k : Command). ComesTo c.work k job answer ⊎ HasFailed c answer) run.runs (job_of c answer x told run.request job run.asks run.makes)
+run_of : (c : Call) (answer : Answer) → Explains c answer → (job : Job) (run : IsRun c job) → ComesTo c.work run.request.command job answer ⊎ HasFailed c answer
+run_of c answer x job run = job_of c answer x run.request job run.asks run.told run.makes
 
 end_said : (sink : Lent (List ℕ)) (answer : Answer) (result : ℕ) → WasSaid sink answer result → IsEnd result → (status_of answer ≡ result) × IsEnd (status_of answer)
 end_said sink answer result said (inl e) =
@@ -98,14 +111,14 @@ end_said sink answer result said (inl e) =
 end_said sink answer result said (inr e) =
     let s = said_status sink answer result 3 said e (λ z. absurd cc) (λ z. absurd cc) in (s ∙ sym e, inr s)
 
-run_over : (c : Call) (sink : Lent (List ℕ)) (answer : Answer) (result : ℕ) → Explains c answer → WasSaid sink answer result → c.shelf.tells → (job : Job) → IsRun c job
+run_over : (c : Call) (sink : Lent (List ℕ)) (answer : Answer) (result : ℕ) → Explains c answer → WasSaid sink answer result → (job : Job) → IsRun c job
     → IsEnd result → IsOver c.work job result
-run_over c sink answer result x said told job run e =
+run_over c sink answer result x said job run e =
     let s = end_said sink answer result said e in
-    subst (λ (n : ℕ). IsOver c.work job n) s.0 (go s.1 (run_of c answer x told job run))
+    subst (λ (n : ℕ). IsOver c.work job n) s.0 (go s.1 (run_of c answer x job run))
   where
-    go : IsEnd (status_of answer) → ComesTo c.work commands.Run job answer ⊎ HasFailed c answer → IsOver c.work job (status_of answer)
-    go e (inl comes) = over c.work job answer comes.cause e
+    go : IsEnd (status_of answer) → ComesTo c.work run.request.command job answer ⊎ HasFailed c answer → IsOver c.work job (status_of answer)
+    go e (inl comes) = over c.work run.request.command job answer run.runs comes.cause e
     go e (inr failed) = absurd (failed_not_end c answer failed e)
 
 done_at : (end : End) → 0 ≡ status_at end → end ≡ ends.Done
@@ -131,18 +144,68 @@ runs_well c sink answer result x said told job run well =
     }
   where
     at : IsEnd result → IsOver c.work job result
-    at e = run_over c sink answer result x said told.0 job run e
+    at e = run_over c sink answer result x said job run e
 
     come : (e : IsEnd result) → HasCome (driven c.work job) (at e).end
-    come e = (at e).run.come (told.1, told.2) well
+    come e = (at e).run.come told well
 
 pub keeps_trails : (c : Call) (answer : Answer) → Explains c answer → AreTold c → KeepsTrails c
-keeps_trails c answer x told job run trails = go (run_of c answer x told.0 job run)
+keeps_trails c answer x told job run trails = go (run_of c answer x job run)
   where
-    go : ComesTo c.work commands.Run job answer ⊎ HasFailed c answer → LeavesTrails (driven c.work job)
-    go (inl comes) = comes.trails (told.1, told.2) trails
-    go (inr (shelf is rose still)) = still_trails c.work job still told.1 trails
-    go (inr (memory is still)) = still_trails c.work job still told.1 trails
+    go : ComesTo c.work run.request.command job answer ⊎ HasFailed c answer → LeavesTrails (driven c.work job)
+    go (inl comes) = comes.trails told trails
+    go (inr (shelf is rose still)) = still_trails c.work job still told.0 trails
+    go (inr (memory is still)) = still_trails c.work job still told.0 trails
+
+-- ---- what `make` tells
+
+not_run : (seed size : ℕ) → commands.Run ≡ commands.Make seed size → ⊥
+not_run seed size e = cc
+
+made_parts : (seed size other_seed other_size : ℕ) → commands.Make seed size ≡ commands.Make other_seed other_size → (seed ≡ other_seed) × (size ≡ other_size)
+made_parts seed size other_seed other_size e = (cc, cc)
+
+same_text : (i j seed other_seed size other_size m n : ℕ) (live : ℤ) → i ≡ j → seed ≡ other_seed → size ≡ other_size → m ≡ n
+    → made_text i seed size m live ≡ made_text j other_seed other_size n live
+same_text i j seed other_seed size other_size m n live first second third fourth =
+    ap (λ (k : ℕ). made_text k seed size m live) first ∙ ap (λ (k : ℕ). made_text j k size m live) second
+    ∙ ap (λ (k : ℕ). made_text j other_seed k m live) third ∙ ap (λ (k : ℕ). made_text j other_seed other_size k live) fourth
+
+made_comes : (c : Call) (sink : Lent (List ℕ)) (command : Command) (job : Job) (seed size : ℕ) (answer : Answer) → command ≡ commands.Make seed size → AreTold c → StartsWell (driven c.work job)
+    → Comes c.work command job answer → status_of answer ≡ 0 → (sink.tells → Adds (text_of answer) sink.old sink.new) → IsToldOf c sink job seed size
+made_comes c sink command job seed size (a.Made iteration other_seed other_size length_ live) is told well x e said =
+    let run : HasRun c.work job ends.Done = x.run in
+    let whole : HasWholeOutput (driven c.work job) = (run.come told well).output in
+    let long : length_ ≡ length (output (setup_of job) c.work.rules) = x.sums.output_is told.0 ∙ ap length whole.reads in
+    let same = made_parts other_seed other_size seed size (sym x.command_is ∙ is) in
+    record {
+      live = live;
+      live_is = x.sums.undivided told well;
+      text_is = λ tells. subst (λ (t : List ℕ). Adds t sink.old sink.new) (same_text iteration job.itlast other_seed seed other_size size length_ (length (output (setup_of job) c.work.rules)) live x.last same.0 same.1 long) (said tells);
+    }
+made_comes c sink command job seed size (a.Done iteration) is told well x e said = absurd (not_run seed size (sym x.command_is ∙ is))
+made_comes c sink command job seed size (a.Text text) is told well x e said = absurd (x.other (runs_as command (commands.Make seed size) is tt))
+made_comes c sink command job seed size (a.Ended end) is told well x e said = absurd cc
+made_comes c sink command job seed size (a.Recovery fault) is told well x e said = absurd cc
+made_comes c sink command job seed size a.Disk is told well x e said = absurd cc
+made_comes c sink command job seed size a.Wire is told well x e said = absurd cc
+made_comes c sink command job seed size a.Memory is told well x e said = absurd cc
+made_comes c sink command job seed size a.Usage is told well x e said = absurd x
+made_comes c sink command job seed size (a.Refused fault) is told well x e said = absurd x
+made_comes c sink command job seed size a.Shelf is told well x e said = absurd x
+
+pub sums_up : (c : Call) (sink : Lent (List ℕ)) (answer : Answer) (result : ℕ) → Explains c answer → WasSaid sink answer result → AreTold c → SumsUp c sink result
+sums_up c sink answer result x said told seed size job run is well e = go (run_of c answer x job run)
+  where
+    zero : status_of answer ≡ 0
+    zero = said_status sink answer result 0 said e (λ z. absurd cc) (λ z. absurd cc)
+
+    failed_not_0 : HasFailed c answer → status_of answer ≡ 0 → ⊥
+    failed_not_0 failed z = failed_not_end c answer failed (inl z)
+
+    go : ComesTo c.work run.request.command job answer ⊎ HasFailed c answer → IsToldOf c sink job seed size
+    go (inl comes) = made_comes c sink run.request.command job seed size answer is told well comes.cause zero (said_text sink answer result 0 said e (λ z. absurd cc) (λ z. absurd cc))
+    go (inr failed) = absurd (failed_not_0 failed zero)
 
 -- ---- what isn't touched
 
@@ -160,6 +223,7 @@ no_refusal n not1 not2 not6 (inr (inr e)) = not6 e
 refusal_comes : (w : Work) (command : Command) (job : Job) (answer : Answer) → Comes w command job answer → IsRefusal (status_of answer) → IsUntouched w
 refusal_comes w command job (a.Recovery fault) x e = record { disk = x.1.quiet; wire = x.1.wire; meter = x.1.meter }
 refusal_comes w command job (a.Done iteration) x e = absurd (no_refusal 0 (λ z. absurd cc) (λ z. absurd cc) (λ z. absurd cc) e)
+refusal_comes w command job (a.Made iteration seed size output live) x e = absurd (no_refusal 0 (λ z. absurd cc) (λ z. absurd cc) (λ z. absurd cc) e)
 refusal_comes w command job (a.Text text) x e = absurd (no_refusal 0 (λ z. absurd cc) (λ z. absurd cc) (λ z. absurd cc) e)
 refusal_comes w command job (a.Ended end) x e = absurd (no_refusal 3 (λ z. absurd cc) (λ z. absurd cc) (λ z. absurd cc) e)
 refusal_comes w command job a.Disk x e = absurd (no_refusal 4 (λ z. absurd cc) (λ z. absurd cc) (λ z. absurd cc) e)
@@ -182,10 +246,11 @@ refusal_said sink answer result said (inl e) = inl (said_status sink answer resu
 refusal_said sink answer result said (inr (inl e)) = inr (inl (said_status sink answer result 2 said e (λ z. absurd cc) (λ z. absurd cc)))
 refusal_said sink answer result said (inr (inr e)) = inr (inr (said_status sink answer result 6 said e (λ z. absurd cc) (λ z. absurd cc)))
 
-still_comes : (w : Work) (command : Command) (job : Job) (answer : Answer) → command ≢ commands.Run → Comes w command job answer → IsStill w
-still_comes w command job (a.Done iteration) other x = absurd (other x.command_is)
+still_comes : (w : Work) (command : Command) (job : Job) (answer : Answer) → (Runs command → ⊥) → Comes w command job answer → IsStill w
+still_comes w command job (a.Done iteration) other x = absurd (other (runs_as command commands.Run x.command_is tt))
+still_comes w command job (a.Made iteration seed size output live) other x = absurd (other (runs_as command (commands.Make seed size) x.command_is tt))
 still_comes w command job (a.Text text) other x = x.still
-still_comes w command job (a.Ended end) other x = absurd (other x.command_is)
+still_comes w command job (a.Ended end) other x = absurd (other x.runs)
 still_comes w command job (a.Recovery fault) other x = absurd (other x.0)
 still_comes w command job a.Disk other x = absurd (other x.0)
 still_comes w command job a.Wire other x = absurd (other x.0)
@@ -194,15 +259,15 @@ still_comes w command job a.Usage other x = absurd x
 still_comes w command job (a.Refused fault) other x = absurd x
 still_comes w command job a.Shelf other x = absurd x
 
-still_follows : (c : Call) (command : Command) (found : Result Job JobFault) (answer : Answer) → command ≢ commands.Run → Follows c command found answer → IsStill c.work
+still_follows : (c : Call) (command : Command) (found : Result Job JobFault) (answer : Answer) → (Runs command → ⊥) → Follows c command found answer → IsStill c.work
 still_follows c command (Ok job) answer other x = still_comes c.work command job answer other x.comes.cause
 still_follows c command (Err fault) answer other x = x.still
 
-other_still : (c : Call) (answer : Answer) → Explains c answer → (r : Request) → asked c.words ≡ Some r → r.command ≢ commands.Run → IsStill c.work
+other_still : (c : Call) (answer : Answer) → Explains c answer → (r : Request) → asked c.words ≡ Some r → (Runs r.command → ⊥) → IsStill c.work
 other_still c answer (inl wrong) r asks other = wrong.still
 other_still c answer (inr x) r asks other =
     still_follows c x.request.command x.found answer
-    (λ run. other (sym (ap (λ (q : Request). q.command) (same_request c answer x r asks)) ∙ run)) x.follows
+    (λ run. other (subst (λ (q : Request). Runs q.command) (same_request c answer x r asks) run)) x.follows
 
 wrong_still : (c : Call) (answer : Answer) → Explains c answer → asked c.words ≡ None → c.shelf.same × IsStill c.work
 wrong_still c answer (inl wrong) none = (wrong.shelf, wrong.still)
@@ -214,7 +279,8 @@ spares c sink answer result x said =
       refused = λ e. refusal_untouched c answer x (refusal_said sink answer result said e);
       wrong_use = λ none. wrong_still c answer x none;
       other_command = λ r asks other. other_still c answer x r asks other;
-      no_job = λ told r fault asks made. (fault_of c answer x told r fault asks made).is.still;
+      no_job = λ r fault asks told made. (fault_of c answer x r fault asks told made).is.still;
+      shelf = λ r asks. spared c answer x r asks;
     }
 
 -- ---- what must be answered
@@ -238,10 +304,11 @@ failed_due : (c : Call) (answer : Answer) (s : ℕ) → (HasRisen c.shelf.faults
 failed_due c answer s calm (shelf is rose still) = absurd (calm rose)
 failed_due c answer s calm (memory is still) = inr (ap status_of is)
 
-told_due : (w : Work) (command : Command) (job : Job) (answer : Answer) → command ≢ commands.Run → Comes w command job answer → Due 0 (status_of answer)
-told_due w command job (a.Done iteration) other x = absurd (other x.command_is)
+told_due : (w : Work) (command : Command) (job : Job) (answer : Answer) → (Runs command → ⊥) → Comes w command job answer → Due 0 (status_of answer)
+told_due w command job (a.Done iteration) other x = inl refl
+told_due w command job (a.Made iteration seed size output live) other x = inl refl
 told_due w command job (a.Text text) other x = inl refl
-told_due w command job (a.Ended end) other x = absurd (other x.command_is)
+told_due w command job (a.Ended end) other x = absurd (other x.runs)
 told_due w command job (a.Recovery fault) other x = absurd (other x.0)
 told_due w command job a.Disk other x = absurd (other x.0)
 told_due w command job a.Wire other x = absurd (other x.0)
@@ -263,17 +330,18 @@ ok_not_err x fault e = absurd cc
 end_due : (c : Call) (job : Job) (found : Option Checkpoint) (end : End) → AreTold c → begun job c.work.disk.old.seen ≡ Ok found → HasRun c.work job end
     → status_at end ≡ status_at (end_by (run_from (setup_of job) c.work.rules found).outcome)
 end_due c job found end told begins x =
-    let same : x.found ≡ found = ok_same x.found found (sym (x.began told.1) ∙ begins) in
-    ap status_at (sym (subst (λ (f : Option Checkpoint). end_by (run_from (setup_of job) c.work.rules f).outcome ≡ end) same (x.ends (told.1, told.2))))
+    let same : x.found ≡ found = ok_same x.found found (sym (x.began told.0) ∙ begins) in
+    ap status_at (sym (subst (λ (f : Option Checkpoint). end_by (run_from (setup_of job) c.work.rules f).outcome ≡ end) same (x.ends told)))
 
 -- no run begins where the start is refused
 never_begun : (c : Call) (job : Job) (fault : BeginFault) (end : End) → AreTold c → begun job c.work.disk.old.seen ≡ Err fault → HasRun c.work job end → ⊥
-never_begun c job fault end told begins x = ok_not_err x.found fault (sym begins ∙ x.began told.1)
+never_begun c job fault end told begins x = ok_not_err x.found fault (sym begins ∙ x.began told.0)
 
-module _ (c : Call) (sink : Lent (List ℕ)) (calm : IsCalm c sink) (told : AreTold c) (job : Job) where
-  refused_due : (fault : BeginFault) (answer : Answer) → begun job c.work.disk.old.seen ≡ Err fault → Comes c.work commands.Run job answer → Due 6 (status_of answer)
+module _ (c : Call) (sink : Lent (List ℕ)) (calm : IsCalm c sink) (told : AreTold c) (command : Command) (runs : Runs command) (job : Job) where
+  refused_due : (fault : BeginFault) (answer : Answer) → begun job c.work.disk.old.seen ≡ Err fault → Comes c.work command job answer → Due 6 (status_of answer)
   refused_due fault (a.Done iteration) begins x = absurd (never_begun c job fault ends.Done told begins x.run)
-  refused_due fault (a.Text text) begins x = absurd (x.command_is refl)
+  refused_due fault (a.Made iteration seed size output live) begins x = absurd (never_begun c job fault ends.Done told begins x.run)
+  refused_due fault (a.Text text) begins x = absurd (x.other runs)
   refused_due fault (a.Ended end) begins x = absurd (never_begun c job fault end told begins x.run)
   refused_due fault (a.Recovery other) begins x = inl refl
   refused_due fault a.Disk begins x = absurd (calm.disk x.1)
@@ -283,12 +351,13 @@ module _ (c : Call) (sink : Lent (List ℕ)) (calm : IsCalm c sink) (told : AreT
   refused_due fault (a.Refused other) begins x = absurd x
   refused_due fault a.Shelf begins x = absurd x
 
-  run_due : (found : Option Checkpoint) (answer : Answer) → begun job c.work.disk.old.seen ≡ Ok found → Comes c.work commands.Run job answer
+  run_due : (found : Option Checkpoint) (answer : Answer) → begun job c.work.disk.old.seen ≡ Ok found → Comes c.work command job answer
       → Due (status_at (end_by (run_from (setup_of job) c.work.rules found).outcome)) (status_of answer)
   run_due found (a.Done iteration) begins x = inl (end_due c job found ends.Done told begins x.run)
-  run_due found (a.Text text) begins x = absurd (x.command_is refl)
+  run_due found (a.Made iteration seed size output live) begins x = inl (end_due c job found ends.Done told begins x.run)
+  run_due found (a.Text text) begins x = absurd (x.other runs)
   run_due found (a.Ended end) begins x = inl (status_other end x.other ∙ end_due c job found end told begins x.run)
-  run_due found (a.Recovery other) begins x = absurd (ok_not_err found other (sym (x.1.began told.1) ∙ begins))
+  run_due found (a.Recovery other) begins x = absurd (ok_not_err found other (sym (x.1.began told.0) ∙ begins))
   run_due found a.Disk begins x = absurd (calm.disk x.1)
   run_due found a.Wire begins x = absurd (calm.wire x.1)
   run_due found a.Memory begins x = inr refl
@@ -313,21 +382,22 @@ begun_some job files Auto None is other = absurd (other is)
 begun_some job files Auto (Some c) is other = record { found = Some c; is = is }
 begun_some job files Autoprobe newest is other = record { found = newest; is = is }
 
-well_begun : (w : Work) (job : Job) (answer : Answer) → ComesTo w commands.Run job answer → w.disk.tells → StartsWell (driven w job) → begun job w.disk.old.seen ≢ Err NoCheckpoint
+well_begun : (w : Work) (command : Command) (job : Job) (answer : Answer) → Runs command → ComesTo w command job answer → w.disk.tells → StartsWell (driven w job) → begun job w.disk.old.seen ≢ Err NoCheckpoint
     → IsBegun job w.disk.old.seen
-well_begun w job answer comes tells (inl trails) other =
-    let b = comes.begins refl tells trails in begun_some job w.disk.old.seen job.recover b.newest b.begun_is other
-well_begun w job answer comes tells (inr given_up) other = begun_no job w.disk.old.seen given_up
+well_begun w command job answer runs comes tells (inl trails) other =
+    let b = comes.begins runs tells trails in begun_some job w.disk.old.seen job.recover b.newest b.begun_is other
+well_begun w command job answer runs comes tells (inr given_up) other = begun_no job w.disk.old.seen given_up
 
-module _ (c : Call) (sink : Lent (List ℕ)) (calm : IsCalm c sink) (told : AreTold c) (job : Job) (well : StartsWell (driven c.work job)) (begins : IsBegun job c.work.disk.old.seen) where
+module _ (c : Call) (sink : Lent (List ℕ)) (calm : IsCalm c sink) (told : AreTold c) (command : Command) (runs : Runs command) (job : Job) (well : StartsWell (driven c.work job)) (begins : IsBegun job c.work.disk.old.seen) where
   come_due : (end : End) → HasRun c.work job end → status_at end ≡ status_at (end_of (setup_of job) c.work.rules)
-  come_due end run = ap status_at (sym (run.come (told.1, told.2) well).end_is)
+  come_due end run = ap status_at (sym (run.come told well).end_is)
 
-  well_due : (answer : Answer) → Comes c.work commands.Run job answer → Due (status_at (end_of (setup_of job) c.work.rules)) (status_of answer)
+  well_due : (answer : Answer) → Comes c.work command job answer → Due (status_at (end_of (setup_of job) c.work.rules)) (status_of answer)
   well_due (a.Done iteration) x = inl (come_due ends.Done x.run)
-  well_due (a.Text text) x = absurd (x.command_is refl)
+  well_due (a.Made iteration seed size output live) x = inl (come_due ends.Done x.run)
+  well_due (a.Text text) x = absurd (x.other runs)
   well_due (a.Ended end) x = inl (status_other end x.other ∙ come_due end x.run)
-  well_due (a.Recovery other) x = absurd (ok_not_err begins.found other (sym (x.1.began told.1) ∙ begins.is))
+  well_due (a.Recovery other) x = absurd (ok_not_err begins.found other (sym (x.1.began told.0) ∙ begins.is))
   well_due a.Disk x = absurd (calm.disk x.1)
   well_due a.Wire x = absurd (calm.wire x.1)
   well_due a.Memory x = inr refl
@@ -337,26 +407,28 @@ module _ (c : Call) (sink : Lent (List ℕ)) (calm : IsCalm c sink) (told : AreT
 
 due_of : (c : Call) (sink : Lent (List ℕ)) (answer : Answer) → Explains c answer → IsCalm c sink → (s : ℕ) → Gives c s → Due s (status_of answer)
 due_of c sink answer x calm s (Gives.usage none) = wrong_due c answer x none
-due_of c sink answer x calm s (Gives.refused told r asks none) = faulty_due c answer calm.shelf (no_job c answer x told r asks none)
-due_of c sink answer x calm s (Gives.told told r job asks other made) = go (job_of c answer x told r job asks made)
+due_of c sink answer x calm s (Gives.refused r asks told none) = faulty_due c answer calm.shelf (no_job c answer x r asks told none)
+due_of c sink answer x calm s (Gives.told r job asks other told made) = go (job_of c answer x r job asks told made)
   where
     go : ComesTo c.work r.command job answer ⊎ HasFailed c answer → Due 0 (status_of answer)
     go (inl comes) = told_due c.work r.command job answer other comes.cause
     go (inr failed) = failed_due c answer 0 calm.shelf failed
-due_of c sink answer x calm s (Gives.recovery told job fault run begins) = go (run_of c answer x told.0 job run)
+due_of c sink answer x calm s (Gives.recovery told job fault run begins) = go (run_of c answer x job run)
   where
-    go : ComesTo c.work commands.Run job answer ⊎ HasFailed c answer → Due 6 (status_of answer)
-    go (inl comes) = refused_due c sink calm told job fault answer begins comes.cause
+    go : ComesTo c.work run.request.command job answer ⊎ HasFailed c answer → Due 6 (status_of answer)
+    go (inl comes) = refused_due c sink calm told run.request.command run.runs job fault answer begins comes.cause
     go (inr failed) = failed_due c answer 6 calm.shelf failed
-due_of c sink answer x calm s (Gives.run told job found run begins) = go (run_of c answer x told.0 job run)
+due_of c sink answer x calm s (Gives.run told job found run begins) = go (run_of c answer x job run)
   where
-    go : ComesTo c.work commands.Run job answer ⊎ HasFailed c answer → Due (status_at (end_by (run_from (setup_of job) c.work.rules found).outcome)) (status_of answer)
-    go (inl comes) = run_due c sink calm told job found answer begins comes.cause
+    go : ComesTo c.work run.request.command job answer ⊎ HasFailed c answer → Due (status_at (end_by (run_from (setup_of job) c.work.rules found).outcome)) (status_of answer)
+    go (inl comes) = run_due c sink calm told run.request.command run.runs job found answer begins comes.cause
     go (inr failed) = failed_due c answer (status_at (end_by (run_from (setup_of job) c.work.rules found).outcome)) calm.shelf failed
-due_of c sink answer x calm s (Gives.well told job run well other) = go (run_of c answer x told.0 job run)
+due_of c sink answer x calm s (Gives.well told job run well other) = go (run_of c answer x job run)
   where
-    go : ComesTo c.work commands.Run job answer ⊎ HasFailed c answer → Due (status_at (end_of (setup_of job) c.work.rules)) (status_of answer)
-    go (inl comes) = well_due c sink calm told job well (well_begun c.work job answer comes told.1 well other) answer comes.cause
+    go : ComesTo c.work run.request.command job answer ⊎ HasFailed c answer → Due (status_at (end_of (setup_of job) c.work.rules)) (status_of answer)
+    go (inl comes) =
+        well_due c sink calm told run.request.command run.runs job well
+        (well_begun c.work run.request.command job answer run.runs comes told.0 well other) answer comes.cause
     go (inr failed) = failed_due c answer (status_at (end_of (setup_of job) c.work.rules)) calm.shelf failed
 
 due_said : (n result s : ℕ) → (result ≡ n) ⊎ (result ≡ 5) → Due s n → Due s result
@@ -397,6 +469,6 @@ pub owes : (c : Call) (sink : Lent (List ℕ)) (answer : Answer) (result : ℕ) 
 owes c sink answer result x said =
     record {
       status = λ calm s gives. due_said (status_of answer) result s (calm_status sink answer result said calm.sink_) (due_of c sink answer x calm s gives);
-      fault = λ told r fault asks made calm_shelf calm_sink. fault_due c sink fault answer result (fault_of c answer x told r fault asks made) said calm_shelf calm_sink;
+      fault = λ r fault asks told made calm_shelf calm_sink. fault_due c sink fault answer result (fault_of c answer x r fault asks told made) said calm_shelf calm_sink;
       sink_failed = λ rises. sink_failed sink answer result said rises;
     }

@@ -1,5 +1,5 @@
 -- The ends of runs, as a core and as the undivided run have them.
-use Rattle.std.proofs.Common.{◌≡◌, ◌≢◌, ◌∙◌, refl, sym, ap}
+use Rattle.std.proofs.Common.{◌≡◌, ◌≢◌, ◌∙◌, ℕ, List, ◌++◌, refl, sym, ap}
 use Rattle.cx_model.specs.declared.ends.End.{End}
 use Rattle.cx_model.specs.declared.ends.End.TheVariants as ends
 use Rattle.cx_model.specs.Runs.{end_by}
@@ -26,3 +26,8 @@ done_is outcomes.Done over is = refl
 done_is (outcomes.Overflow iteration path) over is = absurd cc
 done_is (outcomes.WhileLimit iteration path) over is = absurd cc
 done_is (outcomes.OutputLimit iteration) over is = absurd cc
+
+-- ---- the text of one that was made
+
+pub joined : (text first line done sum : List ℕ) → text ≡ first ++ line → first ≡ done → line ≡ sum → text ≡ done ++ sum
+joined text first line done sum whole a b = whole ∙ ap (λ (l : List ℕ). l ++ line) a ∙ ap (λ (l : List ℕ). done ++ l) b

@@ -3,6 +3,7 @@ pub mod Ends
 pub mod Stillness
 pub mod Running
 pub mod Asked
+pub mod MadeLaws
 pub mod Clauses
 pub mod Readings
 mod FaultRows

@@ -1,5 +1,5 @@
 -- What each status says, drawn from the clauses of the top call.
-use Rattle.std.proofs.Common.{◌≡◌, ◌≢◌, ◌⊎◌, ◌∙◌, ℕ, List, Some, None, Result, Ok, Err, inl, inr, refl, sym, ap, subst}
+use Rattle.std.proofs.Common.{◌≡◌, ◌≢◌, ◌⊎◌, ◌∙◌, ℕ, ℤ, List, Some, None, Result, Ok, Err, inl, inr, refl, sym, ap, subst}
 use Rattle.cx_plan.specs.declared.job.Job.{Job}
 use Rattle.cx_model.specs.declared.ends.End.{End}
 use Rattle.cx_model.specs.declared.ends.End.TheVariants as ends
@@ -7,19 +7,19 @@ use Rattle.cx_job.specs.declared.fault.JobFault.{JobFault}
 use Rattle.cx_keep.specs.declared.fault.BeginFault.{BeginFault}
 use Rattle.cx_drive.specs.Drives.{IsRefused}
 use Rattle.cx_run.specs.Answers.{status_of, text_of, answer_of, Said, WasSaid, IsStatus, IsStatusFor}
-use Rattle.cx_run.specs.Calls.{Lent, Work, Call, Makes, IsStill, driven}
-use Rattle.cx_run.specs.Causes.{HasRun, Comes, Follows, Explains}
+use Rattle.cx_run.specs.Calls.{Lent, Work, Call, Makes, TellsFiles, Runs, IsStill, driven}
+use Rattle.cx_run.specs.Causes.{HasRun, IsSummed, Comes, Follows, Explains}
 use Rattle.cx_run.specs.Clauses.{Obeys}
 use Rattle.cx_run.specs.FaultWords.{refused_text}
 use Rattle.cx_run.specs.Sink.{Adds}
-use Rattle.cx_run.specs.Texts.{command_text, done_text, ended_text, recovery_text}
+use Rattle.cx_run.specs.Texts.{command_text, done_text, made_text, ended_text, recovery_text}
 use Rattle.cx_run.specs.Words.{Request, asked}
 use Rattle.cx_run.specs.declared.reply.Answer.{Answer}
 use Rattle.cx_run.specs.declared.reply.Answer.TheVariants as a
 use Rattle.cx_run.specs.declared.words.Command.{Command}
 use Rattle.cx_run.specs.declared.words.Command.TheVariants as commands
 use Rattle.cx_run.proofs.Asked.{IsSorted, by_shelf, by_memory, refused, sorted, not_asked, job_made}
-use Rattle.cx_run.proofs.Clauses.{said_status}
+use Rattle.cx_run.proofs.Clauses.{said_status, said_text}
 
 -- two statuses
 no_0 : (n : ℕ) → n ≡ 0 → n ≡ 1 → ⊥
@@ -44,6 +44,7 @@ no_6 n e f = absurd cc
 
 status_is : (answer : Answer) → IsStatus (status_of answer)
 status_is (a.Done iteration) = inl refl
+status_is (a.Made iteration seed size output live) = inl refl
 status_is (a.Text text) = inl refl
 status_is a.Usage = inr (inl refl)
 status_is (a.Refused fault) = inr (inr (inl refl))
@@ -74,6 +75,7 @@ wrong_answer c answer (inr x) none = absurd (not_asked (asked c.words) x.request
 
 comes_not_1 : (w : Work) (command : Command) (job : Job) (answer : Answer) → Comes w command job answer → status_of answer ≡ 1 → ⊥
 comes_not_1 w command job (a.Done iteration) x e = absurd cc
+comes_not_1 w command job (a.Made iteration seed size output live) x e = absurd cc
 comes_not_1 w command job (a.Text text) x e = absurd cc
 comes_not_1 w command job a.Usage x e = x
 comes_not_1 w command job (a.Refused fault) x e = x
@@ -122,13 +124,6 @@ status_for c sink result obeys =
 
 -- ---- by status
 
-said_text : (sink : Lent (List ℕ)) (answer : Answer) (result s : ℕ) → WasSaid sink answer result → result ≡ s → (s ≡ 4 → ⊥) → (s ≡ 5 → ⊥) → sink.tells
-    → Adds (text_of answer) sink.old sink.new
-said_text sink answer result s (inl (inl p)) e not4 not5 told = p.text_is told
-said_text sink answer result s (inl (inr p)) e not4 not5 told = absurd (not4 (sym e ∙ p.status_is))
-said_text sink answer result s (inr (inl p)) e not4 not5 told = absurd (not5 (sym e ∙ p.status_is))
-said_text sink answer result s (inr (inr p)) e not4 not5 told = absurd (not4 (sym e ∙ p.status_is))
-
 -- where the sink tells, this was printed
 abbrev pub Prints : Lent (List ℕ) → List ℕ → Type 0
 Prints sink text = sink.tells → Adds text sink.old sink.new
@@ -136,19 +131,21 @@ Prints sink text = sink.tells → Adds text sink.old sink.new
 -- the words ask for a command whose file makes this job
 pub record IsMade (c : Call) (request : Request) (job : Job) : Type 0 where
   pub asks : asked c.words ≡ Some request
-  pub makes : c.shelf.tells → Makes c request (Ok job)
+  pub makes : TellsFiles c request → Makes c request (Ok job)
 
--- 0: a run is done and has the undivided run's output, or another command has its text
+-- 0: a run is done and has the undivided run's output, of a file or made, or another command has its text
 pub data Done (c : Call) (sink : Lent (List ℕ)) : Type 0 where
   run : (r : Request) (job : Job) → IsMade c r job → r.command ≡ commands.Run → HasRun c.work job ends.Done → Prints sink (done_text job.itlast) → Done c sink
-  told : (r : Request) (job : Job) → IsMade c r job → r.command ≢ commands.Run → IsStill c.work → Prints sink (command_text r.command job) → Done c sink
+  made_run : (r : Request) (job : Job) (seed size output : ℕ) (live : ℤ) → IsMade c r job → r.command ≡ commands.Make seed size → (ran : HasRun c.work job ends.Done)
+      → IsSummed c.work job ran.found output live → Prints sink (made_text job.itlast seed size output live) → Done c sink
+  told : (r : Request) (job : Job) → IsMade c r job → (Runs r.command → ⊥) → IsStill c.work → Prints sink (command_text r.command job) → Done c sink
 
 -- 2: the file makes no job, for this reason
 pub record Refused (c : Call) (sink : Lent (List ℕ)) : Type 0 where
   pub request : Request
   pub fault : JobFault
   pub asks : asked c.words ≡ Some request
-  pub makes : c.shelf.tells → Makes c request (Err fault)
+  pub makes : TellsFiles c request → Makes c request (Err fault)
   pub still : IsStill c.work
   pub said : Prints sink (refused_text fault)
 
@@ -180,10 +177,12 @@ no_fault_status fault answer s is (by_memory e) status not2 not4 not5 = not5 (sy
 no_fault_status fault answer s is (refused e) status not2 not4 not5 = not2 (sym (sym (ap status_of (is ∙ e)) ∙ status))
 
 done_comes : (c : Call) (sink : Lent (List ℕ)) (r : Request) (job : Job) (answer : Answer) → IsMade c r job → Comes c.work r.command job answer → status_of answer ≡ 0 → Printed sink answer → Done c sink
-done_comes c sink r job (a.Done iteration) made x e said =
-    run r job made x.command_is x.run (λ told. subst (λ (n : ℕ). Adds (done_text n) sink.old sink.new) x.last (said told))
+done_comes c sink r job (a.Done iteration) is x e said =
+    run r job is x.command_is x.run (λ told. subst (λ (n : ℕ). Adds (done_text n) sink.old sink.new) x.last (said told))
+done_comes c sink r job (a.Made iteration seed size output live) is x e said =
+    made_run r job seed size output live is x.command_is x.run x.sums (λ told. subst (λ (n : ℕ). Adds (made_text n seed size output live) sink.old sink.new) x.last (said told))
 done_comes c sink r job (a.Text text) made x e said =
-    told r job made x.command_is x.still (λ told. subst (λ (t : List ℕ). Adds t sink.old sink.new) x.text_is (said told))
+    told r job made x.other x.still (λ told. subst (λ (t : List ℕ). Adds t sink.old sink.new) x.text_is (said told))
 done_comes c sink r job a.Usage made x e said = absurd x
 done_comes c sink r job (a.Refused fault) made x e said = absurd x
 done_comes c sink r job (a.Ended end) made x e said = absurd cc
@@ -197,7 +196,7 @@ done_by : (c : Call) (sink : Lent (List ℕ)) (answer : Answer) → Explains c a
 done_by c sink answer (inl wrong) e said = absurd (no_0 (status_of answer) e (ap status_of wrong.answer_is))
 done_by c sink answer (inr x) e said = go x.found x.follows (job_made c answer x) e
   where
-    go : (found : Result Job JobFault) → Follows c x.request.command found answer → ((job : Job) → found ≡ Ok job → c.shelf.tells → Makes c x.request (Ok job)) → status_of answer ≡ 0 → Done c sink
+    go : (found : Result Job JobFault) → Follows c x.request.command found answer → ((job : Job) → found ≡ Ok job → TellsFiles c x.request → Makes c x.request (Ok job)) → status_of answer ≡ 0 → Done c sink
     go (Ok job) f made e = done_comes c sink x.request job answer (record { asks = x.asks; makes = made job refl }) f.comes.cause e said
     go (Err fault) f made e = absurd (no_fault_status fault answer 0 f.answer_is (sorted fault) e (λ y. absurd cc) (λ y. absurd cc) (λ y. absurd cc))
 
@@ -212,6 +211,7 @@ ended_comes : (c : Call) (sink : Lent (List ℕ)) (r : Request) (job : Job) (ans
 ended_comes c sink r job (a.Ended end) made x e said =
     record { request = r; job = job; end = end; made = made; other = x.other; ran = x.run; said = said }
 ended_comes c sink r job (a.Done iteration) made x e said = absurd cc
+ended_comes c sink r job (a.Made iteration seed size output live) made x e said = absurd cc
 ended_comes c sink r job (a.Text text) made x e said = absurd cc
 ended_comes c sink r job a.Usage made x e said = absurd x
 ended_comes c sink r job (a.Refused fault) made x e said = absurd x
@@ -225,7 +225,7 @@ ended_by : (c : Call) (sink : Lent (List ℕ)) (answer : Answer) → Explains c 
 ended_by c sink answer (inl wrong) e said = absurd (no_3 (status_of answer) e (ap status_of wrong.answer_is))
 ended_by c sink answer (inr x) e said = go x.found x.follows (job_made c answer x) e
   where
-    go : (found : Result Job JobFault) → Follows c x.request.command found answer → ((job : Job) → found ≡ Ok job → c.shelf.tells → Makes c x.request (Ok job)) → status_of answer ≡ 3 → Ended c sink
+    go : (found : Result Job JobFault) → Follows c x.request.command found answer → ((job : Job) → found ≡ Ok job → TellsFiles c x.request → Makes c x.request (Ok job)) → status_of answer ≡ 3 → Ended c sink
     go (Ok job) f made e = ended_comes c sink x.request job answer (record { asks = x.asks; makes = made job refl }) f.comes.cause e said
     go (Err fault) f made e = absurd (no_fault_status fault answer 3 f.answer_is (sorted fault) e (λ y. absurd cc) (λ y. absurd cc) (λ y. absurd cc))
 

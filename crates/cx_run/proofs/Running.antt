@@ -1,35 +1,42 @@
 -- What comes of a command with a job.
-use Rattle.std.proofs.Common.{◌≡◌, ◌≢◌, ◌⊎◌, ◌∙◌, ℕ, ◌≤◌, arith, None, List, Result, Ok, Err, IfOk, inl, inr, refl, sym, ap, subst}
+use Rattle.std.proofs.Common.{◌≡◌, ◌≢◌, ◌⊎◌, ◌∙◌, ℕ, ◌≤◌, arith, codes, Option, Some, None, List, Result, Ok, Err, IfOk, inl, inr, refl, sym, ap, subst}
+use Rattle.std.specs.Prelude.{OnOk}
 use Rattle.cx_text.specs.declared.memory.Memory.{Memory}
 use Rattle.cx_disk.specs.Disk.{IsNamed, IsView}
 use Rattle.cx_grid.specs.Grid.{HasInterior}
 use Rattle.cx_cut.specs.Cuts.{part_count}
 use Rattle.cx_cut.specs.Faults.{parts_of, cut_fault}
 use Rattle.cx_cut.proofs.FaultLaws.{is_whole}
-use Rattle.cx_plan.specs.Paths.{Sound}
-use Rattle.cx_plan.specs.Regions.{HasShapes}
 use Rattle.cx_plan.specs.Whole.{IsWhole}
 use Rattle.cx_plan.specs.Setups.{setup_of}
 use Rattle.cx_plan.specs.declared.job.Job.{Job}
+use Rattle.cx_plan.specs.declared.variable.VarId.{VarId}
+use Rattle.cx_rule.specs.States.{scalar_of}
+use Rattle.cx_rule.specs.declared.spec.Spec.{Spec}
+use Rattle.cx_made.specs.Summaries.{live_variable}
+use Rattle.cx_made.proofs.ScalarLaws.{named_is_stored}
 use Rattle.cx_model.specs.Runs.{undivided_run}
+use Rattle.cx_model.specs.Traces.{Trace}
 use Rattle.cx_model.specs.declared.ends.End.{End}
 use Rattle.cx_model.specs.declared.ends.End.TheVariants as ends
 use Rattle.cx_course.specs.Beginnings.{run_from}
 use Rattle.cx_course.specs.Starts.{BeginsOn, TrailsBegin}
+use Rattle.cx_job.specs.Making.{IsReady}
 use Rattle.cx_core.specs.Cores.{Cores}
-use Rattle.cx_core.specs.Starts.{IsReady}
-use Rattle.cx_core.specs.declared.answers.Outcome.{Outcome}
-use Rattle.cx_drive.specs.Drives.{Drives, HasEnded, Comes as DriveComes}
+use Rattle.cx_core.specs.Hands.{last_number}
+use Rattle.cx_core.specs.Starts.{IsReady as CanStart}
+use Rattle.cx_core.specs.declared.answers.Outcome.TheVariants as outcomes
+use Rattle.cx_drive.specs.Drives.{Drive, Drives, HasEnded, HasScalarsOf, Comes as DriveComes}
 use Rattle.cx_drive.specs.declared.fault.DriveFault.{DriveFault}
 use Rattle.cx_drive.specs.declared.fault.DriveFault.TheVariants as stops
-use Rattle.cx_run.specs.Answers.{answer_at, answer_for, answer_with, end_in}
-use Rattle.cx_run.specs.Calls.{Work, IsStill, driven}
-use Rattle.cx_run.specs.Causes.{HasCome, HasRun, Comes, ComesTo, WereTrails}
+use Rattle.cx_run.specs.Answers.{AnswersRun, answer_at, answer_for, answer_with, done_by, end_in, summed}
+use Rattle.cx_run.specs.Calls.{Work, IsStill, Runs, driven, live_by}
+use Rattle.cx_run.specs.Causes.{HasCome, HasRun, LiveIs, IsSummed, Comes, ComesTo, WereTrails}
 use Rattle.cx_run.specs.Texts.{command_text}
 use Rattle.cx_run.specs.declared.reply.Answer.{Answer}
 use Rattle.cx_run.specs.declared.reply.Answer.TheVariants as a
 use Rattle.cx_run.specs.declared.words.Command.{Command}
-use Rattle.cx_run.specs.declared.words.Command.TheVariants.{Run}
+use Rattle.cx_run.specs.declared.words.Command.TheVariants as commands
 use Rattle.cx_run.proofs.Ends.{end_with, done_is}
 use Rattle.cx_run.proofs.Stillness.{still_trails}
 
@@ -52,7 +59,7 @@ module _ (w : Work) (job : Job) (core : Cores) (drives : Drives (driven w job) (
         last = ended.last;
       }
 
-  has_run : (end : End) → end_in core.outcome ≡ end → HasRun w job end
+  abbrev has_run : (end : End) → end_in core.outcome ≡ end → HasRun w job end
   has_run end is =
       record {
         found = drives.comes.found;
@@ -62,43 +69,74 @@ module _ (w : Work) (job : Job) (core : Cores) (drives : Drives (driven w job) (
         folders = named;
       }
 
-  ended_cause : (end : End) → end_in core.outcome ≡ end → Comes w Run job (answer_at job.itlast end)
-  ended_cause ends.Done is = record { command_is = refl; last = refl; run = has_run ends.Done is }
-  ended_cause (ends.Overflow iteration path) is = record { command_is = refl; other = λ e. absurd cc; run = has_run (ends.Overflow iteration path) is }
-  ended_cause (ends.WhileLimit iteration path) is = record { command_is = refl; other = λ e. absurd cc; run = has_run (ends.WhileLimit iteration path) is }
-  ended_cause (ends.OutputLimit iteration) is = record { command_is = refl; other = λ e. absurd cc; run = has_run (ends.OutputLimit iteration) is }
-
-  pub run_over : (outcome : Outcome) (answer : Answer) → outcome ≡ core.outcome → (answer ≡ a.Memory) ⊎ (answer ≡ answer_at job.itlast (end_in outcome))
-      → ComesTo w Run job answer
-  run_over outcome answer same is = record { cause = go is; begins = λ run. begins w job starts view; trails = drives.trails }
+  -- what is told of a run that is done
+  live_is : (run : Trace) → HasScalarsOf run (driven w job) core → LiveIs job run (live_by (live_variable (setup_of job)) (last_number core))
+  live_is run scalars state goes = by_variable (live_variable (setup_of job)) refl
     where
-      go : (answer ≡ a.Memory) ⊎ (answer ≡ answer_at job.itlast (end_in outcome)) → Comes w Run job answer
-      go (inl memory) = subst (λ (x : Answer). Comes w Run job x) (sym memory) (λ other. absurd (other refl))
-      go (inr end) = subst (λ (x : Answer). Comes w Run job x) (sym end) (ended_cause (end_in outcome) (ap end_in (sym same)))
+      by_variable : (v : Option VarId) → live_variable (setup_of job) ≡ v → live_by v (last_number core) ≡ live_by v (scalar_of state)
+      by_variable None is = refl
+      by_variable (Some v) is = scalars state v goes (named_is_stored job (codes "life::live") v is).1
 
-stopped_cause : (w : Work) (job : Job) (fault : DriveFault) → DriveComes (driven w job) (Err fault) → Comes w Run job (answer_for fault)
-stopped_cause w job (stops.Recovery fault) comes = (refl, comes)
-stopped_cause w job stops.Disk comes = (refl, comes)
-stopped_cause w job stops.Wire comes = (refl, comes)
-stopped_cause w job stops.Memory comes = λ other. absurd (other refl)
+  summed_is : core.outcome ≡ outcomes.Done → IsSummed w job drives.comes.found core.length (live_by (live_variable (setup_of job)) (last_number core))
+  summed_is done =
+      record {
+        output_is = drives.comes.length_is;
+        ran = λ told. live_is (run_from (setup_of job) w.rules drives.comes.found) (drives.comes.scalars told done);
+        undivided = λ told well. live_is (undivided_run (setup_of job) w.rules) ((drives.ended told well).scalars done);
+      }
 
-pub run_stopped : (w : Work) (job : Job) (fault : DriveFault) (answer : Answer) → Drives (driven w job) (Err fault) → TrailsBegin job w.rules → (w.disk.tells → IsView w.disk.old) → answer ≡ answer_for fault
-    → ComesTo w Run job answer
-run_stopped w job fault answer drives starts view is =
+  done_cause : (command : Command) → Runs command → end_in core.outcome ≡ ends.Done → Comes w command job (done_by command job core job.itlast)
+  done_cause commands.Run runs is = record { command_is = refl; last = refl; run = has_run ends.Done is }
+  done_cause (commands.Make seed size) runs is =
+      record { command_is = refl; last = refl; run = has_run ends.Done is; sums = summed_is (done_is core.outcome drives.comes.over is) }
+  done_cause commands.Check runs is = absurd runs
+  done_cause commands.Schedule runs is = absurd runs
+  done_cause commands.Describe runs is = absurd runs
+  done_cause commands.Parts runs is = absurd runs
+
+  ended_cause : (command : Command) → Runs command → (end : End) → end_in core.outcome ≡ end → Comes w command job (summed command job core (answer_at job.itlast end))
+  ended_cause command runs ends.Done is = done_cause command runs is
+  ended_cause command runs (ends.Overflow iteration path) is = record { runs = runs; other = λ e. absurd cc; run = has_run (ends.Overflow iteration path) is }
+  ended_cause command runs (ends.WhileLimit iteration path) is = record { runs = runs; other = λ e. absurd cc; run = has_run (ends.WhileLimit iteration path) is }
+  ended_cause command runs (ends.OutputLimit iteration) is = record { runs = runs; other = λ e. absurd cc; run = has_run (ends.OutputLimit iteration) is }
+
+  pub run_over : (command : Command) → Runs command → (answer : Answer) → AnswersRun command job (Ok core) answer → ComesTo w command job answer
+  run_over command runs answer is = record { cause = go is; begins = λ run. begins w job starts view; trails = drives.trails }
+    where
+      go : (answer ≡ a.Memory) ⊎ (answer ≡ summed command job core (answer_at job.itlast (end_in core.outcome))) → Comes w command job answer
+      go (inl memory) = subst (λ (x : Answer). Comes w command job x) (sym memory) (λ other. absurd (other runs))
+      go (inr end) = subst (λ (x : Answer). Comes w command job x) (sym end) (ended_cause command runs (end_in core.outcome) refl)
+
+stopped_cause : (w : Work) (command : Command) (job : Job) (fault : DriveFault) → Runs command → DriveComes (driven w job) (Err fault) → Comes w command job (answer_for fault)
+stopped_cause w command job (stops.Recovery fault) runs comes = (runs, comes)
+stopped_cause w command job stops.Disk runs comes = (runs, comes)
+stopped_cause w command job stops.Wire runs comes = (runs, comes)
+stopped_cause w command job stops.Memory runs comes = λ other. absurd (other runs)
+
+-- what a run's answer comes from
+pub ran : (w : Work) (command : Command) (job : Job) → Runs command → (came : Result Cores DriveFault) → Drives (driven w job) came → OnOk came (IsNamed job.out_dir job.chk_dir w.folders)
+    → TrailsBegin job w.rules → (w.disk.tells → IsView w.disk.old) → (answer : Answer) → AnswersRun command job came answer → ComesTo w command job answer
+ran w command job runs (Ok core) drives named starts view answer is = run_over w job core drives named starts view command runs answer is
+ran w command job runs (Err fault) drives named starts view answer is =
     record {
-      cause = subst (λ (x : Answer). Comes w Run job x) (sym is) (stopped_cause w job fault drives.comes);
+      cause = subst (λ (x : Answer). Comes w command job x) (sym is) (stopped_cause w command job fault runs drives.comes);
       begins = λ run. begins w job starts view;
       trails = drives.trails;
     }
 
+-- a run that gave its core is over
+pub over : (d : Drive) (came : Result Cores DriveFault) → Drives d came → IfOk came (λ core. core.outcome ≢ outcomes.Going)
+over d (Ok core) drives = drives.comes.over
+over d (Err fault) drives = tt
+
 -- ---- another command
 
-told_cause : (w : Work) (command : Command) (job : Job) (text : Result (List ℕ) Memory) → command ≢ Run → IfOk text (λ t. t ≡ command_text command job) → IsStill w
+told_cause : (w : Work) (command : Command) (job : Job) (text : Result (List ℕ) Memory) → (Runs command → ⊥) → IfOk text (λ t. t ≡ command_text command job) → IsStill w
     → Comes w command job (answer_with text)
-told_cause w command job (Ok text) other is still = record { command_is = other; text_is = is; still = still }
+told_cause w command job (Ok text) other is still = record { other = other; text_is = is; still = still }
 told_cause w command job (Err e) other is still = λ o. still
 
-pub told : (w : Work) (command : Command) (job : Job) (text : Result (List ℕ) Memory) (answer : Answer) → command ≢ Run → IfOk text (λ t. t ≡ command_text command job)
+pub told : (w : Work) (command : Command) (job : Job) (text : Result (List ℕ) Memory) (answer : Answer) → (Runs command → ⊥) → IfOk text (λ t. t ≡ command_text command job)
     → answer ≡ answer_with text → IsStill w → ComesTo w command job answer
 told w command job text answer other text_is is still =
     record {
@@ -109,14 +147,14 @@ told w command job text answer other text_is is still =
 
 -- ---- where a run can begin
 
-pub ready : (job : Job) → IsWhole job → HasShapes (setup_of job) × Sound (setup_of job) → HasInterior job.shape → cut_fault (parts_of job.shape job.cut) ≡ None → IsReady job
-ready job whole sound interior cut =
+pub ready : (specs : List Spec) (job : Job) → IsReady specs job → HasInterior job.shape → CanStart job
+ready specs job made interior =
     record {
-      whole = whole;
-      shapes = sound.0;
+      whole = made.whole;
+      shapes = made.shapes;
       interior = interior;
-      sound = sound.1;
-      cut = (is_whole (parts_of job.shape job.cut) whole.shape cut).cut;
+      sound = made.sound;
+      cut = (is_whole (parts_of job.shape job.cut) made.whole.shape made.cut).cut;
     }
 
 pub enough_parts : (job : Job) (parts : ℕ) → IsWhole job → cut_fault (parts_of job.shape job.cut) ≡ None → 512 ≤ parts → part_count (parts_of job.shape job.cut) ≤ parts

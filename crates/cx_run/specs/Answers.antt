@@ -1,5 +1,5 @@
 -- The answers of a call: their statuses and texts, and how they are said.
-use Rattle.std.specs.Prelude.{◌≡◌, ◌⊎◌, ℕ, List, Some, None, Result, Ok, Err}
+use Rattle.std.specs.Prelude.{◌≡◌, ◌⊎◌, ℕ, List, Option, Some, None, Result, Ok, Err, IfOk}
 use Rattle.cx_text.specs.declared.memory.Memory.{Memory}
 use Rattle.cx_model.specs.declared.ends.End.{End}
 use Rattle.cx_model.specs.declared.ends.End.TheVariants as ends
@@ -10,16 +10,24 @@ use Rattle.cx_core.specs.declared.answers.Outcome.TheVariants as outcomes
 use Rattle.cx_drive.specs.Lent.{HasRisen}
 use Rattle.cx_drive.specs.declared.fault.DriveFault.{DriveFault}
 use Rattle.cx_drive.specs.declared.fault.DriveFault.TheVariants as stops
-use Rattle.cx_run.specs.Calls.{Lent}
+use Rattle.cx_core.specs.Cores.{Cores}
+use Rattle.cx_core.specs.Hands.{last_number}
+use Rattle.cx_plan.specs.Setups.{setup_of}
+use Rattle.cx_plan.specs.declared.job.Job.{Job}
+use Rattle.cx_made.specs.Summaries.{live_variable}
+use Rattle.cx_run.specs.Calls.{Lent, Runs, live_by}
+use Rattle.cx_run.specs.declared.words.Command.{Command}
+use Rattle.cx_run.specs.declared.words.Command.TheVariants.{Make}
 use Rattle.cx_run.specs.FaultWords.{refused_text}
 use Rattle.cx_run.specs.Sink.{Adds, AddsFront}
-use Rattle.cx_run.specs.Texts.{done_text, ended_text, recovery_text, usage_text, shelf_text, disk_text, wire_text, memory_text}
+use Rattle.cx_run.specs.Texts.{command_text, done_text, made_text, ended_text, recovery_text, usage_text, shelf_text, disk_text, wire_text, memory_text}
 use Rattle.cx_run.specs.Words.{Request, asked}
 use Rattle.cx_run.specs.declared.reply.Answer.{Answer}
 use Rattle.cx_run.specs.declared.reply.Answer.TheVariants as a
 
 abbrev pub status_of : Answer → ℕ
 status_of (a.Done iteration) = 0
+status_of (a.Made iteration seed size output live) = 0
 status_of (a.Text text) = 0
 status_of a.Usage = 1
 status_of (a.Refused fault) = 2
@@ -32,6 +40,7 @@ status_of (a.Recovery fault) = 6
 
 abbrev pub text_of : Answer → List ℕ
 text_of (a.Done iteration) = done_text iteration
+text_of (a.Made iteration seed size output live) = made_text iteration seed size output live
 text_of (a.Text text) = text
 text_of a.Usage = usage_text
 text_of (a.Refused fault) = refused_text fault
@@ -73,6 +82,29 @@ end_in (outcomes.OutputLimit iteration) = ends.OutputLimit iteration
 abbrev pub answer_at : ℕ → End → Answer
 answer_at itlast ends.Done = a.Done itlast
 answer_at itlast end = a.Ended end
+
+-- a run that is done: `make` tells the length of its output, and how many cells live at the end
+abbrev pub done_by : Command → Job → Cores → ℕ → Answer
+done_by (Make seed size) job core iteration =
+    a.Made iteration seed size core.length (live_by (live_variable (setup_of job)) (last_number core))
+done_by command job core iteration = a.Done iteration
+
+abbrev pub summed : Command → Job → Cores → Answer → Answer
+summed command job core (a.Done iteration) = done_by command job core iteration
+summed command job core answer = answer
+
+-- what comes of a run, or want of memory
+abbrev pub AnswersRun : Command → Job → Result Cores DriveFault → Answer → Type 0
+AnswersRun command job (Ok core) answer =
+    (answer ≡ a.Memory)
+    ⊎ (answer ≡ summed command job core (answer_at job.itlast (end_in core.outcome)))
+AnswersRun command job (Err fault) answer = answer ≡ answer_for fault
+
+-- the text of a command that isn't a run
+abbrev pub IsTextFor : Command → Job → Option (Result (List ℕ) Memory) → Type 0
+IsTextFor command job None = Runs command
+IsTextFor command job (Some text) =
+    (Runs command → ⊥) × IfOk text (λ t. t ≡ command_text command job)
 
 -- ---- what is said
 

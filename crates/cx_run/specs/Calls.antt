@@ -1,17 +1,20 @@
 -- A call: what it was given, and each thing that it was lent, before and after it.
-use Rattle.std.specs.Prelude.{◌≡◌, ℕ, List, Some, Result, Ok}
+use Rattle.std.specs.Prelude.{◌≡◌, ℕ, ℤ, pos, List, Option, None, Some, Result, Ok}
 use Rattle.cx_disk.specs.Disk.{Folders}
 use Rattle.cx_disk.specs.Moments.{IsQuiet}
 use Rattle.cx_plan.specs.declared.job.Job.{Job}
 use Rattle.cx_rule.specs.Routine.{Rule}
 use Rattle.cx_rule.specs.declared.spec.Spec.{Spec}
-use Rattle.cx_config.specs.Shelf.{Held}
+use Rattle.cx_plan.specs.declared.variable.VarId.{VarId}
+use Rattle.cx_config.specs.Shelf.{Held, looked_up}
 use Rattle.cx_job.specs.Making.{Made}
 use Rattle.cx_job.specs.declared.fault.JobFault.{JobFault}
 use Rattle.cx_drive.specs.Lent.{Count, LentDisk, LentWire}
 use Rattle.cx_drive.specs.Drives.{Drive}
 use Rattle.cx_run.specs.Words.{Request, asked}
-use Rattle.cx_run.specs.declared.words.Command.TheVariants.{Run}
+use Rattle.cx_made.specs.Files.{made_files}
+use Rattle.cx_run.specs.declared.words.Command.{Command}
+use Rattle.cx_run.specs.declared.words.Command.TheVariants.{Run, Make, Check, Schedule, Describe, Parts}
 
 -- a device: whether it tells what it holds, that it is as it was, what contracts see of it, and its
 -- count of faults
@@ -36,24 +39,77 @@ pub record Call : Type 1 where
   pub shelf : Lent Held
   pub work : Work
 
+-- ---- which files are read
+
+-- a shelf in memory with these files
+abbrev pub shelf_of : List (List ℕ × List ℕ) → Lent Held
+shelf_of files = record {
+  tells = Unit {0};
+  same = Unit {0};
+  old = looked_up files;
+  new = looked_up files;
+  faults = record { old = 0; new = 0 };
+}
+
+-- the shelf that a command reads: `make` one of its own, with the files that it makes, the others the
+-- one that was lent
+abbrev pub shelf_for : Lent Held → Command → Lent Held
+shelf_for lent (Make seed size) = shelf_of (made_files seed size)
+shelf_for lent command = lent
+
+-- what it holds
+abbrev pub files_for : Held → Command → Held
+files_for held (Make seed size) = looked_up (made_files seed size)
+files_for held command = held
+
+-- the seed and the size that it makes them from
+abbrev pub made_from : Command → Option (ℕ × ℕ)
+made_from (Make seed size) = Some (seed, size)
+made_from command = None
+
+-- it tells what it holds
+abbrev pub TellsFiles : Call → Request → Type 0
+TellsFiles c r = (shelf_for c.shelf r.command).tells
+
 -- what the files under a name make, as the shelf held them
 abbrev pub Makes : Call → Request → Result Job JobFault → Type 0
-Makes c r made = Made r.file c.specs c.shelf.old made
+Makes c r made = Made r.file c.specs (shelf_for c.shelf r.command).old made
 
--- the words ask for the run of a file that makes this job
+-- `make` leaves the shelf alone that was lent
+abbrev pub SparesShelf : Lent Held → Command → Type 0
+SparesShelf lent (Make seed size) = lent.same
+SparesShelf lent command = Unit {0}
+
+-- ---- runs
+
+abbrev pub Runs : Command → Type 0
+Runs Run = Unit {0}
+Runs (Make seed size) = Unit {0}
+Runs Check = ⊥
+Runs Schedule = ⊥
+Runs Describe = ⊥
+Runs Parts = ⊥
+
+-- the words ask for the run of a file that makes this job, on a shelf that tells its files
 pub record IsRun (c : Call) (job : Job) : Type 0 where
   pub request : Request
   pub asks : asked c.words ≡ Some request
-  pub runs : request.command ≡ Run
+  pub runs : Runs request.command
+  pub told : TellsFiles c request
   pub makes : Makes c request (Ok job)
 
 -- a run of a job on what a call was lent
 abbrev pub driven : Work → Job → Drive
 driven w job = record { job = job; rules = w.rules; disk = w.disk; wire = w.wire; meter = w.meter }
 
--- the shelf, the disk and the wire tell what they hold
+-- the disk and the wire tell what they hold
 abbrev pub AreTold : Call → Type 0
-AreTold c = c.shelf.tells × c.work.disk.tells × c.work.wire.tells
+AreTold c = c.work.disk.tells × c.work.wire.tells
+
+-- how many cells live, by the numbers of a run's scalars, where there is a scalar that says it, else 0
+abbrev pub live_by : Option VarId → (VarId → ℤ) → ℤ
+live_by None number = pos 0
+live_by (Some v) number = number v
 
 -- neither the disk nor the wire nor the meter was touched
 pub record IsStill (w : Work) : Type 0 where

@@ -1,15 +1,19 @@
 -- What stands behind each answer.
-use Rattle.std.specs.Prelude.{◌≡◌, ◌≢◌, ◌⊎◌, ℕ, List, Option, None, Some, Result, Ok, Err}
+use Rattle.std.specs.Prelude.{◌≡◌, ◌≢◌, ◌⊎◌, ℕ, ℤ, List, length, Option, None, Some, Result, Ok, Err}
 use Rattle.cx_disk.specs.Disk.{Files, IsNamed}
 use Rattle.cx_plan.specs.Setups.{setup_of}
 use Rattle.cx_plan.specs.Whole.{IsWhole}
 use Rattle.cx_plan.specs.declared.job.Job.{Job}
 use Rattle.cx_rule.specs.Jobs.{FitJob}
-use Rattle.cx_model.specs.Runs.{end as end_of, end_by}
+use Rattle.cx_rule.specs.States.{State, scalar_of}
+use Rattle.cx_rule.specs.declared.spec.Spec.{Spec}
+use Rattle.cx_model.specs.Runs.{undivided_run, end as end_of, end_by}
+use Rattle.cx_model.specs.Traces.{Trace, Goes}
 use Rattle.cx_model.specs.declared.ends.End.{End}
 use Rattle.cx_model.specs.declared.ends.End.TheVariants.{Done}
 use Rattle.cx_chk.specs.declared.checkpoint.Checkpoint.{Checkpoint}
 use Rattle.cx_keep.specs.Tests.{begun}
+use Rattle.cx_keep.specs.Keeping.{output_file}
 use Rattle.cx_keep.specs.Resuming.{AreTrails}
 use Rattle.cx_keep.specs.Trails.{NewestIs}
 use Rattle.cx_course.specs.Beginnings.{run_from}
@@ -20,13 +24,15 @@ use Rattle.cx_job.specs.declared.fault.JobFault.{JobFault}
 use Rattle.cx_drive.specs.Lent.{HasRisen}
 use Rattle.cx_drive.specs.Drives.{Drive, course, AreTold, StartsWell, HasWholeOutput, HasWorked, IsRefused, LeavesTrails}
 use Rattle.cx_run.specs.Answers.{answer_of}
-use Rattle.cx_run.specs.Calls.{Work, Call, IsStill, driven}
+use Rattle.cx_config.specs.Shelf.{Held}
+use Rattle.cx_made.specs.Summaries.{live_variable}
+use Rattle.cx_run.specs.Calls.{Lent, Work, Call, IsStill, Runs, SparesShelf, driven, live_by, shelf_for}
 use Rattle.cx_run.specs.Texts.{command_text}
 use Rattle.cx_run.specs.Words.{Request, asked}
 use Rattle.cx_run.specs.declared.reply.Answer.{Answer}
 use Rattle.cx_run.specs.declared.reply.Answer.TheVariants as a
 use Rattle.cx_run.specs.declared.words.Command.{Command}
-use Rattle.cx_run.specs.declared.words.Command.TheVariants.{Run}
+use Rattle.cx_run.specs.declared.words.Command.TheVariants.{Run, Make}
 
 -- ---- a run that came to its end
 
@@ -52,35 +58,59 @@ pub record HasRun (w : Work) (job : Job) (end : End) : Type 0 where
   pub come : AreTold (driven w job) → StartsWell (driven w job) → HasCome (driven w job) end
   pub folders : IsNamed job.out_dir job.chk_dir w.folders
 
+-- how many cells live in the last state of a run that is done
+abbrev pub LiveIs : Job → Trace → ℤ → Type 0
+LiveIs job run live = (state : State) → run.outcome ≡ Goes state
+    → live ≡ live_by (live_variable (setup_of job)) (scalar_of state)
+
+-- What is told of a run that is done: how long the output's file is, and how many cells live in the
+-- last state of the run, and of the undivided run where it went on from trails.
+pub record IsSummed (w : Work) (job : Job) (found : Option Checkpoint) (output : ℕ) (live : ℤ)
+    : Type 0 where
+  pub output_is : w.disk.tells → output ≡ length (w.disk.new.seen output_file)
+  pub ran : AreTold (driven w job) → LiveIs job (run_from (setup_of job) w.rules found) live
+  pub undivided : AreTold (driven w job) → StartsWell (driven w job)
+      → LiveIs job (undivided_run (setup_of job) w.rules) live
+
 -- ---- a command with a job
 
--- a run that is done
+-- a run of a file that is done
 pub record IsDone (w : Work) (command : Command) (job : Job) (iteration : ℕ) : Type 0 where
   pub command_is : command ≡ Run
   pub last : iteration ≡ job.itlast
   pub run : HasRun w job Done
 
+-- a run that was made is done
+pub record IsMade (w : Work) (command : Command) (job : Job) (iteration seed size output : ℕ)
+    (live : ℤ) : Type 0 where
+  pub command_is : command ≡ Make seed size
+  pub last : iteration ≡ job.itlast
+  pub run : HasRun w job Done
+  pub sums : IsSummed w job run.found output live
+
 -- a run that came to another end
 pub record IsEnded (w : Work) (command : Command) (job : Job) (end : End) : Type 0 where
-  pub command_is : command ≡ Run
+  pub runs : Runs command
   pub other : end ≢ Done
   pub run : HasRun w job end
 
 -- a command that isn't a run has this text
 pub record IsTold (w : Work) (command : Command) (job : Job) (text : List ℕ) : Type 0 where
-  pub command_is : command ≢ Run
+  pub other : Runs command → ⊥
   pub text_is : text ≡ command_text command job
   pub still : IsStill w
 
 -- what comes of it
 abbrev pub Comes : Work → Command → Job → Answer → Type 0
 Comes w command job (a.Done iteration) = IsDone w command job iteration
+Comes w command job (a.Made iteration seed size output live) =
+    IsMade w command job iteration seed size output live
 Comes w command job (a.Text text) = IsTold w command job text
 Comes w command job (a.Ended end) = IsEnded w command job end
-Comes w command job (a.Recovery fault) = (command ≡ Run) × IsRefused (driven w job) fault
-Comes w command job a.Disk = (command ≡ Run) × HasRisen w.disk.faults
-Comes w command job a.Wire = (command ≡ Run) × HasRisen w.wire.faults
-Comes w command job a.Memory = command ≢ Run → IsStill w
+Comes w command job (a.Recovery fault) = Runs command × IsRefused (driven w job) fault
+Comes w command job a.Disk = Runs command × HasRisen w.disk.faults
+Comes w command job a.Wire = Runs command × HasRisen w.wire.faults
+Comes w command job a.Memory = (Runs command → ⊥) → IsStill w
 Comes w command job a.Usage = ⊥
 Comes w command job (a.Refused fault) = ⊥
 Comes w command job a.Shelf = ⊥
@@ -92,16 +122,19 @@ WereTrails w job = AreTrails (course (driven w job)) w.disk.old
 -- A run that began on trails is refused only where a checkpoint is asked for and there is none, and leaves trails at each moment.
 pub record ComesTo (w : Work) (command : Command) (job : Job) (answer : Answer) : Type 0 where
   pub cause : Comes w command job answer
-  pub begins : command ≡ Run → w.disk.tells → WereTrails w job → BeginsOn job w.rules w.disk.old.seen
+  pub begins : Runs command → w.disk.tells → WereTrails w job → BeginsOn job w.rules w.disk.old.seen
   pub trails : AreTold (driven w job) → WereTrails w job → LeavesTrails (driven w job)
 
 -- ---- what was asked for
 
--- `make_job` answers so, on the shelf that was lent
+-- `make_job` answers so, on this shelf
+abbrev pub MakesOn : Lent Held → List ℕ → List Spec → Result Job JobFault → Type 0
+MakesOn s file specs found =
+    MakesWith s.tells (Made file specs) s.old s.new s.faults.old s.faults.new found
+
+-- on the shelf that a request reads
 abbrev pub MakesAs : Call → Request → Result Job JobFault → Type 0
-MakesAs c r found =
-    MakesWith c.shelf.tells (Made r.file c.specs)
-    c.shelf.old c.shelf.new c.shelf.faults.old c.shelf.faults.new found
+MakesAs c r found = MakesOn (shelf_for c.shelf r.command) r.file c.specs found
 
 -- what follows for a job that was made
 pub record FollowsJob (c : Call) (command : Command) (job : Job) (answer : Answer) : Type 0 where
@@ -123,6 +156,7 @@ pub record IsAsked (c : Call) (answer : Answer) : Type 0 where
   pub request : Request
   pub asks : asked c.words ≡ Some request
   pub found : Result Job JobFault
+  pub shelf : SparesShelf c.shelf request.command
   pub makes : MakesAs c request found
   pub follows : Follows c request.command found answer
 

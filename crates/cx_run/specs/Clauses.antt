@@ -1,9 +1,9 @@
 -- The clauses of the top call.
-use Rattle.std.specs.Prelude.{◌≡◌, ◌≢◌, ◌⊎◌, ℕ, ◌<◌, ◌≤◌, List, Option, None, Some, Ok, Err}
+use Rattle.std.specs.Prelude.{◌≡◌, ◌≢◌, ◌⊎◌, ℕ, ℤ, ◌<◌, ◌≤◌, List, length, Option, None, Some, Ok, Err}
 use Rattle.cx_disk.specs.Moments.{IsQuiet}
 use Rattle.cx_plan.specs.Setups.{setup_of}
 use Rattle.cx_plan.specs.declared.job.Job.{Job}
-use Rattle.cx_model.specs.Runs.{end as end_of, end_by}
+use Rattle.cx_model.specs.Runs.{undivided_run, output, end as end_of, end_by}
 use Rattle.cx_model.specs.declared.ends.End.{End}
 use Rattle.cx_model.specs.declared.ends.End.TheVariants.{Done, Overflow, WhileLimit, OutputLimit}
 use Rattle.cx_chk.specs.declared.checkpoint.Checkpoint.{Checkpoint}
@@ -16,12 +16,14 @@ use Rattle.cx_job.specs.declared.fault.JobFault.{JobFault}
 use Rattle.cx_drive.specs.Lent.{HasRisen}
 use Rattle.cx_drive.specs.Drives.{StartsWell, HasWholeOutput, HasWorked, LeavesTrails}
 use Rattle.cx_run.specs.Answers.{text_of, Says, WasSaid}
-use Rattle.cx_run.specs.Calls.{Lent, Work, Call, Makes, IsRun, AreTold, IsStill, driven}
-use Rattle.cx_run.specs.Causes.{HasLast, Explains, WereTrails}
+use Rattle.cx_run.specs.Calls.{Lent, Work, Call, Makes, TellsFiles, Runs, IsRun, AreTold, IsStill, SparesShelf, driven}
+use Rattle.cx_run.specs.Causes.{HasLast, LiveIs, Explains, WereTrails}
+use Rattle.cx_run.specs.Sink.{Adds}
+use Rattle.cx_run.specs.Texts.{made_text}
 use Rattle.cx_run.specs.Words.{Request, asked}
 use Rattle.cx_run.specs.declared.reply.Answer.{Answer}
 use Rattle.cx_run.specs.declared.reply.Answer.TheVariants as a
-use Rattle.cx_run.specs.declared.words.Command.TheVariants.{Run}
+use Rattle.cx_run.specs.declared.words.Command.TheVariants.{Make}
 
 -- ---- a run
 
@@ -55,6 +57,20 @@ pub record IsAnswered (c : Call) (sink : Lent (List ℕ)) (result : ℕ) : Type 
   pub cause : Explains c answer
   pub said : WasSaid sink answer result
 
+-- `make` tells the length of the undivided run's output, and how many cells live in its last state
+pub record IsToldOf (c : Call) (sink : Lent (List ℕ)) (job : Job) (seed size : ℕ) : Type 0 where
+  pub live : ℤ
+  pub live_is : LiveIs job (undivided_run (setup_of job) c.work.rules) live
+  pub text_is : sink.tells → Adds
+      (made_text job.itlast seed size (length (output (setup_of job) c.work.rules)) live)
+      sink.old sink.new
+
+-- where it is done, from a disk that it could go on from
+abbrev pub SumsUp : Call → Lent (List ℕ) → ℕ → Type 0
+SumsUp c sink result =
+    (seed size : ℕ) (job : Job) (run : IsRun c job) → run.request.command ≡ Make seed size
+    → StartsWell (driven c.work job) → result ≡ 0 → IsToldOf c sink job seed size
+
 -- ---- what isn't touched
 
 -- no byte of the disk, at any moment, no queue, no count of the wire, and not the meter
@@ -66,9 +82,11 @@ pub record IsUntouched (w : Work) : Type 0 where
 pub record Spares (c : Call) (result : ℕ) : Type 0 where
   pub refused : (result ≡ 1) ⊎ ((result ≡ 2) ⊎ (result ≡ 6)) → IsUntouched c.work
   pub wrong_use : asked c.words ≡ None → c.shelf.same × IsStill c.work
-  pub other_command : (r : Request) → asked c.words ≡ Some r → r.command ≢ Run → IsStill c.work
-  pub no_job : c.shelf.tells → (r : Request) (fault : JobFault) → asked c.words ≡ Some r
+  pub other_command : (r : Request) → asked c.words ≡ Some r → (Runs r.command → ⊥)
+      → IsStill c.work
+  pub no_job : (r : Request) (fault : JobFault) → asked c.words ≡ Some r → TellsFiles c r
       → Makes c r (Err fault) → IsStill c.work
+  pub shelf : (r : Request) → asked c.words ≡ Some r → SparesShelf c.shelf r.command
 
 -- ---- what must be answered
 
@@ -92,8 +110,8 @@ MakesNone c r = (job : Job) → Makes c r (Ok job) → ⊥
 -- the status that is due where no device fails and memory suffices
 pub data Gives (c : Call) : ℕ → Type 0 where
   usage : asked c.words ≡ None → Gives c 1
-  refused : c.shelf.tells → (r : Request) → asked c.words ≡ Some r → MakesNone c r → Gives c 2
-  told : c.shelf.tells → (r : Request) (job : Job) → asked c.words ≡ Some r → r.command ≢ Run
+  refused : (r : Request) → asked c.words ≡ Some r → TellsFiles c r → MakesNone c r → Gives c 2
+  told : (r : Request) (job : Job) → asked c.words ≡ Some r → (Runs r.command → ⊥) → TellsFiles c r
       → Makes c r (Ok job) → Gives c 0
   recovery : AreTold c → (job : Job) (fault : BeginFault) → IsRun c job
       → begun job c.work.disk.old.seen ≡ Err fault → Gives c 6
@@ -113,7 +131,7 @@ pub record IsRefusedFor (fault : JobFault) (sink : Lent (List ℕ)) (result : �
 
 pub record Owes (c : Call) (sink : Lent (List ℕ)) (result : ℕ) : Type 0 where
   pub status : IsCalm c sink → (status : ℕ) → Gives c status → (result ≡ status) ⊎ (result ≡ 5)
-  pub fault : c.shelf.tells → (r : Request) (fault : JobFault) → asked c.words ≡ Some r
+  pub fault : (r : Request) (fault : JobFault) → asked c.words ≡ Some r → TellsFiles c r
       → Makes c r (Err fault) → (HasRisen c.shelf.faults → ⊥) → (HasRisen sink.faults → ⊥)
       → IsRefusedFor fault sink result ⊎ (result ≡ 5)
   pub sink_failed : sink.faults.old < sink.faults.new → result ≡ 4
@@ -134,6 +152,7 @@ pub record Obeys (c : Call) (sink : Lent (List ℕ)) (result : ℕ) : Type 0 whe
   pub run : AreTold c → RunsWell c result
   pub trails : AreTold c → KeepsTrails c
   pub printed : IsAnswered c sink result
+  pub summed : AreTold c → SumsUp c sink result
   pub untouched : Spares c result
   pub owed : Owes c sink result
   pub kept : IsKept c sink

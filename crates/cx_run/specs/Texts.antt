@@ -1,5 +1,5 @@
 -- What the top call prints.
-use Rattle.std.specs.Prelude.{ℕ, List, [], ◌∷◌, ◌++◌, codes}
+use Rattle.std.specs.Prelude.{ℕ, ℤ, List, [], ◌∷◌, ◌++◌, codes}
 use Rattle.std.specs.Fmt.{decimal}
 use Rattle.cx_plan.specs.declared.job.Job.{Job}
 use Rattle.cx_model.specs.declared.ends.End.{End}
@@ -7,6 +7,7 @@ use Rattle.cx_model.specs.declared.ends.End.TheVariants as ends
 use Rattle.cx_cut.specs.Faults.{parts_of}
 use Rattle.cx_keep.specs.declared.fault.BeginFault.{BeginFault}
 use Rattle.cx_keep.specs.declared.fault.BeginFault.TheVariants as begins
+use Rattle.cx_made.specs.Summaries.{summary}
 use Rattle.cx_run.specs.CutTexts.{cut_lines, parts_text}
 use Rattle.cx_run.specs.FaultWords.{spaced, or_dash}
 use Rattle.cx_run.specs.declared.words.Command.{Command}
@@ -14,6 +15,11 @@ use Rattle.cx_run.specs.declared.words.Command.TheVariants as commands
 
 abbrev pub done_text : ℕ → List ℕ
 done_text iteration = codes "done: iteration " ++ decimal iteration ++ 10 ∷ []
+
+-- and of one that was made, by the length of its output and how many cells live at the end
+abbrev pub made_text : ℕ → ℕ → ℕ → ℕ → ℤ → List ℕ
+made_text iteration seed size output live =
+    done_text iteration ++ summary seed size output live
 
 -- the words of an end: its name, its iteration and its path
 abbrev pub end_words : End → List ℕ
@@ -50,6 +56,7 @@ accepted_text = codes "accepted" ++ 10 ∷ []
 -- `describe` the key, the other parameters and the cut, of `parts` the parts of the grid
 abbrev pub command_text : Command → Job → List ℕ
 command_text commands.Run job = []
+command_text (commands.Make seed size) job = []
 command_text commands.Check job = accepted_text
 command_text commands.Schedule job = job.plan_text
 command_text commands.Describe job =
@@ -63,6 +70,7 @@ usage_text =
     ∷ codes "       cactus schedule FILE" ++ 10
     ∷ codes "       cactus describe FILE" ++ 10
     ∷ codes "       cactus parts FILE" ++ 10
+    ∷ codes "       cactus make SEED SIZE" ++ 10
     ∷ []
 
 abbrev pub shelf_text : List ℕ

@@ -3,8 +3,9 @@ use Rattle.std.specs.Prelude.{ℕ, ◌-◌, ◌^◌, Bool, not, false, ◌==◌,
 use Rattle.std.specs.List.{starts_with}
 use Rattle.cx_text.specs.Digits.{natural_in}
 use Rattle.cx_plan.specs.Lists.{or_else}
+use Rattle.cx_made.specs.Files.{file_name}
 use Rattle.cx_run.specs.declared.words.Command.{Command}
-use Rattle.cx_run.specs.declared.words.Command.TheVariants.{Run, Check, Schedule, Describe, Parts}
+use Rattle.cx_run.specs.declared.words.Command.TheVariants.{Run, Make, Check, Schedule, Describe, Parts}
 
 -- a command, the name of its file, and the seed of its turns
 pub record Request : Type 0 where
@@ -50,6 +51,32 @@ run_asked (a ∷ b ∷ []) = or_else (run_with a (joined_seed b)) (run_with b (j
 run_asked (a ∷ b ∷ c ∷ []) = or_else (run_with a (spaced_seed b c)) (run_with c (spaced_seed a b))
 run_asked (a ∷ b ∷ c ∷ d ∷ words) = None
 
+-- ---- the words of `make`
+
+-- its seed: one to twenty digits, below 2^63
+abbrev pub made_seed : List ℕ → Option ℕ
+made_seed word = if nat_le (length word) 20 then natural_in (2 ^ 63 - 1) word else None
+
+-- its size: one to four digits, from 8 to 1024
+abbrev pub from_8 : Option ℕ → Option ℕ
+from_8 None = None
+from_8 (Some size) = if nat_le 8 size then Some size else None
+
+abbrev pub made_size : List ℕ → Option ℕ
+made_size word = if nat_le (length word) 4 then from_8 (natural_in 1024 word) else None
+
+-- it runs the parameter file that it makes, with turns from 0
+abbrev pub make_with : Option ℕ → Option ℕ → Option Request
+make_with None size = None
+make_with (Some seed) None = None
+make_with (Some seed) (Some size) = Some (request (Make seed size) file_name 0)
+
+abbrev pub make_asked : List (List ℕ) → Option Request
+make_asked [] = None
+make_asked (seed ∷ []) = None
+make_asked (seed ∷ size ∷ []) = make_with (made_seed seed) (made_size size)
+make_asked (seed ∷ size ∷ next ∷ words) = None
+
 -- ---- the words of the other commands
 
 abbrev pub command_of : List ℕ → Option Command
@@ -71,4 +98,6 @@ file_asked (Some command) (file ∷ next ∷ words) = None
 abbrev pub asked : List (List ℕ) → Option Request
 asked [] = None
 asked (word ∷ words) =
-    if bytes_eq word (codes "run") then run_asked words else file_asked (command_of word) words
+    if bytes_eq word (codes "run") then run_asked words
+    else (if bytes_eq word (codes "make") then make_asked words
+    else file_asked (command_of word) words)

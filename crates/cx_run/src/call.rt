@@ -1,31 +1,33 @@
 //! The top call.
-ghost use Rattle.std.specs.Prelude.{◌≡◌, ◌≤◌, ◌<◌, ◌^◌, None, IfOk, IsTrue, length, map};
+ghost use Rattle.std.specs.Prelude.{◌≡◌, ◌≢◌, ◌≤◌, ◌<◌, ◌^◌, None, IfOk, IsTrue, length, map};
 ghost use Rattle.cx_cut.specs.Faults.{parts_of, cut_fault};
 ghost use Rattle.cx_grid.specs.Grid.{HasInterior};
-ghost use Rattle.cx_plan.specs.Paths.{Sound};
-ghost use Rattle.cx_plan.specs.Regions.{HasShapes};
-ghost use Rattle.cx_plan.specs.Setups.{setup_of};
 ghost use Rattle.cx_plan.specs.Whole.{IsWhole};
-ghost use Rattle.cx_rule.specs.Jobs.{FitJob};
 ghost use Rattle.cx_core.specs.Starts.{AreEmpty};
-ghost use Rattle.cx_run.specs.Answers.{answer_with};
-ghost use Rattle.cx_run.specs.Causes.{ComesTo, Explains};
+ghost use Rattle.cx_core.specs.declared.answers.Outcome.{Outcome};
+ghost use Rattle.cx_drive.specs.Drives.{LendsScalars};
+ghost use Rattle.cx_job.specs.Making.{IsReady};
+ghost use Rattle.cx_made.specs.Files.{made_files};
+ghost use Rattle.cx_run.specs.Answers.{AnswersRun, IsTextFor, answer_with};
+ghost use Rattle.cx_run.specs.Calls.{SparesShelf, made_from, shelf_for, shelf_of};
+ghost use Rattle.cx_run.specs.Causes.{ComesTo, Explains, MakesOn};
 ghost use Rattle.cx_run.specs.Clauses.{Obeys};
 ghost use Rattle.cx_run.specs.Texts.{accepted_text};
-ghost use Rattle.cx_run.specs.declared.words.Command.{Command};
 
 use crate::cut_texts::parts_text;
-use crate::reply::{Answer, answer_for, answer_of, answer_to_outcome, reply};
+use crate::reply::{Answer, answer_for, answer_of, answer_to_core, reply};
 use crate::sink::Sink;
 use crate::texts::{describe, schedule_text};
 use crate::words::{Command, request_of};
+use cx_core::Core;
 use cx_course::trails_begin;
 use cx_disk::Disk;
-use cx_drive::drive;
-use cx_job::{Shelf, make_job};
+use cx_drive::{DriveFault, drive};
+use cx_job::{JobFault, MemoryShelf, Shelf, make_job};
+use cx_made::made_files;
 use cx_plan::Job;
 use cx_rule::{Meter, Routine};
-use cx_text::{Memory, Text};
+use cx_text::{List, Memory, Text};
 use cx_turns::Turns;
 use cx_wire::Wire;
 use std::alloc::Global;
@@ -39,9 +41,14 @@ use std::alloc::Global;
 /// | `schedule FILE` | makes the job | its schedule text |
 /// | `describe FILE` | makes the job | its key, the other parameters' lines, and for each direction the widths of its parts |
 /// | `parts FILE` | makes the job | the parts of its grid, a line for each |
+/// | `make SEED SIZE` | makes a parameter file of Life, a list of thorns and the thorn's files, and runs their job | `done: iteration N`, and a line that sums the run up |
 ///
 /// FILE isn't empty and doesn't begin with `-`. What makes a job is said at `make_job` of cx_job. `run` takes `--turns SEED` or
 /// `--turns=SEED` before or behind FILE, one to twenty digits below 2^64: the source of turns begins anew from SEED, or from 0.
+///
+/// `make` takes a SEED of one to twenty digits below 2^63 and a SIZE of one to four digits from 8 to 1024. Its files are those of
+/// `made_files` of cx_made, which the shelf doesn't see: the shelf is left alone. It goes on as `run made.par` does. Where the run is
+/// done it tells how many points there are, how long the output is, and how many cells live in the last state.
 ///
 /// A run goes by `drive` of cx_drive: the grid is cut into parts, which exchange messages by the wire, in the order that `turns`
 /// picks; the output goes into file 8 of the disk, and checkpoints into the files 0 to 7. By the job's `IO::recover` it begins afresh
@@ -62,8 +69,8 @@ use std::alloc::Global;
 /// | 6 | its run can't begin on what the disk holds | `recovery: ` and the words of the fault |
 ///
 /// Each text ends with a line feed. The ends are `Overflow`, `WhileLimit` and `OutputLimit` (`End` of cx_model), the faults of status 6
-/// `NoCheckpoint`, `Damaged`, `OtherJob` and `OutputShort` (`BeginFault` of cx_keep). The commands but `run` touch neither the disk nor
-/// the wire nor the meter; at status 1, 2 and 6 no byte of the disk is changed, and neither the wire nor the meter. At status 0 of a run
+/// `NoCheckpoint`, `Damaged`, `OtherJob` and `OutputShort` (`BeginFault` of cx_keep). The commands but `run` and `make` touch neither the
+/// disk nor the wire nor the meter; at status 1, 2 and 6 no byte of the disk is changed, and neither the wire nor the meter. At status 0 of a run
 /// from such a disk the meter has risen by the points that the parts compute behind the newest checkpoint, and the wire has given out
 /// the values that they exchange there.
 pub fn cactus<H: Shelf, D: Disk, W: Wire, T: Turns, O: Sink>(
@@ -191,12 +198,91 @@ fn answer_to<H: Shelf, D: Disk, W: Wire, T: Turns>(
     let Some((command, file, seed)) = request_of(words) else {
         return Answer::Usage;
     };
-    match make_job(alloc, shelf, file, routines) {
+    match job_for(alloc, command, file, shelf, routines) {
         Ok(job) => done(
             alloc, command, seed, &job, disk, wire, turns, routines, meter,
         ),
         Err(fault) => answer_of(fault),
     }
+}
+
+/// The job that a command is for: of a file on the shelf, or of files that are made.
+fn job_for<H: Shelf>(
+    alloc: Global,
+    command: Command,
+    file: &[u8],
+    shelf: &mut H,
+    routines: &[Box<dyn Routine>],
+) -> Result<Job, JobFault>
+    requires few { length routines.now ≤ 2 ^ 32 }
+    ensures made { MakesOn (shelf_for (record {
+      tells = H.tells;
+      same = shelf.new ≡ shelf.old;
+      old = H.held shelf.old;
+      new = H.held shelf.new;
+      faults = record { old = H.faults shelf.old; new = H.faults shelf.new };
+    }) command) file.now (map spec_of routines.now) result }
+    ensures spared { SparesShelf (record {
+      tells = H.tells;
+      same = shelf.new ≡ shelf.old;
+      old = H.held shelf.old;
+      new = H.held shelf.new;
+      faults = record { old = H.faults shelf.old; new = H.faults shelf.new };
+    }) command }
+    ensures held { H.tells → H.held shelf.new ≡ H.held shelf.old }
+    ensures count { H.faults shelf.old ≤ H.faults shelf.new }
+    ensures ready { IfOk result (IsReady (map spec_of routines.now)) }
+    ensures interior { IfOk result (λ job. HasInterior job.shape) }
+{
+    let name = Text::from_slice(alloc, file)?;
+    match made_from(command) {
+        Some((seed, size)) => made_job(alloc, seed, size, &name, routines),
+        None => make_job(alloc, shelf, &name, routines),
+    }
+}
+
+/// The seed and the size that a command makes its files from, if it makes them.
+fn made_from(command: Command) -> Option<(u64, u32)>
+    ensures { result ≡ made_from command }
+{
+    match command {
+        Command::Make { seed, size } => Some((seed, size)),
+        _ => None,
+    }
+}
+
+/// The job that made files make, by the name of the parameter file among them.
+fn made_job(
+    alloc: Global,
+    seed: u64,
+    size: u32,
+    name: &Text,
+    routines: &[Box<dyn Routine>],
+) -> Result<Job, JobFault>
+    requires few { length routines.now ≤ 2 ^ 32 }
+    ensures made { MakesOn (shelf_of (made_files seed size)) name.now
+        (map spec_of routines.now) result }
+    ensures ready { IfOk result (IsReady (map spec_of routines.now)) }
+    ensures interior { IfOk result (λ job. HasInterior job.shape) }
+{
+    let files = made_files(alloc, seed, size)?;
+    job_among(alloc, files, name, routines)
+}
+
+/// The job that these files make, by the name of the parameter file among them.
+fn job_among(
+    alloc: Global,
+    files: List<(Text, Text)>,
+    name: &Text,
+    routines: &[Box<dyn Routine>],
+) -> Result<Job, JobFault>
+    requires few { length routines.now ≤ 2 ^ 32 }
+    ensures made { MakesOn (shelf_of files) name.now (map spec_of routines.now) result }
+    ensures ready { IfOk result (IsReady (map spec_of routines.now)) }
+    ensures interior { IfOk result (λ job. HasInterior job.shape) }
+{
+    let mut shelf = MemoryShelf::new(files);
+    make_job(alloc, &mut shelf, name, routines)
 }
 
 /// Does a command with the job of its file.
@@ -211,11 +297,8 @@ fn done<D: Disk, W: Wire, T: Turns>(
     routines: &[Box<dyn Routine>],
     meter: &mut Meter,
 ) -> Answer
-    requires whole { IsWhole job.now }
-    requires sound { HasShapes (setup_of job.now) × Sound (setup_of job.now) }
-    requires cut { cut_fault (parts_of job.now.shape job.now.cut) ≡ None }
+    requires ready { IsReady (map spec_of routines.now) job.now }
     requires interior { HasInterior job.now.shape }
-    requires fit { FitJob (map spec_of routines.now) (setup_of job.now) }
     requires parts { 512 ≤ W.parts wire.old }
     requires empty { AreEmpty (W.queue wire.old) }
     requires sum { IsTrue W.tells → W.sum wire.old < 2 ^ 64 }
@@ -249,12 +332,30 @@ fn done<D: Disk, W: Wire, T: Turns>(
     ensures disk_count { D.faults disk.old ≤ D.faults disk.new }
     ensures wire_count { W.faults wire.old ≤ W.faults wire.new }
 {
+    match text_for(alloc, command, job) {
+        Some(text) => printed(text),
+        None => {
+            trails_begin(job);
+            turns.start(seed);
+            let came = drive(alloc, job, routines, disk, wire, turns, meter);
+            answer_to_run(alloc, command, job, came)
+        }
+    }
+}
+
+/// The text of a command that isn't a run.
+fn text_for(alloc: Global, command: Command, job: &Job) -> Option<Result<Text, Memory>>
+    requires whole { IsWhole job.now }
+    requires cut { cut_fault (parts_of job.now.shape job.now.cut) ≡ None }
+    ensures { IsTextFor command job.now result }
+{
     match command {
-        Command::Run => run(alloc, seed, job, disk, wire, turns, routines, meter),
-        Command::Check => printed(accepted(alloc)),
-        Command::Schedule => printed(schedule_text(alloc, job)),
-        Command::Describe => printed(describe(alloc, job)),
-        Command::Parts => printed(parts_text(alloc, job)),
+        Command::Run => None,
+        Command::Make { .. } => None,
+        Command::Check => Some(accepted(alloc)),
+        Command::Schedule => Some(schedule_text(alloc, job)),
+        Command::Describe => Some(describe(alloc, job)),
+        Command::Parts => Some(parts_text(alloc, job)),
     }
 }
 
@@ -275,59 +376,20 @@ fn printed(text: Result<Text, Memory>) -> Answer
     }
 }
 
-/// Runs a job, with turns from a seed.
-fn run<D: Disk, W: Wire, T: Turns>(
+/// What came of a run as an answer.
+fn answer_to_run(
     alloc: Global,
-    seed: u64,
+    command: Command,
     job: &Job,
-    disk: &mut D,
-    wire: &mut W,
-    turns: &mut T,
-    routines: &[Box<dyn Routine>],
-    meter: &mut Meter,
+    came: Result<Core, DriveFault>,
 ) -> Answer
     requires whole { IsWhole job.now }
-    requires sound { HasShapes (setup_of job.now) × Sound (setup_of job.now) }
-    requires cut { cut_fault (parts_of job.now.shape job.now.cut) ≡ None }
-    requires interior { HasInterior job.now.shape }
-    requires fit { FitJob (map spec_of routines.now) (setup_of job.now) }
-    requires parts { 512 ≤ W.parts wire.old }
-    requires empty { AreEmpty (W.queue wire.old) }
-    requires sum { IsTrue W.tells → W.sum wire.old < 2 ^ 64 }
-    ensures comes { ComesTo (record {
-      rules = map rule routines.now;
-      disk = record {
-        tells = D.tells;
-        same = disk.new ≡ disk.old;
-        old = D.view disk.old;
-        new = D.view disk.new;
-        faults = record { old = D.faults disk.old; new = D.faults disk.new };
-      };
-      folders = D.folders disk.new;
-      wire = record {
-        tells = IsTrue W.tells;
-        same = wire.new ≡ wire.old;
-        old = record {
-          queue = W.queue wire.old;
-          received = W.received wire.old;
-          sum = W.sum wire.old;
-        };
-        new = record {
-          queue = W.queue wire.new;
-          received = W.received wire.new;
-          sum = W.sum wire.new;
-        };
-        faults = record { old = W.faults wire.old; new = W.faults wire.new };
-      };
-      meter = record { old = meter.old; new = meter.new };
-    }) Command.Run job.now result }
-    ensures disk_count { D.faults disk.old ≤ D.faults disk.new }
-    ensures wire_count { W.faults wire.old ≤ W.faults wire.new }
+    requires over { IfOk came (λ core. core.outcome ≢ Outcome.Going) }
+    requires scalars { IfOk came (LendsScalars job.now) }
+    ensures { AnswersRun command job.now came result }
 {
-    trails_begin(job);
-    turns.start(seed);
-    match drive(alloc, job, routines, disk, wire, turns, meter) {
-        Ok(core) => answer_to_outcome(alloc, job.itlast, core.outcome()),
+    match came {
+        Ok(core) => answer_to_core(alloc, command, job, &core),
         Err(fault) => answer_for(fault),
     }
 }

@@ -2,29 +2,46 @@
 ghost use Rattle.std.specs.Prelude.{◌≡◌, ◌≢◌, ◌++◌, ◌≤◌, ◌⊎◌, ◌∷◌, [], codes, IfOk, OnOk};
 ghost use Rattle.std.specs.Fmt.{decimal};
 ghost use Rattle.cx_core.specs.declared.answers.Outcome.{Outcome};
-ghost use Rattle.cx_run.specs.Answers.{answer_at, answer_for, answer_of, end_in, Says, IsCutOff, WasSaid};
+ghost use Rattle.cx_core.specs.Hands.{last_number};
+ghost use Rattle.cx_drive.specs.Drives.{LendsScalars};
+ghost use Rattle.cx_made.specs.Summaries.{live_variable};
+ghost use Rattle.cx_plan.specs.Setups.{setup_of};
+ghost use Rattle.cx_plan.specs.Whole.{IsWhole};
+ghost use Rattle.cx_run.specs.Answers.{answer_at, answer_for, answer_of, done_by, end_in, summed, Says, IsCutOff, WasSaid};
+ghost use Rattle.cx_run.specs.Calls.{live_by};
 ghost use Rattle.cx_run.specs.FaultWords.{or_dash, spaced};
-ghost use Rattle.cx_run.specs.Texts.{begin_words, done_text, end_words, ended_text, recovery_text};
+ghost use Rattle.cx_run.specs.Texts.{begin_words, done_text, made_text, end_words, ended_text, recovery_text};
 ghost use Rattle.cx_run.specs.declared.reply.Answer.{Answer};
 
 use crate::fault_words::{push_name, push_number, refused_text};
 use crate::sink::Sink;
-use cx_core::Outcome;
+use crate::words::Command;
+use cx_core::{Core, Outcome};
 use cx_drive::DriveFault;
 use cx_job::JobFault;
 use cx_keep::BeginFault;
+use cx_made::{live_variable, summary};
 use cx_model::End;
+use cx_plan::Job;
 use cx_text::{Memory, Text};
 use std::alloc::Global;
 
 const USAGE: &[u8] =
-    b"usage: cactus run FILE [--turns SEED]\n       cactus check FILE\n       cactus schedule FILE\n       cactus describe FILE\n       cactus parts FILE\n";
+    b"usage: cactus run FILE [--turns SEED]\n       cactus check FILE\n       cactus schedule FILE\n       cactus describe FILE\n       cactus parts FILE\n       cactus make SEED SIZE\n";
 
 /// What came of a call.
 #[derive(Debug, Drop)]
 pub enum Answer {
-    /// A run is done up to this iteration.
+    /// A run of a file is done up to this iteration.
     Done(u64),
+    /// A run that was made from a seed and a size is done up to this iteration: how long its output is, and how many cells live.
+    Made {
+        iteration: u64,
+        seed: u64,
+        size: u32,
+        output: u64,
+        live: i64,
+    },
     /// The file makes a job, and this is what was asked of it.
     Text(Text),
     /// The words ask for nothing that there is.
@@ -53,7 +70,7 @@ impl Answer {
         ensures { result ≡ status_of self.now }
     {
         match self {
-            Answer::Done(_) | Answer::Text(_) => 0,
+            Answer::Done(_) | Answer::Made { .. } | Answer::Text(_) => 0,
             Answer::Usage => 1,
             Answer::Refused(_) => 2,
             Answer::Ended(_) => 3,
@@ -69,6 +86,13 @@ impl Answer {
     {
         match self {
             Answer::Done(iteration) => done_text(alloc, iteration),
+            Answer::Made {
+                iteration,
+                seed,
+                size,
+                output,
+                live,
+            } => made_text(alloc, iteration, seed, size, output, live),
             Answer::Text(text) => Ok(text),
             Answer::Usage => Text::from_slice(alloc, USAGE),
             Answer::Refused(fault) => refused_text(alloc, &fault),
@@ -144,12 +168,83 @@ pub(crate) fn answer_to_outcome(alloc: Global, itlast: u64, outcome: &Outcome) -
     }
 }
 
+/// The answer to a run that is over, or want of memory.
+pub(crate) fn answer_to_core(alloc: Global, command: Command, job: &Job, core: &Core) -> Answer
+    requires whole { IsWhole job.now }
+    requires over { core.now.outcome ≢ Outcome.Going }
+    requires scalars { LendsScalars job.now core.now }
+    ensures { (result ≡ Answer.Memory) ⊎ (result
+        ≡ summed command job.now core.now (answer_at job.now.itlast (end_in core.now.outcome))) }
+{
+    let answer = answer_to_outcome(alloc, job.itlast, core.outcome());
+    summed(command, job, core, answer)
+}
+
+/// An answer, with what is told of a run where that was made and is done.
+fn summed(command: Command, job: &Job, core: &Core, answer: Answer) -> Answer
+    requires whole { IsWhole job.now }
+    requires scalars { LendsScalars job.now core.now }
+    ensures { result ≡ summed command job.now core.now answer }
+{
+    match answer {
+        Answer::Done(iteration) => done_by(command, job, core, iteration),
+        answer => answer,
+    }
+}
+
+/// The answer to a run that is done up to this iteration.
+fn done_by(command: Command, job: &Job, core: &Core, iteration: u64) -> Answer
+    requires whole { IsWhole job.now }
+    requires scalars { LendsScalars job.now core.now }
+    ensures { result ≡ done_by command job.now core.now iteration }
+{
+    match command {
+        Command::Make { seed, size } => Answer::Made {
+            iteration,
+            seed,
+            size,
+            output: core.length(),
+            live: live_cells(job, core),
+        },
+        _ => Answer::Done(iteration),
+    }
+}
+
+/// How many cells live at the end of a run, or 0 where no scalar says it.
+fn live_cells(job: &Job, core: &Core) -> i64
+    requires whole { IsWhole job.now }
+    requires scalars { LendsScalars job.now core.now }
+    ensures { result ≡ live_by (live_variable (setup_of job.now)) (last_number core.now) }
+{
+    match live_variable(job) {
+        Some(v) => core.last(v),
+        None => 0,
+    }
+}
+
 /// The text of a run that is done up to this iteration.
 fn done_text(alloc: Global, iteration: u64) -> Result<Text, Memory>
     ensures { IfOk result (λ text. text ≡ done_text iteration) }
 {
     let text = format!(in alloc; "done: iteration {iteration}\n")?;
     Ok(Text::new(text.into_bytes()))
+}
+
+/// The text of a run that was made and is done up to this iteration.
+fn made_text(
+    alloc: Global,
+    iteration: u64,
+    seed: u64,
+    size: u32,
+    output: u64,
+    live: i64,
+) -> Result<Text, Memory>
+    ensures { IfOk result (λ text. text ≡ made_text iteration seed size output live) }
+{
+    let mut text = done_text(alloc, iteration)?;
+    let line = summary(alloc, seed, size, output, live)?;
+    text.push_slice(line.as_slice())?;
+    Ok(text)
 }
 
 /// Adds the name of an end, its iteration and its path.

@@ -15,7 +15,7 @@ use std::env;
 use std::io::{self, ErrorKind};
 use std::process::ExitCode;
 
-/// Does what these words ask of a parameter file in the current folder, prints the answer, and gives the program's exit code: the
+/// Does what these words ask in the current folder, prints the answer, and gives the program's exit code: the
 /// status of the top call, or 5 where memory is wanting, or where the host couldn't give its words.
 pub fn run_words(rt: &HostRuntime, words: io::Result<Vec<Text>>) -> ExitCode
     ensures given { IfOk words (λ given. IsStatusFor given.items (exit_status result)) }

@@ -5,6 +5,7 @@ ghost use Rattle.cx_core.specs.Starts.{AreEmpty};
 ghost use Rattle.cx_job.specs.Making.{Made};
 ghost use Rattle.cx_plan.specs.declared.job.Job.{Job};
 ghost use Rattle.cx_run.specs.Answers.{IsStatusFor};
+ghost use Rattle.cx_run.specs.Calls.{files_for};
 ghost use Rattle.cx_run.specs.Words.{Request, asked};
 ghost use Rattle.cx_samples.specs.Samples.{sample_rules, sample_specs};
 
@@ -93,10 +94,11 @@ fn answer_with<H: Shelf, D: Disk, W: Wire, T: Turns, O: Sink>(
     requires empty { AreEmpty (W.queue wire.old) }
     requires sum { IsTrue W.tells → W.sum wire.old < 2 ^ 64 }
     ensures status { IsStatusFor line.entry.words.now result }
-    // The command is done only where the file makes a job with the sample thorns' routines.
+    // The command is done only where the file makes a job with the sample thorns' routines, on the shelf or among those that are made.
     ensures done { result ≡ 0 → (request : Request) × (job : Job)
         × (asked line.entry.words.now ≡ Some request)
-        × (H.tells → Made request.file sample_specs (H.held shelf.old) (Ok job)) }
+        × (H.tells → Made request.file sample_specs
+        (files_for (H.held shelf.old) request.command) (Ok job)) }
 {
     cactus(
         line.alloc, line.words, shelf, disk, wire, turns, out, routines, meter,

@@ -15,7 +15,7 @@ run_to_end-requires-clause-going g c =
     let was : Place s = record { is = stands_at c.in_ok-core.core (g.W.Wire.queue c.args.wire.now) c.args.meter.now (g.W.Wire.received c.args.wire.now) (g.W.Wire.sum c.args.wire.now); view = g.D.Disk.view c.args.disk.now } in
     let first : Counts = counts c.args.meter.now (g.W.Wire.received c.args.wire.now) (g.W.Wire.sum c.args.wire.now) in
     let begun : Begins (IsTrue g.W.Wire.tells) (run_in s c.args.found) first c.in_ok-core.core (g.W.Wire.queue c.args.wire.now) =
-    c.in_ok-core.ensures.begins g.W.Wire.tells s.rules (g.W.Wire.queue c.args.wire.now) first c.requires.empty c.requires.sum in
+    c.in_ok-core.ensures.begins g.W.Wire.tells s.rules (g.W.Wire.queue c.args.wire.now) first c.requires.empty (g.met.W.Wire.sum_fits c.args.wire.now) in
     record {
       running = record { beginning = begins_in (setup_of s.job) c.args.found; begins = c.in_ok-core.ensures.can; first = first; at = begun.at };
       kept = starts_kept s.job s.disk c.args.found c.args.keep c.in_ok-core.core was.view c.requires.keeper.0 c.requires.keeper.1 c.in_ok-core.ensures.key c.in_ok-core.ensures.length c.requires.counts c.requires.slots;
@@ -27,7 +27,7 @@ returns-clause-runs g c =
     let was : Place s = record { is = stands_at c.in_ok-core.core (g.W.Wire.queue c.args.wire.now) c.args.meter.now (g.W.Wire.received c.args.wire.now) (g.W.Wire.sum c.args.wire.now); view = g.D.Disk.view c.args.disk.now } in
     let first : Counts = counts c.args.meter.now (g.W.Wire.received c.args.wire.now) (g.W.Wire.sum c.args.wire.now) in
     let begun : Begins (IsTrue g.W.Wire.tells) (run_in s c.args.found) first c.in_ok-core.core (g.W.Wire.queue c.args.wire.now) =
-    c.in_ok-core.ensures.begins g.W.Wire.tells s.rules (g.W.Wire.queue c.args.wire.now) first c.requires.empty c.requires.sum in
+    c.in_ok-core.ensures.begins g.W.Wire.tells s.rules (g.W.Wire.queue c.args.wire.now) first c.requires.empty (g.met.W.Wire.sum_fits c.args.wire.now) in
     if_ok_more c.run_to_end.result (λ core ends. runs_from s c.args.found was c.in_ok-core.ensures.can begun c.in_ok-core.ensures.going
     (record { is = stands_at core (g.W.Wire.queue c.run_to_end.new.wire) c.run_to_end.new.meter (g.W.Wire.received c.run_to_end.new.wire) (g.W.Wire.sum c.run_to_end.new.wire); view = g.D.Disk.view c.run_to_end.new.disk }) ends)
     c.run_to_end.ensures.ends
@@ -38,7 +38,7 @@ returns-clause-moments g c =
     let was : Place s = record { is = stands_at c.in_ok-core.core (g.W.Wire.queue c.args.wire.now) c.args.meter.now (g.W.Wire.received c.args.wire.now) (g.W.Wire.sum c.args.wire.now); view = g.D.Disk.view c.args.disk.now } in
     let first : Counts = counts c.args.meter.now (g.W.Wire.received c.args.wire.now) (g.W.Wire.sum c.args.wire.now) in
     let begun : Begins (IsTrue g.W.Wire.tells) (run_in s c.args.found) first c.in_ok-core.core (g.W.Wire.queue c.args.wire.now) =
-    c.in_ok-core.ensures.begins g.W.Wire.tells s.rules (g.W.Wire.queue c.args.wire.now) first c.requires.empty c.requires.sum in
+    c.in_ok-core.ensures.begins g.W.Wire.tells s.rules (g.W.Wire.queue c.args.wire.now) first c.requires.empty (g.met.W.Wire.sum_fits c.args.wire.now) in
     run_leaves s c.args.found was c.in_ok-core.ensures.can begun c.in_ok-core.ensures.going (g.D.Disk.view c.run_to_end.new.disk) c.run_to_end.ensures.moments
 
 pub returns-in_err-core-clause-stops : goal.returns-in_err-core-clause-stops

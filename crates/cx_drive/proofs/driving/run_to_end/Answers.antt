@@ -1,7 +1,8 @@
-use Rattle.std.proofs.Common.{◌≡◌, ◌≤◌, ℕ, length, map, arith}
+use Rattle.std.proofs.Common.{◌≡◌, ◌∙◌, ◌≤◌, ℕ, length, map, ap, arith}
 use Rattle.std.proofs.lemmas.Result.{err_from_is_err_and}
 use Rattle.std.specs.Prelude.{IsTrue, Err}
 use Rattle.cx_plan.specs.Setups.{setup_of}
+use Rattle.cx_keep.specs.Keeping.{output_file}
 use Rattle.cx_core.specs.Starts.{begins_in}
 use Rattle.cx_core.specs.Steps.{stands_at}
 use Rattle.cx_drive.specs.Going.{Setting, Place}
@@ -23,6 +24,7 @@ returns-clause-ends g c =
       moves = moves_more s was mid now c.in_ok-run.ensures.moves (moves_quiet s mid (g.D.Disk.view c.finish.new.disk) c.in_ok-finish.ensures.quiet);
       stands = λ found first x. c.core_stands.ensures g.W.Wire.tells s.rules (begins_in (setup_of s.job) found) x.begins first now.is x.at;
       settled = λ d. c.in_ok-finish.ensures.settled d 0 (omega arith);
+      length_is = λ d. ap length ((c.in_ok-finish.ensures.quiet d).same output_file) ∙ c.in_ok-run.ensures.going.kept.counts d;
     }
 
 pub returns-clause-moments : goal.returns-clause-moments
