@@ -1,3 +1,2 @@
 pub mod JobLaws
 pub mod RunLaws
-pub mod WireLaws

@@ -13,6 +13,7 @@ ghost use Rattle.cx_core.specs.Starts.{AreEmpty, IsReady};
 ghost use Rattle.cx_core.specs.Steps.{IsRunning, stands_at};
 ghost use Rattle.cx_core.specs.declared.answers.Outcome.TheVariants as outcomes;
 
+use crate::turns::Watch;
 use cx_ascii::{scalar_line, section};
 use cx_core::{Core, Event, Outcome, core_stands};
 use cx_plan::{Job, VarId};
@@ -103,7 +104,7 @@ fn words(alloc: Global, outcome: &Outcome) -> Result<Text, Memory> {
 }
 
 /// Goes on with a run until it is over: each time the turns pick one of the events that can happen.
-fn to_end<W: Wire, T: Turns>(
+fn to_end<W: Wire, T: Turns + Watch>(
     alloc: Global,
     core: &mut Core,
     job: &Job,
@@ -123,6 +124,7 @@ fn to_end<W: Wire, T: Turns>(
     let mut output = Text::new(Vec::new(alloc));
     let mut saves: u64 = 0;
     'events: while is_going(core) {
+        turns.see(core)?;
         let k = turns.pick(core.enabled());
         match core.step(alloc, k, job, routines, wire, meter)? {
             Event::Part(_) => {}
@@ -141,7 +143,7 @@ fn to_end<W: Wire, T: Turns>(
 }
 
 /// The run of a job, over a wire without messages.
-pub(crate) fn run<W: Wire, T: Turns>(
+pub(crate) fn run<W: Wire, T: Turns + Watch>(
     alloc: Global,
     job: &Job,
     routines: &[Box<dyn Routine>],

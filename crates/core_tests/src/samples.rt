@@ -184,6 +184,14 @@ pub const NO_EXCHANGE: &[File] = &[File {
     schedule ca_init AT INITIAL { LANG: C WRITES: ca::cell(everywhere) } \"start\"\n",
 }];
 
+/// Two parts of one cell each, two iterations, and a lead above them.
+pub const TWO_SAVES: &[u8] = b"ActiveThorns = \"ElemCA\"\n\
+    Cactus::cctk_itlast = 2\n\
+    driver::global_nx = 2\n\
+    driver::periodic = yes\n\
+    driver::parts_x = 2\n\
+    driver::lead = 64\n";
+
 pub const TWO_CELLS: &[u8] = b"ActiveThorns = \"ElemCA\"\n\
     Cactus::cctk_itlast = 0\n\
     driver::global_nx = 2\n\

@@ -1,12 +1,33 @@
-//! Turns that always take the first event or the last one, and all orders of events one after another.
+//! Turns that always take the first event or the last one, all orders of events one after another, and picks from a list.
 
 ghost use Rattle.std.specs.Prelude.{◌<◌};
 
-use cx_turns::Turns;
+use cx_core::Core;
+use cx_text::{Memory, Text};
+use cx_turns::{SeededTurns, Turns};
+use std::alloc::Global;
+
+/// What looks at a core before each event.
+pub trait Watch {
+    /// Looks at it.
+    fn see(&mut self, core: &Core) -> Result<(), Memory>;
+}
+
+impl Watch for SeededTurns {
+    fn see(&mut self, _core: &Core) -> Result<(), Memory> {
+        Ok(())
+    }
+}
 
 /// The first of the events that can happen comes next.
 #[derive(Drop)]
 pub struct FirstTurns;
+
+impl Watch for FirstTurns {
+    fn see(&mut self, _core: &Core) -> Result<(), Memory> {
+        Ok(())
+    }
+}
 
 impl Turns for FirstTurns {
     fn start(&mut self, _seed: u64) {}
@@ -19,6 +40,12 @@ impl Turns for FirstTurns {
 /// The last of them comes next.
 #[derive(Drop)]
 pub struct LastTurns;
+
+impl Watch for LastTurns {
+    fn see(&mut self, _core: &Core) -> Result<(), Memory> {
+        Ok(())
+    }
+}
 
 impl Turns for LastTurns {
     fn start(&mut self, _seed: u64) {}
@@ -71,6 +98,12 @@ impl EachOrder {
     }
 }
 
+impl Watch for EachOrder {
+    fn see(&mut self, _core: &Core) -> Result<(), Memory> {
+        Ok(())
+    }
+}
+
 impl Turns for EachOrder {
     fn start(&mut self, _seed: u64) {
         self.done = 0;
@@ -84,5 +117,51 @@ impl Turns for EachOrder {
         }
         self.choices[k] = n;
         self.picks[k].min(n - 1)
+    }
+}
+
+/// Picks from a list, the first event or the second one each time, and which events lay ahead before each of them.
+#[derive(Drop)]
+pub struct Listed {
+    picks: &'static [u8],
+    done: usize,
+    seen: Text,
+}
+
+impl Listed {
+    /// The picks of this list, each a 0 or a 1.
+    pub fn new(alloc: Global, picks: &'static [u8]) -> Self {
+        Listed {
+            picks,
+            done: 0,
+            seen: Text::new(Vec::new(alloc)),
+        }
+    }
+
+    /// What was seen: before each event a word with a letter for each event that could happen, A where it lay ahead.
+    pub fn into_seen(self) -> Text {
+        self.seen
+    }
+}
+
+impl Watch for Listed {
+    fn see(&mut self, core: &Core) -> Result<(), Memory> {
+        'events: for k in 0..core.enabled() {
+            let letter = if core.ahead(k) { b"A" } else { b"-" };
+            self.seen.push_slice(letter)?;
+        }
+        self.seen.push_slice(b" ")
+    }
+}
+
+impl Turns for Listed {
+    fn start(&mut self, _seed: u64) {
+        self.done = 0;
+    }
+
+    fn pick(&mut self, n: u64) -> u64 {
+        let second = self.picks.get(self.done) == Some(&b'1');
+        self.done = self.done.saturating_add(1);
+        if second { 1.min(n - 1) } else { 0 }
     }
 }

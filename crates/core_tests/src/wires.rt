@@ -8,7 +8,7 @@ ghost use Rattle.cx_core.specs.Starts.{IsReady};
 use crate::jobs::{altering, job, noting};
 use crate::runs::{Came, run};
 use crate::samples::{ALTERED_OUTPUT, CA, CA_OUTPUT};
-use crate::turns::{FirstTurns, LastTurns};
+use crate::turns::{FirstTurns, LastTurns, Watch};
 use cx_plan::Job;
 use cx_rule::{Meter, Routine};
 use cx_thorn_ca::{CaCount, CaInit, CaStep, CaZero};
@@ -53,7 +53,7 @@ struct Noted {
 }
 
 /// A run over a wire that notes what is sent, by these turns.
-fn noted_run<T: Turns>(
+fn noted_run<T: Turns + Watch>(
     rt: &HostRuntime,
     job: &Job,
     routines: &[Box<dyn Routine>],
