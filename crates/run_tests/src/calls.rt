@@ -2,7 +2,6 @@
 
 use crate::carriers::wire;
 use crate::cuts::CUTS;
-use crate::devices::{HollowDisk, LateShelf};
 use crate::faults::{FAULTS, IF_AROUND, IF_NOWHERE, PLAIN, SAMPLE_FAULTS};
 use crate::jobs::{CA_OUTPUT, RUNS};
 use crate::samples::{BOX, CA, CONTROL, File, GLIDER, HEAT, LIFE, SAMPLES, WAVE};
@@ -63,7 +62,8 @@ const USAGE: &[u8] = b"usage: cactus run FILE [--turns SEED]\n\
         \x20      cactus check FILE\n\
         \x20      cactus schedule FILE\n\
         \x20      cactus describe FILE\n\
-        \x20      cactus parts FILE\n";
+        \x20      cactus parts FILE\n\
+        \x20      cactus make SEED SIZE\n";
 
 const SCHEDULE: &[u8] = b"bin STARTUP\n\
         bin WRAGH\n\
@@ -191,6 +191,71 @@ const ANSWERS: &[Asked] = &[
         printed: USAGE,
     },
     Asked {
+        words: &[b"make"],
+        status: 1,
+        printed: USAGE,
+    },
+    Asked {
+        words: &[b"make", b"1"],
+        status: 1,
+        printed: USAGE,
+    },
+    Asked {
+        words: &[b"make", b"1", b"1025"],
+        status: 1,
+        printed: USAGE,
+    },
+    Asked {
+        words: &[b"make", b"1", b"00008"],
+        status: 1,
+        printed: USAGE,
+    },
+    Asked {
+        words: &[b"make", b"1", b""],
+        status: 1,
+        printed: USAGE,
+    },
+    Asked {
+        words: &[b"make", b"1", b"+8"],
+        status: 1,
+        printed: USAGE,
+    },
+    Asked {
+        words: &[b"make", b"-1", b"8"],
+        status: 1,
+        printed: USAGE,
+    },
+    Asked {
+        words: &[b"make", b"", b"8"],
+        status: 1,
+        printed: USAGE,
+    },
+    Asked {
+        words: &[b"make", b"9223372036854775808", b"8"],
+        status: 1,
+        printed: USAGE,
+    },
+    Asked {
+        words: &[b"make", b"000000000000000000001", b"8"],
+        status: 1,
+        printed: USAGE,
+    },
+    Asked {
+        words: &[b"make", b"1", b"8", b"9"],
+        status: 1,
+        printed: USAGE,
+    },
+    Asked {
+        words: &[b"make", b"1", b"8", b"--turns=1"],
+        status: 1,
+        printed: USAGE,
+    },
+    Asked {
+        words: &[b"make", b"--turns=1", b"8"],
+        status: 1,
+        printed: USAGE,
+    },
+    Asked {
         words: &[b"run", b"no.par"],
         status: 2,
         printed: b"refused: NoFile no.par\n",
@@ -274,34 +339,6 @@ const ANSWERS: &[Asked] = &[
         words: &[b"schedule", b"ca.par"],
         status: 0,
         printed: SCHEDULE,
-    },
-];
-
-/// Jobs, each with how many calls of the disk its run makes, its status, and what two runs print whose disk fails once.
-struct Writer {
-    file: &'static [u8],
-    more: &'static [u8],
-    calls: u64,
-    status: u8,
-    printed: &'static [u8],
-}
-
-const WRITERS: &[Writer] = &[
-    Writer {
-        file: CA,
-        more: b"IO::checkpoint_every = 1\nIO::recover = \"autoprobe\"\n",
-        calls: 45,
-        status: 0,
-        printed: b"device: disk\ndone: iteration 2\n",
-    },
-    Writer {
-        file: b"ActiveThorns = \"Control\"\n\
-        control::drop = 0\n\
-        IO::out_vars = \"control::count\"\n",
-        more: b"IO::recover = \"autoprobe\"\n",
-        calls: 21,
-        status: 3,
-        printed: b"device: disk\nended: WhileLimit 1 EVOL/control_spin\n",
     },
 ];
 
@@ -571,102 +608,6 @@ fn file_that_is_too_long(rt: HostRuntime) -> Result<(), Fail> {
         came.printed.as_slice(),
         b"refused: long.par TooLong\n".as_slice()
     );
-    Ok(())
-}
-
-/// What two runs of a job came to over one disk: statuses, the calls of the disk up to the end of each, and what they print.
-#[derive(Drop)]
-struct Twice {
-    first: u8,
-    first_calls: u64,
-    second: u8,
-    calls: u64,
-    printed: Vec<u8>,
-}
-
-/// Runs a job twice over a disk that fails in one call.
-fn run_twice(rt: &HostRuntime, file: &[u8], more: &[u8], fail: u64) -> Result<Twice, Fail> {
-    let alloc = rt.alloc();
-    let words: &[&[u8]] = &[b"run", b"t.par"];
-    let mut shelf = shelf_with(alloc, file, more, &[])?;
-    let mut disk = HollowDisk::new(alloc, fail);
-    let first = answer_over(rt, words, &mut shelf, &mut disk)?;
-    let first_calls = disk.calls();
-    let second = answer_over(rt, words, &mut shelf, &mut disk)?;
-    let mut printed = first.printed;
-    printed.extend_from_slice(&second.printed)?;
-    Ok(Twice {
-        first: first.status,
-        first_calls,
-        second: second.status,
-        calls: disk.calls(),
-        printed,
-    })
-}
-
-#[test]
-fn disk_that_fails_once(rt: HostRuntime) -> Result<(), Fail> {
-    for writer in WRITERS {
-        for fail in 0..writer.calls {
-            let came = run_twice(&rt, writer.file, writer.more, fail)?;
-            assert_eq!(rt; came.first, 4);
-            assert_eq!(rt; came.first_calls, fail + 1);
-            assert_eq!(rt; came.second, writer.status);
-            assert_eq!(rt; came.calls, came.first_calls.saturating_add(writer.calls));
-            assert_eq!(rt; came.printed.as_slice(), writer.printed);
-        }
-    }
-    Ok(())
-}
-
-/// Runs `ca.par` over a shelf and a sink, on a disk that does nothing.
-fn run_again(rt: &HostRuntime, shelf: &mut LateShelf, out: &mut MemorySink) -> Result<u8, Fail> {
-    let alloc = rt.alloc();
-    let words = texts(alloc, &[b"run", b"ca.par"])?;
-    let mut disk = HollowDisk::new(alloc, 100);
-    let mut wire = wire(alloc)?;
-    let mut turns = SeededTurns::new();
-    let mut meter = Meter::new(rt);
-    Ok(answer(
-        alloc, &words, shelf, &mut disk, &mut wire, &mut turns, out, &mut meter,
-    )?)
-}
-
-/// The statuses of two runs over a shelf that fails in one reading, and what they print.
-fn read_late(rt: &HostRuntime, fail: u64) -> Result<(u8, u8, Vec<u8>), Fail> {
-    let alloc = rt.alloc();
-    let mut shelf = LateShelf::new(SAMPLES, fail);
-    let mut out = sink(alloc, &[])?;
-    let first = run_again(rt, &mut shelf, &mut out)?;
-    let second = run_again(rt, &mut shelf, &mut out)?;
-    Ok((first, second, out.bytes().to_vec(alloc)?))
-}
-
-// The parameter file, the list of thorns, and four files of the one thorn.
-#[test]
-fn shelf_that_fails_once(rt: HostRuntime) -> Result<(), Fail> {
-    for fail in 0..6 {
-        let (first, second, printed) = read_late(&rt, fail)?;
-        assert_eq!(rt; first, 4);
-        assert_eq!(rt; second, 0);
-        assert_eq!(rt;
-            printed.as_slice(),
-            b"device: shelf\ndone: iteration 2\n".as_slice()
-        );
-    }
-    Ok(())
-}
-
-#[test]
-fn sink_that_fails_once(rt: HostRuntime) -> Result<(), Fail> {
-    let mut shelf = LateShelf::new(SAMPLES, 1000);
-    let mut out = sink(rt.alloc(), &[0])?;
-    let first = run_again(&rt, &mut shelf, &mut out)?;
-    assert_eq!(rt; first, 4);
-    assert_eq!(rt; out.bytes().len(), 0);
-    let second = run_again(&rt, &mut shelf, &mut out)?;
-    assert_eq!(rt; second, 0);
-    assert_eq!(rt; out.bytes(), b"done: iteration 2\n".as_slice());
     Ok(())
 }
 

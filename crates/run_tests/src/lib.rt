@@ -10,11 +10,15 @@ mod cuts;
 #[cfg(test)]
 mod devices;
 #[cfg(test)]
+mod failing;
+#[cfg(test)]
 mod faults;
 #[cfg(test)]
 mod flats;
 #[cfg(test)]
 mod jobs;
+#[cfg(test)]
+mod makes;
 #[cfg(test)]
 mod parts;
 #[cfg(test)]

@@ -10,7 +10,7 @@ use std::alloc::Global;
 use std::test::Fail;
 
 /// Waves in a box of forty points, with two checkpoints.
-const BOX_FILE: &[u8] = b"!DESC \"Waves in a box of forty points\"\n\
+pub(crate) const BOX_FILE: &[u8] = b"!DESC \"Waves in a box of forty points\"\n\
     ActiveThorns = \"PUGH IOUtil\"\n\
     ActiveThorns = \"WaveInt DiffInt ElemCA Control\"\n\
     \n\
@@ -51,7 +51,7 @@ const BOX_REST: &[u8] = b"ActiveThorns = \"PUGH IOUtil\"\n\
     IO::checkpoint_every = 20\n\
     IO::checkpoint_keep = 2\n";
 
-const BOX_THORNS: &[File] = &[File {
+pub(crate) const BOX_THORNS: &[File] = &[File {
     name: b"ThornList",
     bytes: b"# thorns of the box\n\
         !TARGET = $ARR\n\
@@ -64,7 +64,7 @@ const BOX_THORNS: &[File] = &[File {
 }];
 
 /// Its output, 451 bytes.
-const BOX_OUTPUT: &[u8] = b"# wave::phi iteration 0 size 40\n\
+pub(crate) const BOX_OUTPUT: &[u8] = b"# wave::phi iteration 0 size 40\n\
     5 5 5 5 5 5 5 5 5 5 5 5 5 5 5 5 5 5 5 5 5 5 5 5 5 5 5 5 5 5 5 5 5 5 5 5 5 5 5 5\n\
     \n\
     # wave::total iteration 0 value 200\n\
@@ -303,57 +303,106 @@ fn box_that_stops_twice(rt: HostRuntime) -> Result<(), Fail> {
     Ok(())
 }
 
-const EACH: &[u8] = b"IO::checkpoint_every = 1\nIO::recover = \"autoprobe\"\n";
+pub(crate) const EACH: &[u8] = b"IO::checkpoint_every = 1\nIO::recover = \"autoprobe\"\n";
 
-/// The status of a run that stops behind so many calls of the disk, and what one comes to that is started on what a crash leaves.
-fn started_again(rt: &HostRuntime, calls: u64, choice: u64) -> Result<(u8, Outcome), Fail> {
-    let disk = empty_disk(rt.alloc());
-    let (stopped, mut disk) = run_stopped(rt, CA, EACH, disk, calls, choice)?;
+/// How many calls a run of the automaton makes on an empty disk, with a checkpoint in each iteration: 19 up to the first piece, three
+/// pieces, 11 for the first checkpoint, 14 for the second one, and the output's sync.
+const AUTOMATON_CALLS: u64 = 48;
+
+/// More calls than any run of it makes.
+const MANY_CALLS: u64 = 100;
+
+/// A disk with the files of another.
+fn same_disk(alloc: Global, disk: &MemoryDisk) -> Result<MemoryDisk, Fail> {
+    cut_disk(alloc, disk, 8, disk.bytes(8).len())
+}
+
+/// The status of a run of the automaton that stops behind so many calls of the disk, and the image of that choice.
+fn automaton_stopped(
+    rt: &HostRuntime,
+    disk: MemoryDisk,
+    calls: u64,
+) -> Result<(u8, MemoryDisk), Fail> {
+    run_stopped(rt, CA, EACH, disk, calls, calls)
+}
+
+/// The status of a run that stops behind so many calls, on the files of a disk, and what one comes to that is started on what it leaves.
+fn started_again(rt: &HostRuntime, left: &MemoryDisk, calls: u64) -> Result<(u8, Outcome), Fail> {
+    let disk = same_disk(rt.alloc(), left)?;
+    let (stopped, mut disk) = automaton_stopped(rt, disk, calls)?;
     let came = run_on(rt, CA, EACH, &[], &mut disk)?;
     Ok((stopped, came))
 }
 
-/// How many calls a run of the automaton makes, with a checkpoint in each iteration: 19 up to the first piece, three pieces, 11 for the
-/// first checkpoint, 14 for the second one, and the output's sync.
-const AUTOMATON_CALLS: u64 = 48;
+/// Whether a run of the automaton has come to its end, with its whole output.
+fn is_whole(came: &Outcome) -> bool {
+    came.status == 0
+        && came.printed.as_slice() == b"done: iteration 2\n".as_slice()
+        && came.output.as_slice() == CA_OUTPUT
+}
+
+/// How many calls a run makes on the files of a disk, where runs that stop at each of them are followed by one with the whole output.
+fn calls_from(rt: &HostRuntime, left: &MemoryDisk) -> Result<Option<u64>, Fail> {
+    for calls in 0..MANY_CALLS {
+        let (stopped, came) = started_again(rt, left, calls)?;
+        if !is_whole(&came) {
+            return Ok(None);
+        }
+        match stopped {
+            0 => return Ok(Some(calls)),
+            4 => {}
+            _ => return Ok(None),
+        }
+    }
+    Ok(None)
+}
+
+/// The status of a run on an empty disk that stops behind so many calls, and of how many calls one is that follows, as `calls_from` has it.
+fn stopped_twice(rt: &HostRuntime, calls: u64) -> Result<(u8, Option<u64>), Fail> {
+    let (stopped, left) = automaton_stopped(rt, empty_disk(rt.alloc()), calls)?;
+    Ok((stopped, calls_from(rt, &left)?))
+}
 
 #[test]
-fn automaton_that_stops_anywhere(rt: HostRuntime) -> Result<(), Fail> {
-    for calls in 0..AUTOMATON_CALLS {
-        let (stopped, came) = started_again(&rt, calls, calls % 3)?;
-        assert_eq!(rt; stopped, 4);
-        assert_eq!(rt; came.printed.as_slice(), b"done: iteration 2\n".as_slice());
-        assert_eq!(rt; came.output.as_slice(), CA_OUTPUT);
-    }
-    let (stopped, came) = started_again(&rt, AUTOMATON_CALLS, 0)?;
-    assert_eq!(rt; stopped, 0);
-    assert_eq!(rt; came.output.as_slice(), CA_OUTPUT);
+fn automaton_that_stops_once(rt: HostRuntime) -> Result<(), Fail> {
+    let calls = calls_from(&rt, &empty_disk(rt.alloc()))?;
+    assert!(rt; matches!(calls, Some(AUTOMATON_CALLS)));
     Ok(())
 }
 
-/// What a run of the automaton comes to behind two that have stopped.
-fn started_thrice(rt: &HostRuntime, first: u64, second: u64) -> Result<Outcome, Fail> {
-    let disk = empty_disk(rt.alloc());
-    let (_, disk) = run_stopped(rt, CA, EACH, disk, first, first % 3)?;
-    let (_, mut disk) = run_stopped(rt, CA, EACH, disk, second, second % 3)?;
-    run_on(rt, CA, EACH, &[], &mut disk)
+// Up to the first piece.
+#[test]
+fn automaton_that_stops_at_its_start_and_again(rt: HostRuntime) -> Result<(), Fail> {
+    for calls in 0..20 {
+        let (stopped, second) = stopped_twice(&rt, calls)?;
+        assert_eq!(rt; stopped, 4);
+        assert!(rt; second.is_some(), "behind {calls} calls");
+    }
+    Ok(())
 }
 
-// The body of the first checkpoint, and the closing and the gate of the second one.
-const FIRST_STOPS: &[u64] = &[27, 40, 44];
-
-// Looks at slots, syncs of slots, the cut of the output, and what follows.
-const SECOND_STOPS: &[u64] = &[0, 5, 11, 13, 15, 20, 21, 22, 23, 24, 26, 28, 31, 34];
-
+// Up to the second piece.
 #[test]
-fn automaton_that_stops_twice(rt: HostRuntime) -> Result<(), Fail> {
-    for first in FIRST_STOPS {
-        for second in SECOND_STOPS {
-            let came = started_thrice(&rt, *first, *second)?;
-            assert_eq!(rt; came.status, 0);
-            assert_eq!(rt; came.output.as_slice(), CA_OUTPUT);
-        }
+fn automaton_that_stops_at_its_first_checkpoint_and_again(rt: HostRuntime) -> Result<(), Fail> {
+    for calls in 20..32 {
+        let (stopped, second) = stopped_twice(&rt, calls)?;
+        assert_eq!(rt; stopped, 4);
+        assert!(rt; second.is_some(), "behind {calls} calls");
     }
+    Ok(())
+}
+
+// Up to its end.
+#[test]
+fn automaton_that_stops_at_its_second_checkpoint_and_again(rt: HostRuntime) -> Result<(), Fail> {
+    for calls in 32..AUTOMATON_CALLS {
+        let (stopped, second) = stopped_twice(&rt, calls)?;
+        assert_eq!(rt; stopped, 4);
+        assert!(rt; second.is_some(), "behind {calls} calls");
+    }
+    let (stopped, second) = stopped_twice(&rt, AUTOMATON_CALLS)?;
+    assert_eq!(rt; stopped, 0);
+    assert!(rt; second.is_some());
     Ok(())
 }
 

@@ -1,7 +1,7 @@
-//! Runs over wires that alter, note or fail, and turns that always pick alike.
+//! Runs over wires that alter or note, and turns that always pick alike.
 
 use crate::calls::{shelf_with, sink, texts};
-use crate::carriers::{altering, failing, noting};
+use crate::carriers::{altering, noting};
 use crate::devices::{FirstTurns, LastTurns};
 use crate::jobs::CA_OUTPUT;
 use crate::samples::CA;
@@ -68,35 +68,5 @@ fn picks_are_followed(rt: HostRuntime) -> Result<(), Fail> {
     assert!(rt; matches!(first, (true, Some(0))));
     let last = first_sender(&rt, &mut LastTurns)?;
     assert!(rt; matches!(last, (true, Some(1))));
-    Ok(())
-}
-
-/// What a run over a wire that fails in one call comes to, and what it prints.
-fn failed_at(rt: &HostRuntime, fail: u64) -> Result<(u8, Vec<u8>), Fail> {
-    let alloc = rt.alloc();
-    let words = texts(alloc, &[b"run", b"t.par"])?;
-    let mut shelf = shelf_with(alloc, CA, TWO_PARTS, &[])?;
-    let mut disk = MemoryDisk::new(alloc, List::empty(alloc));
-    let mut wire = failing(alloc, fail)?;
-    let mut turns = SeededTurns::new();
-    let mut out = sink(alloc, &[])?;
-    let mut meter = Meter::new(rt);
-    let status = answer(
-        alloc, &words, &mut shelf, &mut disk, &mut wire, &mut turns, &mut out, &mut meter,
-    )?;
-    Ok((status, out.bytes().to_vec(alloc)?))
-}
-
-// Two exchanges, in each of which both parts send and receive two messages.
-#[test]
-fn wire_that_fails_once(rt: HostRuntime) -> Result<(), Fail> {
-    for fail in 0..16 {
-        let (status, printed) = failed_at(&rt, fail)?;
-        assert_eq!(rt; status, 4);
-        assert_eq!(rt; printed.as_slice(), b"device: wire\n".as_slice());
-    }
-    let (status, printed) = failed_at(&rt, 16)?;
-    assert_eq!(rt; status, 0);
-    assert_eq!(rt; printed.as_slice(), b"done: iteration 2\n".as_slice());
     Ok(())
 }

@@ -1,0 +1,282 @@
+//! Each call of each device fails once, and what the next call over the same devices comes to.
+
+use crate::calls::{answer_to, shelf_with, sink, texts};
+use crate::carriers::{failing, wire};
+use crate::devices::{failing_disk, failing_shelf};
+use crate::jobs::CA_OUTPUT;
+use crate::samples::{CA, File};
+use crate::stops::{BOX_FILE, BOX_OUTPUT, BOX_THORNS, EACH};
+use cx_disk::{Disk, MemoryDisk};
+use cx_rule::Meter;
+use cx_run::{MemorySink, Shelf};
+use cx_samples::answer;
+use cx_text::{List, Text};
+use cx_turns::SeededTurns;
+use std::alloc::Global;
+use std::test::Fail;
+
+/// A job, with how many calls of the disk, the wire and the shelf its run from nothing makes; the sink is called once.
+struct Job {
+    file: &'static [u8],
+    more: &'static [u8],
+    others: &'static [File],
+    disk: u64,
+    wire: u64,
+    shelf: u64,
+    status: u8,
+    printed: &'static [u8],
+    output: &'static [u8],
+}
+
+/// The automaton with a checkpoint in each iteration, in one part and in two, and a run that ends earlier. The automaton exchanges twice,
+/// and each of its parts sends and receives two messages then. What is read are the parameter file, the list of thorns, and four files of
+/// a thorn.
+const JOBS: &[Job] = &[
+    Job {
+        file: CA,
+        more: EACH,
+        others: &[],
+        disk: 48,
+        wire: 8,
+        shelf: 6,
+        status: 0,
+        printed: b"done: iteration 2\n",
+        output: CA_OUTPUT,
+    },
+    Job {
+        file: CA,
+        more: b"driver::parts_x = 2\n\
+            IO::checkpoint_every = 1\n\
+            IO::recover = \"autoprobe\"\n",
+        others: &[],
+        disk: 48,
+        wire: 16,
+        shelf: 6,
+        status: 0,
+        printed: b"done: iteration 2\n",
+        output: CA_OUTPUT,
+    },
+    Job {
+        file: b"ActiveThorns = \"Control\"\n\
+            control::drop = 0\n\
+            IO::out_vars = \"control::count\"\n",
+        more: b"IO::recover = \"autoprobe\"\n",
+        others: &[],
+        disk: 21,
+        wire: 0,
+        shelf: 6,
+        status: 3,
+        printed: b"ended: WhileLimit 1 EVOL/control_spin\n",
+        output: b"# control::count iteration 0 value 3\n",
+    },
+];
+
+/// What two calls over the same devices come to, of which one fails once: their statuses, what each prints, and the output.
+#[derive(Drop)]
+struct Twice {
+    first: u8,
+    said: Vec<u8>,
+    second: u8,
+    printed: Vec<u8>,
+    output: Vec<u8>,
+}
+
+/// Runs `t.par` over these devices and a new wire.
+fn run_anew<H: Shelf, D: Disk>(
+    rt: &HostRuntime,
+    shelf: &mut H,
+    disk: &mut D,
+    out: &mut MemorySink,
+) -> Result<u8, Fail> {
+    let alloc = rt.alloc();
+    let words = texts(alloc, &[b"run", b"t.par"])?;
+    let mut wire = wire(alloc)?;
+    let mut turns = SeededTurns::new();
+    let mut meter = Meter::new(rt);
+    Ok(answer(
+        alloc, &words, shelf, disk, &mut wire, &mut turns, out, &mut meter,
+    )?)
+}
+
+/// Runs it over a wire that fails in one call.
+fn run_cut_off<H: Shelf, D: Disk>(
+    rt: &HostRuntime,
+    shelf: &mut H,
+    disk: &mut D,
+    out: &mut MemorySink,
+    fail: u64,
+) -> Result<u8, Fail> {
+    let alloc = rt.alloc();
+    let words = texts(alloc, &[b"run", b"t.par"])?;
+    let mut wire = failing(alloc, fail)?;
+    let mut turns = SeededTurns::new();
+    let mut meter = Meter::new(rt);
+    Ok(answer(
+        alloc, &words, shelf, disk, &mut wire, &mut turns, out, &mut meter,
+    )?)
+}
+
+/// Both calls, by the first one's status and text.
+fn both_calls(
+    alloc: Global,
+    first: u8,
+    said: Vec<u8>,
+    second: u8,
+    out: &MemorySink,
+    disk: &MemoryDisk,
+) -> Result<Twice, Fail> {
+    let printed = out.bytes().get(said.len()..).unwrap_or(&[]).to_vec(alloc)?;
+    Ok(Twice {
+        first,
+        said,
+        second,
+        printed,
+        output: disk.bytes(8).to_vec(alloc)?,
+    })
+}
+
+/// Over a disk that fails in one call.
+fn disk_fails(rt: &HostRuntime, job: &Job, fail: u64) -> Result<Twice, Fail> {
+    let alloc = rt.alloc();
+    let mut shelf = shelf_with(alloc, job.file, job.more, job.others)?;
+    let mut disk = failing_disk(alloc, fail)?;
+    let mut out = sink(alloc, &[])?;
+    let first = run_anew(rt, &mut shelf, &mut disk, &mut out)?;
+    let said = out.bytes().to_vec(alloc)?;
+    let second = run_anew(rt, &mut shelf, &mut disk, &mut out)?;
+    both_calls(alloc, first, said, second, &out, &disk.into_inner())
+}
+
+/// Over a wire that fails in one call, and then a new one.
+fn wire_fails(rt: &HostRuntime, job: &Job, fail: u64) -> Result<Twice, Fail> {
+    let alloc = rt.alloc();
+    let mut shelf = shelf_with(alloc, job.file, job.more, job.others)?;
+    let mut disk = MemoryDisk::new(alloc, List::empty(alloc));
+    let mut out = sink(alloc, &[])?;
+    let first = run_cut_off(rt, &mut shelf, &mut disk, &mut out, fail)?;
+    let said = out.bytes().to_vec(alloc)?;
+    let second = run_anew(rt, &mut shelf, &mut disk, &mut out)?;
+    both_calls(alloc, first, said, second, &out, &disk)
+}
+
+/// Over a shelf that fails in one reading.
+fn shelf_fails(rt: &HostRuntime, job: &Job, fail: u64) -> Result<Twice, Fail> {
+    let alloc = rt.alloc();
+    let files = shelf_with(alloc, job.file, job.more, job.others)?;
+    let mut shelf = failing_shelf(alloc, files, fail)?;
+    let mut disk = MemoryDisk::new(alloc, List::empty(alloc));
+    let mut out = sink(alloc, &[])?;
+    let first = run_anew(rt, &mut shelf, &mut disk, &mut out)?;
+    let said = out.bytes().to_vec(alloc)?;
+    let second = run_anew(rt, &mut shelf, &mut disk, &mut out)?;
+    both_calls(alloc, first, said, second, &out, &disk)
+}
+
+/// Over a sink that fails in one call.
+fn sink_fails(rt: &HostRuntime, job: &Job, fail: u64) -> Result<Twice, Fail> {
+    let alloc = rt.alloc();
+    let mut shelf = shelf_with(alloc, job.file, job.more, job.others)?;
+    let mut disk = MemoryDisk::new(alloc, List::empty(alloc));
+    let mut out = sink(alloc, &[fail])?;
+    let first = run_anew(rt, &mut shelf, &mut disk, &mut out)?;
+    let said = out.bytes().to_vec(alloc)?;
+    let second = run_anew(rt, &mut shelf, &mut disk, &mut out)?;
+    both_calls(alloc, first, said, second, &out, &disk)
+}
+
+/// Whether the first call failed by the device of that text, or in silence, and the second one came to what the job's run comes to.
+fn is_whole(came: &Twice, said: &[u8], job: &Job) -> bool {
+    came.first == 4
+        && came.said.as_slice() == said
+        && came.second == job.status
+        && came.printed.as_slice() == job.printed
+        && came.output.as_slice() == job.output
+}
+
+#[test]
+fn disk_that_fails_once(rt: HostRuntime) -> Result<(), Fail> {
+    for job in JOBS {
+        for fail in 0..job.disk {
+            let came = disk_fails(&rt, job, fail)?;
+            assert!(rt; is_whole(&came, b"device: disk\n", job), "call {fail}");
+        }
+        let came = disk_fails(&rt, job, job.disk)?;
+        assert_eq!(rt; came.first, job.status);
+    }
+    Ok(())
+}
+
+#[test]
+fn wire_that_fails_once(rt: HostRuntime) -> Result<(), Fail> {
+    for job in JOBS {
+        for fail in 0..job.wire {
+            let came = wire_fails(&rt, job, fail)?;
+            assert!(rt; is_whole(&came, b"device: wire\n", job), "call {fail}");
+        }
+        let came = wire_fails(&rt, job, job.wire)?;
+        assert_eq!(rt; came.first, job.status);
+    }
+    Ok(())
+}
+
+#[test]
+fn shelf_that_fails_once(rt: HostRuntime) -> Result<(), Fail> {
+    for job in JOBS {
+        for fail in 0..job.shelf {
+            let came = shelf_fails(&rt, job, fail)?;
+            assert!(rt; is_whole(&came, b"device: shelf\n", job), "call {fail}");
+        }
+        let came = shelf_fails(&rt, job, job.shelf)?;
+        assert_eq!(rt; came.first, job.status);
+    }
+    Ok(())
+}
+
+#[test]
+fn sink_that_fails_once(rt: HostRuntime) -> Result<(), Fail> {
+    for job in JOBS {
+        let came = sink_fails(&rt, job, 0)?;
+        assert!(rt; is_whole(&came, b"", job));
+        let came = sink_fails(&rt, job, 1)?;
+        assert_eq!(rt; came.first, job.status);
+    }
+    Ok(())
+}
+
+/// The box with checkpoints of iterations 20 and 40. Its disk's first sync comes behind the mount and a look at each slot, and the list of
+/// thorns is its second file.
+const BOX_JOBS: &[Job] = &[Job {
+    file: BOX_FILE,
+    more: b"",
+    others: BOX_THORNS,
+    disk: 9,
+    wire: 0,
+    shelf: 1,
+    status: 0,
+    printed: b"done: iteration 40\n",
+    output: BOX_OUTPUT,
+}];
+
+#[test]
+fn box_whose_devices_fail(rt: HostRuntime) -> Result<(), Fail> {
+    for job in BOX_JOBS {
+        let came = disk_fails(&rt, job, job.disk)?;
+        assert!(rt; is_whole(&came, b"device: disk\n", job));
+        let came = wire_fails(&rt, job, job.wire)?;
+        assert!(rt; is_whole(&came, b"device: wire\n", job));
+        let came = shelf_fails(&rt, job, job.shelf)?;
+        assert!(rt; is_whole(&came, b"device: shelf\n", job));
+    }
+    Ok(())
+}
+
+// What is within a shelf that would fail doesn't.
+#[test]
+fn shelf_that_is_given_back(rt: HostRuntime) -> Result<(), Fail> {
+    let alloc = rt.alloc();
+    let files = shelf_with(alloc, CA, EACH, &[])?;
+    let mut within = failing_shelf(alloc, files, 0)?.into_inner();
+    let came = answer_to(&rt, &[b"run", b"t.par"], &mut within)?;
+    assert_eq!(rt; came.status, 0);
+    Ok(())
+}
