@@ -1,5 +1,5 @@
 -- Disks in memory for tests, which fail at some calls.
-use Rattle.std.specs.Prelude.{ℕ, ◌+◌, ◌-◌, ◌^◌, ◌≡◌, ◌≢◌, ◌<◌, ◌⊎◌, min, Result, Err}
+use Rattle.std.specs.Prelude.{ℕ, ◌+◌, ◌-◌, ◌^◌, ◌≡◌, ◌<◌, ◌⊎◌, min, Result, Err}
 use Rattle.cx_disk.specs.Memory.{History, noted}
 use Rattle.cx_disk.specs.declared.disk.DiskFault.{DiskFault}
 use Rattle.cx_disk.specs.declared.disk.DiskFault.TheVariants.{Failed, Memory}
@@ -28,9 +28,9 @@ pub record Fuse : Type 0 where
   pub calls : ℕ
   pub faults : ℕ
 
--- While calls are left, the disk within does this one, which never fails, and one fewer is left. Then each fails so, and is counted.
-pub record Burns {T : Type 0} (stop : History → History → Result T DiskFault → Type 0) (old new : Fuse) (result : Result T DiskFault) : Type 0 where
+-- While calls are left, the disk within does this one, and one fewer is left. Then each fails so, and is counted.
+pub record Burns {T : Type 0} (does stop : History → History → Result T DiskFault → Type 0) (old new : Fuse) (result : Result T DiskFault) : Type 0 where
   pub passes : 0 < old.calls
-      → (result ≢ Err Failed) × (new ≡ record old { disk = new.disk; calls = old.calls - 1 })
+      → does old.disk new.disk result × (new ≡ record old { disk = new.disk; calls = old.calls - 1 })
   pub fails : old.calls ≡ 0
       → stop old.disk new.disk result × (new ≡ record old { disk = new.disk; faults = next_count old.faults })

@@ -1,6 +1,8 @@
 -- A disk in memory, which notes each change, so that what a crash may leave at each moment can be told.
-use Rattle.std.specs.Prelude.{ℕ, ◌+◌, ◌≤◌, ◌≡◌, nat_eq, List, [], ◌∷◌, ◌++◌, length, take, drop, slice_index_or, if◌then◌else◌, Bool, true, false}
+use Rattle.std.specs.Prelude.{ℕ, ◌+◌, ◌≤◌, ◌≡◌, nat_eq, List, [], ◌∷◌, ◌++◌, length, take, drop, slice_index_or, if◌then◌else◌, Bool, true, false, Result, Ok, Err}
 use Rattle.cx_disk.specs.Disk.{Folders, no_folders, Files, SameFiles, Changes, Torn, CutShort, View}
+use Rattle.cx_disk.specs.declared.disk.DiskFault.{DiskFault}
+use Rattle.cx_disk.specs.declared.disk.DiskFault.TheVariants.{Memory}
 use Rattle.cx_disk.specs.declared.note.Change.{Change}
 use Rattle.cx_disk.specs.declared.note.Change.TheVariants.{Wrote, Cut, Synced, StoppedWrite, StoppedCut}
 use Rattle.cx_disk.specs.declared.note.Note.{Note}
@@ -20,12 +22,42 @@ fresh files = record { mounted = false; folders = no_folders; first = files; not
 abbrev pub noted : History → Note → History
 noted disk note = record disk { notes = disk.notes ++ note ∷ [] }
 
+-- A write, a cut and a sync, done whole.
+abbrev pub whole_write : ℕ → ℕ → List ℕ → Note
+whole_write file at bytes = record { file = file; change = Wrote at bytes }
+
+abbrev pub whole_cut : ℕ → ℕ → Note
+whole_cut file to = record { file = file; change = Cut to }
+
+abbrev pub synced : ℕ → Note
+synced file = record { file = file; change = Synced }
+
 -- A write and a cut that were stopped.
 abbrev pub stopped_write : ℕ → ℕ → List ℕ → Note
 stopped_write file at bytes = record { file = file; change = StoppedWrite at bytes }
 
 abbrev pub stopped_cut : ℕ → ℕ → Note
 stopped_cut file to = record { file = file; change = StoppedCut to }
+
+-- ---- what calls do
+
+-- A call that changes a file is noted, and nothing else. Where memory is wanting for that, nothing has changed.
+abbrev pub Notes : {T : Type 0} → Note → History → History → Result T DiskFault → Type 0
+Notes note old new (Ok _) = new ≡ noted old note
+Notes note old new (Err fault) = (fault ≡ Memory) × (new ≡ old)
+
+-- A call that looks changes nothing, and never fails.
+abbrev pub Looks : {T : Type 0} → History → History → Result T DiskFault → Type 0
+Looks old new (Ok _) = new ≡ old
+Looks old new (Err fault) = ⊥
+
+-- A mount names the folders. Where memory is wanting for their names, nothing has changed.
+abbrev pub Mounts : {T : Type 0} → List ℕ → List ℕ → History → History → Result T DiskFault → Type 0
+Mounts output checkpoints old new (Ok _) =
+    new ≡ record old { mounted = true; folders = record { output = output; checkpoints = checkpoints } }
+Mounts output checkpoints old new (Err fault) = (fault ≡ Memory) × (new ≡ old)
+
+-- ---- files
 
 -- A file of a list of files. One that isn't there is empty.
 abbrev pub file_of : List (List ℕ) → Files

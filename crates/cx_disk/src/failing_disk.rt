@@ -4,7 +4,7 @@ ghost use Rattle.cx_disk.specs.Cause.{Rose, HasCause};
 ghost use Rattle.cx_disk.specs.Disk.{IsNamed, SameFiles, OthersSame, Changes, Holds, Torn, Front, CutShort, Passes, IsSettled};
 ghost use Rattle.cx_disk.specs.Failing.{failing_disk, FailsNext, FailsAt, called, failed};
 ghost use Rattle.cx_disk.specs.Fuse.{Fails, Stops};
-ghost use Rattle.cx_disk.specs.Memory.{stopped_write, stopped_cut, view_of};
+ghost use Rattle.cx_disk.specs.Memory.{whole_write, whole_cut, synced, stopped_write, stopped_cut, view_of, Notes, Looks, Mounts};
 ghost use Rattle.cx_disk.specs.MemoryLaws.{sound_of};
 
 use crate::{Disk, DiskFault, MemoryDisk};
@@ -87,7 +87,8 @@ impl Disk for FailingDisk {
     ghost sound = { λ f _. sound_of f.disk };
 
     fn mount(&mut self, output: &Text, checkpoints: &Text) -> Result<(), DiskFault>
-        ensures fails { FailsAt Fails self.old self.new result }
+        ensures fails { FailsAt (Mounts output.now checkpoints.now) Fails
+            self.old self.new result }
         ensures mounted { OnOk result (IsTrue self.new.disk.mounted) }
         ensures stays { IsTrue self.old.disk.mounted → IsTrue self.new.disk.mounted }
         ensures named { OnOk result (IsNamed output.now checkpoints.now self.new.disk.folders) }
@@ -105,8 +106,9 @@ impl Disk for FailingDisk {
     fn length(&mut self, file: u32) -> Result<u64, DiskFault>
         requires mounted { IsTrue self.old.disk.mounted }
         requires file { file < 9 }
-        ensures fails { FailsAt Fails self.old self.new result }
-        ensures length { IfOk result (λ count. count ≡ length ((view_of self.old.disk).seen file)) }
+        ensures fails { FailsAt Looks Fails self.old self.new result }
+        ensures length { IfOk result
+            (λ count. count ≡ length ((view_of self.old.disk).seen file)) }
         ensures mounted { IsTrue self.new.disk.mounted }
         ensures folders { self.new.disk.folders ≡ self.old.disk.folders }
         ensures same { SameFiles (view_of self.old.disk).seen (view_of self.new.disk).seen }
@@ -124,9 +126,9 @@ impl Disk for FailingDisk {
         requires mounted { IsTrue self.old.disk.mounted }
         requires file { file < 9 }
         requires range { at + length into.old ≤ length ((view_of self.old.disk).seen file) }
-        ensures fails { FailsAt Fails self.old self.new result }
-        ensures read { OnOk result
-            (into.new ≡ slice_range ((view_of self.old.disk).seen file) at (at + length into.old)) }
+        ensures fails { FailsAt Looks Fails self.old self.new result }
+        ensures read { OnOk result (into.new
+            ≡ slice_range ((view_of self.old.disk).seen file) at (at + length into.old)) }
         ensures mounted { IsTrue self.new.disk.mounted }
         ensures folders { self.new.disk.folders ≡ self.old.disk.folders }
         ensures same { SameFiles (view_of self.old.disk).seen (view_of self.new.disk).seen }
@@ -144,15 +146,17 @@ impl Disk for FailingDisk {
         requires mounted { IsTrue self.old.disk.mounted }
         requires file { file < 9 }
         requires start { at ≤ length ((view_of self.old.disk).seen file) }
-        ensures fails { FailsAt (Stops (stopped_write file at bytes.now)) self.old self.new result }
-        ensures written { OnOk result
-            (Holds at bytes.now ((view_of self.old.disk).seen file) ((view_of self.new.disk).seen file)) }
-        ensures stopped { OnErr result
-            (Torn at (length bytes.now) ((view_of self.old.disk).seen file) ((view_of self.new.disk).seen file)) }
+        ensures fails { FailsAt (Notes (whole_write file at bytes.now))
+            (Stops (stopped_write file at bytes.now)) self.old self.new result }
+        ensures written { OnOk result (Holds at bytes.now
+            ((view_of self.old.disk).seen file) ((view_of self.new.disk).seen file)) }
+        ensures stopped { OnErr result (Torn at (length bytes.now)
+            ((view_of self.old.disk).seen file) ((view_of self.new.disk).seen file)) }
         ensures others { OthersSame file (view_of self.old.disk).seen (view_of self.new.disk).seen }
         ensures mounted { IsTrue self.new.disk.mounted }
         ensures folders { self.new.disk.folders ≡ self.old.disk.folders }
-        ensures after { Passes (Changes (Torn at (length bytes.now)) file) (view_of self.old.disk) (view_of self.new.disk) }
+        ensures after { Passes (Changes (Torn at (length bytes.now)) file)
+            (view_of self.old.disk) (view_of self.new.disk) }
         ensures cause { HasCause DiskFault.Failed self.old.faults self.new.faults result }
     {
         if self.fails() {
@@ -166,13 +170,17 @@ impl Disk for FailingDisk {
         requires mounted { IsTrue self.old.disk.mounted }
         requires file { file < 9 }
         requires within { to ≤ length ((view_of self.old.disk).seen file) }
-        ensures fails { FailsAt (Stops (stopped_cut file to)) self.old self.new result }
-        ensures cut { OnOk result (Front to ((view_of self.old.disk).seen file) ((view_of self.new.disk).seen file)) }
-        ensures stopped { OnErr result (CutShort to ((view_of self.old.disk).seen file) ((view_of self.new.disk).seen file)) }
+        ensures fails { FailsAt (Notes (whole_cut file to)) (Stops (stopped_cut file to))
+            self.old self.new result }
+        ensures cut { OnOk result (Front to
+            ((view_of self.old.disk).seen file) ((view_of self.new.disk).seen file)) }
+        ensures stopped { OnErr result (CutShort to
+            ((view_of self.old.disk).seen file) ((view_of self.new.disk).seen file)) }
         ensures others { OthersSame file (view_of self.old.disk).seen (view_of self.new.disk).seen }
         ensures mounted { IsTrue self.new.disk.mounted }
         ensures folders { self.new.disk.folders ≡ self.old.disk.folders }
-        ensures after { Passes (Changes (CutShort to) file) (view_of self.old.disk) (view_of self.new.disk) }
+        ensures after { Passes (Changes (CutShort to) file)
+            (view_of self.old.disk) (view_of self.new.disk) }
         ensures cause { HasCause DiskFault.Failed self.old.faults self.new.faults result }
     {
         if self.fails() {
@@ -185,7 +193,7 @@ impl Disk for FailingDisk {
     fn sync(&mut self, file: u32) -> Result<(), DiskFault>
         requires mounted { IsTrue self.old.disk.mounted }
         requires file { file < 9 }
-        ensures fails { FailsAt Fails self.old self.new result }
+        ensures fails { FailsAt (Notes (synced file)) Fails self.old self.new result }
         ensures settled { OnOk result (IsSettled (view_of self.new.disk) file) }
         ensures mounted { IsTrue self.new.disk.mounted }
         ensures folders { self.new.disk.folders ≡ self.old.disk.folders }

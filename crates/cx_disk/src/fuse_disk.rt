@@ -4,7 +4,7 @@ ghost use Rattle.cx_disk.specs.Cause.{Rose, HasCause};
 ghost use Rattle.cx_disk.specs.Disk.{IsNamed, SameFiles, OthersSame, Changes, Holds, Torn, Front, CutShort, Passes, IsSettled};
 ghost use Rattle.cx_disk.specs.Fuse.{next_count, Fails, Stops, Burns};
 ghost use Rattle.cx_disk.specs.Image.{IsImageOf, IsChosenOf};
-ghost use Rattle.cx_disk.specs.Memory.{stopped_write, stopped_cut, view_of};
+ghost use Rattle.cx_disk.specs.Memory.{whole_write, whole_cut, synced, stopped_write, stopped_cut, view_of, Notes, Looks, Mounts};
 ghost use Rattle.cx_disk.specs.MemoryLaws.{sound_of};
 
 use crate::{Disk, DiskFault, MemoryDisk};
@@ -89,7 +89,8 @@ impl Disk for FuseDisk {
     ghost sound = { λ fuse _. sound_of fuse.disk };
 
     fn mount(&mut self, output: &Text, checkpoints: &Text) -> Result<(), DiskFault>
-        ensures burns { Burns Fails self.old self.new result }
+        ensures burns { Burns (Mounts output.now checkpoints.now) Fails
+            self.old self.new result }
         ensures mounted { OnOk result (IsTrue self.new.disk.mounted) }
         ensures stays { IsTrue self.old.disk.mounted → IsTrue self.new.disk.mounted }
         ensures named { OnOk result (IsNamed output.now checkpoints.now self.new.disk.folders) }
@@ -107,8 +108,9 @@ impl Disk for FuseDisk {
     fn length(&mut self, file: u32) -> Result<u64, DiskFault>
         requires mounted { IsTrue self.old.disk.mounted }
         requires file { file < 9 }
-        ensures burns { Burns Fails self.old self.new result }
-        ensures length { IfOk result (λ count. count ≡ length ((view_of self.old.disk).seen file)) }
+        ensures burns { Burns Looks Fails self.old self.new result }
+        ensures length { IfOk result
+            (λ count. count ≡ length ((view_of self.old.disk).seen file)) }
         ensures mounted { IsTrue self.new.disk.mounted }
         ensures folders { self.new.disk.folders ≡ self.old.disk.folders }
         ensures same { SameFiles (view_of self.old.disk).seen (view_of self.new.disk).seen }
@@ -126,9 +128,9 @@ impl Disk for FuseDisk {
         requires mounted { IsTrue self.old.disk.mounted }
         requires file { file < 9 }
         requires range { at + length into.old ≤ length ((view_of self.old.disk).seen file) }
-        ensures burns { Burns Fails self.old self.new result }
-        ensures read { OnOk result
-            (into.new ≡ slice_range ((view_of self.old.disk).seen file) at (at + length into.old)) }
+        ensures burns { Burns Looks Fails self.old self.new result }
+        ensures read { OnOk result (into.new
+            ≡ slice_range ((view_of self.old.disk).seen file) at (at + length into.old)) }
         ensures mounted { IsTrue self.new.disk.mounted }
         ensures folders { self.new.disk.folders ≡ self.old.disk.folders }
         ensures same { SameFiles (view_of self.old.disk).seen (view_of self.new.disk).seen }
@@ -146,15 +148,17 @@ impl Disk for FuseDisk {
         requires mounted { IsTrue self.old.disk.mounted }
         requires file { file < 9 }
         requires start { at ≤ length ((view_of self.old.disk).seen file) }
-        ensures burns { Burns (Stops (stopped_write file at bytes.now)) self.old self.new result }
-        ensures written { OnOk result
-            (Holds at bytes.now ((view_of self.old.disk).seen file) ((view_of self.new.disk).seen file)) }
-        ensures stopped { OnErr result
-            (Torn at (length bytes.now) ((view_of self.old.disk).seen file) ((view_of self.new.disk).seen file)) }
+        ensures burns { Burns (Notes (whole_write file at bytes.now))
+            (Stops (stopped_write file at bytes.now)) self.old self.new result }
+        ensures written { OnOk result (Holds at bytes.now
+            ((view_of self.old.disk).seen file) ((view_of self.new.disk).seen file)) }
+        ensures stopped { OnErr result (Torn at (length bytes.now)
+            ((view_of self.old.disk).seen file) ((view_of self.new.disk).seen file)) }
         ensures others { OthersSame file (view_of self.old.disk).seen (view_of self.new.disk).seen }
         ensures mounted { IsTrue self.new.disk.mounted }
         ensures folders { self.new.disk.folders ≡ self.old.disk.folders }
-        ensures after { Passes (Changes (Torn at (length bytes.now)) file) (view_of self.old.disk) (view_of self.new.disk) }
+        ensures after { Passes (Changes (Torn at (length bytes.now)) file)
+            (view_of self.old.disk) (view_of self.new.disk) }
         ensures cause { HasCause DiskFault.Failed self.old.faults self.new.faults result }
     {
         if !passes(&mut self.calls, &mut self.faults) {
@@ -168,13 +172,17 @@ impl Disk for FuseDisk {
         requires mounted { IsTrue self.old.disk.mounted }
         requires file { file < 9 }
         requires within { to ≤ length ((view_of self.old.disk).seen file) }
-        ensures burns { Burns (Stops (stopped_cut file to)) self.old self.new result }
-        ensures cut { OnOk result (Front to ((view_of self.old.disk).seen file) ((view_of self.new.disk).seen file)) }
-        ensures stopped { OnErr result (CutShort to ((view_of self.old.disk).seen file) ((view_of self.new.disk).seen file)) }
+        ensures burns { Burns (Notes (whole_cut file to)) (Stops (stopped_cut file to))
+            self.old self.new result }
+        ensures cut { OnOk result (Front to
+            ((view_of self.old.disk).seen file) ((view_of self.new.disk).seen file)) }
+        ensures stopped { OnErr result (CutShort to
+            ((view_of self.old.disk).seen file) ((view_of self.new.disk).seen file)) }
         ensures others { OthersSame file (view_of self.old.disk).seen (view_of self.new.disk).seen }
         ensures mounted { IsTrue self.new.disk.mounted }
         ensures folders { self.new.disk.folders ≡ self.old.disk.folders }
-        ensures after { Passes (Changes (CutShort to) file) (view_of self.old.disk) (view_of self.new.disk) }
+        ensures after { Passes (Changes (CutShort to) file)
+            (view_of self.old.disk) (view_of self.new.disk) }
         ensures cause { HasCause DiskFault.Failed self.old.faults self.new.faults result }
     {
         if !passes(&mut self.calls, &mut self.faults) {
@@ -187,7 +195,7 @@ impl Disk for FuseDisk {
     fn sync(&mut self, file: u32) -> Result<(), DiskFault>
         requires mounted { IsTrue self.old.disk.mounted }
         requires file { file < 9 }
-        ensures burns { Burns Fails self.old self.new result }
+        ensures burns { Burns (Notes (synced file)) Fails self.old self.new result }
         ensures settled { OnOk result (IsSettled (view_of self.new.disk) file) }
         ensures mounted { IsTrue self.new.disk.mounted }
         ensures folders { self.new.disk.folders ≡ self.old.disk.folders }

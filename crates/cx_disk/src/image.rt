@@ -271,7 +271,8 @@ fn follow(
     seed: u64,
 ) -> Result<(), AllocError>
     ensures { OnOk result
-        (FollowsIn choice note.now files.old.items image.old.items files.new.items image.new.items) }
+        (FollowsIn choice note.now files.old.items image.old.items
+        files.new.items image.new.items) }
 {
     redo(alloc, files, note)?;
     if is_sync(&note.change) {

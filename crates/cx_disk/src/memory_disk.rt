@@ -1,8 +1,9 @@
 //! A disk in memory.
-ghost use Rattle.std.specs.Prelude.{◌≡◌, ◌≤◌, ◌<◌, ◌+◌, ◌++◌, ℕ, length, take, drop, vec_len, IsTrue, OnOk, OnErr, IfOk, true, false};
-ghost use Rattle.cx_disk.specs.Disk.{Files, SameFiles};
+ghost use Rattle.std.specs.Prelude.{◌≡◌, ◌≤◌, ◌<◌, ◌+◌, ◌++◌, ℕ, length, take, drop, slice_range, vec_len, IsTrue, OnOk, OnErr, IfOk, IfErr, true, false};
+ghost use Rattle.cx_disk.specs.Cause.{HasCause};
+ghost use Rattle.cx_disk.specs.Disk.{Files, IsNamed, SameFiles, OthersSame, Changes, Holds, Torn, Front, CutShort, Passes, IsSettled};
 ghost use Rattle.cx_disk.specs.Image.{IsImageOf, IsChosenOf};
-ghost use Rattle.cx_disk.specs.Memory.{fresh, noted, stopped_write, stopped_cut, file_of, changed, view_of};
+ghost use Rattle.cx_disk.specs.Memory.{fresh, noted, whole_write, whole_cut, synced, stopped_write, stopped_cut, file_of, changed, view_of, Notes, Looks, Mounts};
 ghost use Rattle.cx_disk.specs.MemoryLaws.{sound_of};
 
 use crate::image::{image_of, written};
@@ -186,7 +187,16 @@ impl Disk for MemoryDisk {
 
     ghost sound = { λ disk _. sound_of disk };
 
-    fn mount(&mut self, output: &Text, checkpoints: &Text) -> Result<(), DiskFault> {
+    fn mount(&mut self, output: &Text, checkpoints: &Text) -> Result<(), DiskFault>
+        ensures does { Mounts output.now checkpoints.now self.old self.new result }
+        ensures mounted { OnOk result (IsTrue self.new.mounted) }
+        ensures stays { IsTrue self.old.mounted → IsTrue self.new.mounted }
+        ensures named { OnOk result (IsNamed output.now checkpoints.now self.new.folders) }
+        ensures unnamed { OnErr result (self.new.folders ≡ self.old.folders) }
+        ensures same { SameFiles (view_of self.old).seen (view_of self.new).seen }
+        ensures after { Passes SameFiles (view_of self.old) (view_of self.new) }
+        ensures cause { HasCause DiskFault.Failed 0 0 result }
+    {
         let output = Text::new(output.as_slice().to_vec(self.alloc)?);
         let checkpoints = Text::new(checkpoints.as_slice().to_vec(self.alloc)?);
         self.keep_files()?;
@@ -195,31 +205,96 @@ impl Disk for MemoryDisk {
         Ok(())
     }
 
-    fn length(&mut self, file: u32) -> Result<u64, DiskFault> {
+    fn length(&mut self, file: u32) -> Result<u64, DiskFault>
+        requires mounted { IsTrue self.old.mounted }
+        requires file { file < 9 }
+        ensures does { Looks self.old self.new result }
+        ensures length { IfOk result
+            (λ count. count ≡ length ((view_of self.old).seen file)) }
+        ensures mounted { IsTrue self.new.mounted }
+        ensures folders { self.new.folders ≡ self.old.folders }
+        ensures same { SameFiles (view_of self.old).seen (view_of self.new).seen }
+        ensures after { Passes SameFiles (view_of self.old) (view_of self.new) }
+        ensures cause { HasCause DiskFault.Failed 0 0 result }
+        ensures takes_no_memory { IfErr result (λ fault. fault ≡ DiskFault.Failed) }
+    {
         Ok(self.bytes(file as usize).len() as u64)
     }
 
-    fn read(&mut self, file: u32, at: u64, into: &mut [u8]) -> Result<(), DiskFault> {
+    fn read(&mut self, file: u32, at: u64, into: &mut [u8]) -> Result<(), DiskFault>
+        requires mounted { IsTrue self.old.mounted }
+        requires file { file < 9 }
+        requires range { at + length into.old ≤ length ((view_of self.old).seen file) }
+        ensures does { Looks self.old self.new result }
+        ensures read { OnOk result (into.new
+            ≡ slice_range ((view_of self.old).seen file) at (at + length into.old)) }
+        ensures mounted { IsTrue self.new.mounted }
+        ensures folders { self.new.folders ≡ self.old.folders }
+        ensures same { SameFiles (view_of self.old).seen (view_of self.new).seen }
+        ensures after { Passes SameFiles (view_of self.old) (view_of self.new) }
+        ensures cause { HasCause DiskFault.Failed 0 0 result }
+        ensures takes_no_memory { IfErr result (λ fault. fault ≡ DiskFault.Failed) }
+    {
         let bytes = self.bytes(file as usize);
         let at = at as usize;
         into.copy_from_slice(&bytes[at..at + into.len()]);
         Ok(())
     }
 
-    fn write_at(&mut self, file: u32, at: u64, bytes: &[u8]) -> Result<(), DiskFault> {
+    fn write_at(&mut self, file: u32, at: u64, bytes: &[u8]) -> Result<(), DiskFault>
+        requires mounted { IsTrue self.old.mounted }
+        requires file { file < 9 }
+        requires start { at ≤ length ((view_of self.old).seen file) }
+        ensures does { Notes (whole_write file at bytes.now) self.old self.new result }
+        ensures written { OnOk result (Holds at bytes.now
+            ((view_of self.old).seen file) ((view_of self.new).seen file)) }
+        ensures stopped { OnErr result (Torn at (length bytes.now)
+            ((view_of self.old).seen file) ((view_of self.new).seen file)) }
+        ensures others { OthersSame file (view_of self.old).seen (view_of self.new).seen }
+        ensures mounted { IsTrue self.new.mounted }
+        ensures folders { self.new.folders ≡ self.old.folders }
+        ensures after { Passes (Changes (Torn at (length bytes.now)) file)
+            (view_of self.old) (view_of self.new) }
+        ensures cause { HasCause DiskFault.Failed 0 0 result }
+    {
         let next = written(self.alloc, self.bytes(file as usize), at, bytes)?;
         let bytes = Text::new(bytes.to_vec(self.alloc)?);
         let change = Change::Wrote { at, bytes };
         Ok(self.change(Note { file, change }, next)?)
     }
 
-    fn cut(&mut self, file: u32, to: u64) -> Result<(), DiskFault> {
+    fn cut(&mut self, file: u32, to: u64) -> Result<(), DiskFault>
+        requires mounted { IsTrue self.old.mounted }
+        requires file { file < 9 }
+        requires within { to ≤ length ((view_of self.old).seen file) }
+        ensures does { Notes (whole_cut file to) self.old self.new result }
+        ensures cut { OnOk result (Front to
+            ((view_of self.old).seen file) ((view_of self.new).seen file)) }
+        ensures stopped { OnErr result (CutShort to
+            ((view_of self.old).seen file) ((view_of self.new).seen file)) }
+        ensures others { OthersSame file (view_of self.old).seen (view_of self.new).seen }
+        ensures mounted { IsTrue self.new.mounted }
+        ensures folders { self.new.folders ≡ self.old.folders }
+        ensures after { Passes (Changes (CutShort to) file)
+            (view_of self.old) (view_of self.new) }
+        ensures cause { HasCause DiskFault.Failed 0 0 result }
+    {
         let next = self.bytes(file as usize)[..to as usize].to_vec(self.alloc)?;
         let change = Change::Cut { to };
         Ok(self.change(Note { file, change }, next)?)
     }
 
-    fn sync(&mut self, file: u32) -> Result<(), DiskFault> {
+    fn sync(&mut self, file: u32) -> Result<(), DiskFault>
+        requires mounted { IsTrue self.old.mounted }
+        requires file { file < 9 }
+        ensures does { Notes (synced file) self.old self.new result }
+        ensures settled { OnOk result (IsSettled (view_of self.new) file) }
+        ensures mounted { IsTrue self.new.mounted }
+        ensures folders { self.new.folders ≡ self.old.folders }
+        ensures same { SameFiles (view_of self.old).seen (view_of self.new).seen }
+        ensures after { Passes SameFiles (view_of self.old) (view_of self.new) }
+        ensures cause { HasCause DiskFault.Failed 0 0 result }
+    {
         let next = self.bytes(file as usize).to_vec(self.alloc)?;
         let change = Change::Synced;
         Ok(self.change(Note { file, change }, next)?)

@@ -78,7 +78,8 @@ pub fn sound_needs_only_told(job: &Job)
 /// that no write has set since its flag was last cleared, whatever the routines compute. That these flags tell what a step
 /// uses is `steps_agree`. It does nothing; its clause is the law.
 pub fn sound_uses_only_set(job: &Job)
-    ensures { (rules : List Rule) → Sound (setup_of job.now) → UsesOnlySet (setup_of job.now) rules }
+    ensures { (rules : List Rule) → Sound (setup_of job.now)
+        → UsesOnlySet (setup_of job.now) rules }
 {}
 
 /// A course goes on where a run ends: behind an Overflow each point without a number keeps its old ones, and behind the last

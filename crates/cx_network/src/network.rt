@@ -50,5 +50,6 @@ pub trait Network {
 /// what was posted and not yet taken, some event can happen until the end is reported, each event lessens what is left, and the
 /// end that is reported is the undivided run's.
 pub fn every_order<N: Network>(network: &N)
-    ensures { EveryOrder (N.net network.now) (N.script network.now) (N.agrees network.now) (N.gives network.now) (N.books network.now) }
+    ensures { EveryOrder (N.net network.now) (N.script network.now) (N.agrees network.now)
+        (N.gives network.now) (N.books network.now) }
 {}

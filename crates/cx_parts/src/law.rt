@@ -68,9 +68,11 @@ pub fn done_totals(job: &Job)
     requires sound { Sound (setup_of job.now) }
     requires cut { IsCut (parts_of job.now.shape job.now.cut) }
     ensures by_lead { (rules : List Rule) (b : Beginning) → IsBeginning (setup_of job.now) b
-        → DoneCounts within_lead (run_of job.now rules b) (undivided_from (setup_of job.now) rules b) }
+        → DoneCounts within_lead (run_of job.now rules b)
+        (undivided_from (setup_of job.now) rules b) }
     ensures in_step { (rules : List Rule) (b : Beginning) → IsBeginning (setup_of job.now) b
-        → DoneCounts in_lockstep (run_of job.now rules b) (undivided_from (setup_of job.now) rules b) }
+        → DoneCounts in_lockstep (run_of job.now rules b)
+        (undivided_from (setup_of job.now) rules b) }
 {
     flat_is_run(job);
     all_ways(job);

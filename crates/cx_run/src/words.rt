@@ -41,7 +41,8 @@ pub(crate) fn request_of(words: &[Text]) -> Option<(Command, &[u8], u64)>
 
 /// What a word and those behind it ask for.
 fn asked_by<'a>(word: &[u8], rest: &'a [Text]) -> Option<(Command, &'a [u8], u64)>
-    ensures { option_map (λ ask. request ask.0 ask.1.now ask.2) result ≡ asked (word.now ∷ rest.now) }
+    ensures { option_map (λ ask. request ask.0 ask.1.now ask.2) result
+        ≡ asked (word.now ∷ rest.now) }
 {
     if word == b"run".as_slice() {
         run_asked(rest)
@@ -71,7 +72,8 @@ fn command_of(word: &[u8]) -> Option<Command>
 
 /// A command with a file alone.
 fn file_asked(command: Option<Command>, words: &[Text]) -> Option<(Command, &[u8], u64)>
-    ensures { option_map (λ ask. request ask.0 ask.1.now ask.2) result ≡ file_asked command words.now }
+    ensures { option_map (λ ask. request ask.0 ask.1.now ask.2) result
+        ≡ file_asked command words.now }
 {
     match command {
         None => None,
