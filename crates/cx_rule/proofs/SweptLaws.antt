@@ -406,6 +406,7 @@ still_can s x old new numbers same can =
       buffers = let few = can.buffers in let count = same.buffers in omega (arith, few, count);
       values = can.values;
       params = can.params;
+      cap = can.cap;
     })
 
 -- the numbers that a part's rule sees, by a job's setup

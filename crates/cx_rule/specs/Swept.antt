@@ -1,7 +1,7 @@
 -- A sweep of a part: the definitions of an undivided turn, over the local box and the item's zone.
 use Rattle.std.specs.Prelude.{ℕ, ◌≤◌, ◌≡◌, ◌⊎◌, true, ℤ, List, filter, length, Option, Some, None, Result, Ok, Err, All}
 use Rattle.cx_grid.specs.declared.boxes.Point.{Point}
-use Rattle.cx_grid.specs.Boxes.{points_in}
+use Rattle.cx_grid.specs.Boxes.{points_in, point_count}
 use Rattle.cx_plan.specs.declared.item.Touch.{Touch}
 use Rattle.cx_plan.specs.declared.item.Item.{Item}
 use Rattle.cx_plan.specs.declared.item.Region.TheVariants.{Boundary}
@@ -69,7 +69,8 @@ Sweeps old rule x iteration new before after (Ok _) =
 Sweeps old rule x iteration new before after (Err _) =
     (swept old rule x iteration ≡ None) × IsSamePatch new old × RoseWithin (zone_points (swept_zone old x)) before after
 
--- what a sweep asks for: an item in a shape of the table, no larger than the patch's items, and its routine
+-- what a sweep asks for: an item in a shape of the table, no larger than the patch's items, its routine, and a part of no more
+-- points than the routine's cap
 pub record CanSweep (s : Spec) (x : Item) (p : PatchValue) : Type 0 where
   pub routine : IsRoutineOf s x
   pub kind : (x.kind ≡ Cell) ⊎ (x.kind ≡ Scalar)
@@ -79,6 +80,7 @@ pub record CanSweep (s : Spec) (x : Item) (p : PatchValue) : Type 0 where
   pub buffers : length x.writes ≤ length p.staged
   pub values : value_count p.shape.dims x ≤ p.room
   pub params : length x.params ≤ 32
+  pub cap : point_count p.local ≤ s.cap
 
 -- an item that writes boundary points
 abbrev pub IsBoundaryWriter : Item → Type 0

@@ -66,6 +66,10 @@ impl<R: PointRule> Routine for RoutineOf<R> {
         &self.spec
     }
 
+    fn cap(&self) -> u64 {
+        self.spec.cap
+    }
+
     fn point(
         &self,
         w: &Window,

@@ -26,6 +26,10 @@ pub trait Routine: Drop {
     fn spec(&self) -> &Spec
         ensures { result.now ≡ spec_of self.now };
 
+    /// The most points that a part may hold for the routine to be swept, as `spec` says it.
+    fn cap(&self) -> u64
+        ensures { result ≡ (spec_of self.now).cap };
+
     /// Computes the rule at one point, and counts the point.
     ///
     /// `w` holds the values around the point, `at` is the point's place, and `out` takes the numbers. The window's reads,
@@ -52,7 +56,7 @@ pub trait Routine: Drop {
     /// from the numbers before, and counted.
     ///
     /// It asks for an item in a shape of the table of regions, no larger than the items that the patch was made for, that names
-    /// stored levels alone.
+    /// stored levels alone, and for a part of at most `cap` points, its ghosts among them.
     ///
     /// # Errors
     ///

@@ -1,10 +1,13 @@
 ghost use Rattle.std.specs.Prelude.{◌≡◌, IfOk, OnOk};
 ghost use Rattle.cx_rule.specs.Single.{want_of};
-ghost use Rattle.cx_rule.specs.Specs.{spec_named, with_read, with_write, with_param};
+ghost use Rattle.cx_rule.specs.Specs.{spec_named, with_cap, with_read, with_write, with_param};
 
 use cx_plan::{ItemKind, Region};
 use cx_text::{List, Memory, Text};
 use std::alloc::Global;
+
+/// The most points of a part that any job has.
+const MOST_POINTS: u64 = 1 << 27;
 
 /// A variable that a routine reads or writes.
 #[derive(Debug, Drop)]
@@ -32,6 +35,8 @@ pub struct Spec {
     pub writes: List<Want>,
     /// The full names of the parameters that its rule takes, in the order of the place's numbers.
     pub params: List<Text>,
+    /// The most points that a part may hold for it to be swept.
+    pub cap: u64,
 }
 
 impl Want {
@@ -48,7 +53,7 @@ impl Want {
 }
 
 impl Spec {
-    /// A routine of a thorn that reads, writes and takes nothing.
+    /// A routine of a thorn that reads, writes and takes nothing. It sweeps parts of at most 134,217,728 points.
     pub fn new(alloc: Global, thorn: &[u8], name: &[u8], kind: ItemKind) -> Result<Self, Memory>
         ensures { IfOk result (λ spec. spec ≡ spec_named thorn.now name.now kind) }
     {
@@ -59,7 +64,15 @@ impl Spec {
             reads: List::empty(alloc),
             writes: List::empty(alloc),
             params: List::empty(alloc),
+            cap: MOST_POINTS,
         })
+    }
+
+    /// Sets the most points that a part may hold for it to be swept.
+    pub fn limit(&mut self, cap: u64)
+        ensures { self.new ≡ with_cap self.old cap }
+    {
+        self.cap = cap;
     }
 
     /// Adds a read behind the others.
