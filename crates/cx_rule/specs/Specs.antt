@@ -4,7 +4,7 @@ use Rattle.cx_plan.specs.declared.item.ItemKind.{ItemKind}
 use Rattle.cx_rule.specs.declared.spec.Spec.{Spec}
 use Rattle.cx_rule.specs.declared.spec.Want.{Want}
 
--- the most points of a part that any job has
+-- the most points of a part that a routine sweeps, where it sets no other number
 abbrev pub most_points : ℕ
 most_points = 2 ^ 27
 
@@ -21,7 +21,7 @@ spec_named thorn name kind =
       cap = most_points;
     }
 
--- with another limit
+-- with another cap
 abbrev pub with_cap : Spec → ℕ → Spec
 with_cap s cap = record s { cap = cap }
 

@@ -6,7 +6,7 @@ use cx_plan::{ItemKind, Region};
 use cx_text::{List, Memory, Text};
 use std::alloc::Global;
 
-/// The most points of a part that any job has.
+/// The most points of a part that a routine sweeps, where it sets no other number.
 const MOST_POINTS: u64 = 1 << 27;
 
 /// A variable that a routine reads or writes.
