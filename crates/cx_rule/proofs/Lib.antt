@@ -18,3 +18,4 @@ pub mod CommitLaws
 pub mod PointLaws
 pub mod CommitSteps
 pub mod PutLaws
+mod SkipLaws

@@ -3,7 +3,7 @@ use Rattle.std.proofs.Common.{◌≡◌, ◌≢◌, ℕ, zero, suc, ◌+◌, ◌
 use Rattle.std.specs.Prelude.{All, is_some}
 use Rattle.std.specs.List.{list_all}
 use Rattle.std.proofs.lemmas.Bool.{and_parts, cases_eq}
-use Rattle.std.proofs.lemmas.List.{get_or-set_same, get_or-set_other, take-append-drop, take_more}
+use Rattle.std.proofs.lemmas.List.{get_or-set_same, get_or-set_other, take-append-drop}
 use Rattle.std.proofs.lemmas.List.Elements.{filter-append, All-append}
 use Rattle.std.proofs.lemmas.List.Filters.{length-filter_more}
 use Rattle.cx_grid.specs.declared.boxes.Point.{Point}
@@ -160,17 +160,6 @@ pub from_is : (old p : PatchValue) (x : Item) (shape : Shape) (region : Region) 
     → from ≡ window_point shape region y → from ≡ window_from old x y
 from_is old p x shape region from y same is its e =
     e ∙ ap (λ s. window_point s region y) (is ∙ ap (λ (q : PatchValue). q.shape) same.numbers) ∙ ap (λ r. window_point old.shape r y) its
-
-pub zone_tells : (z other : Zone) (y : Point) (a b : Bool) → z ≡ other → a ≡ in_zone z y → a ≡ b → in_zone other y ≡ b
-zone_tells z other y a b same is e = ap (λ t. in_zone t y) (sym same) ∙ sym is ∙ e
-
--- the points that were passed, and one more
-pub passed_more : (points passed : List Point) (y : Point) → (length passed < length points) × (y ≡ get_or points (length passed) y)
-    → take (length passed) points ++ y ∷ [] ≡ take (length (passed ++ y ∷ [])) points
-passed_more points passed y t =
-    ap (λ q. take (length passed) points ++ q ∷ []) t.1
-    ∙ sym (take_more points (length passed) y t.0)
-    ∙ ap (λ n. take n points) (sym (length-append passed (y ∷ [])))
 
 -- ---- staging one point
 

@@ -1,10 +1,10 @@
 -- The points that an item computes in a part.
-use Rattle.std.specs.Prelude.{ℕ, Bool, not, ◌&&◌, pos, ◌-ℤ◌, ◌+ℤ◌, if◌then◌else◌, length, filter}
+use Rattle.std.specs.Prelude.{ℕ, Bool, false, ◌≡◌, not, ◌&&◌, pos, ◌-ℤ◌, ◌+ℤ◌, if◌then◌else◌, length, filter}
 use Rattle.std.specs.Int.{int_min, int_max}
 use Rattle.cx_grid.specs.declared.boxes.Point.{Point}
 use Rattle.cx_grid.specs.declared.boxes.Box3.{Box3}
 use Rattle.cx_grid.specs.declared.shapes.Shape.{Shape}
-use Rattle.cx_grid.specs.Boxes.{along, point_by, points_in, has_point}
+use Rattle.cx_grid.specs.Boxes.{IsIn, along, point_by, points_in, has_point}
 use Rattle.cx_grid.specs.Grid.{is_periodic}
 use Rattle.cx_plan.specs.declared.item.Region.{Region}
 use Rattle.cx_plan.specs.declared.item.Region.TheVariants.{Interior, Boundary, Everywhere}
@@ -15,6 +15,11 @@ use Rattle.cx_rule.specs.declared.zone.Zone.{Zone}
 -- whether a zone holds a point: its outer box does, and its hole does not
 abbrev pub in_zone : Zone → Point → Bool
 in_zone z p = has_point z.all p && not (has_point z.hole p)
+
+-- a point of a zone's box that lies in its hole
+pub record IsOutside (z : Zone) (p : Point) : Type 0 where
+  pub all : IsIn z.all p
+  pub hole : in_zone z p ≡ false
 
 -- a box's points that are interior: in a direction that is not periodic, those from the ghost width on and below that width
 -- before the end

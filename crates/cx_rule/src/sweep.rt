@@ -1,17 +1,19 @@
 //! The sweep of a rule over the points of a part that an item computes.
-ghost use Rattle.std.specs.Prelude.{◌≡◌};
+ghost use Rattle.std.specs.Prelude.{◌≡◌, ◌<◌, ◌^◌, ◌<ℤ◌, ◌+ℤ◌, ℕ, pos, true};
+ghost use Rattle.std.specs.Int.{int_min};
+ghost use Rattle.cx_grid.specs.Boxes.{IsIn, IsSmall, point_count};
 ghost use Rattle.cx_grid.specs.Grid.{IsShape};
 ghost use Rattle.cx_plan.specs.Regions.{region_of};
 ghost use Rattle.cx_plan.specs.declared.item.ItemKind.{ItemKind};
-ghost use Rattle.cx_rule.specs.Patches.{IsPatch};
+ghost use Rattle.cx_rule.specs.Patches.{IsPatch, beside};
 ghost use Rattle.cx_rule.specs.Sweeps.{window_point};
 ghost use Rattle.cx_rule.specs.Swept.{swept_zone, CanSweep, Sweeps, StagesZone};
-ghost use Rattle.cx_rule.specs.Zones.{first_of, nothing};
+ghost use Rattle.cx_rule.specs.Zones.{first_of, nothing, in_zone, IsOutside};
 
 use crate::patch::Patch;
-use crate::zone::{Zone, in_zone, nothing};
+use crate::zone::{Zone, nothing};
 use crate::{Meter, Overflow, PointRule};
-use cx_grid::{Box3, Point, Shape, clamp, rows};
+use cx_grid::{Box3, Point, Shape, clamp, contains, count, point_at};
 use cx_plan::{Item, ItemKind, Region};
 
 impl Patch {
@@ -118,15 +120,61 @@ fn stage_zone<R: PointRule>(
     requires patch { IsPatch patch.old }
     ensures { StagesZone patch.old R.law item.now iteration patch.new meter.old meter.new result }
 {
-    'points: for p in rows(&zone.all) {
-        if !in_zone(zone, p) {
+    let count = count_of(&zone.all);
+    let mut at = 0;
+    'points: while at < count {
+        let p = point_at(&zone.all, at);
+        let skipped = hole_from(zone, p);
+        if skipped > 0 {
+            at += skipped;
             continue;
         }
         let from = window_point(patch.shape(), region_of(item), p);
         meter.add(1);
         patch.stage_rule(rule, item, from, p, iteration)?;
+        at += 1;
     }
     Ok(())
+}
+
+/// How many points a box has: none where it ends before it begins.
+fn count_of(b: &Box3) -> usize
+    requires { IsSmall b.now }
+    ensures { result ≡ point_count b.now }
+{
+    if b.low.x < b.high.x && b.low.y < b.high.y && b.low.z < b.high.z {
+        count(b)
+    } else {
+        0
+    }
+}
+
+/// How many points of a zone's box lie in its hole, one after another along x from this one on.
+fn hole_from(zone: &Zone, p: Point) -> usize
+    requires { IsIn zone.now.all p }
+    ensures none { result ≡ 0 → in_zone zone.now p ≡ true }
+    ensures outside { (k : ℕ) → k < result → IsOutside zone.now (beside p k) }
+    ensures few { result < 2 ^ 32 }
+{
+    if !contains(&zone.hole, p) {
+        return 0;
+    }
+    let end = lesser(zone.hole.high.x, zone.all.high.x);
+    steps_to(p.x, end)
+}
+
+fn lesser(a: i32, b: i32) -> i32
+    ensures { result ≡ int_min a b }
+{
+    a.min(b)
+}
+
+fn steps_to(from: i32, to: i32) -> usize
+    requires { from <ℤ to }
+    ensures value { (from +ℤ pos result) ≡ to }
+    ensures few { result < 2 ^ 32 }
+{
+    (to as i64 - from as i64) as usize
 }
 
 /// Computes a Scalar item.
