@@ -18,3 +18,5 @@ pub mod CommitLaws
 pub mod PointLaws
 pub mod CommitSteps
 pub mod PutLaws
+pub mod RunLaws
+pub mod RowLaws

@@ -1,12 +1,14 @@
 //! Lists of numbers, one for each level of a variable, or for each write.
-ghost use Rattle.std.specs.Prelude.{◌≡◌, ◌<◌, ◌≤◌, ◌+◌, IfOk, pos, replicate, [], length, map, slice_index_or, slice_set, All, if◌then◌else◌};
-ghost use Rattle.cx_grid.specs.Boxes.{IsBox, IsSmall, point_count, numbers_in};
+ghost use Rattle.std.specs.Prelude.{◌≡◌, ◌<◌, ◌≤◌, ◌+◌, IfOk, pos, replicate, [], length, map, slice_index_or, slice_set, All};
+ghost use Rattle.cx_grid.specs.Boxes.{IsBox, IsSmall, extent, point_count, numbers_in};
+ghost use Rattle.cx_rule.specs.Runs.{row_count, SetsRow};
 ghost use Rattle.cx_rule.specs.States.{rotated_levels};
 ghost use Rattle.cx_rule.specs.Staging.{put_from, staged_at, no_numbers, cleared, mixed_at};
 
 use crate::Cells;
-use crate::zone::{Zone, in_zone};
-use cx_grid::{Box3, count, point_at};
+use crate::runs::{numbers_on, row_count, row_start, runs_at};
+use crate::zone::Zone;
+use cx_grid::Box3;
 use cx_text::Memory;
 use std::alloc::Global;
 use std::marker::Model;
@@ -67,15 +69,40 @@ impl Level {
         clear(&mut self.values);
     }
 
-    /// Sets the numbers at a zone's points to other ones. There is one number for each point of the box.
+    /// Sets the numbers at a zone's points to other ones, row by row. There is one number for each point of the box.
     fn put_zone(&mut self, b: &Box3, zone: &Zone, within: &[i64])
         requires ordered { IsBox b.now }
         requires small { IsSmall b.now }
+        requires wide { 0 < extent b.now 0 }
         requires room { length self.old ≡ point_count b.now }
         requires within { length within.now ≡ point_count b.now }
         ensures { self.new ≡ numbers_in b.now (mixed_at b.now zone.now within.now self.old) }
     {
-        put_zone(&mut self.values, b, zone, within);
+        'rows: for row in 0..row_count(b) {
+            self.put_zone_row(b, zone, within, row);
+        }
+    }
+
+    /// Sets the numbers at a zone's points of a row to other ones.
+    fn put_zone_row(&mut self, b: &Box3, zone: &Zone, within: &[i64], row: usize)
+        requires ordered { IsBox b.now }
+        requires small { IsSmall b.now }
+        requires wide { 0 < extent b.now 0 }
+        requires room { length self.old ≡ point_count b.now }
+        requires within { length within.now ≡ point_count b.now }
+        requires row { row < row_count b.now }
+        ensures { SetsRow b.now zone.now within.now row self.old self.new }
+    {
+        let start = row_start(b, row);
+        let runs = runs_at(zone, b, start);
+        self.put_row(
+            start + runs.before.from,
+            numbers_on(within, start, runs.before),
+        );
+        self.put_row(
+            start + runs.behind.from,
+            numbers_on(within, start, runs.behind),
+        );
     }
 }
 
@@ -85,31 +112,6 @@ fn clear(values: &mut Vec<i64>)
 {
     'values: for value in values.iter_mut() {
         *value = 0;
-    }
-}
-
-/// Sets the numbers at a zone's points to other ones.
-fn put_zone(values: &mut Vec<i64>, b: &Box3, zone: &Zone, within: &[i64])
-    requires ordered { IsBox b.now }
-    requires small { IsSmall b.now }
-    requires room { length values.old.items ≡ point_count b.now }
-    requires within { length within.now ≡ point_count b.now }
-    ensures { values.new.items ≡ numbers_in b.now
-        (mixed_at b.now zone.now within.now values.old.items) }
-{
-    'points: for i in 0..count(b) {
-        put_if(values, i, within[i], in_zone(zone, point_at(b, i)));
-    }
-}
-
-/// Sets the number at a place, or leaves it.
-fn put_if(values: &mut Vec<i64>, at: usize, value: i64, put: bool)
-    requires { at < length values.old.items }
-    ensures { values.new.items ≡ (if put then slice_set values.old.items at value
-        else values.old.items) }
-{
-    if put {
-        values[at] = value;
     }
 }
 
@@ -247,6 +249,7 @@ impl Levels {
         requires level { level < length self.old }
         requires ordered { IsBox b.now }
         requires small { IsSmall b.now }
+        requires wide { 0 < extent b.now 0 }
         requires room { length (slice_index_or self.old level []) ≡ point_count b.now }
         requires within { length within.now ≡ point_count b.now }
         ensures { self.new ≡ slice_set self.old level (numbers_in b.now

@@ -1,6 +1,7 @@
 use Rattle.std.proofs.Common.{◌∙◌, sym, refl}
 use Rattle.std.proofs.lemmas.List.FromFn.{length-map-range_with_len}
 use Rattle.cx_rule.proofs.NumberLaws.{var_below, level_below, stored_grid, grid_size, patch_by_sizes, same_sizes}
+use Rattle.cx_rule.proofs.RunLaws.{local_wide}
 use Rattle.cx_rule.proofs.part.Part.put_level.Goals as goal
 
 pub put_zone-requires-clause-var : goal.put_zone-requires-clause-var
@@ -12,6 +13,9 @@ pub put_zone-requires-clause-level : goal.put_zone-requires-clause-level
 put_zone-requires-clause-level c =
     let g = rw (← c.self.view_is) at c.requires.level in
     level_below _ c.self.invariant c.args.v c.args.level (stored_grid _ c.args.v c.args.level g)
+
+pub put_zone-requires-clause-wide : goal.put_zone-requires-clause-wide
+put_zone-requires-clause-wide c = local_wide _ c.self.invariant
 
 pub put_zone-requires-clause-room : goal.put_zone-requires-clause-room
 put_zone-requires-clause-room c =
