@@ -1,21 +1,22 @@
 -- Numbers put and tested row by row.
 use Rattle.std.proofs.Common.{◌≡◌, ℕ, zero, suc, ◌+◌, ◌-◌, ◌*◌, ◌<◌, ◌≤◌, ◌⊎◌, inl, inr, Bool, true, false, true≢false, not, ◌&&◌, ◌||◌, if◌then◌else◌, arith, refl, sym, ap, ◌∙◌, ℤ, pos, List, [], ◌∷◌, ◌++◌, length, length-append, take, drop, map, get_or}
 use Rattle.std.proofs.Math.Path.{fun_ext}
-use Rattle.std.specs.Prelude.{slice_index_or}
+use Rattle.std.specs.Prelude.{slice_index_or, slice_set}
+use Rattle.std.proofs.Math.Seq.{map-set_same}
 use Rattle.std.specs.List.{range_with_len, list_all}
 use Rattle.std.proofs.lemmas.Bool.{and_parts, and_from, cases_lt}
-use Rattle.std.proofs.lemmas.List.{get_or-take, get_or-drop, get_or_append_left, get_or-append_right, length-drop, length-take-le}
-use Rattle.std.proofs.lemmas.List.FromFn.{get_or-map-range_with_len, length-map-range_with_len}
+use Rattle.std.proofs.lemmas.List.{length-map, get_or-set_other, get_or-take, get_or-drop, get_or_append_left, get_or-append_right, length-drop, length-take-le}
+use Rattle.std.proofs.lemmas.List.FromFn.{fill_by_all, get_or-map-range_with_len, length-map-range_with_len}
 use Rattle.cx_grid.specs.declared.boxes.Point.{Point}
 use Rattle.cx_grid.specs.declared.boxes.Box3.{Box3}
-use Rattle.cx_grid.specs.Boxes.{extent, point_count, point_in, points_in, index_in}
+use Rattle.cx_grid.specs.Boxes.{extent, point_count, point_in, points_in, index_in, numbers_in}
 use Rattle.cx_grid.proofs.Places.{index_at_point}
 use Rattle.cx_plan.specs.declared.item.Touch.{Touch}
 use Rattle.cx_plan.specs.Setups.{Setup}
 use Rattle.cx_plan.specs.Lookups.{variable}
 use Rattle.cx_plan.specs.Types.{least, greatest}
-use Rattle.cx_rule.specs.Runs.{fits_zone, levels_fit, InSpan, InRuns, IsRuns, numbers_on, is_within, are_within, fits_at, row_points, SetsRow}
-use Rattle.cx_rule.specs.Staging.{put_from, mixed_at, does_fit}
+use Rattle.cx_rule.specs.Runs.{fits_zone, levels_fit, InSpan, InRuns, IsRuns, numbers_on, is_within, are_within, fits_at, row_points, SetsRow, KeepsRow, SetsSpan, SpendsOne}
+use Rattle.cx_rule.specs.Staging.{put_from, mixed_at, does_fit, no_numbers, cleared}
 use Rattle.cx_rule.specs.Zones.{in_zone}
 use Rattle.cx_rule.specs.declared.runs.Span.{Span}
 use Rattle.cx_rule.specs.declared.runs.Runs.{Runs}
@@ -73,15 +74,8 @@ module _ (at : ℕ) (xs values : List ℤ) (h : at + length values ≤ length xs
       ∙ get_or-drop (at + length values) xs (i - at - length values) (pos 0)
       ∙ ap (λ k. slice_index_or xs k (pos 0)) e
 
--- a span of a row is put: its places have other numbers, and all others are as before
-pub record SpanPut (within old new : List ℤ) (start : ℕ) (s : Span) : Type 0 where
-  pub count : length new ≡ length old
-  pub here : (i : ℕ) → InSpan s i → slice_index_or new (start + i) (pos 0) ≡ slice_index_or within (start + i) (pos 0)
-  pub below : (j : ℕ) → j < start + s.from → slice_index_or new j (pos 0) ≡ slice_index_or old j (pos 0)
-  pub above : (j : ℕ) → start + s.to ≤ j → slice_index_or new j (pos 0) ≡ slice_index_or old j (pos 0)
-
 pub span_put : (within old : List ℤ) (start : ℕ) (s : Span) → s.from ≤ s.to → start + s.to ≤ length within → length old ≡ length within
-    → SpanPut within old (put_from (start + s.from) old (numbers_on within start s)) start s
+    → SetsSpan within start s old (put_from (start + s.from) old (numbers_on within start s))
 span_put within old start s h l e =
     let n = span_length within start s h l in
     let room : start + s.from + length (numbers_on within start s) ≤ length old = omega (arith, n, h, l, e) in
@@ -100,7 +94,7 @@ span_put within old start s h l e =
 
 module _ (b : Box3) (zone : Zone) (within old mid new : List ℤ) (row : ℕ) (r : Runs) (size : length old ≡ point_count b)
     (room : row * extent b 0 + extent b 0 ≤ point_count b) (runs : IsRuns zone b (row * extent b 0) r)
-    (first : SpanPut within old mid (row * extent b 0) r.before) (second : SpanPut within mid new (row * extent b 0) r.behind) where
+    (first : SetsSpan within (row * extent b 0) r.before old mid) (second : SetsSpan within (row * extent b 0) r.behind mid new) where
   abbrev start : ℕ
   start = row * extent b 0
 
@@ -167,6 +161,97 @@ zone_row b zone within old now new row next e room f s = record {
         ∙ s.here (j - row * extent b 0) (omega (arith, e, l, k))
         ∙ ap (λ n. mixed_at b zone within now (point_in b n)) z
         ∙ same j m (f.rest j k)
+
+-- ---- rows outside of a zone kept
+
+module _ (b : Box3) (zone : Zone) (level old one two new : List ℤ) (row : ℕ) (r : Runs) (s t u : Span)
+    (room : row * extent b 0 + extent b 0 ≤ point_count b) (runs : IsRuns zone b (row * extent b 0) r)
+    (sf : s.from ≡ 0) (st : s.to ≡ r.before.from) (tf : t.from ≡ r.before.to) (tt : t.to ≡ r.behind.from) (uf : u.from ≡ r.behind.to) (ut : u.to ≡ extent b 0)
+    (first : SetsSpan level (row * extent b 0) s old one) (second : SetsSpan level (row * extent b 0) t one two) (third : SetsSpan level (row * extent b 0) u two new) where
+  abbrev outset : ℕ
+  outset = row * extent b 0
+
+  spot : (i : ℕ) → i < extent b 0 → index_in b (point_in b (outset + i)) ≡ outset + i
+  spot i l = index_at_point b (outset + i) (omega (arith, room, l))
+
+  kept_in : (i : ℕ) → InRuns r i → slice_index_or new (outset + i) (pos 0) ≡ slice_index_or old (outset + i) (pos 0)
+  kept_in i (inl k) =
+      let m = runs.middle in let n = runs.behind in
+      third.below (outset + i) (omega (arith, k.1, m, n, uf)) ∙ second.below (outset + i) (omega (arith, k.1, tf)) ∙ first.above (outset + i) (omega (arith, k.0, st))
+  kept_in i (inr k) =
+      let m = runs.middle in let n = runs.before in
+      third.below (outset + i) (omega (arith, k.1, uf)) ∙ second.above (outset + i) (omega (arith, k.0, tt)) ∙ first.above (outset + i) (omega (arith, k.0, m, n, st))
+
+  kept_off : (i : ℕ) → i < extent b 0 → (InRuns r i → ⊥) → slice_index_or new (outset + i) (pos 0) ≡ slice_index_or level (outset + i) (pos 0)
+  kept_off i l k = go (cases_lt i r.before.from) (cases_lt i r.before.to) (cases_lt i r.behind.from) (cases_lt i r.behind.to)
+    where
+      go : (i < r.before.from) ⊎ (r.before.from ≤ i) → (i < r.before.to) ⊎ (r.before.to ≤ i) → (i < r.behind.from) ⊎ (r.behind.from ≤ i)
+          → (i < r.behind.to) ⊎ (r.behind.to ≤ i) → slice_index_or new (outset + i) (pos 0) ≡ slice_index_or level (outset + i) (pos 0)
+      go (inl a) x y z =
+          let m = runs.before in let n = runs.middle in let o = runs.behind in
+          third.below (outset + i) (omega (arith, a, m, n, o, uf)) ∙ second.below (outset + i) (omega (arith, a, m, tf))
+          ∙ first.here i (omega (arith, sf), omega (arith, a, st))
+      go (inr a) (inl c) y z = absurd (k (inl (a, c)))
+      go (inr a) (inr c) (inl d) z =
+          let o = runs.behind in
+          third.below (outset + i) (omega (arith, d, o, uf)) ∙ second.here i (omega (arith, c, tf), omega (arith, d, tt))
+      go (inr a) (inr c) (inr d) (inl f) = absurd (k (inr (d, f)))
+      go (inr a) (inr c) (inr d) (inr f) = third.here i (omega (arith, f, uf), omega (arith, l, ut))
+
+  pub row_kept : KeepsRow b zone level row old new
+  row_kept = record {
+    count = third.count ∙ second.count ∙ first.count;
+    here = λ i l. by_zone i l (in_zone zone (point_in b (outset + i))) refl;
+    there = there;
+  }
+    where
+      by_zone : (i : ℕ) → i < extent b 0 → (q : Bool) → in_zone zone (point_in b (outset + i)) ≡ q
+          → slice_index_or new (outset + i) (pos 0) ≡ mixed_at b zone old level (point_in b (outset + i))
+      by_zone i l true e = rw (e, spot i l) (kept_in i (runs.to i l e))
+      by_zone i l false e = rw (e, spot i l) (kept_off i l (λ k. true≢false (sym (runs.from i k) ∙ e)))
+
+      there : (j : ℕ) → (j < outset) ⊎ (outset + extent b 0 ≤ j) → slice_index_or new j (pos 0) ≡ slice_index_or old j (pos 0)
+      there j (inl l) = third.below j (omega (arith, l)) ∙ second.below j (omega (arith, l)) ∙ first.below j (omega (arith, l))
+      there j (inr l) =
+          let m = runs.before in let n = runs.middle in let o = runs.behind in let q = runs.most in
+          third.above j (omega (arith, l, ut)) ∙ second.above j (omega (arith, l, tt, o, q)) ∙ first.above j (omega (arith, l, st, m, n, o, q))
+
+pub record KeptTo (b : Box3) (zone : Zone) (level old now : List ℤ) (i : ℕ) : Type 0 where
+  pub count : length now ≡ length old
+  pub done : (j : ℕ) → j < i → j < point_count b → slice_index_or now j (pos 0) ≡ mixed_at b zone old level (point_in b j)
+  pub rest : (j : ℕ) → i ≤ j → slice_index_or now j (pos 0) ≡ slice_index_or old j (pos 0)
+
+pub kept_none : (b : Box3) (zone : Zone) (level old : List ℤ) (i : ℕ) → i ≡ 0 → KeptTo b zone level old old i
+kept_none b zone level old i e = record { count = refl; done = λ j l. absurd (omega (arith, l, e)); rest = λ j l. refl }
+
+pub kept_row : (b : Box3) (zone : Zone) (level old now new : List ℤ) (row next : ℕ) → next ≡ row * extent b 0 + extent b 0
+    → KeptTo b zone level old now (row * extent b 0) → KeepsRow b zone level row now new → KeptTo b zone level old new next
+kept_row b zone level old now new row next e f s = record {
+  count = s.count ∙ f.count;
+  done = λ j l m. by_place j l m (cases_lt j (row * extent b 0));
+  rest = λ j l. s.there j (inr (omega (arith, e, l))) ∙ f.rest j (omega (arith, e, l));
+}
+  where
+    same : (j : ℕ) → j < point_count b → slice_index_or now j (pos 0) ≡ slice_index_or old j (pos 0)
+        → mixed_at b zone now level (point_in b j) ≡ mixed_at b zone old level (point_in b j)
+    same j m h =
+        ap (λ k. if in_zone zone (point_in b j) then k else slice_index_or level (index_in b (point_in b j)) (pos 0))
+        (ap (λ k. slice_index_or now k (pos 0)) (index_at_point b j m) ∙ h ∙ sym (ap (λ k. slice_index_or old k (pos 0)) (index_at_point b j m)))
+
+    by_place : (j : ℕ) → j < next → j < point_count b → (j < row * extent b 0) ⊎ (row * extent b 0 ≤ j)
+        → slice_index_or new j (pos 0) ≡ mixed_at b zone old level (point_in b j)
+    by_place j l m (inl k) = s.there j (inl k) ∙ f.done j k m
+    by_place j l m (inr k) =
+        let z : row * extent b 0 + (j - row * extent b 0) ≡ j = omega (arith, k) in
+        ap (λ n. slice_index_or new n (pos 0)) (sym z)
+        ∙ s.here (j - row * extent b 0) (omega (arith, e, l, k))
+        ∙ ap (λ n. mixed_at b zone now level (point_in b n)) z
+        ∙ same j m (f.rest j k)
+
+pub kept_all : (b : Box3) (zone : Zone) (level old now : List ℤ) (n : ℕ) → n ≡ point_count b → length old ≡ point_count b → KeptTo b zone level old now n
+    → now ≡ numbers_in b (mixed_at b zone old level)
+kept_all b zone level old now n e room f =
+    fill_by_all (λ j. mixed_at b zone old level (point_in b j)) now (point_count b) (pos 0) (f.count ∙ room) (λ j l. f.done j (rw e l) l)
 
 -- ---- a row tested
 
@@ -325,3 +410,43 @@ levels_tested setup b zone (w ∷ ws) (buffer ∷ buffers) h =
     both_or : (a b c : Bool) → ((a || b) && (a || c)) ≡ (a || (b && c))
     both_or true b c = refl
     both_or false b c = refl
+
+-- ---- a buffer taken
+
+pub spends_one : (buffers : List (List ℤ)) (k : ℕ) (new : List ℤ) → length new ≡ length (slice_index_or buffers k []) → SpendsOne k buffers (slice_set buffers k new)
+spends_one buffers k new e = record {
+  sizes = map-set_same length buffers k new [] e;
+  others = λ j h. get_or-set_other buffers k j new [] h;
+}
+
+-- from the k-th on they are as before
+pub record SpentTo (k : ℕ) (old now : List (List ℤ)) : Type 0 where
+  pub sizes : map length now ≡ map length old
+  pub later : (j : ℕ) → k ≤ j → slice_index_or now j [] ≡ slice_index_or old j []
+
+pub spent_none : (buffers : List (List ℤ)) → SpentTo 0 buffers buffers
+spent_none buffers = record { sizes = refl; later = λ j h. refl }
+
+pub spent_more : (k : ℕ) (old now new : List (List ℤ)) → SpentTo k old now → SpendsOne k now new → SpentTo (k + 1) old new
+spent_more k old now new f s = record {
+  sizes = s.sizes ∙ f.sizes;
+  later = λ j h. s.others j (λ e. omega (arith, h, e)) ∙ f.later j (omega (arith, h));
+}
+
+pub spent_count : (k : ℕ) (old now : List (List ℤ)) → SpentTo k old now → length now ≡ length old
+spent_count k old now f = sym (length-map now length) ∙ ap length f.sizes ∙ length-map old length
+
+pub cleared_same : (old new : List (List ℤ)) → map length new ≡ map length old → cleared new ≡ cleared old
+cleared_same [] [] e = refl
+cleared_same [] (y ∷ ys) e = absurd cc
+cleared_same (x ∷ xs) [] e = absurd cc
+cleared_same (x ∷ xs) (y ∷ ys) e =
+    let a : length y ≡ length x = cc in
+    let b : map length ys ≡ map length xs = cc in
+    ap (λ ns. ns ∷ cleared ys) (zeros_same x y a) ∙ ap (λ zs. no_numbers x ∷ zs) (cleared_same xs ys b)
+  where
+    zeros_same : (a b : List ℤ) → length b ≡ length a → no_numbers b ≡ no_numbers a
+    zeros_same [] [] h = refl
+    zeros_same [] (m ∷ ms) h = absurd (omega (arith, h))
+    zeros_same (n ∷ ns) [] h = absurd (omega (arith, h))
+    zeros_same (n ∷ ns) (m ∷ ms) h = ap (λ zs. pos 0 ∷ zs) (zeros_same ns ms (omega (arith, h)))

@@ -1,5 +1,5 @@
 //! Staged numbers set at once.
-ghost use Rattle.std.specs.Prelude.{◌≡◌, ◌<◌, ◌≤◌, ◌||◌, not, is_some, map, take, length, replicate, slice_index_or, slice_set, [], pos, All, true};
+ghost use Rattle.std.specs.Prelude.{◌≡◌, ◌<◌, ◌≤◌, ◌||◌, not, is_some, map, take, length, replicate, slice_index_or, slice_set, [], pos, All, OnErr, true};
 ghost use Rattle.std.specs.List.{list_all};
 ghost use Rattle.cx_grid.specs.Boxes.{IsIn, IsBox, IsSmall, extent, point_count, points_in, numbers_in};
 ghost use Rattle.cx_plan.specs.Lookups.{variable};
@@ -10,7 +10,7 @@ ghost use Rattle.cx_rule.specs.States.{level_of, with_level};
 ghost use Rattle.cx_rule.specs.Sweeps.{fits, all_fit, levels_after, scalars_after};
 ghost use Rattle.cx_rule.specs.Patches.{IsPatch, IsGridLevel, IsScalar, setup_in, values_in, with_numbers, with_buffers};
 ghost use Rattle.cx_rule.specs.Staging.{fitting_at, staged_numbers, mixed_at, numbers_staged, levels_put, CanCommit, SetsBy, AreBuffers};
-ghost use Rattle.cx_rule.specs.Runs.{row_count, row_points, fits_at, fits_zone, levels_fit, is_within, are_within};
+ghost use Rattle.cx_rule.specs.Runs.{row_count, row_points, fits_at, fits_zone, levels_fit, is_within, are_within, SpendsOne};
 
 use crate::Overflow;
 use crate::levels::Levels;
@@ -21,17 +21,20 @@ use cx_grid::{Box3, index_of};
 use cx_plan::{Item, ItemKind, Touch, VarId, VarInfo};
 
 impl Part {
-    /// Sets what an item writes to what is staged, or nothing where a number leaves its type.
+    /// Sets what an item writes to what is staged, or nothing where a number leaves its type. What the buffers have is open
+    /// then, but where nothing was set.
     pub(crate) fn commit(
         &mut self,
         item: &Item,
-        staged: &Levels,
+        staged: &mut Levels,
         zone: &Zone,
     ) -> Result<(), Overflow>
-        requires can { CanCommit (with_buffers self.old staged.now 0) item.now zone.now }
-        requires buffers { AreBuffers self.old.local staged.now }
-        ensures { SetsBy item.now.kind (with_buffers self.old staged.now 0) item.now
+        requires can { CanCommit (with_buffers self.old staged.old 0) item.now zone.now }
+        requires buffers { AreBuffers self.old.local staged.old }
+        ensures sets { SetsBy item.now.kind (with_buffers self.old staged.old 0) item.now
             zone.now self.old self.new result }
+        ensures sizes { map length staged.new ≡ map length staged.old }
+        ensures kept { OnErr result (staged.new ≡ staged.old) }
     {
         match item.kind {
             ItemKind::Scalar => self.commit_scalars(item, staged, zone),
@@ -40,13 +43,20 @@ impl Part {
     }
 
     /// Sets levels at the points of a zone.
-    fn commit_levels(&mut self, item: &Item, staged: &Levels, zone: &Zone) -> Result<(), Overflow>
+    fn commit_levels(
+        &mut self,
+        item: &Item,
+        staged: &mut Levels,
+        zone: &Zone,
+    ) -> Result<(), Overflow>
         requires levels { All (λ (w : Touch). IsGridLevel self.old w.var w.level) item.now.writes }
         requires distinct { are_distinct item.now.writes ≡ true }
-        requires writes { length item.now.writes ≤ length staged.now }
-        requires buffers { AreBuffers self.old.local staged.now }
-        ensures { SetsBy ItemKind.Cell (with_buffers self.old staged.now 0) item.now
+        requires writes { length item.now.writes ≤ length staged.old }
+        requires buffers { AreBuffers self.old.local staged.old }
+        ensures sets { SetsBy ItemKind.Cell (with_buffers self.old staged.old 0) item.now
             zone.now self.old self.new result }
+        ensures sizes { map length staged.new ≡ map length staged.old }
+        ensures kept { OnErr result (staged.new ≡ staged.old) }
     {
         if !self.fit(item.writes.as_slice(), staged, zone) {
             return Err(Overflow);
@@ -105,37 +115,41 @@ impl Part {
         true
     }
 
-    /// Sets levels at the points of a zone to what is staged there.
-    fn put_levels(&mut self, writes: &[Touch], staged: &Levels, zone: &Zone)
+    /// Sets levels at the points of a zone to what is staged there. What the buffers have then is left open.
+    fn put_levels(&mut self, writes: &[Touch], staged: &mut Levels, zone: &Zone)
         requires levels { All (λ (w : Touch). IsGridLevel self.old w.var w.level) writes.now }
         requires distinct { are_distinct writes.now ≡ true }
-        requires writes { length writes.now ≤ length staged.now }
-        requires buffers { AreBuffers self.old.local staged.now }
-        ensures { self.new ≡ with_numbers self.old (levels_put self.old zone.now staged.now
+        requires writes { length writes.now ≤ length staged.old }
+        requires buffers { AreBuffers self.old.local staged.old }
+        ensures value { self.new ≡ with_numbers self.old (levels_put self.old zone.now staged.old
             (length writes.now) 0 writes.now self.old.numbers) }
+        ensures sizes { map length staged.new ≡ map length staged.old }
     {
         'writes: for k in 0..writes.len() {
-            self.put_level(writes[k].var, writes[k].level, zone, staged.get(k));
+            self.put_level(writes[k].var, writes[k].level, zone, staged, k);
         }
     }
 
-    /// Sets a level at the points of a zone to other numbers.
-    fn put_level(&mut self, v: VarId, level: u8, zone: &Zone, within: &[i64])
+    /// Sets a level at the points of a zone to what a buffer has there. What it has then is left open.
+    fn put_level(&mut self, v: VarId, level: u8, zone: &Zone, staged: &mut Levels, k: usize)
         requires level { IsGridLevel self.old v level }
-        requires within { length within.now ≡ point_count self.old.local }
+        requires buffer { k < length staged.old }
+        requires within { length (slice_index_or staged.old k []) ≡ point_count self.old.local }
         ensures patch { IsPatch self.old }
         ensures value { self.new ≡ with_numbers self.old (with_level self.old.numbers v level
-            (numbers_in self.old.local (mixed_at self.old.local zone.now within.now
-            (level_of self.old.numbers v level)))) }
+            (numbers_in self.old.local (mixed_at self.old.local zone.now
+            (slice_index_or staged.old k []) (level_of self.old.numbers v level)))) }
+        ensures staged { SpendsOne k staged.old staged.new }
     {
         let local = self.local;
-        put_zone(
+        take_zone(
             &mut self.numbers,
             v.0 as usize,
             level as usize,
+            staged,
+            k,
             &local,
             zone,
-            within,
         );
     }
 
@@ -233,21 +247,31 @@ fn is_within(value: i64, low: i64, high: i64) -> bool
     low <= value && value <= high
 }
 
-/// Sets the numbers of a level of a variable at a zone's points to other ones.
-fn put_zone(all: &mut Vec<Levels>, v: usize, level: usize, b: &Box3, zone: &Zone, within: &[i64])
+/// Sets the numbers of a level of a variable at a zone's points to those of a buffer.
+fn take_zone(
+    all: &mut Vec<Levels>,
+    v: usize,
+    level: usize,
+    buffers: &mut Levels,
+    k: usize,
+    b: &Box3,
+    zone: &Zone,
+)
     requires var { v < length all.old.items }
     requires level { level < length (slice_index_or all.old.items v []) }
+    requires buffer { k < length buffers.old }
     requires ordered { IsBox b.now }
     requires small { IsSmall b.now }
     requires wide { 0 < extent b.now 0 }
     requires room { length (slice_index_or (slice_index_or all.old.items v []) level [])
         ≡ point_count b.now }
-    requires within { length within.now ≡ point_count b.now }
-    ensures { all.new.items
+    requires same { length (slice_index_or buffers.old k []) ≡ point_count b.now }
+    ensures levels { all.new.items
         ≡ slice_set all.old.items v (slice_set (slice_index_or all.old.items v []) level
-        (numbers_in b.now (mixed_at b.now zone.now within.now
+        (numbers_in b.now (mixed_at b.now zone.now (slice_index_or buffers.old k [])
         (slice_index_or (slice_index_or all.old.items v []) level [])))) }
+    ensures buffers { SpendsOne k buffers.old buffers.new }
 {
     let levels = &mut all[v];
-    levels.put_zone(level, b, zone, within);
+    levels.take_zone(level, buffers, k, b, zone);
 }

@@ -21,6 +21,14 @@ pub(crate) struct Runs {
     pub(crate) behind: Span,
 }
 
+/// The places from the one on and below the other.
+pub(crate) fn places(from: usize, to: usize) -> Span
+    ensures from { result.from ≡ from }
+    ensures to { result.to ≡ to }
+{
+    Span { from, to }
+}
+
 /// How far the second number is above the first.
 fn gap(low: i32, high: i32) -> usize
     requires { low ≤ℤ high }
@@ -30,7 +38,7 @@ fn gap(low: i32, high: i32) -> usize
 }
 
 /// How many points a row of a box has.
-fn width(b: &Box3) -> usize
+pub(crate) fn width(b: &Box3) -> usize
     requires { IsBox b.now }
     ensures { result ≡ extent b.now 0 }
 {
