@@ -1,16 +1,15 @@
 -- Staged numbers set at once.
-use Rattle.std.proofs.Common.{◌≡◌, ℕ, zero, suc, ◌+◌, ◌-◌, ◌<◌, ◌≤◌, ◌⊎◌, inl, inr, Bool, true, false, not, ◌&&◌, if◌then◌else◌, arith, refl, sym, ap, ◌∙◌, ℤ, pos, List, [], ◌∷◌, length, length-set, take, map, get_or, Some, eq-eqb}
+use Rattle.std.proofs.Common.{◌≡◌, ℕ, zero, suc, ◌-◌, ◌<◌, ◌≤◌, ◌⊎◌, inl, inr, Bool, true, false, not, if◌then◌else◌, arith, refl, sym, ap, ◌∙◌, ℤ, pos, List, [], ◌∷◌, length, take, map, get_or, Some, eq-eqb}
 use Rattle.std.proofs.Math.Path.{fun_ext}
-use Rattle.std.specs.Prelude.{slice_index_or, slice_set, ◌==◌}
+use Rattle.std.specs.Prelude.{slice_index_or, ◌==◌}
 use Rattle.std.specs.List.{range_with_len, list_all, list_any}
-use Rattle.std.proofs.lemmas.List.{get_or-set_same, get_or-set_other, get_or-map, get_or-take}
+use Rattle.std.proofs.lemmas.List.{get_or-map, get_or-take}
 use Rattle.std.proofs.lemmas.List.FromFn.{fill_by_all}
 use Rattle.std.proofs.lemmas.List.Folds.{list_any_at}
 use Rattle.std.proofs.lemmas.Bool.{cases_eq, and_parts}
 use Rattle.cx_grid.specs.declared.boxes.Point.{Point}
 use Rattle.cx_grid.specs.declared.boxes.Box3.{Box3}
 use Rattle.cx_grid.specs.Boxes.{point_count, point_in, numbers_in, index_in}
-use Rattle.cx_grid.proofs.Places.{index_at_point}
 use Rattle.cx_plan.specs.declared.item.Touch.{Touch}
 use Rattle.cx_plan.specs.Regions.{are_distinct, same_level}
 use Rattle.cx_rule.specs.States.{level_of}
@@ -30,35 +29,6 @@ pub record ZoneTo (b : Box3) (zone : Zone) (within old now : List ℤ) (i : ℕ)
 pub zone_none : (b : Box3) (zone : Zone) (within old : List ℤ) → ZoneTo b zone within old old 0
 zone_none b zone within old = record { count = refl; done = λ j l. absurd (omega (arith, l)); rest = λ j l. refl }
 
-module _ (b : Box3) (zone : Zone) (within old now : List ℤ) (i : ℕ) (below : i < point_count b) (room : length old ≡ point_count b) (f : ZoneTo b zone within old now i) where
-  at_i : (t : Bool) → in_zone zone (point_in b i) ≡ t → (new : List ℤ) → new ≡ (if t then slice_set now i (slice_index_or within i (pos 0)) else now)
-      → slice_index_or new i (pos 0) ≡ mixed_at b zone within old (point_in b i)
-  at_i true is new e =
-      let l : i < length now = omega (arith, below, room, f.count) in
-      rw (e, is, index_at_point b i below) (get_or-set_same now i (slice_index_or within i (pos 0)) (pos 0) l)
-  at_i false is new e = rw (e, is, index_at_point b i below) (f.rest i (omega arith))
-
-  other : (t : Bool) (new : List ℤ) → new ≡ (if t then slice_set now i (slice_index_or within i (pos 0)) else now)
-      → (j : ℕ) → (j ≡ i → ⊥) → slice_index_or new j (pos 0) ≡ slice_index_or now j (pos 0)
-  other true new e j h = rw e (get_or-set_other now i j (slice_index_or within i (pos 0)) (pos 0) h)
-  other false new e j h = rw e refl
-
-  counted : (t : Bool) (new : List ℤ) → new ≡ (if t then slice_set now i (slice_index_or within i (pos 0)) else now) → length new ≡ length old
-  counted true new e = rw e (length-set now i (slice_index_or within i (pos 0)) ∙ f.count)
-  counted false new e = rw e f.count
-
-  pub zone_more : (new : List ℤ) → new ≡ (if in_zone zone (point_in b i) then slice_set now i (slice_index_or within i (pos 0)) else now)
-      → ZoneTo b zone within old new (i + 1)
-  zone_more new e = record {
-    count = counted (in_zone zone (point_in b i)) new e;
-    done = λ j l m. pick j l m (cases_eq j i);
-    rest = λ j l. other (in_zone zone (point_in b i)) new e j (λ r. omega (arith, r, l)) ∙ f.rest j (omega (arith, l));
-  }
-    where
-      pick : (j : ℕ) → j < i + 1 → j < point_count b → (j ≡ i) ⊎ (j ≡ i → ⊥) → slice_index_or new j (pos 0) ≡ mixed_at b zone within old (point_in b j)
-      pick j l m (inl r) = rw r (at_i (in_zone zone (point_in b i)) refl new e)
-      pick j l m (inr r) = other (in_zone zone (point_in b i)) new e j r ∙ f.done j (omega (arith, l, r)) m
-
 pub zone_all : (b : Box3) (zone : Zone) (within old now : List ℤ) (n : ℕ) → n ≡ point_count b → length old ≡ point_count b → ZoneTo b zone within old now n
     → now ≡ numbers_in b (mixed_at b zone within old)
 zone_all b zone within old now n e room f =
@@ -68,12 +38,6 @@ zone_all b zone within old now n e room f =
 
 abbrev pub rest_of_points : Box3 → ℕ → List Point
 rest_of_points b i = map (point_in b) (range_with_len i (point_count b - i))
-
-pub tested_next : (b : Box3) (test : Point → Bool) (i : ℕ) → i < point_count b
-    → list_all test (rest_of_points b i) ≡ (test (point_in b i) && list_all test (rest_of_points b (i + 1)))
-tested_next b test i h =
-    let e : point_count b - i ≡ suc (point_count b - (i + 1)) = omega (arith, h) in
-    rw e refl
 
 pub tested_none : (b : Box3) (test : Point → Bool) (i : ℕ) → i ≡ point_count b → list_all test (rest_of_points b i) ≡ true
 tested_none b test i e =

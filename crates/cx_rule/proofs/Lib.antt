@@ -19,3 +19,5 @@ pub mod PointLaws
 pub mod CommitSteps
 pub mod PutLaws
 mod SkipLaws
+pub mod RunLaws
+pub mod RowLaws

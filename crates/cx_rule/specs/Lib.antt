@@ -13,4 +13,5 @@ pub mod Zones
 pub mod Faces
 pub mod Filling
 pub mod Staging
+pub mod Runs
 pub mod Swept

@@ -1,7 +1,7 @@
 //! Staged numbers set at once.
-ghost use Rattle.std.specs.Prelude.{◌≡◌, ◌<◌, ◌≤◌, ◌||◌, not, is_some, map, take, length, replicate, slice_index_or, slice_set, [], pos, All, true};
+ghost use Rattle.std.specs.Prelude.{◌≡◌, ◌<◌, ◌≤◌, ◌||◌, not, is_some, map, take, length, replicate, slice_index_or, slice_set, [], pos, All, OnErr, true};
 ghost use Rattle.std.specs.List.{list_all};
-ghost use Rattle.cx_grid.specs.Boxes.{IsIn, IsBox, IsSmall, point_count, points_in, numbers_in, point_in};
+ghost use Rattle.cx_grid.specs.Boxes.{IsIn, IsBox, IsSmall, extent, point_count, points_in, numbers_in};
 ghost use Rattle.cx_plan.specs.Lookups.{variable};
 ghost use Rattle.cx_plan.specs.Regions.{are_distinct};
 ghost use Rattle.cx_plan.specs.declared.item.ItemKind.{ItemKind};
@@ -9,28 +9,32 @@ ghost use Rattle.cx_plan.specs.declared.item.Touch.{Touch};
 ghost use Rattle.cx_rule.specs.States.{level_of, with_level};
 ghost use Rattle.cx_rule.specs.Sweeps.{fits, all_fit, levels_after, scalars_after};
 ghost use Rattle.cx_rule.specs.Patches.{IsPatch, IsGridLevel, IsScalar, setup_in, values_in, with_numbers, with_buffers};
-ghost use Rattle.cx_rule.specs.Staging.{fitting_at, staged_numbers, mixed_at, numbers_staged, does_fit, levels_put, CanCommit, SetsBy, AreBuffers};
-ghost use Rattle.cx_rule.specs.Zones.{in_zone};
+ghost use Rattle.cx_rule.specs.Staging.{fitting_at, staged_numbers, mixed_at, numbers_staged, levels_put, CanCommit, SetsBy, AreBuffers};
+ghost use Rattle.cx_rule.specs.Runs.{row_count, row_points, fits_at, fits_zone, levels_fit, is_within, are_within, SpendsOne};
 
 use crate::Overflow;
 use crate::levels::Levels;
 use crate::part::Part;
-use crate::zone::{Zone, in_zone};
-use cx_grid::{Box3, count, index_of, point_at};
+use crate::runs::{numbers_on, row_count, row_start, runs_at};
+use crate::zone::Zone;
+use cx_grid::{Box3, index_of};
 use cx_plan::{Item, ItemKind, Touch, VarId, VarInfo};
 
 impl Part {
-    /// Sets what an item writes to what is staged, or nothing where a number leaves its type.
+    /// Sets what an item writes to what is staged, or nothing where a number leaves its type. What the buffers have is open
+    /// then, but where nothing was set.
     pub(crate) fn commit(
         &mut self,
         item: &Item,
-        staged: &Levels,
+        staged: &mut Levels,
         zone: &Zone,
     ) -> Result<(), Overflow>
-        requires can { CanCommit (with_buffers self.old staged.now 0) item.now zone.now }
-        requires buffers { AreBuffers self.old.local staged.now }
-        ensures { SetsBy item.now.kind (with_buffers self.old staged.now 0) item.now
+        requires can { CanCommit (with_buffers self.old staged.old 0) item.now zone.now }
+        requires buffers { AreBuffers self.old.local staged.old }
+        ensures sets { SetsBy item.now.kind (with_buffers self.old staged.old 0) item.now
             zone.now self.old self.new result }
+        ensures sizes { map length staged.new ≡ map length staged.old }
+        ensures kept { OnErr result (staged.new ≡ staged.old) }
     {
         match item.kind {
             ItemKind::Scalar => self.commit_scalars(item, staged, zone),
@@ -39,13 +43,20 @@ impl Part {
     }
 
     /// Sets levels at the points of a zone.
-    fn commit_levels(&mut self, item: &Item, staged: &Levels, zone: &Zone) -> Result<(), Overflow>
+    fn commit_levels(
+        &mut self,
+        item: &Item,
+        staged: &mut Levels,
+        zone: &Zone,
+    ) -> Result<(), Overflow>
         requires levels { All (λ (w : Touch). IsGridLevel self.old w.var w.level) item.now.writes }
         requires distinct { are_distinct item.now.writes ≡ true }
-        requires writes { length item.now.writes ≤ length staged.now }
-        requires buffers { AreBuffers self.old.local staged.now }
-        ensures { SetsBy ItemKind.Cell (with_buffers self.old staged.now 0) item.now
+        requires writes { length item.now.writes ≤ length staged.old }
+        requires buffers { AreBuffers self.old.local staged.old }
+        ensures sets { SetsBy ItemKind.Cell (with_buffers self.old staged.old 0) item.now
             zone.now self.old self.new result }
+        ensures sizes { map length staged.new ≡ map length staged.old }
+        ensures kept { OnErr result (staged.new ≡ staged.old) }
     {
         if !self.fit(item.writes.as_slice(), staged, zone) {
             return Err(Overflow);
@@ -93,67 +104,52 @@ impl Part {
         requires vars { All (λ (w : Touch). w.var.0 < length self.now.vars) writes.now }
         requires writes { length writes.now ≤ length staged.now }
         requires buffers { AreBuffers self.now.local staged.now }
-        ensures { result
-            ≡ list_all (does_fit (setup_in self.now) self.now.local zone.now writes.now
-            staged.now)
-            (points_in self.now.local) }
+        ensures { result ≡ levels_fit (setup_in self.now) self.now.local zone.now writes.now
+            staged.now }
     {
-        'points: for i in 0..count(self.local()) {
-            if !self.fits_in(writes, staged, zone, i) {
+        'writes: for (k, write) in writes.iter().enumerate() {
+            if !fits_zone(self.local(), zone, staged.get(k), self.info(write.var)) {
                 return false;
             }
         }
         true
     }
 
-    /// Whether the point at a place lies outside of a zone, or what is staged there is in its variables' types.
-    fn fits_in(&self, writes: &[Touch], staged: &Levels, zone: &Zone, at: usize) -> bool
-        requires vars { All (λ (w : Touch). w.var.0 < length self.now.vars) writes.now }
-        requires writes { length writes.now ≤ length staged.now }
-        requires place { at < point_count self.now.local }
-        requires buffers { AreBuffers self.now.local staged.now }
-        ensures { result
-            ≡ does_fit (setup_in self.now) self.now.local zone.now writes.now staged.now
-            (point_in self.now.local at) }
-    {
-        if in_zone(zone, point_at(self.local(), at)) {
-            self.fits_at(writes, staged, at)
-        } else {
-            true
-        }
-    }
-
-    /// Sets levels at the points of a zone to what is staged there.
-    fn put_levels(&mut self, writes: &[Touch], staged: &Levels, zone: &Zone)
+    /// Sets levels at the points of a zone to what is staged there. What the buffers have then is left open.
+    fn put_levels(&mut self, writes: &[Touch], staged: &mut Levels, zone: &Zone)
         requires levels { All (λ (w : Touch). IsGridLevel self.old w.var w.level) writes.now }
         requires distinct { are_distinct writes.now ≡ true }
-        requires writes { length writes.now ≤ length staged.now }
-        requires buffers { AreBuffers self.old.local staged.now }
-        ensures { self.new ≡ with_numbers self.old (levels_put self.old zone.now staged.now
+        requires writes { length writes.now ≤ length staged.old }
+        requires buffers { AreBuffers self.old.local staged.old }
+        ensures value { self.new ≡ with_numbers self.old (levels_put self.old zone.now staged.old
             (length writes.now) 0 writes.now self.old.numbers) }
+        ensures sizes { map length staged.new ≡ map length staged.old }
     {
         'writes: for k in 0..writes.len() {
-            self.put_level(writes[k].var, writes[k].level, zone, staged.get(k));
+            self.put_level(writes[k].var, writes[k].level, zone, staged, k);
         }
     }
 
-    /// Sets a level at the points of a zone to other numbers.
-    fn put_level(&mut self, v: VarId, level: u8, zone: &Zone, within: &[i64])
+    /// Sets a level at the points of a zone to what a buffer has there. What it has then is left open.
+    fn put_level(&mut self, v: VarId, level: u8, zone: &Zone, staged: &mut Levels, k: usize)
         requires level { IsGridLevel self.old v level }
-        requires within { length within.now ≡ point_count self.old.local }
+        requires buffer { k < length staged.old }
+        requires within { length (slice_index_or staged.old k []) ≡ point_count self.old.local }
         ensures patch { IsPatch self.old }
         ensures value { self.new ≡ with_numbers self.old (with_level self.old.numbers v level
-            (numbers_in self.old.local (mixed_at self.old.local zone.now within.now
-            (level_of self.old.numbers v level)))) }
+            (numbers_in self.old.local (mixed_at self.old.local zone.now
+            (slice_index_or staged.old k []) (level_of self.old.numbers v level)))) }
+        ensures staged { SpendsOne k staged.old staged.new }
     {
         let local = self.local;
-        put_zone(
+        take_zone(
             &mut self.numbers,
             v.0 as usize,
             level as usize,
+            staged,
+            k,
             &local,
             zone,
-            within,
         );
     }
 
@@ -179,20 +175,103 @@ fn fits(info: &VarInfo, number: i64) -> bool
     info.low() <= number && number <= info.high()
 }
 
-/// Sets the numbers of a level of a variable at a zone's points to other ones.
-fn put_zone(all: &mut Vec<Levels>, v: usize, level: usize, b: &Box3, zone: &Zone, within: &[i64])
-    requires var { v < length all.old.items }
-    requires level { level < length (slice_index_or all.old.items v []) }
+/// Whether the numbers at a zone's points are such as a variable can have.
+fn fits_zone(b: &Box3, zone: &Zone, values: &[i64], info: &VarInfo) -> bool
     requires ordered { IsBox b.now }
     requires small { IsSmall b.now }
+    requires wide { 0 < extent b.now 0 }
+    requires size { length values.now ≡ point_count b.now }
+    ensures { result ≡ fits_zone b.now zone.now values.now info.now.ctype }
+{
+    fits_rows(b, zone, values, info.low(), info.high())
+}
+
+/// Whether the numbers at a zone's points lie in a range.
+fn fits_rows(b: &Box3, zone: &Zone, values: &[i64], low: i64, high: i64) -> bool
+    requires ordered { IsBox b.now }
+    requires small { IsSmall b.now }
+    requires wide { 0 < extent b.now 0 }
+    requires size { length values.now ≡ point_count b.now }
+    ensures { result ≡ list_all (fits_at b.now zone.now values.now low high) (points_in b.now) }
+{
+    'rows: for row in 0..row_count(b) {
+        if !fits_row(b, zone, values, row, low, high) {
+            return false;
+        }
+    }
+    true
+}
+
+/// Whether the numbers at a zone's points of a row lie in a range.
+fn fits_row(b: &Box3, zone: &Zone, values: &[i64], row: usize, low: i64, high: i64) -> bool
+    requires ordered { IsBox b.now }
+    requires small { IsSmall b.now }
+    requires wide { 0 < extent b.now 0 }
+    requires size { length values.now ≡ point_count b.now }
+    requires row { row < row_count b.now }
+    ensures { result ≡ list_all (fits_at b.now zone.now values.now low high)
+        (row_points b.now row) }
+{
+    let start = row_start(b, row);
+    let runs = runs_at(zone, b, start);
+    let before = numbers_on(values, start, runs.before);
+    let behind = numbers_on(values, start, runs.behind);
+    are_within(before, low, high) && are_within(behind, low, high)
+}
+
+/// Whether numbers lie in a range. Each lies in that of all numbers, and none is looked at.
+fn are_within(values: &[i64], low: i64, high: i64) -> bool
+    ensures { result ≡ are_within low high values.now }
+{
+    if low == i64::MIN && high == i64::MAX {
+        all_within(values, i64::MIN, i64::MAX)
+    } else {
+        all_within(values, low, high)
+    }
+}
+
+/// Whether numbers lie in a range, with no way out before the last one: so many are tested at a time.
+fn all_within(values: &[i64], low: i64, high: i64) -> bool
+    ensures { result ≡ are_within low high values.now }
+{
+    let mut all = true;
+    'values: for value in values {
+        all = is_within(*value, low, high) && all;
+    }
+    all
+}
+
+fn is_within(value: i64, low: i64, high: i64) -> bool
+    ensures { result ≡ is_within low high value }
+{
+    low <= value && value <= high
+}
+
+/// Sets the numbers of a level of a variable at a zone's points to those of a buffer.
+fn take_zone(
+    all: &mut Vec<Levels>,
+    v: usize,
+    level: usize,
+    buffers: &mut Levels,
+    k: usize,
+    b: &Box3,
+    zone: &Zone,
+)
+    requires var { v < length all.old.items }
+    requires level { level < length (slice_index_or all.old.items v []) }
+    requires buffer { k < length buffers.old }
+    requires ordered { IsBox b.now }
+    requires small { IsSmall b.now }
+    requires wide { 0 < extent b.now 0 }
     requires room { length (slice_index_or (slice_index_or all.old.items v []) level [])
         ≡ point_count b.now }
-    requires within { length within.now ≡ point_count b.now }
-    ensures { all.new.items
+    requires same { length (slice_index_or buffers.old k []) ≡ point_count b.now }
+    ensures levels { all.new.items
         ≡ slice_set all.old.items v (slice_set (slice_index_or all.old.items v []) level
-        (numbers_in b.now (mixed_at b.now zone.now within.now
+        (numbers_in b.now (mixed_at b.now zone.now (slice_index_or buffers.old k [])
         (slice_index_or (slice_index_or all.old.items v []) level [])))) }
+    ensures buffers { SpendsOne k buffers.old buffers.new }
 {
     let levels = &mut all[v];
-    levels.put_zone(level, b, zone, within);
+    levels.take_zone(level, buffers, k, b, zone);
 }

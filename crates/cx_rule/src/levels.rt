@@ -1,12 +1,14 @@
 //! Lists of numbers, one for each level of a variable, or for each write.
-ghost use Rattle.std.specs.Prelude.{◌≡◌, ◌<◌, ◌≤◌, ◌+◌, IfOk, pos, replicate, [], length, map, slice_index_or, slice_set, All, if◌then◌else◌};
-ghost use Rattle.cx_grid.specs.Boxes.{IsBox, IsSmall, point_count, numbers_in};
+ghost use Rattle.std.specs.Prelude.{◌≡◌, ◌<◌, ◌≤◌, ◌+◌, IfOk, pos, replicate, [], length, map, slice_index_or, slice_set, All};
+ghost use Rattle.cx_grid.specs.Boxes.{IsBox, IsSmall, extent, point_count, numbers_in};
+ghost use Rattle.cx_rule.specs.Runs.{row_count, SetsRow, KeepsRow, SetsSpan, SpendsOne};
 ghost use Rattle.cx_rule.specs.States.{rotated_levels};
 ghost use Rattle.cx_rule.specs.Staging.{put_from, staged_at, no_numbers, cleared, mixed_at};
 
 use crate::Cells;
-use crate::zone::{Zone, in_zone};
-use cx_grid::{Box3, count, point_at};
+use crate::runs::{Span, numbers_on, places, row_count, row_start, runs_at, width};
+use crate::zone::{Zone, has_hole};
+use cx_grid::Box3;
 use cx_text::Memory;
 use std::alloc::Global;
 use std::marker::Model;
@@ -67,16 +69,105 @@ impl Level {
         clear(&mut self.values);
     }
 
-    /// Sets the numbers at a zone's points to other ones. There is one number for each point of the box.
+    /// Sets the numbers at a zone's points to those of a buffer. There is one number for each point of the box. What the buffer
+    /// has then is left open.
+    fn take_zone(&mut self, buffer: &mut Level, b: &Box3, zone: &Zone)
+        requires ordered { IsBox b.now }
+        requires small { IsSmall b.now }
+        requires wide { 0 < extent b.now 0 }
+        requires room { length self.old ≡ point_count b.now }
+        requires buffer { length buffer.old ≡ point_count b.now }
+        ensures value { self.new
+            ≡ numbers_in b.now (mixed_at b.now zone.now buffer.old self.old) }
+        ensures count { length buffer.new ≡ length buffer.old }
+    {
+        if has_hole(zone) {
+            self.put_zone(b, zone, buffer.as_slice());
+        } else {
+            buffer.keep_outside(b, zone, self.as_slice());
+            swap(self, buffer);
+        }
+    }
+
+    /// Sets the numbers at a zone's points to other ones, row by row. There is one number for each point of the box.
     fn put_zone(&mut self, b: &Box3, zone: &Zone, within: &[i64])
         requires ordered { IsBox b.now }
         requires small { IsSmall b.now }
+        requires wide { 0 < extent b.now 0 }
         requires room { length self.old ≡ point_count b.now }
         requires within { length within.now ≡ point_count b.now }
         ensures { self.new ≡ numbers_in b.now (mixed_at b.now zone.now within.now self.old) }
     {
-        put_zone(&mut self.values, b, zone, within);
+        'rows: for row in 0..row_count(b) {
+            self.put_zone_row(b, zone, within, row);
+        }
     }
+
+    /// Sets the numbers at a zone's points of a row to other ones.
+    fn put_zone_row(&mut self, b: &Box3, zone: &Zone, within: &[i64], row: usize)
+        requires ordered { IsBox b.now }
+        requires small { IsSmall b.now }
+        requires wide { 0 < extent b.now 0 }
+        requires room { length self.old ≡ point_count b.now }
+        requires within { length within.now ≡ point_count b.now }
+        requires row { row < row_count b.now }
+        ensures { SetsRow b.now zone.now within.now row self.old self.new }
+    {
+        let start = row_start(b, row);
+        let runs = runs_at(zone, b, start);
+        self.put_span(within, start, runs.before);
+        self.put_span(within, start, runs.behind);
+    }
+
+    /// Sets the numbers at all points outside of a zone to those of a level, row by row.
+    fn keep_outside(&mut self, b: &Box3, zone: &Zone, level: &[i64])
+        requires ordered { IsBox b.now }
+        requires small { IsSmall b.now }
+        requires wide { 0 < extent b.now 0 }
+        requires room { length self.old ≡ point_count b.now }
+        requires level { length level.now ≡ point_count b.now }
+        ensures { self.new ≡ numbers_in b.now (mixed_at b.now zone.now self.old level.now) }
+    {
+        'rows: for row in 0..row_count(b) {
+            self.keep_row_outside(b, zone, level, row);
+        }
+    }
+
+    /// Sets the numbers at a row's points outside of a zone to those of a level.
+    fn keep_row_outside(&mut self, b: &Box3, zone: &Zone, level: &[i64], row: usize)
+        requires ordered { IsBox b.now }
+        requires small { IsSmall b.now }
+        requires wide { 0 < extent b.now 0 }
+        requires room { length self.old ≡ point_count b.now }
+        requires level { length level.now ≡ point_count b.now }
+        requires row { row < row_count b.now }
+        ensures { KeepsRow b.now zone.now level.now row self.old self.new }
+    {
+        let start = row_start(b, row);
+        let runs = runs_at(zone, b, start);
+        let end = width(b);
+        self.put_span(level, start, places(0, runs.before.from));
+        self.put_span(level, start, places(runs.before.to, runs.behind.from));
+        self.put_span(level, start, places(runs.behind.to, end));
+    }
+
+    /// Sets the numbers of a span of a row to those that stand there in another list.
+    fn put_span(&mut self, within: &[i64], start: usize, span: Span)
+        requires order { span.from ≤ span.to }
+        requires room { start + span.to ≤ length within.now }
+        requires same { length self.old ≡ length within.now }
+        ensures { SetsSpan within.now start span self.old self.new }
+    {
+        self.put_row(start + span.from, numbers_on(within, start, span));
+    }
+}
+
+/// Two levels change places.
+fn swap(a: &mut Level, b: &mut Level)
+    ensures a { a.new ≡ b.old }
+    ensures b { b.new ≡ a.old }
+{
+    std::mem::swap(&mut a.values, &mut b.values);
 }
 
 /// Sets all numbers to 0.
@@ -85,31 +176,6 @@ fn clear(values: &mut Vec<i64>)
 {
     'values: for value in values.iter_mut() {
         *value = 0;
-    }
-}
-
-/// Sets the numbers at a zone's points to other ones.
-fn put_zone(values: &mut Vec<i64>, b: &Box3, zone: &Zone, within: &[i64])
-    requires ordered { IsBox b.now }
-    requires small { IsSmall b.now }
-    requires room { length values.old.items ≡ point_count b.now }
-    requires within { length within.now ≡ point_count b.now }
-    ensures { values.new.items ≡ numbers_in b.now
-        (mixed_at b.now zone.now within.now values.old.items) }
-{
-    'points: for i in 0..count(b) {
-        put_if(values, i, within[i], in_zone(zone, point_at(b, i)));
-    }
-}
-
-/// Sets the number at a place, or leaves it.
-fn put_if(values: &mut Vec<i64>, at: usize, value: i64, put: bool)
-    requires { at < length values.old.items }
-    ensures { values.new.items ≡ (if put then slice_set values.old.items at value
-        else values.old.items) }
-{
-    if put {
-        values[at] = value;
     }
 }
 
@@ -242,17 +308,30 @@ impl Levels {
         clear_all(&mut self.levels);
     }
 
-    /// Sets the numbers of a level at a zone's points to other ones. The level has one number for each point of the box.
-    pub(crate) fn put_zone(&mut self, level: usize, b: &Box3, zone: &Zone, within: &[i64])
+    /// Sets the numbers of a level at a zone's points to those of one of some buffers. The level and the buffer have one number for
+    /// each point of the box. What the buffer has then is left open.
+    pub(crate) fn take_zone(
+        &mut self,
+        level: usize,
+        buffers: &mut Levels,
+        k: usize,
+        b: &Box3,
+        zone: &Zone,
+    )
         requires level { level < length self.old }
+        requires buffer { k < length buffers.old }
         requires ordered { IsBox b.now }
         requires small { IsSmall b.now }
+        requires wide { 0 < extent b.now 0 }
         requires room { length (slice_index_or self.old level []) ≡ point_count b.now }
-        requires within { length within.now ≡ point_count b.now }
-        ensures { self.new ≡ slice_set self.old level (numbers_in b.now
-            (mixed_at b.now zone.now within.now (slice_index_or self.old level []))) }
+        requires same { length (slice_index_or buffers.old k []) ≡ point_count b.now }
+        ensures level { self.new ≡ slice_set self.old level (numbers_in b.now
+            (mixed_at b.now zone.now (slice_index_or buffers.old k [])
+            (slice_index_or self.old level []))) }
+        ensures buffers { SpendsOne k buffers.old buffers.new }
     {
         let numbers = &mut self.levels[level];
-        numbers.put_zone(b, zone, within);
+        let buffer = &mut buffers.levels[k];
+        numbers.take_zone(buffer, b, zone);
     }
 }

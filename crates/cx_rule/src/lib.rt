@@ -14,6 +14,7 @@ mod places;
 mod point_rule;
 mod points;
 mod routine;
+mod runs;
 mod spec;
 mod staging;
 mod sweep;

@@ -101,7 +101,7 @@ impl Patch {
         requires { CanCommit self.old item.now zone.now }
         ensures { Commits self.old item.now zone.now self.new result }
     {
-        self.part.commit(item, &self.staged, zone)?;
+        self.part.commit(item, &mut self.staged, zone)?;
         self.staged.clear();
         Ok(())
     }

@@ -1,6 +1,7 @@
 //! The points that an item computes in a part.
 ghost use Rattle.std.specs.Prelude.{◌≡◌, ◌-ℤ◌, ◌≤ℤ◌, pos, if◌then◌else◌};
 ghost use Rattle.std.specs.Int.{int_min, int_max};
+ghost use Rattle.cx_grid.specs.Boxes.{has_point};
 ghost use Rattle.cx_grid.specs.Grid.{IsShape};
 ghost use Rattle.cx_rule.specs.Zones.{in_zone, inner, nothing, zone_of};
 
@@ -21,6 +22,13 @@ pub(crate) fn in_zone(zone: &Zone, p: Point) -> bool
     let all = contains(&zone.all, p);
     let hole = contains(&zone.hole, p);
     all && !hole
+}
+
+/// Whether there are points in a zone's hole.
+pub(crate) fn has_hole(zone: &Zone) -> bool
+    ensures { result ≡ has_point zone.now.hole zone.now.hole.low }
+{
+    contains(&zone.hole, zone.hole.low)
 }
 
 /// The points of a part that an item which writes this region computes.
