@@ -2,6 +2,7 @@
 #![tactic(auto)]
 
 mod base_name;
+mod gathered;
 mod printer;
 mod reader;
 mod settings;

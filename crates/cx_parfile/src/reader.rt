@@ -6,7 +6,8 @@ ghost use Rattle.cx_text.specs.Grammar.{ReadsBy, AnswersOnly};
 ghost use Rattle.cx_text.specs.Rules.{Obeys, Builds, token, loop, unmarked, sign_here};
 ghost use Rattle.cx_parfile.specs.ParFile.{name_of, name_mark, is_long_name, is_long_owner, is_index, index_of, index_mark, value_of, thorns_mark, bracketed, index, active, setting, is_active, behind, line, parameter_file};
 
-use crate::value::{activate_thorns, has_long_thorn, name_in, value_in};
+use crate::gathered::Gathered;
+use crate::value::{has_long_thorn, name_in, value_in};
 use crate::{Setting, Settings};
 use cx_text::{
     CclFault, Kind, List, MAX_NAME, Mark, Reader, Stop, Text, Token, Why, decimal, has_digits,
@@ -32,7 +33,7 @@ pub struct Name {
 #[derive(Drop)]
 pub struct Read {
     pub left: usize,
-    pub settings: Settings,
+    pub settings: Gathered,
 }
 
 fn is_long_owner(owner: &Option<Text>) -> bool
@@ -144,13 +145,13 @@ fn active(
     reader: &mut Reader,
     alloc: Global,
     base: &[u8],
-    settings: &mut Settings,
+    settings: &mut Gathered,
 ) -> Result<(), Stop>
     ensures { Builds (active base.now settings.old) settings.new result reader.old reader.new }
 {
     equals(reader)?;
     let value = thorns_here(reader, alloc, base)?;
-    activate_thorns(alloc, &mut settings.active, value.as_slice())?;
+    settings.activate(alloc, value.as_slice())?;
     Ok(())
 }
 
@@ -159,14 +160,14 @@ fn setting(
     alloc: Global,
     base: &[u8],
     name: Name,
-    settings: &mut Settings,
+    settings: &mut Gathered,
 ) -> Result<(), Stop>
     ensures { Builds (setting base.now name settings.old) settings.new result reader.old reader.new }
 {
     let index = index(reader)?;
     equals(reader)?;
     let value = value_here(reader, alloc, base)?;
-    settings.list.push(Setting {
+    settings.add(Setting {
         owner: name.owner,
         name: name.name,
         index,
@@ -187,7 +188,7 @@ fn behind(
     alloc: Global,
     base: &[u8],
     name: Name,
-    settings: &mut Settings,
+    settings: &mut Gathered,
 ) -> Result<(), Stop>
     ensures { Builds (behind base.now name settings.old) settings.new result reader.old reader.new }
 {
@@ -222,13 +223,10 @@ fn whole(reader: &mut Reader, alloc: Global, base: &[u8]) -> Result<Settings, St
 {
     let mut read = Read {
         left: MAX_SETTINGS,
-        settings: Settings {
-            active: List::empty(alloc),
-            list: List::empty(alloc),
-        },
+        settings: Gathered::new(alloc),
     };
     lines(reader, alloc, base, &mut read)?;
-    Ok(read.settings)
+    Ok(read.settings.into_settings())
 }
 
 /// What the tokens of a parameter file spell, in a file of this base name: a value that is wholly `$parfile` stands

@@ -6,7 +6,8 @@ ghost use Rattle.cx_parfile.specs.Values.{is_name_byte, is_name, is_colon, is_em
 ghost use Rattle.cx_parfile.specs.ParFile.{is_long, name_with};
 
 use crate::reader::Name;
-use cx_text::{List, MAX_NAME, Memory, Text, among};
+use cx_names::NameList;
+use cx_text::{MAX_NAME, Memory, Text};
 use std::alloc::{AllocError, Global};
 
 fn has_name_bytes(text: &[u8]) -> bool
@@ -111,16 +112,16 @@ pub fn has_long_thorn(alloc: Global, text: &[u8]) -> Result<bool, Memory>
     Ok(any_long(&parts))
 }
 
-fn activate(alloc: Global, active: &mut List<Text>, thorn: &[u8]) -> Result<(), Memory>
+fn activate(alloc: Global, active: &mut NameList, thorn: &[u8]) -> Result<(), Memory>
     ensures { OnOk result (active.new ≡ activate active.old thorn.now) }
 {
-    if among(active.as_slice(), thorn) {
+    if active.has(alloc, thorn)? {
         return Ok(());
     }
-    active.push(Text::from_slice(alloc, thorn)?)
+    active.push(alloc, Text::from_slice(alloc, thorn)?)
 }
 
-fn activate_all(alloc: Global, active: &mut List<Text>, parts: &[&[u8]]) -> Result<(), Memory>
+fn activate_all(alloc: Global, active: &mut NameList, parts: &[&[u8]]) -> Result<(), Memory>
     ensures { let names = filter (λ n. not (is_empty n)) (map (λ x. x.now) parts.now) in
         OnOk result (active.new ≡ activate_all active.old names) }
 {
@@ -133,7 +134,7 @@ fn activate_all(alloc: Global, active: &mut List<Text>, parts: &[&[u8]]) -> Resu
 }
 
 /// Adds the thorns that a text names and that are not there.
-pub fn activate_thorns(alloc: Global, active: &mut List<Text>, text: &[u8]) -> Result<(), Memory>
+pub fn activate_thorns(alloc: Global, active: &mut NameList, text: &[u8]) -> Result<(), Memory>
     ensures { OnOk result (active.new ≡ activate_all active.old (thorns_in text.now)) }
 {
     let parts = parts_of(alloc, text)?;
