@@ -100,7 +100,8 @@ fn value_here(reader: &mut Reader, alloc: Global, base: &[u8]) -> Result<Text, S
 }
 
 fn thorns_here(reader: &mut Reader, alloc: Global, base: &[u8]) -> Result<Text, Stop>
-    ensures { Obeys (token (value_of base.now) (thorns_mark base.now)) result reader.old reader.new }
+    ensures { Obeys (token (value_of base.now) (thorns_mark base.now))
+        result reader.old reader.new }
 {
     match reader.rest {
         [token, rest @ ..] if matches!(token.kind, Kind::Quoted | Kind::Word) => {
@@ -162,7 +163,8 @@ fn setting(
     name: Name,
     settings: &mut Gathered,
 ) -> Result<(), Stop>
-    ensures { Builds (setting base.now name settings.old) settings.new result reader.old reader.new }
+    ensures { Builds (setting base.now name settings.old) settings.new
+        result reader.old reader.new }
 {
     let index = index(reader)?;
     equals(reader)?;

@@ -88,7 +88,8 @@ fn is_separator(byte: u8) -> bool
 }
 
 fn parts_of(alloc: Global, text: &[u8]) -> Result<Vec<&[u8]>, AllocError>
-    ensures { IfOk result (λ parts. map (λ x. x.now) parts.items ≡ slice_split is_separator text.now) }
+    ensures { IfOk result (λ parts. map (λ x. x.now) parts.items
+        ≡ slice_split is_separator text.now) }
 {
     text.split(|byte| is_separator(*byte)).collect(alloc)
 }
