@@ -1,5 +1,5 @@
 -- Points of a zone's box that lie in its hole are passed over.
-use Rattle.std.proofs.Common.{◌≡◌, ℕ, zero, suc, ◌+◌, ◌*◌, ◌<◌, ◌≤◌, ◌^◌, Bool, true, false, arith, refl, sym, ap, ◌∙◌, subst, ℤ, pos, ◌+ℤ◌, ◌-ℤ◌, ◌≤ℤ◌, if◌then◌else◌, List, [], ◌∷◌, ◌++◌, length, get_or, take}
+use Rattle.std.proofs.Common.{◌≡◌, ℕ, zero, suc, ◌+◌, ◌<◌, ◌≤◌, ◌^◌, Bool, true, false, arith, refl, sym, ap, ◌∙◌, subst, ℤ, pos, ◌+ℤ◌, ◌-ℤ◌, ◌≤ℤ◌, if◌then◌else◌, List, [], ◌∷◌, ◌++◌, length, get_or, take}
 use Rattle.std.specs.Int.{int_gap, int_min, int_max}
 use Rattle.std.proofs.lemmas.Int.{ints, clamps, by_lt_z}
 use Rattle.std.proofs.lemmas.List.{take_more, take_all}
@@ -22,23 +22,10 @@ use Rattle.cx_rule.specs.Patches.{PatchValue, IsPart, IsPatch, beside}
 use Rattle.cx_rule.specs.Swept.{swept_zone}
 use Rattle.cx_rule.specs.Zones.{in_zone, inner, zone_of, item_zone, IsOutside}
 use Rattle.cx_rule.specs.declared.zone.Zone.{Zone}
+use Rattle.cx_rule.proofs.FaceLaws.{row_index}
 use Rattle.cx_rule.proofs.PartLaws.{IsAround, product, around_x, around_y, around_z, local_small}
 
--- ---- places along x
-
-gap_more : (low c : ℤ) (k : ℕ) → low ≤ℤ c → int_gap low (c +ℤ pos k) ≡ int_gap low c + k
-gap_more low c k h =
-    let over : low ≤ℤ (c +ℤ pos k) = omega (arith, ints, h) in
-    omega (arith, ints, gap_up low c h, gap_up low (c +ℤ pos k) over)
-
-carried : (a k n m : ℕ) → a + k + n * m ≡ a + n * m + k
-carried a k n m = omega arith
-
--- the place of a point so many further on
-pub place_beside : (b : Box3) (p : Point) (k : ℕ) → IsIn b p → index_in b (beside p k) ≡ index_in b p + k
-place_beside b p k h =
-    rw (gap_more b.low.x p.x k h.x.from)
-    (carried (int_gap b.low.x p.x) k (extent b 0) (int_gap b.low.y p.y + extent b 1 * int_gap b.low.z p.z))
+-- ---- places in a list
 
 -- a box's points have their places in its list
 point_here : (b : Box3) (p : Point) (i : ℕ) (d : Point) → IsIn b p → index_in b p ≡ i → get_or (points_in b) i d ≡ p
@@ -62,7 +49,7 @@ passes_over P z p (suc n) step here out was =
     let at = index_in z.all p + n in
     let last = out n (omega arith) in
     let before = passes_over P z p n step here (λ k l. out k (omega (arith, l))) was in
-    let place : index_in z.all (beside p n) ≡ at = place_beside z.all p n here in
+    let place : index_in z.all (beside p n) ≡ at = row_index z.all p n here.x.from in
     let inside : at < point_count z.all = subst (λ i. i < point_count z.all) place (index_below z.all (beside p n) last.all) in
     let below : at < length pts = omega (arith, inside, count_is z.all) in
     let next : take (at + 1) pts ≡ take at pts ++ beside p n ∷ [] =
