@@ -18,3 +18,6 @@ pub mod CommitLaws
 pub mod PointLaws
 pub mod CommitSteps
 pub mod PutLaws
+pub mod AlongLaws
+pub mod RowLaws
+pub mod RowSteps

@@ -14,3 +14,4 @@ pub mod Faces
 pub mod Filling
 pub mod Staging
 pub mod Swept
+pub mod Rows
