@@ -50,6 +50,10 @@ impl<R: RowRule> Routine for RowsOf<R> {
         &self.spec
     }
 
+    fn cap(&self) -> u64 {
+        self.spec.cap
+    }
+
     fn point(
         &self,
         w: &Window,
