@@ -1,7 +1,7 @@
 -- What a rule sees of a row of points stands in levels one after another.
-use Rattle.std.proofs.Common.{◌≡◌, ℕ, zero, suc, ◌+◌, ◌-◌, ◌*◌, ◌<◌, ◌≤◌, ◌^◌, true, false, arith, refl, sym, ap, ◌∙◌, subst, ℤ, pos, neg_ℤ, ◌+ℤ◌, ◌-ℤ◌, ◌≤ℤ◌, List, [], ◌∷◌, ◌++◌, length, map, take, cond}
+use Rattle.std.proofs.Common.{◌≡◌, ℕ, zero, suc, ◌+◌, ◌-◌, ◌*◌, ◌<◌, ◌≤◌, ◌^◌, true, arith, refl, sym, ap, ◌∙◌, subst, ℤ, pos, neg_ℤ, ◌+ℤ◌, ◌-ℤ◌, ◌≤ℤ◌, List, [], ◌∷◌, ◌++◌, length, map, take, cond}
 use Rattle.std.specs.Prelude.{slice_index_or, get_or, nat_lt}
-use Rattle.std.specs.List.{range_with_len, flat_map}
+use Rattle.std.specs.List.{flat_map}
 use Rattle.std.proofs.lemmas.Int.{ints}
 use Rattle.std.proofs.lemmas.Bool.{lt-ltb}
 use Rattle.std.proofs.lemmas.List.{length-map, get_or-map, get_or_append_left, get_or-append_right}
@@ -16,11 +16,11 @@ use Rattle.cx_plan.specs.declared.item.Touch.{Touch}
 use Rattle.cx_plan.specs.declared.item.Item.{Item}
 use Rattle.cx_plan.specs.declared.item.Region.TheVariants.{Interior}
 use Rattle.cx_plan.specs.Setups.{Setup}
-use Rattle.cx_rule.specs.Seen.{volumes, volume_of, place_among, value_of}
+use Rattle.cx_rule.specs.Seen.{volume_of, place_among, value_of}
 use Rattle.cx_rule.specs.Sweeps.{Values, values_around, reach_of, seen_at}
 use Rattle.cx_rule.specs.Patches.{PatchValue, IsPatch, IsGridLevel, IsNearPoint, beside, number_at, numbers_along, setup_in, values_in}
 use Rattle.cx_rule.specs.States.{scalar_of}
-use Rattle.cx_rule.specs.Rows.{SeenRow, row_of, reach_at, offset_from, middle, ShowsAlong, CanSeeRow}
+use Rattle.cx_rule.specs.Rows.{row_of, reach_at, offset_from, middle, ShowsAlong, CanSeeRow}
 use Rattle.cx_rule.proofs.WindowLaws.{around_count}
 use Rattle.cx_rule.proofs.FaceLaws.{local_is_near}
 

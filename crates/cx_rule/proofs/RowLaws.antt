@@ -1,14 +1,14 @@
 -- The rows of a box, and rows of numbers in a buffer.
-use Rattle.std.proofs.Common.{◌≡◌, ℕ, zero, suc, ◌+◌, ◌-◌, ◌*◌, ◌<◌, ◌≤◌, ◌⊎◌, inl, inr, Bool, true, false, arith, refl, sym, ap, ◌∙◌, subst, cond, ℤ, pos, ◌+ℤ◌, ◌-ℤ◌, ◌≤ℤ◌, ◌<ℤ◌, int_lt, List, [], ◌∷◌, ◌++◌, length, map, take, drop}
-use Rattle.std.specs.Prelude.{slice_index_or, slice_set}
+use Rattle.std.proofs.Common.{◌≡◌, ℕ, ◌+◌, ◌-◌, ◌*◌, ◌<◌, ◌≤◌, ◌⊎◌, inl, inr, Bool, true, false, arith, refl, sym, ap, ◌∙◌, subst, cond, ℤ, pos, ◌+ℤ◌, ◌≤ℤ◌, ◌<ℤ◌, int_lt, List, ◌++◌, length, take, drop}
+use Rattle.std.specs.Prelude.{slice_index_or}
 use Rattle.std.specs.Int.{int_gap}
 use Rattle.std.proofs.lemmas.Int.{ints}
 use Rattle.std.proofs.lemmas.Bool.{cases_lt}
-use Rattle.std.proofs.lemmas.List.{get_or-take, get_or-drop, get_or_append_left, get_or-append_right, length-append, length-drop, length-take-le}
+use Rattle.std.proofs.lemmas.List.{get_or-take, get_or-drop, get_or_append_left, get_or-append_right, length-take-le}
 use Rattle.cx_grid.specs.declared.boxes.Point.{Point}
 use Rattle.cx_grid.specs.declared.boxes.Box3.{Box3}
-use Rattle.cx_grid.specs.Boxes.{IsIn, IsOn, extent, point_count, index_in, point_in}
-use Rattle.cx_grid.proofs.Places.{gap_up, gap_at, gap_none, index_below, index_once, index_at_point, point_inside, same_point}
+use Rattle.cx_grid.specs.Boxes.{IsIn, IsOn, extent, point_count, index_in}
+use Rattle.cx_grid.proofs.Places.{gap_up, gap_at, gap_none, index_below, index_once, same_point}
 use Rattle.cx_rule.specs.Patches.{beside}
 use Rattle.cx_rule.specs.Staging.{put_from}
 use Rattle.cx_rule.specs.Rows.{next_below, row_starts, start_of, row_at}

@@ -1,5 +1,5 @@
 -- A zone that is staged row by row.
-use Rattle.std.proofs.Common.{◌≡◌, ℕ, zero, suc, ◌+◌, ◌-◌, ◌*◌, ◌<◌, ◌≤◌, ◌⊎◌, inl, inr, Bool, true, false, not, refl, sym, ap, ◌∙◌, subst, arith, cond, ℤ, pos, ◌+ℤ◌, ◌≤ℤ◌, List, [], ◌∷◌, ◌++◌, length, map, take, filter, get_or, length-append, length-set, Some, None, Result, Ok, Err}
+use Rattle.std.proofs.Common.{◌≡◌, ℕ, suc, ◌+◌, ◌-◌, ◌*◌, ◌<◌, ◌⊎◌, inl, inr, Bool, true, false, not, refl, sym, ap, ◌∙◌, subst, arith, cond, ℤ, pos, ◌+ℤ◌, ◌≤ℤ◌, List, [], ◌∷◌, length, map, take, filter, get_or, length-set, Some, Result, Ok, Err}
 use Rattle.std.specs.Prelude.{All, OnOk, OnErr, slice_index_or, slice_set}
 use Rattle.std.specs.Int.{int_gap}
 use Rattle.std.proofs.lemmas.Int.{ints}
@@ -75,6 +75,7 @@ pub fits_row : (s : Spec) (x : Item) (p : PatchValue) (low : Point) (n iteration
     → FitsRow s (row_of p x low n iteration)
 fits_row s x p low n iteration patch its one = record {
   some = let e = patch.part.shape.some in omega (arith, e);
+  most = let e = patch.part.shape.most in omega (arith, e);
   reads = sym (touch_reaches x.reads) ∙ ap (λ (ts : List (Region × ℕ)). map (λ (t : Region × ℕ). t.1) ts) its.reads ∙ want_reaches s.reads;
   dims = λ i. refl;
   shape = λ i. refl;

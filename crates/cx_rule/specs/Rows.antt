@@ -3,7 +3,6 @@ use Rattle.std.specs.Prelude.{ℕ, ◌+◌, ◌*◌, ◌<◌, ◌≤◌, ◌≡�
 use Rattle.cx_grid.specs.declared.boxes.Point.{Point}
 use Rattle.cx_grid.specs.declared.boxes.Box3.{Box3}
 use Rattle.cx_grid.specs.Boxes.{IsIn, extent, index_in}
-use Rattle.cx_grid.specs.Windows.{reach_box}
 use Rattle.cx_plan.specs.declared.item.Touch.{Touch}
 use Rattle.cx_plan.specs.declared.item.Item.{Item}
 use Rattle.cx_plan.specs.declared.item.ItemKind.TheVariants.{Cell}
@@ -56,6 +55,7 @@ pub record ShowsAlong (r : SeenRow) (k : ℕ) (y z : ℤ) (ns : List ℤ) : Type
 -- the row has the routine's reads and its places the routine's parameters; the routine has one write
 pub record FitsRow (s : Spec) (r : SeenRow) : Type 0 where
   pub some : 1 ≤ r.dims
+  pub most : r.dims ≤ 3
   pub reads : r.reaches ≡ map want_reach s.reads
   pub dims : (i : ℕ) → (r.seen i).dims ≡ r.dims
   pub shape : (i : ℕ) → (r.place i).shape.dims ≡ r.dims

@@ -1,4 +1,4 @@
-use Rattle.std.proofs.Common.{arith, length}
+use Rattle.std.proofs.Common.{arith}
 use Rattle.cx_rule.proofs.BufferLaws.{buffered, buffer_size}
 use Rattle.cx_rule.proofs.FaceLaws.{row_end}
 use Rattle.cx_rule.proofs.RowSteps.{bare_row, fits_row, stages_row}

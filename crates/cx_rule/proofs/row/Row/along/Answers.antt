@@ -1,4 +1,4 @@
-use Rattle.std.proofs.Common.{◌≡◌, arith, w32}
+use Rattle.std.proofs.Common.{arith, w32}
 use Rattle.std.proofs.lemmas.Int.{to_z-of_z}
 use Rattle.cx_rule.proofs.AlongLaws.{few, below, start_near, start_local, end_local, grid_level, shows, no_touch}
 use Rattle.cx_rule.proofs.row.Row.along.Goals as goal
