@@ -21,3 +21,6 @@ pub mod PutLaws
 mod SkipLaws
 pub mod RunLaws
 pub mod RowLaws
+pub mod AlongLaws
+pub mod RowSweeps
+pub mod RowSteps

@@ -63,18 +63,18 @@ cleared_sizes (b ∷ bs) =
 
 -- ---- what a routine may be called with
 
-touch_reaches : (ts : List Touch) → map (λ (t : Region × ℕ). t.1) (map of_touch ts) ≡ map reach_of ts
+pub touch_reaches : (ts : List Touch) → map (λ (t : Region × ℕ). t.1) (map of_touch ts) ≡ map reach_of ts
 touch_reaches [] = refl
 touch_reaches (t ∷ ts) = ap (λ (rs : List ℕ). t.reach ∷ rs) (touch_reaches ts)
 
-want_reaches : (ws : List Want) → map (λ (t : Region × ℕ). t.1) (map of_want ws) ≡ map want_reach ws
+pub want_reaches : (ws : List Want) → map (λ (t : Region × ℕ). t.1) (map of_want ws) ≡ map want_reach ws
 want_reaches [] = refl
 want_reaches (w ∷ ws) = ap (λ (rs : List ℕ). w.reach ∷ rs) (want_reaches ws)
 
-touch_count : (ts : List Touch) → length (map of_touch ts) ≡ length ts
+pub touch_count : (ts : List Touch) → length (map of_touch ts) ≡ length ts
 touch_count ts = length-map ts of_touch
 
-want_count : (ws : List Want) → length (map of_want ws) ≡ length ws
+pub want_count : (ws : List Want) → length (map of_want ws) ≡ length ws
 want_count ws = length-map ws of_want
 
 pub can_call : (s : Spec) (x : Item) (setup : Setup) (values : Values) (from y : Point) (iteration : ℕ) (w : Seen) (at : Place) (out : List ℤ)

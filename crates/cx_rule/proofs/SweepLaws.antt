@@ -14,7 +14,7 @@ use Rattle.cx_rule.proofs.PartPoints.{each_passes}
 
 -- ---- the points of a box
 
-point_there : (b : Box3) (i : ℕ) (d : Point) → i < point_count b → get_or (points_in b) i d ≡ point_in b i
+pub point_there : (b : Box3) (i : ℕ) (d : Point) → i < point_count b → get_or (points_in b) i d ≡ point_in b i
 point_there b i d l = let z : 0 + i ≡ i = omega arith in get_or-map-range_with_len (point_in b) 0 (point_count b) i i d l z
 
 -- what holds of each of a box's points in their list holds at each point that the box holds

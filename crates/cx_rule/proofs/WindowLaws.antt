@@ -98,7 +98,7 @@ room_left dims reads k d w below room same reaches =
     let all : volumes dims (map reach_of reads) ≡ sum_by f reads = volumes_sum dims reads in
     rw (same, reaches, so_far) (omega (arith, more, all, room))
 
-around_count : (setup : Setup) (values : Values) (p : Point) (r : Touch)
+pub around_count : (setup : Setup) (values : Values) (p : Point) (r : Touch)
     → length (values_around setup values p r) ≡ volume_of setup.shape.dims r.reach
 around_count setup values p r =
     let b = reach_box setup.shape.dims r.reach in

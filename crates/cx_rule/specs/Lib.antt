@@ -15,3 +15,4 @@ pub mod Filling
 pub mod Staging
 pub mod Runs
 pub mod Swept
+pub mod Rows

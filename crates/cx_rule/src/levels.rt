@@ -16,7 +16,7 @@ use std::marker::Model;
 /// The numbers of one level. Contracts see the list.
 #[derive(Debug, Drop)]
 pub(crate) struct Level {
-    values: Vec<i64>,
+    pub(crate) values: Vec<i64>,
 }
 
 impl Model for Level {
@@ -213,7 +213,7 @@ fn clear_all(levels: &mut Vec<Level>)
 /// Levels of numbers, the current one first. Contracts see the lists of their numbers.
 #[derive(Debug, Drop)]
 pub(crate) struct Levels {
-    levels: Vec<Level>,
+    pub(crate) levels: Vec<Level>,
 }
 
 impl Model for Levels {

@@ -210,7 +210,7 @@ fn window_point(shape: &Shape, region: Region, p: Point) -> Point
 }
 
 /// The region that an item writes: that of its first write.
-fn region_of(item: &Item) -> Region
+pub(crate) fn region_of(item: &Item) -> Region
     ensures { result ≡ region_of item.now.writes }
 {
     match item.writes.as_slice().first() {
