@@ -2,13 +2,14 @@
 
 ghost use Rattle.std.specs.Prelude.{[]};
 ghost use Rattle.cx_text.specs.Rules.{Obeys, Builds, token, loop, name_mark, choice, is_sign, nothing};
-ghost use Rattle.cx_text.specs.Lexemes.{first_mark, is_comma_or_word, is_quoted, quoted};
+ghost use Rattle.cx_text.specs.Lexemes.{first_mark, new_name_here, new_name, is_comma_or_word, is_quoted, quoted};
 ghost use Rattle.cx_text.specs.Tokens.{is_word};
 ghost use Rattle.cx_text.specs.declared.stop.Mark.TheVariants as marks;
 ghost use Rattle.cx_iface.specs.Groups.{group_name_of, group_name, copies, more_variables, variables, block, block_or_name, group};
 
 use crate::attributes::{Attributes, read_attributes, small};
 use crate::{Access, GType, Group};
+use cx_names::NameList;
 use cx_text::{CType, List, MAX_NAME, Mark, Reader, Stop, Text, Why};
 use std::alloc::Global;
 
@@ -58,24 +59,44 @@ fn copies(reader: &mut Reader) -> Result<Option<u32>, Stop>
     Ok(Some(u32::from(copies)))
 }
 
-fn more_variables(
-    reader: &mut Reader,
-    alloc: Global,
-    variables: &mut List<Text>,
-) -> Result<(), Stop>
+fn new_variable_here(reader: &mut Reader, alloc: Global, variables: &NameList) -> Result<Text, Stop>
+    ensures { Obeys (new_name_here variables.now) result reader.old reader.new }
+{
+    match reader.rest {
+        [token, rest @ ..] if token.is_word() => {
+            if variables.has(alloc, token.text.as_slice())? {
+                return Err(Stop::Fault(Why::Marked(Mark::Repeated)));
+            }
+            if token.text.len() > MAX_NAME {
+                return Err(Stop::Fault(Why::Marked(Mark::Limit)));
+            }
+            let name = Text::from_slice(alloc, token.text.as_slice())?;
+            reader.rest = rest;
+            Ok(name)
+        }
+        _ => Err(Stop::Fault(Why::Unexpected)),
+    }
+}
+
+/// The name of a variable that isn't yet among these.
+fn new_variable(reader: &mut Reader, alloc: Global, variables: &NameList) -> Result<Text, Stop>
+    ensures { Obeys (new_name variables.now) result reader.old reader.new }
+{
+    let name = new_variable_here(reader, alloc, variables)?;
+    reader.skip_line_ends();
+    Ok(name)
+}
+
+fn more_variables(reader: &mut Reader, alloc: Global, variables: &mut NameList) -> Result<(), Stop>
     ensures { Builds (more_variables variables.old) variables.new result reader.old reader.new }
 {
     reader.comma()?;
-    let variable = reader.new_name(alloc, variables.as_slice())?;
-    variables.push(variable)?;
+    let variable = new_variable(reader, alloc, variables)?;
+    variables.push(alloc, variable)?;
     Ok(())
 }
 
-fn variables_after(
-    reader: &mut Reader,
-    alloc: Global,
-    variables: &mut List<Text>,
-) -> Result<(), Stop>
+fn variables_after(reader: &mut Reader, alloc: Global, variables: &mut NameList) -> Result<(), Stop>
     ensures { Builds (loop is_comma_or_word more_variables variables.old) variables.new
         result reader.old reader.new }
 {
@@ -89,13 +110,13 @@ fn variables_after(
 fn variables(reader: &mut Reader, alloc: Global) -> Result<List<Text>, Stop>
     ensures { Obeys (choice is_word variables (nothing [])) result reader.old reader.new }
 {
-    let mut variables = List::empty(alloc);
+    let mut variables = NameList::new(alloc);
     if reader.at_word() {
-        let variable = reader.new_name(alloc, variables.as_slice())?;
-        variables.push(variable)?;
+        let variable = new_variable(reader, alloc, &variables)?;
+        variables.push(alloc, variable)?;
         variables_after(reader, alloc, &mut variables)?;
     }
-    Ok(variables)
+    Ok(variables.into_list())
 }
 
 /// A quoted text, if one stands here, else the text so far.
