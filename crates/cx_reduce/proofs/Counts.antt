@@ -1,15 +1,12 @@
 -- A part owns a point at least, and no more than the grid has; each of them is local.
-use Rattle.std.proofs.Common.{◌≡◌, ◌∙◌, ℕ, ◌<◌, ◌≤◌, ◌*◌, ◌^◌, ℤ, pos, negsuc, ◌<ℤ◌, ◌≤ℤ◌, length, get_or, sym, subst, zero-add, arith}
+use Rattle.std.proofs.Common.{ℕ, ◌≤◌, ◌*◌, ◌^◌, ℤ, pos, negsuc, ◌<ℤ◌, ◌≤ℤ◌, arith}
 use Rattle.std.specs.Int.{int_gap}
 use Rattle.std.proofs.lemmas.Int.{ints}
-use Rattle.std.proofs.lemmas.List.FromFn.{length-map-range_with_len, get_or-map-range_with_len}
 use native.Mathlib.Nat.{mul-le-mul}
-use Rattle.cx_grid.specs.declared.boxes.Point.{Point}
 use Rattle.cx_grid.specs.declared.boxes.Box3.{Box3}
 use Rattle.cx_grid.specs.declared.shapes.Shape.{Shape}
-use Rattle.cx_grid.specs.Boxes.{IsIn, point_count, points_in, point_in, extent}
+use Rattle.cx_grid.specs.Boxes.{point_count, extent}
 use Rattle.cx_grid.specs.Grid.{whole}
-use Rattle.cx_grid.proofs.Places.{point_inside}
 use Rattle.cx_field.specs.Patches.{IsPart}
 
 times_some : (a b : ℕ) → 1 ≤ a → 1 ≤ b → 1 ≤ a * b
@@ -43,14 +40,3 @@ module _ (s : Shape) (owned local : Box3) (part : IsPart s owned local) where
       in
       let few = part.shape.few in
       omega (arith, most, few)
-
-pub count_of : (b : Box3) → length (points_in b) ≡ point_count b
-count_of b = length-map-range_with_len (point_in b) 0 (point_count b)
-
--- a point that stands among a box's points lies in it
-pub among : (b : Box3) (k : ℕ) (o : Point) → k < length (points_in b) → o ≡ get_or (points_in b) k o → IsIn b o
-among b k o h e =
-    let count = count_of b in
-    let below : k < point_count b = omega (arith, count) in
-    let is : o ≡ point_in b k = e ∙ get_or-map-range_with_len (point_in b) 0 (point_count b) k k o below (zero-add k) in
-    subst (IsIn b) (sym is) (point_inside b k below)
