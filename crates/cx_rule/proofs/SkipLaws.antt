@@ -1,5 +1,5 @@
 -- Points of a zone's box that lie in its hole are passed over.
-use Rattle.std.proofs.Common.{◌≡◌, ℕ, zero, suc, ◌+◌, ◌<◌, ◌≤◌, ◌^◌, Bool, true, false, arith, refl, sym, ap, ◌∙◌, subst, ℤ, pos, ◌+ℤ◌, ◌-ℤ◌, ◌≤ℤ◌, if◌then◌else◌, List, [], ◌∷◌, ◌++◌, length, get_or, take}
+use Rattle.std.proofs.Common.{◌≡◌, ℕ, zero, suc, ◌+◌, ◌<◌, ◌≤◌, ◌^◌, Bool, true, false, arith, refl, sym, ap, ◌∙◌, subst, ℤ, pos, ◌+ℤ◌, ◌-ℤ◌, ◌≤ℤ◌, if◌then◌else◌, List, [], ◌∷◌, ◌++◌, length, length-append, get_or, take}
 use Rattle.std.specs.Int.{int_gap, int_min, int_max}
 use Rattle.std.proofs.lemmas.Int.{ints, clamps, by_lt_z}
 use Rattle.std.proofs.lemmas.List.{take_more, take_all}
@@ -33,7 +33,7 @@ point_here b p i d h e =
     let below : i < point_count b = subst (λ n. n < point_count b) e (index_below b p h) in
     get_or-map-range_with_len (point_in b) 0 (point_count b) i i d below (omega arith) ∙ ap (point_in b) (sym e) ∙ point_at_index b p h
 
-count_is : (b : Box3) → length (points_in b) ≡ point_count b
+pub count_is : (b : Box3) → length (points_in b) ≡ point_count b
 count_is b = length-map-range_with_len (point_in b) 0 (point_count b)
 
 -- What holds of the points before, and goes on over each point of the hole, holds behind them.
@@ -65,6 +65,21 @@ passes_one b at p l e =
     let below : at < length pts = omega (arith, l, count_is b) in
     let here : get_or pts at p ≡ p = get_or-map-range_with_len (point_in b) 0 (point_count b) at at p l (omega arith) ∙ sym e in
     sym (take_more pts at p below ∙ ap (λ q. take at pts ++ q ∷ []) here)
+
+-- a point that stands at a place of the list
+pub record IsAt (b : Box3) (k : ℕ) (p : Point) : Type 0 where
+  pub below : k < point_count b
+  pub place : p ≡ point_in b k
+  pub inside : IsIn b p
+
+pub is_at : (b : Box3) (k : ℕ) (p : Point) → k < length (points_in b) → p ≡ get_or (points_in b) k p → IsAt b k p
+is_at b k p l e =
+    let below : k < point_count b = omega (arith, l, count_is b) in
+    let place : p ≡ point_in b k = e ∙ get_or-map-range_with_len (point_in b) 0 (point_count b) k k p below (omega arith) in
+    record { below = below; place = place; inside = subst (IsIn b) (sym place) (point_inside b k below) }
+
+pub one_longer : {X : Type 0} (xs : List X) (x : X) → length (xs ++ x ∷ []) ≡ length xs + 1
+one_longer xs x = length-append xs (x ∷ [])
 
 -- and all of them
 pub passes_all : (b : Box3) (at : ℕ) → (at < point_count b → ⊥) → take at (points_in b) ≡ points_in b

@@ -9,7 +9,7 @@ ghost use Rattle.cx_rule.specs.Filling.{HoldsBox, SetsIfLocal, FilledTo, FilledV
 use crate::part::Part;
 use crate::patch::Patch;
 use crate::points::{difference, sum};
-use cx_grid::{Box3, Point, Shape, Side, contains, count, point_at};
+use cx_grid::{Box3, Point, Shape, Side, contains, count, rows};
 use cx_plan::VarId;
 use cx_text::{List, Memory};
 use std::alloc::Global;
@@ -100,8 +100,8 @@ impl Part {
         ensures { IfOk result (λ _. out.new.items
             ≡ out.old.items ++ numbers_in b.now (values_in self.now v 0)) }
     {
-        'points: for i in 0..count(b) {
-            out.push(self.get(v, 0, point_at(b, i)))?;
+        'points: for p in rows(b) {
+            out.push(self.get(v, 0, p))?;
         }
         Ok(())
     }
@@ -129,8 +129,10 @@ impl Part {
         requires count { length values.now ≡ point_count b.now }
         ensures { FilledTo self.old self.new v b.now values.now (point_count b.now) }
     {
-        'points: for i in 0..count(b) {
-            self.set_if_local(v, point_at(b, i), values[i]);
+        let mut at = 0;
+        'points: for p in rows(b) {
+            self.set_if_local(v, p, values[at]);
+            at += 1;
         }
     }
 
