@@ -20,3 +20,4 @@ pub mod CommitSteps
 pub mod PutLaws
 pub mod RunLaws
 pub mod RowLaws
+pub mod CountedLaws

@@ -14,4 +14,5 @@ pub mod Faces
 pub mod Filling
 pub mod Staging
 pub mod Runs
+pub mod Buffers
 pub mod Swept
