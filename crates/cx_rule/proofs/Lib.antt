@@ -24,3 +24,4 @@ pub mod RowLaws
 pub mod AlongLaws
 pub mod RowSweeps
 pub mod RowSteps
+pub mod CountedLaws

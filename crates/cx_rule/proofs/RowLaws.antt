@@ -11,6 +11,7 @@ use Rattle.cx_grid.specs.declared.boxes.Point.{Point}
 use Rattle.cx_grid.specs.declared.boxes.Box3.{Box3}
 use Rattle.cx_grid.specs.Boxes.{extent, point_count, point_in, points_in, index_in, numbers_in}
 use Rattle.cx_grid.proofs.Places.{index_at_point}
+use Rattle.cx_text.specs.declared.ctype.CType.{CType}
 use Rattle.cx_plan.specs.declared.item.Touch.{Touch}
 use Rattle.cx_plan.specs.Setups.{Setup}
 use Rattle.cx_plan.specs.Lookups.{variable}
@@ -450,3 +451,18 @@ cleared_same (x ∷ xs) (y ∷ ys) e =
     zeros_same [] (m ∷ ms) h = absurd (omega (arith, h))
     zeros_same (n ∷ ns) [] h = absurd (omega (arith, h))
     zeros_same (n ∷ ns) (m ∷ ms) h = ap (λ zs. pos 0 ∷ zs) (zeros_same ns ms (omega (arith, h)))
+
+-- ---- zones without points
+
+pub none_unfit : (b : Box3) (zone : Zone) (values : List ℤ) (t : CType) → ((p : Point) → in_zone zone p ≡ false) → true ≡ fits_zone b zone values t
+none_unfit b zone values t none =
+    sym (all_pass (fits_at b zone values (least t) (greatest t)) (points_in b)
+    (λ p. ap (λ z. not z || is_within (least t) (greatest t) (slice_index_or values (index_in b p) (pos 0))) (none p)))
+
+pub none_put : (b : Box3) (zone : Zone) (within level : List ℤ) → ((p : Point) → in_zone zone p ≡ false) → length level ≡ point_count b
+    → level ≡ numbers_in b (mixed_at b zone within level)
+none_put b zone within level none count =
+    fill_by_all (λ j. mixed_at b zone within level (point_in b j)) level (point_count b) (pos 0) count
+    (λ j l.
+    sym (ap (λ z. if z then slice_index_or within (index_in b (point_in b j)) (pos 0) else slice_index_or level (index_in b (point_in b j)) (pos 0)) (none (point_in b j))
+    ∙ ap (λ i. slice_index_or level i (pos 0)) (index_at_point b j l)))

@@ -1,5 +1,5 @@
 -- A zone that is staged row by row.
-use Rattle.std.proofs.Common.{◌≡◌, ℕ, suc, ◌+◌, ◌-◌, ◌*◌, ◌<◌, ◌⊎◌, inl, inr, Bool, true, false, not, refl, sym, ap, ◌∙◌, subst, arith, cond, ℤ, pos, ◌+ℤ◌, ◌≤ℤ◌, List, [], ◌∷◌, length, map, take, filter, get_or, length-set, Some, Result, Ok, Err}
+use Rattle.std.proofs.Common.{◌≡◌, ℕ, suc, max, ◌+◌, ◌-◌, ◌*◌, ◌<◌, ◌≤◌, ◌⊎◌, inl, inr, Bool, true, false, not, refl, sym, ap, ◌∙◌, subst, arith, cond, ℤ, pos, ◌+ℤ◌, ◌≤ℤ◌, List, [], ◌∷◌, length, map, take, filter, get_or, length-set, Some, Result, Ok, Err}
 use Rattle.std.specs.Prelude.{All, OnOk, OnErr, slice_index_or, slice_set}
 use Rattle.std.specs.Int.{int_gap}
 use Rattle.std.proofs.lemmas.Int.{ints}
@@ -25,10 +25,12 @@ use Rattle.cx_rule.specs.declared.spec.Spec.{Spec}
 use Rattle.cx_rule.specs.Patches.{PatchValue, IsPatch, beside, setup_in, values_in, with_buffers}
 use Rattle.cx_rule.specs.Staging.{put_from, with_row_staged, staged_numbers}
 use Rattle.cx_rule.specs.Zones.{in_zone, item_zone, zone_of, inner, nothing, zone_points}
+use Rattle.cx_rule.specs.Buffers.{counted}
 use Rattle.cx_rule.specs.Swept.{swept_zone, window_from, rule_numbers, IsSamePatch, CanSweep, IsStaged, StagesZone}
-use Rattle.cx_rule.specs.Rows.{CanSeeRow, FitsRow, IsRowPut, LacksOne, row_of, row_starts, row_at, CanStageRow, StagesRow, IsRowItem, RowsStaged}
+use Rattle.cx_rule.specs.Rows.{RowValue, CanSeeRow, FitsRow, IsRowPut, LacksOne, seen_row, row_of, row_starts, row_at, CanStageRow, StagesRow, IsRowItem, RowsStaged}
 use Rattle.cx_rule.specs.declared.zone.Zone.{Zone}
 use Rattle.cx_rule.proofs.BufferLaws.{buffer_length}
+use Rattle.cx_rule.proofs.CountedLaws.{counted_put}
 use Rattle.cx_rule.proofs.PointLaws.{bare_sees, count_kept}
 use Rattle.cx_rule.proofs.StageLaws.{touch_reaches, want_reaches, touch_count, want_count}
 use Rattle.cx_rule.proofs.RowSweeps.{OnRow, row_point, row_gap, beside_row, put_on, put_off, row_below, row_counts, row_some, on_row, row_in, row_place}
@@ -285,3 +287,14 @@ module _ (s : Spec) (x : Item) (old : PatchValue) (can : CanSweep s x old) (its 
         f.numbers (get_or (points_in b) i d) h (let m = row_below b (get_or (points_in b) i d) h in omega (arith, m, e));
     meter = f.meter ∙ ap (raised before) (ap (λ m. m * extent b 0) (sym e) ∙ row_counts b ∙ sym zone_count);
   }
+
+-- ---- numbers that count up to a place
+
+-- a rule's numbers put into those of a buffer, of which some count
+pub row_counted : (rule : Rule) (row : RowValue) (at d m : ℕ) (zeroed new old : List ℤ) → at ≤ d → m ≡ max d (at + row.count) → at + row.count ≤ length zeroed
+    → counted d zeroed ≡ old → IsRowPut rule (seen_row row) at zeroed new → IsRowPut rule (seen_row row) at old (counted m new)
+row_counted rule row at d m zeroed new old le is room same put =
+    let count : length put.0 ≡ row.count = put.1 in
+    let end : m ≡ max d (at + length put.0) = is ∙ ap (λ n. max d (at + n)) (sym count) in
+    let fits : at + length put.0 ≤ length zeroed = omega (arith, count, room) in
+    (put.0, put.1, put.2, ap (counted m) put.3 ∙ counted_put at d m zeroed put.0 le end fits ∙ ap (λ ns. put_from at ns put.0) same)

@@ -2,6 +2,8 @@
 use Rattle.std.proofs.Common.{◌≡◌, ℕ, ◌+◌, Bool, true, false, not, ◌&&◌, ◌||◌, eqb, refl, sym, ap, ◌∙◌, subst, arith, cond, ℤ, pos, neg_ℤ, ◌+ℤ◌, ◌-ℤ◌, int_le, int_lt, [], ◌∷◌, Some, None}
 use Rattle.std.specs.Prelude.{is_some, nat_lt}
 use Rattle.std.specs.Int.{int_min, int_max}
+use Rattle.std.specs.Ordering.{int_eq}
+use Rattle.std.proofs.lemmas.Bool.Decides.{Decides-int_eq}
 use Rattle.std.proofs.lemmas.Int.{ints, clamps}
 use Rattle.std.proofs.lemmas.Bool.{and_parts, and_from, or_parts, eqb-true}
 use Rattle.std.proofs.Math.Bool.{and-true}
@@ -20,6 +22,7 @@ use Rattle.cx_plan.specs.Regions.{within_ghosts, cell_needs}
 use Rattle.cx_rule.specs.Sweeps.{in_region, window_point}
 use Rattle.cx_rule.specs.Patches.{IsPart}
 use Rattle.cx_rule.specs.Zones.{inner, nothing, in_zone, zone_of}
+use Rattle.cx_rule.specs.declared.zone.Zone.{Zone}
 use Rattle.cx_rule.proofs.PartPoints.{own_local, window_local, source_local}
 
 -- ---- boxes
@@ -184,3 +187,33 @@ cell_near s owned local Boundary Interior reach p o part has zone on =
     (source_local s owned local part p (zone_local s owned local Boundary p part zone)) on
 cell_near s owned local Boundary Everywhere reach p o part has zone on = absurd cc
 cell_near s owned local Boundary Boundary reach p o part has zone on = absurd cc
+
+-- ---- zones without points
+
+equal_from : (a b : ℤ) → int_eq a b ≡ true → a ≡ b
+equal_from a b e = (Decides-int_eq a b).0 e
+
+-- a hole that is the whole box leaves no point
+pub none_within : (z : Zone)
+    → ((int_eq z.all.low.x z.hole.low.x && (int_eq z.all.low.y z.hole.low.y && int_eq z.all.low.z z.hole.low.z))
+    && (int_eq z.all.high.x z.hole.high.x && (int_eq z.all.high.y z.hole.high.y && int_eq z.all.high.z z.hole.high.z))) ≡ true
+    → (p : Point) → in_zone z p ≡ false
+none_within z e p =
+    let t = and_parts _ _ e in
+    let l = and_parts _ _ t.0 in
+    let m = and_parts _ _ l.1 in
+    let h = and_parts _ _ t.1 in
+    let n = and_parts _ _ h.1 in
+    let low : z.all.low ≡ z.hole.low =
+    same_point (equal_from z.all.low.x z.hole.low.x l.0) (equal_from z.all.low.y z.hole.low.y m.0) (equal_from z.all.low.z z.hole.low.z m.1)
+    in
+    let high : z.all.high ≡ z.hole.high =
+    same_point (equal_from z.all.high.x z.hole.high.x h.0) (equal_from z.all.high.y z.hole.high.y n.0) (equal_from z.all.high.z z.hole.high.z n.1)
+    in
+    ap (λ q. has_point (record { low = q; high = z.all.high }) p && not (has_point z.hole p)) low
+    ∙ ap (λ q. has_point (record { low = z.hole.low; high = q }) p && not (has_point z.hole p)) high
+    ∙ apart (has_point z.hole p)
+  where
+    apart : (b : Bool) → (b && not b) ≡ false
+    apart true = refl
+    apart false = refl

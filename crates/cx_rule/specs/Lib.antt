@@ -14,5 +14,6 @@ pub mod Faces
 pub mod Filling
 pub mod Staging
 pub mod Runs
+pub mod Buffers
 pub mod Swept
 pub mod Rows

@@ -13,6 +13,7 @@ ghost use Rattle.cx_rule.specs.Staging.{fitting_at, staged_numbers, mixed_at, nu
 ghost use Rattle.cx_rule.specs.Runs.{row_count, row_points, fits_at, fits_zone, levels_fit, is_within, are_within, SpendsOne};
 
 use crate::Overflow;
+use crate::buffers::Buffers;
 use crate::levels::Levels;
 use crate::part::Part;
 use crate::runs::{numbers_on, row_count, row_start, runs_at};
@@ -26,7 +27,7 @@ impl Part {
     pub(crate) fn commit(
         &mut self,
         item: &Item,
-        staged: &mut Levels,
+        staged: &mut Buffers,
         zone: &Zone,
     ) -> Result<(), Overflow>
         requires can { CanCommit (with_buffers self.old staged.old 0) item.now zone.now }
@@ -46,7 +47,7 @@ impl Part {
     fn commit_levels(
         &mut self,
         item: &Item,
-        staged: &mut Levels,
+        staged: &mut Buffers,
         zone: &Zone,
     ) -> Result<(), Overflow>
         requires levels { All (λ (w : Touch). IsGridLevel self.old w.var w.level) item.now.writes }
@@ -66,7 +67,7 @@ impl Part {
     }
 
     /// Sets scalars to what is staged at a zone's first point.
-    fn commit_scalars(&mut self, item: &Item, staged: &Levels, zone: &Zone) -> Result<(), Overflow>
+    fn commit_scalars(&mut self, item: &Item, staged: &Buffers, zone: &Zone) -> Result<(), Overflow>
         requires scalars { All (λ (w : Touch). IsScalar self.old w.var) item.now.writes }
         requires point { IsIn self.old.local zone.now.all.low }
         requires writes { length item.now.writes ≤ length staged.now }
@@ -83,7 +84,7 @@ impl Part {
     }
 
     /// Whether what is staged for these writes at a place is in their variables' types.
-    fn fits_at(&self, writes: &[Touch], staged: &Levels, at: usize) -> bool
+    fn fits_at(&self, writes: &[Touch], staged: &Buffers, at: usize) -> bool
         requires vars { All (λ (w : Touch). w.var.0 < length self.now.vars) writes.now }
         requires writes { length writes.now ≤ length staged.now }
         requires place { at < point_count self.now.local }
@@ -100,15 +101,16 @@ impl Part {
     }
 
     /// Whether all that is staged for these writes at the points of a zone is in their variables' types.
-    fn fit(&self, writes: &[Touch], staged: &Levels, zone: &Zone) -> bool
+    fn fit(&self, writes: &[Touch], staged: &mut Buffers, zone: &Zone) -> bool
         requires vars { All (λ (w : Touch). w.var.0 < length self.now.vars) writes.now }
-        requires writes { length writes.now ≤ length staged.now }
-        requires buffers { AreBuffers self.now.local staged.now }
-        ensures { result ≡ levels_fit (setup_in self.now) self.now.local zone.now writes.now
-            staged.now }
+        requires writes { length writes.now ≤ length staged.old }
+        requires buffers { AreBuffers self.now.local staged.old }
+        ensures value { result ≡ levels_fit (setup_in self.now) self.now.local zone.now
+            writes.now staged.old }
+        ensures same { staged.new ≡ staged.old }
     {
         'writes: for (k, write) in writes.iter().enumerate() {
-            if !fits_zone(self.local(), zone, staged.get(k), self.info(write.var)) {
+            if !staged.fits_zone(k, self.local(), zone, self.info(write.var)) {
                 return false;
             }
         }
@@ -116,7 +118,7 @@ impl Part {
     }
 
     /// Sets levels at the points of a zone to what is staged there. What the buffers have then is left open.
-    fn put_levels(&mut self, writes: &[Touch], staged: &mut Levels, zone: &Zone)
+    fn put_levels(&mut self, writes: &[Touch], staged: &mut Buffers, zone: &Zone)
         requires levels { All (λ (w : Touch). IsGridLevel self.old w.var w.level) writes.now }
         requires distinct { are_distinct writes.now ≡ true }
         requires writes { length writes.now ≤ length staged.old }
@@ -131,7 +133,7 @@ impl Part {
     }
 
     /// Sets a level at the points of a zone to what a buffer has there. What it has then is left open.
-    fn put_level(&mut self, v: VarId, level: u8, zone: &Zone, staged: &mut Levels, k: usize)
+    fn put_level(&mut self, v: VarId, level: u8, zone: &Zone, staged: &mut Buffers, k: usize)
         requires level { IsGridLevel self.old v level }
         requires buffer { k < length staged.old }
         requires within { length (slice_index_or staged.old k []) ≡ point_count self.old.local }
@@ -154,7 +156,7 @@ impl Part {
     }
 
     /// Sets scalars to what is staged at a place.
-    fn put_scalars(&mut self, writes: &[Touch], staged: &Levels, at: usize)
+    fn put_scalars(&mut self, writes: &[Touch], staged: &Buffers, at: usize)
         requires scalars { All (λ (w : Touch). IsScalar self.old w.var) writes.now }
         requires writes { length writes.now ≤ length staged.now }
         requires place { at < point_count self.old.local }
@@ -176,7 +178,7 @@ fn fits(info: &VarInfo, number: i64) -> bool
 }
 
 /// Whether the numbers at a zone's points are such as a variable can have.
-fn fits_zone(b: &Box3, zone: &Zone, values: &[i64], info: &VarInfo) -> bool
+pub(crate) fn fits_zone(b: &Box3, zone: &Zone, values: &[i64], info: &VarInfo) -> bool
     requires ordered { IsBox b.now }
     requires small { IsSmall b.now }
     requires wide { 0 < extent b.now 0 }
@@ -252,7 +254,7 @@ fn take_zone(
     all: &mut Vec<Levels>,
     v: usize,
     level: usize,
-    buffers: &mut Levels,
+    buffers: &mut Buffers,
     k: usize,
     b: &Box3,
     zone: &Zone,

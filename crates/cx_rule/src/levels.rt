@@ -1,11 +1,12 @@
 //! Lists of numbers, one for each level of a variable, or for each write.
-ghost use Rattle.std.specs.Prelude.{◌≡◌, ◌<◌, ◌≤◌, ◌+◌, IfOk, pos, replicate, [], length, map, slice_index_or, slice_set, All};
+ghost use Rattle.std.specs.Prelude.{◌≡◌, ◌<◌, ◌≤◌, ◌+◌, IfOk, pos, max, replicate, [], length, map, slice_index_or, slice_set};
 ghost use Rattle.cx_grid.specs.Boxes.{IsBox, IsSmall, extent, point_count, numbers_in};
+ghost use Rattle.cx_rule.specs.Buffers.{counted};
 ghost use Rattle.cx_rule.specs.Runs.{row_count, SetsRow, KeepsRow, SetsSpan, SpendsOne};
 ghost use Rattle.cx_rule.specs.States.{rotated_levels};
-ghost use Rattle.cx_rule.specs.Staging.{put_from, staged_at, no_numbers, cleared, mixed_at};
+ghost use Rattle.cx_rule.specs.Staging.{put_from, mixed_at};
 
-use crate::Cells;
+use crate::buffers::Buffers;
 use crate::runs::{Span, numbers_on, places, row_count, row_start, runs_at, width};
 use crate::zone::{Zone, has_hole};
 use cx_grid::Box3;
@@ -29,7 +30,7 @@ impl Model for Level {
 
 impl Level {
     /// So many numbers, all 0.
-    fn zeros(alloc: Global, count: usize) -> Result<Self, Memory>
+    pub(crate) fn zeros(alloc: Global, count: usize) -> Result<Self, Memory>
         ensures { IfOk result (λ level. level ≡ replicate count (pos 0)) }
     {
         Ok(Level {
@@ -53,7 +54,7 @@ impl Level {
     }
 
     /// Sets numbers from a place on.
-    fn put_row(&mut self, at: usize, values: &[i64])
+    pub(crate) fn put_row(&mut self, at: usize, values: &[i64])
         requires { at + length values.now ≤ length self.old }
         ensures { self.new ≡ put_from at self.old values.now }
     {
@@ -62,16 +63,36 @@ impl Level {
         numbers[at..end].copy_from_slice(values);
     }
 
-    /// Sets all numbers to 0.
-    fn clear(&mut self)
-        ensures { self.new ≡ no_numbers self.old }
+    /// How many numbers there are.
+    pub(crate) fn len(&self) -> usize
+        ensures { result ≡ length self.now }
     {
-        clear(&mut self.values);
+        self.values.len()
+    }
+
+    /// The place behind so many numbers from a place on.
+    pub(crate) fn end_of(&self, at: usize, count: usize) -> usize
+        requires { at + count ≤ length self.now }
+        ensures { result ≡ at + count }
+    {
+        let _ = self.len();
+        at + count
+    }
+
+    /// Sets the numbers from a place up to another one to 0, so that they count where those before them do.
+    pub(crate) fn set_zeros(&mut self, from: usize, to: usize)
+        requires { to ≤ length self.old }
+        ensures value { counted (max from to) self.new ≡ counted from self.old }
+        ensures count { length self.new ≡ length self.old }
+    {
+        'places: for at in from..to {
+            self.set(at, 0);
+        }
     }
 
     /// Sets the numbers at a zone's points to those of a buffer. There is one number for each point of the box. What the buffer
     /// has then is left open.
-    fn take_zone(&mut self, buffer: &mut Level, b: &Box3, zone: &Zone)
+    pub(crate) fn take_zone(&mut self, buffer: &mut Level, b: &Box3, zone: &Zone)
         requires ordered { IsBox b.now }
         requires small { IsSmall b.now }
         requires wide { 0 < extent b.now 0 }
@@ -170,46 +191,6 @@ fn swap(a: &mut Level, b: &mut Level)
     std::mem::swap(&mut a.values, &mut b.values);
 }
 
-/// Sets all numbers to 0.
-fn clear(values: &mut Vec<i64>)
-    ensures { values.new.items ≡ no_numbers values.old.items }
-{
-    'values: for value in values.iter_mut() {
-        *value = 0;
-    }
-}
-
-/// Sets a number of one of several lists.
-fn set_number(levels: &mut Vec<Level>, k: usize, at: usize, value: i64)
-    requires level { k < length levels.old.items }
-    requires at { at < length (slice_index_or levels.old.items k []) }
-    ensures { levels.new.items
-        ≡ slice_set levels.old.items k
-        (slice_set (slice_index_or levels.old.items k []) at value) }
-{
-    let level = &mut levels[k];
-    level.set(at, value);
-}
-
-fn set_each(levels: &mut Vec<Level>, at: usize, cells: &Cells, count: usize)
-    requires count { count ≡ length cells.now }
-    requires levels { count ≤ length levels.old.items }
-    requires room { All (λ numbers. at < length numbers) levels.old.items }
-    ensures { levels.new.items ≡ staged_at at levels.old.items cells.now }
-{
-    'cells: for k in 0..count {
-        set_number(levels, k, at, cells.get(k));
-    }
-}
-
-fn clear_all(levels: &mut Vec<Level>)
-    ensures { levels.new.items ≡ cleared levels.old.items }
-{
-    'levels: for level in levels.iter_mut() {
-        level.clear();
-    }
-}
-
 /// Levels of numbers, the current one first. Contracts see the lists of their numbers.
 #[derive(Debug, Drop)]
 pub(crate) struct Levels {
@@ -236,28 +217,12 @@ impl Levels {
         Ok(Levels { levels: all })
     }
 
-    /// How many levels there are.
-    pub(crate) fn len(&self) -> usize
-        ensures { result ≡ length self.now }
-    {
-        self.levels.len()
-    }
-
     /// The numbers of a level.
     pub(crate) fn get(&self, level: usize) -> &[i64]
         requires { level < length self.now }
         ensures { result.now ≡ slice_index_or self.now level [] }
     {
         self.levels[level].as_slice()
-    }
-
-    /// One number of a level.
-    pub(crate) fn number(&self, level: usize, at: usize) -> i64
-        requires level { level < length self.now }
-        requires at { at < length (slice_index_or self.now level []) }
-        ensures { result ≡ slice_index_or (slice_index_or self.now level []) at (pos 0) }
-    {
-        self.get(level)[at]
     }
 
     /// Sets one number of a level.
@@ -280,40 +245,12 @@ impl Levels {
         }
     }
 
-    /// Sets numbers of a level from a place on.
-    pub(crate) fn put_row(&mut self, level: usize, at: usize, values: &[i64])
-        requires level { level < length self.old }
-        requires room { at + length values.now ≤ length (slice_index_or self.old level []) }
-        ensures { self.new ≡ slice_set self.old level
-            (put_from at (slice_index_or self.old level []) values.now) }
-    {
-        let numbers = &mut self.levels[level];
-        numbers.put_row(at, values);
-    }
-
-    /// Sets one number of each of the first levels, at the same place.
-    pub(crate) fn set_each(&mut self, at: usize, cells: &Cells, count: usize)
-        requires count { count ≡ length cells.now }
-        requires levels { count ≤ length self.old }
-        requires room { All (λ numbers. at < length numbers) self.old }
-        ensures { self.new ≡ staged_at at self.old cells.now }
-    {
-        set_each(&mut self.levels, at, cells, count);
-    }
-
-    /// Sets all numbers to 0.
-    pub(crate) fn clear(&mut self)
-        ensures { self.new ≡ cleared self.old }
-    {
-        clear_all(&mut self.levels);
-    }
-
     /// Sets the numbers of a level at a zone's points to those of one of some buffers. The level and the buffer have one number for
     /// each point of the box. What the buffer has then is left open.
     pub(crate) fn take_zone(
         &mut self,
         level: usize,
-        buffers: &mut Levels,
+        buffers: &mut Buffers,
         k: usize,
         b: &Box3,
         zone: &Zone,
@@ -331,7 +268,6 @@ impl Levels {
         ensures buffers { SpendsOne k buffers.old buffers.new }
     {
         let numbers = &mut self.levels[level];
-        let buffer = &mut buffers.levels[k];
-        numbers.take_zone(buffer, b, zone);
+        buffers.give_zone(k, numbers, b, zone);
     }
 }

@@ -1,6 +1,7 @@
 //! Routines: what each computes at a point, from the values around it, and over the points of a part, whose numbers stand here too.
 #![tactic(auto)]
 
+mod buffers;
 mod cells;
 mod commit;
 mod faces;

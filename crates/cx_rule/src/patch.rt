@@ -9,7 +9,7 @@ ghost use Rattle.cx_rule.specs.Patches.{new_patch, IsPart, IsPatch, IsGridLevel,
 ghost use Rattle.cx_rule.specs.Staging.{CanSee};
 ghost use Rattle.cx_rule.specs.Zones.{zone_of};
 
-use crate::levels::Levels;
+use crate::buffers::Buffers;
 use crate::part::Part;
 use crate::zone::{Zone, zone_of};
 use crate::{Cells, Window};
@@ -24,7 +24,7 @@ use std::marker::Model;
 #[derive(Debug, Drop)]
 pub struct Patch {
     pub(crate) part: Part,
-    pub(crate) staged: Levels,
+    pub(crate) staged: Buffers,
     pub(crate) window: Window,
     pub(crate) cells: Vec<Cells>,
 }
@@ -60,7 +60,7 @@ impl Patch {
         let values = most_values(shape.dims, items.as_slice());
         Ok(Patch {
             part: Part::new(alloc, shape, owned, local, vars)?,
-            staged: Levels::zeros(alloc, writes as usize, count(local))?,
+            staged: Buffers::zeros(alloc, writes as usize, count(local))?,
             window: Window::new(alloc, values)?,
             cells: cells_up_to(alloc, writes)?,
         })

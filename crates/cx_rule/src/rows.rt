@@ -8,7 +8,8 @@ ghost use Rattle.cx_rule.specs.Patches.{IsPatch, IsStored, setup_in};
 ghost use Rattle.cx_rule.specs.Rows.{seen_row, FitsRow, LacksOne, IsRowPut, CanStageRow, StagesRow, IsRowItem, next_below, row_starts};
 ghost use Rattle.cx_rule.specs.Swept.{swept_zone, CanSweep, Sweeps, StagesZone};
 
-use crate::levels::{Level, Levels};
+use crate::buffers::{Buffer, Buffers};
+use crate::levels::Level;
 use crate::part::Part;
 use crate::patch::Patch;
 use crate::sweep::{region_of, sweep_rule};
@@ -163,8 +164,8 @@ impl Patch {
     }
 }
 
-impl Levels {
-    /// Puts a rule's numbers at the points of a row into the first level, from a place on.
+impl Buffers {
+    /// Puts a rule's numbers at the points of a row into the first buffer, from a place on.
     fn put_rule_row<R: RowRule>(&mut self, rule: &R, row: &Row, at: usize) -> Result<(), Overflow>
         requires fits { FitsRow R.said (seen_row row.now) }
         requires some { 0 < length self.old }
@@ -175,8 +176,25 @@ impl Levels {
         ensures level { self.new ≡ slice_set self.old 0 (slice_index_or self.new 0 []) }
         ensures room { map length self.new ≡ map length self.old }
     {
-        let level = &mut self.levels[0];
-        level.put_rule_row(rule, row, at)
+        let buffer = &mut self.buffers[0];
+        buffer.put_rule_row(rule, row, at)
+    }
+}
+
+impl Buffer {
+    /// Puts a rule's numbers at the points of a row, from a place on.
+    fn put_rule_row<R: RowRule>(&mut self, rule: &R, row: &Row, at: usize) -> Result<(), Overflow>
+        requires fits { FitsRow R.said (seen_row row.now) }
+        requires room { at + row.now.count ≤ length self.old }
+        ensures numbers { OnOk result (IsRowPut R.law (seen_row row.now) at self.old self.new) }
+        ensures overflow { OnErr result (LacksOne R.law (seen_row row.now)) }
+        ensures room { length self.new ≡ length self.old }
+    {
+        let end = self.numbers.end_of(at, row.count());
+        self.numbers.set_zeros(self.end, at);
+        self.numbers.put_rule_row(rule, row, at)?;
+        self.end = self.end.max(end);
+        Ok(())
     }
 }
 

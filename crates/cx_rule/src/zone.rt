@@ -1,5 +1,5 @@
 //! The points that an item computes in a part.
-ghost use Rattle.std.specs.Prelude.{◌≡◌, ◌-ℤ◌, ◌≤ℤ◌, pos, if◌then◌else◌};
+ghost use Rattle.std.specs.Prelude.{◌≡◌, ◌-ℤ◌, ◌≤ℤ◌, pos, true, false, if◌then◌else◌};
 ghost use Rattle.std.specs.Int.{int_min, int_max};
 ghost use Rattle.cx_grid.specs.Boxes.{has_point};
 ghost use Rattle.cx_grid.specs.Grid.{IsShape};
@@ -29,6 +29,13 @@ pub(crate) fn has_hole(zone: &Zone) -> bool
     ensures { result ≡ has_point zone.now.hole zone.now.hole.low }
 {
     contains(&zone.hole, zone.hole.low)
+}
+
+/// Whether a zone's hole is all of its box. It then holds no point.
+pub(crate) fn is_empty(zone: &Zone) -> bool
+    ensures { result ≡ true → (p : Point) → in_zone zone.now p ≡ false }
+{
+    zone.all == zone.hole
 }
 
 /// The points of a part that an item which writes this region computes.

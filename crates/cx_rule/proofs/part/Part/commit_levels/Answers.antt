@@ -9,7 +9,7 @@ pub returns-then-not-fit-clause-sets : goal.returns-then-not-fit-clause-sets
 returns-then-not-fit-clause-sets c =
     let p = with_buffers c.args.self.now c.args.staged.now 0 in
     let x = c.args.item.now in
-    let fit = rw c.as_slice.ensures at c.fit.ensures in
+    let fit = rw c.as_slice.ensures at c.fit.ensures.value in
     let e = sym c.if-not-fit.true ∙ fit ∙ levels_tested (setup_in p) p.local c.args.zone.now x.writes p.staged c.requires.writes in
     (levels_none p x c.args.zone.now e, refl)
 
@@ -17,9 +17,9 @@ pub returns-clause-sets : goal.returns-clause-sets
 returns-clause-sets c =
     let p = with_buffers c.args.self.now c.args.staged.now 0 in
     let x = c.args.item.now in
-    let fit = rw c.as_slice.ensures at c.fit.ensures in
+    let fit = rw c.as_slice.ensures at c.fit.ensures.value in
     let e = sym c.if-not-fit.false ∙ fit ∙ levels_tested (setup_in p) p.local c.args.zone.now x.writes p.staged c.requires.writes in (
       levels_put p c.args.zone.now c.args.staged.now (length x.writes) 0 x.writes c.args.self.now.numbers,
       levels_some p x c.args.zone.now e,
-      rw c.as_slice-2.ensures at c.put_levels.ensures.value,
+      rw (c.as_slice-2.ensures, c.fit.ensures.same) at c.put_levels.ensures.value,
     )

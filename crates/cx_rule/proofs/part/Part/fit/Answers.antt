@@ -9,4 +9,4 @@ fits_zone-requires-clause-wide c = rw c.local.ensures.value (local_wide c.args.s
 pub fits_zone-requires-clause-size : goal.fits_zone-requires-clause-size
 fits_zone-requires-clause-size c =
     let below : c.writes.k < length c.args.staged.now = omega (arith, c.writes-test.true, c.requires.writes) in
-    rw (c.get.ensures, c.local.ensures.value) (buffer_length c.args.self.now.local c.args.staged.now c.requires.buffers c.writes.k below)
+    rw (c.writes.invariant.0, c.local.ensures.value) (buffer_length c.args.self.now.local c.args.staged.now c.requires.buffers c.writes.k below)
