@@ -15,10 +15,17 @@ use Rattle.cx_parts.specs.Moves.{Message, Channel, number_by, held_values, Fille
 use Rattle.cx_parts.specs.Nets.{values_of_op}
 use Rattle.cx_parts.specs.Runs.{Run, cut_of}
 use Rattle.cx_part.specs.Exchanges.{Posts, Takes, ShowsTaken, sum_taken}
-use Rattle.cx_part.specs.Frames.{KeepsFrame, IsPatchOf}
+use Rattle.cx_cut.specs.Cuts.{Parts}
+use Rattle.cx_cut.specs.Faults.{parts_of}
+use Rattle.cx_part.specs.Frames.{KeepsFrame, IsPatchOf, IsInCut}
 use Rattle.cx_part.specs.Jobs.{IsRunOf}
 use Rattle.cx_core.specs.declared.answers.Outcome.{Outcome}
-use Rattle.cx_core.specs.Moving.{Holdings, Operates, Turns, LoopTests, Joins}
+use Rattle.cx_core.specs.Moving.{Holdings, CanOperate, Operates, Turns, LoopTests, Joins}
+
+-- a part's patch stands over a box of the job's cut
+pub in_cut : {tells : Type 0} (job : Job) (cut : Parts) (k : ℕ) (o : Op) (was : Holdings tells) → CanOperate job cut k o was → IsInCut (parts_of job.shape job.cut) was.patch
+in_cut job cut k o was can =
+    subst (λ c. IsInCut c was.patch) can.cut_is.parts (record { part = k; below = can.part; local_is = can.patch.local_is })
 
 module _ {tells : Type 0} (r : Run) (k count iteration i : ℕ) (c : Control) (o : Op) (was is : Holdings tells) (met : Option Outcome) where
   pub swept : o ≡ op.Sweep i → iteration ≡ c.iteration → Turns r k (op.Sweep i) iteration was.patch is.patch was.now.points is.now.points met → KeepsFrame was.patch is.patch

@@ -52,7 +52,7 @@ pub(crate) fn go<W: Wire>(
     meter: &mut Meter,
 ) -> Result<(), CoreFault>
     requires job { IsReady job.now }
-    requires routines { FitJob (map spec_of routines.now) (setup_of job.now) }
+    requires routines { FitJob (map spec_of routines.now) job.now }
     requires there { IsRunning (IsTrue W.tells) job.now (map rule routines.now)
         (stands_at core.old (W.queue wire.old) meter.old (W.received wire.old) (W.sum wire.old)) }
     requires part { part < length core.old.pace.parts }

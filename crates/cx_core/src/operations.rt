@@ -5,12 +5,13 @@ ghost use Rattle.cx_plan.specs.Lookups.{item as item_of};
 ghost use Rattle.cx_plan.specs.Setups.{setup_of};
 ghost use Rattle.cx_rule.specs.Jobs.{FitJob};
 ghost use Rattle.cx_cut.specs.Cuts.{part_count};
+ghost use Rattle.cx_cut.specs.Faults.{parts_of};
 ghost use Rattle.cx_field.specs.Patches.{IsScalar};
 ghost use Rattle.cx_flat.specs.declared.op.Op.TheVariants as ops;
 ghost use Rattle.cx_gather.specs.Boards.{front};
 ghost use Rattle.cx_parts.specs.Holding.{joined};
 ghost use Rattle.cx_parts.specs.Runs.{Run, cut_of, parts_in};
-ghost use Rattle.cx_part.specs.Frames.{IsPatchFor, IsPatchOf, KeepsFrame};
+ghost use Rattle.cx_part.specs.Frames.{IsPatchFor, IsPatchOf, IsInCut, KeepsFrame};
 ghost use Rattle.cx_part.specs.Jobs.{IsChecked, IsOperation, IsRunOf};
 ghost use Rattle.cx_core.specs.Moving.{AreFronts, CanOperate, HasFronts, Joins, LoopTests, Operates, Turns, all_fronts, fault_of, holdings};
 ghost use Rattle.cx_core.specs.declared.answers.CoreFault.TheVariants as faults;
@@ -70,10 +71,11 @@ pub(crate) fn sweep(
     meter: &mut Meter,
 ) -> Result<Option<Outcome>, Memory>
     requires job { IsChecked job.now }
-    requires routines { FitJob (map spec_of routines.now) (setup_of job.now) }
+    requires routines { FitJob (map spec_of routines.now) job.now }
     requires item { item < length job.now.items }
     requires operation { IsOperation (setup_of job.now) (ops.Sweep item) }
     requires patch { IsPatchFor (setup_of job.now) patch.old }
+    requires cut { IsInCut (parts_of job.now.shape job.now.cut) patch.old }
     ensures frame { KeepsFrame patch.old patch.new }
     ensures turns { (r : Run) (k : ℕ) → IsRunOf job.now r → r.rules ≡ map rule routines.now
         → IsPatchOf r.setup (cut_of r) k patch.old
@@ -97,10 +99,11 @@ pub(crate) fn apply(
     meter: &mut Meter,
 ) -> Result<Option<Outcome>, Memory>
     requires job { IsChecked job.now }
-    requires routines { FitJob (map spec_of routines.now) (setup_of job.now) }
+    requires routines { FitJob (map spec_of routines.now) job.now }
     requires item { item < length job.now.items }
     requires operation { IsOperation (setup_of job.now) (ops.Apply item) }
     requires patch { IsPatchFor (setup_of job.now) patch.old }
+    requires cut { IsInCut (parts_of job.now.shape job.now.cut) patch.old }
     ensures frame { KeepsFrame patch.old patch.new }
     ensures turns { (r : Run) (k : ℕ) → IsRunOf job.now r → r.rules ≡ map rule routines.now
         → IsPatchOf r.setup (cut_of r) k patch.old
@@ -194,7 +197,7 @@ pub(crate) fn operate<W: Wire>(
     wire: &mut W,
     meter: &mut Meter,
 ) -> Result<Option<Outcome>, CoreFault>
-    requires routines { FitJob (map spec_of routines.now) (setup_of job.now) }
+    requires routines { FitJob (map spec_of routines.now) job.now }
     requires can { CanOperate {tells = IsTrue W.tells} job.now cut.now part op.now
         (holdings patch.old boards.old gathering.old (W.queue wire.old)
         meter.old (W.received wire.old) (W.sum wire.old)) }

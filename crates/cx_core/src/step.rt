@@ -42,7 +42,7 @@ impl Core {
         meter: &mut Meter,
     ) -> Result<Event, CoreFault>
         requires job { IsReady job.now }
-        requires routines { FitJob (map spec_of routines.now) (setup_of job.now) }
+        requires routines { FitJob (map spec_of routines.now) job.now }
         requires there { IsRunning (IsTrue W.tells) job.now (map rule routines.now)
             (stands_at self.old
             (W.queue wire.old) meter.old (W.received wire.old) (W.sum wire.old)) }

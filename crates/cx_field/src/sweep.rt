@@ -10,7 +10,7 @@ use cx_rule::{Meter, Overflow, Patch, Routine};
 /// (0, 0, 0), and counts one point.
 ///
 /// It asks for an item in a shape of the table of regions, no larger than the items that the patch was made for, that names
-/// stored levels alone, and for the routine of this item.
+/// stored levels alone, and for the routine of this item, whose `cap` is at least the points of the part, its ghosts among them.
 ///
 /// # Errors
 ///

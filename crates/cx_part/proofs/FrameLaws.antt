@@ -18,11 +18,12 @@ use Rattle.cx_plan.specs.Setups.{Setup, setup_of}
 use Rattle.cx_plan.specs.Lookups.{item, no_item}
 use Rattle.cx_plan.specs.Regions.{has_shape, run_items}
 use Rattle.cx_plan.specs.Whole.{IsItem, IsTouch, IsSmall}
-use Rattle.cx_rule.specs.Jobs.{HasRoutine, FitJob}
+use Rattle.cx_rule.specs.Jobs.{FitItem, FitJob}
 use Rattle.cx_rule.specs.Seen.{volume_of, volumes}
 use Rattle.cx_rule.specs.Sweeps.{reach_of}
 use Rattle.cx_rule.specs.declared.spec.Spec.{Spec}
 use Rattle.cx_cut.specs.Cuts.{Parts}
+use Rattle.cx_cut.specs.Faults.{parts_of}
 use Rattle.cx_field.specs.Patches.{PatchValue, IsStored, setup_in, new_patch, value_count, write_count, greatest, capped}
 use Rattle.cx_flat.specs.declared.op.Op.{Op}
 use Rattle.cx_parts.specs.Operations.{NamesWell}
@@ -30,7 +31,7 @@ use Rattle.cx_parts.proofs.CodeLaws.{op_well}
 use Rattle.cx_part.specs.Jobs.{IsChecked, IsOperation}
 use Rattle.cx_part.proofs.Known.{IsKnown}
 use Rattle.cx_part.proofs.KnownLaws.{op_known}
-use Rattle.cx_part.specs.Frames.{HasRoomFor, IsPatchFor, IsPatchOf, KeepsFrame}
+use Rattle.cx_part.specs.Frames.{HasRoomFor, IsPatchFor, IsPatchOf, IsInCut, KeepsFrame}
 use Rattle.cx_part.specs.Items.{CanTurn}
 
 -- ---- frames
@@ -84,6 +85,9 @@ module _ (job : Job) (checked : IsChecked job) (p : PatchValue) (patch : IsPatch
   abbrev S : Setup
   S = setup_of job
 
+  abbrev cut : Parts
+  cut = parts_of job.shape job.cut
+
   abbrev Stored : Touch → Type 0
   Stored t = IsStored p t.var t.level
 
@@ -121,13 +125,13 @@ module _ (job : Job) (checked : IsChecked job) (p : PatchValue) (patch : IsPatch
     room = All-contains (λ k. HasRoomFor S p (item S k)) (run_items S) i patch.rooms run
 
     -- an item that is run can be swept with its routine
-    pub can_turn : (specs : List Spec) → FitJob specs S → (it.kind ≡ Cell) ⊎ (it.kind ≡ Scalar) → CanTurn specs it p
-    can_turn specs fit kind =
-        let has : HasRoutine specs it = All-contains (λ k. HasRoutine specs (item S k)) (run_items S) i fit run in
+    pub can_turn : (specs : List Spec) → FitJob specs job → IsInCut cut p → (it.kind ≡ Cell) ⊎ (it.kind ≡ Scalar) → CanTurn specs it p
+    can_turn specs fit part kind =
+        let has : FitItem specs cut it = All-contains (λ k. FitItem specs cut (item S k)) (run_items S) i fit run in
         record {
-          routine = has;
+          routine = has.routine;
           sweep = record {
-            routine = has.its;
+            routine = has.routine.its;
             kind = kind;
             declared = shape_in it shaped;
             reads = reads_stored;
@@ -135,6 +139,7 @@ module _ (job : Job) (checked : IsChecked job) (p : PatchValue) (patch : IsPatch
             buffers = room.writes;
             values = subst (λ (s : Shape). value_count s.dims it ≤ p.room) (sym patch.shape) room.values;
             params = small.params;
+            cap = subst (λ b. point_count b ≤ has.routine.spec.cap) (sym part.local_is) (has.parts part.part part.below);
           };
         }
 

@@ -1,10 +1,10 @@
 -- The patch of a part: all of it but its numbers.
-use Rattle.std.specs.Prelude.{ℕ, ◌≡◌, ◌≤◌, length, All}
+use Rattle.std.specs.Prelude.{ℕ, ◌≡◌, ◌<◌, ◌≤◌, length, All}
 use Rattle.cx_plan.specs.declared.item.Item.{Item}
 use Rattle.cx_plan.specs.Setups.{Setup}
 use Rattle.cx_plan.specs.Lookups.{item}
 use Rattle.cx_plan.specs.Regions.{run_items}
-use Rattle.cx_cut.specs.Cuts.{Parts, owned, local}
+use Rattle.cx_cut.specs.Cuts.{Parts, part_count, owned, local}
 use Rattle.cx_field.specs.Patches.{PatchValue, value_count, with_numbers}
 use Rattle.cx_field.specs.Sweeps.{IsSamePatch}
 
@@ -24,6 +24,12 @@ pub record IsPatchOf (setup : Setup) (cut : Parts) (k : ℕ) (p : PatchValue) : 
   pub patch : IsPatchFor setup p
   pub owned_is : p.owned ≡ owned cut k
   pub local_is : p.local ≡ local cut k
+
+-- a patch over the local box of a part of a cut
+pub record IsInCut (cut : Parts) (p : PatchValue) : Type 0 where
+  pub part : ℕ
+  pub below : part < part_count cut
+  pub local_is : p.local ≡ local cut part
 
 -- all is as before but the numbers and what is staged
 abbrev pub KeepsFrame : (old new : PatchValue) → Type 0

@@ -4,6 +4,7 @@ ghost use Rattle.cx_plan.specs.Lookups.{item as item_of};
 ghost use Rattle.cx_plan.specs.Regions.{region_of};
 ghost use Rattle.cx_plan.specs.declared.item.Region.TheVariants as regions;
 ghost use Rattle.cx_plan.specs.Setups.{setup_of};
+ghost use Rattle.cx_cut.specs.Faults.{parts_of};
 ghost use Rattle.cx_rule.specs.Jobs.{FitJob};
 ghost use Rattle.cx_rule.specs.Routine.{rule_at};
 ghost use Rattle.cx_field.specs.Patches.{IsPart};
@@ -11,7 +12,7 @@ ghost use Rattle.cx_field.specs.Sweeps.{Sweeps, IsBoundaryWriter};
 ghost use Rattle.cx_flat.specs.declared.op.Op.TheVariants as ops;
 ghost use Rattle.cx_parts.specs.Runs.{Run, cut_of};
 ghost use Rattle.cx_part.specs.Jobs.{IsChecked, IsOperation, IsRunOf};
-ghost use Rattle.cx_part.specs.Frames.{IsPatchFor, IsPatchOf, KeepsFrame};
+ghost use Rattle.cx_part.specs.Frames.{IsPatchFor, IsPatchOf, IsInCut, KeepsFrame};
 ghost use Rattle.cx_part.specs.Items.{CanTurn, Computes};
 
 use cx_field::{Patch, apply_boundary, sweep_item};
@@ -19,7 +20,7 @@ use cx_plan::{Item, ItemKind, Job, Region};
 use cx_rule::{Meter, Overflow, Routine, object};
 
 /// The operation `Sweep`: the turn of a Cell item at the points that a part computes, of the interior those that it owns, else all
-/// that it holds.
+/// that it holds. The patch is that of a part of the job's cut, since no such part has more points than the routine's cap.
 ///
 /// # Errors
 ///
@@ -34,9 +35,10 @@ pub fn sweep(
     meter: &mut Meter,
 ) -> Result<(), Overflow>
     requires job { IsChecked job.now }
-    requires routines { FitJob (map spec_of routines.now) (setup_of job.now) }
+    requires routines { FitJob (map spec_of routines.now) job.now }
     requires operation { IsOperation (setup_of job.now) (ops.Sweep item) }
     requires patch { IsPatchFor (setup_of job.now) patch.old }
+    requires cut { IsInCut (parts_of job.now.shape job.now.cut) patch.old }
     ensures frame { KeepsFrame patch.old patch.new }
     ensures numbers { (r : Run) (k : ℕ) → IsRunOf job.now r
         → r.rules ≡ map rule routines.now
@@ -48,7 +50,7 @@ pub fn sweep(
     turn(job, routines, item, patch, iteration, meter)
 }
 
-/// The operation `Apply`: the turn of a Scalar item, which counts one point.
+/// The operation `Apply`: the turn of a Scalar item, which counts one point. The patch is that of a part of the job's cut.
 ///
 /// # Errors
 ///
@@ -62,9 +64,10 @@ pub fn apply(
     meter: &mut Meter,
 ) -> Result<(), Overflow>
     requires job { IsChecked job.now }
-    requires routines { FitJob (map spec_of routines.now) (setup_of job.now) }
+    requires routines { FitJob (map spec_of routines.now) job.now }
     requires operation { IsOperation (setup_of job.now) (ops.Apply item) }
     requires patch { IsPatchFor (setup_of job.now) patch.old }
+    requires cut { IsInCut (parts_of job.now.shape job.now.cut) patch.old }
     ensures frame { KeepsFrame patch.old patch.new }
     ensures numbers { (r : Run) (k : ℕ) → IsRunOf job.now r
         → r.rules ≡ map rule routines.now

@@ -9,6 +9,7 @@ use Rattle.cx_rule.specs.Place.{global_index, param_of, is_place}
 use Rattle.cx_rule.specs.Routine.{Rule}
 use Rattle.cx_rule.specs.Seen.{Seen, value_of}
 use Rattle.cx_rule.specs.Single.{want_of, zero_rule, read_rule}
+use Rattle.cx_rule.specs.Specs.{most_points}
 use Rattle.cx_rule.specs.declared.spec.Spec.{Spec}
 use Rattle.cx_rule.specs.declared.spec.Want.{Want}
 
@@ -62,6 +63,7 @@ ca_init_spec =
       reads = [];
       writes = cells_in Everywhere 0 ∷ [];
       params = codes "ca::seed" ∷ codes "ca::start" ∷ [];
+      cap = most_points;
     }
 
 abbrev pub ca_step_spec : Spec
@@ -73,6 +75,7 @@ ca_step_spec =
       reads = cells_in Everywhere 1 ∷ [];
       writes = cells_in Interior 0 ∷ [];
       params = codes "ca::rule" ∷ [];
+      cap = most_points;
     }
 
 abbrev pub ca_zero_spec : Spec
@@ -84,6 +87,7 @@ ca_zero_spec =
       reads = [];
       writes = cells_in Boundary 0 ∷ [];
       params = [];
+      cap = most_points;
     }
 
 abbrev pub ca_count_spec : Spec
@@ -95,4 +99,5 @@ ca_count_spec =
       reads = cells_in Everywhere 0 ∷ [];
       writes = want_of (codes "ca::live") Everywhere 0 ∷ [];
       params = [];
+      cap = most_points;
     }

@@ -9,6 +9,7 @@ use Rattle.cx_rule.specs.Place.{global_index, param_of, is_place}
 use Rattle.cx_rule.specs.Routine.{Rule}
 use Rattle.cx_rule.specs.Seen.{Seen, value_of}
 use Rattle.cx_rule.specs.Single.{here, want_of, zero_rule, read_rule}
+use Rattle.cx_rule.specs.Specs.{most_points}
 use Rattle.cx_rule.specs.declared.spec.Spec.{Spec}
 use Rattle.cx_rule.specs.declared.spec.Want.{Want}
 use Rattle.cx_thorn_ca.specs.Automaton.{alive_of, off}
@@ -74,6 +75,7 @@ life_init_spec =
       reads = [];
       writes = sheet_in Everywhere 0 ∷ [];
       params = codes "life::pattern" ∷ codes "life::seed" ∷ [];
+      cap = most_points;
     }
 
 abbrev pub life_step_spec : Spec
@@ -85,6 +87,7 @@ life_step_spec =
       reads = sheet_in Everywhere 1 ∷ [];
       writes = sheet_in Interior 0 ∷ [];
       params = codes "life::survive" ∷ codes "life::born" ∷ [];
+      cap = most_points;
     }
 
 abbrev pub life_zero_spec : Spec
@@ -96,6 +99,7 @@ life_zero_spec =
       reads = [];
       writes = sheet_in Boundary 0 ∷ [];
       params = [];
+      cap = most_points;
     }
 
 abbrev pub life_count_spec : Spec
@@ -107,4 +111,5 @@ life_count_spec =
       reads = sheet_in Everywhere 0 ∷ [];
       writes = want_of (codes "life::live") Everywhere 0 ∷ [];
       params = [];
+      cap = most_points;
     }

@@ -6,6 +6,7 @@ use Rattle.cx_rule.specs.Place.{param_of}
 use Rattle.cx_rule.specs.Routine.{Rule}
 use Rattle.cx_rule.specs.Seen.{value_of}
 use Rattle.cx_rule.specs.Single.{here, one_number, want_of, param_rule}
+use Rattle.cx_rule.specs.Specs.{most_points}
 use Rattle.cx_rule.specs.declared.spec.Spec.{Spec}
 use Rattle.cx_rule.specs.declared.spec.Want.{Want}
 use Rattle.cx_thorn_pde.specs.Exact.{in_64_bits}
@@ -32,6 +33,7 @@ control_set_spec =
       reads = [];
       writes = turns_left ∷ [];
       params = codes "control::turns" ∷ [];
+      cap = most_points;
     }
 
 abbrev pub control_spin_spec : Spec
@@ -43,4 +45,5 @@ control_spin_spec =
       reads = turns_left ∷ [];
       writes = turns_left ∷ [];
       params = codes "control::drop" ∷ [];
+      cap = most_points;
     }

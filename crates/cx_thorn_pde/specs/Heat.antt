@@ -7,6 +7,7 @@ use Rattle.cx_rule.specs.Place.{param_of}
 use Rattle.cx_rule.specs.Routine.{Rule}
 use Rattle.cx_rule.specs.Seen.{value_of}
 use Rattle.cx_rule.specs.Single.{here, one_number, want_of, read_rule, param_rule}
+use Rattle.cx_rule.specs.Specs.{most_points}
 use Rattle.cx_rule.specs.declared.spec.Spec.{Spec}
 use Rattle.cx_rule.specs.declared.spec.Want.{Want}
 use Rattle.cx_thorn_pde.specs.Around.{lap}
@@ -46,6 +47,7 @@ diff_init_spec =
       reads = [];
       writes = heat_in Everywhere 0 ∷ [];
       params = codes "diff::pattern" ∷ codes "diff::amount" ∷ codes "diff::start" ∷ codes "diff::seed" ∷ [];
+      cap = most_points;
     }
 
 abbrev pub diff_step_spec : Spec
@@ -57,6 +59,7 @@ diff_step_spec =
       reads = heat_in Everywhere 1 ∷ [];
       writes = heat_in Interior 0 ∷ [];
       params = codes "diff::factor" ∷ [];
+      cap = most_points;
     }
 
 abbrev pub diff_flat_spec : Spec
@@ -68,6 +71,7 @@ diff_flat_spec =
       reads = heat_in Interior 0 ∷ [];
       writes = heat_in Boundary 0 ∷ [];
       params = [];
+      cap = most_points;
     }
 
 abbrev pub diff_scalar_spec : Spec
@@ -79,6 +83,7 @@ diff_scalar_spec =
       reads = [];
       writes = heat_in Boundary 0 ∷ [];
       params = codes "diff::edge" ∷ [];
+      cap = most_points;
     }
 
 abbrev pub diff_sum_spec : Spec
@@ -90,4 +95,5 @@ diff_sum_spec =
       reads = heat_in Everywhere 0 ∷ [];
       writes = want_of (codes "diff::total") Everywhere 0 ∷ [];
       params = [];
+      cap = most_points;
     }

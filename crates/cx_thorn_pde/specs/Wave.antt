@@ -7,6 +7,7 @@ use Rattle.cx_rule.specs.Place.{param_of}
 use Rattle.cx_rule.specs.Routine.{Rule}
 use Rattle.cx_rule.specs.Seen.{Seen, value_of}
 use Rattle.cx_rule.specs.Single.{here, one_number, want_of, read_rule, param_rule}
+use Rattle.cx_rule.specs.Specs.{most_points}
 use Rattle.cx_rule.specs.declared.spec.Spec.{Spec}
 use Rattle.cx_rule.specs.declared.spec.Want.{Want}
 use Rattle.cx_thorn_pde.specs.Around.{lap}
@@ -67,6 +68,7 @@ wave_init_spec =
       reads = [];
       writes = phi_in Everywhere 0 ∷ phi_p_in Everywhere 0 ∷ [];
       params = codes "wave::pattern" ∷ codes "wave::amount" ∷ codes "wave::start" ∷ codes "wave::seed" ∷ [];
+      cap = most_points;
     }
 
 abbrev pub wave_init1_spec : Spec
@@ -78,6 +80,7 @@ wave_init1_spec =
       reads = [];
       writes = phi_in Everywhere 0 ∷ [];
       params = codes "wave::pattern" ∷ codes "wave::amount" ∷ codes "wave::start" ∷ codes "wave::seed" ∷ [];
+      cap = most_points;
     }
 
 abbrev pub wave_step_spec : Spec
@@ -89,6 +92,7 @@ wave_step_spec =
       reads = phi_p_in Everywhere 1 ∷ phi_p_p_in Interior 0 ∷ [];
       writes = phi_in Interior 0 ∷ [];
       params = codes "wave::factor" ∷ [];
+      cap = most_points;
     }
 
 abbrev pub wave_flat_spec : Spec
@@ -100,6 +104,7 @@ wave_flat_spec =
       reads = phi_in Interior 0 ∷ [];
       writes = phi_in Boundary 0 ∷ [];
       params = [];
+      cap = most_points;
     }
 
 abbrev pub wave_copy_spec : Spec
@@ -111,6 +116,7 @@ wave_copy_spec =
       reads = phi_p_in Interior 0 ∷ [];
       writes = phi_in Boundary 0 ∷ [];
       params = [];
+      cap = most_points;
     }
 
 abbrev pub wave_scalar_spec : Spec
@@ -122,6 +128,7 @@ wave_scalar_spec =
       reads = [];
       writes = phi_in Boundary 0 ∷ [];
       params = codes "wave::edge" ∷ [];
+      cap = most_points;
     }
 
 abbrev pub wave_sum_spec : Spec
@@ -133,4 +140,5 @@ wave_sum_spec =
       reads = phi_in Everywhere 0 ∷ [];
       writes = want_of (codes "wave::total") Everywhere 0 ∷ [];
       params = [];
+      cap = most_points;
     }

@@ -4,7 +4,7 @@ use Rattle.cx_part.specs.Jobs.{IsOperation}
 use Rattle.cx_part.specs.Tests.{CanTest}
 use Rattle.cx_part.proofs.AskLaws.{can_post, can_take, can_test}
 use Rattle.cx_core.specs.Moving.{Asks, holdings}
-use Rattle.cx_core.proofs.OperateLaws.{swept, applied, offered, joined_all, sent, took, loop_tested}
+use Rattle.cx_core.proofs.OperateLaws.{in_cut, swept, applied, offered, joined_all, sent, took, loop_tested}
 use Rattle.cx_core.proofs.operations.operate.Goals as goal
 
 pub post-requires-clause-can : goal.post-requires-clause-can
@@ -21,6 +21,12 @@ take-requires-clause-can g c =
 
 pub take-requires-clause-there : goal.take-requires-clause-there
 take-requires-clause-there g c = subst (λ o. Asks c.args.job.now c.args.cut.now c.args.part o (holdings c.args.patch.now c.args.boards.now c.args.gathering.now (g.W.Wire.queue c.args.wire.now) c.args.meter.now (g.W.Wire.received c.args.wire.now) (g.W.Wire.sum c.args.wire.now))) c.in-Take.is c.requires.can.asks
+
+pub sweep-requires-clause-cut : goal.sweep-requires-clause-cut
+sweep-requires-clause-cut g c = in_cut c.args.job.now c.args.cut.now c.args.part c.args.op.now (holdings c.args.patch.now c.args.boards.now c.args.gathering.now (g.W.Wire.queue c.args.wire.now) c.args.meter.now (g.W.Wire.received c.args.wire.now) (g.W.Wire.sum c.args.wire.now)) c.requires.can
+
+pub apply-requires-clause-cut : goal.apply-requires-clause-cut
+apply-requires-clause-cut g c = in_cut c.args.job.now c.args.cut.now c.args.part c.args.op.now (holdings c.args.patch.now c.args.boards.now c.args.gathering.now (g.W.Wire.queue c.args.wire.now) c.args.meter.now (g.W.Wire.received c.args.wire.now) (g.W.Wire.sum c.args.wire.now)) c.requires.can
 
 pub test_loop-requires : goal.test_loop-requires
 test_loop-requires g c =

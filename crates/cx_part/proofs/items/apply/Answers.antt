@@ -12,7 +12,7 @@ turn-requires-clause-item g c = (names_well c.args.job.now c.requires.job (Apply
 
 pub turn-requires-clause-can : goal.turn-requires-clause-can
 turn-requires-clause-can g c =
-    can_turn c.args.job.now c.requires.job c.args.patch.now c.requires.patch c.args.item (is_known c.args.job.now c.requires.job (Apply c.args.item) c.requires.operation) _ c.requires.routines
+    can_turn c.args.job.now c.requires.job c.args.patch.now c.requires.patch c.args.item (is_known c.args.job.now c.requires.job (Apply c.args.item) c.requires.operation) _ c.requires.routines c.requires.cut
     (inr (names_well c.args.job.now c.requires.job (Apply c.args.item) c.requires.operation).1)
 
 pub returns-clause-frame : goal.returns-clause-frame
