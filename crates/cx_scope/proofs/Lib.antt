@@ -5,3 +5,6 @@ pub mod NameLaws
 pub mod SuffixLaws
 pub mod StoredLaws
 mod Rows
+pub mod ChainLaws
+pub mod SameLaws
+pub mod LinkLaws

@@ -6,3 +6,4 @@ pub mod Naming
 pub mod Resolving
 pub mod Closures
 pub mod Tabled
+pub mod Chains

@@ -3,6 +3,7 @@
 
 mod edges;
 mod fault;
+mod groups;
 mod names;
 mod reach;
 mod scope;

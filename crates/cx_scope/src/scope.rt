@@ -10,6 +10,7 @@ ghost use Rattle.cx_scope.specs.declared.fault.ScopeFault.TheVariants as faults;
 
 use crate::ScopeFault;
 use crate::edges::{Tie, links};
+use crate::groups::Groups;
 use crate::names::{named_groups, named_variables};
 use crate::tables::Tables;
 use cx_bind::{Bound, Thorn};
@@ -43,7 +44,7 @@ fn tables(alloc: Global, thorns: &[Thorn]) -> Result<Tables, Memory>
     requires { bind_fault thorns.now ≡ None }
     ensures { IfOk result (AreOf thorns.now) }
 {
-    let groups = named_groups(alloc, thorns)?;
+    let groups = Groups::new(alloc, named_groups(alloc, thorns)?)?;
     let variables = named_variables(alloc, thorns)?;
     let ancestors = links(alloc, thorns, Tie::Inherits)?;
     let friends = links(alloc, thorns, Tie::Friends)?;

@@ -1,8 +1,8 @@
 //! The variables and groups that names mean.
 
-ghost use Rattle.std.specs.Prelude.{◌≡◌, ◌^◌, ◌<◌, length, IfOk};
+ghost use Rattle.std.specs.Prelude.{◌≡◌, ◌^◌, ◌<◌, false, length, slice_get, IfOk};
 ghost use Rattle.std.specs.List.{position_from};
-ghost use Rattle.std.specs.Option.{option_copied};
+ghost use Rattle.std.specs.Option.{option_copied, option_map_or};
 ghost use Rattle.cx_scope.specs.Naming.{fits_owner, is_same_copy, names_level, names_group, without_suffix, is_same_group, members_from};
 ghost use Rattle.cx_scope.specs.Tabled.{with_base, has_variable, has_group, variable_of, level_meant, group_meant};
 
@@ -133,15 +133,30 @@ fn is_this_group(tables: &Tables, thorn: usize, tier: Tier, name: &Ref, group: &
     tables.is_in(thorn, tier, group) && names_group(name, group)
 }
 
+/// Whether such a group, of this name, stands at a place.
+fn is_at(tables: &Tables, thorn: usize, tier: Tier, name: &Ref, place: usize) -> bool
+    ensures { result
+        ≡ option_map_or (has_group tables.now thorn tier name.now)
+        (slice_get tables.now.groups place) false }
+{
+    match tables.groups.as_slice().get(place) {
+        Some(group) => is_this_group(tables, thorn, tier, name, group),
+        None => false,
+    }
+}
+
 fn group_in(tables: &Tables, thorn: usize, tier: Tier, name: &Ref) -> Option<usize>
     ensures { result
         ≡ position_from (has_group tables.now thorn tier name.now) 0 tables.now.groups }
 {
-    tables
-        .groups
-        .as_slice()
-        .iter()
-        .position(|group| is_this_group(tables, thorn, tier, name, group))
+    let mut next = tables.groups.first(name.name.as_slice());
+    'same: while let Some(place) = next {
+        if is_at(tables, thorn, tier, name, place) {
+            return Some(place);
+        }
+        next = tables.groups.next(place);
+    }
+    None
 }
 
 /// The place of the group that a name means.

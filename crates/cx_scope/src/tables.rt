@@ -5,6 +5,7 @@ ghost use Rattle.cx_scope.specs.Closures.{sight_of, row_of, is_of_ancestor, is_o
 ghost use Rattle.cx_scope.specs.Reach.{is_marked};
 ghost use Rattle.cx_scope.specs.Sight.{is_in, is_public, is_protected};
 
+use crate::groups::Groups;
 use crate::names::{NamedGroup, NamedVariable, Tier};
 use cx_iface::Access;
 use cx_text::List;
@@ -12,7 +13,7 @@ use cx_text::List;
 /// What names find, and for each thorn which ones provide its ancestors and friends.
 #[derive(Debug, Drop)]
 pub(crate) struct Tables {
-    pub(crate) groups: List<NamedGroup>,
+    pub(crate) groups: Groups,
     pub(crate) variables: List<NamedVariable>,
     pub(crate) ancestors: List<List<bool>>,
     pub(crate) friends: List<List<bool>>,
