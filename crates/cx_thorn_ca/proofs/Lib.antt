@@ -1,1 +1,3 @@
 mod Examples
+pub mod RowLaws
+pub mod LifeLaws

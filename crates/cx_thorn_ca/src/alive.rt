@@ -16,9 +16,13 @@ pub(crate) fn alive(w: &Window, x: i32, y: i32) -> u32
     ensures value { result ≡ alive_of (value_of w.now.seen 0 (off x y)) }
     ensures bit { result ≤ 1 }
 {
-    if w.value(0, Point { x, y, z: 0 }) == 0 {
-        0
-    } else {
-        1
-    }
+    alive_cell(w.value(0, Point { x, y, z: 0 }))
+}
+
+/// 1 for a cell that isn't 0, else 0.
+pub(crate) fn alive_cell(cell: i64) -> u32
+    ensures value { result ≡ alive_of cell }
+    ensures bit { result ≤ 1 }
+{
+    if cell == 0 { 0 } else { 1 }
 }

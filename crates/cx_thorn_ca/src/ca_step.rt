@@ -1,15 +1,16 @@
 //! One step of the row.
-ghost use Rattle.std.specs.Prelude.{◌≡◌};
+ghost use Rattle.std.specs.Prelude.{◌≡◌, ◌+◌, length};
 ghost use Rattle.cx_thorn_ca.specs.Automaton.{ca_step_spec, ca_step_rule};
+ghost use Rattle.cx_thorn_ca.specs.Rows.{AreBy, next_cell, next_at};
 
-use crate::alive::alive;
+use crate::alive::{alive, alive_cell};
 use cx_plan::{ItemKind, Region};
-use cx_rule::{Cells, Overflow, Place, PointRule, RoutineOf, Spec, Window, bit};
+use cx_rule::{Cells, Overflow, Place, PointRule, Row, RowRule, RowsOf, Spec, Window, bit};
 use cx_text::Memory;
 use std::alloc::Global;
 
 /// The routine `ca_step`: each cell of the interior becomes a bit of `ca::rule`, chosen by the cell and its two neighbours.
-pub type CaStep = RoutineOf<CaStepRule>;
+pub type CaStep = RowsOf<CaStepRule>;
 
 /// The rule of `ca_step`.
 #[derive(Debug, Drop)]
@@ -39,4 +40,30 @@ impl PointRule for CaStepRule {
         out.set_only(bit(at.param(0), 4 * left + 2 * middle + right));
         Ok(())
     }
+}
+
+impl RowRule for CaStepRule {
+    fn row(&self, row: &Row, out: &mut [i64]) -> Result<(), Overflow> {
+        next_row(row.param(0), row.along(0, 0, 0), out);
+        Ok(())
+    }
+}
+
+/// The next cells of a row that begins one cell before them.
+fn next_row(rule: i64, cells: &[i64], next_cells: &mut [i64])
+    requires { length cells.now ≡ length next_cells.old + 2 }
+    ensures cells { AreBy (next_at rule cells.now) next_cells.new (length next_cells.old) }
+    ensures room { length next_cells.new ≡ length next_cells.old }
+{
+    'cells: for i in 0..next_cells.len() {
+        next_cells[i] = next_cell(rule, cells[i], cells[i + 1], cells[i + 2]);
+    }
+}
+
+/// The next cell between two neighbours.
+fn next_cell(rule: i64, left: i64, middle: i64, right: i64) -> i64
+    ensures { result ≡ next_cell rule left middle right }
+{
+    let pattern = 4 * alive_cell(left) + 2 * alive_cell(middle) + alive_cell(right);
+    bit(rule, pattern)
 }

@@ -1,17 +1,19 @@
 //! One step of the sheet.
-ghost use Rattle.std.specs.Prelude.{◌≡◌, ◌≤◌, ◌≤ℤ◌, ◌∷◌, [], negsuc, pos};
+ghost use Rattle.std.specs.Prelude.{◌≡◌, ◌≤◌, ◌<◌, ◌≤ℤ◌, ◌+◌, ◌∷◌, [], length, negsuc, pos};
+ghost use Rattle.cx_rule.specs.Rows.{seen_row, FitsRow, GivesRow};
 ghost use Rattle.cx_thorn_ca.specs.Life.{life_step_spec, life_step_rule, counts_of, living, neighbours, row_of_three};
+ghost use Rattle.cx_thorn_ca.specs.Rows.{AreBy, beside_at, three_at, living_at, next_alone, next_amid};
 
-use crate::alive::alive;
+use crate::alive::{alive, alive_cell};
 use cx_plan::{ItemKind, Region};
-use cx_rule::{Cells, Overflow, Place, PointRule, RoutineOf, Spec, Window, bit};
+use cx_rule::{Cells, Overflow, Place, PointRule, Row, RowRule, RowsOf, Spec, Window, bit};
 use cx_text::Memory;
 use std::alloc::Global;
 
 /// The routine `life_step`: each cell of the interior becomes the bit of `life::survive`, where it isn't 0, or else of
 /// `life::born`, whose number is how many neighbours in x and y aren't 0. With one direction only those in x count, and a
 /// third direction isn't looked at.
-pub type LifeStep = RoutineOf<LifeStepRule>;
+pub type LifeStep = RowsOf<LifeStepRule>;
 
 /// The rule of `life_step`.
 #[derive(Debug, Drop)]
@@ -40,6 +42,110 @@ impl PointRule for LifeStepRule {
         out.set_only(bit(counts, living(w, at.shape.dims)));
         Ok(())
     }
+}
+
+impl RowRule for LifeStepRule {
+    fn row(&self, row: &Row, out: &mut [i64]) -> Result<(), Overflow> {
+        if row.dims() < 2 {
+            put_alone(row, out);
+        } else {
+            put_amid(row, out);
+        }
+        Ok(())
+    }
+}
+
+/// The next cells along a row that has no neighbours.
+fn put_alone(row: &Row, out: &mut [i64])
+    requires fits { FitsRow life_step_spec (seen_row row.now) }
+    requires line { (seen_row row.now).dims < 2 }
+    requires count { length out.old ≡ row.now.count }
+    ensures numbers { GivesRow life_step_rule (seen_row row.now) out.new }
+    ensures room { length out.new ≡ length out.old }
+{
+    next_alone(row.param(0), row.param(1), row.along(0, 0, 0), out);
+}
+
+/// The next cells along a row that has neighbours below and above.
+fn put_amid(row: &Row, out: &mut [i64])
+    requires fits { FitsRow life_step_spec (seen_row row.now) }
+    requires sheet { 2 ≤ (seen_row row.now).dims }
+    requires count { length out.old ≡ row.now.count }
+    ensures numbers { GivesRow life_step_rule (seen_row row.now) out.new }
+    ensures room { length out.new ≡ length out.old }
+{
+    let below = row.along(0, -1, 0);
+    let above = row.along(0, 1, 0);
+    next_amid(
+        row.param(0),
+        row.param(1),
+        below,
+        row.along(0, 0, 0),
+        above,
+        out,
+    );
+}
+
+/// The next cells of a row without neighbours, which begins one cell before them.
+fn next_alone(survive: i64, born: i64, cells: &[i64], next_cells: &mut [i64])
+    requires { length cells.now ≡ length next_cells.old + 2 }
+    ensures cells { AreBy (next_alone survive born cells.now) next_cells.new (length next_cells.old) }
+    ensures room { length next_cells.new ≡ length next_cells.old }
+{
+    'cells: for i in 0..next_cells.len() {
+        next_cells[i] = bit(counts(cells[i + 1], survive, born), beside(cells, i));
+    }
+}
+
+/// The next cells of a row between those below and above it, each of which begins one cell before them.
+fn next_amid(
+    survive: i64,
+    born: i64,
+    below: &[i64],
+    cells: &[i64],
+    above: &[i64],
+    next_cells: &mut [i64],
+)
+    requires below { length below.now ≡ length next_cells.old + 2 }
+    requires cells { length cells.now ≡ length next_cells.old + 2 }
+    requires above { length above.now ≡ length next_cells.old + 2 }
+    ensures cells { AreBy (next_amid survive born below.now cells.now above.now) next_cells.new
+        (length next_cells.old) }
+    ensures room { length next_cells.new ≡ length next_cells.old }
+{
+    'cells: for i in 0..next_cells.len() {
+        let living = living_at(below, cells, above, i);
+        next_cells[i] = bit(counts(cells[i + 1], survive, born), living);
+    }
+}
+
+/// How many neighbours in the row aren't 0.
+fn beside(cells: &[i64], i: usize) -> u32
+    requires { i + 2 < length cells.now }
+    ensures value { result ≡ beside_at cells.now i }
+    ensures few { result ≤ 2 }
+{
+    alive_cell(cells[i]) + alive_cell(cells[i + 2])
+}
+
+/// How many of three cells in a row aren't 0.
+fn three(cells: &[i64], i: usize) -> u32
+    requires { i + 2 < length cells.now }
+    ensures value { result ≡ three_at cells.now i }
+    ensures few { result ≤ 3 }
+{
+    alive_cell(cells[i]) + alive_cell(cells[i + 1]) + alive_cell(cells[i + 2])
+}
+
+/// How many neighbours of a cell aren't 0.
+fn living_at(below: &[i64], cells: &[i64], above: &[i64], i: usize) -> u32
+    requires below { i + 2 < length below.now }
+    requires cells { i + 2 < length cells.now }
+    requires above { i + 2 < length above.now }
+    ensures value { result ≡ living_at below.now cells.now above.now i }
+    ensures few { result ≤ 8 }
+{
+    beside(cells, i) + three(below, i) + three(above, i)
 }
 
 /// The number whose bits tell the next cell.
