@@ -53,7 +53,7 @@ pub fn drive<D: Disk, W: Wire, T: Turns>(
     meter: &mut Meter,
 ) -> Result<Core, DriveFault>
     requires ready { IsReady job.now }
-    requires routines { FitJob (map spec_of routines.now) (setup_of job.now) }
+    requires routines { FitJob (map spec_of routines.now) job.now }
     requires parts { part_count (parts_of job.now.shape job.now.cut) ≤ W.parts wire.old }
     requires empty { AreEmpty (W.queue wire.old) }
     ensures drives { Drives (record {
@@ -105,7 +105,7 @@ fn drive_from<D: Disk, W: Wire, T: Turns>(
     meter: &mut Meter,
 ) -> Result<Core, DriveFault>
     requires job { IsReady job.now }
-    requires routines { FitJob (map spec_of routines.now) (setup_of job.now) }
+    requires routines { FitJob (map spec_of routines.now) job.now }
     requires parts { part_count (parts_of job.now.shape job.now.cut) ≤ W.parts wire.old }
     requires mounted { IsTrue (D.mounted disk.old) }
     requires files { D.file_count disk.old ≡ 9 }
@@ -172,7 +172,7 @@ fn run_to_end<D: Disk, W: Wire, T: Turns>(
     meter: &mut Meter,
 ) -> Result<Core, DriveFault>
     requires job { IsReady job.now }
-    requires routines { FitJob (map spec_of routines.now) (setup_of job.now) }
+    requires routines { FitJob (map spec_of routines.now) job.now }
     requires parts { part_count (parts_of job.now.shape job.now.cut) ≤ W.parts wire.old }
     requires mounted { IsTrue (D.mounted disk.old) }
     requires files { D.file_count disk.old ≡ 9 }
@@ -236,7 +236,7 @@ fn run<D: Disk, W: Wire, T: Turns>(
     meter: &mut Meter,
 ) -> Result<(), DriveFault>
     requires job { IsReady job.now }
-    requires routines { FitJob (map spec_of routines.now) (setup_of job.now) }
+    requires routines { FitJob (map spec_of routines.now) job.now }
     requires parts { part_count (parts_of job.now.shape job.now.cut) ≤ W.parts wire.old }
     requires mounted { IsTrue (D.mounted disk.old) }
     requires files { D.file_count disk.old ≡ 9 }

@@ -36,7 +36,7 @@ pub(crate) fn turn<D: Disk, W: Wire, T: Turns>(
     meter: &mut Meter,
 ) -> Result<(), DriveFault>
     requires job { IsReady job.now }
-    requires routines { FitJob (map spec_of routines.now) (setup_of job.now) }
+    requires routines { FitJob (map spec_of routines.now) job.now }
     requires parts { part_count (parts_of job.now.shape job.now.cut) ≤ W.parts wire.old }
     requires mounted { IsTrue (D.mounted disk.old) }
     requires files { D.file_count disk.old ≡ 9 }
@@ -111,7 +111,7 @@ fn step<W: Wire, T: Turns>(
     meter: &mut Meter,
 ) -> Result<Event, DriveFault>
     requires job { IsReady job.now }
-    requires routines { FitJob (map spec_of routines.now) (setup_of job.now) }
+    requires routines { FitJob (map spec_of routines.now) job.now }
     requires parts { part_count (parts_of job.now.shape job.now.cut) ≤ W.parts wire.old }
     requires running { IsRunning (IsTrue W.tells) job.now (map rule routines.now)
         (stands_at core.old
