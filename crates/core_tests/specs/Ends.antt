@@ -5,6 +5,7 @@ use Rattle.cx_plan.specs.declared.item.ItemKind.TheVariants.{Cell}
 use Rattle.cx_rule.specs.Place.{global_index, param_of}
 use Rattle.cx_rule.specs.Routine.{Rule}
 use Rattle.cx_rule.specs.Single.{want_of}
+use Rattle.cx_rule.specs.Specs.{most_points}
 use Rattle.cx_rule.specs.declared.spec.Spec.{Spec}
 
 abbrev pub ends_rule : Rule
@@ -19,4 +20,5 @@ ends_spec =
       reads = [];
       writes = want_of (codes "diff::u") Everywhere 0 ∷ [];
       params = codes "diff::amount" ∷ codes "diff::edge" ∷ [];
+      cap = most_points;
     }

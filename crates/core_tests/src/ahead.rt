@@ -1,7 +1,6 @@
 //! Which of the events that can happen lie behind the writer's next checkpoint.
 
 ghost use Rattle.std.specs.Prelude.{map};
-ghost use Rattle.cx_plan.specs.Setups.{setup_of};
 ghost use Rattle.cx_rule.specs.Jobs.{FitJob};
 ghost use Rattle.cx_core.specs.Starts.{IsReady};
 
@@ -46,7 +45,7 @@ fn seen(
     picks: &'static [u8],
 ) -> Result<Text, Fail>
     requires ready { IsReady job.now }
-    requires fit { FitJob (map spec_of routines.now) (setup_of job.now) }
+    requires fit { FitJob (map spec_of routines.now) job.now }
 {
     let alloc = rt.alloc();
     let mut wire = wire(alloc, job)?;

@@ -3,14 +3,13 @@
 ghost use Rattle.std.specs.Prelude.{◌≡◌, map, IfOk};
 ghost use Rattle.cx_cut.specs.Cuts.{part_count};
 ghost use Rattle.cx_cut.specs.Faults.{parts_of};
-ghost use Rattle.cx_plan.specs.Setups.{setup_of};
 ghost use Rattle.cx_rule.specs.Jobs.{FitJob};
 ghost use Rattle.cx_wire.specs.Memory.{told_queue, bare_queue};
 ghost use Rattle.cx_core.specs.Starts.{AreEmpty, IsReady};
 
 use crate::samples::{FILES, File};
 use cx_cut::cut;
-use cx_job::{MemoryShelf, make_job};
+use cx_job::{JobFault, MemoryShelf, make_job};
 use cx_plan::Job;
 use cx_rule::Routine;
 use cx_text::{List, Memory, Text};
@@ -51,7 +50,7 @@ pub(crate) fn job(
     routines: &[Box<dyn Routine>],
 ) -> Result<Job, Fail>
     ensures ready { IfOk result (λ job. IsReady job) }
-    ensures fit { IfOk result (λ job. FitJob (map spec_of routines.now) (setup_of job)) }
+    ensures fit { IfOk result (λ job. FitJob (map spec_of routines.now) job) }
 {
     if routines.len() > MOST_ROUTINES {
         return Err(Fail::new("there are more routines"));
@@ -60,6 +59,36 @@ pub(crate) fn job(
     let name = Text::from_slice(alloc, b"t.par")?;
     match make_job(alloc, &mut shelf, &name, routines) {
         Ok(job) => Ok(job),
+        Err(_) => Err(Fail::new("the files make no job")),
+    }
+}
+
+/// What is told of a part that is too large for a routine.
+#[derive(Drop)]
+pub(crate) struct Large {
+    /// The item.
+    pub(crate) path: Text,
+    /// How many points the part holds.
+    pub(crate) points: u64,
+    /// How many points the routine sweeps.
+    pub(crate) cap: u64,
+}
+
+/// What is told of the job of a file with more lines where a part is too large; none where there is a job.
+pub(crate) fn too_large(
+    alloc: Global,
+    file: &[u8],
+    more: &[u8],
+    routines: &[Box<dyn Routine>],
+) -> Result<Option<Large>, Fail> {
+    if routines.len() > MOST_ROUTINES {
+        return Err(Fail::new("there are more routines"));
+    }
+    let mut shelf = shelf(alloc, file, more, &[])?;
+    let name = Text::from_slice(alloc, b"t.par")?;
+    match make_job(alloc, &mut shelf, &name, routines) {
+        Ok(_) => Ok(None),
+        Err(JobFault::TooLarge(path, points, cap)) => Ok(Some(Large { path, points, cap })),
         Err(_) => Err(Fail::new("the files make no job")),
     }
 }

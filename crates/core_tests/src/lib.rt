@@ -4,6 +4,8 @@
 #[cfg(test)]
 mod ahead;
 #[cfg(test)]
+mod caps;
+#[cfg(test)]
 mod ends;
 #[cfg(test)]
 mod jobs;

@@ -1,7 +1,6 @@
 //! Every order of the events of two parts and the writer, one after another.
 
 ghost use Rattle.std.specs.Prelude.{map};
-ghost use Rattle.cx_plan.specs.Setups.{setup_of};
 ghost use Rattle.cx_rule.specs.Jobs.{FitJob};
 ghost use Rattle.cx_core.specs.Starts.{IsReady};
 
@@ -36,7 +35,7 @@ fn ends_so(
     turns: &mut EachOrder,
 ) -> Result<bool, Fail>
     requires ready { IsReady job.now }
-    requires fit { FitJob (map spec_of routines.now) (setup_of job.now) }
+    requires fit { FitJob (map spec_of routines.now) job.now }
 {
     let alloc = rt.alloc();
     let parts = parts(alloc, job)?;

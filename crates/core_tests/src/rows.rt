@@ -1,7 +1,6 @@
 //! Worked examples, cut into parts that may run ahead of each other, in many orders of events.
 
 ghost use Rattle.std.specs.Prelude.{map};
-ghost use Rattle.cx_plan.specs.Setups.{setup_of};
 ghost use Rattle.cx_rule.specs.Jobs.{FitJob};
 ghost use Rattle.cx_core.specs.Starts.{IsReady};
 
@@ -163,7 +162,7 @@ fn run_by_seed(
     seed: u64,
 ) -> Result<Told, Fail>
     requires ready { IsReady job.now }
-    requires fit { FitJob (map spec_of routines.now) (setup_of job.now) }
+    requires fit { FitJob (map spec_of routines.now) job.now }
 {
     let alloc = rt.alloc();
     let parts = parts(alloc, job)?;

@@ -114,7 +114,7 @@ fn to_end<W: Wire, T: Turns + Watch>(
     meter: &mut Meter,
 ) -> Result<Came, Fail>
     requires ready { IsReady job.now }
-    requires fit { FitJob (map spec_of routines.now) (setup_of job.now) }
+    requires fit { FitJob (map spec_of routines.now) job.now }
     requires parts { part_count (parts_of job.now.shape job.now.cut) ≤ W.parts wire.old }
     requires there { IsRunning (IsTrue W.tells) job.now (map rule routines.now)
         (stands_at core.old (W.queue wire.old) meter.old (W.received wire.old) (W.sum wire.old)) }
@@ -152,7 +152,7 @@ pub(crate) fn run<W: Wire, T: Turns + Watch>(
     meter: &mut Meter,
 ) -> Result<Came, Fail>
     requires ready { IsReady job.now }
-    requires fit { FitJob (map spec_of routines.now) (setup_of job.now) }
+    requires fit { FitJob (map spec_of routines.now) job.now }
     requires parts { part_count (parts_of job.now.shape job.now.cut) ≤ W.parts wire.old }
     requires empty { AreEmpty (W.queue wire.old) }
     ensures parts { W.parts wire.new ≡ W.parts wire.old }

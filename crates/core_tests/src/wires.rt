@@ -1,7 +1,6 @@
 //! What parts exchange: a value that is altered on its way, and the order in which parts send.
 
 ghost use Rattle.std.specs.Prelude.{map};
-ghost use Rattle.cx_plan.specs.Setups.{setup_of};
 ghost use Rattle.cx_rule.specs.Jobs.{FitJob};
 ghost use Rattle.cx_core.specs.Starts.{IsReady};
 
@@ -29,7 +28,7 @@ fn altered(
     seed: u64,
 ) -> Result<Came, Fail>
     requires ready { IsReady job.now }
-    requires fit { FitJob (map spec_of routines.now) (setup_of job.now) }
+    requires fit { FitJob (map spec_of routines.now) job.now }
 {
     let alloc = rt.alloc();
     let mut wire = altering(alloc, job)?;
@@ -60,7 +59,7 @@ fn noted_run<T: Turns + Watch>(
     turns: &mut T,
 ) -> Result<Noted, Fail>
     requires ready { IsReady job.now }
-    requires fit { FitJob (map spec_of routines.now) (setup_of job.now) }
+    requires fit { FitJob (map spec_of routines.now) job.now }
 {
     let alloc = rt.alloc();
     let mut wire = noting(alloc, job)?;

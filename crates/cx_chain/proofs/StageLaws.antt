@@ -45,12 +45,12 @@ pub record Pieces (specs : List Spec) (thorns : List Thorn) (schedules : List Sc
   pub is : job ≡ job_of thorns (assigned thorns settings) ordered items out_vars
 
 module _ (specs : List Spec) (job : Job) where
-  accepted : (made : Job) → LimitsAnd (run_count made.plan) made (Ok job) → job ≡ made
+  accepted : (made : Job) → LimitsAnd specs (run_count made.plan) made (Ok job) → job ≡ made
   accepted made done =
-      let few = then_ok (Is (within_limits (run_count made.plan) made)) CutAnd job done in
+      let few = then_ok (Is (within_limits (run_count made.plan) made)) (CutAnd specs) job done in
       let limited = unless_ok (limit_fault (run_count made.plan) made.items made.shape made.vars made.key) made few.0 few.1 in
-      let cut = then_ok (Is (within_cut few.0)) Accepts job few.2 in
-      let parted = unless_ok (cut_limits few.0) few.0 cut.0 cut.1 in
+      let cut = then_ok (Is (within_cut specs few.0)) Accepts job few.2 in
+      let parted = unless_ok (cut_limits specs few.0) few.0 cut.0 cut.1 in
       cut.2.0 ∙ parted.1 ∙ limited.1
 
   module _ (thorns : List Thorn) (schedules : List ScheduleFile) (settings : List Setting) (fit : bind_fault thorns ≡ None) where
@@ -61,7 +61,7 @@ module _ (specs : List Spec) (job : Job) where
     planned done =
         let ordered = then_ok (Orders (input_of thorns schedules values)) (OutputsAnd specs thorns values) job done in
         let written = then_ok (Is (output_ids thorns values ordered.0.storage)) (ItemsAnd specs thorns values ordered.0) job ordered.2 in
-        let matched = then_ok (Matches thorns values specs ordered.0) (λ items. LimitsAnd (run_count ordered.0.plan) (job_of thorns values ordered.0 items written.0)) job written.2 in
+        let matched = then_ok (Matches thorns values specs ordered.0) (λ items. LimitsAnd specs (run_count ordered.0.plan) (job_of thorns values ordered.0 items written.0)) job written.2 in
         record {
           fit = fit;
           ordered = ordered.0;

@@ -1,5 +1,6 @@
 -- The routines that items were matched with fit the job.
-use Rattle.std.proofs.Common.{◌≡◌, refl, ap, sym, subst, ◌∙◌, ℕ, Bool, true, false, ◌&&◌, List, get_or, Option, Some, None, Ok}
+use Rattle.std.proofs.Common.{◌≡◌, refl, ap, sym, subst, ◌∙◌, ℕ, Bool, true, false, ◌&&◌, List, get_or, Option, Some, None, Ok, arith}
+use Rattle.std.specs.Prelude.{All}
 use Rattle.std.proofs.lemmas.List.Quantifiers.{position-Some}
 use Rattle.std.proofs.lemmas.Option.{get_or_from_slice_get}
 use Rattle.cx_text.specs.Lexemes.{same_name}
@@ -18,15 +19,16 @@ use Rattle.cx_order.specs.Files.{input_of}
 use Rattle.cx_order.specs.Ordering.{IsPlan}
 use Rattle.cx_rule.specs.declared.spec.Spec.{Spec}
 use Rattle.cx_rule.specs.declared.spec.Want.{Want}
-use Rattle.cx_rule.specs.Jobs.{of_touch, of_want, HasRoutine, FitJob}
+use Rattle.cx_rule.specs.Jobs.{of_touch, of_want, HasRoutine}
 use Rattle.cx_job.specs.Jobs.{job_of}
 use Rattle.cx_job.specs.JobLimits.{run_count}
 use Rattle.cx_job.specs.Making.{Matches}
 use Rattle.cx_match.specs.Matching.{thorn_number, level_of, touch_by, touch_of, param_number, is_for, all_matched}
 use Rattle.cx_grids.proofs.NoneLaws.{no_some, some_same, both_first}
-use Rattle.cx_job.proofs.MatchedLaws.{answered_below, IsMatched, matched_at}
+use Rattle.cx_job.proofs.MatchedLaws.{answered_below, IsMatched, as_many_matched, matched_at}
 use Rattle.cx_job.proofs.TouchLaws.{some_keep, as_many_some, is_offer}
 use Rattle.cx_job.proofs.RunLaws.{called_of_plan}
+use Rattle.cx_job.proofs.CapLaws.{IsRunWith}
 
 both_second : (a b : Bool) → (a && b) ≡ true → b ≡ true
 both_second true b e = e
@@ -62,13 +64,20 @@ has_routine w v specs x y m =
           };
     })
 
--- each item that is run was matched
+-- each item that is run was matched, and is one of the first
 pub fits : (thorns : List Thorn) (files : List ScheduleFile) (values : Values) (specs : List Spec) (ordered : Ordered) (items : List Item) (out_vars : List VarId)
-    → IsPlan (input_of thorns files values) ordered → Matches thorns values specs ordered (Ok items) → FitJob specs (setup_of (job_of thorns values ordered items out_vars))
+    → IsPlan (input_of thorns files values) ordered → Matches thorns values specs ordered (Ok items) → All (IsRunWith specs (job_of thorns values ordered items out_vars)) (run_items (setup_of (job_of thorns values ordered items out_vars)))
 fits thorns files values specs ordered items out_vars planned matches i d within =
     let setup : Setup = setup_of (job_of thorns values ordered items out_vars) in
     let w : World = record { thorns = thorns; sight = matches.sight; storage = ordered.storage } in
     let k : ℕ = get_or (run_items setup) i d in
     let at = called_of_plan (input_of thorns files values) ordered planned setup refl i d within in
-    has_routine w values specs (get_or ordered.items k no_item) (get_or items k no_item)
-    (matched_at w values specs (run_count ordered.plan) ordered.items items (answered_below (all_matched w values specs (run_count ordered.plan) ordered.items) items matches.items) k no_item no_item at.1 at.0)
+    let told = answered_below (all_matched w values specs (run_count ordered.plan) ordered.items) items matches.items in
+    let as_many = as_many_matched w values specs (run_count ordered.plan) ordered.items items told in
+    record {
+      routine =
+          has_routine w values specs (get_or ordered.items k no_item) (get_or items k no_item)
+          (matched_at w values specs (run_count ordered.plan) ordered.items items told k no_item no_item at.1 at.0);
+      run = at.0;
+      there = let l = at.1 in omega (arith, l, as_many);
+    }

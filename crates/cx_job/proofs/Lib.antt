@@ -1,5 +1,6 @@
 pub mod LineLaws
 mod LocalCellLaws
+pub mod CapLaws
 mod KeyRows
 pub mod OnlyMade
 pub mod OnlyJob

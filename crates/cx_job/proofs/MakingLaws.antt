@@ -1,6 +1,6 @@
 -- The stages from thorns to a job, one behind another.
 use Rattle.std.proofs.Common.{◌≡◌, ◌≢◌, ◌∙◌, sym, ap, subst, refl, ◌⊎◌, inl, inr, ℕ, Bool, true, false, List, [], ◌∷◌, Option, Some, None, Result, Ok, Err, nat_lt, take, codes, ◌^◌, if◌then◌else◌, arith}
-use Rattle.std.specs.Prelude.{option_map}
+use Rattle.std.specs.Prelude.{option_map, slice_get}
 use Rattle.cx_plan.specs.Lists.{or_else, first_of_each}
 use Rattle.cx_plan.specs.declared.item.Item.{Item}
 use Rattle.cx_plan.specs.declared.job.Job.{Job}
@@ -26,7 +26,8 @@ use Rattle.cx_config.specs.Shelf.{Held}
 use Rattle.cx_grids.specs.Stored.{in_64_bits}
 use Rattle.cx_cut.specs.Faults.{parts_of, cut_fault}
 use Rattle.cx_cut.specs.declared.faults.CutFault.{CutFault}
-use Rattle.cx_job.specs.LocalCells.{local_cells}
+use Rattle.cx_job.specs.LocalCells.{local_cells, items_run}
+use Rattle.cx_job.specs.Caps.{greatest_part, too_large, cap_fault, caps_fault}
 use Rattle.cx_job.specs.Jobs.{job_of}
 use Rattle.cx_job.specs.Outputs.{output_variables}
 use Rattle.cx_job.specs.JobLimits.{over, writes_fault, reads_fault, parameters_fault, each_limit, item_limits, points_fault, cells_fault, grid_limits, key_limit, limit_fault, run_count}
@@ -40,7 +41,7 @@ use Rattle.cx_job.specs.Faults.{config_fault, match_fault}
 use Rattle.cx_text.specs.Telling.{Stage, Then, Tells}
 use Rattle.cx_config.specs.Stages.{Is, unless, or_fault}
 use Rattle.cx_config.specs.Configuring.{Configures}
-use Rattle.cx_job.specs.Making.{Orders, Matches, Accepts, CutAnd, cut_limits, within_cut, LimitsAnd, ItemsAnd, OutputsAnd, PlanAnd, ValuesAnd, MadeOf, Made, Makes, Yields, output_ids, within_limits}
+use Rattle.cx_job.specs.Making.{Orders, Matches, Accepts, CutAnd, part_limits, cut_limits, within_cut, LimitsAnd, ItemsAnd, OutputsAnd, PlanAnd, ValuesAnd, MadeOf, Made, Makes, Yields, output_ids, within_limits}
 use Rattle.cx_job.proofs.OnlyJob.{Comes, only_job, only_fault}
 
 abbrev err : (A : Type 0) → JobFault → Result A JobFault
@@ -147,20 +148,34 @@ cut_not : (o : Option CutFault) → NotShelf (option_map faults.Cut o)
 cut_not None z = absurd cc
 cut_not (Some e) z = absurd cc
 
-cut_limits_not : (job : Job) → NotShelf (cut_limits job)
-cut_limits_not job =
-    or_else_not (option_map faults.Cut (cut_fault (parts_of job.shape job.cut))) (over (codes "local cells") (local_cells job) (2 ^ 27)) (cut_not _) (over_not _ _ _)
+object_not : (points : ℕ) (path : List ℕ) (o : Option Spec) → NotShelf (too_large points path o)
+object_not points path None = λ z. absurd cc
+object_not points path (Some s) = by (nat_lt s.cap points)
+  where
+    by : (b : Bool) → NotShelf (if b then Some (faults.TooLarge path points s.cap) else None)
+    by true z = absurd cc
+    by false z = absurd cc
+
+caps_not : (specs : List Spec) (job : Job) → NotShelf (caps_fault specs job)
+caps_not specs job =
+    let points : ℕ = greatest_part (parts_of job.shape job.cut) in
+    each_not (cap_fault specs points) (items_run job) (λ x. object_not points x.path (slice_get specs x.routine))
+
+cut_limits_not : (specs : List Spec) (job : Job) → NotShelf (cut_limits specs job)
+cut_limits_not specs job =
+    or_else_not (option_map faults.Cut (cut_fault (parts_of job.shape job.cut))) (part_limits specs job) (cut_not _)
+    (or_else_not (over (codes "local cells") (local_cells job) (2 ^ 27)) (caps_fault specs job) (over_not _ _ _) (caps_not specs job))
 
 -- ---- all stages
 
 accepts_not : (job : Job) → Accepts job (err Job faults.Shelf) → ⊥
 accepts_not job (fault, is, other, told) = absurd cc
 
-cut_and_not : (job : Job) → CutAnd job (err Job faults.Shelf) → ⊥
-cut_and_not job = then_not (Is (within_cut job)) Accepts (unless_not (cut_limits job) job (cut_limits_not job)) accepts_not
+cut_and_not : (specs : List Spec) (job : Job) → CutAnd specs job (err Job faults.Shelf) → ⊥
+cut_and_not specs job = then_not (Is (within_cut specs job)) Accepts (unless_not (cut_limits specs job) job (cut_limits_not specs job)) accepts_not
 
-limits_and_not : (run : ℕ) (job : Job) → LimitsAnd run job (err Job faults.Shelf) → ⊥
-limits_and_not run job = then_not (Is (within_limits run job)) CutAnd (unless_not (limit_fault run job.items job.shape job.vars job.key) job (limits_not run job)) cut_and_not
+limits_and_not : (specs : List Spec) (run : ℕ) (job : Job) → LimitsAnd specs run job (err Job faults.Shelf) → ⊥
+limits_and_not specs run job = then_not (Is (within_limits run job)) (CutAnd specs) (unless_not (limit_fault run job.items job.shape job.vars job.key) job (limits_not run job)) (cut_and_not specs)
 
 module _ (specs : List Spec) where
   items_not : (thorns : List Thorn) (values : Values) (ordered : Ordered) → Matches thorns values specs ordered (err (List Item) faults.Shelf) → ⊥
@@ -168,8 +183,8 @@ module _ (specs : List Spec) where
 
   items_and_not : (thorns : List Thorn) (values : Values) (ordered : Ordered) (out_vars : List VarId) → ItemsAnd specs thorns values ordered out_vars (err Job faults.Shelf) → ⊥
   items_and_not thorns values ordered out_vars =
-      then_not (Matches thorns values specs ordered) (λ items. LimitsAnd (run_count ordered.plan) (job_of thorns values ordered items out_vars)) (items_not thorns values ordered)
-      (λ items. limits_and_not (run_count ordered.plan) (job_of thorns values ordered items out_vars))
+      then_not (Matches thorns values specs ordered) (λ items. LimitsAnd specs (run_count ordered.plan) (job_of thorns values ordered items out_vars)) (items_not thorns values ordered)
+      (λ items. limits_and_not specs (run_count ordered.plan) (job_of thorns values ordered items out_vars))
 
   outputs_not : (thorns : List Thorn) (values : Values) (ordered : Ordered) → OutputsAnd specs thorns values ordered (err Job faults.Shelf) → ⊥
   outputs_not thorns values ordered =

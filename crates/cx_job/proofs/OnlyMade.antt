@@ -75,17 +75,17 @@ accepts_settled job = record {
 
 -- ---- all stages behind the files
 
-cut_settled : (job : Job) → Settled without_witness (CutAnd job)
-cut_settled job = then_settled without_witness (Is (within_cut job)) Accepts (settled_is without_witness (within_cut job)) accepts_settled
+cut_settled : (specs : List Spec) (job : Job) → Settled without_witness (CutAnd specs job)
+cut_settled specs job = then_settled without_witness (Is (within_cut specs job)) Accepts (settled_is without_witness (within_cut specs job)) accepts_settled
 
-limits_settled : (run : ℕ) (job : Job) → Settled without_witness (LimitsAnd run job)
-limits_settled run job = then_settled without_witness (Is (within_limits run job)) CutAnd (settled_is without_witness (within_limits run job)) cut_settled
+limits_settled : (specs : List Spec) (run : ℕ) (job : Job) → Settled without_witness (LimitsAnd specs run job)
+limits_settled specs run job = then_settled without_witness (Is (within_limits run job)) (CutAnd specs) (settled_is without_witness (within_limits run job)) (cut_settled specs)
 
 module _ (specs : List Spec) where
   items_settled : (thorns : List Thorn) (values : Values) (ordered : Ordered) (out_vars : List VarId) → Settled without_witness (ItemsAnd specs thorns values ordered out_vars)
   items_settled thorns values ordered out_vars =
-      then_settled without_witness (Matches thorns values specs ordered) (λ items. LimitsAnd (run_count ordered.plan) (job_of thorns values ordered items out_vars)) (matches_settled thorns values specs ordered)
-      (λ items. limits_settled (run_count ordered.plan) (job_of thorns values ordered items out_vars))
+      then_settled without_witness (Matches thorns values specs ordered) (λ items. LimitsAnd specs (run_count ordered.plan) (job_of thorns values ordered items out_vars)) (matches_settled thorns values specs ordered)
+      (λ items. limits_settled specs (run_count ordered.plan) (job_of thorns values ordered items out_vars))
 
   outputs_settled : (thorns : List Thorn) (values : Values) (ordered : Ordered) → Settled without_witness (OutputsAnd specs thorns values ordered)
   outputs_settled thorns values ordered =

@@ -1,9 +1,9 @@
 -- What the stages from thorns to a job make sure of.
 use Rattle.std.proofs.Common.{◌≡◌, ◌∙◌, sym, ap, subst, refl, ◌<◌, ◌+◌, ◌^◌, inl, inr, ℕ, List, [], ◌∷◌, ◌++◌, map, length, take, get_or, codes, Option, Some, None, Result, Ok, Err, IfOk}
-use Rattle.std.specs.Prelude.{option_map}
+use Rattle.std.specs.Prelude.{option_map, All}
 use Rattle.std.proofs.lemmas.List.{map-append, take_more}
 use Rattle.cx_plan.specs.Setups.{setup_of}
-use Rattle.cx_plan.specs.Regions.{HasShapes}
+use Rattle.cx_plan.specs.Regions.{HasShapes, run_items}
 use Rattle.cx_plan.specs.Paths.{Sound}
 use Rattle.cx_plan.specs.Whole.{IsWhole}
 use Rattle.cx_plan.specs.declared.item.Item.{Item}
@@ -17,7 +17,6 @@ use Rattle.cx_scope.specs.Sight.{Sight, IsSightOf}
 use Rattle.cx_order.specs.Files.{input_of}
 use Rattle.cx_order.specs.Meanings.{World}
 use Rattle.cx_order.specs.declared.ordered.Ordered.{Ordered}
-use Rattle.cx_rule.specs.Jobs.{FitJob}
 use Rattle.cx_rule.specs.declared.spec.Spec.{Spec}
 use Rattle.cx_cut.specs.Faults.{parts_of, cut_fault}
 use Rattle.cx_cut.specs.declared.faults.CutFault.{CutFault}
@@ -25,6 +24,7 @@ use Rattle.cx_job.specs.declared.fault.JobFault.{JobFault}
 use Rattle.cx_job.specs.declared.fault.JobFault.TheVariants as faults
 use Rattle.cx_job.specs.JobLimits.{over, limit_fault, run_count}
 use Rattle.cx_job.specs.LocalCells.{local_cells}
+use Rattle.cx_job.specs.Caps.{caps_fault}
 use Rattle.cx_job.specs.Jobs.{job_of}
 use Rattle.cx_job.specs.Outputs.{output_variables}
 use Rattle.cx_match.specs.Matching.{all_matched}
@@ -34,11 +34,12 @@ use Rattle.cx_config.specs.NamesAndLevels.{AreRead}
 use Rattle.cx_match.specs.declared.fault.MatchFault.{MatchFault}
 use Rattle.cx_job.specs.Faults.{match_fault}
 use Rattle.cx_config.specs.Stages.{Is, or_fault}
-use Rattle.cx_job.specs.Making.{Orders, Matches, CutAnd, cut_limits, LimitsAnd, ItemsAnd, OutputsAnd, PlanAnd, Yields, IsReady, IsPlanned, output_ids, within_limits}
+use Rattle.cx_job.specs.Making.{Orders, Matches, CutAnd, part_limits, cut_limits, LimitsAnd, ItemsAnd, OutputsAnd, PlanAnd, Yields, IsReady, IsPlanned, output_ids, within_limits}
 use Rattle.cx_job.proofs.MakingLaws.{yields_halt, yields_pass, yields_ok, unless_ok}
 use Rattle.cx_grids.proofs.NoneLaws.{first_none, second_none}
 use Rattle.cx_job.proofs.WholeJobs.{is_whole, not_over}
 use Rattle.cx_job.proofs.FitLaws.{fits}
+use Rattle.cx_job.proofs.CapLaws.{IsRunWith, job_fits}
 
 abbrev err : (A : Type 0) → JobFault → Result A JobFault
 err A e = Err e
@@ -81,18 +82,18 @@ module _ (specs : List Spec) (thorns : List Thorn) (values : Values) (ordered : 
     one_job : job_left ≡ job_by items
     one_job = ap (λ (o : Ordered). job_of thorns values o items out_vars) taken
 
-    limits_too : (r : Result Job JobFault) → Yields (LimitsAnd run job_left) r → Yields (LimitsAnd (run_count ordered.plan) (job_by items)) r
-    limits_too r here = subst (λ k. Yields (LimitsAnd k (job_by items)) r) counted (subst (λ j. Yields (LimitsAnd run j) r) one_job here)
+    limits_too : (r : Result Job JobFault) → Yields (LimitsAnd specs run job_left) r → Yields (LimitsAnd specs (run_count ordered.plan) (job_by items)) r
+    limits_too r here = subst (λ k. Yields (LimitsAnd specs k (job_by items)) r) counted (subst (λ j. Yields (LimitsAnd specs run j) r) one_job here)
 
     pub over_limits : (e : JobFault) → Yields (Matches thorns values specs ordered) (Ok items) → Yields (Is (within_limits run job_left)) (err Job e) → Yields (ItemsAnd specs thorns values ordered out_vars) (err Job e)
     over_limits e matches limited =
-        yields_pass (Matches thorns values specs ordered) (λ items. LimitsAnd (run_count ordered.plan) (job_by items)) items (Err e) matches
-        (limits_too (Err e) (yields_halt (Is (within_limits run job_left)) CutAnd e limited))
+        yields_pass (Matches thorns values specs ordered) (λ items. LimitsAnd specs (run_count ordered.plan) (job_by items)) items (Err e) matches
+        (limits_too (Err e) (yields_halt (Is (within_limits run job_left)) (CutAnd specs) e limited))
 
-    pub items_made : (job : Job) (r : Result Job JobFault) → Yields (Matches thorns values specs ordered) (Ok items) → Yields (Is (within_limits run job_left)) (Ok job) → Yields (CutAnd job) r → Yields (ItemsAnd specs thorns values ordered out_vars) r
+    pub items_made : (job : Job) (r : Result Job JobFault) → Yields (Matches thorns values specs ordered) (Ok items) → Yields (Is (within_limits run job_left)) (Ok job) → Yields (CutAnd specs job) r → Yields (ItemsAnd specs thorns values ordered out_vars) r
     items_made job r matches limited accepted =
-        yields_pass (Matches thorns values specs ordered) (λ items. LimitsAnd (run_count ordered.plan) (job_by items)) items r matches
-        (limits_too r (yields_pass (Is (within_limits run job_left)) CutAnd job r limited accepted))
+        yields_pass (Matches thorns values specs ordered) (λ items. LimitsAnd specs (run_count ordered.plan) (job_by items)) items r matches
+        (limits_too r (yields_pass (Is (within_limits run job_left)) (CutAnd specs) job r limited accepted))
 
     module _ (job : Job) (matches : Yields (Matches thorns values specs ordered) (Ok items)) (limited : Yields (Is (within_limits run job_left)) (Ok job)) (planned : IsPlanned thorns values ordered) where
       the_job : job ≡ job_by items
@@ -108,31 +109,32 @@ module _ (specs : List Spec) (thorns : List Thorn) (values : Values) (ordered : 
           subst IsWhole (sym the_job)
           (is_whole thorns planned.files values specs ordered items out_vars (record { fit = planned.fit; planned = planned.plan; few = none_over; written = outputs }) read (yields_ok (Matches thorns values specs ordered) items matches))
 
-      pub fit_of : FitJob specs (setup_of job)
-      fit_of =
-          subst (λ (j : Job). FitJob specs (setup_of j)) (sym the_job)
+      pub run_of : All (IsRunWith specs job) (run_items (setup_of job))
+      run_of =
+          subst (λ (j : Job). All (IsRunWith specs j) (run_items (setup_of j))) (sym the_job)
           (fits thorns planned.files values specs ordered items out_vars planned.plan (yields_ok (Matches thorns values specs ordered) items matches))
 
-unmapped : (o : Option CutFault) → option_map faults.Cut o ≡ None → o ≡ None
+pub unmapped : (o : Option CutFault) → option_map faults.Cut o ≡ None → o ≡ None
 unmapped None none = refl
 unmapped (Some e) none = absurd cc
 
-pub ready_of : (specs : List Spec) (job : Job) (r : Result Job JobFault) → IsWhole job → FitJob specs (setup_of job) → Yields (CutAnd job) r → IfOk r (IsReady specs)
-ready_of specs job (Err e) whole fit accepted = tt
-ready_of specs job (Ok other) whole fit (inl m) = absurd cc
-ready_of specs job (Ok other) whole fit (inr (inl (e, s, z))) = absurd cc
-ready_of specs job (Ok other) whole fit (inr (inr (x, s, t))) =
-    let cut = unless_ok (cut_limits job) job x (inr s) in
+pub ready_of : (specs : List Spec) (job : Job) (r : Result Job JobFault) → IsWhole job → All (IsRunWith specs job) (run_items (setup_of job)) → Yields (CutAnd specs job) r → IfOk r (IsReady specs)
+ready_of specs job (Err e) whole run accepted = tt
+ready_of specs job (Ok other) whole run (inl m) = absurd cc
+ready_of specs job (Ok other) whole run (inr (inl (e, s, z))) = absurd cc
+ready_of specs job (Ok other) whole run (inr (inr (x, s, t))) =
+    let cut = unless_ok (cut_limits specs job) job x (inr s) in
     let parts = option_map faults.Cut (cut_fault (parts_of job.shape job.cut)) in
     let cells = over (codes "local cells") (local_cells job) (2 ^ 27) in
+    let none = second_none parts (part_limits specs job) cut.0 in
     subst (IsReady specs) (sym (t.0 ∙ cut.1))
     (record {
       whole = whole;
       shapes = subst (λ j. HasShapes (setup_of j)) cut.1 t.1;
       sound = subst (λ j. Sound (setup_of j)) cut.1 t.2;
-      fit = fit;
-      cut = unmapped (cut_fault (parts_of job.shape job.cut)) (first_none parts cells cut.0);
-      few_cells = not_over (codes "local cells") (local_cells job) (2 ^ 27) (second_none parts cells cut.0);
+      fit = job_fits specs job run (second_none cells (caps_fault specs job) none);
+      cut = unmapped (cut_fault (parts_of job.shape job.cut)) (first_none parts (part_limits specs job) cut.0);
+      few_cells = not_over (codes "local cells") (local_cells job) (2 ^ 27) (first_none cells (caps_fault specs job) none);
     })
 
 -- ---- the plan and the variables that are written

@@ -11,9 +11,9 @@ use Rattle.cx_cut.specs.Cuts.{Parts, part_count, local}
 use Rattle.cx_cut.specs.Faults.{parts_of}
 use Rattle.cx_job.specs.JobLimits.{run_count}
 
--- the greatest number of several items; 0 where there is none
-abbrev pub greatest : (Item → ℕ) → List Item → ℕ
-greatest f items = fold (λ n x. max n (f x)) 0 items
+-- the greatest number of several items, or parts; 0 where there is none
+abbrev pub greatest : {X : Type 0} → (X → ℕ) → List X → ℕ
+greatest f xs = fold (λ n x. max n (f x)) 0 xs
 
 -- how many numbers an item writes at a point, and how many values its reads hand over there
 abbrev pub write_count : Item → ℕ

@@ -43,6 +43,7 @@ use Rattle.cx_job.specs.Jobs.{job_of}
 use Rattle.cx_cut.specs.Faults.{parts_of, cut_fault}
 use Rattle.cx_job.specs.JobLimits.{over, run_count, limit_fault}
 use Rattle.cx_job.specs.LocalCells.{local_cells}
+use Rattle.cx_job.specs.Caps.{caps_fault}
 use Rattle.cx_match.specs.Matching.{all_matched}
 use Rattle.cx_job.specs.Outputs.{output_variables}
 
@@ -78,13 +79,16 @@ within_limits run job = unless (limit_fault run job.items job.shape job.vars job
 abbrev pub job_within : ℕ → List Thorn → Values → Ordered → Contents → Result Job JobFault
 job_within run thorns values ordered c = within_limits run (job_of thorns values ordered c.items c.out_vars)
 
--- the grid can be cut as the job says, and the parts don't hold too many numbers
-abbrev pub cut_limits : Job → Option JobFault
-cut_limits job =
-    or_else (option_map faults.Cut (cut_fault (parts_of job.shape job.cut))) (over (codes "local cells") (local_cells job) (2 ^ 27))
+-- the parts don't hold too many numbers, and none is too large for a routine
+abbrev pub part_limits : List Spec → Job → Option JobFault
+part_limits specs job = or_else (over (codes "local cells") (local_cells job) (2 ^ 27)) (caps_fault specs job)
 
-abbrev pub within_cut : Job → Result Job JobFault
-within_cut job = unless (cut_limits job) job
+-- the grid can be cut as the job says, into such parts
+abbrev pub cut_limits : List Spec → Job → Option JobFault
+cut_limits specs job = or_else (option_map faults.Cut (cut_fault (parts_of job.shape job.cut))) (part_limits specs job)
+
+abbrev pub within_cut : List Spec → Job → Result Job JobFault
+within_cut specs job = unless (cut_limits specs job) job
 
 -- the job itself, where on no path a need is unmet
 abbrev pub Accepts : Job → Stage Job JobFault
@@ -93,15 +97,15 @@ Accepts job (Err e) = (fault : RegionFault) × (e ≡ faults.Region fault) × (f
 
 -- Bound, with values, ordered, with the variables that are written, matched, within the limits, cut, and accepted: a stage stands behind
 -- what it takes from those before it.
-abbrev pub CutAnd : Job → Stage Job JobFault
-CutAnd job = Then (Is (within_cut job)) Accepts
+abbrev pub CutAnd : List Spec → Job → Stage Job JobFault
+CutAnd specs job = Then (Is (within_cut specs job)) Accepts
 
-abbrev pub LimitsAnd : ℕ → Job → Stage Job JobFault
-LimitsAnd run job = Then (Is (within_limits run job)) CutAnd
+abbrev pub LimitsAnd : List Spec → ℕ → Job → Stage Job JobFault
+LimitsAnd specs run job = Then (Is (within_limits run job)) (CutAnd specs)
 
 abbrev pub ItemsAnd : List Spec → List Thorn → Values → Ordered → List VarId → Stage Job JobFault
 ItemsAnd specs thorns values ordered out_vars =
-    Then (Matches thorns values specs ordered) (λ items. LimitsAnd (run_count ordered.plan) (job_of thorns values ordered items out_vars))
+    Then (Matches thorns values specs ordered) (λ items. LimitsAnd specs (run_count ordered.plan) (job_of thorns values ordered items out_vars))
 
 abbrev pub OutputsAnd : List Spec → List Thorn → Values → Ordered → Stage Job JobFault
 OutputsAnd specs thorns values ordered = Then (Is (output_ids thorns values ordered.storage)) (ItemsAnd specs thorns values ordered)
@@ -129,7 +133,7 @@ pub record IsReady (specs : List Spec) (job : Job) : Type 0 where
   pub whole : IsWhole job
   pub shapes : HasShapes (setup_of job)
   pub sound : Sound (setup_of job)
-  pub fit : FitJob specs (setup_of job)
+  pub fit : FitJob specs job
   pub cut : cut_fault (parts_of job.shape job.cut) ≡ None
   pub few_cells : local_cells job ≤ 2 ^ 27
 
@@ -157,6 +161,7 @@ without_witness (faults.UnknownRoutine path) = faults.UnknownRoutine path
 without_witness (faults.RoutineMismatch path declared offered) = faults.RoutineMismatch path declared offered
 without_witness (faults.Limit name count) = faults.Limit name count
 without_witness (faults.Cut fault) = faults.Cut fault
+without_witness (faults.TooLarge path points cap) = faults.TooLarge path points cap
 without_witness faults.Memory = faults.Memory
 
 -- An answer over a shelf that held these files, with its counts of faults before and after. Where the shelf tells its files, it is what

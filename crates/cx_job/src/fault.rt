@@ -42,6 +42,9 @@ pub enum JobFault {
     Limit(Text, u64),
     /// The grid can't be cut into parts of the widths that are said.
     Cut(CutFault),
+    /// The object of the item of this path doesn't sweep the largest part of the grid's cut: its path, the points of that part, its
+    /// ghosts among them, and the most points that the object sweeps.
+    TooLarge(Text, u64, u64),
     /// A routine might read a point that nobody has filled.
     Region(RegionFault),
     /// Memory is wanting.

@@ -1,6 +1,7 @@
 //! Jobs from the files of a configuration.
 #![tactic(auto)]
 
+mod caps;
 mod counting;
 mod fault;
 mod groups;

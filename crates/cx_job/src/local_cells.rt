@@ -36,7 +36,7 @@ fn product(x: u64, y: u64, z: u64) -> u64
 }
 
 /// The number of points of a box, or the greatest number of 64 bits.
-fn point_count(b: &Box3) -> u64
+pub(crate) fn point_count(b: &Box3) -> u64
     ensures { result ≡ in_64_bits (point_count b.now) }
 {
     product(

@@ -70,7 +70,7 @@ fn items_and(
     let items = match_items(alloc, bound, values, specs, run, &mut ordered)?;
     let contents = Contents { items, out_vars };
     let job = within_limits(alloc, bound, values, run, ordered, contents)?;
-    cut_and(alloc, job)
+    cut_and(alloc, specs, job)
 }
 
 /// The plan and the variables that are written, and what follows them.
@@ -118,8 +118,9 @@ fn made_of(alloc: Global, configured: Configured, specs: &[&Spec]) -> Result<Job
 /// The stages stand in this order, and the first fault counts. The parameter file; the list of thorns; each active thorn's place in it;
 /// per thorn `interface.ccl`, `param.ccl`, `schedule.ccl` and `configuration.ccl` under `arrangements/Arrangement/Thorn/`, of which the
 /// last one may be absent; binding; the parameters' values; the plan; the variables that are written, sought by their full names; the
-/// items' routines, in the order of items; the limits but that of local cells; the cut of the grid; the limit of local cells; and the check that
-/// no routine reads a point that nobody has filled.
+/// items' routines, in the order of items; the limits but that of local cells; the cut of the grid; the limit of local cells; that
+/// each object of an item that is run sweeps the largest part, in the order of items; and the check that no routine reads a point that
+/// nobody has filled.
 ///
 /// Shelf: the shelf failed. NoFile: a file isn't there. Text, Ccl: a file's text has no tokens, or its tokens spell nothing. Bind, Value,
 /// Order, Region: the fault of that stage; Order has the path `output` for a name in `IO::out_vars`. UnknownRoutine: no object has the
@@ -128,7 +129,8 @@ fn made_of(alloc: Global, configured: Configured, specs: &[&Spec]) -> Result<Job
 /// 16 `writes`, 32 `reads` or 32 `parameters`, the grid more than 2^24 `points`, or its stored levels together more than 2^26 `owned cells`, or the
 /// `key` is longer than 2^32 - 1 bytes, or the parts hold together more than 2^27 `local cells`: a part holds at each of its points, its ghosts
 /// among them, a number for each stored level of each grid variable and for each write of the item that writes most, and all values around a
-/// point of the item that reads most. Cut: `cut` of cx_cut refuses the job's cut.
+/// point of the item that reads most. Cut: `cut` of cx_cut refuses the job's cut. TooLarge: the object of an item of a bin that is run
+/// has a `cap` below the points of the largest part, its ghosts among them: the item's path, these points, and the `cap`.
 ///
 /// So the grid of a job has interior points, and may be cut as the job says.
 pub fn make_job<H: Shelf>(
@@ -145,8 +147,8 @@ pub fn make_job<H: Shelf>(
     ensures cut { IfOk result (λ job. cut_fault (parts_of job.shape job.cut) ≡ None) }
     ensures interior { IfOk result (λ job. HasInterior job.shape) }
     ensures few_cells { IfOk result (λ job. local_cells job ≤ 2 ^ 27) }
-    // The objects fit the job.
-    ensures fit { IfOk result (λ job. FitJob (map spec_of routines.now) (setup_of job)) }
+    // The objects fit the job, and sweep each part of its cut.
+    ensures fit { IfOk result (λ job. FitJob (map spec_of routines.now) job) }
 {
     let specs = specs_of(alloc, routines)?;
     let configured = configure(alloc, shelf, name)?;

@@ -1,6 +1,7 @@
 //! The stages from thorns to a job, with their faults as a job's.
 
 ghost use Rattle.std.specs.Prelude.{◌≡◌, ◌≤◌, ◌^◌, ◌↔◌, [], length, map, codes, IsTrue, IfOk, option_map};
+ghost use Rattle.cx_cut.specs.Cuts.{IsWhole as IsWholeCut};
 ghost use Rattle.cx_cut.specs.Faults.{parts_of, cut_fault};
 ghost use Rattle.cx_grid.specs.Grid.{IsShape};
 ghost use Rattle.cx_plan.specs.Whole.{IsWhole};
@@ -9,14 +10,19 @@ ghost use Rattle.cx_scope.specs.declared.fault.ScopeFault.TheVariants as scopes;
 ghost use Rattle.cx_job.specs.declared.fault.JobFault.TheVariants as faults;
 ghost use Rattle.cx_text.specs.Telling.{Tells};
 ghost use Rattle.cx_job.specs.JobLimits.{grid_limits, run_count};
+ghost use Rattle.cx_job.specs.Caps.{caps_fault};
 ghost use Rattle.cx_grids.specs.Grids.{shape_of};
 ghost use Rattle.cx_grids.specs.Stored.{stored_infos};
 ghost use Rattle.cx_config.specs.Stages.{Is};
-ghost use Rattle.cx_job.specs.Making.{Yields, Orders, Matches, Accepts, CutAnd, IsOutputFault, assigned_values, bound_thorns, job_within, cut_limits, within_cut, output_ids};
+ghost use Rattle.cx_job.specs.Making.{Yields, Orders, Matches, Accepts, CutAnd, IsOutputFault, assigned_values, bound_thorns, job_within, part_limits, cut_limits, within_cut, output_ids};
 
+use crate::caps::{check_caps, greatest_part};
+use crate::counting::run_count;
 use crate::fault::JobFault;
 use crate::job::job_of;
-use crate::limits::{check_grid_limits, check_item_limits, check_key, check_local_cells};
+use crate::limits::{
+    check_grid_limits, check_item_limits, check_key, check_local_cells, first_items,
+};
 use crate::local_cells::local_cells;
 use crate::outputs::output_variables;
 use cx_bind::{Bound, Thorn, bind};
@@ -157,30 +163,52 @@ fn cut_of(alloc: Global, job: &Job) -> Result<Cut, JobFault>
     Ok(cut(alloc, &job.shape, &job.cut)?)
 }
 
-/// Tests that the grid can be cut as the job says, and then that the parts don't hold too many numbers.
-fn check_cut(alloc: Global, job: &Job) -> Result<(), JobFault>
-    requires { IsWhole job.now }
-    ensures { Tells faults.Memory (cut_limits job.now) result }
+/// Tests that the objects of the items that are run sweep the largest part.
+fn check_largest(alloc: Global, specs: &[&Spec], cut: &Cut, job: &Job) -> Result<(), JobFault>
+    requires few { run_count job.now.plan ≤ 4096 }
+    requires whole { IsWholeCut cut.now }
+    requires cut { cut.now ≡ parts_of job.now.shape job.now.cut }
+    ensures { Tells faults.Memory (caps_fault (map (λ s. s.now) specs.now) job.now) result }
 {
-    let cut = cut_of(alloc, job)?;
-    check_local_cells(alloc, local_cells(&cut, job))
+    let items = first_items(job.items.as_slice(), run_count(&job.plan));
+    check_caps(alloc, specs, greatest_part(cut), items)
 }
 
-/// The job, cut into parts that don't hold too many numbers.
-fn within_cut(alloc: Global, job: Job) -> Result<Job, JobFault>
-    requires { IsWhole job }
-    ensures { Yields (Is (within_cut job)) result }
+/// Tests that the parts don't hold too many numbers, and then that none is too large for a routine.
+fn check_parts(alloc: Global, specs: &[&Spec], cut: &Cut, job: &Job) -> Result<(), JobFault>
+    requires few { run_count job.now.plan ≤ 4096 }
+    requires whole { IsWholeCut cut.now }
+    requires cut { cut.now ≡ parts_of job.now.shape job.now.cut }
+    ensures { Tells faults.Memory (part_limits (map (λ s. s.now) specs.now) job.now) result }
 {
-    check_cut(alloc, &job)?;
+    check_local_cells(alloc, local_cells(cut, job))?;
+    check_largest(alloc, specs, cut, job)
+}
+
+/// Tests that the grid can be cut as the job says, and then its parts.
+fn check_cut(alloc: Global, specs: &[&Spec], job: &Job) -> Result<(), JobFault>
+    requires { IsWhole job.now }
+    ensures { Tells faults.Memory (cut_limits (map (λ s. s.now) specs.now) job.now) result }
+{
+    let cut = cut_of(alloc, job)?;
+    check_parts(alloc, specs, &cut, job)
+}
+
+/// The job, cut into parts that don't hold too many numbers and that the routines sweep.
+fn within_cut(alloc: Global, specs: &[&Spec], job: Job) -> Result<Job, JobFault>
+    requires { IsWhole job }
+    ensures { Yields (Is (within_cut (map (λ s. s.now) specs.now) job)) result }
+{
+    check_cut(alloc, specs, &job)?;
     Ok(job)
 }
 
 /// The job, cut and accepted.
-pub(crate) fn cut_and(alloc: Global, job: Job) -> Result<Job, JobFault>
+pub(crate) fn cut_and(alloc: Global, specs: &[&Spec], job: Job) -> Result<Job, JobFault>
     requires { IsWhole job }
-    ensures { Yields (CutAnd job) result }
+    ensures { Yields (CutAnd (map (λ s. s.now) specs.now) job) result }
 {
-    let job = within_cut(alloc, job)?;
+    let job = within_cut(alloc, specs, job)?;
     accept(alloc, job)
 }
 

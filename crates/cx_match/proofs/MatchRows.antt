@@ -11,6 +11,7 @@ use Rattle.cx_values.specs.declared.values.Slot.{Slot}
 use Rattle.cx_values.specs.declared.values.Values.{Values}
 use Rattle.cx_order.specs.Meanings.{World}
 use Rattle.cx_rule.specs.declared.spec.Want.{Want}
+use Rattle.cx_rule.specs.Specs.{most_points}
 use Rattle.cx_rule.specs.declared.spec.Spec.{Spec}
 use Rattle.cx_rule.specs.Single.{want_of}
 use Rattle.cx_match.specs.declared.fault.MatchFault.TheVariants.{UnknownRoutine, RoutineMismatch}
@@ -65,7 +66,7 @@ scheduled =
 
 abbrev offering : List Want → List Want → List (List ℕ) → Spec
 offering reads writes params =
-    record { thorn = codes "elemca"; name = codes "CA_step"; kind = Cell; reads = reads; writes = writes; params = params }
+    record { thorn = codes "elemca"; name = codes "CA_step"; kind = Cell; reads = reads; writes = writes; params = params; cap = most_points }
 
 abbrev read_cell : List Want
 read_cell = want_of (codes "ca::cell") Everywhere 1 ∷ []
@@ -74,7 +75,7 @@ abbrev write_cell : List Want
 write_cell = want_of (codes "CA::cell") Interior 0 ∷ []
 
 abbrev other : Spec
-other = record { thorn = codes "ElemCA"; name = codes "ca_init"; kind = Cell; reads = []; writes = write_cell; params = [] }
+other = record { thorn = codes "ElemCA"; name = codes "ca_init"; kind = Cell; reads = []; writes = write_cell; params = []; cap = most_points }
 
 abbrev matched_step : ℕ → Item
 matched_step k = record scheduled { routine = k; reads = touch 0 Everywhere 1 ∷ []; params = pos 110 ∷ [] }

@@ -91,6 +91,7 @@ sorted (faults.UnknownRoutine path) = refused refl
 sorted (faults.RoutineMismatch path declared offered) = refused refl
 sorted (faults.Limit what count) = refused refl
 sorted (faults.Cut fault) = refused refl
+sorted (faults.TooLarge path points cap) = refused refl
 sorted (faults.Region fault) = refused refl
 
 -- a fault that is found, and why it is the answer

@@ -211,6 +211,10 @@ row_part_too_thin : fault_words (jobs.Cut (cuts.PartTooThin 1 2)) ≡ codes "Par
 unfolding digits
 row_part_too_thin = refl
 
+row_too_large : fault_words (jobs.TooLarge (codes "EVOL/ca_step") 10 9) ≡ codes "TooLarge EVOL/ca_step 10 9"
+unfolding digits
+row_too_large = refl
+
 -- an item that writes nothing
 row_shape : fault_words (jobs.Region (regions.Shape (codes "EVOL/wave_step") [])) ≡ codes "Shape EVOL/wave_step -"
 row_shape = refl

@@ -21,7 +21,7 @@ use Rattle.cx_run.specs.declared.words.Command.TheVariants as commands
 
 -- all that is known of a job that was made
 pub ready_of : (specs : List Spec) (made : Result Job JobFault) → IfOk made IsWhole → IfOk made (λ job. HasShapes (setup_of job) × Sound (setup_of job))
-    → IfOk made (λ job. cut_fault (parts_of job.shape job.cut) ≡ None) → IfOk made (λ job. FitJob specs (setup_of job)) → IfOk made (λ job. local_cells job ≤ 2 ^ 27) → IfOk made (IsReady specs)
+    → IfOk made (λ job. cut_fault (parts_of job.shape job.cut) ≡ None) → IfOk made (λ job. FitJob specs job) → IfOk made (λ job. local_cells job ≤ 2 ^ 27) → IfOk made (IsReady specs)
 ready_of specs (Ok job) whole sound cut fit few = record { whole = whole; shapes = sound.0; sound = sound.1; fit = fit; cut = cut; few_cells = few }
 ready_of specs (Err e) whole sound cut fit few = tt
 

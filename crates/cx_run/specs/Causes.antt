@@ -139,7 +139,7 @@ MakesAs c r found = MakesOn (shelf_for c.shelf r.command) r.file c.specs found
 -- what follows for a job that was made
 pub record FollowsJob (c : Call) (command : Command) (job : Job) (answer : Answer) : Type 0 where
   pub whole : IsWhole job
-  pub fit : FitJob c.specs (setup_of job)
+  pub fit : FitJob c.specs job
   pub comes : ComesTo c.work command job answer
 
 -- and for a fault: it is the answer, and nothing but the shelf was touched

@@ -149,6 +149,8 @@ fault_words (jobs.RoutineMismatch path declared offered) =
     spaced (codes "RoutineMismatch" ∷ or_dash path ∷ or_dash declared ∷ or_dash offered ∷ [])
 fault_words (jobs.Limit of_ n) = spaced (codes "Limit" ∷ or_dash of_ ∷ decimal n ∷ [])
 fault_words (jobs.Cut fault) = cut_fault_words fault
+fault_words (jobs.TooLarge path points cap) =
+    spaced (codes "TooLarge" ∷ or_dash path ∷ decimal points ∷ decimal cap ∷ [])
 fault_words (jobs.Region fault) = region_fault_words fault
 fault_words jobs.Memory = codes "Memory"
 

@@ -392,6 +392,23 @@ fn push_cut_fault(text: &mut Text, alloc: Global, fault: CutFault) -> Result<(),
     }
 }
 
+/// Adds the words of a part that is too large for a routine.
+fn push_too_large(
+    text: &mut Text,
+    alloc: Global,
+    path: &Text,
+    points: u64,
+    cap: u64,
+) -> Result<(), Memory>
+    ensures { OnOk result
+        (text.new ≡ text.old
+        ++ spaced (codes "TooLarge" ∷ or_dash path.now ∷ decimal points ∷ decimal cap ∷ [])) }
+{
+    push_one(text, b"TooLarge", path)?;
+    push_number(text, alloc, points)?;
+    push_number(text, alloc, cap)
+}
+
 /// Adds the words of a fault.
 pub(crate) fn push_fault(text: &mut Text, alloc: Global, fault: &JobFault) -> Result<(), Memory>
     ensures { OnOk result (text.new ≡ text.old ++ fault_words fault.now) }
@@ -410,6 +427,7 @@ pub(crate) fn push_fault(text: &mut Text, alloc: Global, fault: &JobFault) -> Re
         }
         JobFault::Limit(of, number) => push_limit(text, alloc, of, *number),
         JobFault::Cut(fault) => push_cut_fault(text, alloc, *fault),
+        JobFault::TooLarge(path, points, cap) => push_too_large(text, alloc, path, *points, *cap),
         JobFault::Region(fault) => push_region_fault(text, alloc, fault),
         JobFault::Memory => text.push_slice(b"Memory"),
     }

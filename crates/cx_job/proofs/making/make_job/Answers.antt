@@ -50,5 +50,5 @@ returns-clause-few_cells g c = if_ready _ (λ job. local_cells job ≤ 2 ^ 27) c
 
 pub returns-clause-fit : goal.returns-clause-fit
 returns-clause-fit g c =
-    subst (λ specs. IfOk c.made_of.result (λ job. FitJob specs (setup_of job))) (ap (map (λ s. s.now)) c.deref.ensures.value ∙ c.in_ok-specs.ensures)
-    (if_ready _ (λ job. FitJob (map (λ s. s.now) c.deref.result.now) (setup_of job)) c.made_of.result (λ job ready. ready.fit) c.made_of.ensures.ready)
+    subst (λ specs. IfOk c.made_of.result (λ job. FitJob specs job)) (ap (map (λ s. s.now)) c.deref.ensures.value ∙ c.in_ok-specs.ensures)
+    (if_ready _ (λ job. FitJob (map (λ s. s.now) c.deref.result.now) job) c.made_of.result (λ job ready. ready.fit) c.made_of.ensures.ready)

@@ -1,0 +1,75 @@
+//! A routine that sweeps small parts alone.
+
+ghost use Rattle.cx_rule.specs.Single.{zero_rule};
+ghost use Rattle.core_tests.specs.Caps.{capped_step_spec};
+
+use crate::jobs::too_large;
+use crate::samples::CA;
+use cx_plan::{ItemKind, Region};
+use cx_rule::{Cells, Overflow, Place, PointRule, Routine, RoutineOf, Spec, Window};
+use cx_text::Memory;
+use cx_thorn_ca::{CaCount, CaInit, CaZero};
+use std::alloc::Global;
+use std::test::Fail;
+
+/// A routine `ca_step` that clears the cells of parts of at most nine points.
+type CappedStep = RoutineOf<CappedStepRule>;
+
+/// Its rule.
+#[derive(Drop)]
+struct CappedStepRule;
+
+impl PointRule for CappedStepRule {
+    ghost said = { capped_step_spec };
+
+    ghost law = { zero_rule };
+
+    fn new() -> Self {
+        CappedStepRule
+    }
+
+    fn describe(alloc: Global) -> Result<Spec, Memory> {
+        let mut spec = Spec::new(alloc, b"ElemCA", b"ca_step", ItemKind::Cell)?;
+        spec.add_read(alloc, b"ca::cell", Region::Everywhere, 1)?;
+        spec.add_write(alloc, b"ca::cell", Region::Interior)?;
+        spec.add_param(alloc, b"ca::rule")?;
+        spec.limit(9);
+        Ok(spec)
+    }
+
+    fn numbers(&self, _w: &Window, _at: &Place, out: &mut Cells) -> Result<(), Overflow> {
+        out.set_only(0);
+        Ok(())
+    }
+}
+
+/// The routines of the automaton with this step.
+fn routines(alloc: Global) -> Result<Vec<Box<dyn Routine>>, Fail> {
+    let mut routines: Vec<Box<dyn Routine>> = Vec::new(alloc);
+    routines.push(Box::new(alloc, CaInit::new(alloc)?)?)?;
+    routines.push(Box::new(alloc, CappedStep::new(alloc)?)?)?;
+    routines.push(Box::new(alloc, CaZero::new(alloc)?)?)?;
+    routines.push(Box::new(alloc, CaCount::new(alloc)?)?)?;
+    Ok(routines)
+}
+
+#[test]
+fn a_part_of_ten_points(rt: HostRuntime) -> Result<(), Fail> {
+    let routines = routines(rt.alloc())?;
+    match too_large(rt.alloc(), CA, b"", &routines)? {
+        Some(told) => {
+            assert_eq!(rt; told.path.as_slice(), b"EVOL/ca_step".as_slice());
+            assert_eq!(rt; told.points, 10);
+            assert_eq!(rt; told.cap, 9);
+            Ok(())
+        }
+        None => Err(Fail::new("a job is made")),
+    }
+}
+
+#[test]
+fn parts_of_six_points(rt: HostRuntime) -> Result<(), Fail> {
+    let routines = routines(rt.alloc())?;
+    assert!(rt; too_large(rt.alloc(), CA, b"driver::parts_x = 2\n", &routines)?.is_none());
+    Ok(())
+}
