@@ -4,6 +4,5 @@ pub mod Jobs
 pub mod JobLimits
 pub mod LocalCells
 pub mod Caps
-pub mod Caps
 pub mod Faults
 pub mod Making
