@@ -89,7 +89,8 @@ fn put_amid(row: &Row, out: &mut [i64])
 /// The next cells of a row without neighbours, which begins one cell before them.
 fn next_alone(survive: i64, born: i64, cells: &[i64], next_cells: &mut [i64])
     requires { length cells.now ≡ length next_cells.old + 2 }
-    ensures cells { AreBy (next_alone survive born cells.now) next_cells.new (length next_cells.old) }
+    ensures cells { AreBy (next_alone survive born cells.now) next_cells.new
+        (length next_cells.old) }
     ensures room { length next_cells.new ≡ length next_cells.old }
 {
     'cells: for i in 0..next_cells.len() {

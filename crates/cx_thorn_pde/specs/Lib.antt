@@ -4,3 +4,4 @@ pub mod Start
 pub mod Wave
 pub mod Heat
 pub mod Control
+pub mod Rows

@@ -2,6 +2,7 @@
 ghost use Rattle.std.specs.Prelude.{◌≡◌, ◌≤◌, ◌<◌, ◌≤ℤ◌, ◌^◌, ◌+ℤ◌, ◌-ℤ◌, ◌*ℤ◌, pos, negsuc, length, slice_index_or};
 ghost use Rattle.cx_rule.specs.Seen.{IsOffset};
 ghost use Rattle.cx_thorn_pde.specs.Around.{lap, bend, bend_at, bend_if};
+ghost use Rattle.cx_thorn_pde.specs.Rows.{bend_of};
 
 use cx_grid::Point;
 use cx_rule::Window;
@@ -21,7 +22,8 @@ pub(crate) fn lap(w: &Window, dims: u8) -> i128
     sum(x, y, z)
 }
 
-fn sum(x: i128, y: i128, z: i128) -> i128
+/// The sum of three numbers of 67 bits.
+pub(crate) fn sum(x: i128, y: i128, z: i128) -> i128
     requires low { (negsuc (2 ^ 66) ≤ℤ x) × (negsuc (2 ^ 66) ≤ℤ y) × (negsuc (2 ^ 66) ≤ℤ z) }
     requires high { (x ≤ℤ pos (2 ^ 66)) × (y ≤ℤ pos (2 ^ 66)) × (z ≤ℤ pos (2 ^ 66)) }
     ensures { result ≡ x +ℤ y +ℤ z }
@@ -80,8 +82,16 @@ fn bend(w: &Window, up: Point, down: Point) -> i128
     ensures low { negsuc (2 ^ 66) ≤ℤ result }
     ensures high { result ≤ℤ pos (2 ^ 66) }
 {
-    let sum = both(w.value(0, up), w.value(0, down));
-    minus_twice(sum, w.here(0))
+    bend_of(w.value(0, up), w.value(0, down), w.here(0))
+}
+
+/// Two numbers, minus twice the one between them.
+pub(crate) fn bend_of(up: i64, down: i64, here: i64) -> i128
+    ensures value { result ≡ bend_of up down here }
+    ensures low { negsuc (2 ^ 66) ≤ℤ result }
+    ensures high { result ≤ℤ pos (2 ^ 66) }
+{
+    minus_twice(both(up, down), here)
 }
 
 fn both(up: i64, down: i64) -> i128

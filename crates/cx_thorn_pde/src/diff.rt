@@ -1,12 +1,13 @@
 //! How heat starts and spreads.
-ghost use Rattle.std.specs.Prelude.{◌≡◌};
+ghost use Rattle.std.specs.Prelude.{◌≡◌, ◌<◌, length, drop};
 ghost use Rattle.cx_thorn_pde.specs.Heat.{diff_init_spec, diff_init_rule, diff_step_spec, diff_step_rule};
 
 use crate::around::lap;
 use crate::exact::plus_scaled;
+use crate::next_row::{beside_y, beside_z, next_row};
 use crate::start::start_at;
 use cx_plan::{ItemKind, Region};
-use cx_rule::{Cells, Overflow, Place, PointRule, RoutineOf, Spec, Window};
+use cx_rule::{Cells, Overflow, Place, PointRule, RoutineOf, Row, RowRule, RowsOf, Spec, Window};
 use cx_text::Memory;
 use std::alloc::Global;
 
@@ -44,7 +45,7 @@ impl PointRule for DiffInitRule {
 
 /// The routine `diff_step`: each point of the interior becomes its value and `diff::factor` 256ths of its bend, rounded
 /// down.
-pub type DiffStep = RoutineOf<DiffStepRule>;
+pub type DiffStep = RowsOf<DiffStepRule>;
 
 /// The rule of `diff_step`.
 #[derive(Debug, Drop)]
@@ -71,4 +72,25 @@ impl PointRule for DiffStepRule {
         let bend = lap(w, at.shape.dims);
         out.set_if(plus_scaled(w.here(0) as i128, at.param(0), bend))
     }
+}
+
+impl RowRule for DiffStepRule {
+    fn row(&self, row: &Row, out: &mut [i64]) -> Result<(), Overflow> {
+        let below = beside_y(row, -1);
+        let above = beside_y(row, 1);
+        let under = beside_z(row, -1);
+        let over = beside_z(row, 1);
+        let here = row.along(0, 0, 0);
+        // Twice a value minus itself is the value.
+        let before = inner(here);
+        next_row(row.param(0), before, here, below, above, under, over, out)
+    }
+}
+
+/// A row without its first number.
+fn inner(row: &[i64]) -> &[i64]
+    requires { 0 < length row.now }
+    ensures { result.now ≡ drop 1 row.now }
+{
+    &row[1..]
 }

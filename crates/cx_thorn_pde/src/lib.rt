@@ -6,6 +6,8 @@ mod control;
 mod diff;
 mod edges;
 mod exact;
+mod next_row;
+mod star;
 mod start;
 mod sums;
 mod wave_init;

@@ -8,14 +8,15 @@ ghost use Rattle.cx_thorn_pde.specs.Wave.{wave_step_spec, wave_step_rule, next_w
 
 use crate::around::lap;
 use crate::exact::plus_scaled;
+use crate::next_row::{beside_y, beside_z, next_row};
 use cx_plan::{ItemKind, Region};
-use cx_rule::{Cells, Overflow, Place, PointRule, RoutineOf, Spec, Window};
+use cx_rule::{Cells, Overflow, Place, PointRule, Row, RowRule, RowsOf, Spec, Window};
 use cx_text::Memory;
 use std::alloc::Global;
 
 /// The routine `wave_step`: each point of the interior becomes twice its last value, minus the one before it, and
 /// `wave::factor` 256ths of its bend, rounded down.
-pub type WaveStep = RoutineOf<WaveStepRule>;
+pub type WaveStep = RowsOf<WaveStepRule>;
 
 /// The rule of `wave_step`.
 #[derive(Debug, Drop)]
@@ -44,6 +45,26 @@ impl PointRule for WaveStepRule {
     }
 }
 
+impl RowRule for WaveStepRule {
+    fn row(&self, row: &Row, out: &mut [i64]) -> Result<(), Overflow> {
+        let below = beside_y(row, -1);
+        let above = beside_y(row, 1);
+        let under = beside_z(row, -1);
+        let over = beside_z(row, 1);
+        let before = row.along(1, 0, 0);
+        next_row(
+            row.param(0),
+            before,
+            row.along(0, 0, 0),
+            below,
+            above,
+            under,
+            over,
+            out,
+        )
+    }
+}
+
 /// The next value at the point, if it has 64 bits.
 fn next(w: &Window, dims: u8, factor: i64) -> Option<i64>
     requires directions { w.now.seen.dims ≡ dims }
@@ -56,7 +77,8 @@ fn next(w: &Window, dims: u8, factor: i64) -> Option<i64>
     stepped(w.here(0), w.here(1), factor, bend)
 }
 
-fn stepped(last: i64, before: i64, factor: i64, bend: i128) -> Option<i64>
+/// Twice the last number, minus the one before it, and a factor, in 256ths, times the bend; none where this leaves 64 bits.
+pub(crate) fn stepped(last: i64, before: i64, factor: i64, bend: i128) -> Option<i64>
     ensures { result ≡ in_64_bits (pos 2 *ℤ last -ℤ before +ℤ scaled factor bend) }
 {
     plus_scaled(twice_minus(last, before), factor, bend)

@@ -1,0 +1,133 @@
+//! A number and its neighbours in three directions.
+ghost use Rattle.std.specs.Prelude.{◌≡◌, ◌<◌, ◌+◌, ◌+ℤ◌, ◌-ℤ◌, ◌*ℤ◌, length, pos, IfSome};
+ghost use Rattle.cx_thorn_pde.specs.Exact.{in_64_bits, scaled};
+ghost use Rattle.cx_thorn_pde.specs.Rows.{bend_of, flat_of, lap_of, star_at, next_of};
+
+use crate::around::{bend_of, sum};
+use crate::exact::plus_scaled;
+use crate::wave_step::stepped;
+
+/// A number, those beside it along x, those below and above it along y, and those under and over it along z.
+#[derive(Drop)]
+pub(crate) struct Star {
+    pub(crate) here: i64,
+    pub(crate) left: i64,
+    pub(crate) right: i64,
+    pub(crate) below: i64,
+    pub(crate) above: i64,
+    pub(crate) under: i64,
+    pub(crate) over: i64,
+}
+
+/// The number at a place of a row and its neighbours. Each row begins one number before the place 0.
+#[inline(always)]
+pub(crate) fn star_at(
+    row: &[i64],
+    below: &[i64],
+    above: &[i64],
+    under: &[i64],
+    over: &[i64],
+    i: usize,
+) -> Star
+    requires row { i + 2 < length row.now }
+    requires y { (i + 1 < length below.now) × (i + 1 < length above.now) }
+    requires z { (i + 1 < length under.now) × (i + 1 < length over.now) }
+    ensures { result ≡ star_at row.now below.now above.now under.now over.now i }
+{
+    Star {
+        here: row[i + 1],
+        left: row[i],
+        right: row[i + 2],
+        below: below[i + 1],
+        above: above[i + 1],
+        under: under[i + 1],
+        over: over[i + 1],
+    }
+}
+
+impl Star {
+    /// The number after this one and the one before it, if it has 64 bits.
+    #[inline(always)]
+    pub(crate) fn next(&self, factor: i64, before: i64) -> Option<i64>
+        ensures { result ≡ in_64_bits (next_of factor before self.now) }
+    {
+        match self.next_narrow(factor, before) {
+            Some(number) => Some(number),
+            None => self.next_wide(factor, before),
+        }
+    }
+
+    /// The same in sums of 64 bits; none where one of them leaves these.
+    #[inline(always)]
+    fn next_narrow(&self, factor: i64, before: i64) -> Option<i64>
+        ensures { IfSome result (λ n. n ≡ next_of factor before self.now) }
+    {
+        let base = twice_minus(self.here, before)?;
+        let bend = self.lap_narrow()?;
+        plus_part(base, factor, bend)
+    }
+
+    #[inline(always)]
+    fn lap_narrow(&self) -> Option<i64>
+        ensures { IfSome result (λ n. n ≡ lap_of self.now) }
+    {
+        let flat = self.flat_narrow()?;
+        let z = bend_narrow(self.over, self.under, self.here)?;
+        flat.checked_add(z)
+    }
+
+    #[inline(always)]
+    fn flat_narrow(&self) -> Option<i64>
+        ensures { IfSome result (λ n. n ≡ flat_of self.now) }
+    {
+        let x = bend_narrow(self.right, self.left, self.here)?;
+        let y = bend_narrow(self.above, self.below, self.here)?;
+        x.checked_add(y)
+    }
+
+    fn next_wide(&self, factor: i64, before: i64) -> Option<i64>
+        ensures { result ≡ in_64_bits (next_of factor before self.now) }
+    {
+        stepped(self.here, before, factor, self.lap_wide())
+    }
+
+    fn lap_wide(&self) -> i128
+        ensures { result ≡ lap_of self.now }
+    {
+        let x = bend_of(self.right, self.left, self.here);
+        let y = bend_of(self.above, self.below, self.here);
+        let z = bend_of(self.over, self.under, self.here);
+        sum(x, y, z)
+    }
+}
+
+#[inline(always)]
+fn twice_minus(last: i64, before: i64) -> Option<i64>
+    ensures { IfSome result (λ n. n ≡ pos 2 *ℤ last -ℤ before) }
+{
+    last.checked_mul(2)?.checked_sub(before)
+}
+
+#[inline(always)]
+fn bend_narrow(up: i64, down: i64, here: i64) -> Option<i64>
+    ensures { IfSome result (λ n. n ≡ bend_of up down here) }
+{
+    let sum = up.checked_add(down)?;
+    minus_twice(sum, here)
+}
+
+#[inline(always)]
+fn minus_twice(sum: i64, here: i64) -> Option<i64>
+    ensures { IfSome result (λ n. n ≡ sum -ℤ pos 2 *ℤ here) }
+{
+    let twice = here.checked_mul(2)?;
+    sum.checked_sub(twice)
+}
+
+#[inline(always)]
+fn plus_part(base: i64, factor: i64, bend: i64) -> Option<i64>
+    ensures { IfSome result (λ n. n ≡ base +ℤ scaled factor bend) }
+{
+    let product = factor.checked_mul(bend)?;
+    base.checked_add(product.div_euclid(256))
+}
