@@ -1,20 +1,19 @@
 -- Rows that grow by one number, and rows of numbers that a rule sees.
-use Rattle.std.proofs.Common.{◌≡◌, ◌≢◌, ℕ, ◌+◌, ◌<◌, ◌≤◌, arith, refl, sym, ap, ◌∙◌, subst, ◌⊎◌, inl, inr, ℤ, pos, negsuc, ◌+ℤ◌, ◌-ℤ◌, ◌*ℤ◌, List, [], ◌∷◌, length, drop, slice_set, slice_index_or, Option, Some, None, Bool, true, false, nat_lt}
+use Rattle.std.proofs.Common.{◌≡◌, ◌≢◌, ℕ, ◌+◌, ◌<◌, ◌≤◌, arith, refl, sym, ap, ◌∙◌, subst, ◌⊎◌, inl, inr, ℤ, pos, negsuc, ◌+ℤ◌, ◌-ℤ◌, ◌*ℤ◌, List, length, drop, slice_set, Option, Some, Bool, true, false, nat_lt}
 use Rattle.std.specs.Prelude.{if◌then◌else◌}
 use Rattle.std.proofs.lemmas.Bool.{cases_eq}
 use Rattle.std.proofs.lemmas.Int.{ints}
 use Rattle.std.proofs.lemmas.List.{get_or-set_same, get_or-set_other}
 use Rattle.std.proofs.lemmas.Grind.{get_or_after_one}
 use Rattle.cx_rule.specs.Place.{param_of}
-use Rattle.cx_rule.specs.Rows.{SeenRow, FitsRow, ShowsAlong, GivesRow, LacksOne, reach_at, offset_from}
+use Rattle.cx_rule.specs.Rows.{SeenRow, ShowsAlong, GivesRow, LacksOne, reach_at, offset_from}
 use Rattle.cx_rule.specs.Seen.{Seen, value_of}
 use Rattle.cx_rule.specs.Single.{here, one_number}
-use Rattle.cx_thorn_pde.specs.Around.{bend, bend_if, lap, step}
+use Rattle.cx_thorn_pde.specs.Around.{bend, bend_if, lap}
 use Rattle.cx_thorn_pde.specs.Exact.{in_64_bits, scaled}
-use Rattle.cx_thorn_pde.specs.Rows.{number_at, bend_of, lap_of, star_at, next_of, next_at, AreBy, LacksIn, if_has, ShowsInY, ShowsInZ}
+use Rattle.cx_thorn_pde.specs.Rows.{number_at, bend_of, lap_of, star_at, next_at, AreBy, LacksIn, if_has, ShowsInY, ShowsInZ}
 use Rattle.cx_thorn_pde.specs.Heat.{diff_step_rule}
 use Rattle.cx_thorn_pde.specs.Wave.{wave_step_rule, next_wave}
-use Rattle.cx_thorn_pde.specs.declared.star.Star.{Star}
 
 pub one_more : (f : ℕ → Option ℤ) (ns : List ℤ) (k : ℕ) (n : ℤ) → k < length ns → Some n ≡ f k
     → AreBy f ns k → AreBy f (slice_set ns k n) (k + 1)
@@ -93,11 +92,11 @@ around_lap r row below above under over i a l =
     let far = shown_at r _ _ over i 1 a.reach a.over l one in
     let near = shown_at r _ _ under i 1 a.reach a.under l one in
     let x : bend_of (number_at row (i + 2)) (number_at row i) (number_at row (i + 1)) ≡ bend_if w 0 =
-        same_bend _ _ _ _ _ _ right left middle ∙ ap (λ b. if b then bend w 0 else pos 0) (sym (is_some _ _ (a.dims i) a.some)) in
+    same_bend _ _ _ _ _ _ right left middle ∙ ap (λ b. if b then bend w 0 else pos 0) (sym (is_some _ _ (a.dims i) a.some)) in
     let y : bend_of (number_at above (i + 1)) (number_at below (i + 1)) (number_at row (i + 1)) ≡ bend_if w 1 =
-        bend_y w (nat_lt 1 r.dims) _ _ _ up down middle ∙ ap (λ k. if nat_lt 1 k then bend w 1 else pos 0) (sym (a.dims i)) in
+    bend_y w (nat_lt 1 r.dims) _ _ _ up down middle ∙ ap (λ k. if nat_lt 1 k then bend w 1 else pos 0) (sym (a.dims i)) in
     let z : bend_of (number_at over (i + 1)) (number_at under (i + 1)) (number_at row (i + 1)) ≡ bend_if w 2 =
-        bend_z w (nat_lt 2 r.dims) _ _ _ far near middle ∙ ap (λ k. if nat_lt 2 k then bend w 2 else pos 0) (sym (a.dims i)) in
+    bend_z w (nat_lt 2 r.dims) _ _ _ far near middle ∙ ap (λ k. if nat_lt 2 k then bend w 2 else pos 0) (sym (a.dims i)) in
     same_sum _ _ _ _ _ _ x y z
 
 here_shown : (r : SeenRow) (row below above under over : List ℤ) (i : ℕ) → ShowsAround r row below above under over
@@ -116,7 +115,7 @@ before_shown r before i reach shows l =
     let none : i ≡ i + 0 = omega arith in
     ap (number_at before) none
     ∙ subst (λ k. number_at before (i + 0) ≡ value_of (r.seen i) 1 (offset_from k (pos 0) (pos 0) 0)) reach
-        (shows.each i 0 l (omega arith))
+    (shows.each i 0 l (omega arith))
 
 wave_at : (r : SeenRow) (factor : ℤ) (before row below above under over : List ℤ) (i : ℕ)
     → ShowsAround r row below above under over → reach_at r 1 ≡ 0 → ShowsAlong r 1 (pos 0) (pos 0) before
@@ -124,7 +123,7 @@ wave_at : (r : SeenRow) (factor : ℤ) (before row below above under over : List
     → in_64_bits (next_wave (r.seen i) (param_of (r.place i) 0)) ≡ next_at factor before row below above under over i
 wave_at r factor before row below above under over i a reach shows same l =
     ap in_64_bits (sym (same_wave _ _ _ _ _ _ _ _ (same i) (here_shown r row below above under over i a l)
-        (before_shown r before i reach shows l) (around_lap r row below above under over i a l)))
+    (before_shown r before i reach shows l) (around_lap r row below above under over i a l)))
 
 pub wave_row : (r : SeenRow) (factor : ℤ) (before row below above under over next : List ℤ) (n : ℕ)
     → ShowsAround r row below above under over → reach_at r 1 ≡ 0 → ShowsAlong r 1 (pos 0) (pos 0) before
@@ -152,11 +151,11 @@ inner_at row i =
 heat_at : (r : SeenRow) (factor : ℤ) (row below above under over : List ℤ) (i : ℕ)
     → ShowsAround r row below above under over → ((i : ℕ) → factor ≡ param_of (r.place i) 0) → i < r.count
     → in_64_bits (value_of (r.seen i) 0 here +ℤ scaled (param_of (r.place i) 0) (lap (r.seen i)))
-        ≡ next_at factor (drop 1 row) row below above under over i
+    ≡ next_at factor (drop 1 row) row below above under over i
 heat_at r factor row below above under over i a same l =
     let center = here_shown r row below above under over i a l in
     ap in_64_bits (once (value_of (r.seen i) 0 here) (scaled (param_of (r.place i) 0) (lap (r.seen i)))
-        ∙ sym (same_wave _ _ _ _ _ _ _ _ (same i) center (inner_at row i ∙ center) (around_lap r row below above under over i a l)))
+    ∙ sym (same_wave _ _ _ _ _ _ _ _ (same i) center (inner_at row i ∙ center) (around_lap r row below above under over i a l)))
 
 pub heat_row : (r : SeenRow) (factor : ℤ) (row below above under over next : List ℤ) (n : ℕ)
     → ShowsAround r row below above under over → ((i : ℕ) → factor ≡ param_of (r.place i) 0) → n ≡ r.count

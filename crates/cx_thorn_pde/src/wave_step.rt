@@ -52,7 +52,16 @@ impl RowRule for WaveStepRule {
         let under = beside_z(row, -1);
         let over = beside_z(row, 1);
         let before = row.along(1, 0, 0);
-        next_row(row.param(0), before, row.along(0, 0, 0), below, above, under, over, out)
+        next_row(
+            row.param(0),
+            before,
+            row.along(0, 0, 0),
+            below,
+            above,
+            under,
+            over,
+            out,
+        )
     }
 }
 

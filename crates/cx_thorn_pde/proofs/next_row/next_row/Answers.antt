@@ -4,6 +4,8 @@ use Rattle.cx_thorn_pde.proofs.next_row.next_row.Goals as goal
 
 pub places-preserved : goal.places-preserved
 places-preserved c =
-    let fits : SFits w64 c.in-Some.number = search rules in
-    (search rules, one_more _ c.places.out c.places.i _ (search rules)
-        (ap Some (to_z-of_z fits) ∙ sym c.in-Some.is ∙ c.next_at.ensures) c.places.invariant.1)
+    let fits : SFits w64 c.in-Some.number = search rules in (
+      search rules,
+      one_more _ c.places.out c.places.i _ (search rules)
+          (ap Some (to_z-of_z fits) ∙ sym c.in-Some.is ∙ c.next_at.ensures) c.places.invariant.1,
+    )

@@ -8,36 +8,36 @@ pub returns-clause-numbers : goal.returns-clause-numbers
 returns-clause-numbers c =
     let fits : SFits w64 c.param.result = search rules in
     let around : ShowsAround (seen_row c.args.row.now) c.along-here.result.now c.beside_y-below.result.now c.beside_y-above.result.now c.beside_z-under.result.now c.beside_z-over.result.now =
-        record {
-          some = c.requires.fits.some;
-          dims = c.requires.fits.dims;
-          reach = ap (λ rs. slice_index_or rs 0 0) c.requires.fits.reads;
-          row = c.along-here.ensures;
-          below = c.beside_y-below.ensures;
-          above = c.beside_y-above.ensures;
-          under = c.beside_z-under.ensures;
-          over = c.beside_z-over.ensures;
-        }
+    record {
+      some = c.requires.fits.some;
+      dims = c.requires.fits.dims;
+      reach = ap (λ rs. slice_index_or rs 0 0) c.requires.fits.reads;
+      row = c.along-here.ensures;
+      below = c.beside_y-below.ensures;
+      above = c.beside_y-above.ensures;
+      under = c.beside_z-under.ensures;
+      over = c.beside_z-over.ensures;
+    }
     in
     on_ok_weaker c.next_row.result
-        (heat_row (seen_row c.args.row.now) c.param.result c.along-here.result.now c.beside_y-below.result.now c.beside_y-above.result.now c.beside_z-under.result.now c.beside_z-over.result.now _ _ around  c.param.ensures c.requires.count)
-        (rw (to_z-of_z fits, c.inner-before.ensures) at c.next_row.ensures.numbers)
+    (heat_row (seen_row c.args.row.now) c.param.result c.along-here.result.now c.beside_y-below.result.now c.beside_y-above.result.now c.beside_z-under.result.now c.beside_z-over.result.now _ _ around c.param.ensures c.requires.count)
+    (rw (to_z-of_z fits, c.inner-before.ensures) at c.next_row.ensures.numbers)
 
 pub returns-clause-overflow : goal.returns-clause-overflow
 returns-clause-overflow c =
     let fits : SFits w64 c.param.result = search rules in
     let around : ShowsAround (seen_row c.args.row.now) c.along-here.result.now c.beside_y-below.result.now c.beside_y-above.result.now c.beside_z-under.result.now c.beside_z-over.result.now =
-        record {
-          some = c.requires.fits.some;
-          dims = c.requires.fits.dims;
-          reach = ap (λ rs. slice_index_or rs 0 0) c.requires.fits.reads;
-          row = c.along-here.ensures;
-          below = c.beside_y-below.ensures;
-          above = c.beside_y-above.ensures;
-          under = c.beside_z-under.ensures;
-          over = c.beside_z-over.ensures;
-        }
+    record {
+      some = c.requires.fits.some;
+      dims = c.requires.fits.dims;
+      reach = ap (λ rs. slice_index_or rs 0 0) c.requires.fits.reads;
+      row = c.along-here.ensures;
+      below = c.beside_y-below.ensures;
+      above = c.beside_y-above.ensures;
+      under = c.beside_z-under.ensures;
+      over = c.beside_z-over.ensures;
+    }
     in
     on_err_weaker c.next_row.result
-        (heat_lacks (seen_row c.args.row.now) c.param.result c.along-here.result.now c.beside_y-below.result.now c.beside_y-above.result.now c.beside_z-under.result.now c.beside_z-over.result.now _ around  c.param.ensures c.requires.count)
-        (rw (to_z-of_z fits, c.inner-before.ensures) at c.next_row.ensures.overflow)
+    (heat_lacks (seen_row c.args.row.now) c.param.result c.along-here.result.now c.beside_y-below.result.now c.beside_y-above.result.now c.beside_z-under.result.now c.beside_z-over.result.now _ around c.param.ensures c.requires.count)
+    (rw (to_z-of_z fits, c.inner-before.ensures) at c.next_row.ensures.overflow)
