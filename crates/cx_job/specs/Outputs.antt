@@ -39,6 +39,10 @@ groups_of t = full_groups_in t t.1.interface.groups
 abbrev pub full_groups : List Thorn → List FullGroup
 full_groups thorns = flat_map groups_of (enumerate_from 0 thorns)
 
+-- whether a group has this full name
+abbrev pub has_full_name : List ℕ → FullGroup → Bool
+has_full_name name g = same_name name g.full
+
 -- one for each copy
 abbrev pub places_of_copies : GroupPlace → Option ℕ → List GroupPlace
 places_of_copies at count = map (λ copy. at) (copies count)

@@ -1,14 +1,17 @@
 //! The groups of thorns by their full names, and the group of each variable.
 
-ghost use Rattle.std.specs.Prelude.{◌≡◌, ◌++◌, map, IfOk, OnOk};
+ghost use Rattle.std.specs.Prelude.{◌≡◌, ◌++◌, find, map, IfOk, OnOk};
 ghost use Rattle.std.specs.List.{flat_map, enumerate_from, range_with_len};
+ghost use Rattle.std.specs.Option.{option_copied};
+ghost use Rattle.cx_bind.specs.NamePlaces.{LeadToFirst};
 ghost use Rattle.cx_bind.specs.Variables.{owner_by};
-ghost use Rattle.cx_job.specs.Outputs.{full_group, full_groups, full_groups_in, places_of_copies, places_of_names, places_in, places_in_groups, places_of, group_places};
+ghost use Rattle.cx_job.specs.Outputs.{has_full_name, full_group, full_groups, full_groups_in, places_of_copies, places_of_names, places_in, places_in_groups, places_of, group_places};
 
-use cx_bind::{Thorn, full_name};
+use cx_bind::{NamePlaces, Thorn, full_name};
 use cx_iface::{Access, Group};
 use cx_text::{List, Memory, Text};
 use std::alloc::Global;
+use std::marker::Model;
 
 /// A group, by its thorn's number and its place in the thorn's file.
 #[derive(Clone, Copy, Debug, Drop, PartialEq, Eq)]
@@ -22,6 +25,27 @@ pub(crate) struct GroupPlace {
 pub(crate) struct FullGroup {
     pub(crate) at: GroupPlace,
     pub(crate) full: Text,
+}
+
+/// Groups that are found by their full names without a search. Contracts see the list.
+#[derive(Drop)]
+pub(crate) struct FullGroups {
+    list: List<FullGroup>,
+    firsts: NamePlaces,
+}
+
+impl Model for FullGroups {
+    ghost use Rattle.std.specs.Prelude.{List as ListOf};
+    ghost use Rattle.cx_job.specs.declared.groups.FullGroup.{FullGroup};
+    ghost use Rattle.cx_bind.specs.NamePlaces.{LeadToFirst};
+    ghost use Rattle.cx_job.specs.Outputs.{has_full_name};
+
+    ghost Value = { ListOf FullGroup };
+
+    ghost view = { λ groups. groups.list };
+
+    ghost invariant = { λ groups.
+        LeadToFirst has_full_name groups.list groups.firsts groups.list };
 }
 
 /// What stands before the `::` of a group's full name.
@@ -69,7 +93,7 @@ fn push_groups(
 }
 
 /// All groups, in the order of activation and of the files.
-pub(crate) fn full_groups(alloc: Global, thorns: &[Thorn]) -> Result<List<FullGroup>, Memory>
+fn full_groups(alloc: Global, thorns: &[Thorn]) -> Result<List<FullGroup>, Memory>
     ensures { IfOk result (λ full. full ≡ full_groups thorns.now) }
 {
     let mut full = List::empty(alloc);
@@ -78,6 +102,40 @@ pub(crate) fn full_groups(alloc: Global, thorns: &[Thorn]) -> Result<List<FullGr
         push_groups(alloc, &mut full, number, thorn, groups)?;
     }
     Ok(full)
+}
+
+/// The places of the first groups of each full name, from the last group to the first.
+fn first_places(alloc: Global, groups: &[FullGroup]) -> Result<NamePlaces, Memory>
+    ensures { IfOk result (λ firsts. LeadToFirst has_full_name groups.now firsts groups.now) }
+{
+    let mut firsts = NamePlaces::new(alloc);
+    let mut place = groups.len();
+    'groups: while place > 0 {
+        place -= 1;
+        firsts.insert(alloc, groups[place].full.as_slice(), place)?;
+    }
+    Ok(firsts)
+}
+
+impl FullGroups {
+    /// The groups of these thorns.
+    pub(crate) fn new(alloc: Global, thorns: &[Thorn]) -> Result<Self, Memory>
+        ensures { IfOk result (λ groups. groups ≡ full_groups thorns.now) }
+    {
+        let list = full_groups(alloc, thorns)?;
+        let firsts = first_places(alloc, list.as_slice())?;
+        Ok(FullGroups { list, firsts })
+    }
+
+    /// The first group of a full name.
+    pub(crate) fn named(&self, name: &[u8]) -> Option<&FullGroup>
+        ensures { option_copied result ≡ find (has_full_name name.now) self.now }
+    {
+        match self.firsts.find(name) {
+            Some(place) => self.list.as_slice().get(place),
+            None => None,
+        }
+    }
 }
 
 fn push_numbered(places: &mut List<GroupPlace>, at: GroupPlace, count: u32) -> Result<(), Memory>

@@ -1,14 +1,13 @@
 //! The variables that are written.
 
-ghost use Rattle.std.specs.Prelude.{◌≡◌, ◌<◌, ◌^◌, filter, find, map, length, IfOk};
+ghost use Rattle.std.specs.Prelude.{◌≡◌, ◌<◌, ◌^◌, filter, map, length, IfOk};
 ghost use Rattle.std.specs.List.{enumerate_from, list_any, position_from, slice_split};
-ghost use Rattle.std.specs.Option.{option_copied};
 ghost use Rattle.cx_text.specs.Lexemes.{same_name};
 ghost use Rattle.cx_text.specs.Telling.{Answers};
 ghost use Rattle.cx_scope.specs.declared.fault.ScopeFault.TheVariants as faults;
 ghost use Rattle.cx_job.specs.Outputs.{is_between, is_name, output_names, named_by, is_same_group, is_of, is_stored, is_missing, lacks_storage, output_of, outputs, is_written, named_ids, ids_or_fault, output_variables};
 
-use crate::groups::{FullGroup, GroupPlace, full_groups, group_places};
+use crate::groups::{FullGroups, GroupPlace, group_places};
 use cx_bind::Bound;
 use cx_grids::{stored_levels, text_copy};
 use cx_plan::{VarId, VarInfo};
@@ -71,21 +70,13 @@ fn variable_named(vars: &[VarInfo], name: &[u8]) -> Option<usize>
         .position(|info| same_name(name, info.full.as_slice()))
 }
 
-fn group_named<'a>(groups: &'a [FullGroup], name: &[u8]) -> Option<&'a FullGroup>
-    ensures { option_copied result ≡ find (λ g. same_name name.now g.full) groups.now }
-{
-    groups
-        .iter()
-        .find(|group| same_name(name, group.full.as_slice()))
-}
-
 /// What has this full name: a variable, or where none has it a group.
-fn named_by(vars: &[VarInfo], groups: &[FullGroup], name: &[u8]) -> Option<Named>
+fn named_by(vars: &[VarInfo], groups: &FullGroups, name: &[u8]) -> Option<Named>
     ensures { result ≡ named_by vars.now groups.now name.now }
 {
     match variable_named(vars, name) {
         Some(number) => Some(Named::Variable(number)),
-        None => match group_named(groups, name) {
+        None => match groups.named(name) {
             Some(group) => Some(Named::Group(group.at)),
             None => None,
         },
@@ -154,7 +145,7 @@ fn output_of(
 fn outputs(
     alloc: Global,
     vars: &[VarInfo],
-    groups: &[FullGroup],
+    groups: &FullGroups,
     places: &[GroupPlace],
     storage: &[u8],
     names: &[Text],
@@ -194,7 +185,7 @@ fn named_ids(alloc: Global, places: &[GroupPlace], named: &[Named]) -> Result<Li
 fn written_by(
     alloc: Global,
     vars: &[VarInfo],
-    groups: &[FullGroup],
+    groups: &FullGroups,
     places: &[GroupPlace],
     storage: &[u8],
     names: &[Text],
@@ -224,12 +215,12 @@ pub fn output_variables(
 {
     let names = output_names(alloc, values)?;
     let thorns = bound.thorns().as_slice();
-    let groups = full_groups(alloc, thorns)?;
+    let groups = FullGroups::new(alloc, thorns)?;
     let places = group_places(alloc, thorns)?;
     written_by(
         alloc,
         bound.variables().as_slice(),
-        groups.as_slice(),
+        &groups,
         places.as_slice(),
         storage.as_slice(),
         names.as_slice(),
