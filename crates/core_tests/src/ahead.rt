@@ -12,6 +12,7 @@ use cx_plan::Job;
 use cx_rule::{Meter, Routine};
 use cx_text::Text;
 use cx_thorn_ca::CaInit;
+use std::alloc::Global;
 use std::test::Fail;
 
 /// A run with these lines and picks, and what is seen before each event: for each event that can happen an A where it lies ahead.
@@ -61,19 +62,29 @@ fn seen(
     Ok(turns.into_seen())
 }
 
-/// What is seen with these lines and picks.
-fn seen_with(rt: &HostRuntime, more: &[u8], picks: &'static [u8]) -> Result<Text, Fail> {
-    let alloc = rt.alloc();
+/// The one routine.
+fn routines(alloc: Global) -> Result<Vec<Box<dyn Routine>>, Fail> {
     let mut routines: Vec<Box<dyn Routine>> = Vec::new(alloc);
     routines.push(Box::new(alloc, CaInit::new(alloc)?)?)?;
-    let job = job(alloc, TWO_SAVES, more, NO_EXCHANGE, &routines)?;
-    seen(rt, &job, &routines, picks)
+    Ok(routines)
+}
+
+/// What is seen with these lines and picks.
+fn seen_with(
+    rt: &HostRuntime,
+    routines: &[Box<dyn Routine>],
+    more: &[u8],
+    picks: &'static [u8],
+) -> Result<Text, Fail> {
+    let job = job(rt.alloc(), TWO_SAVES, more, NO_EXCHANGE, routines)?;
+    seen(rt, &job, routines, picks)
 }
 
 #[test]
 fn events_behind_the_next_checkpoint(rt: HostRuntime) -> Result<(), Fail> {
+    let routines = routines(rt.alloc())?;
     'rows: for row in ROWS {
-        let seen = seen_with(&rt, row.more, row.picks)?;
+        let seen = seen_with(&rt, &routines, row.more, row.picks)?;
         assert!(rt; seen.as_slice() == row.ahead);
     }
     Ok(())
