@@ -32,7 +32,8 @@ fn braced_lines(
     keyword: &[u8],
     names: &[Text],
 ) -> Result<(), Memory>
-    ensures { OnOk result (tokens.new ≡ tokens.old ++ flat_map (braced_line keyword.now) names.now) }
+    ensures { let lines = flat_map (braced_line keyword.now) names.now in
+        OnOk result (tokens.new ≡ tokens.old ++ lines) }
 {
     for name in names {
         braced_line(alloc, tokens, keyword, name.as_slice())?;
@@ -81,7 +82,8 @@ fn tokens_of(alloc: Global, tree: &Configuration) -> Result<List<Token>, Memory>
 pub fn print_configuration(alloc: Global, tree: &Configuration) -> Result<Text, Memory>
     requires { HasSpelling styles.Ccl configuration.derives tree.now }
     ensures printed { IfOk result (λ text. text ≡ printed (configuration_tokens tree.now)) }
-    ensures again { IfOk result (λ text. TextSpells styles.Ccl configuration.derives text tree.now) }
+    ensures again { IfOk result (λ text.
+        TextSpells styles.Ccl configuration.derives text tree.now) }
 {
     let tokens = tokens_of(alloc, tree)?;
     let text = write_tokens(alloc, &tokens)?;

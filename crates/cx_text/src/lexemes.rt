@@ -3,7 +3,7 @@
 ghost use Rattle.std.specs.Prelude.{◌≡◌, ◌<◌, ◌≤◌, MatchOption};
 ghost use Rattle.cx_text.specs.Grammar.{passes, head};
 ghost use Rattle.cx_text.specs.Rules.{Obeys, Builds, token, loop, if_is, name_of, unmarked};
-ghost use Rattle.cx_text.specs.Lexemes.{same_name, among, once_here, once, counted_keyword_here, counted_keyword, new_name_here, new_name, word, is_sign_pair, sign_pair, decimal_from, is_number, number_of, number_mark, number_in, is_quoted, quoted_of, quoted, is_comma_or_word, comma, more_names, some_names, names, more_listed, listed, in_line, is_inside, inside, braces, finished};
+ghost use Rattle.cx_text.specs.Lexemes.{same_name, among, once_here, once, counted_keyword_here, counted_keyword, word, is_sign_pair, sign_pair, decimal_from, is_number, number_of, number_mark, number_in, is_quoted, quoted_of, quoted, is_comma_or_word, comma, more_names, some_names, names, more_listed, listed, in_line, is_inside, inside, braces, finished};
 
 use crate::reader::MAX_NAME;
 use crate::{CclFault, Kind, List, Mark, Reader, Stop, Text, Token, Why};
@@ -164,34 +164,6 @@ impl<'a> Reader<'a> {
         Ok(())
     }
 
-    fn new_name_here(&mut self, alloc: Global, names: &[Text]) -> Result<Text, Stop>
-        ensures { Obeys (new_name_here names.now) result self.old self.new }
-    {
-        match self.rest {
-            [token, rest @ ..] if token.is_word() => {
-                if among(names, token.text.as_slice()) {
-                    return Err(Stop::Fault(Why::Marked(Mark::Repeated)));
-                }
-                if token.text.len() > MAX_NAME {
-                    return Err(Stop::Fault(Why::Marked(Mark::Limit)));
-                }
-                let name = Text::from_slice(alloc, token.text.as_slice())?;
-                self.rest = rest;
-                Ok(name)
-            }
-            _ => Err(Stop::Fault(Why::Unexpected)),
-        }
-    }
-
-    /// A name that isn't yet among these.
-    pub fn new_name(&mut self, alloc: Global, names: &[Text]) -> Result<Text, Stop>
-        ensures { Obeys (new_name names.now) result self.old self.new }
-    {
-        let name = self.new_name_here(alloc, names)?;
-        self.skip_line_ends();
-        Ok(name)
-    }
-
     fn word_here(&mut self, alloc: Global) -> Result<Text, Stop>
         ensures { Obeys (token name_of unmarked) result self.old self.new }
     {
@@ -284,7 +256,8 @@ impl<'a> Reader<'a> {
 
     /// More names, if a comma or a word stands here.
     fn names_after(&mut self, alloc: Global, names: &mut List<Text>) -> Result<(), Stop>
-        ensures { Builds (loop is_comma_or_word more_names names.old) names.new result self.old self.new }
+        ensures { Builds (loop is_comma_or_word more_names names.old) names.new result
+            self.old self.new }
     {
         'names: while self.at_comma_or_word() {
             self.more_names(alloc, names)?;
@@ -322,7 +295,8 @@ impl<'a> Reader<'a> {
     }
 
     fn name_list_after(&mut self, alloc: Global, names: &mut List<Text>) -> Result<(), Stop>
-        ensures { Builds (loop is_comma_or_word more_listed names.old) names.new result self.old self.new }
+        ensures { Builds (loop is_comma_or_word more_listed names.old) names.new result
+            self.old self.new }
     {
         'names: while self.at_comma_or_word() {
             self.more_listed(alloc, names)?;

@@ -23,7 +23,8 @@ impl Gathered {
     fn add(&mut self, token: Option<Token>) -> Result<(), Memory>
         ensures tokens { let added = merged self.old.ended (or_nothing token) in
             IfOk result (λ x. self.new.tokens.items ≡ self.old.tokens.items ++ added) }
-        ensures ended { IfOk result (λ x. self.new.ended ≡ ended self.old.ended (or_nothing token)) }
+        ensures ended { let ends = ended self.old.ended (or_nothing token) in
+            IfOk result (λ x. self.new.ended ≡ ends) }
     {
         let Some(token) = token else { return Ok(()) };
         let ends = token.is_line_end();
