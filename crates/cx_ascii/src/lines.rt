@@ -27,9 +27,9 @@ pub fn section(
 {
     let mut text = head(alloc, full, iteration)?;
     text.push_slice(b" size")?;
-    push_sizes(alloc, &mut text, shape)?;
+    push_sizes(&mut text, shape)?;
     text.push_slice(b"\n")?;
-    push_level(alloc, &mut text, shape, values)?;
+    push_level(&mut text, shape, values)?;
     text.push_slice(b"\n")?;
     Ok(text)
 }
@@ -40,7 +40,7 @@ pub fn scalar_line(alloc: Global, full: &Text, iteration: u64, value: i64) -> Re
 {
     let mut text = head(alloc, full, iteration)?;
     text.push_slice(b" value ")?;
-    push_value(alloc, &mut text, value)?;
+    push_value(&mut text, value)?;
     text.push_slice(b"\n")?;
     Ok(text)
 }
@@ -51,6 +51,6 @@ fn head(alloc: Global, full: &Text, iteration: u64) -> Result<Text, Memory>
     let mut text = Text::from_slice(alloc, b"# ")?;
     text.push_slice(full.as_slice())?;
     text.push_slice(b" iteration ")?;
-    push_count(alloc, &mut text, iteration)?;
+    push_count(&mut text, iteration)?;
     Ok(text)
 }

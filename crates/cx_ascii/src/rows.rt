@@ -5,12 +5,11 @@ ghost use Rattle.std.specs.List.{flat_map, range_with_len};
 ghost use Rattle.std.specs.Fmt.{decimal};
 ghost use Rattle.cx_grid.specs.Boxes.{along, extent};
 ghost use Rattle.cx_grid.specs.Grid.{IsShape, whole};
-ghost use Rattle.cx_ascii.specs.Output.{size_of, sizes_text, row_of, row_in, rows_in, rows_text, values_of, after_blank};
+ghost use Rattle.cx_ascii.specs.Output.{size_of, sizes_text, row_of, row_in, rows_in, rows_text, values_of};
 
-use crate::numbers::{push_count, push_value};
+use crate::numbers::{push_count, push_next, push_value};
 use cx_grid::Shape;
 use cx_text::{Memory, Text};
-use std::alloc::Global;
 
 /// The number of points of a direction.
 pub(crate) fn size(shape: &Shape, direction: u8) -> u32
@@ -25,83 +24,65 @@ pub(crate) fn size(shape: &Shape, direction: u8) -> u32
 
 /// The sizes of the grid's directions, a blank before each.
 #[tactic(auto, using(crate::proofs::MoreRows::grown))]
-pub(crate) fn push_sizes(alloc: Global, text: &mut Text, shape: &Shape) -> Result<(), Memory>
+pub(crate) fn push_sizes(text: &mut Text, shape: &Shape) -> Result<(), Memory>
     ensures { OnOk result (text.new ≡ text.old ++ sizes_text shape.now) }
 {
     'sizes: for direction in 0..shape.dims {
-        push_size(alloc, text, size(shape, direction))?;
+        push_size(text, size(shape, direction))?;
     }
     Ok(())
 }
 
-fn push_size(alloc: Global, text: &mut Text, size: u32) -> Result<(), Memory>
+fn push_size(text: &mut Text, size: u32) -> Result<(), Memory>
     ensures { OnOk result (text.new ≡ text.old ++ (32 ∷ decimal size)) }
 {
     text.push_slice(b" ")?;
-    push_count(alloc, text, u64::from(size))
+    push_count(text, u64::from(size))
 }
 
 /// The values in decimal, one blank between, and the end of the line.
-fn push_row(alloc: Global, text: &mut Text, values: &[i64]) -> Result<(), Memory>
+fn push_row(text: &mut Text, values: &[i64]) -> Result<(), Memory>
     ensures { OnOk result (text.new ≡ text.old ++ (values_of values.now ++ 10 ∷ [])) }
 {
-    push_values(alloc, text, values)?;
+    push_values(text, values)?;
     text.push_slice(b"\n")
 }
 
-fn push_values(alloc: Global, text: &mut Text, values: &[i64]) -> Result<(), Memory>
+fn push_values(text: &mut Text, values: &[i64]) -> Result<(), Memory>
     ensures { OnOk result (text.new ≡ text.old ++ values_of values.now) }
 {
     let Some((first, others)) = values.split_first() else {
         return Ok(());
     };
-    push_value(alloc, text, *first)?;
+    push_value(text, *first)?;
     'values: for value in others {
-        push_next(alloc, text, *value)?;
+        push_next(text, *value)?;
     }
     Ok(())
 }
 
-fn push_next(alloc: Global, text: &mut Text, value: i64) -> Result<(), Memory>
-    ensures { OnOk result (text.new ≡ text.old ++ after_blank value) }
-{
-    text.push_slice(b" ")?;
-    push_value(alloc, text, value)
-}
-
 /// So many rows of so many values, from the first value on.
 #[tactic(auto, using(crate::proofs::MoreRows::row_grown, crate::proofs::MoreRows::rest_next, crate::proofs::MoreRows::none_dropped))]
-fn push_rows(
-    alloc: Global,
-    text: &mut Text,
-    width: usize,
-    count: u64,
-    values: &[i64],
-) -> Result<(), Memory>
+fn push_rows(text: &mut Text, width: usize, count: u64, values: &[i64]) -> Result<(), Memory>
     ensures { OnOk result (text.new ≡ text.old ++ rows_in width values.now count) }
 {
     let mut rest = values;
     'rows: for _ in 0..count {
         let (row, others) = rest.split_at(width.min(rest.len()));
-        push_row(alloc, text, row)?;
+        push_row(text, row)?;
         rest = others;
     }
     Ok(())
 }
 
 /// The values of a level, in rows along x.
-pub(crate) fn push_level(
-    alloc: Global,
-    text: &mut Text,
-    shape: &Shape,
-    values: &[i64],
-) -> Result<(), Memory>
+pub(crate) fn push_level(text: &mut Text, shape: &Shape, values: &[i64]) -> Result<(), Memory>
     requires { IsShape shape.now }
     ensures { OnOk result (text.new ≡ text.old ++ rows_text shape.now values.now) }
 {
     let width = size(shape, 0) as usize;
     let count = row_count(size(shape, 1), size(shape, 2));
-    push_rows(alloc, text, width, count, values)
+    push_rows(text, width, count, values)
 }
 
 fn row_count(y: u32, z: u32) -> u64
