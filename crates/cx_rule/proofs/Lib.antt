@@ -25,3 +25,4 @@ pub mod AlongLaws
 pub mod RowSweeps
 pub mod RowSteps
 pub mod CountedLaws
+mod ByteLaws

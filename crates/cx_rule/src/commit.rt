@@ -227,9 +227,22 @@ fn are_within(values: &[i64], low: i64, high: i64) -> bool
 {
     if low == i64::MIN && high == i64::MAX {
         all_within(values, i64::MIN, i64::MAX)
+    } else if low == 0 && high == 255 {
+        are_bytes(values)
     } else {
         all_within(values, low, high)
     }
+}
+
+/// Whether numbers are bytes: none has a bit beyond the lowest eight, which a negative one has too.
+fn are_bytes(values: &[i64]) -> bool
+    ensures { result ≡ are_within (pos 0) (pos 255) values.now }
+{
+    let mut bits = 0;
+    'values: for value in values {
+        bits |= value.cast_unsigned();
+    }
+    bits < 256
 }
 
 /// Whether numbers lie in a range, with no way out before the last one: so many are tested at a time.
