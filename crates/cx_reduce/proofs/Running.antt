@@ -1,5 +1,5 @@
 -- The number of a reduction, point after point.
-use Rattle.std.proofs.Common.{ℕ, ◌<◌, ◌≤◌, ◌^◌, ◌≡◌, ◌∙◌, refl, ap, ℤ, pos, ◌+ℤ◌, Bool, true, false, List, [], ◌∷◌, length, filter, Option, Some, None, fold, arith}
+use Rattle.std.proofs.Common.{ℕ, ◌<◌, ◌≤◌, ◌^◌, ◌≡◌, ◌∙◌, refl, sym, ap, ℤ, pos, ◌+ℤ◌, Bool, true, false, List, [], ◌∷◌, length, filter, Option, Some, None, fold, arith}
 use Rattle.std.specs.Prelude.{if◌then◌else◌}
 use Rattle.std.specs.Int.{int_min, int_max}
 use Rattle.std.specs.Option.{unwrap_or}
@@ -37,6 +37,19 @@ counts a (n ∷ ns) = counts (a +ℤ told Count n) ns ∙ ap Some (counted (is_n
 first_counted : (b : Bool) (n : ℤ) (ns : List ℤ) → ((if b then pos 1 else pos 0) +ℤ pos (length ns)) ≡ pos (length (if b then n ∷ ns else ns))
 first_counted true n ns = omega (arith, ints)
 first_counted false n ns = omega (arith, ints)
+
+-- a row of counted numbers, behind others or first
+pub counted_behind : (number : Option ℤ) (so_far counted result : ℤ) (n : ℕ) (row : List ℤ) → number ≡ Some so_far → n ≡ length (filter is_not_zero row)
+    → counted ≡ pos n → result ≡ so_far +ℤ counted → Some result ≡ fold (one_more Count) number row
+counted_behind number so_far counted result n row before is here all =
+    ap Some (all ∙ ap (λ k. so_far +ℤ k) (here ∙ ap pos is)) ∙ sym (ap (λ o. fold (one_more Count) o row) before ∙ counts so_far row)
+
+pub counted_first : (number : Option ℤ) (counted : ℤ) (n : ℕ) (row : List ℤ) → number ≡ None → 0 < length row → n ≡ length (filter is_not_zero row)
+    → counted ≡ pos n → Some counted ≡ fold (one_more Count) number row
+counted_first number counted n [] none some is here = absurd (omega (arith, some))
+counted_first number counted n (m ∷ ms) none some is here =
+    ap Some (here ∙ ap pos is)
+    ∙ sym (ap (λ o. fold (one_more Count) o (m ∷ ms)) none ∙ counts (told Count m) ms ∙ ap Some (first_counted (is_not_zero m) m (filter is_not_zero ms)))
 
 pub running_is : (kind : ItemKind) (ns : List ℤ) → IsReduction kind → unwrap_or (running kind ns) (pos 0) ≡ reduced kind ns
 running_is Sum [] r = refl

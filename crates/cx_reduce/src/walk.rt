@@ -1,9 +1,11 @@
 //! The number of a reduction over the points that a part owns.
 ghost use Rattle.std.specs.Prelude.{◌≡◌, ◌<◌, ◌≤◌, ◌+◌, ◌*◌, ◌^◌, Some, length};
-ghost use Rattle.std.specs.List.{fold};
+ghost use Rattle.std.specs.List.{fold, filter};
 ghost use Rattle.cx_grid.specs.Boxes.{IsBox, IsSmall, extent, point_count, numbers_in};
 ghost use Rattle.cx_field.specs.Patches.{IsGridLevel, number_at};
 ghost use Rattle.cx_rule.specs.Runs.{row_count};
+ghost use Rattle.cx_plan.specs.declared.item.ItemKind.TheVariants as kinds;
+ghost use Rattle.cx_model.specs.Turns.{is_not_zero};
 ghost use Rattle.cx_reduce.specs.Partials.{IsReduction, IsBounded, IsWithin, reduced_over, told, one_more};
 
 use crate::joining::{Partial, combine};
@@ -64,6 +66,53 @@ fn row_start(b: &Box3, row: usize) -> usize
 
 /// The number over so many points and those of a row.
 fn with_row(kind: ItemKind, number: Option<i128>, points: u32, row: &[i64]) -> i128
+    requires before { IsBounded points number }
+    requires some { 0 < length row.now }
+    requires few { points + length row.now ≤ 2 ^ 24 }
+    ensures value { Some result ≡ fold (one_more kind) number row.now }
+    ensures within { IsWithin (points + length row.now) result }
+{
+    match kind {
+        ItemKind::Count => with_counted(number, points, row),
+        _ => with_each(kind, number, points, row),
+    }
+}
+
+/// How many numbers at so many points and those of a row aren't 0.
+fn with_counted(number: Option<i128>, points: u32, row: &[i64]) -> i128
+    requires before { IsBounded points number }
+    requires some { 0 < length row.now }
+    requires few { points + length row.now ≤ 2 ^ 24 }
+    ensures value { Some result ≡ fold (one_more kinds.Count) number row.now }
+    ensures within { IsWithin (points + length row.now) result }
+{
+    let counted = i128::from(counted_in(row));
+    match number {
+        Some(so_far) => combine(
+            ItemKind::Count,
+            so_far,
+            counted,
+            points,
+            row.len() as u32,
+        ),
+        None => counted,
+    }
+}
+
+/// How many numbers of a row aren't 0.
+fn counted_in(row: &[i64]) -> u64
+    ensures value { result ≡ length (filter is_not_zero row.now) }
+    ensures most { result ≤ length row.now }
+{
+    let mut counted = 0;
+    'values: for value in row {
+        counted += u64::from(*value != 0);
+    }
+    counted
+}
+
+/// The number over so many points and those of a row, one after another.
+fn with_each(kind: ItemKind, number: Option<i128>, points: u32, row: &[i64]) -> i128
     requires before { IsBounded points number }
     requires some { 0 < length row.now }
     requires few { points + length row.now ≤ 2 ^ 24 }

@@ -3,7 +3,7 @@ use Rattle.std.specs.Int.{w64, w128}
 use Rattle.std.proofs.lemmas.List.{get_or_default}
 use Rattle.cx_reduce.specs.Partials.{IsWithin, one_more}
 use Rattle.cx_reduce.proofs.Rows.{folded_more, told_all}
-use Rattle.cx_reduce.proofs.walk.with_row.Goals as goal
+use Rattle.cx_reduce.proofs.walk.with_each.Goals as goal
 
 pub values-init : goal.values-init
 values-init c = (refl, omega arith, c.requires.before)

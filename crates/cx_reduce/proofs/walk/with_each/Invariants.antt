@@ -2,7 +2,7 @@
 use Rattle.std.proofs.Common.{◌≡◌, ◌+◌, take}
 use Rattle.std.specs.List.{fold}
 use Rattle.cx_reduce.specs.Partials.{IsBounded, one_more}
-use Rattle.cx_reduce.proofs.walk.with_row.Given as goal
+use Rattle.cx_reduce.proofs.walk.with_each.Given as goal
 
 abbrev pub invariant-values : goal.invariant-values
 invariant-values l =
