@@ -40,7 +40,8 @@ impl Core {
         requires job { IsReady job.now }
         requires state { CanBegin (setup_of job.now) (option_copied state) }
         ensures begins { (told : Bool) (rules : ListOf Rule)
-            (queue : ℕ → ℕ → ListOf (Sent (IsTrue told))) (first : Counts) → AreEmpty queue → (IsTrue told → first.sum < 2 ^ 64)
+            (queue : ℕ → ℕ → ListOf (Sent (IsTrue told))) (first : Counts)
+            → AreEmpty queue → (IsTrue told → first.sum < 2 ^ 64)
             → IfOk result (λ core. Begins (IsTrue told)
             (run_of job.now rules (begins_in (setup_of job.now) (option_copied state.entry)))
             first core queue) }
