@@ -1,4 +1,4 @@
-use Rattle.std.proofs.Common.{rules, ◌≡◌, ◌∙◌, ap, arith, refl, pos, get_or, SFits, w64, to_z, of_z, ltb, bit_or, subst, sym}
+use Rattle.std.proofs.Common.{rules, ◌≡◌, ◌∙◌, ap, refl, pos, get_or, SFits, w64, of_z, ltb, bit_or}
 use Rattle.std.proofs.lemmas.Int.{to_z-of_z}
 use Rattle.cx_rule.proofs.ByteLaws.{bytes_more}
 use Rattle.cx_rule.proofs.commit.are_bytes.Goals as goal
