@@ -88,13 +88,7 @@ fn with_counted(number: Option<i128>, points: u32, row: &[i64]) -> i128
 {
     let counted = i128::from(counted_in(row));
     match number {
-        Some(so_far) => combine(
-            ItemKind::Count,
-            so_far,
-            counted,
-            points,
-            row.len() as u32,
-        ),
+        Some(so_far) => combine(ItemKind::Count, so_far, counted, points, row.len() as u32),
         None => counted,
     }
 }
