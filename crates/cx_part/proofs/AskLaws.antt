@@ -22,7 +22,7 @@ use Rattle.cx_part.specs.Frames.{IsPatchFor, IsPatchOf}
 use Rattle.cx_part.specs.Tests.{CanTest}
 use Rattle.cx_part.proofs.FrameLaws.{same_patch, names_well, is_known}
 use Rattle.cx_part.proofs.FewLaws.{face_few, vars_few, values_few}
-use Rattle.cx_part.proofs.PartLaws.{part_is}
+use Rattle.cx_rule.proofs.CutParts.{part_is}
 
 module _ (job : Job) (checked : IsChecked job) where
   abbrev S : Setup

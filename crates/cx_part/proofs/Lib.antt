@@ -1,7 +1,6 @@
 pub mod Known
 pub mod KnownLaws
 pub mod FrameLaws
-pub mod PartLaws
 pub mod ReachLaws
 pub mod StartLaws
 pub mod TurnLaws

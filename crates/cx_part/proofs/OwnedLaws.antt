@@ -8,7 +8,7 @@ use Rattle.cx_field.proofs.PartPoints.{own_local}
 use Rattle.cx_parts.specs.Work.{sum_over}
 use Rattle.cx_parts.proofs.CountLaws.{sum_same}
 use Rattle.cx_parts.proofs.PointTotals.{each_once, within_box}
-use Rattle.cx_part.proofs.PartLaws.{part_is}
+use Rattle.cx_rule.proofs.CutParts.{part_is}
 
 all_kept : {A : Type 0} (xs : List A) → length (filter (λ x. true) xs) ≡ length xs
 all_kept [] = refl

@@ -28,7 +28,7 @@ use Rattle.cx_parts.proofs.ListLaws.{numbers_same}
 use Rattle.cx_part.specs.Jobs.{IsChecked, IsCutOf}
 use Rattle.cx_part.specs.Frames.{IsPatchOf}
 use Rattle.cx_part.proofs.FrameLaws.{AreNear, new_rooms}
-use Rattle.cx_part.proofs.PartLaws.{part_is}
+use Rattle.cx_rule.proofs.CutParts.{part_is}
 
 -- ---- lists of 0
 

@@ -26,3 +26,4 @@ pub mod RowSweeps
 pub mod RowSteps
 pub mod CountedLaws
 mod ByteLaws
+pub mod CutParts

@@ -1,11 +1,11 @@
--- The boxes of a cut's parts are those of parts of the field.
+-- The boxes of a cut's parts are those of parts of a grid.
 use Rattle.std.proofs.Common.{ℕ, suc, ◌<◌, List, length, arith, refl, ℤ, pos, ◌+ℤ◌, ◌≤ℤ◌, ◌<ℤ◌}
 use Rattle.std.proofs.lemmas.Int.{ints}
 use Rattle.cx_cut.specs.Axis.{own_low, own_high, IsAxisCut}
 use Rattle.cx_cut.specs.Cuts.{Parts, IsWhole, part_count, owned, local}
 use Rattle.cx_cut.proofs.AxisFacts.{start_more, start_le}
 use Rattle.cx_cut.proofs.Boxed.{place_below}
-use Rattle.cx_field.specs.Patches.{IsPart}
+use Rattle.cx_rule.specs.Patches.{IsPart}
 
 -- what a part owns of a direction
 record Span (n g low high : ℤ) : Type 0 where
