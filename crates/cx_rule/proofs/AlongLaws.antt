@@ -65,13 +65,13 @@ module _ (setup : Setup) (values : Values) (p : Point) where
 
 -- ---- a row
 
-module _ (p : PatchValue) (s : IsPatch p) (x : Item) (low : Point) (n iteration : ℕ) (h : CanSeeRow p x low n)
+module _ (p : PatchValue) (s : IsPatch p) (x : Item) (from low : Point) (n iteration : ℕ) (h : CanSeeRow p x from n)
     (k : ℕ) (d : Touch) (kl : k < length x.reads) (y z : ℤ)
-    (on : IsIn (reach_box p.shape.dims (reach_at (row_of p x low n iteration) k)) (middle y z)) where
+    (on : IsIn (reach_box p.shape.dims (reach_at (row_of p x from low n iteration) k)) (middle y z)) where
   abbrev read : Touch
   read = get_or x.reads k d
 
-  pub reach_is : reach_at (row_of p x low n iteration) k ≡ read.reach
+  pub reach_is : reach_at (row_of p x from low n iteration) k ≡ read.reach
   reach_is = get_or-map reach_of x.reads k d 0 kl
 
   on_reach : IsIn (reach_box p.shape.dims read.reach) (middle y z)
@@ -90,11 +90,11 @@ module _ (p : PatchValue) (s : IsPatch p) (x : Item) (low : Point) (n iteration 
     z = on_reach.z;
   }
 
-  seen_local : (i j : ℕ) → i < n → j ≤ 2 * read.reach → IsIn p.local (shifted (beside low i) (offset_from read.reach y z j))
+  seen_local : (i j : ℕ) → i < n → j ≤ 2 * read.reach → IsIn p.local (shifted (beside from i) (offset_from read.reach y z j))
   seen_local i j l m = (h.sees i l k d kl).near (h.grid k d kl) (offset_from read.reach y z j) (offset_on j m)
 
   abbrev start : Point
-  start = shifted low (offset_from read.reach y z 0)
+  start = shifted from (offset_from read.reach y z 0)
 
   pub start_local : IsIn p.local start
   start_local =
@@ -104,7 +104,7 @@ module _ (p : PatchValue) (s : IsPatch p) (x : Item) (low : Point) (n iteration 
   pub start_near : IsNearPoint start
   start_near = local_is_near p.shape p.owned p.local s.part start start_local
 
-  last_local : IsIn p.local (shifted (beside low (n - 1)) (offset_from read.reach y z (2 * read.reach)))
+  last_local : IsIn p.local (shifted (beside from (n - 1)) (offset_from read.reach y z (2 * read.reach)))
   last_local = seen_local (n - 1) (2 * read.reach) (let o = h.some in omega (arith, o)) (omega arith)
 
   pub end_local : (start.x +ℤ pos (n + 2 * read.reach)) ≤ℤ p.local.high.x
@@ -122,32 +122,32 @@ module _ (p : PatchValue) (s : IsPatch p) (x : Item) (low : Point) (n iteration 
       let t = (h.sees 0 h.some k d kl).stored in
       record { var = t.var; stored = t.stored; grid = h.grid k d kl }
 
-  same_place : (i j : ℕ) → beside start (i + j) ≡ shifted (beside low i) (offset_from read.reach y z j)
+  same_place : (i j : ℕ) → beside start (i + j) ≡ shifted (beside from i) (offset_from read.reach y z j)
   same_place i j = same_point (omega (arith, ints)) refl refl
 
   shows_each : (i j : ℕ) → i < n → j ≤ 2 * read.reach
       → slice_index_or (numbers_along p read.var read.level start (n + 2 * read.reach)) (i + j) (pos 0)
-      ≡ value_of (seen_at (setup_in p) x (values_in p) (beside low i)) k (offset_from read.reach y z j)
+      ≡ value_of (seen_at (setup_in p) x (values_in p) (beside from i)) k (offset_from read.reach y z j)
   shows_each i j l m =
-      let q = shifted (beside low i) (offset_from read.reach y z j) in
+      let q = shifted (beside from i) (offset_from read.reach y z j) in
       get_or-map-range_with_len (λ a. number_at p read.var read.level (beside start a)) 0 (n + 2 * read.reach) (i + j) (i + j) (pos 0) (omega (arith, l, m)) (omega arith)
       ∙ ap (number_at p read.var read.level) (same_place i j)
       ∙ sym (ap (λ b. cond b (scalar_of p.numbers read.var) (number_at p read.var read.level q)) (h.grid k d kl))
-      ∙ sym (value_at (setup_in p) (values_in p) (beside low i) x.reads k d (offset_from read.reach y z j) kl (offset_on j m))
+      ∙ sym (value_at (setup_in p) (values_in p) (beside from i) x.reads k d (offset_from read.reach y z j) kl (offset_on j m))
 
   pub shows : (ns : List ℤ) → ns ≡ numbers_along p read.var read.level start (n + 2 * read.reach)
-      → ShowsAlong (row_of p x low n iteration) k y z ns
+      → ShowsAlong (row_of p x from low n iteration) k y z ns
   shows ns e = record {
     count = ap length e ∙ length-map-range_with_len (λ a. number_at p read.var read.level (beside start a)) 0 (n + 2 * read.reach)
         ∙ ap (λ m. n + 2 * m) (sym reach_is);
     each = subst (λ m. (i j : ℕ) → i < n → j ≤ 2 * m
-        → slice_index_or ns (i + j) (pos 0) ≡ value_of (seen_at (setup_in p) x (values_in p) (beside low i)) k (offset_from m y z j))
+        → slice_index_or ns (i + j) (pos 0) ≡ value_of (seen_at (setup_in p) x (values_in p) (beside from i)) k (offset_from m y z j))
         (sym reach_is) (λ i j l m. ap (λ ms. slice_index_or ms (i + j) (pos 0)) e ∙ shows_each i j l m);
   }
 
 -- the same from what the code found
-module _ (p : PatchValue) (s : IsPatch p) (x : Item) (low : Point) (n iteration : ℕ) (h : CanSeeRow p x low n)
+module _ (p : PatchValue) (s : IsPatch p) (x : Item) (from low : Point) (n iteration : ℕ) (h : CanSeeRow p x from n)
     (k : ℕ) (d : Touch) (kl : k < length (map reach_of x.reads)) (y z : ℤ)
-    (on : IsIn (reach_box p.shape.dims (reach_at (row_of p x low n iteration) k)) (middle y z)) where
+    (on : IsIn (reach_box p.shape.dims (reach_at (row_of p x from low n iteration) k)) (middle y z)) where
   pub below : k < length x.reads
   below = let e = length-map x.reads reach_of in omega (arith, e, kl)

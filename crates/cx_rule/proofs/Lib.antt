@@ -24,6 +24,7 @@ pub mod RowLaws
 pub mod AlongLaws
 pub mod RowSweeps
 pub mod RowSteps
+pub mod RunEnds
 pub mod CountedLaws
 mod ByteLaws
 pub mod CutParts

@@ -1,42 +1,45 @@
--- A zone that is staged row by row.
-use Rattle.std.proofs.Common.{◌≡◌, ℕ, suc, max, ◌+◌, ◌-◌, ◌*◌, ◌<◌, ◌≤◌, ◌⊎◌, inl, inr, Bool, true, false, not, refl, sym, ap, ◌∙◌, subst, arith, cond, ℤ, pos, ◌+ℤ◌, ◌≤ℤ◌, List, [], ◌∷◌, length, map, take, filter, get_or, length-set, Some, Result, Ok, Err}
+-- A zone that is staged run by run.
+use Rattle.std.proofs.Common.{◌≡◌, ℕ, zero, suc, max, ◌+◌, ◌-◌, ◌<◌, ◌≤◌, ◌⊎◌, inl, inr, true, false, not, refl, sym, ap, ◌∙◌, subst, arith, cond, Bool, ℤ, pos, ◌+ℤ◌, ◌≤ℤ◌, List, [], ◌∷◌, length, map, take, filter, get_or, length-set, Some, Result, Ok, Err}
 use Rattle.std.specs.Prelude.{All, OnOk, OnErr, slice_index_or, slice_set}
 use Rattle.std.specs.Int.{int_gap}
 use Rattle.std.proofs.lemmas.Int.{ints}
-use Rattle.std.proofs.lemmas.Bool.{and_parts, and_from, cases_eq}
+use Rattle.std.proofs.lemmas.Bool.{and_parts, cases_lt}
+use Rattle.std.proofs.lemmas.List.{get_or-take, length-take-le}
+use Rattle.std.proofs.lemmas.List.Filters.{length-filter_more}
 use Rattle.std.proofs.lemmas.List.FromFn.{length-map-range_with_len}
 use Rattle.cx_grid.specs.declared.boxes.Point.{Point}
 use Rattle.cx_grid.specs.declared.boxes.Box3.{Box3}
-use Rattle.cx_grid.specs.Boxes.{IsIn, has_point, extent, point_count, index_in, point_in, points_in}
-use Rattle.cx_grid.proofs.Places.{index_at_point, point_inside}
-use Rattle.cx_grid.proofs.Points.{in_is, in_from}
+use Rattle.cx_grid.specs.declared.shapes.Shape.{Shape}
+use Rattle.cx_grid.specs.Boxes.{IsIn, has_point, point_count, index_in, point_in, points_in}
+use Rattle.cx_grid.proofs.Places.{index_at_point, point_at_index, same_point}
+use Rattle.cx_grid.proofs.Points.{in_is}
 use Rattle.cx_plan.specs.declared.item.Touch.{Touch}
 use Rattle.cx_plan.specs.declared.item.Item.{Item}
 use Rattle.cx_plan.specs.declared.item.Region.{Region}
-use Rattle.cx_plan.specs.declared.item.Region.TheVariants.{Interior}
 use Rattle.cx_plan.specs.Lookups.{is_scalar}
 use Rattle.cx_plan.specs.Regions.{region_of}
 use Rattle.cx_rule.specs.Jobs.{IsRoutineOf}
-use Rattle.cx_rule.specs.Meter.{raised, raised_none, raised_twice}
+use Rattle.cx_rule.specs.Meter.{raised, raised_twice}
 use Rattle.cx_rule.specs.Routine.{Rule}
-use Rattle.cx_rule.specs.Sweeps.{seen_at, place_at, window_point}
+use Rattle.cx_rule.specs.Sweeps.{seen_at, place_at}
 use Rattle.cx_rule.specs.declared.routine.Overflow.{Overflow}
+use Rattle.cx_rule.specs.declared.run.Run.{Run}
 use Rattle.cx_rule.specs.declared.spec.Spec.{Spec}
 use Rattle.cx_rule.specs.Patches.{PatchValue, IsPatch, beside, setup_in, values_in, with_buffers}
 use Rattle.cx_rule.specs.Staging.{put_from, with_row_staged, staged_numbers}
-use Rattle.cx_rule.specs.Zones.{in_zone, item_zone, zone_of, inner, nothing, zone_points}
+use Rattle.cx_rule.specs.Zones.{in_zone}
 use Rattle.cx_rule.specs.Buffers.{counted}
-use Rattle.cx_rule.specs.Swept.{swept_zone, window_from, rule_numbers, IsSamePatch, CanSweep, IsStaged, StagesZone}
-use Rattle.cx_rule.specs.Rows.{RowValue, CanSeeRow, FitsRow, IsRowPut, LacksOne, seen_row, row_of, row_starts, row_at, CanStageRow, StagesRow, IsRowItem, RowsStaged}
+use Rattle.cx_rule.specs.Swept.{swept_zone, rule_numbers, IsSamePatch, CanSweep, IsStaged, StagesZone}
+use Rattle.cx_rule.specs.Rows.{RowValue, CanSeeRow, FitsRow, IsRowPut, LacksOne, seen_row, run_row, CanStageRow, StagesRow, IsRowItem, IsRun}
 use Rattle.cx_rule.specs.declared.zone.Zone.{Zone}
 use Rattle.cx_rule.proofs.BufferLaws.{buffer_length}
 use Rattle.cx_rule.proofs.CountedLaws.{counted_put}
+use Rattle.cx_rule.proofs.FaceLaws.{row_index, row_end}
 use Rattle.cx_rule.proofs.PointLaws.{bare_sees, count_kept}
 use Rattle.cx_rule.proofs.StageLaws.{touch_reaches, want_reaches, touch_count, want_count}
-use Rattle.cx_rule.proofs.RowSweeps.{OnRow, row_point, row_gap, beside_row, put_on, put_off, row_below, row_counts, row_some, on_row, row_in, row_place}
+use Rattle.cx_rule.proofs.RowSweeps.{OnRow, row_point, row_gap, beside_row, put_on, put_off, on_or_off}
 use Rattle.cx_rule.proofs.SweepLaws.{point_there}
-use Rattle.cx_rule.proofs.SweptLaws.{same_patch, with_buffers_of, can_stage, local_point}
-use Rattle.cx_rule.proofs.ZoneLaws.{nothing_is}
+use Rattle.cx_rule.proofs.SweptLaws.{with_buffers_of, can_stage, local_point, filter_few}
 
 -- ---- the first buffer
 
@@ -52,30 +55,14 @@ first_was [] at h = absurd (omega (arith, h))
 first_was (b ∷ []) at h = refl
 first_was (b ∷ (c ∷ cs)) at h = refl
 
--- ---- points
-
--- the place of a point in the list of a box's points
-pub listed : (b : Box3) (i : ℕ) (q : Point) → (i < length (points_in b)) × (q ≡ get_or (points_in b) i q) → IsIn b q × (index_in b q ≡ i)
-listed b i q t =
-    let m = length-map-range_with_len (point_in b) 0 (point_count b) in
-    let l : i < point_count b = let a = t.0 in omega (arith, a, m) in
-    let e : q ≡ point_in b i = t.1 ∙ point_there b i q l in
-    (subst (IsIn b) (sym e) (point_inside b i l), ap (index_in b) e ∙ index_at_point b i l)
-
-all_pass : {A : Type 0} (test : A → Bool) (xs : List A) → ((i : ℕ) (d : A) → i < length xs → test (get_or xs i d) ≡ true) → length (filter test xs) ≡ length xs
-all_pass test [] h = refl
-all_pass test (x ∷ xs) h =
-    ap (λ t. length (cond t (x ∷ filter test xs) (filter test xs))) (h 0 x (omega arith))
-    ∙ ap suc (all_pass test xs (λ i d l. h (suc i) d (omega (arith, l))))
-
 -- ---- one row
 
-pub bare_row : (p : PatchValue) (staged : List (List ℤ)) (room : ℕ) (x : Item) (low : Point) (n : ℕ) → CanSeeRow (with_buffers p staged room) x low n → CanSeeRow p x low n
-bare_row p staged room x low n r = record { some = r.some; grid = r.grid; sees = λ i l. bare_sees p staged room x (beside low i) (r.sees i l) }
+pub bare_row : (p : PatchValue) (staged : List (List ℤ)) (room : ℕ) (x : Item) (from : Point) (n : ℕ) → CanSeeRow (with_buffers p staged room) x from n → CanSeeRow p x from n
+bare_row p staged room x from n r = record { some = r.some; grid = r.grid; sees = λ i l. bare_sees p staged room x (beside from i) (r.sees i l) }
 
-pub fits_row : (s : Spec) (x : Item) (p : PatchValue) (low : Point) (n iteration : ℕ) → IsPatch p → IsRoutineOf s x → length x.writes ≡ 1
-    → FitsRow s (row_of p x low n iteration)
-fits_row s x p low n iteration patch its one = record {
+pub fits_row : (s : Spec) (x : Item) (p : PatchValue) (run : Run) (iteration : ℕ) → IsPatch p → IsRoutineOf s x → length x.writes ≡ 1
+    → FitsRow s (run_row p x iteration run)
+fits_row s x p run iteration patch its one = record {
   some = let e = patch.part.shape.some in omega (arith, e);
   most = let e = patch.part.shape.most in omega (arith, e);
   reads = sym (touch_reaches x.reads) ∙ ap (λ (ts : List (Region × ℕ)). map (λ (t : Region × ℕ). t.1) ts) its.reads ∙ want_reaches s.reads;
@@ -85,99 +72,133 @@ fits_row s x p low n iteration patch its one = record {
   writes = sym (want_count s.writes) ∙ sym (ap (λ (ts : List (Region × ℕ)). length ts) its.writes) ∙ touch_count x.writes ∙ one;
 }
 
-pub stages_row : (p : PatchValue) (staged new : List (List ℤ)) (room : ℕ) (rule : Rule) (x : Item) (iteration : ℕ) (low : Point) (n at : ℕ) (result : Result (Unit {0}) Overflow)
-    → at ≡ index_in p.local low → OnOk result (IsRowPut rule (row_of p x low n iteration) at (slice_index_or staged 0 []) (slice_index_or new 0 []))
-    → OnErr result (LacksOne rule (row_of p x low n iteration)) → new ≡ slice_set staged 0 (slice_index_or new 0 []) → map length new ≡ map length staged
-    → StagesRow (with_buffers p staged room) rule x iteration low n (with_buffers p new room) result
-stages_row p staged new room rule x iteration low n at (Ok u) place put lacks level sizes = (
+pub stages_row : (p : PatchValue) (staged new : List (List ℤ)) (room : ℕ) (rule : Rule) (x : Item) (iteration : ℕ) (run : Run) (at : ℕ) (result : Result (Unit {0}) Overflow)
+    → at ≡ index_in p.local run.low → OnOk result (IsRowPut rule (run_row p x iteration run) at (slice_index_or staged 0 []) (slice_index_or new 0 []))
+    → OnErr result (LacksOne rule (run_row p x iteration run)) → new ≡ slice_set staged 0 (slice_index_or new 0 []) → map length new ≡ map length staged
+    → StagesRow (with_buffers p staged room) rule x iteration run (with_buffers p new room) result
+stages_row p staged new room rule x iteration run at (Ok u) place put lacks level sizes = (
   put.0,
   put.1,
   put.2,
   ap (λ (bs : List (List ℤ)). with_buffers p bs room)
       (level ∙ ap (slice_set staged 0) (put.3 ∙ ap (λ a. put_from a (slice_index_or staged 0 []) put.0) place)),
 )
-stages_row p staged new room rule x iteration low n at (Err e) place put lacks level sizes =
+stages_row p staged new room rule x iteration run at (Err e) place put lacks level sizes =
     (lacks, record { numbers = refl; buffers = count_kept new staged sizes })
 
--- ---- one row more
+-- ---- a run of an item's zone
 
-module _ (s : Spec) (x : Item) (old : PatchValue) (can : CanSweep s x old) (its : IsPatch old) (item : IsRowItem old x) where
+pub here_run : (shape s : Shape) (region t : Region) (zone z : Zone) (run : Run) → shape ≡ s → region ≡ t → zone ≡ z → IsRun shape region zone run → IsRun s t z run
+here_run shape s region t zone z run a b c h =
+    subst (λ q. IsRun s t q run) c (subst (λ q. IsRun s q zone run) b (subst (λ q. IsRun q region zone run) a h))
+
+pub shape_same : (p old : PatchValue) → IsSamePatch p old → p.shape ≡ old.shape
+shape_same p old same = ap (λ (q : PatchValue). q.shape) same.numbers
+
+module _ (s : Spec) (x : Item) (old : PatchValue) (can : CanSweep s x old) (its : IsPatch old) (item : IsRowItem old x)
+    (run : Run) (is : IsRun old.shape (region_of x.writes) (swept_zone old x) run) where
+  abbrev zone : Point → Bool
+  zone = in_zone (swept_zone old x)
+
   abbrev b : Box3
   b = (swept_zone old x).all
 
-  zone_is : swept_zone old x ≡ zone_of old.shape old.owned old.local Interior
-  zone_is =
-      ap (λ k. item_zone k old.shape old.owned old.local (region_of x.writes)) item.kind
-      ∙ ap (zone_of old.shape old.owned old.local) item.region
+  abbrev low : Point
+  low = run.low
 
-  -- the zone has no hole
-  in_all : (y : Point) → IsIn b y → in_zone (swept_zone old x) y ≡ true
-  in_all y = subst (λ (z : Zone). IsIn z.all y → in_zone z y ≡ true) (sym zone_is) (λ h.
-      and_from (has_point (inner old.shape old.owned) y) (not (has_point (nothing old.owned) y)) (in_from (inner old.shape old.owned) y h)
-      (ap not (nothing_is old.owned y)))
+  abbrev n : ℕ
+  n = run.count
 
-  all_in : (y : Point) → in_zone (swept_zone old x) y ≡ true → IsIn b y
-  all_in y e = in_is b y (and_parts (has_point b y) (not (has_point (swept_zone old x).hole y)) e).0
-
-  from_here : (y : Point) → window_from old x y ≡ y
-  from_here y = ap (λ r. window_point old.shape r y) item.region
+  abbrev pts : List Point
+  pts = points_in b
 
   local_same : (p : PatchValue) → IsSamePatch p old → old.local ≡ p.local
   local_same p same = sym (ap (λ (q : PatchValue). q.local) same.numbers)
 
-  near : (p : PatchValue) (y : Point) → IsSamePatch p old → IsIn b y → IsIn p.local y
-  near p y same h = subst (λ (c : Box3). IsIn c y) (local_same p same) (local_point s x old can its item.kind y (in_all y h))
+  near : (p : PatchValue) (y : Point) → IsSamePatch p old → zone y ≡ true → IsIn p.local y
+  near p y same h = subst (λ (c : Box3). IsIn c y) (local_same p same) (local_point s x old can its item.kind y h)
 
-  rule_here : (rule : Rule) (iteration : ℕ) (p : PatchValue) (y : Point) → IsSamePatch p old
-      → rule (seen_at (setup_in p) x (values_in p) y) (place_at (setup_in p) x iteration y) ≡ rule_numbers old rule x iteration y
-  rule_here rule iteration p y same =
-      ap (λ (q : PatchValue). rule (seen_at (setup_in q) x (values_in q) y) (place_at (setup_in q) x iteration y)) same.numbers
-      ∙ ap (λ q. rule (seen_at (setup_in old) x (values_in old) q) (place_at (setup_in old) x iteration y)) (sym (from_here y))
+  all_in : (y : Point) → zone y ≡ true → IsIn b y
+  all_in y e = in_is b y (and_parts (has_point b y) (not (has_point (swept_zone old x).hole y)) e).0
 
-  zone_count : zone_points (swept_zone old x) ≡ point_count b
-  zone_count =
-      all_pass (in_zone (swept_zone old x)) (points_in b) (λ i d l.
-      let m = length-map-range_with_len (point_in b) 0 (point_count b) in
-      let k : i < point_count b = omega (arith, l, m) in
-      in_all (get_or (points_in b) i d) (subst (IsIn b) (sym (point_there b i d k)) (point_inside b i k)))
-      ∙ length-map-range_with_len (point_in b) 0 (point_count b)
+  first : beside low 0 ≡ low
+  first = same_point (omega (arith, ints)) refl refl
 
-  module _ (low : Point) (inside : IsIn (row_starts b) low) (n : ℕ) (wide : n ≡ extent b 0) where
-    on_row_low : (i : ℕ) → i < n → OnRow low (extent b 0) (beside low i)
-    on_row_low i l = beside_row low (extent b 0) i (omega (arith, l, wide))
+  low_zone : zone low ≡ true
+  low_zone = ap zone (sym first) ∙ is.zone 0 is.some
 
-    row_all : (i : ℕ) → i < n → IsIn b (beside low i)
-    row_all i l = row_in b low inside (beside low i) (on_row_low i l)
+  -- its points stand one behind another in the zone's box
+  end_in : (low.x +ℤ pos n) ≤ℤ b.high.x
+  end_in =
+      let l = is.some in
+      let q = all_in (beside low (n - 1)) (is.zone (n - 1) (omega (arith, l))) in
+      omega (arith, ints, q.x.below, l)
 
-    some : 0 < n
-    some = let e = row_some b low inside in omega (arith, e, wide)
+  run_within : index_in b low + n ≤ point_count b
+  run_within = row_end b low n (all_in low low_zone) end_in
 
-    low_all : IsIn b low
-    low_all =
-        let q = row_all 0 some in
-        record { x = record { from = omega (arith, ints, q.x.from); below = omega (arith, ints, q.x.below) }; y = q.y; z = q.z }
+  pub can_stage_row : (p : PatchValue) → IsSamePatch p old → CanStageRow s x p run
+  can_stage_row p same = record {
+    routine = can.routine;
+    row = record {
+      some = is.some;
+      grid = subst (λ (q : PatchValue). All (λ (r : Touch). is_scalar (setup_in q) r.var ≡ false) x.reads) (with_buffers_of p old same) item.grid;
+      sees = λ i l. (can_stage s x old can its item.kind p (beside run.from i) (beside low i) same (sym (is.from i l)) (is.zone i l)).reads;
+    };
+    writes = item.writes;
+    buffers = let few = can.buffers in let count = same.buffers in omega (arith, few, count);
+    low_in = near p low same low_zone;
+    high_in =
+        let l = is.some in
+        let q = near p (beside low (n - 1)) same (is.zone (n - 1) (omega (arith, l))) in
+        omega (arith, ints, q.x.below, l);
+  }
 
-    pub can_stage_row : (p : PatchValue) → IsSamePatch p old → CanStageRow s x p low n
-    can_stage_row p same = record {
-      routine = can.routine;
-      row = record {
-        some = some;
-        grid = subst (λ (q : PatchValue). All (λ (r : Touch). is_scalar (setup_in q) r.var ≡ false) x.reads) (with_buffers_of p old same) item.grid;
-        sees = λ i l.
-            (can_stage s x old can its item.kind p (beside low i) (beside low i) same (sym (from_here (beside low i)))
-            (in_all (beside low i) (row_all i l))).reads;
-      };
-      writes = item.writes;
-      buffers = let few = can.buffers in let count = same.buffers in omega (arith, few, count);
-      low_in = near p low same low_all;
-      high_in =
-          let l = some in
-          let q = near p (beside low (n - 1)) same (row_all (n - 1) (omega (arith, l))) in
-          omega (arith, ints, q.x.below, l);
-    }
+  rule_here : (rule : Rule) (iteration : ℕ) (p : PatchValue) (i : ℕ) → IsSamePatch p old → i < n
+      → rule (seen_at (setup_in p) x (values_in p) (beside run.from i)) (place_at (setup_in p) x iteration (beside low i)) ≡ rule_numbers old rule x iteration (beside low i)
+  rule_here rule iteration p i same l =
+      ap (λ (q : PatchValue). rule (seen_at (setup_in q) x (values_in q) (beside run.from i)) (place_at (setup_in q) x iteration (beside low i))) same.numbers
+      ∙ ap (λ q. rule (seen_at (setup_in old) x (values_in old) q) (place_at (setup_in old) x iteration (beside low i))) (sym (is.from i l))
 
-    module _ (rule : Rule) (iteration rows : ℕ) (p : PatchValue) (before between : ℕ) (f : RowsStaged old rule x iteration rows p before between)
-        (patch : IsPatch p) (place : index_in (row_starts b) low ≡ rows) where
+  -- from a place of the zone's box on
+  module _ (at : ℕ) (below : at < point_count b) (place : low ≡ point_in b at) where
+    low_at : index_in b low ≡ at
+    low_at = ap (index_in b) place ∙ index_at_point b at below
+
+    length_is : length pts ≡ point_count b
+    length_is = length-map-range_with_len (point_in b) 0 (point_count b)
+
+    pub run_fits : at + n ≤ point_count b
+    run_fits = let e = run_within in let a = low_at in omega (arith, e, a)
+
+    fit_in : at + n ≤ length pts
+    fit_in = let e = run_fits in let m = length_is in omega (arith, e, m)
+
+    point_is : (i : ℕ) (d : Point) → i < length pts → get_or pts i d ≡ point_in b i
+    point_is i d l = point_there b i d (let m = length_is in omega (arith, l, m))
+
+    next_in : (i : ℕ) → i < n → index_in b (beside low i) ≡ at + i
+    next_in i l = let a = low_at in let e = row_index b low i (all_in low low_zone).x.from in omega (arith, a, e)
+
+    next_is : (i : ℕ) (d : Point) → i < n → get_or pts (at + i) d ≡ beside low i
+    next_is i d l =
+        let h = all_in (beside low i) (is.zone i l) in
+        let f = fit_in in
+        point_is (at + i) d (omega (arith, l, f)) ∙ ap (point_in b) (sym (next_in i l)) ∙ point_at_index b (beside low i) h
+
+    -- each of them counts
+    counts : (k : ℕ) → k ≤ n → length (filter zone (take (at + k) pts)) ≡ length (filter zone (take at pts)) + k
+    counts zero l = let e : at + 0 ≡ at = omega arith in ap (λ m. length (filter zone (take m pts))) e ∙ omega arith
+    counts (suc k) l =
+        let e : at + suc k ≡ at + k + 1 = omega arith in
+        let f = fit_in in
+        let more = length-filter_more zone pts (at + k) low (omega (arith, l, f)) in
+        let inside : zone (get_or pts (at + k) low) ≡ true = ap zone (next_is k low (omega (arith, l))) ∙ is.zone k (omega (arith, l)) in
+        ap (λ m. length (filter zone (take m pts))) e ∙ more
+        ∙ ap (λ t. length (filter zone (take (at + k) pts)) + cond t 1 0) inside
+        ∙ ap (λ m. m + 1) (counts k (omega (arith, l))) ∙ omega arith
+
+    module _ (rule : Rule) (iteration : ℕ) (p : PatchValue) (before between : ℕ) (f : IsStaged old rule x iteration (take at pts) p before between) (patch : IsPatch p) where
       staged_some : 0 < length p.staged
       staged_some = let few = can.buffers in let count = f.same.buffers in let one = item.writes in omega (arith, few, count, one)
 
@@ -187,106 +208,97 @@ module _ (s : Spec) (x : Item) (old : PatchValue) (can : CanSweep s x old) (its 
       buffer_count : length buffer ≡ point_count p.local
       buffer_count = buffer_length p.local p.staged patch.buffers 0 staged_some
 
-      abbrev at : Point → ℕ
-      at y = index_in p.local y
+      abbrev stand : Point → ℕ
+      stand y = index_in p.local y
 
-      staged_set : (ns : List ℤ) (y : Point) → staged_numbers (with_row_staged p 0 low ns) (length x.writes) y ≡ slice_index_or (put_from (at low) buffer ns) (at y) (pos 0) ∷ []
+      staged_set : (ns : List ℤ) (y : Point) → staged_numbers (with_row_staged p 0 low ns) (length x.writes) y ≡ slice_index_or (put_from (stand low) buffer ns) (stand y) (pos 0) ∷ []
       staged_set ns y =
-          ap (λ m. staged_numbers (with_row_staged p 0 low ns) m y) item.writes ∙ first_set p.staged (put_from (at low) buffer ns) (at y) staged_some
+          ap (λ m. staged_numbers (with_row_staged p 0 low ns) m y) item.writes ∙ first_set p.staged (put_from (stand low) buffer ns) (stand y) staged_some
 
-      staged_was : (y : Point) → staged_numbers p (length x.writes) y ≡ slice_index_or buffer (at y) (pos 0) ∷ []
-      staged_was y = ap (λ m. staged_numbers p m y) item.writes ∙ first_was p.staged (at y) staged_some
+      staged_was : (y : Point) → staged_numbers p (length x.writes) y ≡ slice_index_or buffer (stand y) (pos 0) ∷ []
+      staged_was y = ap (λ m. staged_numbers p m y) item.writes ∙ first_was p.staged (stand y) staged_some
 
-      -- the numbers of the row are staged
+      -- the numbers of the run are staged
       module _ (ns : List ℤ) (count : length ns ≡ n)
-          (gives : (i : ℕ) → i < n → rule (seen_at (setup_in p) x (values_in p) (beside low i)) (place_at (setup_in p) x iteration (beside low i)) ≡ Some (slice_index_or ns i (pos 0) ∷ [])) where
+          (gives : (i : ℕ) → i < n → rule (seen_at (setup_in p) x (values_in p) (beside run.from i)) (place_at (setup_in p) x iteration (beside low i)) ≡ Some (slice_index_or ns i (pos 0) ∷ [])) where
         high : (low.x +ℤ pos (length ns)) ≤ℤ p.local.high.x
         high = let h = (can_stage_row p f.same).high_in in omega (arith, ints, h, count)
 
-        long : length ns ≡ extent b 0
-        long = count ∙ wide
-
-        row_on : (y : Point) → OnRow low (extent b 0) y → OnRow low (length ns) y
-        row_on y = subst (λ m. OnRow low m y) (sym long)
-
-        row_off : (y : Point) → OnRow low (length ns) y → OnRow low (extent b 0) y
-        row_off y = subst (λ m. OnRow low m y) long
-
-        number : (y : Point) → OnRow low (extent b 0) y → rule_numbers old rule x iteration y ≡ Some (slice_index_or ns (int_gap low.x y.x) (pos 0) ∷ [])
+        number : (y : Point) → OnRow low n y → rule_numbers old rule x iteration y ≡ Some (slice_index_or ns (int_gap low.x y.x) (pos 0) ∷ [])
         number y r =
-            let l : int_gap low.x y.x < n = let g = row_gap low (extent b 0) y r in omega (arith, g, wide) in
-            sym (rule_here rule iteration p y f.same)
-            ∙ ap (λ q. rule (seen_at (setup_in p) x (values_in p) q) (place_at (setup_in p) x iteration q)) (sym (row_point low (extent b 0) y r))
-            ∙ gives (int_gap low.x y.x) l
+            let l = row_gap low n y r in
+            subst (λ q. rule_numbers old rule x iteration q ≡ Some (slice_index_or ns (int_gap low.x y.x) (pos 0) ∷ [])) (row_point low n y r)
+            (sym (rule_here rule iteration p (int_gap low.x y.x) f.same l) ∙ gives (int_gap low.x y.x) l)
 
-        numbers_next : (y : Point) → IsIn b y → row_at b y < rows + 1 → rule_numbers old rule x iteration y ≡ Some (staged_numbers (with_row_staged p 0 low ns) (length x.writes) y)
-        numbers_next y h l = go (cases_eq (row_at b y) rows)
+        numbers_on : (y : Point) → OnRow low n y → rule_numbers old rule x iteration y ≡ Some (staged_numbers (with_row_staged p 0 low ns) (length x.writes) y)
+        numbers_on y r =
+            number y r
+            ∙ ap (λ (m : ℤ). Some (m ∷ [])) (sym (put_on p.local low ns buffer (near p low f.same low_zone) high buffer_count y (subst (λ m. OnRow low m y) (sym count) r)))
+            ∙ ap Some (sym (staged_set ns y))
+
+        numbers_off : (y : Point) → zone y ≡ true → (OnRow low n y → ⊥) → rule_numbers old rule x iteration y ≡ Some (staged_numbers p (length x.writes) y)
+            → rule_numbers old rule x iteration y ≡ Some (staged_numbers (with_row_staged p 0 low ns) (length x.writes) y)
+        numbers_off y zy off was =
+            was
+            ∙ ap Some (staged_was y)
+            ∙ ap (λ (m : ℤ). Some (m ∷ [])) (sym (put_off p.local low ns buffer (near p low f.same low_zone) high buffer_count y (near p y f.same zy) (λ r. off (subst (λ m. OnRow low m y) count r))))
+            ∙ ap Some (sym (staged_set ns y))
+
+        -- at each place before the run's end
+        numbers_at : (i : ℕ) (y : Point) → i < at + n → y ≡ get_or pts i y → zone y ≡ true
+            → rule_numbers old rule x iteration y ≡ Some (staged_numbers (with_row_staged p 0 low ns) (length x.writes) y)
+        numbers_at i y l e zy = go (on_or_off low n y) (cases_lt i at)
           where
-            go : (row_at b y ≡ rows) ⊎ (row_at b y ≡ rows → ⊥) → rule_numbers old rule x iteration y ≡ Some (staged_numbers (with_row_staged p 0 low ns) (length x.writes) y)
-            go (inl e) =
-                let r = on_row b low inside y h (e ∙ sym place) in
-                number y r
-                ∙ ap (λ (m : ℤ). Some (m ∷ [])) (sym (put_on p.local low ns buffer (near p low f.same low_all) high buffer_count y (row_on y r)))
-                ∙ ap Some (sym (staged_set ns y))
-            go (inr e) =
-                let off : OnRow low (length ns) y → ⊥ = λ r. e (row_place b low inside y (row_off y r) ∙ place) in
-                f.numbers y h (omega (arith, l, e))
-                ∙ ap Some (staged_was y)
-                ∙ ap (λ (m : ℤ). Some (m ∷ [])) (sym (put_off p.local low ns buffer (near p low f.same low_all) high buffer_count y (near p y f.same h) off))
-                ∙ ap Some (sym (staged_set ns y))
+            go : OnRow low n y ⊎ (OnRow low n y → ⊥) → (i < at) ⊎ (at ≤ i)
+                → rule_numbers old rule x iteration y ≡ Some (staged_numbers (with_row_staged p 0 low ns) (length x.writes) y)
+            go (inl r) k = numbers_on y r
+            go (inr off) (inl k) =
+                let room = fit_in in
+                let short : length (take at pts) ≡ at = length-take-le at pts (omega (arith, room)) in
+                let same : get_or (take at pts) i y ≡ y = get_or-take at pts i y k ∙ sym e in
+                numbers_off y zy off
+                (subst (λ q. zone q ≡ true → rule_numbers old rule x iteration q ≡ Some (staged_numbers p (length x.writes) q)) same
+                (f.numbers i y (omega (arith, k, short))) zy)
+            go (inr off) (inr k) =
+                let j : i - at < n = omega (arith, k, l) in
+                let here : at + (i - at) ≡ i = omega (arith, k) in
+                let same : beside low (i - at) ≡ y = sym (next_is (i - at) y j) ∙ ap (λ m. get_or pts m y) here ∙ sym e in
+                absurd (off (subst (OnRow low n) same (beside_row low n (i - at) j)))
+
+        numbers_next : All (λ y. zone y ≡ true → rule_numbers old rule x iteration y ≡ Some (staged_numbers (with_row_staged p 0 low ns) (length x.writes) y)) (take (at + n) pts)
+        numbers_next i d l zy =
+            let k : i < at + n = let m = length-take-le (at + n) pts fit_in in omega (arith, l, m) in
+            let e : get_or (take (at + n) pts) i d ≡ get_or pts i d = get_or-take (at + n) pts i d k in
+            let room = fit_in in
+            let m : i < length pts = omega (arith, k, room) in
+            let again : get_or pts i d ≡ get_or pts i (get_or pts i d) = point_is i d m ∙ sym (point_is i (get_or pts i d) m) in
+            subst (λ q. rule_numbers old rule x iteration q ≡ Some (staged_numbers (with_row_staged p 0 low ns) (length x.writes) q)) (sym e)
+            (numbers_at i (get_or pts i d) k again (ap zone (sym e) ∙ zy))
 
         row_same : IsSamePatch (with_row_staged p 0 low ns) old
-        row_same = record { numbers = f.same.numbers; buffers = length-set p.staged 0 (put_from (at low) buffer ns) ∙ f.same.buffers }
+        row_same = record { numbers = f.same.numbers; buffers = length-set p.staged 0 (put_from (stand low) buffer ns) ∙ f.same.buffers }
 
-      pub row_more : (new : PatchValue) (after : ℕ) (done : Unit {0}) → StagesRow p rule x iteration low n new (Ok done) → after ≡ raised between n
-          → RowsStaged old rule x iteration (rows + 1) new before after
-      row_more new after done t meter =
-          subst (λ (q : PatchValue). RowsStaged old rule x iteration (rows + 1) q before after) (sym t.3) (record {
+      pub run_more : (new : PatchValue) (after : ℕ) (done : Unit {0}) → StagesRow p rule x iteration run new (Ok done) → after ≡ raised between n
+          → IsStaged old rule x iteration (take (at + n) pts) new before after
+      run_more new after done t meter =
+          subst (λ (q : PatchValue). IsStaged old rule x iteration (take (at + n) pts) q before after) (sym t.3) (record {
             same = row_same t.0 t.1 t.2;
             numbers = numbers_next t.0 t.1 t.2;
-            meter = meter ∙ ap (λ m. raised m n) f.meter ∙ raised_twice before (rows * extent b 0) n
-                ∙ ap (raised before) (ap (λ m. rows * extent b 0 + m) wide ∙ grind arith);
+            meter = meter ∙ ap (λ m. raised m n) f.meter ∙ raised_twice before (length (filter zone (take at pts))) n
+                ∙ ap (raised before) (sym (counts n (omega arith)));
           })
 
-      -- the rule gives no numbers at a point of the row
-      pub row_fails : (new : PatchValue) (e : Overflow) → StagesRow p rule x iteration low n new (Err e) → StagesZone old rule x iteration new before between (Err e)
-      row_fails new e t =
+      -- the rule gives no numbers at a point of the run
+      pub run_fails : (new : PatchValue) (e : Overflow) → StagesRow p rule x iteration run new (Err e) → StagesZone old rule x iteration new before between (Err e)
+      run_fails new e t =
           let i = t.0.0 in
-          let y = beside low i in
           let l = t.0.1 in
-          let under : rows < point_count (row_starts b) = let m = row_below b low low_all in let q = place in omega (arith, m, q, start_same) in
-          let rest = point_count (row_starts b) - rows in
-          let split : rows + rest ≡ point_count (row_starts b) = omega (arith, under) in
-          let part : rows * extent b 0 + rest * extent b 0 ≡ zone_points (swept_zone old x) =
-          grind arith ∙ ap (λ m. m * extent b 0) split ∙ row_counts b ∙ sym zone_count
-          in (
-            y,
-            record { zone = in_all y (row_all i l); none = sym (rule_here rule iteration p y f.same) ∙ t.0.2 },
+          let few = filter_few zone pts at in (
+            beside low i,
+            record { zone = is.zone i l; none = sym (rule_here rule iteration p i f.same l) ∙ t.0.2 },
             record { numbers = t.1.numbers ∙ f.same.numbers; buffers = t.1.buffers ∙ f.same.buffers },
-            record { least = omega (arith, f.meter); most = omega (arith, f.meter, part) },
+            record { least = omega (arith, f.meter); most = omega (arith, f.meter, few) },
           )
-        where
-          start_same : row_at b low ≡ index_in (row_starts b) low
-          start_same = row_place b low inside low (record { x = record { from = omega (arith, ints); below = let o = row_some b low inside in omega (arith, ints, o) }; y = refl; z = refl })
-
-  -- ---- all rows
-
-  pub rows_none : (rule : Rule) (iteration before : ℕ) → RowsStaged old rule x iteration 0 old before before
-  rows_none rule iteration before = record {
-    same = same_patch old;
-    numbers = λ y h l. absurd (omega (arith, l));
-    meter = raised_none before ∙ ap (raised before) (omega arith);
-  }
-
-  pub rows_all : (rule : Rule) (iteration rows : ℕ) (p : PatchValue) (before after : ℕ) → point_count (row_starts b) ≡ rows → RowsStaged old rule x iteration rows p before after
-      → IsStaged old rule x iteration (points_in b) p before after
-  rows_all rule iteration rows p before after e f = record {
-    same = f.same;
-    numbers = λ i d l zone.
-        let h = all_in (get_or (points_in b) i d) zone in
-        f.numbers (get_or (points_in b) i d) h (let m = row_below b (get_or (points_in b) i d) h in omega (arith, m, e));
-    meter = f.meter ∙ ap (raised before) (ap (λ m. m * extent b 0) (sym e) ∙ row_counts b ∙ sym zone_count);
-  }
 
 -- ---- numbers that count up to a place
 

@@ -1,5 +1,5 @@
--- The rows of a box, and rows of numbers in a buffer.
-use Rattle.std.proofs.Common.{◌≡◌, ℕ, ◌+◌, ◌-◌, ◌*◌, ◌<◌, ◌≤◌, ◌⊎◌, inl, inr, Bool, true, false, arith, refl, sym, ap, ◌∙◌, subst, cond, ℤ, pos, ◌+ℤ◌, ◌≤ℤ◌, ◌<ℤ◌, int_lt, List, ◌++◌, length, take, drop}
+-- Points along x, and rows of numbers in a buffer.
+use Rattle.std.proofs.Common.{◌≡◌, ℕ, ◌+◌, ◌-◌, ◌<◌, ◌≤◌, ◌⊎◌, inl, inr, Bool, true, false, true≢false, arith, refl, sym, ap, ◌∙◌, subst, ℤ, pos, ◌+ℤ◌, ◌≤ℤ◌, List, ◌++◌, length, take, drop}
 use Rattle.std.specs.Prelude.{slice_index_or}
 use Rattle.std.specs.Int.{int_gap}
 use Rattle.std.proofs.lemmas.Int.{ints}
@@ -7,11 +7,11 @@ use Rattle.std.proofs.lemmas.Bool.{cases_lt}
 use Rattle.std.proofs.lemmas.List.{get_or-take, get_or-drop, get_or_append_left, get_or-append_right, length-take-le}
 use Rattle.cx_grid.specs.declared.boxes.Point.{Point}
 use Rattle.cx_grid.specs.declared.boxes.Box3.{Box3}
-use Rattle.cx_grid.specs.Boxes.{IsIn, IsOn, extent, point_count, index_in}
-use Rattle.cx_grid.proofs.Places.{gap_up, gap_at, gap_none, index_below, index_once, same_point}
+use Rattle.cx_grid.specs.Boxes.{IsIn, IsOn, has_point, point_count, index_in}
+use Rattle.cx_grid.proofs.Places.{gap_up, index_once, same_point}
+use Rattle.cx_grid.proofs.Points.{in_is, in_from}
 use Rattle.cx_rule.specs.Patches.{beside}
 use Rattle.cx_rule.specs.Staging.{put_from}
-use Rattle.cx_rule.specs.Rows.{next_below, row_starts, start_of, row_at}
 use Rattle.cx_rule.proofs.FaceLaws.{row_index, row_inside, row_end}
 
 -- ---- numbers from a place on
@@ -59,6 +59,23 @@ row_gap low n y r = omega (arith, ints, gap_up low.x y.x r.x.from, r.x.below)
 pub beside_row : (low : Point) (n j : ℕ) → j < n → OnRow low n (beside low j)
 beside_row low n j l = record { x = record { from = omega (arith, ints); below = omega (arith, ints, l) }; y = refl; z = refl }
 
+-- a point lies on a row, or it doesn't
+pub on_or_off : (low : Point) (n : ℕ) (y : Point) → OnRow low n y ⊎ (OnRow low n y → ⊥)
+on_or_off low n y = go (has_point row y) refl
+  where
+    row : Box3
+    row = record { low = low; high = record { x = low.x +ℤ pos n; y = low.y +ℤ pos 1; z = low.z +ℤ pos 1 } }
+
+    go : (t : Bool) → has_point row y ≡ t → OnRow low n y ⊎ (OnRow low n y → ⊥)
+    go true e =
+        let h = in_is row y e in
+        inl (record { x = h.x; y = omega (arith, ints, h.y.from, h.y.below); z = omega (arith, ints, h.z.from, h.z.below) })
+    go false e = inr (λ r.
+        let h : IsIn row y =
+        record { x = r.x; y = record { from = omega (arith, ints, r.y); below = omega (arith, ints, r.y) }; z = record { from = omega (arith, ints, r.z); below = omega (arith, ints, r.z) } }
+        in
+        true≢false (sym (in_from row y h) ∙ e))
+
 module _ (b : Box3) (low : Point) (row level : List ℤ) (inside : IsIn b low) (high : (low.x +ℤ pos (length row)) ≤ℤ b.high.x)
     (size : length level ≡ point_count b) where
   fits : index_in b low + length row ≤ length level
@@ -92,77 +109,3 @@ module _ (b : Box3) (low : Point) (row level : List ℤ) (inside : IsIn b low) (
       go (inr l) (inl k) =
           absurd (off (placed y i (index_in b y - index_in b low) (omega (arith, l, k)) (omega (arith, l))))
       go (inr l) (inr k) = put_behind (index_in b low) level row fits (index_in b y) k
-
--- ---- all rows of a box
-
-below_is : (low high c : ℤ) → IsOn low (next_below low high) c → (c ≡ low) × (low <ℤ high)
-below_is low high c = go (int_lt low high) refl
-  where
-    go : (t : Bool) → int_lt low high ≡ t → IsOn low (cond t (low +ℤ pos 1) low) c → (c ≡ low) × (low <ℤ high)
-    go true e h = (omega (arith, ints, h.from, h.below), grind (arith, ints, e))
-    go false e h = absurd (omega (arith, ints, h.from, h.below))
-
-below_on : (low high c : ℤ) → IsOn low high c → IsOn low (next_below low high) low
-below_on low high c h =
-    let e : int_lt low high ≡ true = grind (arith, ints, h.from, h.below) in
-    subst (λ t. IsOn low (cond t (low +ℤ pos 1) low) low) (sym e) (record { from = omega (arith, ints); below = omega (arith, ints) })
-
-module _ (b : Box3) where
-  pub starts_in : (y : Point) → IsIn b y → IsIn (row_starts b) (start_of b y)
-  starts_in y h = record { x = below_on b.low.x b.high.x y.x h.x; y = h.y; z = h.z }
-
-  pub row_below : (y : Point) → IsIn b y → row_at b y < point_count (row_starts b)
-  row_below y h = index_below (row_starts b) (start_of b y) (starts_in y h)
-
-  -- there are as many points as rows of its width have
-  pub row_counts : point_count (row_starts b) * extent b 0 ≡ point_count b
-  row_counts = go (int_lt b.low.x b.high.x) refl
-    where
-      go : (t : Bool) → int_lt b.low.x b.high.x ≡ t → point_count (row_starts b) * extent b 0 ≡ point_count b
-      go true e =
-          let g : int_gap b.low.x (b.low.x +ℤ pos 1) ≡ 1 = gap_at b.low.x 1 in
-          let w : extent (row_starts b) 0 ≡ 1 = ap (λ t. int_gap b.low.x (cond t (b.low.x +ℤ pos 1) b.low.x)) e ∙ g in
-          ap (λ n. n * extent b 1 * extent b 2 * extent b 0) w ∙ grind arith
-      go false e =
-          let l : b.high.x ≤ℤ b.low.x = grind (arith, ints, e) in
-          let g : extent b 0 ≡ 0 = gap_none b.low.x b.high.x l in
-          let p : point_count b ≡ 0 = ap (λ n. n * extent b 1 * extent b 2) g ∙ grind arith in
-          ap (λ n. point_count (row_starts b) * n) g ∙ omega (arith, p)
-
-  module _ (start : Point) (inside : IsIn (row_starts b) start) where
-    pub start_at : start.x ≡ b.low.x
-    start_at = (below_is b.low.x b.high.x start.x inside.x).0
-
-    some : b.low.x <ℤ b.high.x
-    some = (below_is b.low.x b.high.x start.x inside.x).1
-
-    pub row_high : (start.x +ℤ pos (extent b 0)) ≡ b.high.x
-    row_high = ap (λ c. c +ℤ pos (extent b 0)) start_at ∙ gap_up b.low.x b.high.x (let o = some in omega (arith, ints, o))
-
-    pub row_some : 0 < extent b 0
-    row_some = let e = row_high in let o = some in let a = start_at in omega (arith, ints, e, o, a)
-
-    -- a point of the box in the start's row
-    pub on_row : (y : Point) → IsIn b y → row_at b y ≡ index_in (row_starts b) start → OnRow start (extent b 0) y
-    on_row y h e =
-        let s : start_of b y ≡ start = index_once (row_starts b) (start_of b y) start (starts_in y h) inside e in
-        let a = start_at in
-        let g = row_high in
-        record {
-          x = record { from = omega (arith, ints, a, h.x.from); below = omega (arith, ints, g, h.x.below) };
-          y = ap (λ (q : Point). q.y) s;
-          z = ap (λ (q : Point). q.z) s;
-        }
-
-    pub row_in : (y : Point) → OnRow start (extent b 0) y → IsIn b y
-    row_in y r =
-        let a = start_at in
-        let g = row_high in
-        record {
-          x = record { from = omega (arith, ints, a, r.x.from); below = omega (arith, ints, g, r.x.below) };
-          y = subst (IsOn b.low.y b.high.y) (sym r.y) inside.y;
-          z = subst (IsOn b.low.z b.high.z) (sym r.z) inside.z;
-        }
-
-    pub row_place : (y : Point) → OnRow start (extent b 0) y → row_at b y ≡ index_in (row_starts b) start
-    row_place y r = ap (index_in (row_starts b)) (same_point (sym start_at) r.y r.z)

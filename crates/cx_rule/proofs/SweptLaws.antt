@@ -93,7 +93,7 @@ same_patch p = record { numbers = refl; buffers = refl }
 pub same_staged : (old p : PatchValue) (y : Point) (ns : List ℤ) → IsSamePatch p old → IsSamePatch (with_staged p y ns) old
 same_staged old p y ns e = record { numbers = e.numbers; buffers = staged_count (index_in p.local y) p.staged ns ∙ e.buffers }
 
-filter_few : {A : Type 0} (test : A → Bool) (xs : List A) (i : ℕ) → length (filter test (take i xs)) ≤ length (filter test xs)
+pub filter_few : {A : Type 0} (test : A → Bool) (xs : List A) (i : ℕ) → length (filter test (take i xs)) ≤ length (filter test xs)
 filter_few test xs i =
     let all : length (filter test (take i xs)) + length (filter test (drop i xs)) ≡ length (filter test xs) =
     sym (length-append (filter test (take i xs)) (filter test (drop i xs))) ∙ ap length (sym (filter-append test (take i xs) (drop i xs)))

@@ -1,25 +1,26 @@
 -- Rows of points along x: what a rule sees at each of their points.
-use Rattle.std.specs.Prelude.{ℕ, ◌+◌, ◌*◌, ◌<◌, ◌≤◌, ◌≡◌, ◌-ℤ◌, ◌+ℤ◌, ◌≤ℤ◌, false, ℤ, pos, int_lt, List, ◌∷◌, [], map, length, slice_index_or, Some, None, Result, Ok, Err, All, if◌then◌else◌}
+use Rattle.std.specs.Prelude.{ℕ, ◌+◌, ◌*◌, ◌<◌, ◌≤◌, ◌≡◌, ◌-ℤ◌, ◌+ℤ◌, ◌≤ℤ◌, ◌<ℤ◌, int_lt, Bool, ◌&&◌, true, false, ℤ, pos, List, ◌∷◌, [], map, length, slice_index_or, Some, None, Result, Ok, Err, All}
 use Rattle.cx_grid.specs.declared.boxes.Point.{Point}
-use Rattle.cx_grid.specs.declared.boxes.Box3.{Box3}
-use Rattle.cx_grid.specs.Boxes.{IsIn, extent, index_in}
+use Rattle.cx_grid.specs.declared.shapes.Shape.{Shape}
+use Rattle.cx_grid.specs.Boxes.{IsIn, has_point}
 use Rattle.cx_plan.specs.declared.item.Touch.{Touch}
 use Rattle.cx_plan.specs.declared.item.Item.{Item}
 use Rattle.cx_plan.specs.declared.item.ItemKind.TheVariants.{Cell}
-use Rattle.cx_plan.specs.declared.item.Region.TheVariants.{Interior}
+use Rattle.cx_plan.specs.declared.item.Region.{Region}
 use Rattle.cx_plan.specs.Lookups.{is_scalar}
-use Rattle.cx_plan.specs.Regions.{region_of}
 use Rattle.cx_rule.specs.Jobs.{IsRoutineOf}
-use Rattle.cx_rule.specs.Meter.{raised}
 use Rattle.cx_rule.specs.Patches.{PatchValue, beside, setup_in, values_in}
 use Rattle.cx_rule.specs.Routine.{Rule, reach_of as want_reach}
 use Rattle.cx_rule.specs.Seen.{Seen, value_of}
-use Rattle.cx_rule.specs.Staging.{CanSee, put_from, with_row_staged, staged_numbers}
-use Rattle.cx_rule.specs.Sweeps.{seen_at, place_at, reach_of}
-use Rattle.cx_rule.specs.Swept.{IsSamePatch, swept_zone, rule_numbers}
+use Rattle.cx_rule.specs.Staging.{CanSee, put_from, with_row_staged}
+use Rattle.cx_rule.specs.Sweeps.{seen_at, place_at, reach_of, window_point}
+use Rattle.cx_rule.specs.Swept.{IsSamePatch}
+use Rattle.cx_rule.specs.Zones.{in_zone}
 use Rattle.cx_rule.specs.declared.place.Place.{Place}
 use Rattle.cx_rule.specs.declared.routine.Overflow.{Overflow}
+use Rattle.cx_rule.specs.declared.run.Run.{Run}
 use Rattle.cx_rule.specs.declared.spec.Spec.{Spec}
+use Rattle.cx_rule.specs.declared.zone.Zone.{Zone}
 
 -- what a rule sees along a row: the grid's directions, each read's reach, how many points the row has, and for each of these what is
 -- seen there and its place
@@ -72,83 +73,84 @@ LacksOne rule r = (i : ℕ) × (i < r.count) × (rule (r.seen i) (r.place i) ≡
 
 -- ---- rows of a part
 
--- an item's row of so many points from a point on
-abbrev pub row_of : PatchValue → Item → Point → ℕ → ℕ → SeenRow
-row_of p x low count iteration =
+-- an item's row of so many points from a point on, whose windows lie along x too, from another point on
+abbrev pub row_of : PatchValue → Item → Point → Point → ℕ → ℕ → SeenRow
+row_of p x from low count iteration =
     record {
       dims = p.shape.dims;
       reaches = map reach_of x.reads;
       count = count;
-      seen = λ i. seen_at (setup_in p) x (values_in p) (beside low i);
+      seen = λ i. seen_at (setup_in p) x (values_in p) (beside from i);
       place = λ i. place_at (setup_in p) x iteration (beside low i);
     }
 
--- a part, an item, a point from which on a row of so many points lies, and an iteration
+-- a part, an item, a point from which on the windows of so many points lie, one from which on these points lie, and an iteration
 pub record RowValue : Type 0 where
   pub part : PatchValue
   pub item : Item
+  pub from : Point
   pub low : Point
   pub count : ℕ
   pub iteration : ℕ
 
-abbrev pub row_value : PatchValue → Item → Point → ℕ → ℕ → RowValue
-row_value p x low count iteration = record { part = p; item = x; low = low; count = count; iteration = iteration }
+abbrev pub row_value : PatchValue → Item → Point → Point → ℕ → ℕ → RowValue
+row_value p x from low count iteration =
+    record { part = p; item = x; from = from; low = low; count = count; iteration = iteration }
 
 abbrev pub seen_row : RowValue → SeenRow
-seen_row r = row_of r.part r.item r.low r.count r.iteration
+seen_row r = row_of r.part r.item r.from r.low r.count r.iteration
 
--- some points along x, whose windows are local, of reads of grid variables
-pub record CanSeeRow (p : PatchValue) (x : Item) (low : Point) (count : ℕ) : Type 0 where
+-- so many windows along x, which are local, of reads of grid variables
+pub record CanSeeRow (p : PatchValue) (x : Item) (from : Point) (count : ℕ) : Type 0 where
   pub some : 0 < count
   pub grid : All (λ (r : Touch). is_scalar (setup_in p) r.var ≡ false) x.reads
-  pub sees : (i : ℕ) → i < count → CanSee p x (beside low i)
+  pub sees : (i : ℕ) → i < count → CanSee p x (beside from i)
 
--- what staging a row asks for: an item of one write, and local points
-pub record CanStageRow (s : Spec) (x : Item) (p : PatchValue) (low : Point) (count : ℕ) : Type 0 where
+-- what staging a run asks for: an item of one write, and local points
+pub record CanStageRow (s : Spec) (x : Item) (p : PatchValue) (run : Run) : Type 0 where
   pub routine : IsRoutineOf s x
-  pub row : CanSeeRow p x low count
+  pub row : CanSeeRow p x run.from run.count
   pub writes : length x.writes ≡ 1
   pub buffers : length x.writes ≤ length p.staged
-  pub low_in : IsIn p.local low
-  pub high_in : (low.x +ℤ pos count) ≤ℤ p.local.high.x
+  pub low_in : IsIn p.local run.low
+  pub high_in : (run.low.x +ℤ pos run.count) ≤ℤ p.local.high.x
+
+-- a run's row
+abbrev pub run_row : PatchValue → Item → ℕ → Run → SeenRow
+run_row p x iteration run = row_of p x run.from run.low run.count iteration
 
 -- the rule's numbers at a row's points, put into a buffer from a place on
 abbrev pub IsRowPut : Rule → SeenRow → ℕ → List ℤ → List ℤ → Type 0
 IsRowPut rule r at old new = (ns : List ℤ) × (length ns ≡ r.count) × GivesRow rule r ns × (new ≡ put_from at old ns)
 
--- the rule's numbers at a row's points are staged, or it gives none at one of them
-abbrev pub StagesRow : PatchValue → Rule → Item → ℕ → Point → ℕ → PatchValue → Result (Unit {0}) Overflow → Type 0
-StagesRow old rule x iteration low count new (Ok _) =
-    (ns : List ℤ) × (length ns ≡ count) × GivesRow rule (row_of old x low count iteration) ns × (new ≡ with_row_staged old 0 low ns)
-StagesRow old rule x iteration low count new (Err _) = LacksOne rule (row_of old x low count iteration) × IsSamePatch new old
+-- the rule's numbers at a run's points are staged, or it gives none at one of them
+abbrev pub StagesRow : PatchValue → Rule → Item → ℕ → Run → PatchValue → Result (Unit {0}) Overflow → Type 0
+StagesRow old rule x iteration run new (Ok _) =
+    (ns : List ℤ) × (length ns ≡ run.count) × GivesRow rule (run_row old x iteration run) ns
+    × (new ≡ with_row_staged old 0 run.low ns)
+StagesRow old rule x iteration run new (Err _) = LacksOne rule (run_row old x iteration run) × IsSamePatch new old
 
 -- ---- sweeps by rows
 
--- a Cell item of one write in the interior, which reads grid variables alone
+-- a Cell item of one write, which reads grid variables alone
 pub record IsRowItem (p : PatchValue) (x : Item) : Type 0 where
   pub kind : x.kind ≡ Cell
   pub writes : length x.writes ≡ 1
-  pub region : region_of x.writes ≡ Interior
   pub grid : All (λ (r : Touch). is_scalar (setup_in p) r.var ≡ false) x.reads
 
--- the first points of a box's rows; none where no row has a point
-abbrev pub next_below : ℤ → ℤ → ℤ
-next_below low high = if int_lt low high then low +ℤ pos 1 else low
+-- whether a zone's hole begins behind a point in its row
+abbrev pub hole_follows : Zone → Point → Bool
+hole_follows z low = int_lt low.x z.hole.low.x && has_point z.hole (record { x = z.hole.low.x; y = low.y; z = low.z })
 
-abbrev pub row_starts : Box3 → Box3
-row_starts b = record { low = b.low; high = record { x = next_below b.low.x b.high.x; y = b.high.y; z = b.high.z } }
+-- the points before an end, from one on, lie in a zone, and their windows one beside another
+pub record IsRunEnd (s : Shape) (region : Region) (z : Zone) (low : Point) (end : ℤ) : Type 0 where
+  pub some : low.x <ℤ end
+  pub zone : (i : ℕ) → (low.x +ℤ pos i) <ℤ end → in_zone z (beside low i) ≡ true
+  pub from : (i : ℕ) → (low.x +ℤ pos i) <ℤ end
+      → window_point s region (beside low i) ≡ beside (window_point s region low) i
 
--- the first point of a point's row, and the row's place among all rows
-abbrev pub start_of : Box3 → Point → Point
-start_of b y = record { x = b.low.x; y = y.y; z = y.z }
-
-abbrev pub row_at : Box3 → Point → ℕ
-row_at b y = index_in (row_starts b) (start_of b y)
-
--- the rule's numbers are staged at the points of the first so many rows of the zone
-pub record RowsStaged (old : PatchValue) (rule : Rule) (x : Item) (iteration rows : ℕ)
-    (new : PatchValue) (before after : ℕ) : Type 0 where
-  pub same : IsSamePatch new old
-  pub numbers : (y : Point) → IsIn (swept_zone old x).all y → row_at (swept_zone old x).all y < rows
-      → rule_numbers old rule x iteration y ≡ Some (staged_numbers new (length x.writes) y)
-  pub meter : after ≡ raised before (rows * extent (swept_zone old x).all 0)
+-- the points of a run lie in a zone, and their windows are taken one beside another
+pub record IsRun (s : Shape) (region : Region) (z : Zone) (run : Run) : Type 0 where
+  pub some : 0 < run.count
+  pub zone : (i : ℕ) → i < run.count → in_zone z (beside run.low i) ≡ true
+  pub from : (i : ℕ) → i < run.count → window_point s region (beside run.low i) ≡ beside run.from i

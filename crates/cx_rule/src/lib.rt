@@ -18,6 +18,7 @@ mod routine;
 mod row;
 mod row_rule;
 mod rows;
+mod run;
 mod runs;
 mod spec;
 mod staging;

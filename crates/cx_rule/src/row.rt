@@ -7,6 +7,7 @@ ghost use Rattle.cx_rule.specs.Rows.{row_value, seen_row, reach_at, offset_from,
 
 use crate::part::Part;
 use crate::points::moved;
+use crate::run::Run;
 use cx_grid::Point;
 use cx_plan::Item;
 use std::marker::Model;
@@ -16,6 +17,7 @@ use std::marker::Model;
 pub struct Row<'a> {
     part: &'a Part,
     item: &'a Item,
+    from: Point,
     low: Point,
     count: u32,
     iteration: u64,
@@ -26,28 +28,24 @@ impl<'a> Model for Row<'a> {
 
     ghost Value = { RowValue };
 
-    ghost view = { λ r. row_value r.part.now r.item.now r.low r.count r.iteration };
+    ghost view = { λ r. row_value r.part.now r.item.now r.from r.low r.count r.iteration };
 
-    ghost invariant = { λ r. CanSeeRow r.part.now r.item.now r.low r.count };
+    ghost invariant = { λ r. CanSeeRow r.part.now r.item.now r.from r.count };
 }
 
 impl<'a> Row<'a> {
-    /// An item's row of so many points from a point on.
-    pub(crate) fn new(
-        part: &'a Part,
-        item: &'a Item,
-        low: Point,
-        count: u32,
-        iteration: u64,
-    ) -> Self
-        requires { CanSeeRow part.now item.now low count }
-        ensures { result ≡ row_value part.now item.now low count iteration }
+    /// An item's row of a run's points.
+    pub(crate) fn new(part: &'a Part, item: &'a Item, run: &Run, iteration: u64) -> Self
+        requires { CanSeeRow part.now item.now run.now.from run.now.count }
+        ensures { result
+            ≡ row_value part.now item.now run.now.from run.now.low run.now.count iteration }
     {
         Row {
             part,
             item,
-            low,
-            count,
+            from: run.from,
+            low: run.low,
+            count: run.count,
             iteration,
         }
     }
@@ -78,12 +76,13 @@ impl<'a> Row<'a> {
     /// first point on to its reach behind the last one. `y` and `z` are at most the reach from 0.
     pub fn along(&self, k: usize, y: i32, z: i32) -> &[i64]
         requires read { k < length (seen_row self.now).reaches }
-        requires offset { IsIn (reach_box (seen_row self.now).dims (reach_at (seen_row self.now) k)) (middle y z) }
+        requires offset { IsIn (reach_box (seen_row self.now).dims (reach_at (seen_row self.now) k))
+            (middle y z) }
         ensures { ShowsAlong (seen_row self.now) k y z result.now }
     {
         let _ = self.part.local();
         let read = &self.item.reads.as_slice()[k];
-        let start = moved(self.low, least_offset(read.reach, y, z));
+        let start = moved(self.from, least_offset(read.reach, y, z));
         let count = self.count + 2 * read.reach as u32;
         self.part.row(read.var, read.level, start, count)
     }

@@ -14,7 +14,7 @@ pub trait RowRule: PointRule {
     ///
     /// # Errors
     ///
-    /// `Overflow` exactly where the rule gives no numbers at one of these points.
+    /// `Overflow` exactly where the rule gives no numbers at one of these points. Which numbers `out` then has is left open.
     fn row(&self, row: &Row, out: &mut [i64]) -> Result<(), Overflow>
         requires fits { FitsRow Self.said (seen_row row.now) }
         requires count { length out.old ≡ row.now.count }
@@ -23,7 +23,8 @@ pub trait RowRule: PointRule {
         ensures room { length out.new ≡ length out.old };
 }
 
-/// The routine that computes a rule along rows of points where an item writes the interior, and else at each point.
+/// The routine that computes a rule along rows of points where a Cell item has one write and reads grid variables alone, whatever
+/// region it writes, and else at each point.
 #[derive(Drop)]
 pub struct RowsOf<R: RowRule> {
     spec: Spec,

@@ -1,22 +1,22 @@
-//! The sweep of a rule over the rows of a part's interior points.
-ghost use Rattle.std.specs.Prelude.{◌≡◌, ◌≤◌, ◌<◌, ◌+◌, not, pos, false, true, length, map, slice_index_or, slice_set, [], All, OnOk, OnErr, if◌then◌else◌};
+//! The sweep of a rule over runs of a part's points along x.
+ghost use Rattle.std.specs.Prelude.{◌≡◌, ◌≤◌, ◌<◌, ◌+◌, not, true, length, map, slice_index_or, slice_set, [], All, OnOk, OnErr};
 ghost use Rattle.std.specs.List.{list_all};
-ghost use Rattle.cx_grid.specs.Boxes.{extent};
 ghost use Rattle.cx_plan.specs.Lookups.{is_scalar};
 ghost use Rattle.cx_plan.specs.declared.item.Touch.{Touch};
 ghost use Rattle.cx_rule.specs.Patches.{IsPatch, IsStored, setup_in};
-ghost use Rattle.cx_rule.specs.Rows.{seen_row, FitsRow, LacksOne, IsRowPut, CanStageRow, StagesRow, IsRowItem, next_below, row_starts};
+ghost use Rattle.cx_rule.specs.Rows.{seen_row, FitsRow, LacksOne, IsRowPut, CanStageRow, StagesRow, IsRowItem};
 ghost use Rattle.cx_rule.specs.Swept.{swept_zone, CanSweep, Sweeps, StagesZone};
 
 use crate::buffers::{Buffer, Buffers};
 use crate::levels::Level;
 use crate::part::Part;
 use crate::patch::Patch;
-use crate::sweep::{region_of, sweep_rule};
+use crate::run::{Run, run_from};
+use crate::sweep::{count_of, hole_from, region_of, sweep_rule};
 use crate::zone::Zone;
 use crate::{Meter, Overflow, Row, RowRule};
-use cx_grid::{Box3, Point, index_of, rows};
-use cx_plan::{Item, ItemKind, Region, Touch};
+use cx_grid::{index_of, point_at};
+use cx_plan::{Item, ItemKind, Touch};
 
 /// Computes an item of a rule at each point of its zone, as `sweep_rule` does, by rows where it can.
 ///
@@ -43,7 +43,7 @@ pub(crate) fn sweep_rows<R: RowRule>(
     }
 }
 
-/// Computes an item of a rule at each point of its zone, row by row.
+/// Computes an item of a rule at each point of its zone, run by run.
 fn sweep_by_rows<R: RowRule>(
     rule: &R,
     item: &Item,
@@ -58,17 +58,17 @@ fn sweep_by_rows<R: RowRule>(
     requires patch { IsPatch patch.old }
     ensures { Sweeps patch.old R.law item.now iteration patch.new meter.old meter.new result }
 {
-    stage_rows(rule, item, patch, zone, iteration, meter)?;
+    stage_runs(rule, item, patch, zone, iteration, meter)?;
     patch.commit(item, zone)
 }
 
-/// Whether an item is a Cell item of one write in the interior which reads grid variables alone.
+/// Whether an item is a Cell item of one write which reads grid variables alone.
 fn goes_by_rows(part: &Part, item: &Item) -> bool
     requires { All (λ (r : Touch). IsStored part.now r.var r.level) item.now.reads }
     ensures { result ≡ true → IsRowItem part.now item.now }
 {
-    match (item.kind, region_of(item)) {
-        (ItemKind::Cell, Region::Interior) => {}
+    match item.kind {
+        ItemKind::Cell => {}
         _ => return false,
     }
     if item.writes.len() != 1 {
@@ -90,8 +90,8 @@ fn are_grids(part: &Part, reads: &[Touch]) -> bool
     true
 }
 
-/// Stages the numbers of an item's rule at each point of its zone, row by row.
-fn stage_rows<R: RowRule>(
+/// Stages the numbers of an item's rule at each point of its zone, run by run.
+fn stage_runs<R: RowRule>(
     rule: &R,
     item: &Item,
     patch: &mut Patch,
@@ -105,61 +105,38 @@ fn stage_rows<R: RowRule>(
     requires patch { IsPatch patch.old }
     ensures { StagesZone patch.old R.law item.now iteration patch.new meter.old meter.new result }
 {
-    let count = width(&zone.all);
-    'rows: for low in rows(&row_starts(&zone.all)) {
-        patch.stage_rule_row(rule, item, low, count, iteration)?;
-        meter.add(count as u64);
+    let count = count_of(&zone.all);
+    let mut at = 0;
+    'runs: while at < count {
+        let low = point_at(&zone.all, at);
+        let skipped = hole_from(zone, low);
+        if skipped > 0 {
+            at += skipped;
+            continue;
+        }
+        let run = run_from(patch.shape(), region_of(item), zone, low);
+        patch.stage_rule_row(rule, item, &run, iteration)?;
+        meter.add(run.count as u64);
+        at += run.count as usize;
     }
     Ok(())
 }
 
-/// How many points a row of a box has.
-fn width(b: &Box3) -> u32
-    ensures { result ≡ extent b.now 0 }
-{
-    if b.low.x < b.high.x {
-        (b.high.x as i64 - b.low.x as i64) as u32
-    } else {
-        0
-    }
-}
-
-/// The first points of a box's rows.
-fn row_starts(b: &Box3) -> Box3
-    ensures { result ≡ row_starts b.now }
-{
-    Box3 {
-        low: b.low,
-        high: Point {
-            x: next_below(b.low.x, b.high.x),
-            y: b.high.y,
-            z: b.high.z,
-        },
-    }
-}
-
-fn next_below(low: i32, high: i32) -> i32
-    ensures { result ≡ next_below low high }
-{
-    if low < high { low + 1 } else { low }
-}
-
 impl Patch {
-    /// Computes an item's rule along a row of local points and stages its numbers. No number of the part changes.
+    /// Computes an item's rule along a run of local points and stages its numbers. No number of the part changes.
     fn stage_rule_row<R: RowRule>(
         &mut self,
         rule: &R,
         item: &Item,
-        low: Point,
-        count: u32,
+        run: &Run,
         iteration: u64,
     ) -> Result<(), Overflow>
-        requires { CanStageRow R.said item.now self.old low count }
-        ensures staged { StagesRow self.old R.law item.now iteration low count self.new result }
+        requires { CanStageRow R.said item.now self.old run.now }
+        ensures staged { StagesRow self.old R.law item.now iteration run.now self.new result }
         ensures patch { IsPatch self.old }
     {
-        let at = index_of(self.part.local(), low);
-        let row = Row::new(&self.part, item, low, count, iteration);
+        let at = index_of(self.part.local(), run.low);
+        let row = Row::new(&self.part, item, run, iteration);
         self.staged.put_rule_row(rule, &row, at)
     }
 }
@@ -170,8 +147,8 @@ impl Buffers {
         requires fits { FitsRow R.said (seen_row row.now) }
         requires some { 0 < length self.old }
         requires room { at + row.now.count ≤ length (slice_index_or self.old 0 []) }
-        ensures numbers { OnOk result (IsRowPut R.law (seen_row row.now) at (slice_index_or self.old 0 [])
-            (slice_index_or self.new 0 [])) }
+        ensures numbers { OnOk result (IsRowPut R.law (seen_row row.now) at
+            (slice_index_or self.old 0 []) (slice_index_or self.new 0 [])) }
         ensures overflow { OnErr result (LacksOne R.law (seen_row row.now)) }
         ensures level { self.new ≡ slice_set self.old 0 (slice_index_or self.new 0 []) }
         ensures room { map length self.new ≡ map length self.old }

@@ -138,7 +138,7 @@ fn stage_zone<R: PointRule>(
 }
 
 /// How many points a box has: none where it ends before it begins.
-fn count_of(b: &Box3) -> usize
+pub(crate) fn count_of(b: &Box3) -> usize
     requires { IsSmall b.now }
     ensures { result ≡ point_count b.now }
 {
@@ -150,7 +150,7 @@ fn count_of(b: &Box3) -> usize
 }
 
 /// How many points of a zone's box lie in its hole, one after another along x from this one on.
-fn hole_from(zone: &Zone, p: Point) -> usize
+pub(crate) fn hole_from(zone: &Zone, p: Point) -> usize
     requires { IsIn zone.now.all p }
     ensures none { result ≡ 0 → in_zone zone.now p ≡ true }
     ensures outside { (k : ℕ) → k < result → IsOutside zone.now (beside p k) }
@@ -163,13 +163,13 @@ fn hole_from(zone: &Zone, p: Point) -> usize
     steps_to(p.x, end)
 }
 
-fn lesser(a: i32, b: i32) -> i32
+pub(crate) fn lesser(a: i32, b: i32) -> i32
     ensures { result ≡ int_min a b }
 {
     a.min(b)
 }
 
-fn steps_to(from: i32, to: i32) -> usize
+pub(crate) fn steps_to(from: i32, to: i32) -> usize
     requires { from <ℤ to }
     ensures value { (from +ℤ pos result) ≡ to }
     ensures few { result < 2 ^ 32 }
@@ -199,7 +199,7 @@ fn sweep_scalar<R: PointRule>(
 }
 
 /// Where the window of a point of a region is taken.
-fn window_point(shape: &Shape, region: Region, p: Point) -> Point
+pub(crate) fn window_point(shape: &Shape, region: Region, p: Point) -> Point
     requires { IsShape shape.now }
     ensures { result ≡ window_point shape.now region p }
 {

@@ -1,0 +1,115 @@
+use Rattle.std.proofs.Common.{◌≡◌, ◌<◌, ◌^◌, arith, ap, sym, ◌∙◌}
+use Rattle.std.proofs.lemmas.Result.{err_from_is_err_and}
+use Rattle.cx_grid.specs.Boxes.{point_count, point_in, points_in}
+use Rattle.cx_plan.specs.Regions.{region_of}
+use Rattle.cx_rule.specs.Swept.{swept_zone, IsStaged}
+use Rattle.cx_rule.specs.Zones.{in_zone}
+use Rattle.cx_rule.specs.declared.zone.Zone.{Zone}
+use Rattle.cx_rule.proofs.RowSteps.{shape_same, here_run, can_stage_row, run_fits, run_more, run_fails}
+use Rattle.cx_rule.proofs.SkipLaws.{its_small, box_of, passes_from, passes_all}
+use Rattle.cx_rule.proofs.SweptLaws.{staged_none, staged_skip}
+use Rattle.cx_rule.proofs.rows.stage_runs.Goals as goal
+
+pub count_of-count-requires : goal.count_of-count-requires
+count_of-count-requires g c = its_small c.args.zone.now c.args.patch.now c.args.item.now c.requires.patch c.requires.rows.kind c.requires.zone
+
+pub runs-init : goal.runs-init
+runs-init g c = staged_none _ c.args.item.now c.args.patch.now c.requires.can c.requires.patch c.requires.rows.kind _ c.args.iteration c.args.meter.now
+
+pub point_at-low-requires-clause-small : goal.point_at-low-requires-clause-small
+point_at-low-requires-clause-small g c = its_small c.args.zone.now c.args.patch.now c.args.item.now c.requires.patch c.requires.rows.kind c.requires.zone
+
+pub point_at-low-requires-clause-ordered : goal.point_at-low-requires-clause-ordered
+point_at-low-requires-clause-ordered g c =
+    let l : c.runs.at < point_count c.args.zone.now.all = omega (arith, c.runs-test.true, c.count_of-count.ensures) in
+    box_of c.args.zone.now.all c.runs.at l
+
+pub overflow_add-at : goal.overflow_add-at
+overflow_add-at g c =
+    let few : point_count c.args.zone.now.all < 2 ^ 32 =
+    its_small c.args.zone.now c.args.patch.now c.args.item.now c.requires.patch c.requires.rows.kind c.requires.zone
+    in
+    omega (arith, c.runs-test.true, c.count_of-count.ensures, few, c.hole_from-skipped.ensures.few)
+
+pub runs-preserved-then-skipped-gt0 : goal.runs-preserved-then-skipped-gt0
+runs-preserved-then-skipped-gt0 g c =
+    let old = c.args.patch.now in
+    let x = c.args.item.now in
+    let l : c.runs.at < point_count c.args.zone.now.all = omega (arith, c.runs-test.true, c.count_of-count.ensures) in
+    let all : points_in (swept_zone old x).all ≡ points_in c.args.zone.now.all = ap (λ (z : Zone). points_in z.all) (sym c.requires.zone) in
+    rw all
+    (passes_from (λ points. IsStaged old g.R.PointRule.law x c.args.iteration points c.runs.patch c.args.meter.now c.runs.meter)
+    c.args.zone.now c.point_at-low.result c.runs.at c.hole_from-skipped.result l c.point_at-low.ensures.value
+    (λ points y out f.
+    staged_skip _ x old c.requires.can c.requires.patch c.requires.rows.kind _ c.args.iteration points c.runs.patch c.args.meter.now c.runs.meter f y
+    (ap (λ (z : Zone). in_zone z y) (sym c.requires.zone) ∙ out))
+    c.point_at-low.ensures.inside c.hole_from-skipped.ensures.outside (rw all at c.runs.invariant))
+
+pub stage_rule_row-requires : goal.stage_rule_row-requires
+stage_rule_row-requires g c =
+    let old = c.args.patch.now in
+    let x = c.args.item.now in
+    let is =
+    here_run c.shape.result.now old.shape c.region_of.result (region_of x.writes) c.args.zone.now (swept_zone old x) c.run_from-run.result
+    (c.shape.ensures.value ∙ shape_same c.runs.patch old c.runs.invariant.same) c.region_of.ensures c.requires.zone c.run_from-run.ensures.run
+    in
+    can_stage_row _ x old c.requires.can c.requires.patch c.requires.rows c.run_from-run.result is c.runs.patch c.runs.invariant.same
+
+pub overflow_add-at-in-runs : goal.overflow_add-at-in-runs
+overflow_add-at-in-runs g c =
+    let old = c.args.patch.now in
+    let x = c.args.item.now in
+    let is =
+    here_run c.shape.result.now old.shape c.region_of.result (region_of x.writes) c.args.zone.now (swept_zone old x) c.run_from-run.result
+    (c.shape.ensures.value ∙ shape_same c.runs.patch old c.runs.invariant.same) c.region_of.ensures c.requires.zone c.run_from-run.ensures.run
+    in
+    let all : point_count c.args.zone.now.all ≡ point_count (swept_zone old x).all = ap (λ (z : Zone). point_count z.all) c.requires.zone in
+    let below : c.runs.at < point_count (swept_zone old x).all = omega (arith, c.runs-test.true, c.count_of-count.ensures, all) in
+    let place : c.run_from-run.result.low ≡ point_in (swept_zone old x).all c.runs.at =
+    c.run_from-run.ensures.low ∙ c.point_at-low.ensures.value ∙ ap (λ (z : Zone). point_in z.all c.runs.at) c.requires.zone
+    in
+    let room = run_fits _ x old c.requires.can c.requires.patch c.requires.rows c.run_from-run.result is c.runs.at below place in
+    let few : point_count c.args.zone.now.all < 2 ^ 32 = its_small c.args.zone.now old x c.requires.patch c.requires.rows.kind c.requires.zone in
+    omega (arith, room, few, all)
+
+pub runs-preserved : goal.runs-preserved
+runs-preserved g c =
+    let old = c.args.patch.now in
+    let x = c.args.item.now in
+    let is =
+    here_run c.shape.result.now old.shape c.region_of.result (region_of x.writes) c.args.zone.now (swept_zone old x) c.run_from-run.result
+    (c.shape.ensures.value ∙ shape_same c.runs.patch old c.runs.invariant.same) c.region_of.ensures c.requires.zone c.run_from-run.ensures.run
+    in
+    let all : point_count c.args.zone.now.all ≡ point_count (swept_zone old x).all = ap (λ (z : Zone). point_count z.all) c.requires.zone in
+    let below : c.runs.at < point_count (swept_zone old x).all = omega (arith, c.runs-test.true, c.count_of-count.ensures, all) in
+    let place : c.run_from-run.result.low ≡ point_in (swept_zone old x).all c.runs.at =
+    c.run_from-run.ensures.low ∙ c.point_at-low.ensures.value ∙ ap (λ (z : Zone). point_in z.all c.runs.at) c.requires.zone
+    in
+    run_more _ x old c.requires.can c.requires.patch c.requires.rows c.run_from-run.result is c.runs.at below place _ c.args.iteration c.runs.patch c.args.meter.now c.runs.meter
+    c.runs.invariant c.shape.ensures.patch c.stage_rule_row.new.self c.add.new.self c.in_ok-stage_rule_row.field-0 c.in_ok-stage_rule_row.ensures.staged c.add.ensures
+
+pub returns-in_err-stage_rule_row : goal.returns-in_err-stage_rule_row
+returns-in_err-stage_rule_row g c =
+    let old = c.args.patch.now in
+    let x = c.args.item.now in
+    let is =
+    here_run c.shape.result.now old.shape c.region_of.result (region_of x.writes) c.args.zone.now (swept_zone old x) c.run_from-run.result
+    (c.shape.ensures.value ∙ shape_same c.runs.patch old c.runs.invariant.same) c.region_of.ensures c.requires.zone c.run_from-run.ensures.run
+    in
+    let all : point_count c.args.zone.now.all ≡ point_count (swept_zone old x).all = ap (λ (z : Zone). point_count z.all) c.requires.zone in
+    let below : c.runs.at < point_count (swept_zone old x).all = omega (arith, c.runs-test.true, c.count_of-count.ensures, all) in
+    let place : c.run_from-run.result.low ≡ point_in (swept_zone old x).all c.runs.at =
+    c.run_from-run.ensures.low ∙ c.point_at-low.ensures.value ∙ ap (λ (z : Zone). point_in z.all c.runs.at) c.requires.zone
+    in
+    let e = err_from_is_err_and c.from_residual.result c.from_residual.ensures.1 in
+    rw e.1
+    (run_fails _ x old c.requires.can c.requires.patch c.requires.rows c.run_from-run.result is c.runs.at below place _ c.args.iteration c.runs.patch c.args.meter.now c.runs.meter
+    c.runs.invariant c.shape.ensures.patch c.stage_rule_row.new.self e.0 c.in_err-stage_rule_row.ensures.staged)
+
+pub returns : goal.returns
+returns g c =
+    let old = c.args.patch.now in
+    let x = c.args.item.now in
+    let all : point_count c.args.zone.now.all ≡ point_count (swept_zone old x).all = ap (λ (z : Zone). point_count z.all) c.requires.zone in
+    let end : c.runs.at < point_count (swept_zone old x).all → ⊥ = λ l. absurd (omega (arith, l, c.runs-test.false, c.count_of-count.ensures, all)) in
+    rw (passes_all (swept_zone old x).all c.runs.at end) at c.runs.invariant
