@@ -1,8 +1,10 @@
 -- Numbers that count up to a place.
 use Rattle.std.proofs.Common.{◌≡◌, ℕ, zero, suc, max, ◌+◌, ◌<◌, ◌≤◌, arith, refl, sym, ap, ◌∙◌, ℤ, pos, List, [], ◌∷◌, ◌++◌, length, take, drop, replicate}
 use Rattle.std.specs.Prelude.{slice_index_or, slice_set}
+use Rattle.std.proofs.lemmas.List.{length-drop, length-take-le}
 use Rattle.cx_rule.specs.Staging.{no_numbers, put_from}
 use Rattle.cx_rule.specs.Buffers.{counted}
+use Rattle.cx_rule.specs.Rows.{IsOpened}
 
 pub zeros_length : (ns : List ℤ) → length (no_numbers ns) ≡ length ns
 zeros_length [] = refl
@@ -98,3 +100,41 @@ counted_put at n m ns values l b c = put_behind at n m (at + length values) ns v
 -- where all count, they are what was seen
 pub all_counted : (n m : ℕ) (old new : List ℤ) → m ≡ length old → length new ≡ length old → counted (max n m) new ≡ counted n old → new ≡ counted n old
 all_counted n m old new a b e = sym (counted_all (max n m) new (omega (arith, a, b))) ∙ e
+
+-- ---- numbers that are left as they stand
+
+own_front : (count : ℕ) (ns : List ℤ) → take count ns ++ drop (length (take count ns)) ns ≡ ns
+own_front zero [] = refl
+own_front zero (m ∷ ns) = refl
+own_front (suc count) [] = refl
+own_front (suc count) (m ∷ ns) = ap (λ ms. m ∷ ms) (own_front count ns)
+
+own_behind : (at count e : ℕ) (ns : List ℤ) → e ≡ at + length (take count (drop at ns)) → at + count ≤ length ns
+    → take at ns ++ (take count (drop at ns) ++ drop e ns) ≡ ns
+own_behind zero count e ns a l =
+    let same : e ≡ length (take count ns) = omega (arith, a) in
+    ap (λ k. take count ns ++ drop k ns) same ∙ own_front count ns
+own_behind (suc at) count e [] a l = absurd (omega (arith, l))
+own_behind (suc at) count zero (m ∷ ns) a l = absurd (omega (arith, a))
+own_behind (suc at) count (suc e) (m ∷ ns) a l = ap (λ ms. m ∷ ms) (own_behind at count e ns (omega (arith, a)) (omega (arith, l)))
+
+-- putting what stands there changes nothing
+own_put : (at count : ℕ) (ns : List ℤ) → at + count ≤ length ns → put_from at ns (take count (drop at ns)) ≡ ns
+own_put at count ns l = own_behind at count (at + length (take count (drop at ns))) ns refl l
+
+own_count : (at count : ℕ) (ns : List ℤ) → at + count ≤ length ns → length (take count (drop at ns)) ≡ count
+own_count at count ns l =
+    let d = length-drop at ns in
+    length-take-le count (drop at ns) (omega (arith, d, l))
+
+pub opened_same : (at count : ℕ) (ns : List ℤ) → at + count ≤ length ns → IsOpened at count ns ns
+opened_same at count ns l = (take count (drop at ns), own_count at count ns l, sym (own_put at count ns l))
+
+-- and so they count where those before them do
+pub opened_more : (at count end : ℕ) (ns : List ℤ) → end ≡ at + count → at + count ≤ length ns → IsOpened at count (counted at ns) (counted end ns)
+opened_more at count end ns e l =
+    let m = own_count at count ns l in (
+      take count (drop at ns),
+      m,
+      ap (counted end) (sym (own_put at count ns l)) ∙ counted_put at at end ns (take count (drop at ns)) (omega arith) (omega (arith, e, m)) (omega (arith, m, l)),
+    )

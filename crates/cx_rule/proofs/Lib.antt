@@ -25,6 +25,7 @@ pub mod AlongLaws
 pub mod RowSweeps
 pub mod RowSteps
 pub mod RunEnds
+pub mod OpenLaws
 pub mod CountedLaws
 mod ByteLaws
 pub mod CutParts

@@ -30,7 +30,7 @@ use Rattle.cx_rule.specs.Staging.{put_from, with_row_staged, staged_numbers}
 use Rattle.cx_rule.specs.Zones.{in_zone}
 use Rattle.cx_rule.specs.Buffers.{counted}
 use Rattle.cx_rule.specs.Swept.{swept_zone, rule_numbers, IsSamePatch, CanSweep, IsStaged, StagesZone}
-use Rattle.cx_rule.specs.Rows.{RowValue, CanSeeRow, FitsRow, IsRowPut, LacksOne, seen_row, run_row, CanStageRow, StagesRow, IsRowItem, IsRun}
+use Rattle.cx_rule.specs.Rows.{IsOpened, LeavesOpen, RowValue, CanSeeRow, FitsRow, IsRowPut, LacksOne, seen_row, run_row, CanStageRow, StagesRow, IsRowItem, IsRun}
 use Rattle.cx_rule.specs.declared.zone.Zone.{Zone}
 use Rattle.cx_rule.proofs.BufferLaws.{buffer_length}
 use Rattle.cx_rule.proofs.CountedLaws.{counted_put}
@@ -85,6 +85,45 @@ stages_row p staged new room rule x iteration run at (Ok u) place put lacks leve
 )
 stages_row p staged new room rule x iteration run at (Err e) place put lacks level sizes =
     (lacks, record { numbers = refl; buffers = count_kept new staged sizes })
+
+pub leaves_open : (p : PatchValue) (staged new : List (List ℤ)) (room : ℕ) (low : Point) (count at : ℕ) → at ≡ index_in p.local low
+    → IsOpened at count (slice_index_or staged 0 []) (slice_index_or new 0 []) → new ≡ slice_set staged 0 (slice_index_or new 0 [])
+    → LeavesOpen (with_buffers p staged room) low count (with_buffers p new room)
+leaves_open p staged new room low count at place left level = (
+  left.0,
+  left.1,
+  ap (λ (bs : List (List ℤ)). with_buffers p bs room)
+      (level ∙ ap (slice_set staged 0) (left.2 ∙ ap (λ a. put_from a (slice_index_or staged 0 []) left.0) place)),
+)
+
+-- ---- what is staged of one write, once a row is put
+
+module _ (x : Item) (one : length x.writes ≡ 1) (p : PatchValue) (patch : IsPatch p) (some : 0 < length p.staged) (low : Point) (ns : List ℤ)
+    (inside : IsIn p.local low) (high : (low.x +ℤ pos (length ns)) ≤ℤ p.local.high.x) where
+  abbrev buffer : List ℤ
+  buffer = slice_index_or p.staged 0 []
+
+  buffer_count : length buffer ≡ point_count p.local
+  buffer_count = buffer_length p.local p.staged patch.buffers 0 some
+
+  abbrev stand : Point → ℕ
+  stand y = index_in p.local y
+
+  abbrev put : PatchValue
+  put = with_row_staged p 0 low ns
+
+  staged_set : (y : Point) → staged_numbers put (length x.writes) y ≡ slice_index_or (put_from (stand low) buffer ns) (stand y) (pos 0) ∷ []
+  staged_set y = ap (λ m. staged_numbers put m y) one ∙ first_set p.staged (put_from (stand low) buffer ns) (stand y) some
+
+  -- on the row
+  pub staged_on : (y : Point) → OnRow low (length ns) y → staged_numbers put (length x.writes) y ≡ slice_index_or ns (int_gap low.x y.x) (pos 0) ∷ []
+  staged_on y r = staged_set y ∙ ap (λ (m : ℤ). m ∷ []) (put_on p.local low ns buffer inside high buffer_count y r)
+
+  -- and off it
+  pub staged_off : (y : Point) → IsIn p.local y → (OnRow low (length ns) y → ⊥) → staged_numbers put (length x.writes) y ≡ staged_numbers p (length x.writes) y
+  staged_off y here off =
+      staged_set y ∙ ap (λ (m : ℤ). m ∷ []) (put_off p.local low ns buffer inside high buffer_count y here off)
+      ∙ sym (ap (λ m. staged_numbers p m y) one ∙ first_was p.staged (stand y) some)
 
 -- ---- a run of an item's zone
 
@@ -202,22 +241,6 @@ module _ (s : Spec) (x : Item) (old : PatchValue) (can : CanSweep s x old) (its 
       staged_some : 0 < length p.staged
       staged_some = let few = can.buffers in let count = f.same.buffers in let one = item.writes in omega (arith, few, count, one)
 
-      abbrev buffer : List ℤ
-      buffer = slice_index_or p.staged 0 []
-
-      buffer_count : length buffer ≡ point_count p.local
-      buffer_count = buffer_length p.local p.staged patch.buffers 0 staged_some
-
-      abbrev stand : Point → ℕ
-      stand y = index_in p.local y
-
-      staged_set : (ns : List ℤ) (y : Point) → staged_numbers (with_row_staged p 0 low ns) (length x.writes) y ≡ slice_index_or (put_from (stand low) buffer ns) (stand y) (pos 0) ∷ []
-      staged_set ns y =
-          ap (λ m. staged_numbers (with_row_staged p 0 low ns) m y) item.writes ∙ first_set p.staged (put_from (stand low) buffer ns) (stand y) staged_some
-
-      staged_was : (y : Point) → staged_numbers p (length x.writes) y ≡ slice_index_or buffer (stand y) (pos 0) ∷ []
-      staged_was y = ap (λ m. staged_numbers p m y) item.writes ∙ first_was p.staged (stand y) staged_some
-
       -- the numbers of the run are staged
       module _ (ns : List ℤ) (count : length ns ≡ n)
           (gives : (i : ℕ) → i < n → rule (seen_at (setup_in p) x (values_in p) (beside run.from i)) (place_at (setup_in p) x iteration (beside low i)) ≡ Some (slice_index_or ns i (pos 0) ∷ [])) where
@@ -232,17 +255,14 @@ module _ (s : Spec) (x : Item) (old : PatchValue) (can : CanSweep s x old) (its 
 
         numbers_on : (y : Point) → OnRow low n y → rule_numbers old rule x iteration y ≡ Some (staged_numbers (with_row_staged p 0 low ns) (length x.writes) y)
         numbers_on y r =
-            number y r
-            ∙ ap (λ (m : ℤ). Some (m ∷ [])) (sym (put_on p.local low ns buffer (near p low f.same low_zone) high buffer_count y (subst (λ m. OnRow low m y) (sym count) r)))
-            ∙ ap Some (sym (staged_set ns y))
+            number y r ∙ ap Some (sym (staged_on x item.writes p patch staged_some low ns (near p low f.same low_zone) high y (subst (λ m. OnRow low m y) (sym count) r)))
 
         numbers_off : (y : Point) → zone y ≡ true → (OnRow low n y → ⊥) → rule_numbers old rule x iteration y ≡ Some (staged_numbers p (length x.writes) y)
             → rule_numbers old rule x iteration y ≡ Some (staged_numbers (with_row_staged p 0 low ns) (length x.writes) y)
         numbers_off y zy off was =
             was
-            ∙ ap Some (staged_was y)
-            ∙ ap (λ (m : ℤ). Some (m ∷ [])) (sym (put_off p.local low ns buffer (near p low f.same low_zone) high buffer_count y (near p y f.same zy) (λ r. off (subst (λ m. OnRow low m y) count r))))
-            ∙ ap Some (sym (staged_set ns y))
+            ∙ ap Some
+            (sym (staged_off x item.writes p patch staged_some low ns (near p low f.same low_zone) high y (near p y f.same zy) (λ r. off (subst (λ m. OnRow low m y) count r))))
 
         -- at each place before the run's end
         numbers_at : (i : ℕ) (y : Point) → i < at + n → y ≡ get_or pts i y → zone y ≡ true
@@ -276,7 +296,7 @@ module _ (s : Spec) (x : Item) (old : PatchValue) (can : CanSweep s x old) (its 
             (numbers_at i (get_or pts i d) k again (ap zone (sym e) ∙ zy))
 
         row_same : IsSamePatch (with_row_staged p 0 low ns) old
-        row_same = record { numbers = f.same.numbers; buffers = length-set p.staged 0 (put_from (stand low) buffer ns) ∙ f.same.buffers }
+        row_same = record { numbers = f.same.numbers; buffers = length-set p.staged 0 _ ∙ f.same.buffers }
 
       pub run_more : (new : PatchValue) (after : ℕ) (done : Unit {0}) → StagesRow p rule x iteration run new (Ok done) → after ≡ raised between n
           → IsStaged old rule x iteration (take (at + n) pts) new before after

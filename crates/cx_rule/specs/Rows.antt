@@ -130,6 +130,22 @@ StagesRow old rule x iteration run new (Ok _) =
     × (new ≡ with_row_staged old 0 run.low ns)
 StagesRow old rule x iteration run new (Err _) = LacksOne rule (run_row old x iteration run) × IsSamePatch new old
 
+-- ---- numbers left open
+
+-- so many numbers of a buffer, from a place on, are any ones
+abbrev pub IsOpened : ℕ → ℕ → List ℤ → List ℤ → Type 0
+IsOpened at count old new = (ns : List ℤ) × (length ns ≡ count) × (new ≡ put_from at old ns)
+
+-- so many local points along x, where there are buffers
+pub record CanLeaveOpen (p : PatchValue) (low : Point) (count : ℕ) : Type 0 where
+  pub buffers : 0 < length p.staged
+  pub low_in : IsIn p.local low
+  pub high_in : (low.x +ℤ pos count) ≤ℤ p.local.high.x
+
+-- what is staged there, in the first buffer, are any numbers
+abbrev pub LeavesOpen : PatchValue → Point → ℕ → PatchValue → Type 0
+LeavesOpen old low count new = (ns : List ℤ) × (length ns ≡ count) × (new ≡ with_row_staged old 0 low ns)
+
 -- ---- sweeps by rows
 
 -- a Cell item of one write, which reads grid variables alone

@@ -4,7 +4,7 @@ ghost use Rattle.std.specs.List.{list_all};
 ghost use Rattle.cx_plan.specs.Lookups.{is_scalar};
 ghost use Rattle.cx_plan.specs.declared.item.Touch.{Touch};
 ghost use Rattle.cx_rule.specs.Patches.{IsPatch, IsStored, setup_in};
-ghost use Rattle.cx_rule.specs.Rows.{seen_row, FitsRow, LacksOne, IsRowPut, CanStageRow, StagesRow, IsRowItem};
+ghost use Rattle.cx_rule.specs.Rows.{seen_row, FitsRow, LacksOne, IsRowPut, CanStageRow, StagesRow, CanLeaveOpen, LeavesOpen, IsOpened, IsRowItem};
 ghost use Rattle.cx_rule.specs.Swept.{swept_zone, CanSweep, Sweeps, StagesZone};
 
 use crate::buffers::{Buffer, Buffers};
@@ -15,7 +15,7 @@ use crate::run::{Run, run_from};
 use crate::sweep::{count_of, hole_from, region_of, sweep_rule};
 use crate::zone::Zone;
 use crate::{Meter, Overflow, Row, RowRule};
-use cx_grid::{index_of, point_at};
+use cx_grid::{Point, index_of, point_at};
 use cx_plan::{Item, ItemKind, Touch};
 
 /// Computes an item of a rule at each point of its zone, as `sweep_rule` does, by rows where it can.
@@ -111,6 +111,7 @@ fn stage_runs<R: RowRule>(
         let low = point_at(&zone.all, at);
         let skipped = hole_from(zone, low);
         if skipped > 0 {
+            patch.leave_open(low, skipped);
             at += skipped;
             continue;
         }
@@ -139,6 +140,16 @@ impl Patch {
         let row = Row::new(&self.part, item, run, iteration);
         self.staged.put_rule_row(rule, &row, at)
     }
+
+    /// Leaves open which numbers are staged at so many local points along x. No number of the part changes.
+    fn leave_open(&mut self, low: Point, count: usize)
+        requires { CanLeaveOpen self.old low count }
+        ensures left { LeavesOpen self.old low count self.new }
+        ensures patch { IsPatch self.old }
+    {
+        let at = index_of(self.part.local(), low);
+        self.staged.leave_open(at, count);
+    }
 }
 
 impl Buffers {
@@ -156,6 +167,19 @@ impl Buffers {
         let buffer = &mut self.buffers[0];
         buffer.put_rule_row(rule, row, at)
     }
+
+    /// Leaves open which numbers the first buffer has from a place on, so many.
+    fn leave_open(&mut self, at: usize, count: usize)
+        requires some { 0 < length self.old }
+        requires room { at + count ≤ length (slice_index_or self.old 0 []) }
+        ensures left { IsOpened at count (slice_index_or self.old 0 [])
+            (slice_index_or self.new 0 []) }
+        ensures level { self.new ≡ slice_set self.old 0 (slice_index_or self.new 0 []) }
+        ensures room { map length self.new ≡ map length self.old }
+    {
+        let buffer = &mut self.buffers[0];
+        buffer.leave_open(at, count);
+    }
 }
 
 impl Buffer {
@@ -172,6 +196,17 @@ impl Buffer {
         self.numbers.put_rule_row(rule, row, at)?;
         self.end = self.end.max(end);
         Ok(())
+    }
+
+    /// Leaves open which numbers stand from a place on, so many: where those before them count, whatever stands there counts too.
+    fn leave_open(&mut self, at: usize, count: usize)
+        requires { at + count ≤ length self.old }
+        ensures left { IsOpened at count self.old self.new }
+        ensures room { length self.new ≡ length self.old }
+    {
+        if at == self.end {
+            self.end = self.numbers.end_of(at, count);
+        }
     }
 }
 

@@ -1,10 +1,12 @@
-use Rattle.std.proofs.Common.{◌≡◌, ◌<◌, ◌^◌, arith, ap, sym, ◌∙◌}
+use Rattle.std.proofs.Common.{ℕ, subst, ◌≡◌, ◌<◌, ◌^◌, arith, ap, sym, ◌∙◌}
 use Rattle.std.proofs.lemmas.Result.{err_from_is_err_and}
 use Rattle.cx_grid.specs.Boxes.{point_count, point_in, points_in}
 use Rattle.cx_plan.specs.Regions.{region_of}
 use Rattle.cx_rule.specs.Swept.{swept_zone, IsStaged}
-use Rattle.cx_rule.specs.Zones.{in_zone}
+use Rattle.cx_rule.specs.Zones.{in_zone, IsOutside}
 use Rattle.cx_rule.specs.declared.zone.Zone.{Zone}
+use Rattle.cx_rule.specs.Patches.{beside}
+use Rattle.cx_rule.proofs.OpenLaws.{can_leave_open, opened}
 use Rattle.cx_rule.proofs.RowSteps.{shape_same, here_run, can_stage_row, run_fits, run_more, run_fails}
 use Rattle.cx_rule.proofs.SkipLaws.{its_small, box_of, passes_from, passes_all}
 use Rattle.cx_rule.proofs.SweptLaws.{staged_none, staged_skip}
@@ -31,19 +33,34 @@ overflow_add-at g c =
     in
     omega (arith, c.runs-test.true, c.count_of-count.ensures, few, c.hole_from-skipped.ensures.few)
 
+pub leave_open-requires : goal.leave_open-requires
+leave_open-requires g c =
+    let old = c.args.patch.now in
+    let x = c.args.item.now in
+    let some : 0 < c.hole_from-skipped.result = omega (arith, c.if-skipped-gt0.true) in
+    can_leave_open _ x old c.requires.can c.requires.patch c.requires.rows c.point_at-low.result c.hole_from-skipped.result some
+    (subst (λ z. (k : ℕ) → k < c.hole_from-skipped.result → IsOutside z (beside c.point_at-low.result k)) c.requires.zone c.hole_from-skipped.ensures.outside)
+    c.runs.patch c.runs.invariant.same
+
 pub runs-preserved-then-skipped-gt0 : goal.runs-preserved-then-skipped-gt0
 runs-preserved-then-skipped-gt0 g c =
     let old = c.args.patch.now in
     let x = c.args.item.now in
+    let some : 0 < c.hole_from-skipped.result = omega (arith, c.if-skipped-gt0.true) in
     let l : c.runs.at < point_count c.args.zone.now.all = omega (arith, c.runs-test.true, c.count_of-count.ensures) in
     let all : points_in (swept_zone old x).all ≡ points_in c.args.zone.now.all = ap (λ (z : Zone). points_in z.all) (sym c.requires.zone) in
+    let left =
+    opened _ x old c.requires.can c.requires.patch c.requires.rows c.point_at-low.result c.hole_from-skipped.result some
+    (subst (λ z. (k : ℕ) → k < c.hole_from-skipped.result → IsOutside z (beside c.point_at-low.result k)) c.requires.zone c.hole_from-skipped.ensures.outside)
+    _ c.args.iteration _ c.runs.patch c.args.meter.now c.runs.meter c.runs.invariant c.leave_open.ensures.patch c.leave_open.new.self c.leave_open.ensures.left
+    in
     rw all
-    (passes_from (λ points. IsStaged old g.R.PointRule.law x c.args.iteration points c.runs.patch c.args.meter.now c.runs.meter)
+    (passes_from (λ points. IsStaged old g.R.PointRule.law x c.args.iteration points c.leave_open.new.self c.args.meter.now c.runs.meter)
     c.args.zone.now c.point_at-low.result c.runs.at c.hole_from-skipped.result l c.point_at-low.ensures.value
     (λ points y out f.
-    staged_skip _ x old c.requires.can c.requires.patch c.requires.rows.kind _ c.args.iteration points c.runs.patch c.args.meter.now c.runs.meter f y
+    staged_skip _ x old c.requires.can c.requires.patch c.requires.rows.kind _ c.args.iteration points c.leave_open.new.self c.args.meter.now c.runs.meter f y
     (ap (λ (z : Zone). in_zone z y) (sym c.requires.zone) ∙ out))
-    c.point_at-low.ensures.inside c.hole_from-skipped.ensures.outside (rw all at c.runs.invariant))
+    c.point_at-low.ensures.inside c.hole_from-skipped.ensures.outside (rw all at left))
 
 pub stage_rule_row-requires : goal.stage_rule_row-requires
 stage_rule_row-requires g c =
