@@ -26,6 +26,7 @@ pub mod RowSweeps
 pub mod RowSteps
 pub mod RunEnds
 pub mod OpenLaws
+pub mod AfterLaws
 pub mod CountedLaws
 mod ByteLaws
 pub mod CutParts

@@ -167,7 +167,7 @@ module _ (s : Spec) (x : Item) (old : PatchValue) (can : CanSweep s x old) (its 
   low_zone = ap zone (sym first) ∙ is.zone 0 is.some
 
   -- its points stand one behind another in the zone's box
-  end_in : (low.x +ℤ pos n) ≤ℤ b.high.x
+  pub end_in : (low.x +ℤ pos n) ≤ℤ b.high.x
   end_in =
       let l = is.some in
       let q = all_in (beside low (n - 1)) (is.zone (n - 1) (omega (arith, l))) in

@@ -1,8 +1,9 @@
 -- Rows of points along x: what a rule sees at each of their points.
 use Rattle.std.specs.Prelude.{ℕ, ◌+◌, ◌*◌, ◌<◌, ◌≤◌, ◌≡◌, ◌-ℤ◌, ◌+ℤ◌, ◌≤ℤ◌, ◌<ℤ◌, int_lt, Bool, ◌&&◌, true, false, ℤ, pos, List, ◌∷◌, [], map, length, slice_index_or, Some, None, Result, Ok, Err, All}
 use Rattle.cx_grid.specs.declared.boxes.Point.{Point}
+use Rattle.cx_grid.specs.declared.boxes.Box3.{Box3}
 use Rattle.cx_grid.specs.declared.shapes.Shape.{Shape}
-use Rattle.cx_grid.specs.Boxes.{IsIn, has_point}
+use Rattle.cx_grid.specs.Boxes.{IsIn, has_point, point_count, index_in}
 use Rattle.cx_plan.specs.declared.item.Touch.{Touch}
 use Rattle.cx_plan.specs.declared.item.Item.{Item}
 use Rattle.cx_plan.specs.declared.item.ItemKind.TheVariants.{Cell}
@@ -170,3 +171,7 @@ pub record IsRun (s : Shape) (region : Region) (z : Zone) (run : Run) : Type 0 w
   pub some : 0 < run.count
   pub zone : (i : ℕ) → i < run.count → in_zone z (beside run.low i) ≡ true
   pub from : (i : ℕ) → i < run.count → window_point s region (beside run.low i) ≡ beside run.from i
+
+-- a point of a box stands so many places behind another one, if the box has so many points behind that
+abbrev pub Follows : Box3 → Point → ℕ → Point → Type 0
+Follows b p count next = index_in b p + count < point_count b → IsIn b next × (index_in b next ≡ index_in b p + count)

@@ -11,11 +11,11 @@ use crate::buffers::{Buffer, Buffers};
 use crate::levels::Level;
 use crate::part::Part;
 use crate::patch::Patch;
-use crate::run::{Run, run_from};
+use crate::run::{Run, after, run_from};
 use crate::sweep::{count_of, hole_from, region_of, sweep_rule};
 use crate::zone::Zone;
 use crate::{Meter, Overflow, Row, RowRule};
-use cx_grid::{Point, index_of, point_at};
+use cx_grid::{Point, index_of};
 use cx_plan::{Item, ItemKind, Touch};
 
 /// Computes an item of a rule at each point of its zone, as `sweep_rule` does, by rows where it can.
@@ -107,17 +107,19 @@ fn stage_runs<R: RowRule>(
 {
     let count = count_of(&zone.all);
     let mut at = 0;
+    let mut low = zone.all.low;
     'runs: while at < count {
-        let low = point_at(&zone.all, at);
         let skipped = hole_from(zone, low);
         if skipped > 0 {
             patch.leave_open(low, skipped);
+            low = after(&zone.all, low, skipped);
             at += skipped;
             continue;
         }
         let run = run_from(patch.shape(), region_of(item), zone, low);
         patch.stage_rule_row(rule, item, &run, iteration)?;
         meter.add(run.count as u64);
+        low = after(&zone.all, low, run.count as usize);
         at += run.count as usize;
     }
     Ok(())

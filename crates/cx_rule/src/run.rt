@@ -1,15 +1,15 @@
 //! Runs of a zone's points along x, whose windows are taken one beside another too.
-ghost use Rattle.std.specs.Prelude.{◌≡◌, ◌<ℤ◌, ◌≤ℤ◌, ◌+ℤ◌, ◌-ℤ◌, ℕ, pos, true};
+ghost use Rattle.std.specs.Prelude.{◌≡◌, ◌<◌, ◌<ℤ◌, ◌≤ℤ◌, ◌+ℤ◌, ◌-ℤ◌, ℕ, pos, true};
 ghost use Rattle.std.specs.Int.{int_min, int_max};
 ghost use Rattle.cx_grid.specs.Boxes.{IsIn};
 ghost use Rattle.cx_grid.specs.Grid.{IsShape, source_along};
 ghost use Rattle.cx_rule.specs.Patches.{beside};
-ghost use Rattle.cx_rule.specs.Rows.{IsRun, IsRunEnd, hole_follows};
+ghost use Rattle.cx_rule.specs.Rows.{IsRun, IsRunEnd, hole_follows, Follows};
 ghost use Rattle.cx_rule.specs.Zones.{in_zone};
 
 use crate::sweep::{lesser, steps_to, window_point};
 use crate::zone::Zone;
-use cx_grid::{Point, Shape, contains};
+use cx_grid::{Box3, Point, Shape, contains};
 use cx_plan::Region;
 
 /// So many points along x from `low` on. The windows of their reads are taken at as many points from `from` on.
@@ -114,4 +114,47 @@ fn inner_end(n: i32, ghosts: i32, c: i32, end: i32) -> i32
         return c + 1;
     }
     lesser(behind, end)
+}
+
+/// The point of a box that follows so many ones, from one on, which lie in one row; x is fastest.
+pub(crate) fn after(b: &Box3, p: Point, count: usize) -> Point
+    requires inside { IsIn b.now p }
+    requires some { 0 < count }
+    requires row { (p.x +ℤ pos count) ≤ℤ b.now.high.x }
+    ensures { Follows b.now p count result }
+{
+    let x = moved(p.x, count, b.high.x);
+    if x < b.high.x {
+        return Point { x, y: p.y, z: p.z };
+    }
+    let y = next_up(p.y, b.high.y);
+    if y < b.high.y {
+        return Point {
+            x: b.low.x,
+            y,
+            z: p.z,
+        };
+    }
+    Point {
+        x: b.low.x,
+        y: b.low.y,
+        z: next_up(p.z, b.high.z),
+    }
+}
+
+/// A coordinate so many places on, up to an end.
+fn moved(c: i32, by: usize, end: i32) -> i32
+    requires { (c +ℤ pos by) ≤ℤ end }
+    ensures { result ≡ c +ℤ pos by }
+{
+    (c as i64 + by as i64) as i32
+}
+
+/// The coordinate after one that is below an end.
+fn next_up(c: i32, end: i32) -> i32
+    requires { c <ℤ end }
+    ensures { result ≡ c +ℤ pos 1 }
+{
+    let _ = end;
+    c + 1
 }
