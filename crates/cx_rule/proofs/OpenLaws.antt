@@ -1,5 +1,5 @@
 -- What is staged in a zone's hole is left open.
-use Rattle.std.proofs.Common.{◌≡◌, ℕ, ◌+◌, ◌-◌, ◌<◌, Bool, true, false, true≢false, not, sym, ap, ◌∙◌, subst, arith, ℤ, pos, ◌+ℤ◌, ◌≤ℤ◌, List, length, get_or, length-set, Some}
+use Rattle.std.proofs.Common.{◌≡◌, ℕ, ◌-◌, ◌<◌, true, false, true≢false, not, sym, ap, ◌∙◌, subst, arith, pos, ◌+ℤ◌, ◌≤ℤ◌, List, length, get_or, length-set, Some}
 use Rattle.std.specs.Int.{int_gap}
 use Rattle.std.proofs.lemmas.Int.{ints}
 use Rattle.std.proofs.lemmas.Bool.{and_from}
@@ -16,12 +16,12 @@ use Rattle.cx_rule.specs.Patches.{PatchValue, IsPart, IsPatch, beside}
 use Rattle.cx_rule.specs.Routine.{Rule}
 use Rattle.cx_rule.specs.Rows.{CanLeaveOpen, LeavesOpen, IsRowItem}
 use Rattle.cx_rule.specs.Staging.{with_row_staged, staged_numbers}
-use Rattle.cx_rule.specs.Swept.{swept_zone, rule_numbers, IsSamePatch, CanSweep, IsStaged}
+use Rattle.cx_rule.specs.Swept.{swept_zone, IsSamePatch, CanSweep, IsStaged}
 use Rattle.cx_rule.specs.Zones.{in_zone, inner, nothing, zone_of, IsOutside}
 use Rattle.cx_rule.specs.declared.spec.Spec.{Spec}
 use Rattle.cx_rule.specs.declared.zone.Zone.{Zone}
 use Rattle.cx_rule.proofs.RowSteps.{staged_off}
-use Rattle.cx_rule.proofs.RowSweeps.{OnRow, row_point, row_gap}
+use Rattle.cx_rule.proofs.RowSweeps.{row_point, row_gap}
 use Rattle.cx_rule.proofs.SweptLaws.{zone_is, local_point}
 use Rattle.cx_rule.proofs.ZoneLaws.{nothing_is, zone_local}
 

@@ -1,4 +1,4 @@
-use Rattle.std.proofs.Common.{refl, ◌≤ℤ◌, ◌+ℤ◌, pos, ℕ, subst, ◌≡◌, ◌<◌, ◌^◌, arith, ap, sym, ◌∙◌}
+use Rattle.std.proofs.Common.{refl, ℕ, subst, ◌≡◌, ◌<◌, ◌^◌, arith, ap, sym, ◌∙◌}
 use Rattle.std.proofs.lemmas.Int.{ints}
 use Rattle.std.proofs.lemmas.Result.{err_from_is_err_and}
 use Rattle.cx_grid.specs.Boxes.{point_count, point_in, points_in}

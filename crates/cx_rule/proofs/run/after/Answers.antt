@@ -1,4 +1,4 @@
-use Rattle.std.proofs.Common.{rules, arith, pos, ◌+ℤ◌, ◌≡◌, ◌<ℤ◌, SFits, w32, to_z-of_z}
+use Rattle.std.proofs.Common.{rules, arith, pos, ◌+ℤ◌, ◌≡◌, SFits, w32, to_z-of_z}
 use Rattle.std.proofs.lemmas.Int.{ints}
 use Rattle.cx_rule.proofs.AfterLaws.{after_x, after_y, after_z}
 use Rattle.cx_rule.proofs.run.after.Goals as goal

@@ -1,4 +1,4 @@
-use Rattle.std.proofs.Common.{◌≡◌, ◌∙◌, ◌+◌, ap, sym, arith, length}
+use Rattle.std.proofs.Common.{◌≡◌, ◌∙◌, ap, sym, arith}
 use Rattle.cx_rule.specs.Buffers.{counted}
 use Rattle.cx_rule.proofs.CountedLaws.{counted_length, opened_same, opened_more}
 use Rattle.cx_rule.proofs.buffers.Buffer.leave_open.Goals as goal
