@@ -12,11 +12,22 @@ cell_at cells i = slice_index_or cells i (pos 0)
 abbrev pub AreBy : (ℕ → ℤ) → List ℤ → ℕ → Type 0
 AreBy f cells n = (i : ℕ) → i < n → cell_at cells i ≡ f i
 
+-- a bit of a number
+abbrev pub bit_at : ℤ → ℕ → ℤ
+bit_at number k = pos (bit_of number k)
+
 -- ---- Wolfram's automaton: the cells begin one before the next ones
 
 -- a left, a middle and a right cell as a number from 0 to 7
 abbrev pub pattern : ℤ → ℤ → ℤ → ℕ
 pattern left middle right = 4 * alive_of left + 2 * alive_of middle + alive_of right
+
+-- a left and a middle cell as a number from 0 to 3
+abbrev pub pair_of : ℤ → ℤ → ℕ
+pair_of left middle = 2 * alive_of left + alive_of middle
+
+abbrev pub pair_at : List ℤ → ℕ → ℕ
+pair_at cells i = pair_of (cell_at cells i) (cell_at cells (i + 1))
 
 -- the next cell between these three
 abbrev pub next_cell : ℤ → ℤ → ℤ → ℤ → ℤ

@@ -3,6 +3,7 @@
 #![tactic(auto)]
 
 mod alive;
+mod bits;
 mod ca_init;
 mod ca_step;
 mod count;
