@@ -1,3 +1,5 @@
 mod Examples
 pub mod RowLaws
 pub mod LifeLaws
+pub mod LaneLaws
+pub mod SheetLaws

@@ -43,7 +43,7 @@ pair_on cells i p q is behind =
     let value : q ≡ 2 * pair_at cells i + alive_of (cell_at cells (i + 2)) = behind ∙ ap (λ n. 2 * n + alive_of (cell_at cells (i + 2))) is in
     ap (λ n. n % 4) value
     ∙ (moved _ _ _ (alive_few (cell_at cells i)) (alive_few (cell_at cells (i + 1))) (alive_few (cell_at cells (i + 2)))
-       ∙ ap (λ j. 2 * alive_of (cell_at cells (i + 1)) + alive_of (cell_at cells j)) next)
+    ∙ ap (λ j. 2 * alive_of (cell_at cells (i + 1)) + alive_of (cell_at cells j)) next)
 
 pub pattern_few : (cells : List ℤ) (i p q : ℕ) → p ≡ pair_at cells i → q ≡ 2 * p + alive_of (cell_at cells (i + 2)) → q < 8
 pattern_few cells i p q is behind =

@@ -1,3 +1,4 @@
 pub mod Automaton
+pub mod Lanes
 pub mod Life
 pub mod Rows

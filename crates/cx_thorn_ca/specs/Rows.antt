@@ -1,5 +1,5 @@
 -- Cells that stand in a row along x, and the next ones.
-use Rattle.std.specs.Prelude.{ℕ, ℤ, pos, ◌+◌, ◌*◌, ◌<◌, ◌≡◌, List, slice_index_or}
+use Rattle.std.specs.Prelude.{ℕ, ℤ, pos, ◌+◌, ◌-◌, ◌*◌, ◌<◌, ◌≡◌, List, slice_index_or, nat_lt, if◌then◌else◌}
 use Rattle.cx_rule.specs.Numbers.{bit_of}
 use Rattle.cx_thorn_ca.specs.Automaton.{alive_of}
 use Rattle.cx_thorn_ca.specs.Life.{counts_of}
@@ -57,3 +57,15 @@ living_at below cells above i = beside_at cells i + three_at below i + three_at 
 abbrev pub next_amid : ℤ → ℤ → List ℤ → List ℤ → List ℤ → ℕ → ℤ
 next_amid survive born below cells above i =
     pos (bit_of (counts_of (cell_at cells (i + 1)) survive born) (living_at below cells above i))
+
+-- the bits of two numbers one behind the other: those of `born`, and from 16 on those of `survive`
+abbrev pub life_bit : ℤ → ℤ → ℕ → ℤ
+life_bit survive born k = if nat_lt k 16 then bit_at born k else bit_at survive (k - 16)
+
+-- how many neighbours are not 0, and 16 more where the cell itself is not 0
+abbrev pub count_at : List ℤ → List ℤ → List ℤ → ℕ → ℕ
+count_at below cells above i = living_at below cells above i + 16 * alive_of (cell_at cells (i + 1))
+
+-- the number in a table at this count
+abbrev pub counted_at : List ℤ → List ℤ → List ℤ → List ℤ → ℕ → ℤ
+counted_at table below cells above i = cell_at table (count_at below cells above i)

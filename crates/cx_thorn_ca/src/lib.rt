@@ -7,8 +7,10 @@ mod bits;
 mod ca_init;
 mod ca_step;
 mod count;
+mod lanes;
 mod life_init;
 mod life_step;
+mod sheet_row;
 mod zero;
 
 pub use ca_init::{CaInit, CaInitRule};

@@ -2,9 +2,10 @@
 ghost use Rattle.std.specs.Prelude.{◌≡◌, ◌≤◌, ◌<◌, ◌≤ℤ◌, ◌+◌, ◌∷◌, [], length, negsuc, pos};
 ghost use Rattle.cx_rule.specs.Rows.{seen_row, FitsRow, GivesRow};
 ghost use Rattle.cx_thorn_ca.specs.Life.{life_step_spec, life_step_rule, counts_of, living, neighbours, row_of_three};
-ghost use Rattle.cx_thorn_ca.specs.Rows.{AreBy, beside_at, three_at, living_at, next_alone, next_amid};
+ghost use Rattle.cx_thorn_ca.specs.Rows.{AreBy, beside_at, next_alone};
 
 use crate::alive::{alive, alive_cell};
+use crate::sheet_row::next_amid;
 use cx_plan::{ItemKind, Region};
 use cx_rule::{Cells, Overflow, Place, PointRule, Row, RowRule, RowsOf, Spec, Window, bit};
 use cx_text::Memory;
@@ -98,55 +99,13 @@ fn next_alone(survive: i64, born: i64, cells: &[i64], next_cells: &mut [i64])
     }
 }
 
-/// The next cells of a row between those below and above it, each of which begins one cell before them.
-fn next_amid(
-    survive: i64,
-    born: i64,
-    below: &[i64],
-    cells: &[i64],
-    above: &[i64],
-    next_cells: &mut [i64],
-)
-    requires below { length below.now ≡ length next_cells.old + 2 }
-    requires cells { length cells.now ≡ length next_cells.old + 2 }
-    requires above { length above.now ≡ length next_cells.old + 2 }
-    ensures cells { AreBy (next_amid survive born below.now cells.now above.now) next_cells.new
-        (length next_cells.old) }
-    ensures room { length next_cells.new ≡ length next_cells.old }
-{
-    'cells: for i in 0..next_cells.len() {
-        let living = living_at(below, cells, above, i);
-        next_cells[i] = bit(counts(cells[i + 1], survive, born), living);
-    }
-}
-
 /// How many neighbours in the row aren't 0.
-fn beside(cells: &[i64], i: usize) -> u32
+pub(crate) fn beside(cells: &[i64], i: usize) -> u32
     requires { i + 2 < length cells.now }
     ensures value { result ≡ beside_at cells.now i }
     ensures few { result ≤ 2 }
 {
     alive_cell(cells[i]) + alive_cell(cells[i + 2])
-}
-
-/// How many of three cells in a row aren't 0.
-fn three(cells: &[i64], i: usize) -> u32
-    requires { i + 2 < length cells.now }
-    ensures value { result ≡ three_at cells.now i }
-    ensures few { result ≤ 3 }
-{
-    alive_cell(cells[i]) + alive_cell(cells[i + 1]) + alive_cell(cells[i + 2])
-}
-
-/// How many neighbours of a cell aren't 0.
-fn living_at(below: &[i64], cells: &[i64], above: &[i64], i: usize) -> u32
-    requires below { i + 2 < length below.now }
-    requires cells { i + 2 < length cells.now }
-    requires above { i + 2 < length above.now }
-    ensures value { result ≡ living_at below.now cells.now above.now i }
-    ensures few { result ≤ 8 }
-{
-    beside(cells, i) + three(below, i) + three(above, i)
 }
 
 /// The number whose bits tell the next cell.

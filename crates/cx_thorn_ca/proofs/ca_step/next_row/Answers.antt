@@ -13,6 +13,8 @@ cells-preserved c =
     let room : c.cells.i < length c.cells.next_cells = search rules in
     let is = c.cells.invariant.1 in
     let few = pattern_few cells c.cells.i _ _ is behind in
-    let value = c.put_bits.ensures.bits _ few ∙ bit_is_next rule cells c.cells.i _ _ is behind in
-    (search rules, pair_on cells c.cells.i _ _ is behind,
-     one_more (next_at rule cells) c.cells.next_cells c.cells.i _ room (to_z-of_z bit ∙ value) c.cells.invariant.2)
+    let value = c.put_bits.ensures.bits _ few ∙ bit_is_next rule cells c.cells.i _ _ is behind in (
+      search rules,
+      pair_on cells c.cells.i _ _ is behind,
+      one_more (next_at rule cells) c.cells.next_cells c.cells.i _ room (to_z-of_z bit ∙ value) c.cells.invariant.2,
+    )

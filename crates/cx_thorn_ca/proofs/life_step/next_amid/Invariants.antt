@@ -1,7 +1,0 @@
-use Rattle.std.proofs.Common.{◌≡◌, length}
-use Rattle.cx_thorn_ca.specs.Rows.{AreBy, next_amid}
-use Rattle.cx_thorn_ca.proofs.life_step.next_amid.Given as goal
-
-abbrev pub invariant-cells : goal.invariant-cells
-invariant-cells l =
-    (length l.next_cells ≡ length l.initial.next_cells) × AreBy (next_amid l.survive l.born l.below l.cells l.above) l.next_cells l.i

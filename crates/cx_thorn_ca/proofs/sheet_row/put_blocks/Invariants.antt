@@ -1,0 +1,12 @@
+use Rattle.std.proofs.Common.{◌≡◌, ◌≤◌, ◌-◌, length}
+use Rattle.cx_thorn_ca.specs.Rows.{AreBy}
+use Rattle.cx_thorn_ca.specs.Rows.{counted_at}
+use Rattle.cx_thorn_ca.proofs.sheet_row.put_blocks.Given as goal
+
+abbrev pub invariant-fourteens : goal.invariant-fourteens
+invariant-fourteens l =
+    (length l.next_cells ≡ length l.initial.next_cells) × (l.i ≤ length l.next_cells)
+    × AreBy (counted_at l.table l.below l.cells l.above) l.next_cells l.i
+
+abbrev pub decreases-fourteens : goal.decreases-fourteens
+decreases-fourteens l = length l.next_cells - l.i
