@@ -1,12 +1,13 @@
 -- Vectors of sixteen numbers.
-use Rattle.std.proofs.Common.{◌≡◌, ◌≢◌, ℕ, zero, suc, ◌+◌, ◌*◌, ◌-◌, ◌%◌, ◌<◌, ◌≤◌, ◌^◌, Bool, true, false, arith, refl, sym, ap, ◌∙◌, subst, cond, eqb, ◌⊎◌, inl, inr, ℤ, pos, negsuc, List, [], ◌∷◌, ◌++◌, length, SFits, w64, to_z, of_z}
+use Rattle.std.proofs.Common.{◌≡◌, ◌≢◌, ℕ, zero, suc, ◌+◌, ◌*◌, ◌-◌, ◌%◌, ◌<◌, ◌≤◌, ◌^◌, Bool, true, false, arith, refl, sym, ap, ◌∙◌, subst, cond, eqb, ◌⊎◌, inl, inr, ℤ, pos, negsuc, List, [], ◌∷◌, ◌++◌, length, map, replicate, SFits, w8, w64, to_z, of_z, ◌/◌}
 use Rattle.std.specs.Prelude.{nat_eq, unsigned_abs}
 use Rattle.std.proofs.lemmas.Bool.{ne_eqb, cases_lt, cases_eq}
-use Rattle.std.proofs.lemmas.Simd.{length-zip2, get_or-zip2}
-use Rattle.std.specs.Simd.Lanes.{zip2, top}
+use Rattle.std.proofs.lemmas.Simd.{length-zip2, get_or-zip2, bitmask_splat, bit_mask_l}
+use Rattle.std.proofs.lemmas.List.{get_or-map}
+use Rattle.std.specs.Simd.Lanes.{zip2, top, mask_l}
 use Rattle.cx_thorn_ca.specs.Automaton.{alive_of}
 use Rattle.cx_thorn_ca.specs.Rows.{cell_at, living_at, count_at}
-use Rattle.cx_thorn_ca.specs.Lanes.{lane, HasLanes}
+use Rattle.cx_thorn_ca.specs.Lanes.{lane, HasLanes, HasBits}
 use Rattle.cx_thorn_ca.proofs.RowLaws.{alive_few}
 
 pub by_fifteen : (P : ℕ → Type 0) → P 0 → P 1 → P 2 → P 3 → P 4 → P 5 → P 6 → P 7 → P 8 → P 9 → P 10 → P 11 → P 12 → P 13 → P 14
@@ -176,3 +177,22 @@ living_few below cells above i =
     few_living _ _ _ _ _ _ _ _ (alive_few (cell_at cells i)) (alive_few (cell_at cells (i + 2))) (alive_few (cell_at below i))
     (alive_few (cell_at below (i + 1))) (alive_few (cell_at below (i + 2))) (alive_few (cell_at above i)) (alive_few (cell_at above (i + 1)))
     (alive_few (cell_at above (i + 2)))
+
+few_bit : (n : ℕ) → n ≤ 1 → cond {A = ℕ} (eqb n 1) 1 0 ≡ n
+few_bit zero h = refl
+few_bit (suc zero) h = refl
+few_bit (suc (suc n)) h = absurd (omega (arith, h))
+
+-- sixteen lanes of 0 and 1 as the bits of a number
+has_bits : (v : List ℕ) (f : ℕ → ℕ) → HasLanes v 16 f → ((k : ℕ) → k < 16 → f k ≤ 1)
+    → HasBits (mask_l (map (top 7) (zip2 (λ a b. cond (eqb a b) (2 ^ 8 - 1) 0) v (replicate {A = ℕ} 16 1))) % 2 ^ 64) 16 f
+has_bits v f h few k l =
+    ap (λ n. n / 2 ^ k % 2) (bitmask_splat w8 eqb v 16 1 h.long (omega arith))
+    ∙ (bit_mask_l (map (λ x. eqb x 1) v) k
+    ∙ (ap (λ b. cond {A = ℕ} b 1 0) (get_or-map (λ x. eqb x 1) v k 0 false (omega (arith, l, h.long)) ∙ ap (λ n. eqb n 1) (h.each k l))
+    ∙ few_bit (f k) (few k l)))
+
+pub has_living_bits : (v : List ℕ) (cells : List ℤ) (i : ℕ) → HasLanes v 16 (λ k. alive_of (cell_at cells (i + k)))
+    → HasBits (mask_l (map (top 7) (zip2 (λ a b. cond (eqb a b) (2 ^ 8 - 1) 0) v (replicate {A = ℕ} 16 1))) % 2 ^ 64) 16
+    (λ k. alive_of (cell_at cells (i + k)))
+has_living_bits v cells i h = has_bits v (λ k. alive_of (cell_at cells (i + k))) h (λ k l. alive_few (cell_at cells (i + k)))

@@ -2,12 +2,12 @@
 use Rattle.std.proofs.Common.{◌≡◌, ◌≢◌, ℕ, ◌+◌, ◌<◌, ◌≤◌, arith, refl, sym, ap, ◌∙◌, subst, ◌⊎◌, inl, inr, ℤ, pos, negsuc, List, [], ◌∷◌, length, slice_set, slice_index_or, Some, ◌*◌, ◌%◌, Bool, true, false}
 use Rattle.std.specs.Prelude.{if◌then◌else◌, nat_eq, unsigned_abs}
 use Rattle.std.proofs.lemmas.Bool.{cases_eq}
-use Rattle.std.proofs.lemmas.List.{get_or-set_same, get_or-set_other}
+use Rattle.std.proofs.lemmas.List.{get_or-set_same, get_or-set_other, length-set}
 use Rattle.cx_rule.specs.Place.{param_of}
 use Rattle.cx_rule.specs.Rows.{SeenRow, FitsRow, ShowsAlong, GivesRow, reach_at, offset_from}
 use Rattle.cx_rule.specs.Seen.{value_of}
 use Rattle.cx_thorn_ca.specs.Automaton.{alive_of, ca_step_spec, ca_step_rule, off}
-use Rattle.cx_thorn_ca.specs.Rows.{cell_at, AreBy, bit_at, pair_at, next_cell, next_at}
+use Rattle.cx_thorn_ca.specs.Rows.{cell_at, AreBy, next_cell, next_at}
 
 pub one_more : (f : ℕ → ℤ) (cells : List ℤ) (k : ℕ) (cell : ℤ) → k < length cells → cell ≡ f k
     → AreBy f cells k → AreBy f (slice_set cells k cell) (k + 1)
@@ -18,7 +18,12 @@ one_more f cells k cell room is before i l = go (cases_eq i k)
         subst (λ j. cell_at (slice_set cells k cell) j ≡ f j) (sym same) (get_or-set_same cells k cell (pos 0) room ∙ is)
     go (inr other) = get_or-set_other cells k i cell (pos 0) other ∙ before i (omega (arith, other))
 
--- ---- a pair of cells that moves along a row
+pub two_more : (f : ℕ → ℤ) (cells : List ℤ) (k : ℕ) (first second : ℤ) → k + 1 < length cells → first ≡ f k → second ≡ f (k + 1)
+    → AreBy f cells k → AreBy f (slice_set (slice_set cells k first) (k + 1) second) (k + 2)
+two_more f cells k first second room is next before i l =
+    let long : length (slice_set cells k first) ≡ length cells = length-set cells k first in
+    one_more f (slice_set cells k first) (k + 1) second (omega (arith, room, long)) next
+    (one_more f cells k first (omega (arith, room)) is before) i (omega (arith, l))
 
 few_of : (b : Bool) → (if b then 0 else 1) ≤ 1
 few_of true = omega arith
@@ -26,35 +31,6 @@ few_of false = omega arith
 
 pub alive_few : (cell : ℤ) → alive_of cell ≤ 1
 alive_few cell = few_of (nat_eq (unsigned_abs cell) 0)
-
-moved : (a b c : ℕ) → a ≤ 1 → b ≤ 1 → c ≤ 1 → (2 * (2 * a + b) + c) % 4 ≡ 2 * b + c
-moved a b c h k l = omega (arith, h, k, l)
-
-turned : (a b c : ℕ) → 2 * (2 * a + b) + c ≡ 4 * a + 2 * b + c
-turned a b c = omega arith
-
-most : (a b c : ℕ) → a ≤ 1 → b ≤ 1 → c ≤ 1 → 2 * (2 * a + b) + c < 8
-most a b c h k l = omega (arith, h, k, l)
-
-pub pair_on : (cells : List ℤ) (i p q : ℕ) → p ≡ pair_at cells i → q ≡ 2 * p + alive_of (cell_at cells (i + 2))
-    → q % 4 ≡ pair_at cells (i + 1)
-pair_on cells i p q is behind =
-    let next : i + 2 ≡ i + 1 + 1 = omega arith in
-    let value : q ≡ 2 * pair_at cells i + alive_of (cell_at cells (i + 2)) = behind ∙ ap (λ n. 2 * n + alive_of (cell_at cells (i + 2))) is in
-    ap (λ n. n % 4) value
-    ∙ (moved _ _ _ (alive_few (cell_at cells i)) (alive_few (cell_at cells (i + 1))) (alive_few (cell_at cells (i + 2)))
-    ∙ ap (λ j. 2 * alive_of (cell_at cells (i + 1)) + alive_of (cell_at cells j)) next)
-
-pub pattern_few : (cells : List ℤ) (i p q : ℕ) → p ≡ pair_at cells i → q ≡ 2 * p + alive_of (cell_at cells (i + 2)) → q < 8
-pattern_few cells i p q is behind =
-    let value : q ≡ 2 * pair_at cells i + alive_of (cell_at cells (i + 2)) = behind ∙ ap (λ n. 2 * n + alive_of (cell_at cells (i + 2))) is in
-    subst (λ n. n < 8) (sym value)
-    (most _ _ _ (alive_few (cell_at cells i)) (alive_few (cell_at cells (i + 1))) (alive_few (cell_at cells (i + 2))))
-
-pub bit_is_next : (rule : ℤ) (cells : List ℤ) (i p q : ℕ) → p ≡ pair_at cells i → q ≡ 2 * p + alive_of (cell_at cells (i + 2))
-    → bit_at rule q ≡ next_at rule cells i
-bit_is_next rule cells i p q is behind =
-    ap (bit_at rule) (behind ∙ (ap (λ n. 2 * n + alive_of (cell_at cells (i + 2))) is ∙ turned _ _ _))
 
 -- a number of a lent row by its offset, where the read's reach is 1
 pub shown_at : (r : SeenRow) (y : ℤ) (cells : List ℤ) (i j : ℕ) → r.reaches ≡ 1 ∷ [] → ShowsAlong r 0 y (pos 0) cells

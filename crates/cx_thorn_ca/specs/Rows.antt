@@ -1,5 +1,5 @@
 -- Cells that stand in a row along x, and the next ones.
-use Rattle.std.specs.Prelude.{ℕ, ℤ, pos, ◌+◌, ◌-◌, ◌*◌, ◌<◌, ◌≡◌, List, slice_index_or, nat_lt, if◌then◌else◌}
+use Rattle.std.specs.Prelude.{ℕ, ℤ, pos, ◌+◌, ◌-◌, ◌*◌, ◌/◌, ◌%◌, ◌^◌, ◌<◌, ◌≡◌, List, slice_index_or, nat_eq, nat_lt, if◌then◌else◌}
 use Rattle.cx_rule.specs.Numbers.{bit_of}
 use Rattle.cx_thorn_ca.specs.Automaton.{alive_of}
 use Rattle.cx_thorn_ca.specs.Life.{counts_of}
@@ -22,19 +22,28 @@ bit_at number k = pos (bit_of number k)
 abbrev pub pattern : ℤ → ℤ → ℤ → ℕ
 pattern left middle right = 4 * alive_of left + 2 * alive_of middle + alive_of right
 
--- a left and a middle cell as a number from 0 to 3
-abbrev pub pair_of : ℤ → ℤ → ℕ
-pair_of left middle = 2 * alive_of left + alive_of middle
-
-abbrev pub pair_at : List ℤ → ℕ → ℕ
-pair_at cells i = pair_of (cell_at cells i) (cell_at cells (i + 1))
-
 -- the next cell between these three
 abbrev pub next_cell : ℤ → ℤ → ℤ → ℤ → ℤ
 next_cell rule left middle right = pos (bit_of rule (pattern left middle right))
 
 abbrev pub next_at : ℤ → List ℤ → ℕ → ℤ
 next_at rule cells i = next_cell rule (cell_at cells i) (cell_at cells (i + 1)) (cell_at cells (i + 2))
+
+-- four bits of a number
+abbrev pub four_at : ℕ → ℕ → ℕ
+four_at bits k = bits / 2 ^ (2 * k) % 16
+
+-- three bits, the last one first
+abbrev pub turned : ℕ → ℕ
+turned three = 4 * (three % 2) + 2 * (three / 2 % 2) + three / 4
+
+-- a table of the two cells that follow between four, at twice the number whose bits these four are: the three that tell the one at a
+-- place, and the one
+abbrev pub three_of : ℕ → ℕ
+three_of k = if nat_eq (k % 2) 0 then k / 2 % 8 else k / 4
+
+abbrev pub pair_bit : ℤ → ℕ → ℤ
+pair_bit rule k = bit_at rule (turned (three_of k))
 
 -- ---- Conway's automaton: the rows below, here and above begin one cell before the next ones
 

@@ -1,10 +1,10 @@
 //! One step of the row.
-ghost use Rattle.std.specs.Prelude.{◌≡◌, ◌<◌, ◌+◌, ◌*◌, length};
-ghost use Rattle.cx_thorn_ca.specs.Automaton.{alive_of, ca_step_spec, ca_step_rule};
-ghost use Rattle.cx_thorn_ca.specs.Rows.{AreBy, pair_of, next_at};
+ghost use Rattle.std.specs.Prelude.{◌≡◌, ◌+◌, length};
+ghost use Rattle.cx_thorn_ca.specs.Automaton.{ca_step_spec, ca_step_rule};
+ghost use Rattle.cx_thorn_ca.specs.Rows.{AreBy, next_cell, next_at};
 
 use crate::alive::{alive, alive_cell};
-use crate::bits::put_bits;
+use crate::pairs::{put_blocks, put_pair_bits};
 use cx_plan::{ItemKind, Region};
 use cx_rule::{Cells, Overflow, Place, PointRule, Row, RowRule, RowsOf, Spec, Window, bit};
 use cx_text::Memory;
@@ -56,27 +56,28 @@ fn next_row(rule: i64, cells: &[i64], next_cells: &mut [i64])
     ensures cells { AreBy (next_at rule cells.now) next_cells.new (length next_cells.old) }
     ensures room { length next_cells.new ≡ length next_cells.old }
 {
-    let mut table = [0; 8];
-    put_bits(rule, &mut table);
-    let mut pair = pair(cells[0], cells[1]);
-    'cells: for i in 0..next_cells.len() {
-        let pattern = pattern(pair, cells[i + 2]);
-        next_cells[i] = table[pattern];
-        pair = pattern % 4;
+    let mut table = [0; 32];
+    put_pair_bits(rule, &mut table);
+    let done = put_blocks(&table, cells, next_cells);
+    put_rest(rule, cells, next_cells, done);
+}
+
+/// The next cells of such a row from a place on.
+fn put_rest(rule: i64, cells: &[i64], next_cells: &mut [i64], from: usize)
+    requires cells { length cells.now ≡ length next_cells.old + 2 }
+    requires before { AreBy (next_at rule cells.now) next_cells.old from }
+    ensures cells { AreBy (next_at rule cells.now) next_cells.new (length next_cells.old) }
+    ensures room { length next_cells.new ≡ length next_cells.old }
+{
+    'cells: for i in from..next_cells.len() {
+        next_cells[i] = next_cell(rule, cells[i], cells[i + 1], cells[i + 2]);
     }
 }
 
-/// Two neighbouring cells as a number from 0 to 3.
-fn pair(left: i64, middle: i64) -> usize
-    ensures { result ≡ pair_of left middle }
+/// The next cell between two neighbours.
+fn next_cell(rule: i64, left: i64, middle: i64, right: i64) -> i64
+    ensures { result ≡ next_cell rule left middle right }
 {
-    2 * alive_cell(left) as usize + alive_cell(middle) as usize
-}
-
-/// Two neighbouring cells and the one behind them as a number from 0 to 7.
-fn pattern(pair: usize, right: i64) -> usize
-    requires { pair < 4 }
-    ensures { result ≡ 2 * pair + alive_of right }
-{
-    2 * pair + alive_cell(right) as usize
+    let pattern = 4 * alive_cell(left) + 2 * alive_cell(middle) + alive_cell(right);
+    bit(rule, pattern)
 }

@@ -1,7 +1,7 @@
 //! Cells of a row sixteen at a time.
 ghost use Rattle.std.specs.Prelude.{◌≡◌, ◌≤◌, ◌<◌, ◌+◌, ◌*◌, ◌%◌, ℕ, ℤ, length};
 ghost use Rattle.cx_thorn_ca.specs.Automaton.{alive_of};
-ghost use Rattle.cx_thorn_ca.specs.Lanes.{lane, HasLanes};
+ghost use Rattle.cx_thorn_ca.specs.Lanes.{lane, HasLanes, HasBits};
 ghost use Rattle.cx_thorn_ca.specs.Rows.{cell_at, AreBy};
 
 use std::simd::prelude::*;
@@ -42,6 +42,15 @@ pub(crate) fn living(cells: &[i64], i: usize) -> u8x16
     ensures { HasLanes result 16 (λ k. alive_of (cell_at cells.now (i + k))) }
 {
     living_lanes(cells, i).cast::<u8>()
+}
+
+/// The same as the bits of a number, the first cell's bit as the lowest.
+#[inline(always)]
+pub(crate) fn living_bits(cells: &[i64], i: usize) -> u64
+    requires { i + 16 ≤ length cells.now }
+    ensures { HasBits result 16 (λ k. alive_of (cell_at cells.now (i + k))) }
+{
+    living(cells, i).simd_eq(u8x16::splat(1)).to_bitmask()
 }
 
 /// Lane by lane the sum.

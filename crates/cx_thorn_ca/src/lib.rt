@@ -3,13 +3,13 @@
 #![tactic(auto)]
 
 mod alive;
-mod bits;
 mod ca_init;
 mod ca_step;
 mod count;
 mod lanes;
 mod life_init;
 mod life_step;
+mod pairs;
 mod sheet_row;
 mod zero;
 
