@@ -1,15 +1,16 @@
 //! The edge of the row and of the sheet.
-ghost use Rattle.std.specs.Prelude.{◌≡◌};
+ghost use Rattle.std.specs.Prelude.{◌≡◌, length, pos};
 ghost use Rattle.cx_thorn_ca.specs.Automaton.{ca_zero_spec, ca_zero_rule};
 ghost use Rattle.cx_thorn_ca.specs.Life.{life_zero_spec, life_zero_rule};
+ghost use Rattle.cx_thorn_ca.specs.Rows.{AreBy};
 
 use cx_plan::{ItemKind, Region};
-use cx_rule::{Cells, Overflow, Place, PointRule, RoutineOf, Spec, Window};
+use cx_rule::{Cells, Overflow, Place, PointRule, Row, RowRule, RowsOf, Spec, Window};
 use cx_text::Memory;
 use std::alloc::Global;
 
 /// The routine `ca_zero`, which sets each boundary cell of the row to 0.
-pub type CaZero = RoutineOf<CaZeroRule>;
+pub type CaZero = RowsOf<CaZeroRule>;
 
 /// The rule of `ca_zero`.
 #[derive(Debug, Drop)]
@@ -36,8 +37,15 @@ impl PointRule for CaZeroRule {
     }
 }
 
+impl RowRule for CaZeroRule {
+    fn row(&self, _row: &Row, out: &mut [i64]) -> Result<(), Overflow> {
+        put_zeros(out);
+        Ok(())
+    }
+}
+
 /// The routine `life_zero`, which sets each boundary cell of the sheet to 0.
-pub type LifeZero = RoutineOf<LifeZeroRule>;
+pub type LifeZero = RowsOf<LifeZeroRule>;
 
 /// The rule of `life_zero`.
 #[derive(Debug, Drop)]
@@ -62,4 +70,19 @@ impl PointRule for LifeZeroRule {
         out.set_only(0);
         Ok(())
     }
+}
+
+impl RowRule for LifeZeroRule {
+    fn row(&self, _row: &Row, out: &mut [i64]) -> Result<(), Overflow> {
+        put_zeros(out);
+        Ok(())
+    }
+}
+
+/// Makes each cell of a row 0.
+fn put_zeros(cells: &mut [i64])
+    ensures cells { AreBy (λ _. pos 0) cells.new (length cells.old) }
+    ensures room { length cells.new ≡ length cells.old }
+{
+    cells.fill(0);
 }
