@@ -1,4 +1,5 @@
 pub mod Ranges
 pub mod Pairs
 pub mod RowLaws
+pub mod NearLaws
 mod Examples

@@ -11,7 +11,7 @@ use Rattle.cx_rule.specs.Seen.{Seen, value_of}
 use Rattle.cx_rule.specs.Single.{here, one_number}
 use Rattle.cx_thorn_pde.specs.Around.{bend, bend_if, lap}
 use Rattle.cx_thorn_pde.specs.Exact.{in_64_bits, scaled}
-use Rattle.cx_thorn_pde.specs.Rows.{number_at, bend_of, lap_of, star_at, next_at, AreBy, LacksIn, if_has, ShowsInY, ShowsInZ}
+use Rattle.cx_thorn_pde.specs.Rows.{number_at, bend_of, lap_of, star_at, next_at, AreBy, LacksIn, RowValues, ShowsRows, if_has}
 use Rattle.cx_thorn_pde.specs.Heat.{diff_step_rule}
 use Rattle.cx_thorn_pde.specs.Wave.{wave_step_rule, next_wave}
 
@@ -23,6 +23,9 @@ one_more f ns k n room is before i l = go (cases_eq i k)
     go (inl same) =
         subst (λ j. f j ≡ Some (number_at (slice_set ns k n) j)) (sym same) (sym is ∙ ap Some (sym (get_or-set_same ns k n (pos 0) room)))
     go (inr other) = before i (omega (arith, other)) ∙ ap Some (sym (get_or-set_other ns k i n (pos 0) other))
+
+pub lacks_later : (f : ℕ → Option ℤ) (n m : ℕ) → n ≤ m → LacksIn f n → LacksIn f m
+lacks_later f n m later (i, l, none) = (i, omega (arith, later, l), none)
 
 -- ---- what a row shows
 
@@ -66,42 +69,36 @@ same_sum : (a b c d e f : ℤ) → a ≡ b → c ≡ d → e ≡ f → a +ℤ c 
 same_sum a b c d e f p q r = rw (p, q, r) refl
 
 -- the rows around a row of a rule's first read
-pub record ShowsAround (r : SeenRow) (center low high near far : List ℤ) : Type 0 where
+pub record ShowsAround (r : SeenRow) (v : RowValues) : Type 0 where
   pub some : 1 ≤ r.dims
   pub dims : (i : ℕ) → (r.seen i).dims ≡ r.dims
   pub reach : reach_at r 0 ≡ 1
-  pub row : ShowsAlong r 0 (pos 0) (pos 0) center
-  pub below : ShowsInY r (negsuc 0) low
-  pub above : ShowsInY r (pos 1) high
-  pub under : ShowsInZ r (negsuc 0) near
-  pub over : ShowsInZ r (pos 1) far
+  pub rows : ShowsRows r v
 
 is_some : (n d : ℕ) → n ≡ d → 1 ≤ d → nat_lt 0 n ≡ true
 is_some n d e h = grind (arith, e, h)
 
-around_lap : (r : SeenRow) (row below above under over : List ℤ) (i : ℕ) → ShowsAround r row below above under over
-    → i < r.count → lap_of (star_at row below above under over i) ≡ lap (r.seen i)
-around_lap r row below above under over i a l =
+around_lap : (r : SeenRow) (v : RowValues) (i : ℕ) → ShowsAround r v → i < r.count → lap_of (star_at v i) ≡ lap (r.seen i)
+around_lap r v i a l =
     let w = r.seen i in
     let one : 1 ≤ 2 = omega arith in
-    let middle = shown_at r (pos 0) (pos 0) row i 1 a.reach a.row l one in
-    let right = shown_at r (pos 0) (pos 0) row i 2 a.reach a.row l (omega arith) in
-    let left = first_shown r (pos 0) (pos 0) row i a.reach a.row l in
-    let up = shown_at r _ _ above i 1 a.reach a.above l one in
-    let down = shown_at r _ _ below i 1 a.reach a.below l one in
-    let far = shown_at r _ _ over i 1 a.reach a.over l one in
-    let near = shown_at r _ _ under i 1 a.reach a.under l one in
-    let x : bend_of (number_at row (i + 2)) (number_at row i) (number_at row (i + 1)) ≡ bend_if w 0 =
+    let middle = shown_at r (pos 0) (pos 0) v.row i 1 a.reach a.rows.row l one in
+    let right = shown_at r (pos 0) (pos 0) v.row i 2 a.reach a.rows.row l (omega arith) in
+    let left = first_shown r (pos 0) (pos 0) v.row i a.reach a.rows.row l in
+    let up = shown_at r _ _ v.above i 1 a.reach a.rows.above l one in
+    let down = shown_at r _ _ v.below i 1 a.reach a.rows.below l one in
+    let far = shown_at r _ _ v.over i 1 a.reach a.rows.over l one in
+    let near = shown_at r _ _ v.under i 1 a.reach a.rows.under l one in
+    let x : bend_of (number_at v.row (i + 2)) (number_at v.row i) (number_at v.row (i + 1)) ≡ bend_if w 0 =
     same_bend _ _ _ _ _ _ right left middle ∙ ap (λ b. if b then bend w 0 else pos 0) (sym (is_some _ _ (a.dims i) a.some)) in
-    let y : bend_of (number_at above (i + 1)) (number_at below (i + 1)) (number_at row (i + 1)) ≡ bend_if w 1 =
+    let y : bend_of (number_at v.above (i + 1)) (number_at v.below (i + 1)) (number_at v.row (i + 1)) ≡ bend_if w 1 =
     bend_y w (nat_lt 1 r.dims) _ _ _ up down middle ∙ ap (λ k. if nat_lt 1 k then bend w 1 else pos 0) (sym (a.dims i)) in
-    let z : bend_of (number_at over (i + 1)) (number_at under (i + 1)) (number_at row (i + 1)) ≡ bend_if w 2 =
+    let z : bend_of (number_at v.over (i + 1)) (number_at v.under (i + 1)) (number_at v.row (i + 1)) ≡ bend_if w 2 =
     bend_z w (nat_lt 2 r.dims) _ _ _ far near middle ∙ ap (λ k. if nat_lt 2 k then bend w 2 else pos 0) (sym (a.dims i)) in
     same_sum _ _ _ _ _ _ x y z
 
-here_shown : (r : SeenRow) (row below above under over : List ℤ) (i : ℕ) → ShowsAround r row below above under over
-    → i < r.count → number_at row (i + 1) ≡ value_of (r.seen i) 0 here
-here_shown r row below above under over i a l = shown_at r (pos 0) (pos 0) row i 1 a.reach a.row l (omega arith)
+here_shown : (r : SeenRow) (v : RowValues) (i : ℕ) → ShowsAround r v → i < r.count → number_at v.row (i + 1) ≡ value_of (r.seen i) 0 here
+here_shown r v i a l = shown_at r (pos 0) (pos 0) v.row i 1 a.reach a.rows.row l (omega arith)
 
 -- ---- the rules along a row
 
@@ -117,56 +114,63 @@ before_shown r before i reach shows l =
     ∙ subst (λ k. number_at before (i + 0) ≡ value_of (r.seen i) 1 (offset_from k (pos 0) (pos 0) 0)) reach
     (shows.each i 0 l (omega arith))
 
-wave_at : (r : SeenRow) (factor : ℤ) (before row below above under over : List ℤ) (i : ℕ)
-    → ShowsAround r row below above under over → reach_at r 1 ≡ 0 → ShowsAlong r 1 (pos 0) (pos 0) before
+wave_at : (r : SeenRow) (factor : ℤ) (v : RowValues) (i : ℕ)
+    → ShowsAround r v → reach_at r 1 ≡ 0 → ShowsAlong r 1 (pos 0) (pos 0) v.before
     → ((i : ℕ) → factor ≡ param_of (r.place i) 0) → i < r.count
-    → in_64_bits (next_wave (r.seen i) (param_of (r.place i) 0)) ≡ next_at factor before row below above under over i
-wave_at r factor before row below above under over i a reach shows same l =
-    ap in_64_bits (sym (same_wave _ _ _ _ _ _ _ _ (same i) (here_shown r row below above under over i a l)
-    (before_shown r before i reach shows l) (around_lap r row below above under over i a l)))
+    → in_64_bits (next_wave (r.seen i) (param_of (r.place i) 0)) ≡ next_at factor v i
+wave_at r factor v i a reach shows same l =
+    ap in_64_bits (sym (same_wave _ _ _ _ _ _ _ _ (same i) (here_shown r v i a l)
+    (before_shown r v.before i reach shows l) (around_lap r v i a l)))
 
-pub wave_row : (r : SeenRow) (factor : ℤ) (before row below above under over next : List ℤ) (n : ℕ)
-    → ShowsAround r row below above under over → reach_at r 1 ≡ 0 → ShowsAlong r 1 (pos 0) (pos 0) before
+pub wave_row : (r : SeenRow) (factor : ℤ) (v : RowValues) (next : List ℤ) (n : ℕ)
+    → ShowsAround r v → reach_at r 1 ≡ 0 → ShowsAlong r 1 (pos 0) (pos 0) v.before
     → ((i : ℕ) → factor ≡ param_of (r.place i) 0) → n ≡ r.count
-    → AreBy (next_at factor before row below above under over) next n → GivesRow wave_step_rule r next
-wave_row r factor before row below above under over next n a reach shows same count are i l =
-    ap one_number (wave_at r factor before row below above under over i a reach shows same l ∙ are i (omega (arith, l, count)))
+    → AreBy (next_at factor v) next n → GivesRow wave_step_rule r next
+wave_row r factor v next n a reach shows same count are i l =
+    ap one_number (wave_at r factor v i a reach shows same l ∙ are i (omega (arith, l, count)))
 
-pub wave_lacks : (r : SeenRow) (factor : ℤ) (before row below above under over : List ℤ) (n : ℕ)
-    → ShowsAround r row below above under over → reach_at r 1 ≡ 0 → ShowsAlong r 1 (pos 0) (pos 0) before
+pub wave_lacks : (r : SeenRow) (factor : ℤ) (v : RowValues) (n : ℕ)
+    → ShowsAround r v → reach_at r 1 ≡ 0 → ShowsAlong r 1 (pos 0) (pos 0) v.before
     → ((i : ℕ) → factor ≡ param_of (r.place i) 0) → n ≡ r.count
-    → LacksIn (next_at factor before row below above under over) n → LacksOne wave_step_rule r
-wave_lacks r factor before row below above under over n a reach shows same count (i, l, none) =
+    → LacksIn (next_at factor v) n → LacksOne wave_step_rule r
+wave_lacks r factor v n a reach shows same count (i, l, none) =
     let near : i < r.count = omega (arith, l, count) in
-    (i, near, ap one_number (wave_at r factor before row below above under over i a reach shows same near ∙ none))
+    (i, near, ap one_number (wave_at r factor v i a reach shows same near ∙ none))
 
 once : (u s : ℤ) → u +ℤ s ≡ pos 2 *ℤ u -ℤ u +ℤ s
 once u s = omega (arith, ints)
 
-inner_at : (row : List ℤ) (i : ℕ) → number_at (drop 1 row) i ≡ number_at row (i + 1)
-inner_at row i =
+inner_shown : (r : SeenRow) (before center : List ℤ) (i : ℕ) → FirstReach r → ShowsAlong r 0 (pos 0) (pos 0) center
+    → before ≡ drop 1 center → i < r.count → number_at before i ≡ value_of (r.seen i) 0 here
+inner_shown r before center i reach shows own l =
     let same : 1 + i ≡ i + 1 = omega arith in
-    get_or_after_one row i (pos 0) ∙ ap (number_at row) same
+    ap (λ ns. number_at ns i) own ∙ get_or_after_one center i (pos 0) ∙ ap (number_at center) same
+    ∙ shown_at r (pos 0) (pos 0) center i 1 reach shows l (omega arith)
 
-heat_at : (r : SeenRow) (factor : ℤ) (row below above under over : List ℤ) (i : ℕ)
-    → ShowsAround r row below above under over → ((i : ℕ) → factor ≡ param_of (r.place i) 0) → i < r.count
-    → in_64_bits (value_of (r.seen i) 0 here +ℤ scaled (param_of (r.place i) 0) (lap (r.seen i)))
-    ≡ next_at factor (drop 1 row) row below above under over i
-heat_at r factor row below above under over i a same l =
-    let center = here_shown r row below above under over i a l in
+-- the numbers before are those of the row itself, without its first one
+pub record ShowsItself (r : SeenRow) (before : List ℤ) : Type 0 where
+  pub center : List ℤ
+  pub shows : ShowsAlong r 0 (pos 0) (pos 0) center
+  pub own : before ≡ drop 1 center
+
+heat_at : (r : SeenRow) (factor : ℤ) (v : RowValues) (i : ℕ)
+    → ShowsAround r v → ShowsItself r v.before → ((i : ℕ) → factor ≡ param_of (r.place i) 0) → i < r.count
+    → in_64_bits (value_of (r.seen i) 0 here +ℤ scaled (param_of (r.place i) 0) (lap (r.seen i))) ≡ next_at factor v i
+heat_at r factor v i a itself same l =
     ap in_64_bits (once (value_of (r.seen i) 0 here) (scaled (param_of (r.place i) 0) (lap (r.seen i)))
-    ∙ sym (same_wave _ _ _ _ _ _ _ _ (same i) center (inner_at row i ∙ center) (around_lap r row below above under over i a l)))
+    ∙ sym (same_wave _ _ _ _ _ _ _ _ (same i) (here_shown r v i a l)
+    (inner_shown r v.before itself.center i a.reach itself.shows itself.own l) (around_lap r v i a l)))
 
-pub heat_row : (r : SeenRow) (factor : ℤ) (row below above under over next : List ℤ) (n : ℕ)
-    → ShowsAround r row below above under over → ((i : ℕ) → factor ≡ param_of (r.place i) 0) → n ≡ r.count
-    → AreBy (next_at factor (drop 1 row) row below above under over) next n → GivesRow diff_step_rule r next
-heat_row r factor row below above under over next n a same count are i l =
+pub heat_row : (r : SeenRow) (factor : ℤ) (v : RowValues) (next : List ℤ) (n : ℕ)
+    → ShowsAround r v → ShowsItself r v.before → ((i : ℕ) → factor ≡ param_of (r.place i) 0) → n ≡ r.count
+    → AreBy (next_at factor v) next n → GivesRow diff_step_rule r next
+heat_row r factor v next n a itself same count are i l =
     let near : i < n = omega (arith, l, count) in
-    ap one_number (heat_at r factor row below above under over i a same l ∙ are i near)
+    ap one_number (heat_at r factor v i a itself same l ∙ are i near)
 
-pub heat_lacks : (r : SeenRow) (factor : ℤ) (row below above under over : List ℤ) (n : ℕ)
-    → ShowsAround r row below above under over → ((i : ℕ) → factor ≡ param_of (r.place i) 0) → n ≡ r.count
-    → LacksIn (next_at factor (drop 1 row) row below above under over) n → LacksOne diff_step_rule r
-heat_lacks r factor row below above under over n a same count (i, l, none) =
+pub heat_lacks : (r : SeenRow) (factor : ℤ) (v : RowValues) (n : ℕ)
+    → ShowsAround r v → ShowsItself r v.before → ((i : ℕ) → factor ≡ param_of (r.place i) 0) → n ≡ r.count
+    → LacksIn (next_at factor v) n → LacksOne diff_step_rule r
+heat_lacks r factor v n a itself same count (i, l, none) =
     let near : i < r.count = omega (arith, l, count) in
-    (i, near, ap one_number (heat_at r factor row below above under over i a same near ∙ none))
+    (i, near, ap one_number (heat_at r factor v i a itself same near ∙ none))

@@ -5,3 +5,4 @@ pub mod Wave
 pub mod Heat
 pub mod Control
 pub mod Rows
+pub mod Near

@@ -4,7 +4,7 @@ ghost use Rattle.cx_thorn_pde.specs.Heat.{diff_init_spec, diff_init_rule, diff_s
 
 use crate::around::lap;
 use crate::exact::plus_scaled;
-use crate::next_row::{beside_y, beside_z, next_row};
+use crate::rows_around::rows_around;
 use crate::start::start_at;
 use cx_plan::{ItemKind, Region};
 use cx_rule::{Cells, Overflow, Place, PointRule, RoutineOf, Row, RowRule, RowsOf, Spec, Window};
@@ -76,14 +76,10 @@ impl PointRule for DiffStepRule {
 
 impl RowRule for DiffStepRule {
     fn row(&self, row: &Row, out: &mut [i64]) -> Result<(), Overflow> {
-        let below = beside_y(row, -1);
-        let above = beside_y(row, 1);
-        let under = beside_z(row, -1);
-        let over = beside_z(row, 1);
-        let here = row.along(0, 0, 0);
         // Twice a value minus itself is the value.
-        let before = inner(here);
-        next_row(row.param(0), before, here, below, above, under, over, out)
+        let before = inner(row.along(0, 0, 0));
+        let around = rows_around(row, before);
+        around.next_row(row.param(0), out)
     }
 }
 

@@ -19,32 +19,6 @@ pub(crate) struct Star {
     pub(crate) over: i64,
 }
 
-/// The number at a place of a row and its neighbours. Each row begins one number before the place 0.
-#[inline(always)]
-pub(crate) fn star_at(
-    row: &[i64],
-    below: &[i64],
-    above: &[i64],
-    under: &[i64],
-    over: &[i64],
-    i: usize,
-) -> Star
-    requires row { i + 2 < length row.now }
-    requires y { (i + 1 < length below.now) × (i + 1 < length above.now) }
-    requires z { (i + 1 < length under.now) × (i + 1 < length over.now) }
-    ensures { result ≡ star_at row.now below.now above.now under.now over.now i }
-{
-    Star {
-        here: row[i + 1],
-        left: row[i],
-        right: row[i + 2],
-        below: below[i + 1],
-        above: above[i + 1],
-        under: under[i + 1],
-        over: over[i + 1],
-    }
-}
-
 impl Star {
     /// The number after this one and the one before it, if it has 64 bits.
     #[inline(always)]

@@ -8,7 +8,7 @@ ghost use Rattle.cx_thorn_pde.specs.Wave.{wave_step_spec, wave_step_rule, next_w
 
 use crate::around::lap;
 use crate::exact::plus_scaled;
-use crate::next_row::{beside_y, beside_z, next_row};
+use crate::rows_around::rows_around;
 use cx_plan::{ItemKind, Region};
 use cx_rule::{Cells, Overflow, Place, PointRule, Row, RowRule, RowsOf, Spec, Window};
 use cx_text::Memory;
@@ -47,21 +47,8 @@ impl PointRule for WaveStepRule {
 
 impl RowRule for WaveStepRule {
     fn row(&self, row: &Row, out: &mut [i64]) -> Result<(), Overflow> {
-        let below = beside_y(row, -1);
-        let above = beside_y(row, 1);
-        let under = beside_z(row, -1);
-        let over = beside_z(row, 1);
-        let before = row.along(1, 0, 0);
-        next_row(
-            row.param(0),
-            before,
-            row.along(0, 0, 0),
-            below,
-            above,
-            under,
-            over,
-            out,
-        )
+        let around = rows_around(row, row.along(1, 0, 0));
+        around.next_row(row.param(0), out)
     }
 }
 

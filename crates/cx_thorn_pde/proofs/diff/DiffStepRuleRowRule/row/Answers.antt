@@ -1,43 +1,49 @@
-use Rattle.std.proofs.Common.{rules, ap, slice_index_or, SFits, w64, to_z-of_z}
+use Rattle.std.proofs.Common.{rules, ap, ◌∙◌, slice_index_or, SFits, w64, to_z-of_z}
 use Rattle.std.proofs.lemmas.Result.{on_ok_weaker, on_err_weaker}
 use Rattle.cx_rule.specs.Rows.{seen_row}
-use Rattle.cx_thorn_pde.proofs.RowLaws.{ShowsAround, heat_row, heat_lacks}
+use Rattle.cx_thorn_pde.proofs.RowLaws.{ShowsAround, ShowsItself, heat_row, heat_lacks}
 use Rattle.cx_thorn_pde.proofs.diff.DiffStepRuleRowRule.row.Goals as goal
 
 pub returns-clause-numbers : goal.returns-clause-numbers
 returns-clause-numbers c =
     let fits : SFits w64 c.param.result = search rules in
-    let around : ShowsAround (seen_row c.args.row.now) c.along-here.result.now c.beside_y-below.result.now c.beside_y-above.result.now c.beside_z-under.result.now c.beside_z-over.result.now =
+    let itself : ShowsItself (seen_row c.args.row.now) c.rows_around-around.result.before =
+    record {
+      center = c.along.result.now;
+      shows = c.along.ensures;
+      own = c.rows_around-around.ensures.before ∙ c.inner-before.ensures;
+    }
+    in
+    let around : ShowsAround (seen_row c.args.row.now) c.rows_around-around.result =
     record {
       some = c.requires.fits.some;
       dims = c.requires.fits.dims;
       reach = ap (λ rs. slice_index_or rs 0 0) c.requires.fits.reads;
-      row = c.along-here.ensures;
-      below = c.beside_y-below.ensures;
-      above = c.beside_y-above.ensures;
-      under = c.beside_z-under.ensures;
-      over = c.beside_z-over.ensures;
+      rows = c.rows_around-around.ensures.rows;
     }
     in
     on_ok_weaker c.next_row.result
-    (heat_row (seen_row c.args.row.now) c.param.result c.along-here.result.now c.beside_y-below.result.now c.beside_y-above.result.now c.beside_z-under.result.now c.beside_z-over.result.now _ _ around c.param.ensures c.requires.count)
-    (rw (to_z-of_z fits, c.inner-before.ensures) at c.next_row.ensures.numbers)
+    (heat_row (seen_row c.args.row.now) c.param.result c.rows_around-around.result _ _ around itself c.param.ensures c.requires.count)
+    (rw (to_z-of_z fits) at c.next_row.ensures.numbers)
 
 pub returns-clause-overflow : goal.returns-clause-overflow
 returns-clause-overflow c =
     let fits : SFits w64 c.param.result = search rules in
-    let around : ShowsAround (seen_row c.args.row.now) c.along-here.result.now c.beside_y-below.result.now c.beside_y-above.result.now c.beside_z-under.result.now c.beside_z-over.result.now =
+    let itself : ShowsItself (seen_row c.args.row.now) c.rows_around-around.result.before =
+    record {
+      center = c.along.result.now;
+      shows = c.along.ensures;
+      own = c.rows_around-around.ensures.before ∙ c.inner-before.ensures;
+    }
+    in
+    let around : ShowsAround (seen_row c.args.row.now) c.rows_around-around.result =
     record {
       some = c.requires.fits.some;
       dims = c.requires.fits.dims;
       reach = ap (λ rs. slice_index_or rs 0 0) c.requires.fits.reads;
-      row = c.along-here.ensures;
-      below = c.beside_y-below.ensures;
-      above = c.beside_y-above.ensures;
-      under = c.beside_z-under.ensures;
-      over = c.beside_z-over.ensures;
+      rows = c.rows_around-around.ensures.rows;
     }
     in
     on_err_weaker c.next_row.result
-    (heat_lacks (seen_row c.args.row.now) c.param.result c.along-here.result.now c.beside_y-below.result.now c.beside_y-above.result.now c.beside_z-under.result.now c.beside_z-over.result.now _ around c.param.ensures c.requires.count)
-    (rw (to_z-of_z fits, c.inner-before.ensures) at c.next_row.ensures.overflow)
+    (heat_lacks (seen_row c.args.row.now) c.param.result c.rows_around-around.result _ around itself c.param.ensures c.requires.count)
+    (rw (to_z-of_z fits) at c.next_row.ensures.overflow)

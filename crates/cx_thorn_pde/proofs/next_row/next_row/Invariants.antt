@@ -1,7 +1,0 @@
-use Rattle.std.proofs.Common.{◌≡◌, length}
-use Rattle.cx_thorn_pde.specs.Rows.{AreBy, next_at}
-use Rattle.cx_thorn_pde.proofs.next_row.next_row.Given as goal
-
-abbrev pub invariant-places : goal.invariant-places
-invariant-places l =
-    (length l.out ≡ length l.initial.out) × AreBy (next_at l.factor l.before l.row l.below l.above l.under l.over) l.out l.i
