@@ -1,5 +1,5 @@
 //! Rows of numbers with those beside them, and the next numbers along them.
-ghost use Rattle.std.specs.Prelude.{◌≡◌, ◌≤◌, ◌<◌, ◌+◌, length, true, OnOk, OnErr, Some};
+ghost use Rattle.std.specs.Prelude.{◌≡◌, ◌≤◌, ◌<◌, ◌+◌, length, true, OnOk, OnErr, Some, IfSome};
 ghost use Rattle.cx_rule.specs.Rows.{seen_row, reach_at};
 ghost use Rattle.cx_thorn_pde.specs.Near.{IsSmall, IsNear, IsNearStar, AreNear, AreNearRows};
 ghost use Rattle.cx_thorn_pde.specs.Rows.{AreBy, LacksIn, HasPlaces, ShowsRows, next_at, star_at, number_at};
@@ -36,6 +36,7 @@ impl<'r> RowsAround<'r> {
     ghost use Rattle.cx_thorn_pde.specs.Rows.{row_values};
 
     /// The rows around a row in a grid of one direction.
+    #[inline(always)]
     pub(crate) fn line(before: &'r [i64], row: &'r [i64]) -> Self
         ensures { result ≡ row_values before.now row.now row.now row.now row.now row.now }
     {
@@ -51,6 +52,7 @@ impl<'r> RowsAround<'r> {
     }
 
     /// The rows around a row in a grid of two directions.
+    #[inline(always)]
     pub(crate) fn sheet(
         before: &'r [i64],
         row: &'r [i64],
@@ -209,8 +211,71 @@ impl<'r> RowsAround<'r> {
         Ok(())
     }
 
-    #[inline(always)]
+    /// The same by sums without tests, where all numbers are near 0: in one, two and three directions by a loop that reads no row
+    /// twice.
     fn put_plain(&self, factor: i64, from: usize, to: usize, out: &mut [i64])
+        requires places { HasPlaces self.now (length out.old) }
+        requires factor { IsSmall factor }
+        requires near { AreNearRows self.now from to }
+        requires order { from ≤ to }
+        requires end { to ≤ length out.old }
+        requires before { AreBy (next_at factor self.now) out.old from }
+        ensures numbers { AreBy (next_at factor self.now) out.new to }
+        ensures room { length out.new ≡ length out.old }
+    {
+        if let Some(line) = self.as_line() {
+            line.put_near(factor, from, to, out);
+        } else if let Some(sheet) = self.as_sheet() {
+            sheet.put_near(factor, from, to, out);
+        } else {
+            self.again().put_near(factor, from, to, out);
+        }
+    }
+
+    #[inline(always)]
+    fn as_line(&self) -> Option<RowsAround<'r>>
+        ensures { IfSome result (λ rows. rows ≡ self.now) }
+    {
+        if self.dims < 2 {
+            Some(RowsAround::line(self.before, self.row))
+        } else {
+            None
+        }
+    }
+
+    #[inline(always)]
+    fn as_sheet(&self) -> Option<RowsAround<'r>>
+        ensures { IfSome result (λ rows. rows ≡ self.now) }
+    {
+        if self.dims < 3 {
+            Some(RowsAround::sheet(
+                self.before,
+                self.row,
+                self.below,
+                self.above,
+            ))
+        } else {
+            None
+        }
+    }
+
+    #[inline(always)]
+    fn again(&self) -> RowsAround<'r>
+        ensures { result ≡ self.now }
+    {
+        RowsAround {
+            dims: self.dims,
+            before: self.before,
+            row: self.row,
+            below: self.below,
+            above: self.above,
+            under: self.under,
+            over: self.over,
+        }
+    }
+
+    #[inline(always)]
+    fn put_near(&self, factor: i64, from: usize, to: usize, out: &mut [i64])
         requires places { HasPlaces self.now (length out.old) }
         requires factor { IsSmall factor }
         requires near { AreNearRows self.now from to }

@@ -1,6 +1,6 @@
 use Rattle.std.proofs.Common.{rules, Some, ◌∙◌, ap, SFits, w64, to_z-of_z}
 use Rattle.cx_thorn_pde.proofs.RowLaws.{one_more}
-use Rattle.cx_thorn_pde.proofs.rows_around.RowsAround.put_plain.Goals as goal
+use Rattle.cx_thorn_pde.proofs.rows_around.RowsAround.put_near.Goals as goal
 
 pub places-preserved : goal.places-preserved
 places-preserved c =
