@@ -3,8 +3,8 @@ ghost use Rattle.std.specs.Prelude.{◌≡◌, ◌<◌, length, drop};
 ghost use Rattle.cx_thorn_pde.specs.Heat.{diff_init_spec, diff_init_rule, diff_step_spec, diff_step_rule};
 
 use crate::around::lap;
+use crate::around_row::rows_around;
 use crate::exact::plus_scaled;
-use crate::rows_around::rows_around;
 use crate::start::start_at;
 use cx_plan::{ItemKind, Region};
 use cx_rule::{Cells, Overflow, Place, PointRule, RoutineOf, Row, RowRule, RowsOf, Spec, Window};

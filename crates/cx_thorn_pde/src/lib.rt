@@ -2,6 +2,7 @@
 #![tactic(auto)]
 
 mod around;
+mod around_row;
 mod control;
 mod diff;
 mod edges;

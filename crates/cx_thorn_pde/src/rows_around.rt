@@ -1,12 +1,11 @@
 //! Rows of numbers with those beside them, and the next numbers along them.
 ghost use Rattle.std.specs.Prelude.{◌≡◌, ◌≤◌, ◌<◌, ◌+◌, length, true, OnOk, OnErr, Some, IfSome};
-ghost use Rattle.cx_rule.specs.Rows.{seen_row, reach_at};
 ghost use Rattle.cx_thorn_pde.specs.Near.{IsSmall, IsNear, IsNearStar, AreNear, AreNearRows};
-ghost use Rattle.cx_thorn_pde.specs.Rows.{AreBy, LacksIn, HasPlaces, ShowsRows, next_at, star_at, number_at};
+ghost use Rattle.cx_thorn_pde.specs.Rows.{AreBy, LacksIn, HasPlaces, next_at, star_at, number_at};
 
 use crate::near::{are_near, is_small};
 use crate::star::Star;
-use cx_rule::{Overflow, Row};
+use cx_rule::Overflow;
 use std::marker::Model;
 
 /// A row of numbers with the numbers before them, and with the rows beside it along y and z. All but the numbers before begin one
@@ -27,9 +26,11 @@ impl<'r> Model for RowsAround<'r> {
 
     ghost Value = { RowValues };
 
-    ghost view = { λ r. row_values r.before.now r.row.now r.below.now r.above.now r.under.now r.over.now };
+    ghost view = { λ r. row_values r.before.now r.row.now
+        r.below.now r.above.now r.under.now r.over.now };
 
-    ghost invariant = { λ r. IsAlone r.dims (row_values r.before.now r.row.now r.below.now r.above.now r.under.now r.over.now) };
+    ghost invariant = { λ r. IsAlone r.dims (row_values r.before.now r.row.now
+        r.below.now r.above.now r.under.now r.over.now) };
 }
 
 impl<'r> RowsAround<'r> {
@@ -123,6 +124,7 @@ impl<'r> RowsAround<'r> {
     }
 
     /// The next number at a place.
+    #[inline(always)]
     fn next_at(&self, factor: i64, i: usize) -> Option<i64>
         requires { HasPlaces self.now (i + 1) }
         ensures { result ≡ next_at factor self.now i }
@@ -164,7 +166,7 @@ impl<'r> RowsAround<'r> {
         Ok(())
     }
 
-    /// The next numbers from a place on, before another place.
+    /// The next numbers from a place on, before another place: by plain sums where all numbers that they are computed from are near 0.
     fn next_piece(
         &self,
         factor: i64,
@@ -187,6 +189,7 @@ impl<'r> RowsAround<'r> {
         self.put_exact(factor, from, to, out)
     }
 
+    /// The same by sums that are tested one by one.
     fn put_exact(
         &self,
         factor: i64,
@@ -232,6 +235,7 @@ impl<'r> RowsAround<'r> {
         }
     }
 
+    /// The same rows where the grid has one direction.
     #[inline(always)]
     fn as_line(&self) -> Option<RowsAround<'r>>
         ensures { IfSome result (λ rows. rows ≡ self.now) }
@@ -243,22 +247,19 @@ impl<'r> RowsAround<'r> {
         }
     }
 
+    /// The same rows where the grid has one or two directions.
     #[inline(always)]
     fn as_sheet(&self) -> Option<RowsAround<'r>>
         ensures { IfSome result (λ rows. rows ≡ self.now) }
     {
         if self.dims < 3 {
-            Some(RowsAround::sheet(
-                self.before,
-                self.row,
-                self.below,
-                self.above,
-            ))
+            Some(RowsAround::sheet(self.before, self.row, self.below, self.above))
         } else {
             None
         }
     }
 
+    /// The same rows as a value of the caller's own, so that a loop need not read them again behind each number that it writes.
     #[inline(always)]
     fn again(&self) -> RowsAround<'r>
         ensures { result ≡ self.now }
@@ -274,6 +275,7 @@ impl<'r> RowsAround<'r> {
         }
     }
 
+    /// The loop of `put_plain`.
     #[inline(always)]
     fn put_near(&self, factor: i64, from: usize, to: usize, out: &mut [i64])
         requires places { HasPlaces self.now (length out.old) }
@@ -303,6 +305,7 @@ impl<'r> RowsAround<'r> {
             && self.are_near_along_z(from + 1, to + 1)
     }
 
+    /// Whether the numbers below and above are near 0, where those of the row are.
     fn are_near_along_y(&self, from: usize, to: usize) -> bool
         requires below { to ≤ length self.now.below }
         requires above { to ≤ length self.now.above }
@@ -313,6 +316,7 @@ impl<'r> RowsAround<'r> {
         self.dims < 2 || (are_near(self.below, from, to) && are_near(self.above, from, to))
     }
 
+    /// Whether the numbers under and over are near 0, where those of the row are.
     fn are_near_along_z(&self, from: usize, to: usize) -> bool
         requires under { to ≤ length self.now.under }
         requires over { to ≤ length self.now.over }
@@ -322,68 +326,6 @@ impl<'r> RowsAround<'r> {
     {
         self.dims < 3 || (are_near(self.under, from, to) && are_near(self.over, from, to))
     }
-}
-
-/// The rows around a row of the first read, with the numbers before.
-pub(crate) fn rows_around<'r>(row: &'r Row, before: &'r [i64]) -> RowsAround<'r>
-    requires some { 1 ≤ (seen_row row.now).dims }
-    requires most { (seen_row row.now).dims ≤ 3 }
-    requires read { 0 < length (seen_row row.now).reaches }
-    requires reach { reach_at (seen_row row.now) 0 ≡ 1 }
-    requires before { (seen_row row.now).count ≤ length before.now }
-    ensures rows { ShowsRows (seen_row row.now) result }
-    ensures before { result.before ≡ before.now }
-    ensures places { HasPlaces result (seen_row row.now).count }
-{
-    if row.dims() < 2 {
-        line_around(row, before)
-    } else if row.dims() < 3 {
-        sheet_around(row, before)
-    } else {
-        space_around(row, before)
-    }
-}
-
-fn line_around<'r>(row: &'r Row, before: &'r [i64]) -> RowsAround<'r>
-    requires dims { (seen_row row.now).dims ≡ 1 }
-    requires read { 0 < length (seen_row row.now).reaches }
-    requires reach { reach_at (seen_row row.now) 0 ≡ 1 }
-    requires before { (seen_row row.now).count ≤ length before.now }
-    ensures rows { ShowsRows (seen_row row.now) result }
-    ensures before { result.before ≡ before.now }
-    ensures places { HasPlaces result (seen_row row.now).count }
-{
-    RowsAround::line(before, row.along(0, 0, 0))
-}
-
-fn sheet_around<'r>(row: &'r Row, before: &'r [i64]) -> RowsAround<'r>
-    requires dims { (seen_row row.now).dims ≡ 2 }
-    requires read { 0 < length (seen_row row.now).reaches }
-    requires reach { reach_at (seen_row row.now) 0 ≡ 1 }
-    requires before { (seen_row row.now).count ≤ length before.now }
-    ensures rows { ShowsRows (seen_row row.now) result }
-    ensures before { result.before ≡ before.now }
-    ensures places { HasPlaces result (seen_row row.now).count }
-{
-    let below = row.along(0, -1, 0);
-    let above = row.along(0, 1, 0);
-    RowsAround::sheet(before, row.along(0, 0, 0), below, above)
-}
-
-fn space_around<'r>(row: &'r Row, before: &'r [i64]) -> RowsAround<'r>
-    requires dims { (seen_row row.now).dims ≡ 3 }
-    requires read { 0 < length (seen_row row.now).reaches }
-    requires reach { reach_at (seen_row row.now) 0 ≡ 1 }
-    requires before { (seen_row row.now).count ≤ length before.now }
-    ensures rows { ShowsRows (seen_row row.now) result }
-    ensures before { result.before ≡ before.now }
-    ensures places { HasPlaces result (seen_row row.now).count }
-{
-    let below = row.along(0, -1, 0);
-    let above = row.along(0, 1, 0);
-    let under = row.along(0, 0, -1);
-    let over = row.along(0, 0, 1);
-    RowsAround::space(before, row.along(0, 0, 0), below, above, under, over)
 }
 
 /// Where the piece of a row ends that begins at a place.

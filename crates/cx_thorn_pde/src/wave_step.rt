@@ -7,8 +7,8 @@ ghost use Rattle.cx_thorn_pde.specs.Exact.{in_64_bits, scaled};
 ghost use Rattle.cx_thorn_pde.specs.Wave.{wave_step_spec, wave_step_rule, next_wave};
 
 use crate::around::lap;
+use crate::around_row::rows_around;
 use crate::exact::plus_scaled;
-use crate::rows_around::rows_around;
 use cx_plan::{ItemKind, Region};
 use cx_rule::{Cells, Overflow, Place, PointRule, Row, RowRule, RowsOf, Spec, Window};
 use cx_text::Memory;
