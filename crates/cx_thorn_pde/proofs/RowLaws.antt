@@ -106,12 +106,12 @@ same_wave : (f g h i b c l m : ℤ) → f ≡ g → h ≡ i → b ≡ c → l �
     → pos 2 *ℤ h -ℤ b +ℤ scaled f l ≡ pos 2 *ℤ i -ℤ c +ℤ scaled g m
 same_wave f g h i b c l m p q r s = rw (p, q, r, s) refl
 
-before_shown : (r : SeenRow) (before : List ℤ) (i : ℕ) → reach_at r 1 ≡ 0 → ShowsAlong r 1 (pos 0) (pos 0) before
-    → i < r.count → number_at before i ≡ value_of (r.seen i) 1 here
-before_shown r before i reach shows l =
+pub alone_shown : (r : SeenRow) (k : ℕ) (ns : List ℤ) (i : ℕ) → reach_at r k ≡ 0 → ShowsAlong r k (pos 0) (pos 0) ns
+    → i < r.count → number_at ns i ≡ value_of (r.seen i) k here
+alone_shown r k ns i reach shows l =
     let none : i ≡ i + 0 = omega arith in
-    ap (number_at before) none
-    ∙ subst (λ k. number_at before (i + 0) ≡ value_of (r.seen i) 1 (offset_from k (pos 0) (pos 0) 0)) reach
+    ap (number_at ns) none
+    ∙ subst (λ m. number_at ns (i + 0) ≡ value_of (r.seen i) k (offset_from m (pos 0) (pos 0) 0)) reach
     (shows.each i 0 l (omega arith))
 
 wave_at : (r : SeenRow) (factor : ℤ) (v : RowValues) (i : ℕ)
@@ -120,7 +120,7 @@ wave_at : (r : SeenRow) (factor : ℤ) (v : RowValues) (i : ℕ)
     → in_64_bits (next_wave (r.seen i) (param_of (r.place i) 0)) ≡ next_at factor v i
 wave_at r factor v i a reach shows same l =
     ap in_64_bits (sym (same_wave _ _ _ _ _ _ _ _ (same i) (here_shown r v i a l)
-    (before_shown r v.before i reach shows l) (around_lap r v i a l)))
+    (alone_shown r 1 v.before i reach shows l) (around_lap r v i a l)))
 
 pub wave_row : (r : SeenRow) (factor : ℤ) (v : RowValues) (next : List ℤ) (n : ℕ)
     → ShowsAround r v → reach_at r 1 ≡ 0 → ShowsAlong r 1 (pos 0) (pos 0) v.before

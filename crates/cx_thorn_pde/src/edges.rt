@@ -1,15 +1,18 @@
 //! The edges of waves and heat.
-ghost use Rattle.std.specs.Prelude.{◌≡◌};
+ghost use Rattle.std.specs.Prelude.{◌≡◌, ◌≤◌, ◌<◌, length, Some};
+ghost use Rattle.cx_rule.specs.Rows.{GivesRow, seen_row, reach_at};
+ghost use Rattle.cx_rule.specs.Single.{read_rule, param_rule};
+ghost use Rattle.cx_thorn_pde.specs.Rows.{AreBy};
 ghost use Rattle.cx_thorn_pde.specs.Wave.{wave_flat_spec, wave_flat_rule, wave_copy_spec, wave_copy_rule, wave_scalar_spec, wave_scalar_rule};
 ghost use Rattle.cx_thorn_pde.specs.Heat.{diff_flat_spec, diff_flat_rule, diff_scalar_spec, diff_scalar_rule};
 
 use cx_plan::{ItemKind, Region};
-use cx_rule::{Cells, Overflow, Place, PointRule, RoutineOf, Spec, Window};
+use cx_rule::{Cells, Overflow, Place, PointRule, Row, RowRule, RowsOf, Spec, Window};
 use cx_text::Memory;
 use std::alloc::Global;
 
 /// The routine `wave_flat`: each boundary point becomes what is read, `wave::phi` at the nearest point inside.
-pub type WaveFlat = RoutineOf<WaveFlatRule>;
+pub type WaveFlat = RowsOf<WaveFlatRule>;
 
 /// The rule of `wave_flat`.
 #[derive(Debug, Drop)]
@@ -37,8 +40,15 @@ impl PointRule for WaveFlatRule {
     }
 }
 
+impl RowRule for WaveFlatRule {
+    fn row(&self, row: &Row, out: &mut [i64]) -> Result<(), Overflow> {
+        read_along(row, out);
+        Ok(())
+    }
+}
+
 /// The routine `wave_copy`: each boundary point becomes what is read, the last level at the nearest point inside.
-pub type WaveCopy = RoutineOf<WaveCopyRule>;
+pub type WaveCopy = RowsOf<WaveCopyRule>;
 
 /// The rule of `wave_copy`.
 #[derive(Debug, Drop)]
@@ -66,8 +76,15 @@ impl PointRule for WaveCopyRule {
     }
 }
 
+impl RowRule for WaveCopyRule {
+    fn row(&self, row: &Row, out: &mut [i64]) -> Result<(), Overflow> {
+        read_along(row, out);
+        Ok(())
+    }
+}
+
 /// The routine `wave_scalar`: each boundary point becomes `wave::edge`.
-pub type WaveScalar = RoutineOf<WaveScalarRule>;
+pub type WaveScalar = RowsOf<WaveScalarRule>;
 
 /// The rule of `wave_scalar`.
 #[derive(Debug, Drop)]
@@ -95,8 +112,15 @@ impl PointRule for WaveScalarRule {
     }
 }
 
+impl RowRule for WaveScalarRule {
+    fn row(&self, row: &Row, out: &mut [i64]) -> Result<(), Overflow> {
+        param_along(row, out);
+        Ok(())
+    }
+}
+
 /// The routine `diff_flat`: each boundary point becomes what is read, `diff::u` at the nearest point inside.
-pub type DiffFlat = RoutineOf<DiffFlatRule>;
+pub type DiffFlat = RowsOf<DiffFlatRule>;
 
 /// The rule of `diff_flat`.
 #[derive(Debug, Drop)]
@@ -124,8 +148,15 @@ impl PointRule for DiffFlatRule {
     }
 }
 
+impl RowRule for DiffFlatRule {
+    fn row(&self, row: &Row, out: &mut [i64]) -> Result<(), Overflow> {
+        read_along(row, out);
+        Ok(())
+    }
+}
+
 /// The routine `diff_scalar`: each boundary point becomes `diff::edge`.
-pub type DiffScalar = RoutineOf<DiffScalarRule>;
+pub type DiffScalar = RowsOf<DiffScalarRule>;
 
 /// The rule of `diff_scalar`.
 #[derive(Debug, Drop)]
@@ -150,5 +181,43 @@ impl PointRule for DiffScalarRule {
     fn numbers(&self, _w: &Window, at: &Place, out: &mut Cells) -> Result<(), Overflow> {
         out.set_only(at.param(0));
         Ok(())
+    }
+}
+
+impl RowRule for DiffScalarRule {
+    fn row(&self, row: &Row, out: &mut [i64]) -> Result<(), Overflow> {
+        param_along(row, out);
+        Ok(())
+    }
+}
+
+/// The numbers of the first read along a row.
+fn read_along(row: &Row, out: &mut [i64])
+    requires some { 1 ≤ (seen_row row.now).dims }
+    requires read { 0 < length (seen_row row.now).reaches }
+    requires reach { reach_at (seen_row row.now) 0 ≡ 0 }
+    requires count { length out.old ≡ row.now.count }
+    ensures numbers { GivesRow read_rule (seen_row row.now) out.new }
+    ensures room { length out.new ≡ length out.old }
+{
+    out.copy_from_slice(row.along(0, 0, 0));
+}
+
+/// The first parameter along a row.
+fn param_along(row: &Row, out: &mut [i64])
+    requires params { 0 < length ((seen_row row.now).place 0).params }
+    requires count { length out.old ≡ row.now.count }
+    ensures numbers { GivesRow param_rule (seen_row row.now) out.new }
+    ensures room { length out.new ≡ length out.old }
+{
+    put_everywhere(row.param(0), out);
+}
+
+fn put_everywhere(number: i64, out: &mut [i64])
+    ensures numbers { AreBy (λ _. Some number) out.new (length out.old) }
+    ensures room { length out.new ≡ length out.old }
+{
+    'places: for i in 0..out.len() {
+        out[i] = number;
     }
 }
