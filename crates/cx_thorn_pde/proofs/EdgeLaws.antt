@@ -1,5 +1,5 @@
 -- Rows of boundary points.
-use Rattle.std.proofs.Common.{◌≡◌, ℕ, ◌<◌, ℤ, pos, List, ◌∷◌, [], Some, ap, sym, ◌∙◌, arith}
+use Rattle.std.proofs.Common.{◌≡◌, ℕ, ℤ, pos, List, ◌∷◌, [], Some, ap, sym, ◌∙◌, arith}
 use Rattle.cx_rule.specs.Place.{param_of}
 use Rattle.cx_rule.specs.Rows.{SeenRow, ShowsAlong, GivesRow, reach_at}
 use Rattle.cx_rule.specs.Single.{one_number, read_rule, param_rule}

@@ -1,13 +1,12 @@
 -- Numbers near 0, and what is computed of them.
-use Rattle.std.proofs.Common.{◌≡◌, ◌≢◌, ℕ, ℤ, pos, negsuc, ◌+◌, ◌<◌, ◌≤◌, ◌/◌, ◌^◌, ◌*ℤ◌, ◌≤ℤ◌, ◌⊎◌, inl, inr, List, Some, arith, refl, sym, ap, subst, lit<, w64}
+use Rattle.std.proofs.Common.{◌≡◌, ◌≢◌, ℕ, ℤ, pos, negsuc, ◌+◌, ◌<◌, ◌≤◌, ◌/◌, ◌^◌, ◌*ℤ◌, ◌≤ℤ◌, ◌⊎◌, inl, inr, List, arith, refl, sym, subst, lit<, w64}
 use Rattle.std.specs.Prelude.{FitsSigned, unsigned_abs, bit_or}
 use Rattle.std.specs.Int.{int_div_euclid}
 use lib.Signed.{shr_z}
 use Rattle.std.proofs.lemmas.Bool.{cases_eq}
 use Rattle.std.proofs.lemmas.Int.{ints, fits_signed_mul}
 use Rattle.std.proofs.lemmas.Nat.{le_or_l, le_or_r}
-use Rattle.cx_thorn_pde.specs.Exact.{scaled}
-use Rattle.cx_thorn_pde.specs.Near.{IsNear, IsNearStar, IsSmall, AreNear, AreNearRows}
+use Rattle.cx_thorn_pde.specs.Near.{IsNear, IsNearStar, IsSmall, AreNearRows}
 use Rattle.cx_thorn_pde.specs.Rows.{number_at, RowValues, star_at}
 
 -- the numbers up to a place are near where all that was gathered of them is below 2^41

@@ -1,4 +1,4 @@
-use Rattle.std.proofs.Common.{to_z-of_z, refl}
+use Rattle.std.proofs.Common.{to_z-of_z}
 use Rattle.cx_thorn_pde.proofs.NearLaws.{shifted, above, below, over_256_fits}
 use Rattle.cx_thorn_pde.proofs.plain.in_256ths.Goals as goal
 

@@ -1,4 +1,4 @@
-use Rattle.std.proofs.Common.{to_z-of_z, refl, FitsSigned, ◌*ℤ◌, w64}
+use Rattle.std.proofs.Common.{to_z-of_z, FitsSigned, ◌*ℤ◌, w64}
 use Rattle.cx_thorn_pde.proofs.NearLaws.{product_fits}
 use Rattle.cx_thorn_pde.proofs.plain.product.Goals as goal
 

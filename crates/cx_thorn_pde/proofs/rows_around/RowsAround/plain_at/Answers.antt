@@ -1,4 +1,4 @@
-use Rattle.std.proofs.Common.{◌≡◌, rules, Some, ◌∙◌, ap, sym, SFits, w64, to_z-of_z}
+use Rattle.std.proofs.Common.{◌≡◌, rules, ◌∙◌, ap, SFits, w64, to_z-of_z}
 use Rattle.cx_thorn_pde.proofs.Ranges.{fits}
 use Rattle.cx_thorn_pde.specs.Exact.{in_64_bits}
 use Rattle.cx_thorn_pde.specs.Rows.{next_of, number_at, star_at}
