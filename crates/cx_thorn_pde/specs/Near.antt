@@ -3,7 +3,7 @@ use Rattle.std.specs.Prelude.{ℕ, ℤ, pos, negsuc, ◌+◌, ◌<◌, ◌≤◌
 use Rattle.cx_thorn_pde.specs.Rows.{number_at, RowValues}
 use Rattle.cx_thorn_pde.specs.declared.star.Star.{Star}
 
--- a number at most 2^40 from 0, and a factor at most 2^16 from 0
+-- a number about 2^40 from 0 at most, and a factor about 2^16 from 0 at most
 pub record IsNear (n : ℤ) : Type 0 where
   pub low : negsuc (2 ^ 40) ≤ℤ n
   pub high : n ≤ℤ pos (2 ^ 40)

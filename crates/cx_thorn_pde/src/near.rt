@@ -1,15 +1,19 @@
 //! Numbers near 0, of which no sum on the way to the next number leaves 64 bits.
-ghost use Rattle.std.specs.Prelude.{◌≡◌, ◌≤◌, ◌<◌, ◌^◌, length, true};
-ghost use Rattle.cx_thorn_pde.specs.Near.{IsNear, IsSmall, AreNear};
+ghost use Rattle.std.specs.Prelude.{◌≡◌, ◌≤◌, ◌<◌, ◌^◌, length, true, pos, IfSome};
+ghost use Rattle.cx_thorn_pde.specs.Near.{IsNear, AreNear};
 
-/// Whether a factor is so near 0.
-pub(crate) fn is_small(factor: i64) -> bool
-    ensures { result ≡ true → IsSmall factor }
+/// A factor from 0 to 2^16 as a number without a sign, so that its products in lanes are short.
+pub(crate) fn small_factor(factor: i64) -> Option<u32>
+    ensures { IfSome result (λ small. (factor ≡ pos small) × (small ≤ 2 ^ 16)) }
 {
-    -65536 <= factor && factor <= 65536
+    if 0 <= factor && factor <= 65536 {
+        Some(factor as u32)
+    } else {
+        None
+    }
 }
 
-/// Whether the numbers of a row from a place on, before another place, are so near 0.
+/// Whether the numbers of a row from a place on, before another place, are at most 2^40 from 0.
 pub(crate) fn are_near(numbers: &[i64], from: usize, to: usize) -> bool
     requires { to ≤ length numbers.now }
     ensures { result ≡ true → AreNear numbers.now from to }

@@ -1,5 +1,5 @@
 //! The next numbers by sums without tests, where all numbers are near 0.
-ghost use Rattle.std.specs.Prelude.{◌≡◌, ◌≤ℤ◌, ◌^◌, ◌+ℤ◌, ◌-ℤ◌, ◌*ℤ◌, pos, negsuc};
+ghost use Rattle.std.specs.Prelude.{◌≡◌, ◌≤◌, ◌≤ℤ◌, ◌^◌, ◌+ℤ◌, ◌-ℤ◌, ◌*ℤ◌, pos, negsuc};
 ghost use Rattle.std.specs.Int.{int_div_euclid};
 ghost use Rattle.cx_thorn_pde.specs.Exact.{scaled};
 ghost use Rattle.cx_thorn_pde.specs.Near.{IsNear, IsSmall, IsNearStar};
@@ -10,11 +10,11 @@ use crate::star::Star;
 impl Star {
     /// The number after this one and the one before it.
     #[inline(always)]
-    pub(crate) fn next_plain(&self, factor: i64, before: i64) -> i64
+    pub(crate) fn next_plain(&self, factor: u32, before: i64) -> i64
         requires star { IsNearStar self.now }
-        requires factor { IsSmall factor }
+        requires factor { factor ≤ 2 ^ 16 }
         requires before { IsNear before }
-        ensures { result ≡ next_of factor before self.now }
+        ensures { result ≡ next_of (pos factor) before self.now }
     {
         let base = twice_minus(self.here, before);
         plus(base, part(factor, self.lap_plain()))
@@ -110,15 +110,15 @@ fn plus(base: i64, part: i64) -> i64
 
 /// A factor, in 256ths, times a bend, rounded down.
 #[inline(always)]
-fn part(factor: i64, bend: i64) -> i64
-    requires factor { IsSmall factor }
+fn part(factor: u32, bend: i64) -> i64
+    requires factor { factor ≤ 2 ^ 16 }
     requires low { negsuc (2 ^ 46) ≤ℤ bend }
     requires high { bend ≤ℤ pos (2 ^ 46) }
-    ensures value { result ≡ scaled factor bend }
+    ensures value { result ≡ scaled (pos factor) bend }
     ensures low { negsuc (2 ^ 62) ≤ℤ result }
     ensures high { result ≤ℤ pos (2 ^ 62) }
 {
-    in_256ths(product(factor, bend))
+    in_256ths(product(factor as i64, bend))
 }
 
 /// The product of a small factor and a bend.

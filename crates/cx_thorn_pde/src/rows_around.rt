@@ -1,9 +1,9 @@
 //! Rows of numbers with those beside them, and the next numbers along them.
-ghost use Rattle.std.specs.Prelude.{◌≡◌, ◌≤◌, ◌<◌, ◌+◌, length, true, OnOk, OnErr, Some, IfSome};
-ghost use Rattle.cx_thorn_pde.specs.Near.{IsSmall, IsNear, IsNearStar, AreNear, AreNearRows};
+ghost use Rattle.std.specs.Prelude.{◌≡◌, ◌≤◌, ◌<◌, ◌+◌, ◌^◌, length, pos, true, OnOk, OnErr, Some, IfSome};
+ghost use Rattle.cx_thorn_pde.specs.Near.{IsNear, IsNearStar, AreNear, AreNearRows};
 ghost use Rattle.cx_thorn_pde.specs.Rows.{AreBy, LacksIn, HasPlaces, next_at, star_at, number_at};
 
-use crate::near::{are_near, is_small};
+use crate::near::{are_near, small_factor};
 use crate::star::Star;
 use cx_rule::Overflow;
 use std::marker::Model;
@@ -134,12 +134,12 @@ impl<'r> RowsAround<'r> {
 
     /// The same without tests, where the numbers are near 0.
     #[inline(always)]
-    fn plain_at(&self, factor: i64, i: usize) -> i64
+    fn plain_at(&self, factor: u32, i: usize) -> i64
         requires places { HasPlaces self.now (i + 1) }
-        requires factor { IsSmall factor }
+        requires factor { factor ≤ 2 ^ 16 }
         requires star { IsNearStar (star_at self.now i) }
         requires before { IsNear (number_at self.now.before i) }
-        ensures { Some result ≡ next_at factor self.now i }
+        ensures { Some result ≡ next_at (pos factor) self.now i }
     {
         self.star_at(i).next_plain(factor, self.before_at(i))
     }
@@ -182,8 +182,10 @@ impl<'r> RowsAround<'r> {
         ensures overflow { OnErr result (LacksIn (next_at factor self.now) to) }
         ensures room { length out.new ≡ length out.old }
     {
-        if is_small(factor) && self.are_near(from, to) {
-            self.put_plain(factor, from, to, out);
+        if let Some(small) = small_factor(factor)
+            && self.are_near(from, to)
+        {
+            self.put_plain(small, from, to, out);
             return Ok(());
         }
         self.put_exact(factor, from, to, out)
@@ -216,14 +218,15 @@ impl<'r> RowsAround<'r> {
 
     /// The same by sums without tests, where all numbers are near 0: in one, two and three directions by a loop that reads no row
     /// twice.
-    fn put_plain(&self, factor: i64, from: usize, to: usize, out: &mut [i64])
+    #[inline(never)]
+    fn put_plain(&self, factor: u32, from: usize, to: usize, out: &mut [i64])
         requires places { HasPlaces self.now (length out.old) }
-        requires factor { IsSmall factor }
+        requires factor { factor ≤ 2 ^ 16 }
         requires near { AreNearRows self.now from to }
         requires order { from ≤ to }
         requires end { to ≤ length out.old }
-        requires before { AreBy (next_at factor self.now) out.old from }
-        ensures numbers { AreBy (next_at factor self.now) out.new to }
+        requires before { AreBy (next_at (pos factor) self.now) out.old from }
+        ensures numbers { AreBy (next_at (pos factor) self.now) out.new to }
         ensures room { length out.new ≡ length out.old }
     {
         if let Some(line) = self.as_line() {
@@ -277,14 +280,14 @@ impl<'r> RowsAround<'r> {
 
     /// The loop of `put_plain`.
     #[inline(always)]
-    fn put_near(&self, factor: i64, from: usize, to: usize, out: &mut [i64])
+    fn put_near(&self, factor: u32, from: usize, to: usize, out: &mut [i64])
         requires places { HasPlaces self.now (length out.old) }
-        requires factor { IsSmall factor }
+        requires factor { factor ≤ 2 ^ 16 }
         requires near { AreNearRows self.now from to }
         requires order { from ≤ to }
         requires end { to ≤ length out.old }
-        requires before { AreBy (next_at factor self.now) out.old from }
-        ensures numbers { AreBy (next_at factor self.now) out.new to }
+        requires before { AreBy (next_at (pos factor) self.now) out.old from }
+        ensures numbers { AreBy (next_at (pos factor) self.now) out.new to }
         ensures room { length out.new ≡ length out.old }
     {
         'places: for i in from..to {
