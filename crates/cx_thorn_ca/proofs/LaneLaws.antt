@@ -1,7 +1,7 @@
 -- Vectors of sixteen numbers.
-use Rattle.std.proofs.Common.{◌≡◌, ◌≢◌, ℕ, zero, suc, ◌+◌, ◌*◌, ◌-◌, ◌%◌, ◌<◌, ◌≤◌, ◌^◌, Bool, true, false, arith, refl, sym, ap, ◌∙◌, subst, cond, eqb, ◌⊎◌, inl, inr, ℤ, pos, negsuc, List, [], ◌∷◌, ◌++◌, length, map, replicate, SFits, w8, w64, to_z, of_z, ◌/◌}
+use Rattle.std.proofs.Common.{◌≡◌, ◌≢◌, ℕ, zero, suc, ◌+◌, ◌*◌, ◌-◌, ◌%◌, ◌<◌, ◌≤◌, ◌^◌, Bool, true, false, arith, refl, sym, ap, ◌∙◌, subst, cond, eqb, ◌⊎◌, inl, inr, ℤ, pos, negsuc, List, [], ◌∷◌, ◌++◌, length, map, replicate, SFits, w8, w64, of_z, ◌/◌}
 use Rattle.std.specs.Prelude.{nat_eq, unsigned_abs}
-use Rattle.std.proofs.lemmas.Bool.{ne_eqb, cases_lt, cases_eq}
+use Rattle.std.proofs.lemmas.Bool.{ne_eqb, cases_eq}
 use Rattle.std.proofs.lemmas.Simd.{length-zip2, get_or-zip2, bitmask_splat, bit_mask_l}
 use Rattle.std.proofs.lemmas.List.{get_or-map}
 use Rattle.std.specs.Simd.Lanes.{zip2, top, mask_l}

@@ -1,5 +1,5 @@
 -- Two cells at a time, by a table.
-use Rattle.std.proofs.Common.{◌≡◌, ℕ, suc, ◌+◌, ◌*◌, ◌/◌, ◌%◌, ◌^◌, ◌<◌, ◌≤◌, arith, refl, sym, ap, ◌∙◌, subst, ℤ, pos, List, Bool, true, false}
+use Rattle.std.proofs.Common.{◌≡◌, ℕ, suc, ◌+◌, ◌*◌, ◌/◌, ◌%◌, ◌^◌, ◌<◌, arith, refl, sym, ap, ◌∙◌, subst, ℤ, List, Bool, true, false}
 use Rattle.std.specs.Prelude.{if◌then◌else◌, nat_eq, unsigned_abs}
 use Rattle.std.proofs.Math.Nat.{div-div-eq-div-mul, pow-succ'}
 use Rattle.cx_thorn_ca.specs.Automaton.{alive_of}

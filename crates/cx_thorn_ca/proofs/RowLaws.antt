@@ -1,5 +1,5 @@
 -- Rows that grow by one number, and rows of cells that a rule sees.
-use Rattle.std.proofs.Common.{◌≡◌, ◌≢◌, ℕ, ◌+◌, ◌<◌, ◌≤◌, arith, refl, sym, ap, ◌∙◌, subst, ◌⊎◌, inl, inr, ℤ, pos, negsuc, List, [], ◌∷◌, length, slice_set, slice_index_or, Some, ◌*◌, ◌%◌, Bool, true, false}
+use Rattle.std.proofs.Common.{◌≡◌, ◌≢◌, ℕ, ◌+◌, ◌<◌, ◌≤◌, arith, refl, sym, ap, ◌∙◌, subst, ◌⊎◌, inl, inr, ℤ, pos, negsuc, List, [], ◌∷◌, length, slice_set, slice_index_or, Some, Bool, true, false}
 use Rattle.std.specs.Prelude.{if◌then◌else◌, nat_eq, unsigned_abs}
 use Rattle.std.proofs.lemmas.Bool.{cases_eq}
 use Rattle.std.proofs.lemmas.List.{get_or-set_same, get_or-set_other, length-set}

@@ -1,5 +1,5 @@
 -- A table of bits, by the counts along a row of a sheet.
-use Rattle.std.proofs.Common.{◌≡◌, ℕ, ◌+◌, ◌-◌, ◌*◌, ◌<◌, ◌≤◌, arith, refl, ap, ◌∙◌, ℤ, pos, List, Bool, true, false, nat_lt, nat_eq}
+use Rattle.std.proofs.Common.{◌≡◌, ℕ, ◌+◌, ◌-◌, ◌*◌, ◌≤◌, arith, ap, ◌∙◌, ℤ, pos, List, Bool, true, false, nat_lt, nat_eq}
 use Rattle.std.specs.Prelude.{if◌then◌else◌, unsigned_abs}
 use Rattle.cx_rule.specs.Numbers.{bit_of}
 use Rattle.cx_thorn_ca.specs.Rows.{cell_at, AreBy, bit_at, life_bit, living_at, count_at, counted_at, next_amid}

@@ -87,7 +87,8 @@ pub(crate) fn put_block(table: &[i64], indices: &[u8], next_cells: &mut [i64], i
     requires indices { 14 ≤ length indices.now }
     requires few { (k : ℕ) → k < 14 → lane indices.now k < length table.now }
     requires room { i + 14 ≤ length next_cells.old }
-    ensures cells { (f : ℕ → ℤ) → AreBy f next_cells.old i → ((k : ℕ) → k < 14 → cell_at table.now (lane indices.now k) ≡ f (i + k))
+    ensures cells { (f : ℕ → ℤ) → AreBy f next_cells.old i
+        → ((k : ℕ) → k < 14 → cell_at table.now (lane indices.now k) ≡ f (i + k))
         → AreBy f next_cells.new (i + 14) }
     ensures room { length next_cells.new ≡ length next_cells.old }
 {

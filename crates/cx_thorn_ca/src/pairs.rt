@@ -5,8 +5,8 @@ ghost use Rattle.cx_thorn_ca.specs.Rows.{cell_at, AreBy, next_at, three_of, turn
 use crate::lanes::living_bits;
 use cx_rule::bit;
 
-/// Puts the next cells of the two middle ones of four cells into a table, at twice the number whose bits are these four, the first
-/// one as the lowest, and behind it.
+/// Puts into a table what follows the two middle ones of four cells, at twice the number whose bits are these four, the first one's
+/// as the lowest, and behind it.
 pub(crate) fn put_pair_bits(rule: i64, table: &mut [i64])
     requires { length table.old ≤ 32 }
     ensures bits { AreBy (pair_bit rule) table.new (length table.old) }

@@ -66,7 +66,8 @@ fn put_blocks(
     requires below { length below.now ≡ length next_cells.old + 2 }
     requires cells { length cells.now ≡ length next_cells.old + 2 }
     requires above { length above.now ≡ length next_cells.old + 2 }
-    ensures cells { AreBy (counted_at table.now below.now cells.now above.now) next_cells.new result }
+    ensures cells { AreBy (counted_at table.now below.now cells.now above.now) next_cells.new
+        result }
     ensures room { length next_cells.new ≡ length next_cells.old }
 {
     let mut i = 0;
@@ -91,7 +92,8 @@ fn put_rest(
     requires below { length below.now ≡ length next_cells.old + 2 }
     requires cells { length cells.now ≡ length next_cells.old + 2 }
     requires above { length above.now ≡ length next_cells.old + 2 }
-    requires before { AreBy (counted_at table.now below.now cells.now above.now) next_cells.old from }
+    requires before { AreBy (counted_at table.now below.now cells.now above.now) next_cells.old
+        from }
     ensures cells { AreBy (counted_at table.now below.now cells.now above.now) next_cells.new
         (length next_cells.old) }
     ensures room { length next_cells.new ≡ length next_cells.old }

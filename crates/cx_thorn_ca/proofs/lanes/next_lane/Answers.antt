@@ -1,5 +1,5 @@
-use Rattle.std.proofs.Common.{◌≡◌, ◌<◌, ◌+◌, ◌++◌, ℕ, arith, refl, slice_index_or}
-use Rattle.cx_thorn_ca.specs.Lanes.{lane, HasLanes}
+use Rattle.std.proofs.Common.{◌≡◌, ◌<◌, ◌++◌, ℕ, arith, refl}
+use Rattle.cx_thorn_ca.specs.Lanes.{lane}
 use Rattle.cx_thorn_ca.proofs.LaneLaws.{by_fifteen, in_front}
 use Rattle.cx_thorn_ca.proofs.lanes.next_lane.Goals as goal
 

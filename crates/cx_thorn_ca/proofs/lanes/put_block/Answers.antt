@@ -1,4 +1,4 @@
-use Rattle.std.proofs.Common.{rules, ◌≡◌, ◌<◌, ◌+◌, ◌∙◌, arith, length, SFits, w64, to_z-of_z}
+use Rattle.std.proofs.Common.{rules, ◌<◌, ◌+◌, ◌∙◌, arith, length, SFits, w64, to_z-of_z}
 use Rattle.cx_thorn_ca.specs.Rows.{cell_at}
 use Rattle.cx_thorn_ca.specs.Lanes.{lane}
 use Rattle.cx_thorn_ca.proofs.RowLaws.{one_more}

@@ -1,4 +1,4 @@
-use Rattle.std.proofs.Common.{rules, ◌≡◌, ◌<◌, ◌∙◌, ap, length, arith}
+use Rattle.std.proofs.Common.{rules, ap}
 use Rattle.cx_thorn_ca.specs.Rows.{cell_at}
 use Rattle.cx_thorn_ca.specs.Rows.{counted_at}
 use Rattle.cx_thorn_ca.proofs.LaneLaws.{lane_few}

@@ -1,5 +1,5 @@
-use Rattle.std.proofs.Common.{rules, ◌+◌, ◌<◌, ◌∙◌, length, SFits, w64, to_z, of_z, to_z-of_z}
-use Rattle.cx_thorn_ca.specs.Rows.{cell_at, life_bit}
+use Rattle.std.proofs.Common.{rules, ◌<◌, ◌∙◌, length, SFits, w64, to_z, of_z, to_z-of_z}
+use Rattle.cx_thorn_ca.specs.Rows.{life_bit}
 use Rattle.cx_thorn_ca.proofs.RowLaws.{one_more}
 use Rattle.cx_thorn_ca.proofs.sheet_row.put_life_bits.Goals as goal
 
