@@ -1,0 +1,2 @@
+mod TestedSpecs
+mod TrialLaws

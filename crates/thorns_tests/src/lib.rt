@@ -6,6 +6,8 @@ mod ascii;
 #[cfg(test)]
 mod ca;
 #[cfg(test)]
+mod fields;
+#[cfg(test)]
 mod grid;
 #[cfg(test)]
 mod pde;
@@ -15,3 +17,9 @@ mod plan;
 mod points;
 #[cfg(test)]
 mod rule;
+#[cfg(test)]
+mod stages;
+#[cfg(test)]
+mod sweeps;
+#[cfg(test)]
+mod trials;
