@@ -1,5 +1,5 @@
 -- The thorns' Cell routines whose sweeps are tested.
-use Rattle.std.proofs.Common.{◌≡◌, ℕ, zero, suc, ◌≤◌, ◌^◌, true, ℤ, List, [], ◌∷◌, length, arith, refl}
+use Rattle.std.proofs.Common.{◌≡◌, ℕ, zero, suc, ◌≤◌, true, ℤ, List, [], ◌∷◌, length, arith, refl}
 use Rattle.cx_text.specs.Lexemes.{same_name}
 use Rattle.cx_grid.specs.declared.shapes.Shape.{Shape}
 use Rattle.cx_plan.specs.declared.item.ItemKind.TheVariants.{Cell}

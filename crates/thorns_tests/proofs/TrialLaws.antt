@@ -1,30 +1,25 @@
 -- Parts of a field, and what can be swept in them.
-use Rattle.std.proofs.Common.{◌≡◌, ℕ, zero, suc, ◌+◌, ◌-◌, ◌<◌, ◌≤◌, ◌^◌, List, [], ◌∷◌, length, map, arith, refl, sym, ap, ◌∙◌, subst, ℤ, pos, ◌+ℤ◌, ◌≤ℤ◌, ◌<ℤ◌, inl, Bool, true, Result, Ok, Err, All, min, max, replicate}
-use Rattle.std.specs.Prelude.{slice_index_or, slice_set}
-use Rattle.std.proofs.lemmas.Int.{ints}
+use Rattle.std.proofs.Common.{◌≡◌, ℕ, zero, suc, ◌-◌, ◌≤◌, ◌^◌, List, [], ◌∷◌, length, map, arith, refl, sym, ap, ◌∙◌, subst, ℤ, inl, Bool, true, Result, Ok, Err, All, min, max}
 use Rattle.std.proofs.lemmas.List.{length-map, length-replicate, length-set}
 use Rattle.cx_grid.specs.declared.boxes.Point.{Point}
 use Rattle.cx_grid.specs.declared.boxes.Box3.{Box3}
 use Rattle.cx_grid.specs.declared.shapes.Shape.{Shape}
 use Rattle.cx_grid.specs.Boxes.{IsIn, point_count}
 use Rattle.cx_grid.specs.Grid.{IsShape, whole, wrap}
-use Rattle.cx_cut.specs.Axis.{own_low, own_high, IsAxisCut}
-use Rattle.cx_cut.specs.Cuts.{Parts, IsWhole, part_count, owned, local}
-use Rattle.cx_cut.proofs.AxisFacts.{start_more, start_le}
-use Rattle.cx_cut.proofs.Boxed.{place_below}
+use Rattle.cx_cut.specs.Cuts.{Parts, local}
 use Rattle.cx_plan.specs.declared.item.Item.{Item}
 use Rattle.cx_plan.specs.declared.item.Touch.{Touch}
 use Rattle.cx_plan.specs.declared.variable.VarInfo.{VarInfo}
 use Rattle.cx_plan.specs.Regions.{has_shape, region_of, within_ghosts}
 use Rattle.cx_rule.specs.Jobs.{of_touch, of_want, IsRoutineOf}
-use Rattle.cx_rule.specs.Patches.{PatchValue, IsPart, IsPatch, IsStored, new_patch, value_count, setup_in, values_in, with_numbers}
+use Rattle.cx_rule.specs.Patches.{PatchValue, IsPatch, IsStored, new_patch, value_count, setup_in, values_in, with_numbers}
 use Rattle.cx_rule.specs.Routine.{Rule, Fits}
 use Rattle.cx_rule.specs.Seen.{Seen}
 use Rattle.cx_rule.specs.Sweeps.{seen_at, place_at, window_point}
 use Rattle.cx_rule.specs.declared.place.Place.{Place}
 use Rattle.cx_rule.proofs.StageLaws.{can_call}
 use Rattle.cx_rule.specs.Staging.{CanStage, Stages, CanCommit, Commits, staged_at, with_one_staged, with_row_staged}
-use Rattle.cx_rule.specs.Swept.{CanSweep, IsSamePatch, Sweeps, swept_zone, window_from}
+use Rattle.cx_rule.specs.Swept.{IsSamePatch, Sweeps, swept_zone, window_from}
 use Rattle.cx_rule.specs.Zones.{in_zone}
 use Rattle.cx_rule.specs.declared.zone.Zone.{Zone}
 use Rattle.cx_rule.specs.declared.routine.Overflow.{Overflow}
@@ -32,43 +27,6 @@ use Rattle.cx_rule.specs.declared.spec.Spec.{Spec}
 use Rattle.cx_rule.specs.declared.spec.Want.{Want}
 use Rattle.cx_rule.proofs.SweptLaws.{can_stage, can_commit}
 use Rattle.thorns_tests.specs.Fields.{field_vars, field_on, touch_of, item_for, first_item, IsTested, IsFieldFor, IsTrial, IsSamePart}
-
--- ---- the boxes of a part
-
--- what a part owns of a direction
-record Span (n g low high : ℤ) : Type 0 where
-  from : pos 0 ≤ℤ low
-  to : high ≤ℤ n
-  some : low <ℤ high
-  wide : (low +ℤ g) ≤ℤ high
-
-span : (n g : ℤ) (ws : List ℕ) (a : ℕ) → IsAxisCut n g ws → a < length ws → Span n g (own_low ws a) (own_high ws a)
-span n g ws a w l =
-    let more = start_more ws a l in
-    let end = start_le ws (suc a) in
-    let total = w.total in
-    let wide = w.wide a l in
-    let some = w.some a l in
-    record {
-      from = omega (arith, ints);
-      to = omega (arith, ints, total, end);
-      some = omega (arith, ints, more, some);
-      wide = omega (arith, ints, more, wide);
-    }
-
-pub part_is : (c : Parts) → IsWhole c → (k : ℕ) → k < part_count c → IsPart c.shape (owned c k) (local c k)
-part_is c w k hk =
-    let x = span _ _ c.x _ w.cut.x (place_below c k hk 0 (omega arith)) in
-    let y = span _ _ c.y _ w.cut.y (place_below c k hk 1 (omega arith)) in
-    let z = span _ _ c.z _ w.cut.z (place_below c k hk 2 (omega arith)) in
-    record {
-      shape = w.shape;
-      interior = w.interior;
-      x = record { from = x.from; to = x.to; some = x.some; wide = x.wide };
-      y = record { from = y.from; to = y.to; some = y.some; wide = y.wide };
-      z = record { from = z.from; to = z.to; some = z.some; wide = z.wide };
-      local_is = refl;
-    }
 
 -- ---- a tested routine's item
 

@@ -2,7 +2,6 @@
 use Rattle.std.specs.Prelude.{ℕ, ◌≤◌, ◌≡◌, true, false, min, count_by, nat_eq, IsTrue, Bool, ℤ, List, [], ◌∷◌, map, length, slice_index_or, codes}
 use Rattle.cx_text.specs.declared.ctype.CType.TheVariants.{Int}
 use Rattle.cx_text.specs.Lexemes.{same_name}
-use Rattle.cx_grid.specs.declared.boxes.Box3.{Box3}
 use Rattle.cx_grid.specs.declared.shapes.Shape.{Shape}
 use Rattle.cx_grid.specs.Grid.{whole}
 use Rattle.cx_plan.specs.declared.variable.VarInfo.{VarInfo}

@@ -1,6 +1,6 @@
 //! Grids, cuts of them, and parts of one field of three levels.
 
-ghost use Rattle.std.specs.Prelude.{◌≡◌, ◌<◌, ◌≤◌, ◌≤ℤ◌, ◌^◌, true, pos, min, count_by, length, map, IfOk};
+ghost use Rattle.std.specs.Prelude.{◌≡◌, ◌<◌, ◌≤◌, ◌≤ℤ◌, ◌^◌, true, pos, min, count_by, map, IfOk};
 ghost use Rattle.cx_grid.specs.Boxes.{IsIn};
 ghost use Rattle.cx_grid.specs.Grid.{IsShape};
 ghost use Rattle.cx_plan.specs.Regions.{within_ghosts};

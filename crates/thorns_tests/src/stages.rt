@@ -1,7 +1,6 @@
 //! Numbers that are staged, and set all at once.
 
-ghost use Rattle.std.specs.Prelude.{◌≡◌, ◌<◌, ◌≤◌, length, true};
-ghost use Rattle.cx_rule.specs.Patches.{IsPatch};
+ghost use Rattle.std.specs.Prelude.{◌≡◌, ◌<◌, length};
 ghost use Rattle.cx_rule.specs.Staging.{CanStage, CanCommit};
 ghost use Rattle.cx_rule.specs.Swept.{IsSamePatch, swept_zone};
 ghost use Rattle.cx_rule.specs.Zones.{in_zone};

@@ -1,7 +1,7 @@
 //! Sweeps over parts of a field, beside what the routine gives at each of their points.
 
 ghost use Rattle.std.specs.Prelude.{◌≡◌, ◌<◌, ◌≤◌, length, IfOk, IfSome};
-ghost use Rattle.cx_grid.specs.Boxes.{IsIn, point_count};
+ghost use Rattle.cx_grid.specs.Boxes.{IsIn};
 ghost use Rattle.cx_grid.specs.Grid.{IsShape};
 ghost use Rattle.cx_plan.specs.Regions.{region_of};
 ghost use Rattle.cx_cut.specs.Cuts.{local};

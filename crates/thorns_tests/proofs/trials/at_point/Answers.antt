@@ -1,4 +1,4 @@
-use Rattle.std.proofs.Common.{◌≡◌, ◌∙◌, ap, length}
+use Rattle.std.proofs.Common.{◌∙◌, ap, length}
 use Rattle.std.proofs.lemmas.List.{length-replicate}
 use Rattle.cx_rule.proofs.FaceLaws.{local_near}
 use Rattle.thorns_tests.proofs.TrialLaws.{fits_at}

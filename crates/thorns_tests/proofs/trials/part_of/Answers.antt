@@ -2,7 +2,8 @@ use Rattle.std.proofs.Common.{arith, ◌<◌, ◌≤◌, ◌∙◌, ap}
 use Rattle.cx_grid.specs.Boxes.{point_count}
 use Rattle.cx_cut.specs.Cuts.{part_count}
 use Rattle.cx_rule.specs.Patches.{PatchValue}
-use Rattle.thorns_tests.proofs.TrialLaws.{part_is, trial_of}
+use Rattle.cx_rule.proofs.CutParts.{part_is}
+use Rattle.thorns_tests.proofs.TrialLaws.{trial_of}
 use Rattle.thorns_tests.proofs.trials.part_of.Goals as goal
 
 pub new-requires : goal.new-requires
