@@ -1,5 +1,5 @@
 -- Each start is on trails, and so the last one ends as the undivided run.
-use Rattle.std.proofs.Common.{◌≡◌, ◌≢◌, ◌⊎◌, inl, inr, ℕ, zero, suc, ◌<◌, ◌≤◌, List, refl, sym, ◌∙◌, subst, arith}
+use Rattle.std.proofs.Common.{◌≡◌, ◌≢◌, inl, inr, ℕ, zero, suc, ◌<◌, ◌≤◌, List, refl, sym, ◌∙◌, subst, arith}
 use Rattle.cx_disk.specs.Disk.{Files}
 use Rattle.cx_plan.specs.Setups.{Setup, setup_of}
 use Rattle.cx_rule.specs.Routine.{Rule}
@@ -9,8 +9,6 @@ use Rattle.cx_model.specs.declared.ends.End.TheVariants.{Done}
 use Rattle.cx_keep.specs.Trails.{IsTrail}
 use Rattle.cx_drive.specs.Drives.{HasOutput}
 use Rattle.cx_course.specs.Courses.{course_of}
-use Rattle.cx_run.specs.Calls.{driven}
-use Rattle.cx_run.specs.Clauses.{IsEnd}
 use Rattle.cx_restart.specs.Restarts.{Start, IsStart, GoesOn, MayLeave, BeginsOnTrails, EndsAlike}
 
 -- a trail of one job is one of a job with the same run and key, by the same routines
