@@ -1,50 +1,24 @@
 -- From what the top call ensures to what its status says of the words.
-use Rattle.std.proofs.Common.{◌≡◌, ◌⊎◌, ℕ, List, Some, Ok, inl, inr, refl, sym, subst, arith}
-use Rattle.cx_config.specs.Shelf.{Held}
-use Rattle.cx_job.specs.Making.{Made}
-use Rattle.cx_plan.specs.declared.job.Job.{Job}
+use Rattle.std.proofs.Common.{◌≡◌, ◌⊎◌, ℕ, List, Result, Ok, Err, IfOk, inl, inr, sym, subst, arith}
+use Rattle.cx_rule.specs.Routine.{Rule}
+use Rattle.cx_rule.specs.declared.spec.Spec.{Spec}
 use Rattle.cx_run.specs.Answers.{IsStatusFor}
-use Rattle.cx_run.specs.Calls.{Lent, Call, files_for, shelf_for}
+use Rattle.cx_run.specs.Calls.{Lent, Call}
 use Rattle.cx_run.specs.Clauses.{Obeys}
-use Rattle.cx_run.specs.Words.{Request, asked}
-use Rattle.cx_run.specs.declared.words.Command.{Command}
-use Rattle.cx_run.specs.declared.words.Command.TheVariants as commands
-use Rattle.cx_run.proofs.Readings.{Done, IsMade, done}
-use Rattle.cx_run.proofs.Readings.Done.{run, made_run, told}
+use Rattle.cx_run.proofs.Readings.{status_for}
 
--- the words ask for something, and the file makes this job
-pub record HasJob (c : Call) : Type 0 where
-  pub request : Request
-  pub job : Job
-  pub asks : asked c.words ≡ Some request
-  pub makes : c.shelf.tells → Made request.file c.specs (files_for c.shelf.old request.command) (Ok job)
+-- what holds with a call's own routines holds with the sample thorns'
+pub with_samples :
+    (By : List Rule → List Spec → Type 0) (rules sample_rules : List Rule) (specs sample_specs : List Spec)
+    → rules ≡ sample_rules → specs ≡ sample_specs → By rules specs → By sample_rules sample_specs
+with_samples By rules sample_rules specs sample_specs same_rules same_specs by =
+    subst (λ (ss : List Spec). By sample_rules ss) same_specs (subst (λ (rs : List Rule). By rs specs) same_rules by)
 
--- the shelf that a command reads, where the one that was lent tells
-tells_files : (lent : Lent Held) (command : Command) → lent.tells → (shelf_for lent command).tells
-tells_files lent (commands.Make seed size) tells = tt
-tells_files lent command tells = tells
-
-files_read : (lent : Lent Held) (command : Command) → (shelf_for lent command).old ≡ files_for lent.old command
-files_read lent (commands.Make seed size) = refl
-files_read lent command = refl
-
-job_with : (c : Call) (r : Request) (job : Job) → IsMade c r job → HasJob c
-job_with c r job made =
-    record {
-      request = r;
-      job = job;
-      asks = made.asks;
-      makes = λ tells. subst (λ (files : Held). Made r.file c.specs files (Ok job)) (files_read c.shelf r.command) (made.makes (tells_files c.shelf r.command tells));
-    }
-
-job_of : (c : Call) (sink : Lent (List ℕ)) → Done c sink → HasJob c
-job_of c sink (run r job made command ran said) = job_with c r job made
-job_of c sink (made_run r job seed size output live is command ran sums said) = job_with c r job is
-job_of c sink (told r job made other still said) = job_with c r job made
-
--- 0 comes of a command that is done
-pub done_job : (c : Call) (sink : Lent (List ℕ)) (s : ℕ) → Obeys c sink s → s ≡ 0 → HasJob c
-done_job c sink s obeys zero = job_of c sink (done c sink s obeys zero)
+-- the status of a call that obeys is one for its words
+pub status_of_call :
+    {E : Type 0} (c : Call) (sink : Lent (List ℕ)) (result : Result ℕ E) → IfOk result (Obeys c sink) → IfOk result (IsStatusFor c.words)
+status_of_call c sink (Ok status) obeys = status_for c sink status obeys
+status_of_call c sink (Err e) obeys = tt
 
 -- ---- want of memory
 

@@ -1,5 +1,5 @@
 -- The routines of the sample thorns, in the order in which they are handed in.
-use Rattle.std.specs.Prelude.{List, [], ◌∷◌, ◌++◌}
+use Rattle.std.specs.Prelude.{List, [], ◌∷◌}
 use Rattle.cx_rule.specs.Routine.{Rule}
 use Rattle.cx_rule.specs.declared.spec.Spec.{Spec}
 use Rattle.cx_thorn_ca.specs.Automaton.{ca_init_rule, ca_step_rule, ca_zero_rule, ca_count_rule, ca_init_spec, ca_step_spec, ca_zero_spec, ca_count_spec}

@@ -1,12 +1,9 @@
 //! The routines of the sample thorns, handed to the top call.
 
-ghost use Rattle.std.specs.Prelude.{◌≡◌, ◌≤◌, ◌<◌, ◌^◌, IsTrue, Ok, Some, IfOk, map};
+ghost use Rattle.std.specs.Prelude.{◌≡◌, ◌≤◌, ◌<◌, ◌^◌, IsTrue, IfOk, map};
 ghost use Rattle.cx_core.specs.Starts.{AreEmpty};
-ghost use Rattle.cx_job.specs.Making.{Made};
-ghost use Rattle.cx_plan.specs.declared.job.Job.{Job};
-ghost use Rattle.cx_run.specs.Answers.{IsStatusFor};
-ghost use Rattle.cx_run.specs.Calls.{files_for};
-ghost use Rattle.cx_run.specs.Words.{Request, asked};
+ghost use Rattle.cx_run.specs.Clauses.{Obeys};
+ghost use Rattle.cx_samples.specs.SampleCalls.{sample_call, lent_sink};
 ghost use Rattle.cx_samples.specs.Samples.{sample_rules, sample_specs};
 
 use cx_disk::Disk;
@@ -29,8 +26,8 @@ struct CommandLine<'a> {
     words: &'a [Text],
 }
 
-/// What the top call answers over these devices, with the routines of all sample thorns. The wire serves 512 parts, and its queues are
-/// empty.
+/// What the top call answers over these devices, with the routines of all sample thorns: its status, which obeys the top call's clause.
+/// The wire serves 512 parts, and its queues are empty.
 ///
 /// # Errors
 ///
@@ -48,7 +45,10 @@ pub fn answer<H: Shelf, D: Disk, W: Wire, T: Turns, O: Sink>(
     requires parts { 512 ≤ W.parts wire.old }
     requires empty { AreEmpty (W.queue wire.old) }
     requires sum { IsTrue W.tells → W.sum wire.old < 2 ^ 64 }
-    ensures { IfOk result (IsStatusFor words.now) }
+    ensures { IfOk result (Obeys
+        (sample_call H.Shelf D.Disk W.Wire words.now shelf.old shelf.new
+        disk.old disk.new wire.old wire.new meter.old meter.new)
+        (lent_sink O.Sink out.old out.new)) }
 {
     let mut routines: Vec<Box<dyn Routine>> = Vec::new(alloc);
     routines.push(Box::new(alloc, CaInit::new(alloc)?)?)?;
@@ -93,12 +93,10 @@ fn answer_with<H: Shelf, D: Disk, W: Wire, T: Turns, O: Sink>(
     requires parts { 512 ≤ W.parts wire.old }
     requires empty { AreEmpty (W.queue wire.old) }
     requires sum { IsTrue W.tells → W.sum wire.old < 2 ^ 64 }
-    ensures status { IsStatusFor line.entry.words.now result }
-    // The command is done only where the file makes a job with the sample thorns' routines, on the shelf or among those that are made.
-    ensures done { result ≡ 0 → (request : Request) × (job : Job)
-        × (asked line.entry.words.now ≡ Some request)
-        × (H.tells → Made request.file sample_specs
-        (files_for (H.held shelf.old) request.command) (Ok job)) }
+    ensures { Obeys
+        (sample_call H.Shelf D.Disk W.Wire line.entry.words.now shelf.old shelf.new
+        disk.old disk.new wire.old wire.new meter.old meter.new)
+        (lent_sink O.Sink out.old out.new) result }
 {
     cactus(
         line.alloc, line.words, shelf, disk, wire, turns, out, routines, meter,

@@ -1,14 +1,14 @@
-use Rattle.std.proofs.Common.{Ok, subst}
-use Rattle.cx_job.specs.Making.{Made}
-use Rattle.cx_run.specs.Calls.{files_for}
-use Rattle.cx_run.proofs.Readings.{status_for}
-use Rattle.cx_samples.proofs.Statuses.{done_job}
+use Rattle.cx_run.specs.Clauses.{Obeys}
+use Rattle.cx_samples.specs.SampleCalls.{called_with, lent_sink}
+use Rattle.cx_samples.specs.Samples.{sample_rules, sample_specs}
+use Rattle.cx_samples.proofs.Statuses.{with_samples}
 use Rattle.cx_samples.proofs.routines.answer_with.Goals as goal
 
-pub returns-clause-status : goal.returns-clause-status
-returns-clause-status g c = status_for _ _ c.cactus.result c.cactus.ensures.obeys
-
-pub returns-clause-done : goal.returns-clause-done
-returns-clause-done g c zero =
-    let d = done_job _ _ c.cactus.result c.cactus.ensures.obeys zero in
-    (d.request, d.job, d.asks, λ tells. subst (λ specs. Made d.request.file specs (files_for (g.H.Shelf.held c.args.shelf.now) d.request.command) (Ok d.job)) c.requires.specs (d.makes tells))
+pub returns : goal.returns
+returns g c =
+    with_samples
+    (λ rules specs. Obeys
+    (called_with rules specs g.H.Shelf g.D.Disk g.W.Wire c.args.line.words.now c.args.shelf.now c.cactus.new.shelf
+    c.args.disk.now c.cactus.new.disk c.args.wire.now c.cactus.new.wire c.args.meter.now c.cactus.new.meter)
+    (lent_sink g.O.Sink c.args.out.now c.cactus.new.out) c.cactus.result)
+    _ sample_rules _ sample_specs c.requires.rules c.requires.specs c.cactus.ensures.obeys
