@@ -14,8 +14,10 @@ use Rattle.cx_model.specs.Traces.{Entry, Trace, Goes}
 use Rattle.cx_cut.specs.Cuts.{Parts}
 use Rattle.cx_cut.specs.Faults.{parts_of}
 use Rattle.cx_disk.specs.Disk.{Files, View, LeavesOnly}
+use Rattle.cx_disk.specs.declared.disk.Disk.{Ghosts as DiskGhosts}
 use Rattle.cx_disk.specs.Moments.{IsQuiet}
 use Rattle.cx_wire.specs.Received.{counted}
+use Rattle.cx_wire.specs.declared.wire.Wire.{Ghosts as WireGhosts}
 use Rattle.cx_parts.specs.Work.{work, carried_count, total_sum}
 use Rattle.cx_chk.specs.Slots.{newest_below}
 use Rattle.cx_chk.specs.declared.checkpoint.Checkpoint.{Checkpoint}
@@ -30,7 +32,7 @@ use Rattle.cx_course.specs.Works.{LastIs}
 use Rattle.cx_core.specs.Cores.{Cores}
 use Rattle.cx_core.specs.Hands.{HasScalar, ended_as, last_number}
 use Rattle.cx_core.specs.declared.answers.Outcome.TheVariants.{Going, Done}
-use Rattle.cx_drive.specs.Lent.{Count, HasRisen, LentDisk, LentWire}
+use Rattle.cx_drive.specs.Lent.{Count, HasRisen, LentDisk, LentWire, lent_disk, lent_wire}
 use Rattle.cx_keep.specs.declared.fault.BeginFault.{BeginFault}
 use Rattle.cx_drive.specs.declared.fault.DriveFault.{DriveFault}
 use Rattle.cx_drive.specs.declared.fault.DriveFault.TheVariants as faults
@@ -42,6 +44,17 @@ pub record Drive : Type 1 where
   pub disk : LentDisk
   pub wire : LentWire
   pub meter : Count
+
+-- over a disk and a wire of types with these ghost members, each before and after the run, as the meter is
+abbrev pub driven_by :
+    {D W : Type 0} → Job → List Rule → DiskGhosts D → WireGhosts W → D → D → W → W → ℕ → ℕ → Drive
+driven_by job rules d w disk disk_after wire wire_after meter meter_after = record {
+  job = job;
+  rules = rules;
+  disk = lent_disk d disk disk_after;
+  wire = lent_wire w wire wire_after;
+  meter = record { old = meter; new = meter_after };
+}
 
 -- the undivided run's output and checkpoints
 abbrev pub course : Drive → Course

@@ -1,11 +1,13 @@
 -- Where a run is between two turns: its core, and what its keeper has written.
-use Rattle.std.specs.Prelude.{ℕ, ◌≡◌, ◌≢◌, ◌⊎◌, List, [], ◌∷◌, length, Option}
+use Rattle.std.specs.Prelude.{ℕ, ◌≡◌, ◌≢◌, ◌⊎◌, IsTrue, List, [], ◌∷◌, length, Option}
 use Rattle.cx_plan.specs.declared.job.Job.{Job}
 use Rattle.cx_plan.specs.Setups.{Setup, setup_of}
 use Rattle.cx_rule.specs.Routine.{Rule}
 use Rattle.cx_model.specs.Traces.{Entry, Trace}
 use Rattle.cx_disk.specs.Disk.{Files, View, LeavesOnly, IsSettled}
 use Rattle.cx_disk.specs.Moments.{IsQuiet}
+use Rattle.cx_disk.specs.declared.disk.Disk.{Ghosts as DiskGhosts}
+use Rattle.cx_wire.specs.declared.wire.Wire.{Ghosts as WireGhosts}
 use Rattle.cx_chk.specs.declared.checkpoint.Checkpoint.{Checkpoint}
 use Rattle.cx_chk.specs.Slots.{SlotsSettled, OutputsSame}
 use Rattle.cx_keep.specs.Keeping.{Keeper, IsAppended, AppendMoments, SaveStands, SaveMoments, output_file}
@@ -21,7 +23,7 @@ use Rattle.cx_core.specs.declared.answers.Outcome.TheVariants.{Going}
 use Rattle.cx_core.specs.Cores.{Cores}
 use Rattle.cx_core.specs.Hands.{Leaves, StepsTo, Stands}
 use Rattle.cx_core.specs.Starts.{begins_in}
-use Rattle.cx_core.specs.Steps.{Counts, Standing, IsAt, IsRunning}
+use Rattle.cx_core.specs.Steps.{Counts, Standing, IsAt, IsRunning, stands_at}
 use Rattle.cx_core.specs.Texts.{text_of_piece}
 use Rattle.cx_course.specs.Beginnings.{IsFound}
 use Rattle.cx_course.specs.Works.{KeptRun, kept_run, course_by, HasDone, newest_of, next_of}
@@ -37,6 +39,19 @@ pub record Setting : Type 1 where
 pub record Place (s : Setting) : Type 1 where
   pub is : Standing s.wire
   pub view : View
+
+-- over a disk and a wire of types with these ghost members
+abbrev pub setting : {D W : Type 0} → DiskGhosts D → WireGhosts W → Job → List Rule → Setting
+setting d w job rules = record { job = job; rules = rules; wire = IsTrue w.tells; disk = d.tells }
+
+-- where it is by its core, its disk, its wire and its meter
+abbrev pub place_at :
+    {D W : Type 0} → (d : DiskGhosts D) → (w : WireGhosts W) → {job : Job} → {rules : List Rule}
+    → Cores → D → W → ℕ → Place (setting d w job rules)
+place_at d w core disk wire meter = record {
+  is = stands_at core (w.queue wire) meter (w.received wire) (w.sum wire);
+  view = d.view disk;
+}
 
 -- ---- from the checkpoint that was found, or none
 

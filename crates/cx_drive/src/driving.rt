@@ -14,11 +14,11 @@ ghost use Rattle.cx_keep.specs.Fits.{fits_job};
 ghost use Rattle.cx_keep.specs.Keeping.{keeper_of};
 ghost use Rattle.cx_keep.specs.Trails.{Counts as AreCounted};
 ghost use Rattle.cx_core.specs.Starts.{AreEmpty, IsReady, begins_in, length_in};
-ghost use Rattle.cx_core.specs.Steps.{Begins, Counts, counts, stands_at};
+ghost use Rattle.cx_core.specs.Steps.{Begins, Counts, counts};
 ghost use Rattle.cx_core.specs.declared.answers.Outcome.TheVariants as outcomes;
-ghost use Rattle.cx_drive.specs.Drives.{Drives, LendsScalars};
+ghost use Rattle.cx_drive.specs.Drives.{Drives, LendsScalars, driven_by};
 ghost use Rattle.cx_drive.specs.Faults.{Stops};
-ghost use Rattle.cx_drive.specs.Going.{EndsAt, IsGoing, LeavesImages, MovesOn, RunLeaves, RunsFrom};
+ghost use Rattle.cx_drive.specs.Going.{EndsAt, IsGoing, LeavesImages, MovesOn, RunLeaves, RunsFrom, place_at, setting};
 
 use crate::fault::DriveFault;
 use crate::laws::drive_laws;
@@ -56,33 +56,8 @@ pub fn drive<D: Disk, W: Wire, T: Turns>(
     requires routines { FitJob (map spec_of routines.now) job.now }
     requires parts { part_count (parts_of job.now.shape job.now.cut) ≤ W.parts wire.old }
     requires empty { AreEmpty (W.queue wire.old) }
-    ensures drives { Drives (record {
-      job = job.now;
-      rules = map rule routines.now;
-      disk = record {
-        tells = D.tells;
-        same = disk.new ≡ disk.old;
-        old = D.view disk.old;
-        new = D.view disk.new;
-        faults = record { old = D.faults disk.old; new = D.faults disk.new };
-      };
-      wire = record {
-        tells = IsTrue W.tells;
-        same = wire.new ≡ wire.old;
-        old = record {
-          queue = W.queue wire.old;
-          received = W.received wire.old;
-          sum = W.sum wire.old;
-        };
-        new = record {
-          queue = W.queue wire.new;
-          received = W.received wire.new;
-          sum = W.sum wire.new;
-        };
-        faults = record { old = W.faults wire.old; new = W.faults wire.new };
-      };
-      meter = record { old = meter.old; new = meter.new };
-    }) result }
+    ensures drives { Drives (driven_by job.now (map rule routines.now) D.Disk W.Wire
+        disk.old disk.new wire.old wire.new meter.old meter.new) result }
     ensures folders { OnOk result
         (IsNamed job.now.out_dir job.now.chk_dir (D.folders disk.new)) }
     ensures scalars { IfOk result (LendsScalars job.now) }
@@ -114,23 +89,12 @@ fn drive_from<D: Disk, W: Wire, T: Turns>(
     requires fits { IfSome found (λ c. fits_job job.now c ≡ true) }
     requires counts { D.tells → AreCounted keep.lengths (D.view disk.old) }
     requires slots { D.tells → SlotsSettled (D.view disk.old) }
-    ensures runs { IfOk result (λ core. RunsFrom (record {
-      job = job.now;
-      rules = map rule routines.now;
-      wire = IsTrue W.tells;
-      disk = D.tells;
-    }) found
-        (counts meter.old (W.received wire.old) (W.sum wire.old)) (D.view disk.old) (record {
-          is = stands_at core
-              (W.queue wire.new) meter.new (W.received wire.new) (W.sum wire.new);
-          view = D.view disk.new;
-        })) }
-    ensures moments { RunLeaves (record {
-      job = job.now;
-      rules = map rule routines.now;
-      wire = IsTrue W.tells;
-      disk = D.tells;
-    }) found (D.view disk.old) (D.view disk.new) }
+    ensures runs { IfOk result (λ core. RunsFrom
+        (setting D.Disk W.Wire job.now (map rule routines.now)) found
+        (counts meter.old (W.received wire.old) (W.sum wire.old)) (D.view disk.old)
+        (place_at D.Disk W.Wire core disk.new wire.new meter.new)) }
+    ensures moments { RunLeaves (setting D.Disk W.Wire job.now (map rule routines.now)) found
+        (D.view disk.old) (D.view disk.new) }
     ensures folders { D.folders disk.new ≡ D.folders disk.old }
     ensures stops { Stops
         (record { old = D.faults disk.old; new = D.faults disk.new })
@@ -176,40 +140,14 @@ fn run_to_end<D: Disk, W: Wire, T: Turns>(
     requires parts { part_count (parts_of job.now.shape job.now.cut) ≤ W.parts wire.old }
     requires mounted { IsTrue (D.mounted disk.old) }
     requires files { D.file_count disk.old ≡ 9 }
-    requires going { IsGoing (record {
-      job = job.now;
-      rules = map rule routines.now;
-      wire = IsTrue W.tells;
-      disk = D.tells;
-    }) keep (record {
-      is = stands_at core
-          (W.queue wire.old) meter.old (W.received wire.old) (W.sum wire.old);
-      view = D.view disk.old;
-    }) }
-    ensures ends { IfOk result (λ now. EndsAt (record {
-      job = job.now;
-      rules = map rule routines.now;
-      wire = IsTrue W.tells;
-      disk = D.tells;
-    }) (record {
-      is = stands_at core
-          (W.queue wire.old) meter.old (W.received wire.old) (W.sum wire.old);
-      view = D.view disk.old;
-    }) (record {
-      is = stands_at now
-          (W.queue wire.new) meter.new (W.received wire.new) (W.sum wire.new);
-      view = D.view disk.new;
-    })) }
-    ensures moments { LeavesImages (record {
-      job = job.now;
-      rules = map rule routines.now;
-      wire = IsTrue W.tells;
-      disk = D.tells;
-    }) (record {
-      is = stands_at core
-          (W.queue wire.old) meter.old (W.received wire.old) (W.sum wire.old);
-      view = D.view disk.old;
-    }) (D.view disk.new) }
+    requires going { IsGoing (setting D.Disk W.Wire job.now (map rule routines.now)) keep
+        (place_at D.Disk W.Wire core disk.old wire.old meter.old) }
+    ensures ends { IfOk result (λ now. EndsAt
+        (setting D.Disk W.Wire job.now (map rule routines.now))
+        (place_at D.Disk W.Wire core disk.old wire.old meter.old)
+        (place_at D.Disk W.Wire now disk.new wire.new meter.new)) }
+    ensures moments { LeavesImages (setting D.Disk W.Wire job.now (map rule routines.now))
+        (place_at D.Disk W.Wire core disk.old wire.old meter.old) (D.view disk.new) }
     ensures folders { D.folders disk.new ≡ D.folders disk.old }
     ensures stops { Stops
         (record { old = D.faults disk.old; new = D.faults disk.new })
@@ -240,51 +178,17 @@ fn run<D: Disk, W: Wire, T: Turns>(
     requires parts { part_count (parts_of job.now.shape job.now.cut) ≤ W.parts wire.old }
     requires mounted { IsTrue (D.mounted disk.old) }
     requires files { D.file_count disk.old ≡ 9 }
-    requires going { IsGoing (record {
-      job = job.now;
-      rules = map rule routines.now;
-      wire = IsTrue W.tells;
-      disk = D.tells;
-    }) keep.old (record {
-      is = stands_at core.old
-          (W.queue wire.old) meter.old (W.received wire.old) (W.sum wire.old);
-      view = D.view disk.old;
-    }) }
-    ensures moves { OnOk result (MovesOn (record {
-      job = job.now;
-      rules = map rule routines.now;
-      wire = IsTrue W.tells;
-      disk = D.tells;
-    }) (record {
-      is = stands_at core.old
-          (W.queue wire.old) meter.old (W.received wire.old) (W.sum wire.old);
-      view = D.view disk.old;
-    }) (record {
-      is = stands_at core.new
-          (W.queue wire.new) meter.new (W.received wire.new) (W.sum wire.new);
-      view = D.view disk.new;
-    })) }
+    requires going { IsGoing (setting D.Disk W.Wire job.now (map rule routines.now)) keep.old
+        (place_at D.Disk W.Wire core.old disk.old wire.old meter.old) }
+    ensures moves { OnOk result (MovesOn (setting D.Disk W.Wire job.now (map rule routines.now))
+        (place_at D.Disk W.Wire core.old disk.old wire.old meter.old)
+        (place_at D.Disk W.Wire core.new disk.new wire.new meter.new)) }
     ensures over { OnOk result (core.new.outcome ≢ outcomes.Going) }
-    ensures moments { LeavesImages (record {
-      job = job.now;
-      rules = map rule routines.now;
-      wire = IsTrue W.tells;
-      disk = D.tells;
-    }) (record {
-      is = stands_at core.old
-          (W.queue wire.old) meter.old (W.received wire.old) (W.sum wire.old);
-      view = D.view disk.old;
-    }) (D.view disk.new) }
-    ensures going { OnOk result (IsGoing (record {
-      job = job.now;
-      rules = map rule routines.now;
-      wire = IsTrue W.tells;
-      disk = D.tells;
-    }) keep.new (record {
-      is = stands_at core.new
-          (W.queue wire.new) meter.new (W.received wire.new) (W.sum wire.new);
-      view = D.view disk.new;
-    })) }
+    ensures moments { LeavesImages (setting D.Disk W.Wire job.now (map rule routines.now))
+        (place_at D.Disk W.Wire core.old disk.old wire.old meter.old) (D.view disk.new) }
+    ensures going { OnOk result (IsGoing
+        (setting D.Disk W.Wire job.now (map rule routines.now)) keep.new
+        (place_at D.Disk W.Wire core.new disk.new wire.new meter.new)) }
     ensures mounted { IsTrue (D.mounted disk.new) }
     ensures files { D.file_count disk.new ≡ 9 }
     ensures folders { D.folders disk.new ≡ D.folders disk.old }

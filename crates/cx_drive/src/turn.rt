@@ -9,7 +9,7 @@ ghost use Rattle.cx_core.specs.Starts.{IsReady};
 ghost use Rattle.cx_core.specs.Steps.{IsRunning, stands_at};
 ghost use Rattle.cx_core.specs.declared.answers.Outcome.TheVariants as outcomes;
 ghost use Rattle.cx_drive.specs.Faults.{Stops};
-ghost use Rattle.cx_drive.specs.Going.{IsGoing, LeavesImages, MovesOn, Steps};
+ghost use Rattle.cx_drive.specs.Going.{IsGoing, LeavesImages, MovesOn, Steps, place_at, setting};
 
 use crate::event::keep_event;
 use crate::fault::DriveFault;
@@ -40,51 +40,17 @@ pub(crate) fn turn<D: Disk, W: Wire, T: Turns>(
     requires parts { part_count (parts_of job.now.shape job.now.cut) ≤ W.parts wire.old }
     requires mounted { IsTrue (D.mounted disk.old) }
     requires files { D.file_count disk.old ≡ 9 }
-    requires going { IsGoing (record {
-      job = job.now;
-      rules = map rule routines.now;
-      wire = IsTrue W.tells;
-      disk = D.tells;
-    }) keep.old (record {
-      is = stands_at core.old
-          (W.queue wire.old) meter.old (W.received wire.old) (W.sum wire.old);
-      view = D.view disk.old;
-    }) }
+    requires going { IsGoing (setting D.Disk W.Wire job.now (map rule routines.now)) keep.old
+        (place_at D.Disk W.Wire core.old disk.old wire.old meter.old) }
     requires outcome { core.old.outcome ≡ outcomes.Going }
-    ensures moves { OnOk result (MovesOn (record {
-      job = job.now;
-      rules = map rule routines.now;
-      wire = IsTrue W.tells;
-      disk = D.tells;
-    }) (record {
-      is = stands_at core.old
-          (W.queue wire.old) meter.old (W.received wire.old) (W.sum wire.old);
-      view = D.view disk.old;
-    }) (record {
-      is = stands_at core.new
-          (W.queue wire.new) meter.new (W.received wire.new) (W.sum wire.new);
-      view = D.view disk.new;
-    })) }
-    ensures moments { LeavesImages (record {
-      job = job.now;
-      rules = map rule routines.now;
-      wire = IsTrue W.tells;
-      disk = D.tells;
-    }) (record {
-      is = stands_at core.old
-          (W.queue wire.old) meter.old (W.received wire.old) (W.sum wire.old);
-      view = D.view disk.old;
-    }) (D.view disk.new) }
-    ensures going { OnOk result (IsGoing (record {
-      job = job.now;
-      rules = map rule routines.now;
-      wire = IsTrue W.tells;
-      disk = D.tells;
-    }) keep.new (record {
-      is = stands_at core.new
-          (W.queue wire.new) meter.new (W.received wire.new) (W.sum wire.new);
-      view = D.view disk.new;
-    })) }
+    ensures moves { OnOk result (MovesOn (setting D.Disk W.Wire job.now (map rule routines.now))
+        (place_at D.Disk W.Wire core.old disk.old wire.old meter.old)
+        (place_at D.Disk W.Wire core.new disk.new wire.new meter.new)) }
+    ensures moments { LeavesImages (setting D.Disk W.Wire job.now (map rule routines.now))
+        (place_at D.Disk W.Wire core.old disk.old wire.old meter.old) (D.view disk.new) }
+    ensures going { OnOk result (IsGoing
+        (setting D.Disk W.Wire job.now (map rule routines.now)) keep.new
+        (place_at D.Disk W.Wire core.new disk.new wire.new meter.new)) }
     ensures less { OnOk result (steps_left (setup_of job.now) core.new.pace
         < steps_left (setup_of job.now) core.old.pace) }
     ensures parts { W.parts wire.new ≡ W.parts wire.old }

@@ -1,5 +1,5 @@
 -- What comes of a command with a job.
-use Rattle.std.proofs.Common.{◌≡◌, ◌≢◌, ◌⊎◌, ◌∙◌, ℕ, ◌≤◌, arith, codes, Option, Some, None, List, Result, Ok, Err, IfOk, inl, inr, refl, sym, ap, subst}
+use Rattle.std.proofs.Common.{◌≡◌, ◌≢◌, ◌⊎◌, ◌∙◌, ℕ, ◌≤◌, arith, codes, Option, Some, None, List, Result, Ok, Err, IfOk, inl, inr, refl, sym, subst}
 use Rattle.std.specs.Prelude.{OnOk}
 use Rattle.cx_text.specs.declared.memory.Memory.{Memory}
 use Rattle.cx_disk.specs.Disk.{IsNamed, IsView}

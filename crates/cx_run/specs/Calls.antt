@@ -2,17 +2,21 @@
 use Rattle.std.specs.Prelude.{◌≡◌, ℕ, ℤ, pos, List, Option, None, Some, Result, Ok}
 use Rattle.cx_disk.specs.Disk.{Folders}
 use Rattle.cx_disk.specs.Moments.{IsQuiet}
+use Rattle.cx_disk.specs.declared.disk.Disk.{Ghosts as DiskGhosts}
+use Rattle.cx_wire.specs.declared.wire.Wire.{Ghosts as WireGhosts}
 use Rattle.cx_plan.specs.declared.job.Job.{Job}
 use Rattle.cx_rule.specs.Routine.{Rule}
 use Rattle.cx_rule.specs.declared.spec.Spec.{Spec}
 use Rattle.cx_plan.specs.declared.variable.VarId.{VarId}
 use Rattle.cx_config.specs.Shelf.{Held, looked_up}
+use Rattle.cx_config.specs.declared.shelf.Shelf.{Ghosts as ShelfGhosts}
 use Rattle.cx_job.specs.Making.{Made}
 use Rattle.cx_job.specs.declared.fault.JobFault.{JobFault}
-use Rattle.cx_drive.specs.Lent.{Count, LentDisk, LentWire}
+use Rattle.cx_drive.specs.Lent.{Count, LentDisk, LentWire, lent_disk, lent_wire}
 use Rattle.cx_drive.specs.Drives.{Drive}
 use Rattle.cx_run.specs.Words.{Request, asked}
 use Rattle.cx_made.specs.Files.{made_files}
+use Rattle.cx_run.specs.declared.sink.Sink.{Ghosts as SinkGhosts}
 use Rattle.cx_run.specs.declared.words.Command.{Command}
 use Rattle.cx_run.specs.declared.words.Command.TheVariants.{Run, Make, Check, Schedule, Describe, Parts}
 
@@ -38,6 +42,49 @@ pub record Call : Type 1 where
   pub specs : List Spec
   pub shelf : Lent Held
   pub work : Work
+
+-- ---- what was lent, by the ghost members of the devices' types, before and after the call
+
+abbrev pub lent_shelf : {H : Type 0} → ShelfGhosts H → H → H → Lent Held
+lent_shelf h old new = record {
+  tells = h.tells;
+  same = new ≡ old;
+  old = h.held old;
+  new = h.held new;
+  faults = record { old = h.faults old; new = h.faults new };
+}
+
+-- what is printed to: the bytes that were written
+abbrev pub lent_sink : {O : Type 0} → SinkGhosts O → O → O → Lent (List ℕ)
+lent_sink o old new = record {
+  tells = o.tells;
+  same = new ≡ old;
+  old = o.written old;
+  new = o.written new;
+  faults = record { old = o.faults old; new = o.faults new };
+}
+
+-- with routines of these rules
+abbrev pub work_on :
+    {D W : Type 0} → List Rule → DiskGhosts D → WireGhosts W → D → D → W → W → ℕ → ℕ → Work
+work_on rules d w disk disk_after wire wire_after meter meter_after = record {
+  rules = rules;
+  disk = lent_disk d disk disk_after;
+  folders = d.folders disk_after;
+  wire = lent_wire w wire wire_after;
+  meter = record { old = meter; new = meter_after };
+}
+
+-- with these words, and routines of these rules, which say this of themselves
+abbrev pub called_with :
+    {H D W : Type 0} → List Rule → List Spec → ShelfGhosts H → DiskGhosts D → WireGhosts W
+    → List (List ℕ) → H → H → D → D → W → W → ℕ → ℕ → Call
+called_with rules specs h d w words shelf shelf_after disk disk_after wire wire_after meter meter_after = record {
+  words = words;
+  specs = specs;
+  shelf = lent_shelf h shelf shelf_after;
+  work = work_on rules d w disk disk_after wire wire_after meter meter_after;
+}
 
 -- ---- which files are read
 

@@ -9,7 +9,7 @@ ghost use Rattle.cx_drive.specs.Drives.{LendsScalars};
 ghost use Rattle.cx_job.specs.Making.{IsReady};
 ghost use Rattle.cx_made.specs.Files.{made_files};
 ghost use Rattle.cx_run.specs.Answers.{AnswersRun, IsTextFor, answer_with};
-ghost use Rattle.cx_run.specs.Calls.{SparesShelf, made_from, shelf_for, shelf_of};
+ghost use Rattle.cx_run.specs.Calls.{SparesShelf, called_with, lent_shelf, lent_sink, made_from, shelf_for, shelf_of, work_on};
 ghost use Rattle.cx_run.specs.Causes.{ComesTo, Explains, MakesOn};
 ghost use Rattle.cx_run.specs.Clauses.{Obeys};
 ghost use Rattle.cx_run.specs.Texts.{accepted_text};
@@ -88,50 +88,10 @@ pub fn cactus<H: Shelf, D: Disk, W: Wire, T: Turns, O: Sink>(
     requires parts { 512 ≤ W.parts wire.old }
     requires empty { AreEmpty (W.queue wire.old) }
     requires sum { IsTrue W.tells → W.sum wire.old < 2 ^ 64 }
-    ensures obeys { Obeys (record {
-      words = words.now;
-      specs = map spec_of routines.now;
-      shelf = record {
-        tells = H.tells;
-        same = shelf.new ≡ shelf.old;
-        old = H.held shelf.old;
-        new = H.held shelf.new;
-        faults = record { old = H.faults shelf.old; new = H.faults shelf.new };
-      };
-      work = record {
-        rules = map rule routines.now;
-        disk = record {
-          tells = D.tells;
-          same = disk.new ≡ disk.old;
-          old = D.view disk.old;
-          new = D.view disk.new;
-          faults = record { old = D.faults disk.old; new = D.faults disk.new };
-        };
-        folders = D.folders disk.new;
-        wire = record {
-          tells = IsTrue W.tells;
-          same = wire.new ≡ wire.old;
-          old = record {
-            queue = W.queue wire.old;
-            received = W.received wire.old;
-            sum = W.sum wire.old;
-          };
-          new = record {
-            queue = W.queue wire.new;
-            received = W.received wire.new;
-            sum = W.sum wire.new;
-          };
-          faults = record { old = W.faults wire.old; new = W.faults wire.new };
-        };
-        meter = record { old = meter.old; new = meter.new };
-      };
-    }) (record {
-      tells = O.tells;
-      same = out.new ≡ out.old;
-      old = O.written out.old;
-      new = O.written out.new;
-      faults = record { old = O.faults out.old; new = O.faults out.new };
-    }) result }
+    ensures obeys { Obeys (called_with (map rule routines.now) (map spec_of routines.now)
+        H.Shelf D.Disk W.Wire words.now shelf.old shelf.new
+        disk.old disk.new wire.old wire.new meter.old meter.new)
+        (lent_sink O.Sink out.old out.new) result }
 {
     let answer = answer_to(alloc, words, shelf, disk, wire, turns, routines, meter);
     reply(alloc, answer, out)
@@ -152,44 +112,9 @@ fn answer_to<H: Shelf, D: Disk, W: Wire, T: Turns>(
     requires parts { 512 ≤ W.parts wire.old }
     requires empty { AreEmpty (W.queue wire.old) }
     requires sum { IsTrue W.tells → W.sum wire.old < 2 ^ 64 }
-    ensures explained { Explains (record {
-      words = words.now;
-      specs = map spec_of routines.now;
-      shelf = record {
-        tells = H.tells;
-        same = shelf.new ≡ shelf.old;
-        old = H.held shelf.old;
-        new = H.held shelf.new;
-        faults = record { old = H.faults shelf.old; new = H.faults shelf.new };
-      };
-      work = record {
-        rules = map rule routines.now;
-        disk = record {
-          tells = D.tells;
-          same = disk.new ≡ disk.old;
-          old = D.view disk.old;
-          new = D.view disk.new;
-          faults = record { old = D.faults disk.old; new = D.faults disk.new };
-        };
-        folders = D.folders disk.new;
-        wire = record {
-          tells = IsTrue W.tells;
-          same = wire.new ≡ wire.old;
-          old = record {
-            queue = W.queue wire.old;
-            received = W.received wire.old;
-            sum = W.sum wire.old;
-          };
-          new = record {
-            queue = W.queue wire.new;
-            received = W.received wire.new;
-            sum = W.sum wire.new;
-          };
-          faults = record { old = W.faults wire.old; new = W.faults wire.new };
-        };
-        meter = record { old = meter.old; new = meter.new };
-      };
-    }) result }
+    ensures explained { Explains (called_with (map rule routines.now) (map spec_of routines.now)
+        H.Shelf D.Disk W.Wire words.now shelf.old shelf.new
+        disk.old disk.new wire.old wire.new meter.old meter.new) result }
     ensures held { H.tells → H.held shelf.new ≡ H.held shelf.old }
     ensures shelf_count { H.faults shelf.old ≤ H.faults shelf.new }
     ensures disk_count { D.faults disk.old ≤ D.faults disk.new }
@@ -215,20 +140,9 @@ fn job_for<H: Shelf>(
     routines: &[Box<dyn Routine>],
 ) -> Result<Job, JobFault>
     requires few { length routines.now ≤ 2 ^ 32 }
-    ensures made { MakesOn (shelf_for (record {
-      tells = H.tells;
-      same = shelf.new ≡ shelf.old;
-      old = H.held shelf.old;
-      new = H.held shelf.new;
-      faults = record { old = H.faults shelf.old; new = H.faults shelf.new };
-    }) command) file.now (map spec_of routines.now) result }
-    ensures spared { SparesShelf (record {
-      tells = H.tells;
-      same = shelf.new ≡ shelf.old;
-      old = H.held shelf.old;
-      new = H.held shelf.new;
-      faults = record { old = H.faults shelf.old; new = H.faults shelf.new };
-    }) command }
+    ensures made { MakesOn (shelf_for (lent_shelf H.Shelf shelf.old shelf.new) command) file.now
+        (map spec_of routines.now) result }
+    ensures spared { SparesShelf (lent_shelf H.Shelf shelf.old shelf.new) command }
     ensures held { H.tells → H.held shelf.new ≡ H.held shelf.old }
     ensures count { H.faults shelf.old ≤ H.faults shelf.new }
     ensures ready { IfOk result (IsReady (map spec_of routines.now)) }
@@ -302,33 +216,8 @@ fn done<D: Disk, W: Wire, T: Turns>(
     requires parts { 512 ≤ W.parts wire.old }
     requires empty { AreEmpty (W.queue wire.old) }
     requires sum { IsTrue W.tells → W.sum wire.old < 2 ^ 64 }
-    ensures comes { ComesTo (record {
-      rules = map rule routines.now;
-      disk = record {
-        tells = D.tells;
-        same = disk.new ≡ disk.old;
-        old = D.view disk.old;
-        new = D.view disk.new;
-        faults = record { old = D.faults disk.old; new = D.faults disk.new };
-      };
-      folders = D.folders disk.new;
-      wire = record {
-        tells = IsTrue W.tells;
-        same = wire.new ≡ wire.old;
-        old = record {
-          queue = W.queue wire.old;
-          received = W.received wire.old;
-          sum = W.sum wire.old;
-        };
-        new = record {
-          queue = W.queue wire.new;
-          received = W.received wire.new;
-          sum = W.sum wire.new;
-        };
-        faults = record { old = W.faults wire.old; new = W.faults wire.new };
-      };
-      meter = record { old = meter.old; new = meter.new };
-    }) command job.now result }
+    ensures comes { ComesTo (work_on (map rule routines.now) D.Disk W.Wire
+        disk.old disk.new wire.old wire.new meter.old meter.new) command job.now result }
     ensures disk_count { D.faults disk.old ≤ D.faults disk.new }
     ensures wire_count { W.faults wire.old ≤ W.faults wire.new }
 {

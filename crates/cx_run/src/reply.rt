@@ -8,7 +8,7 @@ ghost use Rattle.cx_made.specs.Summaries.{live_variable};
 ghost use Rattle.cx_plan.specs.Setups.{setup_of};
 ghost use Rattle.cx_plan.specs.Whole.{IsWhole};
 ghost use Rattle.cx_run.specs.Answers.{answer_at, answer_for, answer_of, done_by, end_in, summed, Says, IsCutOff, WasSaid};
-ghost use Rattle.cx_run.specs.Calls.{live_by};
+ghost use Rattle.cx_run.specs.Calls.{lent_sink, live_by};
 ghost use Rattle.cx_run.specs.FaultWords.{or_dash, spaced};
 ghost use Rattle.cx_run.specs.Texts.{begin_words, done_text, made_text, end_words, ended_text, recovery_text};
 ghost use Rattle.cx_run.specs.declared.reply.Answer.{Answer};
@@ -342,13 +342,7 @@ fn recovery_text(alloc: Global, fault: &BeginFault) -> Result<Text, Memory>
 
 /// Prints an answer and gives its status; want of memory in its place; 4 where the sink fails.
 pub(crate) fn reply<O: Sink>(alloc: Global, answer: Answer, out: &mut O) -> u8
-    ensures said { WasSaid (record {
-      tells = O.tells;
-      same = out.new ≡ out.old;
-      old = O.written out.old;
-      new = O.written out.new;
-      faults = record { old = O.faults out.old; new = O.faults out.new };
-    }) answer result }
+    ensures said { WasSaid (lent_sink O.Sink out.old out.new) answer result }
     ensures later { O.faults out.old ≤ O.faults out.new }
 {
     let status = answer.status();
@@ -360,19 +354,8 @@ pub(crate) fn reply<O: Sink>(alloc: Global, answer: Answer, out: &mut O) -> u8
 
 /// Prints a text. Where the sink fails the status is 4.
 fn say<O: Sink>(out: &mut O, text: &[u8], status: u8) -> u8
-    ensures printed { Says (record {
-      tells = O.tells;
-      same = out.new ≡ out.old;
-      old = O.written out.old;
-      new = O.written out.new;
-      faults = record { old = O.faults out.old; new = O.faults out.new };
-    }) status text.now result ⊎ IsCutOff (record {
-      tells = O.tells;
-      same = out.new ≡ out.old;
-      old = O.written out.old;
-      new = O.written out.new;
-      faults = record { old = O.faults out.old; new = O.faults out.new };
-    }) text.now result }
+    ensures printed { Says (lent_sink O.Sink out.old out.new) status text.now result
+        ⊎ IsCutOff (lent_sink O.Sink out.old out.new) text.now result }
     ensures later { O.faults out.old ≤ O.faults out.new }
 {
     match out.put(text) {

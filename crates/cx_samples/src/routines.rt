@@ -2,8 +2,9 @@
 
 ghost use Rattle.std.specs.Prelude.{◌≡◌, ◌≤◌, ◌<◌, ◌^◌, IsTrue, IfOk, map};
 ghost use Rattle.cx_core.specs.Starts.{AreEmpty};
+ghost use Rattle.cx_run.specs.Calls.{lent_sink};
 ghost use Rattle.cx_run.specs.Clauses.{Obeys};
-ghost use Rattle.cx_samples.specs.SampleCalls.{sample_call, lent_sink};
+ghost use Rattle.cx_samples.specs.SampleCalls.{sample_call};
 ghost use Rattle.cx_samples.specs.Samples.{sample_rules, sample_specs};
 
 use cx_disk::Disk;

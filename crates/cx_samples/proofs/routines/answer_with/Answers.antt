@@ -1,5 +1,5 @@
 use Rattle.cx_run.specs.Clauses.{Obeys}
-use Rattle.cx_samples.specs.SampleCalls.{called_with, lent_sink}
+use Rattle.cx_run.specs.Calls.{called_with, lent_sink}
 use Rattle.cx_samples.specs.Samples.{sample_rules, sample_specs}
 use Rattle.cx_samples.proofs.Statuses.{with_samples}
 use Rattle.cx_samples.proofs.routines.answer_with.Goals as goal
