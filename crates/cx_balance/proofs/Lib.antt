@@ -1,0 +1,4 @@
+pub mod ChooseLaws
+pub mod CutLaws
+pub mod WalkLaws
+mod Rows

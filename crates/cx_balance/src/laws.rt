@@ -1,0 +1,19 @@
+//! Laws of chosen widths. These functions do nothing when run: their clauses are the laws.
+ghost use Rattle.std.specs.Prelude.{ℕ, List, ◌≤◌};
+ghost use Rattle.cx_grid.specs.declared.shapes.Shape.{Shape};
+ghost use Rattle.cx_plan.specs.declared.job.Cuts.{Cuts};
+ghost use Rattle.cx_cut.specs.Faults.{parts_of, points};
+ghost use Rattle.cx_balance.specs.Choosing.{share_end, IsShareEnd};
+ghost use Rattle.cx_balance.specs.Cutting.{CutsAgain};
+
+/// A share ends after the fewest planes that weigh it.
+pub fn share_ends()
+    ensures { (planes : List ℕ) (parts j : ℕ) → j ≤ parts
+        → IsShareEnd planes parts j (share_end planes parts j) }
+{}
+
+/// Chosen widths cut a grid that can be cut into as many parts.
+pub fn chosen_cuts()
+    ensures { (s : Shape) (own : Cuts) → ((d : ℕ) → 1 ≤ points (parts_of s own) d)
+        → CutsAgain s own }
+{}
