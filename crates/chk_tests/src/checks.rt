@@ -1,13 +1,13 @@
 //! What the files of an image may hold.
 
-use cx_disk::MemoryDisk;
+use cx_disk::{MemoryDisk, OLD_OUTPUT, SLOTS};
 
-// Whether the bytes of a slot are those of one that isn't open.
+/// Whether the bytes of a slot are those of one that isn't open.
 fn is_closed(bytes: &[u8]) -> bool {
     bytes.len() < 17 || bytes[0] != 1
 }
 
-// Whether a slot is as before, or closed.
+/// Whether a slot is as before, or closed.
 fn is_within_closing(before: &[u8], bytes: &[u8]) -> bool {
     bytes == before || is_closed(bytes)
 }
@@ -16,13 +16,16 @@ fn is_within_closing(before: &[u8], bytes: &[u8]) -> bool {
 pub fn save_kept(before: &MemoryDisk, image: &MemoryDisk, slot: usize, saved: &[u8]) -> bool {
     let bytes = image.bytes(slot);
     let within = bytes == saved || is_within_closing(before.bytes(slot), bytes);
-    within && (0..9).all(|file| file == slot || image.bytes(file) == before.bytes(file))
+    within
+        && (0..OLD_OUTPUT as usize + 1).all(|file| file == slot
+            || image.bytes(file) == before.bytes(file))
 }
 
 /// Whether each slot is as before, or closed, and the output is as before.
 pub fn closing_kept(before: &MemoryDisk, image: &MemoryDisk) -> bool {
-    let same = image.bytes(8) == before.bytes(8);
-    same && (0..8).all(|slot| is_within_closing(before.bytes(slot), image.bytes(slot)))
+    let output = OLD_OUTPUT as usize;
+    let same = image.bytes(output) == before.bytes(output);
+    same && (0..SLOTS as usize).all(|slot| is_within_closing(before.bytes(slot), image.bytes(slot)))
 }
 
 /// Whether the newest slot is the one that was saved or, unless the save is done, the one that was the newest.

@@ -2,22 +2,23 @@
 ghost use Rattle.std.specs.Prelude.{◌≡◌, ◌<◌, ◌≤◌, IsTrue, IfOk, OnOk};
 ghost use Rattle.cx_disk.specs.Memory.{view_of};
 ghost use Rattle.cx_chk.specs.Encoding.{IsCheckpoint};
-ghost use Rattle.cx_chk.specs.Slots.{slot_count, SlotsSettled};
+ghost use Rattle.cx_disk.specs.Files.{count_with, slot_count};
+ghost use Rattle.cx_chk.specs.Slots.{SlotsSettled};
 
 use crate::samples::{shut_slot, slot};
 use cx_chk::{Checkpoint, Slots};
-use cx_disk::{Disk, DiskFault, FuseDisk, MemoryDisk};
+use cx_disk::{Disk, DiskFault, FuseDisk, MemoryDisk, SLOTS};
 use cx_text::{List, Text};
 use std::alloc::{AllocError, Global};
 
-// Slot 0 has iteration 20, slot 1 iteration 10, slot 2 a torn front, slot 3 a shut gate; the output has six bytes.
+/// Slot 0 has iteration 20, slot 1 iteration 10, slot 2 a torn front, slot 3 a shut gate; the output has six bytes.
 fn files(alloc: Global) -> Result<Vec<Text>, AllocError> {
     let mut files = Vec::new(alloc);
     files.push(Text::new(slot(alloc, 20)?))?;
     files.push(Text::new(slot(alloc, 10)?))?;
     files.push(Text::new(b"\x01CXC".to_vec(alloc)?))?;
     files.push(Text::new(shut_slot(alloc)?))?;
-    for _ in 4..8 {
+    for _ in 4..SLOTS {
         files.push(Text::new(Vec::new(alloc)))?;
     }
     files.push(Text::new(b"output".to_vec(alloc)?))?;
@@ -42,11 +43,11 @@ pub fn stopping_disk(alloc: Global, calls: u64) -> Result<FuseDisk, AllocError>
 fn mount_on<D: Disk>(alloc: Global, disk: &mut D) -> Result<(), DiskFault>
     requires settled { D.tells → SlotsSettled (D.view disk.old) }
     ensures mounted { OnOk result (IsTrue (D.mounted disk.new)) }
-    ensures count { D.file_count disk.new ≡ 9 }
+    ensures count { OnOk result (D.file_count disk.new ≡ count_with 0) }
     ensures settled { D.tells → SlotsSettled (D.view disk.new) }
 {
     let folder = Text::new(Vec::new(alloc));
-    disk.mount(&folder, &folder)
+    disk.mount(&folder, &List::empty(alloc), &folder)
 }
 
 /// Mounts a disk, and saves.
@@ -73,10 +74,10 @@ pub fn close_on<D: Disk>(alloc: Global, disk: &mut D) -> Result<(), DiskFault>
     Slots::close_all(disk)
 }
 
-// Mounts a disk, and finds the newest slot.
+/// Mounts a disk, and finds the newest slot.
 fn newest_on<D: Disk>(alloc: Global, disk: &mut D) -> Result<Option<(u32, u64)>, DiskFault> {
     let folder = Text::new(Vec::new(alloc));
-    disk.mount(&folder, &folder)?;
+    disk.mount(&folder, &List::empty(alloc), &folder)?;
     Slots::newest(disk)
 }
 

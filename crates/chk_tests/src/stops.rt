@@ -1,6 +1,6 @@
 //! Saves and closings that are stopped at each of their calls, and eight images that a crash may leave of each.
 ghost use Rattle.std.specs.Prelude.{◌<◌, ◌≤◌};
-ghost use Rattle.cx_chk.specs.Slots.{slot_count};
+ghost use Rattle.cx_disk.specs.Files.{slot_count};
 
 use crate::checks::{closing_kept, newest_after_closing, newest_after_save, save_kept};
 use crate::disks::{close_on, disk_before, newest_in, save_on, stopping_disk};
@@ -18,7 +18,7 @@ const SAVE_CALLS: u64 = 17;
 // A closing makes so many.
 const CLOSE_CALLS: u64 = 30;
 
-// Whether a save was done, and an image of the disk then.
+/// Whether a save was done, and an image of the disk then.
 fn save_image(alloc: Global, keep: u32, calls: u64, choice: u64) -> Result<(bool, MemoryDisk), Fail>
     requires least { 1 ≤ keep }
     requires keep { keep < slot_count }
@@ -29,14 +29,14 @@ fn save_image(alloc: Global, keep: u32, calls: u64, choice: u64) -> Result<(bool
     Ok((done, disk.into_image(choice)?))
 }
 
-// Whether a closing was done, and an image of the disk then.
+/// Whether a closing was done, and an image of the disk then.
 fn close_image(alloc: Global, calls: u64, choice: u64) -> Result<(bool, MemoryDisk), Fail> {
     let mut disk = stopping_disk(alloc, calls)?;
     let done = close_on(alloc, &mut disk).is_ok();
     Ok((done, disk.into_image(choice)?))
 }
 
-// The slot that a save takes.
+/// The slot that a save takes.
 fn slot_taken(second: bool) -> u32
     ensures least { 1 ≤ result }
     ensures keep { result < slot_count }
@@ -44,14 +44,14 @@ fn slot_taken(second: bool) -> u32
     if second { 2 } else { 1 }
 }
 
-// Whether the files of an image are as before, but for the slot that a save takes, which has what it may.
+/// Whether the files of an image are as before, but for the slot that a save takes, which has what it may.
 fn files_after_save(alloc: Global, image: &MemoryDisk, taken: u32) -> Result<bool, Fail> {
     let before = disk_before(alloc)?;
     let saved = slot(alloc, 30)?;
     Ok(save_kept(&before, image, taken as usize, &saved))
 }
 
-// Whether a save that is stopped leaves what it may in an image.
+/// Whether a save that is stopped leaves what it may in an image.
 fn save_leaves(alloc: Global, second: bool, calls: u64, choice: u64) -> Result<bool, Fail> {
     let taken = slot_taken(second);
     let (done, image) = save_image(alloc, taken, calls, choice)?;
@@ -60,13 +60,13 @@ fn save_leaves(alloc: Global, second: bool, calls: u64, choice: u64) -> Result<b
     Ok(kept && done == (calls == SAVE_CALLS) && newest_after_save(newest, done, taken))
 }
 
-// Whether the files of an image are as before, but for slots that are closed.
+/// Whether the files of an image are as before, but for slots that are closed.
 fn files_after_closing(alloc: Global, image: &MemoryDisk) -> Result<bool, Fail> {
     let before = disk_before(alloc)?;
     Ok(closing_kept(&before, image))
 }
 
-// Whether a closing that is stopped leaves what it may in an image.
+/// Whether a closing that is stopped leaves what it may in an image.
 fn closing_leaves(alloc: Global, calls: u64, choice: u64) -> Result<bool, Fail> {
     let (done, image) = close_image(alloc, calls, choice)?;
     let kept = files_after_closing(alloc, &image)?;

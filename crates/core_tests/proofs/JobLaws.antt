@@ -11,7 +11,8 @@ use Rattle.cx_cut.proofs.FaultLaws.{is_whole}
 use Rattle.cx_core.specs.Starts.{IsReady}
 
 -- by what `make_job` says of its job
-pub is_ready : (job : Job) → IsWhole job → HasShapes (setup_of job) × Sound (setup_of job) → cut_fault (parts_of job.shape job.cut) ≡ None → HasInterior job.shape → IsReady job
+pub is_ready : (job : Job) → IsWhole job → HasShapes (setup_of job) × Sound (setup_of job)
+    → cut_fault (parts_of job.shape job.cut) ≡ None → HasInterior job.shape → IsReady job
 is_ready job whole sound uncut interior =
     record {
       whole = whole;

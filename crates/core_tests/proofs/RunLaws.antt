@@ -17,17 +17,21 @@ use Rattle.cx_core.specs.Left.{steps_left}
 use Rattle.cx_core.specs.Steps.{Begins, Counts, IsAt, IsRunning, Standing}
 
 -- where a core begins afresh
-pub begins_afresh : (tells : Type 0) (job : Job) (rules : List Rule) (first : Counts) (core : Cores) (queue : ℕ → ℕ → List (Sent tells))
-    → Begins tells (run_of job rules Afresh) first core queue → IsRunning tells job rules (record { core = core; queue = queue; now = first })
+pub begins_afresh : (tells : Type 0) (job : Job) (rules : List Rule) (first : Counts) (core : Cores)
+    (queue : ℕ → ℕ → List (Sent tells))
+    → Begins tells (run_of job rules Afresh) first core queue
+    → IsRunning tells job rules (record { core = core; queue = queue; now = first })
 begins_afresh tells job rules first core queue begins =
     record { beginning = Afresh; begins = tt; first = first; at = begins.at }
 
 -- what a step says, whatever run of the job it is in
-abbrev pub Does : (tells : Type 0) → Job → List Rule → ℕ → (was is : Standing tells) → Event → Type 0
+abbrev pub Does : (tells : Type 0) → Job → List Rule → ℕ → (was is : Standing tells) → Event
+    → Type 0
 Does tells job rules k was is event =
     (b : Beginning) → IsBeginning (setup_of job) b → (first : Counts)
     → (at : IsAt tells (run_of job rules b) first was.core was.queue was.now)
-    → StepsTo tells (run_of job rules b) (undivided_from (setup_of job) rules b) first k was is at event
+    → StepsTo tells (run_of job rules b) (undivided_from (setup_of job) rules b)
+    first k was is at event
 
 -- what the law of cores says
 abbrev pub StandsIn : (told : Bool) → Job → List Rule → Type 0
@@ -37,11 +41,14 @@ StandsIn told job rules =
     → Stands (IsTrue told) (run_of job rules b) (undivided_from (setup_of job) rules b) first is at
 
 -- each run of a job is over what the job says
-setup_same : (job : Job) (rules : List Rule) (b : Beginning) → (run_of job rules b).setup ≡ setup_of job
+setup_same : (job : Job) (rules : List Rule) (b : Beginning)
+    → (run_of job rules b).setup ≡ setup_of job
 setup_same job rules Afresh = refl
 setup_same job rules (From c state so_far) = refl
 
-module _ (tells : Type 0) (job : Job) (rules : List Rule) (k : ℕ) (was is : Standing tells) (event : Event) (there : IsRunning tells job rules was) (does : Does tells job rules k was is event) where
+module _ (tells : Type 0) (job : Job) (rules : List Rule) (k : ℕ) (was is : Standing tells)
+    (event : Event) (there : IsRunning tells job rules was)
+    (does : Does tells job rules k was is event) where
   -- it is still a run of the job
   pub goes_on : IsRunning tells job rules is
   goes_on =
@@ -55,24 +62,31 @@ module _ (tells : Type 0) (job : Job) (rules : List Rule) (k : ℕ) (was is : St
   -- with less left to do
   pub less_left : steps_left (setup_of job) is.core.pace < steps_left (setup_of job) was.core.pace
   less_left =
-      subst (λ (s : Setup). steps_left s is.core.pace < steps_left s was.core.pace) (setup_same job rules there.beginning)
+      subst (λ (s : Setup). steps_left s is.core.pace < steps_left s was.core.pace)
+      (setup_same job rules there.beginning)
       (does there.beginning there.begins there.first there.at).less
 
   -- the text that comes next can be lent
-  pub section_there : {v : VarId} {iteration : ℕ} → event ≡ Section v iteration → is.core.section ≡ v
+  pub section_there : {v : VarId} {iteration : ℕ} → event ≡ Section v iteration
+      → is.core.section ≡ v
   section_there {v} {iteration} e =
       let r = run_of job rules there.beginning in
-      let leaves = subst (Leaves r.setup was.core is.core) e (does there.beginning there.begins there.first there.at).leaves in
+      let leaves = subst (Leaves r.setup was.core is.core) e
+      (does there.beginning there.begins there.first there.at).leaves in
       ap (λ (c : Cores). c.section) leaves.0
 
-  pub piece_there : {v : VarId} {iteration : ℕ} → event ≡ Section v iteration → HasPiece (setup_of job) is.core.buffers v
+  pub piece_there : {v : VarId} {iteration : ℕ} → event ≡ Section v iteration
+      → HasPiece (setup_of job) is.core.buffers v
   piece_there {v} {iteration} e =
       let r = run_of job rules there.beginning in
-      let leaves = subst (Leaves r.setup was.core is.core) e (does there.beginning there.begins there.first there.at).leaves in
-      subst (λ (s : Setup). HasPiece s is.core.buffers v) (setup_same job rules there.beginning) leaves.2
+      let leaves = subst (Leaves r.setup was.core is.core) e
+      (does there.beginning there.begins there.first there.at).leaves in
+      subst (λ (s : Setup). HasPiece s is.core.buffers v) (setup_same job rules there.beginning)
+      leaves.2
 
 -- an event can happen
-pub some_event : (told : Bool) (job : Job) (rules : List Rule) (is : Standing (IsTrue told)) → IsRunning (IsTrue told) job rules is
+pub some_event : (told : Bool) (job : Job) (rules : List Rule) (is : Standing (IsTrue told))
+    → IsRunning (IsTrue told) job rules is
     → StandsIn told job rules → is.core.outcome ≡ Going → 0 < enabled_in is.core
 some_event told job rules is there stands going =
     (stands there.beginning there.begins there.first is there.at).some_event going

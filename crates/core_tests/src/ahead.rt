@@ -17,6 +17,7 @@ use std::test::Fail;
 
 /// A run with these lines and picks, and what is seen before each event: for each event that can happen an A where it lies ahead.
 struct Row {
+    name: &'static str,
     more: &'static [u8],
     picks: &'static [u8],
     ahead: &'static [u8],
@@ -27,11 +28,13 @@ struct Row {
 /// no checkpoint due each part does twelve operations, the first part all of them first.
 const ROWS: &[Row] = &[
     Row {
+        name: "a checkpoint in each iteration",
         more: b"IO::checkpoint_every = 1\n",
         picks: b"0000000000000000001000000001000",
         ahead: b"-- -- -- -- -- -- -- A- A- A- A- - - - - - - - A- -- A- A- - - - - - A- - - - ",
     },
     Row {
+        name: "no checkpoint",
         more: b"",
         picks: b"0000000000000000000000000",
         ahead: b"-- -- -- -- -- -- -- -- -- -- -- -- - - - - - - - - - - - - - ",
@@ -85,7 +88,7 @@ fn events_behind_the_next_checkpoint(rt: HostRuntime) -> Result<(), Fail> {
     let routines = routines(rt.alloc())?;
     'rows: for row in ROWS {
         let seen = seen_with(&rt, &routines, row.more, row.picks)?;
-        assert!(rt; seen.as_slice() == row.ahead);
+        assert!(rt; seen.as_slice() == row.ahead, "{}", row.name);
     }
     Ok(())
 }

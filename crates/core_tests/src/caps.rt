@@ -54,22 +54,17 @@ fn routines(alloc: Global) -> Result<Vec<Box<dyn Routine>>, Fail> {
 }
 
 #[test]
-fn a_part_of_ten_points(rt: HostRuntime) -> Result<(), Fail> {
+fn parts_of_ten_points_and_of_six(rt: HostRuntime) -> Result<(), Fail> {
     let routines = routines(rt.alloc())?;
     match too_large(rt.alloc(), CA, b"", &routines)? {
         Some(told) => {
-            assert_eq!(rt; told.path.as_slice(), b"EVOL/ca_step".as_slice());
-            assert_eq!(rt; told.points, 10);
-            assert_eq!(rt; told.cap, 9);
-            Ok(())
+            let found = (told.path.as_slice(), told.points, told.cap);
+            let want = (b"EVOL/ca_step".as_slice(), 10, 9);
+            assert_eq!(rt; found, want, "one part of ten points");
         }
-        None => Err(Fail::new("a job is made")),
+        None => panic!(rt; "one part of ten points makes a job"),
     }
-}
-
-#[test]
-fn parts_of_six_points(rt: HostRuntime) -> Result<(), Fail> {
-    let routines = routines(rt.alloc())?;
-    assert!(rt; too_large(rt.alloc(), CA, b"driver::parts_x = 2\n", &routines)?.is_none());
+    let large = too_large(rt.alloc(), CA, b"driver::parts_x = 2\n", &routines)?;
+    assert!(rt; large.is_none(), "two parts of six points");
     Ok(())
 }

@@ -7,20 +7,20 @@ ghost use Rattle.cx_rule.specs.Jobs.{FitJob};
 ghost use Rattle.cx_wire.specs.Memory.{told_queue, bare_queue};
 ghost use Rattle.cx_core.specs.Starts.{AreEmpty, IsReady};
 
-use crate::samples::{FILES, File};
 use cx_cut::cut;
 use cx_job::{JobFault, MemoryShelf, make_job};
 use cx_plan::Job;
 use cx_rule::Routine;
 use cx_text::{List, Memory, Text};
 use cx_wire::{AlteringWire, MemoryWire, NotingWire};
+use sample_files::{FILES, File};
 use std::alloc::Global;
 use std::test::Fail;
 
 fn push_files(alloc: Global, list: &mut Vec<(Text, Text)>, files: &[File]) -> Result<(), Memory> {
     for file in files {
         list.push((
-            Text::from_slice(alloc, file.name)?,
+            Text::from_slice(alloc, file.name.as_bytes())?,
             Text::from_slice(alloc, file.bytes)?,
         ))?;
     }

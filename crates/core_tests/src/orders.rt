@@ -6,11 +6,12 @@ ghost use Rattle.cx_core.specs.Starts.{IsReady};
 
 use crate::jobs::{job, parts, wire};
 use crate::runs::{Came, is_empty, run};
-use crate::samples::{File, NO_EXCHANGE, ONE_EXCHANGE, TWO_CELLS, TWO_CELLS_OUTPUT};
+use crate::samples::{NO_EXCHANGE, ONE_EXCHANGE, TWO_CELLS, TWO_CELLS_OUTPUT};
 use crate::turns::EachOrder;
 use cx_plan::Job;
 use cx_rule::{Meter, Routine};
 use cx_thorn_ca::CaInit;
+use sample_files::File;
 use std::test::Fail;
 
 /// More orders than there are.
@@ -84,21 +85,41 @@ fn orders_of_two_cells(rt: &HostRuntime, others: &[File], want: Counted) -> Resu
     each_order(rt, others, want, &routines)
 }
 
-/// Each part does five operations: it starts at its point and both ghosts, skips a step and what is due, hands in its piece, and is done. The text comes behind both
-/// pieces, and the end behind all.
-#[test]
-fn each_order_without_messages(rt: HostRuntime) -> Result<(), Fail> {
-    let orders = orders_of_two_cells(&rt, NO_EXCHANGE, (6, 0, 0))?;
-    assert_eq!(rt; orders.count, 644);
-    assert!(rt; orders.same);
-    Ok(())
+/// Files in place of the samples', what is counted in each order, and how many orders there are.
+struct Case {
+    name: &'static str,
+    others: &'static [File],
+    counted: Counted,
+    orders: u64,
 }
 
-/// Here each part also sends its faces, and takes its neighbour's once these were sent: seven operations.
+const CASES: &[Case] = &[
+    // Each part does five operations: it starts at its point and both ghosts, skips a step and what is due, hands in
+    // its piece, and is done. The text comes after both pieces, and the end after all.
+    Case {
+        name: "no messages",
+        others: NO_EXCHANGE,
+        counted: (6, 0, 0),
+        orders: 644,
+    },
+    // Each part also sends its faces, and takes its neighbour's once these were sent: seven operations.
+    Case {
+        name: "messages",
+        others: ONE_EXCHANGE,
+        counted: (6, 4, 2),
+        orders: 3864,
+    },
+];
+
 #[test]
-fn each_order_with_messages(rt: HostRuntime) -> Result<(), Fail> {
-    let orders = orders_of_two_cells(&rt, ONE_EXCHANGE, (6, 4, 2))?;
-    assert_eq!(rt; orders.count, 3864);
-    assert!(rt; orders.same);
+fn each_order_of_two_parts(rt: HostRuntime) -> Result<(), Fail> {
+    for case in CASES {
+        let orders = orders_of_two_cells(&rt, case.others, case.counted)?;
+        let want = Orders {
+            count: case.orders,
+            same: true,
+        };
+        assert_eq!(rt; orders, want, "{}", case.name);
+    }
     Ok(())
 }

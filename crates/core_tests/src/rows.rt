@@ -7,16 +7,19 @@ ghost use Rattle.cx_core.specs.Starts.{IsReady};
 use crate::ends::DiffEnds;
 use crate::jobs::{job, parts, wire};
 use crate::runs::{Came, is_empty, run};
-use crate::samples::{CA, CA_OUTPUT, ENDS, File, HEAT, HEAT_OUTPUT, SHORT_HEAT, SUM};
+use crate::samples::{CA, CA_OUTPUT, ENDS, HEAT, HEAT_OUTPUT, SHORT_HEAT, SUM};
 use cx_plan::Job;
 use cx_rule::{Meter, Routine};
 use cx_thorn_ca::{CaCount, CaInit, CaStep, CaZero};
 use cx_thorn_pde::{DiffFlat, DiffInit, DiffStep, DiffSum};
 use cx_turns::{SeededTurns, Turns};
+use sample_files::File;
+use std::process::Abort;
 use std::test::Fail;
 
 /// A job, and what comes of it in any order of events. Where its run isn't done nothing is said of what was counted.
 struct Row {
+    name: &'static str,
     file: &'static [u8],
     more: &'static [u8],
     others: &'static [File],
@@ -43,6 +46,7 @@ struct Told {
 
 const CELLS: &[Row] = &[
     Row {
+        name: "cells in one part",
         file: CA,
         more: b"driver::lead = 64\n",
         others: &[],
@@ -55,6 +59,7 @@ const CELLS: &[Row] = &[
         }),
     },
     Row {
+        name: "cells in two parts",
         file: CA,
         more: b"driver::lead = 64\ndriver::parts_x = 2\n",
         others: &[],
@@ -67,6 +72,7 @@ const CELLS: &[Row] = &[
         }),
     },
     Row {
+        name: "cells in eight parts",
         file: CA,
         more: b"driver::lead = 64\ndriver::parts_x = 8\n",
         others: &[],
@@ -79,6 +85,7 @@ const CELLS: &[Row] = &[
         }),
     },
     Row {
+        name: "cells in parts of 3 and 5",
         file: CA,
         more: b"driver::lead = 64\ndriver::widths_x = \"3 5\"\n",
         others: &[],
@@ -94,6 +101,7 @@ const CELLS: &[Row] = &[
 
 const HEATS: &[Row] = &[
     Row {
+        name: "heat, lead 0",
         file: HEAT,
         more: b"driver::lead = 0\n",
         others: SHORT_HEAT,
@@ -102,6 +110,7 @@ const HEATS: &[Row] = &[
         counted: None,
     },
     Row {
+        name: "heat, lead 1",
         file: HEAT,
         more: b"driver::lead = 1\n",
         others: SHORT_HEAT,
@@ -110,6 +119,7 @@ const HEATS: &[Row] = &[
         counted: None,
     },
     Row {
+        name: "heat, lead 8",
         file: HEAT,
         more: b"driver::lead = 8\n",
         others: SHORT_HEAT,
@@ -121,6 +131,7 @@ const HEATS: &[Row] = &[
 
 const SUMS: &[Row] = &[
     Row {
+        name: "a sum that overflows",
         file: SUM,
         more: b"diff::edge = 9223372036854775807\n",
         others: ENDS,
@@ -129,6 +140,7 @@ const SUMS: &[Row] = &[
         counted: None,
     },
     Row {
+        name: "a sum that overflows in two parts",
         file: SUM,
         more: b"diff::edge = 9223372036854775807\ndriver::parts_x = 2\n",
         others: ENDS,
@@ -137,6 +149,7 @@ const SUMS: &[Row] = &[
         counted: None,
     },
     Row {
+        name: "a sum that fits",
         file: SUM,
         more: b"diff::edge = -1\n",
         others: ENDS,
@@ -145,6 +158,7 @@ const SUMS: &[Row] = &[
         counted: None,
     },
     Row {
+        name: "a sum that fits in two parts",
         file: SUM,
         more: b"diff::edge = -1\ndriver::parts_x = 2\n",
         others: ENDS,
@@ -214,38 +228,27 @@ fn ten_runs(rt: &HostRuntime, row: &Row) -> Result<Vec<Told>, Fail> {
     ten_runs_with(rt, row, &routines)
 }
 
-#[test]
-fn cells_of_any_cut(rt: HostRuntime) -> Result<(), Fail> {
-    for row in CELLS {
-        for told in ten_runs(&rt, row)? {
-            assert_eq!(rt; told.came.ended.as_slice(), row.ended);
-            assert_eq!(rt; told.came.output.as_slice(), row.output);
-            assert_eq!(rt; Some(told.counted), row.counted);
-            assert!(rt; told.empty);
-        }
+/// A run came to what its row says.
+fn assert_told(rt: &impl Abort, row: &Row, seed: usize, told: &Told) {
+    let name = row.name;
+    let came = (told.came.ended.as_slice(), told.came.output.as_slice());
+    assert_eq!(rt; came, (row.ended, row.output), "{name}, seed {seed}");
+    if row.counted.is_some() {
+        let counted = (Some(told.counted), told.empty);
+        assert_eq!(rt; counted, (row.counted, true), "{name}, seed {seed}");
     }
-    assert_eq!(rt; CA_OUTPUT.len(), 141);
-    Ok(())
 }
 
 #[test]
-fn heat_that_overflows(rt: HostRuntime) -> Result<(), Fail> {
-    for row in HEATS {
-        for told in ten_runs(&rt, row)? {
-            assert_eq!(rt; told.came.ended.as_slice(), row.ended);
-            assert_eq!(rt; told.came.output.as_slice(), row.output);
+fn jobs_in_the_orders_of_ten_seeds(rt: HostRuntime) -> Result<(), Fail> {
+    for rows in [CELLS, HEATS, SUMS] {
+        for row in rows {
+            let runs = ten_runs(&rt, row)?;
+            for (seed, told) in runs.iter().enumerate() {
+                assert_told(&rt, row, seed, told);
+            }
         }
     }
-    Ok(())
-}
-
-#[test]
-fn sums_of_two_points(rt: HostRuntime) -> Result<(), Fail> {
-    for row in SUMS {
-        for told in ten_runs(&rt, row)? {
-            assert_eq!(rt; told.came.ended.as_slice(), row.ended);
-            assert_eq!(rt; told.came.output.as_slice(), row.output);
-        }
-    }
+    assert_eq!(rt; CA_OUTPUT.len(), 141, "the bytes of the automaton's output");
     Ok(())
 }

@@ -1,84 +1,6 @@
-//! Files of two sample thorns, and what the runs of their jobs write.
+//! Parameter files, files in place of the sample thorns', and what the runs of their jobs write.
 
-/// A file on a shelf.
-pub struct File {
-    pub name: &'static [u8],
-    pub bytes: &'static [u8],
-}
-
-/// The list of thorns, and the files of the automaton and of the heat.
-pub const FILES: &[File] = &[
-    File {
-        name: b"ThornList",
-        bytes: b"Integer/ElemCA\nInteger/DiffInt\n",
-    },
-    File {
-        name: b"arrangements/Integer/ElemCA/interface.ccl",
-        bytes: b"implements: ca\n\
-        public:\n\
-        CCTK_BYTE cells TYPE=GF DIM=1 { cell } \"cells\"\n\
-        CCTK_INT counts TYPE=SCALAR { live } \"live cells\"\n",
-    },
-    File {
-        name: b"arrangements/Integer/ElemCA/param.ccl",
-        bytes: b"restricted:\n\
-        INT rule \"Wolfram's number\" { 0:255 :: \"any\" } 90\n\
-        INT start \"the one cell\" { 0:* :: \"place\" } 0\n\
-        INT seed \"random start\" { -1 :: \"one cell\" 0:* :: \"mixed\" } -1\n",
-    },
-    File {
-        name: b"arrangements/Integer/ElemCA/schedule.ccl",
-        bytes: b"STORAGE: cells[1] counts[1]\n\
-        schedule ca_init AT INITIAL { LANG: C WRITES: ca::cell(everywhere) } \"start\"\n\
-        schedule ca_step AT EVOL\n\
-        {\n\
-        \x20 LANG: C\n\
-        \x20 SYNC: cells\n\
-        \x20 READS: ca::cell(everywhere)\n\
-        \x20 WRITES: ca::cell(interior)\n\
-        } \"one step\"\n\
-        schedule ca_zero AT EVOL AFTER ca_step { LANG: C WRITES: ca::cell(boundary) } \"edge\"\n\
-        schedule ca_count AT POSTSTEP { LANG: C READS: ca::cell(everywhere) WRITES: ca::live } \"count\"\n",
-    },
-    File {
-        name: b"arrangements/Integer/DiffInt/interface.ccl",
-        bytes: b"implements: diff\n\
-        public:\n\
-        CCTK_INT evolved TYPE=GF DIM=1 { u } \"field\"\n\
-        CCTK_INT sums TYPE=SCALAR { total } \"sum\"\n",
-    },
-    File {
-        name: b"arrangements/Integer/DiffInt/param.ccl",
-        bytes: b"restricted:\n\
-        INT factor \"in 256ths\" { 0:* :: \"\" } 64\n\
-        KEYWORD pattern \"start\" { \"point\" \"uniform\" \"alternate\" \"random\" } \"point\"\n\
-        INT amount \"height\" { *:* :: \"\" } 8\n\
-        INT start \"place\" { 0:* :: \"\" } 0\n\
-        INT seed \"mixing\" { 0:* :: \"\" } 0\n\
-        INT edge \"boundary value\" { *:* :: \"\" } 0\n\
-        BOOLEAN sum \"print the sum\" { } \"no\"\n",
-    },
-    File {
-        name: b"arrangements/Integer/DiffInt/schedule.ccl",
-        bytes: b"STORAGE: evolved[1] sums[1]\n\
-        schedule diff_init AT INITIAL\n\
-        { LANG: C WRITES: diff::u(everywhere) } \"start\"\n\
-        schedule diff_step AT EVOL\n\
-        {\n\
-        \x20 LANG: C\n\
-        \x20 SYNC: evolved\n\
-        \x20 READS: diff::u(everywhere)\n\
-        \x20 WRITES: diff::u(interior)\n\
-        } \"one step\"\n\
-        schedule diff_flat AT EVOL AFTER diff_step\n\
-        { LANG: C READS: diff::u(interior) WRITES: diff::u(boundary) } \"flat edge\"\n\
-        if (sum)\n\
-        {\n\
-        \x20 schedule diff_sum AT ANALYSIS\n\
-        \x20 { LANG: C READS: diff::u(everywhere) WRITES: diff::total } \"sum\"\n\
-        }\n",
-    },
-];
+use sample_files::File;
 
 /// Eight cells on a ring, from one cell on.
 pub const CA: &[u8] = b"ActiveThorns = \"ElemCA\"\n\
@@ -111,7 +33,7 @@ pub const ALTERED_OUTPUT: &[u8] = b"# ca::cell iteration 0 size 8\n\
 
 /// Heat with numbers of 16 bits on a ring of four parts.
 pub const SHORT_HEAT: &[File] = &[File {
-    name: b"arrangements/Integer/DiffInt/interface.ccl",
+    name: "arrangements/Integer/DiffInt/interface.ccl",
     bytes: b"implements: diff\n\
         public:\n\
         CCTK_INT2 evolved TYPE=GF DIM=1 { u } \"field\"\n\
@@ -163,7 +85,7 @@ pub const SUM: &[u8] = b"ActiveThorns = \"DiffInt\"\n\
 
 /// The schedule of the two points.
 pub const ENDS: &[File] = &[File {
-    name: b"arrangements/Integer/DiffInt/schedule.ccl",
+    name: "arrangements/Integer/DiffInt/schedule.ccl",
     bytes: b"STORAGE: evolved[1] sums[1]\n\
     schedule diff_ends AT INITIAL { LANG: C WRITES: diff::u(everywhere) } \"two numbers\"\n\
     schedule diff_sum AT ANALYSIS\n\
@@ -172,14 +94,14 @@ pub const ENDS: &[File] = &[File {
 
 /// Cells that are exchanged once, as they start.
 pub const ONE_EXCHANGE: &[File] = &[File {
-    name: b"arrangements/Integer/ElemCA/schedule.ccl",
+    name: "arrangements/Integer/ElemCA/schedule.ccl",
     bytes: b"STORAGE: cells[1]\n\
     schedule ca_init AT INITIAL { LANG: C SYNC: cells WRITES: ca::cell(everywhere) } \"start\"\n",
 }];
 
 /// Cells as they start.
 pub const NO_EXCHANGE: &[File] = &[File {
-    name: b"arrangements/Integer/ElemCA/schedule.ccl",
+    name: "arrangements/Integer/ElemCA/schedule.ccl",
     bytes: b"STORAGE: cells[1]\n\
     schedule ca_init AT INITIAL { LANG: C WRITES: ca::cell(everywhere) } \"start\"\n",
 }];

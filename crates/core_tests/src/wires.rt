@@ -15,9 +15,9 @@ use cx_turns::{SeededTurns, Turns};
 use std::test::Fail;
 
 /// Two parts with a lead.
-const TWO_PARTS: &[&[u8]] = &[
-    b"driver::parts_x = 2\ndriver::lead = 0\n",
-    b"driver::parts_x = 2\ndriver::lead = 64\n",
+const TWO_PARTS: &[&str] = &[
+    "driver::parts_x = 2\ndriver::lead = 0\n",
+    "driver::parts_x = 2\ndriver::lead = 64\n",
 ];
 
 /// A run over a wire that alters a value.
@@ -123,16 +123,19 @@ fn all_runs(rt: &HostRuntime, more: &[u8]) -> Result<Runs, Fail> {
 #[test]
 fn parts_exchange_values_as_turns_say(rt: HostRuntime) -> Result<(), Fail> {
     for more in TWO_PARTS {
-        let runs = all_runs(&rt, more)?;
-        for came in runs.altered {
-            assert_eq!(rt; came.output.as_slice(), ALTERED_OUTPUT);
+        let runs = all_runs(&rt, more.as_bytes())?;
+        for (seed, came) in runs.altered.iter().enumerate() {
+            let output = came.output.as_slice();
+            assert_eq!(rt; output, ALTERED_OUTPUT, "seed {seed}, {more:?}");
         }
         let mut senders = Vec::new(rt.alloc());
-        for noted in runs.noted {
-            assert_eq!(rt; noted.came.output.as_slice(), CA_OUTPUT);
+        for (turns, noted) in runs.noted.iter().enumerate() {
+            let output = noted.came.output.as_slice();
+            assert_eq!(rt; output, CA_OUTPUT, "turns {turns}, {more:?}");
             senders.push(noted.sender)?;
         }
-        assert_eq!(rt; senders.as_slice(), [Some(0), Some(1)].as_slice());
+        let want = [Some(0), Some(1)];
+        assert_eq!(rt; senders.as_slice(), want.as_slice(), "{more:?}");
     }
     Ok(())
 }

@@ -20,78 +20,84 @@ fn fault_of(alloc: Global, shape: &Shape, widths: &Cuts) -> Option<CutFault>
     }
 }
 
-/// The fault of the widths of a line.
-fn line_fault(alloc: Global, shape: &Shape, widths: &[u32]) -> Result<Option<CutFault>, Fail>
-    requires { IsShape shape.now }
-{
-    let widths = line_widths(alloc, List::new(widths.to_vec(alloc)?))?;
-    Ok(fault_of(alloc, shape, &widths))
-}
+/// How many points a line has, its ghost width, and whether it is a ring.
+type Line = (u16, u8, bool);
 
-/// Widths of a ring of ten points with ghost width 2, and their fault.
-const RING: &[(&[u32], Option<CutFault>)] = &[
-    (&[10], None),
-    (&[2, 8], None),
-    (&[4, 4, 2], None),
-    (&[1, 9], Some(CutFault::PartTooThin(1, 2))),
-    (&[9, 1], Some(CutFault::PartTooThin(1, 2))),
-    (&[1, 9, 0], Some(CutFault::PartTooThin(1, 2))),
-    (&[10, 0], Some(CutFault::PartTooThin(0, 2))),
-    (&[4, 4], Some(CutFault::WidthsDiffer(8, 10))),
-    (&[4, 7], Some(CutFault::WidthsDiffer(11, 10))),
-    (&[], Some(CutFault::WidthsDiffer(0, 10))),
+/// A ring of ten points with ghost width 2.
+const RING: Line = (10, 2, true);
+
+/// Lines, widths of them, and the fault of these.
+const WIDTHS: &[(Line, &[u32], Option<CutFault>)] = &[
+    (RING, &[10], None),
+    (RING, &[2, 8], None),
+    (RING, &[4, 4, 2], None),
+    (RING, &[1, 9], Some(CutFault::PartTooThin(1, 2))),
+    (RING, &[9, 1], Some(CutFault::PartTooThin(1, 2))),
+    (RING, &[1, 9, 0], Some(CutFault::PartTooThin(1, 2))),
+    (RING, &[10, 0], Some(CutFault::PartTooThin(0, 2))),
+    (RING, &[4, 4], Some(CutFault::WidthsDiffer(8, 10))),
+    (RING, &[4, 7], Some(CutFault::WidthsDiffer(11, 10))),
+    (RING, &[], Some(CutFault::WidthsDiffer(0, 10))),
     (
+        RING,
         &[4294967295, 11],
         Some(CutFault::WidthsDiffer(4294967306, 10)),
     ),
+    // an open line has an interior point
+    ((4, 2, false), &[4], Some(CutFault::GridTooSmall(4, 5))),
+    ((4, 2, false), &[1, 3], Some(CutFault::GridTooSmall(4, 5))),
+    ((5, 2, false), &[5], None),
+    ((4, 2, true), &[4], None),
+    ((4, 2, false), &[5], Some(CutFault::WidthsDiffer(5, 4))),
+    // without ghosts no part is empty either
+    ((3, 0, false), &[1, 0, 2], Some(CutFault::PartTooThin(0, 1))),
+    ((3, 0, false), &[1, 1, 1], None),
 ];
 
+/// The fault of the widths of a line.
+fn line_fault(alloc: Global, of: Line, widths: &[u32]) -> Result<Option<CutFault>, Fail> {
+    let (points, ghosts, ring) = of;
+    let shape = line(points.max(1), ghosts.min(8), ring);
+    let widths = line_widths(alloc, List::new(widths.to_vec(alloc)?))?;
+    Ok(fault_of(alloc, &shape, &widths))
+}
+
+/// Lines, numbers of parts of equal cuts, and their faults: a grid has at most 512 parts.
+const PARTS: &[(Line, u32, Option<CutFault>)] = &[
+    ((512, 0, true), 512, None),
+    ((513, 0, true), 513, Some(CutFault::TooMany(513, 512))),
+    ((513, 2, true), 513, Some(CutFault::TooMany(513, 512))),
+    ((16, 2, true), 9, Some(CutFault::PartTooThin(1, 2))),
+];
+
+/// The fault of a line that is cut into so many parts.
+fn parts_fault(alloc: Global, of: Line, parts: u32) -> Result<Option<CutFault>, Fail> {
+    let (points, ghosts, ring) = of;
+    let shape = line(points.max(1), ghosts.min(8), ring);
+    let widths = even_line(alloc, points as u32, parts.max(1))?;
+    Ok(fault_of(alloc, &shape, &widths))
+}
+
+/// The fault of the block that is cut into as many parts along each direction.
+fn block_fault(alloc: Global, parts: u32) -> Result<Option<CutFault>, Fail> {
+    let widths = even_block(alloc, parts.max(1))?;
+    Ok(fault_of(alloc, &block(), &widths))
+}
+
 #[test]
-fn widths_cut_a_ring_or_have_their_first_fault(rt: HostRuntime) -> Result<(), Fail> {
-    let ring = line(10, 2, true);
-    for (widths, want) in RING {
-        assert_eq!(rt; line_fault(rt.alloc(), &ring, widths)?, *want);
+fn widths_cut_a_grid_or_have_their_first_fault(rt: HostRuntime) -> Result<(), Fail> {
+    let alloc = rt.alloc();
+    for (line, widths, want) in WIDTHS {
+        let fault = line_fault(alloc, *line, widths)?;
+        assert_eq!(rt; fault, *want, "{line:?} in widths {widths:?}");
     }
-    Ok(())
-}
-
-#[test]
-fn an_open_line_has_an_interior(rt: HostRuntime) -> Result<(), Fail> {
-    let alloc = rt.alloc();
-    let small = Some(CutFault::GridTooSmall(4, 5));
-    assert_eq!(rt; line_fault(alloc, &line(4, 2, false), &[4])?, small);
-    assert_eq!(rt; line_fault(alloc, &line(4, 2, false), &[1, 3])?, small);
-    assert_eq!(rt; line_fault(alloc, &line(5, 2, false), &[5])?, None);
-    assert_eq!(rt; line_fault(alloc, &line(4, 2, true), &[4])?, None);
-    let differ = Some(CutFault::WidthsDiffer(5, 4));
-    assert_eq!(rt; line_fault(alloc, &line(4, 2, false), &[5])?, differ);
-    Ok(())
-}
-
-#[test]
-fn no_part_is_empty_where_there_are_no_ghosts(rt: HostRuntime) -> Result<(), Fail> {
-    let bare = line(3, 0, false);
-    let empty = Some(CutFault::PartTooThin(0, 1));
-    assert_eq!(rt; line_fault(rt.alloc(), &bare, &[1, 0, 2])?, empty);
-    assert_eq!(rt; line_fault(rt.alloc(), &bare, &[1, 1, 1])?, None);
-    Ok(())
-}
-
-#[test]
-fn a_grid_has_at_most_512_parts(rt: HostRuntime) -> Result<(), Fail> {
-    let alloc = rt.alloc();
-    let most = even_line(alloc, 512, 512)?;
-    assert_eq!(rt; fault_of(alloc, &line(512, 0, true), &most), None);
-    let more = even_line(alloc, 513, 513)?;
-    let many = Some(CutFault::TooMany(513, 512));
-    assert_eq!(rt; fault_of(alloc, &line(513, 0, true), &more), many);
-    assert_eq!(rt; fault_of(alloc, &line(513, 2, true), &more), many);
-    assert_eq!(rt; fault_of(alloc, &block(), &even_block(alloc, 8)?), None);
-    let thin = Some(CutFault::PartTooThin(1, 2));
-    assert_eq!(rt; fault_of(alloc, &block(), &even_block(alloc, 7)?), None);
-    assert_eq!(rt;
-        fault_of(alloc, &line(16, 2, true), &even_line(alloc, 16, 9)?),
-        thin
-    );
+    for (line, parts, want) in PARTS {
+        let fault = parts_fault(alloc, *line, *parts)?;
+        assert_eq!(rt; fault, *want, "{line:?} in {parts} parts");
+    }
+    for parts in [7, 8] {
+        let fault = block_fault(alloc, parts)?;
+        assert_eq!(rt; fault, None, "a block, {parts} parts each way");
+    }
     Ok(())
 }

@@ -31,48 +31,63 @@ fn rows(alloc: Global, cut: &Cut) -> Result<Vec<Row>, Fail> {
     Ok(all)
 }
 
-const RING: &[Row] = &[
-    (0, 4, -1, 5, Some(2), Some(1)),
-    (4, 7, 3, 8, Some(0), Some(2)),
-    (7, 10, 6, 11, Some(1), Some(0)),
-];
+/// An equal cut of a line: how many points, the ghost width, whether it is a ring, how many parts; and the parts.
+struct Line {
+    points: u16,
+    ghosts: u8,
+    ring: bool,
+    parts: u32,
+    rows: &'static [Row],
+}
 
-const OPEN: &[Row] = &[
-    (0, 4, 0, 5, None, Some(1)),
-    (4, 7, 3, 8, Some(0), Some(2)),
-    (7, 10, 6, 10, Some(1), None),
+const LINES: &[Line] = &[
+    Line {
+        points: 10,
+        ghosts: 1,
+        ring: true,
+        parts: 3,
+        rows: &[
+            (0, 4, -1, 5, Some(2), Some(1)),
+            (4, 7, 3, 8, Some(0), Some(2)),
+            (7, 10, 6, 11, Some(1), Some(0)),
+        ],
+    },
+    Line {
+        points: 10,
+        ghosts: 1,
+        ring: false,
+        parts: 3,
+        rows: &[
+            (0, 4, 0, 5, None, Some(1)),
+            (4, 7, 3, 8, Some(0), Some(2)),
+            (7, 10, 6, 10, Some(1), None),
+        ],
+    },
+    // one part of a ring is its own neighbour
+    Line {
+        points: 8,
+        ghosts: 2,
+        ring: true,
+        parts: 1,
+        rows: &[(0, 8, -2, 10, Some(0), Some(0))],
+    },
 ];
 
 /// The parts of an equal cut of a line.
-fn line_rows(alloc: Global, shape: &Shape, points: u32, parts: u32) -> Result<Vec<Row>, Fail>
-    requires shape { IsShape shape.now }
-    requires some { 1 ≤ parts }
-{
-    let widths = even_line(alloc, points, parts)?;
-    let made = cut(alloc, shape, &widths)?;
+fn line_rows(alloc: Global, of: &Line) -> Result<Vec<Row>, Fail> {
+    let shape = line(of.points.max(1), of.ghosts.min(8), of.ring);
+    let widths = even_line(alloc, of.points as u32, of.parts.max(1))?;
+    let made = cut(alloc, &shape, &widths)?;
     rows(alloc, &made)
 }
 
 #[test]
-fn ten_points_of_a_ring_in_three_parts(rt: HostRuntime) -> Result<(), Fail> {
-    let all = line_rows(rt.alloc(), &line(10, 1, true), 10, 3)?;
-    assert_eq!(rt; all.as_slice(), RING);
-    Ok(())
-}
-
-#[test]
-fn ten_points_of_an_open_line_in_three_parts(rt: HostRuntime) -> Result<(), Fail> {
-    let all = line_rows(rt.alloc(), &line(10, 1, false), 10, 3)?;
-    assert_eq!(rt; all.as_slice(), OPEN);
-    Ok(())
-}
-
-const ALONE: &[Row] = &[(0, 8, -2, 10, Some(0), Some(0))];
-
-#[test]
-fn one_part_of_a_ring_is_its_own_neighbour(rt: HostRuntime) -> Result<(), Fail> {
-    let all = line_rows(rt.alloc(), &line(8, 2, true), 8, 1)?;
-    assert_eq!(rt; all.as_slice(), ALONE);
+fn parts_of_lines_and_their_neighbours(rt: HostRuntime) -> Result<(), Fail> {
+    for line in LINES {
+        let all = line_rows(rt.alloc(), line)?;
+        let name = (line.points, line.parts, line.ring);
+        assert_eq!(rt; all.as_slice(), line.rows, "{name:?}");
+    }
     Ok(())
 }
 
@@ -90,7 +105,7 @@ const EQUAL: &[(u32, u32, &[u32])] = &[
 fn the_first_parts_of_an_equal_cut_are_wider(rt: HostRuntime) -> Result<(), Fail> {
     for (points, parts, want) in EQUAL {
         let widths = even(rt.alloc(), *points, (*parts).max(1))?;
-        assert_eq!(rt; widths.as_slice(), *want);
+        assert_eq!(rt; widths.as_slice(), *want, "{points} in {parts} parts");
     }
     Ok(())
 }
@@ -127,16 +142,6 @@ fn owners(cut: &Cut, shape: &Shape) -> u32
     found
 }
 
-#[test]
-fn a_block_in_512_parts(rt: HostRuntime) -> Result<(), Fail> {
-    let alloc = rt.alloc();
-    let shape = block();
-    let block = cut(alloc, &shape, &even_block(alloc, 8)?)?;
-    assert_eq!(rt; block.count(), 512);
-    assert_eq!(rt; owners(&block, &shape), 512);
-    Ok(())
-}
-
 /// A part's neighbours at the low side and the high one of a direction, if the cut has the part.
 fn beside(cut: &Cut, k: u32, dir: u8) -> Option<(Option<u32>, Option<u32>)>
     requires { dir < 3 }
@@ -150,13 +155,30 @@ fn beside(cut: &Cut, k: u32, dir: u8) -> Option<(Option<u32>, Option<u32>)>
     }
 }
 
+/// How many parts the block has that is cut into 8 along each direction, and how many own both their first point and their last one.
+fn block_owners(alloc: Global) -> Result<(u32, u32), Fail> {
+    let shape = block();
+    let block = cut(alloc, &shape, &even_block(alloc, 8)?)?;
+    Ok((block.count(), owners(&block, &shape)))
+}
+
+/// A part of the block that is cut into 2 along each direction, a direction, and the part's neighbours.
+const BESIDE: &[(u32, u8, Option<(Option<u32>, Option<u32>)>)] = &[
+    (5, 0, Some((Some(4), Some(4)))),
+    (5, 1, Some((None, Some(7)))),
+    (5, 2, Some((Some(1), None))),
+    (8, 0, None),
+];
+
 #[test]
-fn neighbours_in_three_directions(rt: HostRuntime) -> Result<(), Fail> {
+fn owners_and_neighbours_in_three_directions(rt: HostRuntime) -> Result<(), Fail> {
     let alloc = rt.alloc();
+    let owners = block_owners(alloc)?;
+    assert_eq!(rt; owners, (512, 512), "parts of a block and their owners");
     let block = cut(alloc, &block(), &even_block(alloc, 2)?)?;
-    assert_eq!(rt; beside(&block, 5, 0), Some((Some(4), Some(4))));
-    assert_eq!(rt; beside(&block, 5, 1), Some((None, Some(7))));
-    assert_eq!(rt; beside(&block, 5, 2), Some((Some(1), None)));
-    assert_eq!(rt; beside(&block, 8, 0), None);
+    for (part, direction, want) in BESIDE {
+        let found = beside(&block, *part, *direction % 3);
+        assert_eq!(rt; found, *want, "part {part} along direction {direction}");
+    }
     Ok(())
 }

@@ -37,18 +37,21 @@ row_of s level row = row_in (extent (whole s) 0) level row
 
 -- all rows
 abbrev pub rows_text : Shape → List ℤ → List ℕ
-rows_text s level = flat_map (row_of s level) (range_with_len 0 (extent (whole s) 1 * extent (whole s) 2))
+rows_text s level = flat_map (row_of s level)
+    (range_with_len 0 (extent (whole s) 1 * extent (whole s) 2))
 
 -- what a section and a line begin with: a variable's name and the iteration
 abbrev pub head_text : List ℕ → ℕ → List ℕ
 head_text name iteration = codes "# " ++ name ++ codes " iteration " ++ decimal iteration
 
--- the section of a grid variable: a head of its name, the iteration and as many sizes as the grid has directions, a line
--- for each row, and an empty line
+-- the section of a grid variable: a head of its name, the iteration and as many sizes as the grid
+-- has directions, a line for each row, and an empty line
 abbrev pub section : List ℕ → ℕ → Shape → List ℤ → List ℕ
 section name iteration s level =
-    head_text name iteration ++ codes " size" ++ sizes_text s ++ 10 ∷ [] ++ rows_text s level ++ 10 ∷ []
+    head_text name iteration ++ codes " size" ++ sizes_text s ++ 10 ∷ [] ++ rows_text s level ++ 10
+    ∷ []
 
 -- the line of a scalar: its name, the iteration and its value
 abbrev pub line : List ℕ → ℕ → ℤ → List ℕ
-line name iteration value = head_text name iteration ++ codes " value " ++ signed_decimal value ++ 10 ∷ []
+line name iteration value =
+    head_text name iteration ++ codes " value " ++ signed_decimal value ++ 10 ∷ []

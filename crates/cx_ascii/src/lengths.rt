@@ -28,6 +28,7 @@ pub fn line_length(full: &Text, iteration: u64, value: i64) -> u64
     head_length(full, iteration) + value_length(value) + 8
 }
 
+/// The length of a section's head: full name, iteration and fixed words.
 fn head_length(full: &Text, iteration: u64) -> u64
     ensures value { result ≡ length (head_text full.now iteration) }
     ensures few { result ≤ 2 ^ 63 + 40 }
@@ -35,6 +36,7 @@ fn head_length(full: &Text, iteration: u64) -> u64
     full.as_slice().len() as u64 + digits(iteration) + 13
 }
 
+/// The length of the sizes, each with the blank before it.
 fn sizes_length(shape: &Shape) -> u64
     requires { shape.now.dims ≤ 3 }
     ensures value { result ≡ length (sizes_text shape.now) }
@@ -60,6 +62,7 @@ fn values_length(values: &[i64]) -> u64
     total
 }
 
+/// The length of a number in decimal, with its sign.
 fn value_length(value: i64) -> u64
     ensures value { result ≡ length (signed_decimal value) }
     ensures few { result ≤ 21 }
@@ -68,6 +71,7 @@ fn value_length(value: i64) -> u64
     if value < 0 { digits + 1 } else { digits }
 }
 
+/// How many digits a number has in decimal.
 #[tactic(auto, using(crate::proofs::LengthLaws::digits_by, crate::proofs::LengthLaws::digit_of_none))]
 fn digits(n: u64) -> u64
     ensures value { result ≡ length (decimal n) }

@@ -7,4 +7,6 @@ mod numbers;
 mod rows;
 
 pub use lengths::{line_length, section_length};
-pub use lines::{scalar_line, section};
+pub use lines::{head, scalar_line, section};
+pub use numbers::push_count;
+pub use rows::push_rows;

@@ -45,7 +45,8 @@ pub fn scalar_line(alloc: Global, full: &Text, iteration: u64, value: i64) -> Re
     Ok(text)
 }
 
-fn head(alloc: Global, full: &Text, iteration: u64) -> Result<Text, Memory>
+/// What a section and a line begin with: `# FULL iteration N`.
+pub fn head(alloc: Global, full: &Text, iteration: u64) -> Result<Text, Memory>
     ensures { IfOk result (λ text. text ≡ head_text full.now iteration) }
 {
     let mut text = Text::from_slice(alloc, b"# ")?;

@@ -7,13 +7,15 @@ ghost use Rattle.cx_ascii.specs.Output.{after_blank};
 use cx_text::{Memory, Text};
 use itoa::Buffer;
 
+/// Adds a number in decimal, with its sign.
 pub(crate) fn push_value(text: &mut Text, value: i64) -> Result<(), Memory>
     ensures { OnOk result (text.new ≡ text.old ++ signed_decimal value) }
 {
     text.push_slice(Buffer::new().format(value).as_bytes())
 }
 
-pub(crate) fn push_count(text: &mut Text, count: u64) -> Result<(), Memory>
+/// Adds a number in decimal at the end.
+pub fn push_count(text: &mut Text, count: u64) -> Result<(), Memory>
     ensures { OnOk result (text.new ≡ text.old ++ decimal count) }
 {
     text.push_slice(Buffer::new().format(count).as_bytes())

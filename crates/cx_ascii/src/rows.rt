@@ -33,6 +33,7 @@ pub(crate) fn push_sizes(text: &mut Text, shape: &Shape) -> Result<(), Memory>
     Ok(())
 }
 
+/// Adds a blank and a size.
 fn push_size(text: &mut Text, size: u32) -> Result<(), Memory>
     ensures { OnOk result (text.new ≡ text.old ++ (32 ∷ decimal size)) }
 {
@@ -48,6 +49,7 @@ fn push_row(text: &mut Text, values: &[i64]) -> Result<(), Memory>
     text.push_slice(b"\n")
 }
 
+/// Adds the numbers of a row with blanks between them.
 fn push_values(text: &mut Text, values: &[i64]) -> Result<(), Memory>
     ensures { OnOk result (text.new ≡ text.old ++ values_of values.now) }
 {
@@ -61,9 +63,10 @@ fn push_values(text: &mut Text, values: &[i64]) -> Result<(), Memory>
     Ok(())
 }
 
-/// So many rows of so many values, from the first value on.
+/// Adds `count` rows of `width` values each at the end, from the first value on. A row that the values don't fill ends with
+/// the last of them.
 #[tactic(auto, using(crate::proofs::MoreRows::row_grown, crate::proofs::MoreRows::rest_next, crate::proofs::MoreRows::none_dropped))]
-fn push_rows(text: &mut Text, width: usize, count: u64, values: &[i64]) -> Result<(), Memory>
+pub fn push_rows(text: &mut Text, width: usize, count: u64, values: &[i64]) -> Result<(), Memory>
     ensures { OnOk result (text.new ≡ text.old ++ rows_in width values.now count) }
 {
     let mut rest = values;
@@ -85,6 +88,7 @@ pub(crate) fn push_level(text: &mut Text, shape: &Shape, values: &[i64]) -> Resu
     push_rows(text, width, count, values)
 }
 
+/// How many rows a grid with these sizes in y and z has.
 fn row_count(y: u32, z: u32) -> u64
     ensures { result ≡ y * z }
 {

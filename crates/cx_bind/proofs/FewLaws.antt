@@ -24,8 +24,10 @@ not_over : (what : List ℕ) (n most : ℕ) → over what n most ≡ None → n 
 not_over what n most h = at (nat_lt most n) refl h
   where
     at : (b : Bool) → nat_lt most n ≡ b → over what n most ≡ None → n ≤ most
-    at true e h = (let no : Some (Limit what n) ≡ None = ap (λ b. if b then Some (Limit what n) else None) (sym e) ∙ h in cc no)
-    at false e h = (let not_below = not_from_Decides (nat_lt most n) (Decides-ltb most n) e in omega (arith, not_below))
+    at true e h = (let no : Some (Limit what n) ≡ None =
+        ap (λ b. if b then Some (Limit what n) else None) (sym e) ∙ h in cc no)
+    at false e h = (let not_below = not_from_Decides (nat_lt most n) (Decides-ltb most n) e in
+        omega (arith, not_below))
 
 module _ (thorns : List Thorn) (fit : bind_fault thorns ≡ None) where
   abbrev infos : List VarInfo
@@ -40,12 +42,22 @@ module _ (thorns : List Thorn) (fit : bind_fault thorns ≡ None) where
   limits : first_some (of_thorns ∷ of_variables ∷ []) ≡ None
   unfolding bind_fault
   limits =
-      let kinds : first_some (kinds_fault infos thorns ∷ []) ≡ None = later_none (names_fault (known thorns) infos thorns) (first_some (kinds_fault infos thorns ∷ [])) (later_none (needs_fault thorns) (first_some (names_fault (known thorns) infos thorns ∷ kinds_fault infos thorns ∷ [])) fit) in
-      let each : kinds_fault infos thorns ≡ None = first_none (kinds_fault infos thorns) None kinds in
-      later_none (two_dims thorns) (first_some (of_thorns ∷ of_variables ∷ [])) (later_none (unsupported thorns) (first_some (two_dims thorns ∷ of_thorns ∷ of_variables ∷ [])) each)
+      let kinds : first_some (kinds_fault infos thorns ∷ []) ≡ None =
+      later_none (names_fault (known thorns) infos thorns)
+      (first_some (kinds_fault infos thorns ∷ []))
+      (later_none (needs_fault thorns)
+      (first_some (names_fault (known thorns) infos thorns ∷ kinds_fault infos thorns ∷ []))
+      fit) in
+      let each : kinds_fault infos thorns ≡ None =
+      first_none (kinds_fault infos thorns) None kinds in
+      later_none (two_dims thorns) (first_some (of_thorns ∷ of_variables ∷ []))
+      (later_none (unsupported thorns)
+      (first_some (two_dims thorns ∷ of_thorns ∷ of_variables ∷ [])) each)
 
   pub few_thorns : length thorns ≤ 64
-  few_thorns = not_over (codes "thorns") (length thorns) 64 (first_none of_thorns (first_some (of_variables ∷ [])) limits)
+  few_thorns = not_over (codes "thorns") (length thorns) 64
+      (first_none of_thorns (first_some (of_variables ∷ [])) limits)
 
   pub few_variables : length (variable_infos thorns) ≤ 256
-  few_variables = not_over (codes "variables") (length infos) 256 (first_none of_variables None (later_none of_thorns (first_some (of_variables ∷ [])) limits))
+  few_variables = not_over (codes "variables") (length infos) 256
+      (first_none of_variables None (later_none of_thorns (first_some (of_variables ∷ [])) limits))

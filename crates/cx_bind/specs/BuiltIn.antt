@@ -15,7 +15,8 @@ provider implementation thorn = record { implementation = implementation; thorn 
 
 -- what the thorns that are active in any case implement
 abbrev pub built_in : List Provider
-built_in = provider (codes "Cactus") (codes "Cactus") ∷ provider (codes "driver") (codes "PUGH") ∷ provider (codes "IO") (codes "IOUtil") ∷ []
+built_in = provider (codes "Cactus") (codes "Cactus") ∷ provider (codes "driver") (codes "PUGH")
+    ∷ provider (codes "IO") (codes "IOUtil") ∷ []
 
 abbrev pub built_in_thorns : List (List ℕ)
 built_in_thorns = codes "Cactus" ∷ codes "PUGH" ∷ codes "IOUtil" ∷ []
@@ -29,7 +30,8 @@ starred_of_driver =
     ∷ []
 
 abbrev pub starred_of_io : List (List ℕ)
-starred_of_io = codes "IO::out_dir" ∷ codes "IO::checkpoint_dir" ∷ codes "IO::recover_dir" ∷ codes "IO::recover" ∷ []
+starred_of_io = codes "IO::out_dir" ∷ codes "IO::checkpoint_dir" ∷ codes "IO::recover_dir"
+    ∷ codes "IO::recover" ∷ []
 
 abbrev pub starred : List (List ℕ)
 starred = starred_of_driver ++ starred_of_io
@@ -38,31 +40,47 @@ starred = starred_of_driver ++ starred_of_io
 abbrev pub from_to : ℤ → ℤ → Range
 from_to low high = Ints (Some low) true (Some high) true 1
 
--- A built-in parameter. All are restricted, and none is an array. Its thorn's number is that of the thorns.
+-- A built-in parameter. All are restricted, and none is an array. Its thorn's number is that of the
+-- thorns.
 abbrev pub parameter : ℕ → List ℕ → PType → List ℕ → List Range → List ℕ → Param
 parameter number implementation ptype name ranges default =
     record {
       full = full_name implementation name;
       thorn = number;
-      decl = record { scope = Restricted; ptype = ptype; name = name; length = None; alias = None; steer = Never; ranges = ranges; default = Some default };
+      decl = record {
+        scope = Restricted;
+        ptype = ptype;
+        name = name;
+        length = None;
+        alias = None;
+        steer = Never;
+        ranges = ranges;
+        default = Some default;
+      };
       ranges = ranges;
     }
 
 abbrev pub int_parameter : ℕ → List ℕ → List ℕ → ℤ → ℤ → List ℕ → Param
-int_parameter number implementation name low high default = parameter number implementation Int name (from_to low high ∷ []) default
+int_parameter number implementation name low high default =
+    parameter number implementation Int name (from_to low high ∷ []) default
 
 -- -1, or a number of a range
 abbrev pub unset_parameter : ℕ → List ℕ → List ℕ → ℤ → ℤ → List ℕ → Param
-unset_parameter number implementation name low high default = parameter number implementation Int name (from_to (negsuc 0) (negsuc 0) ∷ from_to low high ∷ []) default
+unset_parameter number implementation name low high default =
+    parameter number implementation Int name (from_to (negsuc 0) (negsuc 0) ∷ from_to low high ∷ [])
+    default
 
 abbrev pub flag_parameter : ℕ → List ℕ → List ℕ → List ℕ → Param
-flag_parameter number implementation name default = parameter number implementation Boolean name [] default
+flag_parameter number implementation name default =
+    parameter number implementation Boolean name [] default
 
 abbrev pub text_parameter : ℕ → List ℕ → List ℕ → List ℕ → Param
-text_parameter number implementation name default = parameter number implementation String name (AnyText ∷ []) default
+text_parameter number implementation name default =
+    parameter number implementation String name (AnyText ∷ []) default
 
 abbrev pub terminate_parameter : ℕ → Param
-terminate_parameter n = parameter n (codes "Cactus") Keyword (codes "terminate") (Word (codes "iteration") ∷ []) (codes "iteration")
+terminate_parameter n = parameter n (codes "Cactus") Keyword (codes "terminate")
+    (Word (codes "iteration") ∷ []) (codes "iteration")
 
 abbrev pub cactus_parameters : ℕ → List Param
 cactus_parameters n =
@@ -132,7 +150,8 @@ checkpoint_parameters n =
 
 abbrev pub recover_parameter : ℕ → Param
 recover_parameter n =
-    parameter n (codes "IO") Keyword (codes "recover") (Word (codes "no") ∷ Word (codes "auto") ∷ Word (codes "autoprobe") ∷ []) (codes "no")
+    parameter n (codes "IO") Keyword (codes "recover")
+    (Word (codes "no") ∷ Word (codes "auto") ∷ Word (codes "autoprobe") ∷ []) (codes "no")
 
 abbrev pub recover_parameters : ℕ → List Param
 recover_parameters n =
@@ -144,7 +163,8 @@ recover_parameters n =
 abbrev pub driver_parameters : ℕ → List Param
 driver_parameters n =
     grid_parameters n
-    ++ (ghost_parameters n ++ (periodic_parameters n ++ (part_parameters n ++ (width_parameters n ++ turn_parameters n))))
+    ++ (ghost_parameters n ++ (periodic_parameters n
+    ++ (part_parameters n ++ (width_parameters n ++ turn_parameters n))))
 
 abbrev pub io_parameters : ℕ → List Param
 io_parameters n = output_parameters n ++ (checkpoint_parameters n ++ recover_parameters n)

@@ -1,4 +1,5 @@
--- Why thorns can't be bound. Within a kind of fault, the first thorn in the order of activation counts.
+-- Why thorns can't be bound. Within a kind of fault, the first thorn in the order of activation
+-- counts.
 use Rattle.std.specs.Prelude.{ℕ, ◌==◌, Bool, true, false, not, ◌&&◌, ◌||◌, nat_lt, List, [], ◌∷◌, ◌++◌, map, find, Option, Some, None, if◌then◌else◌}
 use Rattle.std.specs.List.{list_any}
 use Rattle.std.specs.Option.{option_map}
@@ -58,7 +59,8 @@ repeated a (Some b) = Some (TwoProviders a.implementation a.thorn b.thorn)
 
 abbrev pub two_providers : List Provider → Option BindFault
 two_providers [] = None
-two_providers (a ∷ ps) = or_else (repeated a (find (implements a.implementation) ps)) (two_providers ps)
+two_providers (a ∷ ps) =
+    or_else (repeated a (find (implements a.implementation) ps)) (two_providers ps)
 
 -- a pair that is lent, as the fault that it is
 abbrev pub told_by : Option (Bor Provider × Bor Provider) → Option BindFault
@@ -71,16 +73,19 @@ missing fault there names = option_map fault (first_absent there names)
 -- a line of a param file names an implementation that isn't active
 abbrev pub missing_shared : List Provider → Thorn → Option (List ℕ) → Option BindFault
 missing_shared ps t None = None
-missing_shared ps t (Some i) = if is_implemented ps i then None else Some (MissingImplementation t.name i)
+missing_shared ps t (Some i) = if is_implemented ps i then None
+    else Some (MissingImplementation t.name i)
 
 abbrev pub missing_by_line : List Provider → Thorn → ParamDecl → Option BindFault
 missing_by_line ps t d = missing_shared ps t (shared_by d.scope)
 
 abbrev pub missing_inherited : List Provider → Thorn → Option BindFault
-missing_inherited ps t = missing (λ i. MissingImplementation t.name i) (is_implemented ps) t.interface.inherits
+missing_inherited ps t =
+    missing (λ i. MissingImplementation t.name i) (is_implemented ps) t.interface.inherits
 
 abbrev pub missing_implementation_of : List Provider → Thorn → Option BindFault
-missing_implementation_of ps t = or_else (missing_inherited ps t) (first_of_each (missing_by_line ps t) t.params)
+missing_implementation_of ps t =
+    or_else (missing_inherited ps t) (first_of_each (missing_by_line ps t) t.params)
 
 abbrev pub missing_implementation : List Provider → List Thorn → Option BindFault
 missing_implementation ps thorns = first_of_each (missing_implementation_of ps) thorns
@@ -105,13 +110,15 @@ no_parameter_at t d i None = Some (NoParameter t.name i d.name)
 
 abbrev pub no_parameter_by : List Known → Thorn → ParamDecl → Option (List ℕ) → Option BindFault
 no_parameter_by knowns t d None = None
-no_parameter_by knowns t d (Some i) = no_parameter_at t d i (shared_parameter knowns (full_name i d.name))
+no_parameter_by knowns t d (Some i) =
+    no_parameter_at t d i (shared_parameter knowns (full_name i d.name))
 
 abbrev pub no_parameter_in : List Known → Thorn → ParamDecl → Option BindFault
 no_parameter_in knowns t d = no_parameter_by knowns t d (shared_by d.scope)
 
 abbrev pub no_parameter : List Known → List Thorn → Option BindFault
-no_parameter knowns thorns = first_of_each (λ t. first_of_each (no_parameter_in knowns t) t.params) thorns
+no_parameter knowns thorns =
+    first_of_each (λ t. first_of_each (no_parameter_in knowns t) t.params) thorns
 
 abbrev pub type_number : PType → ℕ
 type_number Boolean = 0
@@ -126,7 +133,8 @@ is_same_type a b = type_number a == type_number b
 -- its type isn't the declared one
 abbrev pub wrong_type_at : Thorn → ParamDecl → Option Known → Option BindFault
 wrong_type_at t d None = None
-wrong_type_at t d (Some k) = if is_same_type d.ptype k.ptype then None else Some (WrongType t.name d.name)
+wrong_type_at t d (Some k) = if is_same_type d.ptype k.ptype then None
+    else Some (WrongType t.name d.name)
 
 abbrev pub wrong_type_by : List Known → Thorn → ParamDecl → Option (List ℕ) → Option BindFault
 wrong_type_by knowns t d None = None
@@ -136,7 +144,8 @@ abbrev pub wrong_type_in : List Known → Thorn → ParamDecl → Option BindFau
 wrong_type_in knowns t d = wrong_type_by knowns t d (shared_by d.scope)
 
 abbrev pub wrong_type : List Known → List Thorn → Option BindFault
-wrong_type knowns thorns = first_of_each (λ t. first_of_each (wrong_type_in knowns t) t.params) thorns
+wrong_type knowns thorns =
+    first_of_each (λ t. first_of_each (wrong_type_in knowns t) t.params) thorns
 
 -- the first variable that has the full name of one before it
 abbrev pub is_same_variable : VarInfo → VarInfo → Bool
@@ -149,7 +158,8 @@ two_variables infos = option_map (λ v. TwoVariables v.full) (first_again is_sam
 abbrev pub clash : Known → Known → Bool
 clash a b = same_name a.full b.full || (a.global && (b.global && same_name a.name b.name))
 
--- whether a parameter clashes with one before it, by the names of those and by the names of the global ones among them
+-- whether a parameter clashes with one before it, by the names of those and by the names of the
+-- global ones among them
 abbrev pub is_clashing : List (List ℕ) → List (List ℕ) → Known → Bool
 is_clashing names globals k = has names k.full || (k.global && has globals k.name)
 
@@ -194,7 +204,8 @@ abbrev pub is_unsupported_line : ParamDecl → Bool
 is_unsupported_line d = is_unsupported_parameter d.ptype d.ranges
 
 abbrev pub unsupported_group : Thorn → Option BindFault
-unsupported_group t = option_map (λ g. Unsupported t.name g.name) (find is_unsupported_group t.interface.groups)
+unsupported_group t = option_map (λ g. Unsupported t.name g.name)
+    (find is_unsupported_group t.interface.groups)
 
 abbrev pub unsupported_line : Thorn → Option BindFault
 unsupported_line t = option_map (λ d. Unsupported t.name d.name) (find is_unsupported_line t.params)

@@ -3,9 +3,7 @@ use Rattle.std.specs.Prelude.{◌≡◌, ℕ, Bool, not, ◌||◌, List, [], ◌
 use Rattle.std.specs.Char.{to_ascii_lowercase}
 use Rattle.std.specs.List.{list_any}
 use Rattle.std.specs.Str.{bytes_eq}
-
-abbrev pub folded : List ℕ → List ℕ
-folded name = map to_ascii_lowercase name
+use Rattle.cx_text.specs.Bytes.{folded}
 
 -- whether a name is there, in any case
 abbrev pub has : List (List ℕ) → List ℕ → Bool

@@ -1,4 +1,5 @@
--- The parameters of thorns: the built-in ones first, then the thorns' in the order of activation and of the files.
+-- The parameters of thorns: the built-in ones first, then the thorns' in the order of activation
+-- and of the files.
 use Rattle.std.specs.Prelude.{ℕ, Bool, true, false, ◌&&◌, List, [], ◌∷◌, ◌++◌, map, length, find, Option, Some, None, if◌then◌else◌}
 use Rattle.std.specs.List.{flat_map, enumerate_from}
 use Rattle.cx_text.specs.Lexemes.{same_name, among}
@@ -43,7 +44,8 @@ shared_by Private = None
 shared_by Restricted = None
 shared_by Global = None
 
--- what stands before the `::` of a full name: the thorn for a private parameter, else the implementation
+-- what stands before the `::` of a full name: the thorn for a private parameter, else the
+-- implementation
 abbrev pub owner_by : Scope → Thorn → List ℕ
 owner_by Private t = t.name
 owner_by Restricted t = t.interface.implements
@@ -52,7 +54,13 @@ owner_by (Uses i) t = t.interface.implements
 owner_by (Extends i) t = t.interface.implements
 
 abbrev pub parameter_of : ℕ → Thorn → ParamDecl → Param
-parameter_of number t d = record { full = full_name (owner_by d.scope t) d.name; thorn = number; decl = d; ranges = d.ranges }
+parameter_of number t d =
+    record {
+      full = full_name (owner_by d.scope t) d.name;
+      thorn = number;
+      decl = d;
+      ranges = d.ranges;
+    }
 
 -- the parameter that a block's line declares, if it declares one
 abbrev pub declared_as : ℕ → Thorn → ParamDecl → List Param
@@ -68,7 +76,13 @@ declared thorns = table (length thorns) ++ flat_map declared_by (enumerate_from 
 -- what other thorns can know of a parameter
 abbrev pub known_by : Param → Known
 known_by p =
-    record { full = p.full; name = p.decl.name; restricted = is_restricted p.decl.scope; global = is_global p.decl.scope; ptype = p.decl.ptype }
+    record {
+      full = p.full;
+      name = p.decl.name;
+      restricted = is_restricted p.decl.scope;
+      global = is_global p.decl.scope;
+      ptype = p.decl.ptype;
+    }
 
 abbrev pub known : List Thorn → List Known
 known thorns = map known_by (declared thorns)
@@ -113,7 +127,12 @@ added es full = flat_map (added_by full) es
 
 -- A thorn's parameter has the ranges of all its extensions too. To a built-in one nothing is added.
 abbrev pub extended : List Extension → Param → Param
-extended es p = record { full = p.full; thorn = p.thorn; decl = p.decl; ranges = p.ranges ++ added es p.full }
+extended es p = record {
+  full = p.full;
+  thorn = p.thorn;
+  decl = p.decl;
+  ranges = p.ranges ++ added es p.full;
+}
 
 -- the parameter that a line declares, if it declares one, with the ranges of all its extensions
 abbrev pub extended_as : List Extension → ℕ → Thorn → ParamDecl → List Param

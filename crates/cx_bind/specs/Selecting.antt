@@ -21,7 +21,8 @@ the_place name None several = Err (UnknownThorn name)
 the_place name (Some place) several = if several then Err (TwoThorns name) else Ok place
 
 abbrev pub place_of : List Place → List ℕ → Result Place BindFault
-place_of places name = the_place name (find (is_place_of name) places) (nat_lt 1 (count_by (is_place_of name) places))
+place_of places name = the_place name (find (is_place_of name) places)
+    (nat_lt 1 (count_by (is_place_of name) places))
 
 -- the active thorns but the built-in ones, each once, in the order of activation
 abbrev pub chosen : List (List ℕ) → List (List ℕ)

@@ -23,7 +23,8 @@ groups_of t = map (λ g. record { number = t.0; thorn = t.1; group = g }) t.1.in
 abbrev pub owned_groups : List Thorn → List OwnedGroup
 owned_groups thorns = flat_map groups_of (enumerate_from 0 thorns)
 
--- what stands before the `::` of a full name: the thorn for a private group, else the implementation
+-- what stands before the `::` of a full name: the thorn for a private group, else the
+-- implementation
 abbrev pub owner_by : Access → Thorn → List ℕ
 owner_by Private t = t.name
 owner_by Public t = t.interface.implements
@@ -44,9 +45,12 @@ copies None = None ∷ []
 copies (Some n) = map (λ k. Some k) (range_with_len 0 n)
 
 abbrev pub variables_in : OwnedGroup → List Variable
-variables_in g = flat_map (λ name. map (λ copy. record { owned = g; name = name; copy = copy }) (copies g.group.copies)) g.group.variables
+variables_in g = flat_map
+    (λ name. map (λ copy. record { owned = g; name = name; copy = copy }) (copies g.group.copies))
+    g.group.variables
 
--- all variables: thorns in the order of activation, groups and variables in that of the files, the copies of each by number
+-- all variables: thorns in the order of activation, groups and variables in that of the files, the
+-- copies of each by number
 abbrev pub variables : List Thorn → List Variable
 variables thorns = flat_map variables_in (owned_groups thorns)
 
@@ -60,7 +64,8 @@ with_copy name None = name
 with_copy name (Some k) = bracketed name k
 
 abbrev pub level_full : Variable → ℕ → List ℕ
-level_full v level = full_name (owner_by v.owned.group.access v.owned.thorn) (with_copy (past_name v.name level) v.copy)
+level_full v level = full_name (owner_by v.owned.group.access v.owned.thorn)
+    (with_copy (past_name v.name level) v.copy)
 
 abbrev pub is_scalar : GType → Bool
 is_scalar Scalar = true

@@ -34,6 +34,7 @@ impl Model for Active {
         × HasThose (is_active a.providers) a.thorns };
 }
 
+/// The names of all implementations that the active thorns provide.
 fn implementations(alloc: Global, providers: &[Provider]) -> Result<NameSet, Memory>
     ensures { IfOk result (λ names. HasThose (is_implemented providers.now) names) }
 {
@@ -44,6 +45,7 @@ fn implementations(alloc: Global, providers: &[Provider]) -> Result<NameSet, Mem
     Ok(names)
 }
 
+/// The names of all active thorns.
 fn thorn_names(alloc: Global, providers: &[Provider]) -> Result<NameSet, Memory>
     ensures { IfOk result (λ names. HasThose (is_active providers.now) names) }
 {

@@ -80,6 +80,7 @@ impl Bound {
     }
 }
 
+/// Tests that no two thorns provide one implementation, and that what each thorn needs is there.
 fn check_needs(alloc: Global, thorns: &[Thorn]) -> Result<(), BindFault>
     ensures { Tells faults.Memory (needs_fault thorns.now) result }
 {
@@ -90,6 +91,7 @@ fn check_needs(alloc: Global, thorns: &[Thorn]) -> Result<(), BindFault>
     check_thorns(alloc, &active, thorns)
 }
 
+/// Tests that each use of a parameter finds one of its type, and that no full name is there twice.
 fn check_names(
     alloc: Global,
     thorns: &[Thorn],
@@ -104,6 +106,7 @@ fn check_names(
     check_parameters(alloc, table.knowns())
 }
 
+/// Tests that each group and parameter is of a supported kind, and that the counts are within limits.
 fn check_kinds(alloc: Global, thorns: &[Thorn], variables: &[VarInfo]) -> Result<(), BindFault>
     ensures { Tells faults.Memory (kinds_fault variables.now thorns.now) result }
 {

@@ -1,10 +1,11 @@
 //! Full names that are there twice.
 
 ghost use Rattle.std.specs.Prelude.{◌≡◌, ◌++◌, ◌∷◌, [], ◌&&◌, Some, not, IsTrue, IfOk, OnOk};
-ghost use Rattle.cx_bind.specs.NameSets.{folded, has, folded_if};
+ghost use Rattle.cx_bind.specs.NameSets.{has, folded_if};
 ghost use Rattle.cx_bind.specs.Faults.{fault_if, is_clashing, two_variables, two_parameters};
 ghost use Rattle.cx_text.specs.Telling.{Tells};
 ghost use Rattle.cx_bind.specs.declared.thorns.BindFault.TheVariants as faults;
+ghost use Rattle.cx_text.specs.Bytes.{folded};
 
 use crate::BindFault;
 use crate::known::Known;
@@ -13,6 +14,7 @@ use cx_plan::VarInfo;
 use cx_text::Memory;
 use std::alloc::Global;
 
+/// Adds the full name of a variable, unless another variable has it.
 fn check_variable(alloc: Global, names: &mut NameSet, info: &VarInfo) -> Result<(), BindFault>
     ensures told { Tells faults.Memory
         (fault_if (has names.old info.now.full) (faults.TwoVariables info.now.full)) result }
@@ -35,6 +37,7 @@ pub(crate) fn check_variables(alloc: Global, infos: &[VarInfo]) -> Result<(), Bi
     Ok(())
 }
 
+/// The fault of a parameter whose name is taken.
 fn two_parameters(alloc: Global, known: &Known) -> Result<(), BindFault>
     ensures { Tells faults.Memory (Some (faults.TwoParameters known.now.full)) result }
 {
@@ -55,6 +58,7 @@ fn insert_global(alloc: Global, globals: &mut NameSet, known: &Known) -> Result<
     globals.insert(alloc, known.name.as_slice())
 }
 
+/// Adds the names of a parameter: its full name, and if it is global its own name, unless one is taken.
 fn check_parameter(
     alloc: Global,
     names: &mut NameSet,

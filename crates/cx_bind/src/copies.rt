@@ -6,6 +6,7 @@ use cx_param::{ParamDecl, Range, Scope};
 use cx_text::{List, Memory, Text, Token};
 use std::alloc::Global;
 
+/// A copy of tokens with their kinds and texts.
 fn copy_tokens(alloc: Global, tokens: &[Token]) -> Result<List<Token>, Memory>
     ensures { IfOk result (λ copy. copy ≡ tokens.now) }
 {
@@ -14,6 +15,7 @@ fn copy_tokens(alloc: Global, tokens: &[Token]) -> Result<List<Token>, Memory>
     Ok(copy)
 }
 
+/// A copy of a range of any kind.
 fn copy_range(alloc: Global, range: &Range) -> Result<Range, Memory>
     ensures { IfOk result (λ copy. copy ≡ range.now) }
 {
@@ -52,6 +54,7 @@ pub(crate) fn push_ranges(
     Ok(())
 }
 
+/// A copy of ranges in their order.
 pub(crate) fn copy_ranges(alloc: Global, ranges: &[Range]) -> Result<List<Range>, Memory>
     ensures { IfOk result (λ copy. copy ≡ ranges.now) }
 {
@@ -60,6 +63,7 @@ pub(crate) fn copy_ranges(alloc: Global, ranges: &[Range]) -> Result<List<Range>
     Ok(copy)
 }
 
+/// A copy of a scope; a use or an extension keeps its implementation.
 fn copy_scope(alloc: Global, scope: &Scope) -> Result<Scope, Memory>
     ensures { IfOk result (λ copy. copy ≡ scope.now) }
 {
@@ -72,6 +76,7 @@ fn copy_scope(alloc: Global, scope: &Scope) -> Result<Scope, Memory>
     }
 }
 
+/// A copy of an optional text.
 fn copy_if_any(alloc: Global, text: &Option<Text>) -> Result<Option<Text>, Memory>
     ensures { IfOk result (λ copy. copy ≡ text.now) }
 {
@@ -81,6 +86,7 @@ fn copy_if_any(alloc: Global, text: &Option<Text>) -> Result<Option<Text>, Memor
     }
 }
 
+/// A copy of a whole declaration, use or extension.
 pub(crate) fn copy_decl(alloc: Global, decl: &ParamDecl) -> Result<ParamDecl, Memory>
     ensures { IfOk result (λ copy. copy ≡ decl.now) }
 {

@@ -1,9 +1,9 @@
 //! What thorns add to the ranges of parameters, by their full names.
 
 ghost use Rattle.std.specs.Prelude.{◌≡◌, ◌++◌, IfOk, OnOk};
-ghost use Rattle.cx_bind.specs.NameSets.{folded};
 ghost use Rattle.cx_bind.specs.NameRanges.{AddsRanges, AreAdded};
 ghost use Rattle.cx_bind.specs.Parameters.{added};
+ghost use Rattle.cx_text.specs.Bytes.{folded};
 
 use crate::copies::push_ranges;
 use crate::name_ranges::NameRanges;
@@ -32,6 +32,7 @@ impl Model for ExtensionTable {
     ghost invariant = { λ t. AreAdded t.extensions t.ranges };
 }
 
+/// Adds the ranges of an extension to those of the parameter that it extends.
 fn add_extension(
     alloc: Global,
     ranges: &mut NameRanges,
@@ -47,6 +48,7 @@ fn add_extension(
     )
 }
 
+/// For each parameter that is extended, the ranges of its extensions in their order.
 fn ranges_by_names(alloc: Global, extensions: &[Extension]) -> Result<NameRanges, Memory>
     ensures { IfOk result (λ ranges. AreAdded extensions.now ranges) }
 {

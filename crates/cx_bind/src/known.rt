@@ -33,6 +33,7 @@ pub(crate) fn is_declaration(scope: &Scope) -> bool
     }
 }
 
+/// Whether a parameter is restricted, so that other thorns can use and extend it.
 fn is_restricted(scope: &Scope) -> bool
     ensures { result ≡ is_restricted scope.now }
 {
@@ -42,6 +43,7 @@ fn is_restricted(scope: &Scope) -> bool
     }
 }
 
+/// Whether a parameter is global, so that each thorn can name it without a use.
 fn is_global(scope: &Scope) -> bool
     ensures { result ≡ is_global scope.now }
 {
@@ -51,7 +53,7 @@ fn is_global(scope: &Scope) -> bool
     }
 }
 
-/// What stands before the `::` of a parameter's full name.
+/// The name before the `::` of a parameter's full name.
 pub(crate) fn owner_by<'a>(scope: &Scope, thorn: &'a Thorn) -> &'a [u8]
     ensures { result.now ≡ owner_by scope.now thorn.now }
 {
@@ -63,6 +65,7 @@ pub(crate) fn owner_by<'a>(scope: &Scope, thorn: &'a Thorn) -> &'a [u8]
     }
 }
 
+/// Adds what other thorns can know of a declared parameter. A use or an extension adds nothing.
 fn push_known(
     alloc: Global,
     knowns: &mut List<Known>,
@@ -83,6 +86,7 @@ fn push_known(
     })
 }
 
+/// Adds what other thorns can know of the parameters that a thorn declares.
 fn push_lines(
     alloc: Global,
     knowns: &mut List<Known>,
@@ -97,6 +101,7 @@ fn push_lines(
     Ok(())
 }
 
+/// Adds what thorns can know of a built-in parameter.
 fn push_param(alloc: Global, knowns: &mut List<Known>, param: &Param) -> Result<(), Memory>
     ensures { OnOk result (knowns.new ≡ knowns.old ++ known_by param.now ∷ []) }
 {
@@ -109,6 +114,7 @@ fn push_param(alloc: Global, knowns: &mut List<Known>, param: &Param) -> Result<
     })
 }
 
+/// What thorns can know of the built-in parameters.
 fn known_params(alloc: Global, params: &[Param]) -> Result<List<Known>, Memory>
     ensures { IfOk result (λ knowns. knowns ≡ map known_by params.now) }
 {
@@ -119,6 +125,7 @@ fn known_params(alloc: Global, params: &[Param]) -> Result<List<Known>, Memory>
     Ok(knowns)
 }
 
+/// Adds what thorns can know of each other's parameters, in the order of activation.
 fn push_thorns(alloc: Global, knowns: &mut List<Known>, thorns: &[Thorn]) -> Result<(), Memory>
     ensures { OnOk result (knowns.new ≡ knowns.old ++ flat_map known_of thorns.now) }
 {
@@ -138,6 +145,7 @@ pub(crate) fn all_known(alloc: Global, thorns: &[Thorn]) -> Result<List<Known>, 
     Ok(knowns)
 }
 
+/// Whether a parameter of the driver says only how a run is cut and ordered, so no thorn can use it.
 fn is_starred_of_driver(full: &[u8]) -> bool
     ensures { result ≡ among starred_of_driver full.now }
 {
@@ -150,6 +158,7 @@ fn is_starred_of_driver(full: &[u8]) -> bool
         || same_name(full, b"driver::lead")
 }
 
+/// Whether a parameter of `IO` says only where a run reads and writes, so no thorn can use it.
 fn is_starred_of_io(full: &[u8]) -> bool
     ensures { result ≡ among starred_of_io full.now }
 {

@@ -4,8 +4,8 @@ ghost use Rattle.std.specs.Prelude.{◌≡◌, [], IfOk, OnOk};
 ghost use Rattle.std.specs.Option.{option_copied};
 ghost use Rattle.std.specs.Str.{bytes_eq};
 ghost use Rattle.indexmap.specs.IndexMap.{insert_entry};
-ghost use Rattle.cx_bind.specs.NameSets.{folded};
 ghost use Rattle.cx_bind.specs.NamePlaces.{place_of, at_name, Puts};
+ghost use Rattle.cx_text.specs.Bytes.{folded};
 
 use crate::name_set::{fold_into, folded_name, is_folded};
 use cx_text::Memory;
@@ -83,7 +83,7 @@ impl NamePlaces {
         None
     }
 
-    /// What stands in a list at the place of a name.
+    /// The item of a list at the place of a name.
     pub(crate) fn at_name<'a, T>(
         &self,
         alloc: Global,

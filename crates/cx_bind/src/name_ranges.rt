@@ -5,8 +5,8 @@ ghost use Rattle.std.specs.Map.{lookup};
 ghost use Rattle.std.specs.Option.{option_copied};
 ghost use Rattle.std.specs.Str.{bytes_eq};
 ghost use Rattle.indexmap.specs.IndexMap.{insert_entry};
-ghost use Rattle.cx_bind.specs.NameSets.{folded};
 ghost use Rattle.cx_bind.specs.NameRanges.{ranges_of, AddsRanges};
+ghost use Rattle.cx_text.specs.Bytes.{folded};
 
 use crate::copies::push_ranges;
 use crate::name_set::folded_name;

@@ -4,7 +4,8 @@ ghost use Rattle.std.specs.Prelude.{◌≡◌, ◌≤◌, ◌++◌, ◌∷◌, [
 ghost use Rattle.std.specs.Option.{option_copied};
 ghost use Rattle.std.specs.Str.{bytes_eq};
 ghost use Rattle.cx_text.specs.Lexemes.{same_name, among};
-ghost use Rattle.cx_bind.specs.NameSets.{folded, has, first_absent, Adds};
+ghost use Rattle.cx_bind.specs.NameSets.{has, first_absent, Adds};
+ghost use Rattle.cx_text.specs.Bytes.{folded};
 
 use cx_text::{Memory, Text};
 use indexmap::IndexSet;

@@ -26,6 +26,7 @@ pub fn shared_by(scope: &Scope) -> Option<&Text>
     }
 }
 
+/// The fault of a thorn that needs an implementation that isn't active.
 fn missing_implementation(
     alloc: Global,
     thorn: &Thorn,
@@ -37,6 +38,7 @@ fn missing_implementation(
     Err(BindFault::MissingImplementation(thorn.name.copy(alloc)?, implementation.copy(alloc)?))
 }
 
+/// Tests that each implementation that a thorn inherits is active.
 fn check_inherited(alloc: Global, active: &Active, thorn: &Thorn) -> Result<(), BindFault>
     ensures { Tells faults.Memory (missing_inherited active.now thorn.now) result }
 {
@@ -46,6 +48,7 @@ fn check_inherited(alloc: Global, active: &Active, thorn: &Thorn) -> Result<(), 
     }
 }
 
+/// Tests that the implementation whose parameter a use or an extension names is active.
 fn check_line(
     alloc: Global,
     active: &Active,
@@ -63,6 +66,7 @@ fn check_line(
     missing_implementation(alloc, thorn, implementation)
 }
 
+/// Tests that the implementations of a thorn's uses and extensions are active.
 fn check_lines(
     alloc: Global,
     active: &Active,
@@ -78,6 +82,7 @@ fn check_lines(
     Ok(())
 }
 
+/// Tests that each implementation that one thorn inherits or shares is active.
 fn check_implementations_of(alloc: Global, active: &Active, thorn: &Thorn) -> Result<(), BindFault>
     ensures { Tells faults.Memory (missing_implementation_of active.now thorn.now) result }
 {
@@ -110,6 +115,7 @@ fn capabilities(alloc: Global, thorns: &[Thorn]) -> Result<NameSet, Memory>
     Ok(names)
 }
 
+/// The fault of a thorn that requires a capability that no thorn provides.
 fn missing_capability(alloc: Global, thorn: &Thorn, capability: &Text) -> Result<(), BindFault>
     ensures { Tells faults.Memory (Some (faults.MissingCapability thorn.now.name capability.now))
         result }
@@ -117,6 +123,7 @@ fn missing_capability(alloc: Global, thorn: &Thorn, capability: &Text) -> Result
     Err(BindFault::MissingCapability(thorn.name.copy(alloc)?, capability.copy(alloc)?))
 }
 
+/// Tests that each capability that one thorn requires is provided.
 fn check_capabilities_of(alloc: Global, provided: &NameSet, thorn: &Thorn) -> Result<(), BindFault>
     ensures { Tells faults.Memory (missing_capability_of (has provided.now) thorn.now) result }
 {
@@ -126,6 +133,7 @@ fn check_capabilities_of(alloc: Global, provided: &NameSet, thorn: &Thorn) -> Re
     }
 }
 
+/// Tests thorn by thorn that the required capabilities are among those provided.
 fn check_provided(alloc: Global, provided: &NameSet, thorns: &[Thorn]) -> Result<(), BindFault>
     ensures { Tells faults.Memory
         (first_of_each (missing_capability_of (has provided.now)) thorns.now) result }
@@ -144,12 +152,14 @@ pub(crate) fn check_capabilities(alloc: Global, thorns: &[Thorn]) -> Result<(), 
     check_provided(alloc, &provided, thorns)
 }
 
+/// The fault of a thorn that requires a thorn that isn't active.
 fn missing_thorn(alloc: Global, thorn: &Thorn, other: &Text) -> Result<(), BindFault>
     ensures { Tells faults.Memory (Some (faults.MissingThorn thorn.now.name other.now)) result }
 {
     Err(BindFault::MissingThorn(thorn.name.copy(alloc)?, other.copy(alloc)?))
 }
 
+/// Tests that each thorn that one thorn requires is active.
 fn check_thorns_of(alloc: Global, active: &Active, thorn: &Thorn) -> Result<(), BindFault>
     ensures { Tells faults.Memory (missing_thorn_of active.now thorn.now) result }
 {

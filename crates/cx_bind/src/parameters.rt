@@ -22,6 +22,7 @@ pub(crate) struct Extension {
     pub(crate) ranges: List<Range>,
 }
 
+/// Adds what a line extends: the full name and the ranges. A declaration or a use adds nothing.
 fn push_extension(
     alloc: Global,
     extensions: &mut List<Extension>,
@@ -38,6 +39,7 @@ fn push_extension(
     }
 }
 
+/// Adds the extensions in one param file, in the order of its lines.
 fn push_extensions_of(
     alloc: Global,
     extensions: &mut List<Extension>,
@@ -51,6 +53,7 @@ fn push_extensions_of(
     Ok(())
 }
 
+/// The extensions of all thorns, in the order of activation and of their files.
 fn all_extensions(alloc: Global, thorns: &[Thorn]) -> Result<List<Extension>, Memory>
     ensures { IfOk result (λ found. found ≡ extensions thorns.now) }
 {
@@ -61,6 +64,7 @@ fn all_extensions(alloc: Global, thorns: &[Thorn]) -> Result<List<Extension>, Me
     Ok(found)
 }
 
+/// Adds a declared parameter with its own ranges and those of its extensions. A use adds nothing.
 fn push_parameter(
     alloc: Global,
     params: &mut List<Param>,
@@ -86,6 +90,7 @@ fn push_parameter(
     })
 }
 
+/// Adds the parameters that one thorn declares.
 fn push_parameters_of(
     alloc: Global,
     params: &mut List<Param>,
@@ -104,6 +109,7 @@ fn push_parameters_of(
     Ok(())
 }
 
+/// Adds the parameters of all thorns, each with the number of its thorn.
 fn push_all_parameters(
     alloc: Global,
     params: &mut List<Param>,

@@ -45,7 +45,7 @@ fn note_again(alloc: Global, several: &mut NameSet, name: &[u8], again: bool) ->
     Ok(())
 }
 
-/// Notes a thorn that stands at a place, before those that are noted.
+/// Notes a thorn at its place in the list; those of later places are noted already.
 fn note(
     alloc: Global,
     named: &mut NamedPlaces,

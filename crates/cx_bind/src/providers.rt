@@ -20,6 +20,7 @@ pub(crate) struct Provider {
     pub(crate) thorn: Text,
 }
 
+/// Adds an active thorn and the implementation that it provides.
 fn push_provider(
     alloc: Global,
     active: &mut List<Provider>,
@@ -53,6 +54,7 @@ pub(crate) fn providers(alloc: Global, thorns: &[Thorn]) -> Result<List<Provider
     Ok(active)
 }
 
+/// The fault of two active thorns that provide one implementation.
 fn two_providers(alloc: Global, provider: &Provider, other: &Provider) -> Result<(), BindFault>
     ensures { Tells faults.Memory (repeated provider.now (Some other.now)) result }
 {

@@ -4,11 +4,11 @@ ghost use Rattle.std.specs.Prelude.{◌≡◌, ◌++◌, ◌∷◌, [], false, m
 ghost use Rattle.cx_text.specs.Lexemes.{among};
 ghost use Rattle.cx_plan.specs.Lists.{all_ok};
 ghost use Rattle.cx_bind.specs.BuiltIn.{built_in_thorns};
-ghost use Rattle.cx_bind.specs.NameSets.{folded};
 ghost use Rattle.cx_bind.specs.NamePlaces.{AreNamed};
 ghost use Rattle.cx_text.specs.Telling.{Answers};
 ghost use Rattle.cx_bind.specs.Selecting.{place_of, chosen, is_next, select};
 ghost use Rattle.cx_bind.specs.declared.thorns.BindFault.TheVariants as faults;
+ghost use Rattle.cx_text.specs.Bytes.{folded};
 
 use crate::BindFault;
 use crate::name_set::NameSet;
@@ -51,6 +51,7 @@ fn chosen(alloc: Global, active: &[Text]) -> Result<List<Text>, Memory>
     Ok(names)
 }
 
+/// The place of an active thorn; a fault where the list doesn't have it, or has it more than once.
 fn place_of(
     alloc: Global,
     places: &[(Text, Text)],
@@ -72,6 +73,7 @@ fn place_of(
     ))
 }
 
+/// The place of each of these thorns, looked up by name; the first fault counts.
 fn named_places_of(
     alloc: Global,
     places: &[(Text, Text)],
@@ -88,6 +90,7 @@ fn named_places_of(
     Ok(found)
 }
 
+/// The place of each of these thorns in the list, in their order; the first fault counts.
 fn places_of(
     alloc: Global,
     places: &[(Text, Text)],

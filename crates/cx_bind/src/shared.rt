@@ -75,6 +75,7 @@ impl KnownTable {
         self.knowns.as_slice()
     }
 
+    /// The first restricted parameter of a full name, also where it says only how a run is done.
     fn first_shared(&self, alloc: Global, full: &[u8]) -> Result<Option<&Known>, Memory>
         ensures { IfOk result
             (λ known. option_copied known ≡ find (is_shared_as full.now) self.now) }

@@ -35,6 +35,7 @@ struct Owner<'a> {
     implementation: &'a [u8],
 }
 
+/// A restricted parameter of a built-in thorn, which is never steered.
 fn parameter(
     alloc: Global,
     owner: &Owner<'_>,
@@ -65,6 +66,7 @@ fn parameter(
     })
 }
 
+/// Adds a built-in number between two ends.
 fn push_int(
     alloc: Global,
     table: &mut List<Param>,
@@ -103,6 +105,7 @@ fn push_unset(
     table.push(parameter(alloc, owner, PType::Int, name, ranges, default)?)
 }
 
+/// Adds a built-in yes or no.
 fn push_flag(
     alloc: Global,
     table: &mut List<Param>,
@@ -119,6 +122,7 @@ fn push_flag(
     table.push(parameter(alloc, owner, PType::Boolean, name, ranges, default)?)
 }
 
+/// Adds a built-in text, which may be any.
 fn push_text(
     alloc: Global,
     table: &mut List<Param>,
@@ -136,12 +140,14 @@ fn push_text(
     table.push(parameter(alloc, owner, PType::String, name, ranges, default)?)
 }
 
+/// Adds a word to those that a keyword may be.
 fn push_word(alloc: Global, words: &mut List<Range>, word: &[u8]) -> Result<(), Memory>
     ensures { OnOk result (words.new ≡ words.old ++ kinds.Word word.now ∷ []) }
 {
     words.push(Range::Word(Text::from_slice(alloc, word)?))
 }
 
+/// Adds a built-in keyword with its words.
 fn push_keyword(
     alloc: Global,
     table: &mut List<Param>,
@@ -171,6 +177,7 @@ fn push_terminate(alloc: Global, table: &mut List<Param>, n: u32) -> Result<(), 
     push_keyword(alloc, table, &owner, b"terminate", words, b"iteration")
 }
 
+/// Adds the parameters of `Cactus`: the last iteration, the run's title and when it ends.
 fn push_cactus(alloc: Global, table: &mut List<Param>, n: u32) -> Result<(), Memory>
     ensures { OnOk result (table.new ≡ table.old ++ cactus_parameters n) }
 {
@@ -184,6 +191,7 @@ fn push_cactus(alloc: Global, table: &mut List<Param>, n: u32) -> Result<(), Mem
     Ok(())
 }
 
+/// Adds the numbers of points in the three directions, and the one for all of them.
 fn push_grid(alloc: Global, table: &mut List<Param>, n: u32) -> Result<(), Memory>
     ensures { OnOk result (table.new ≡ table.old ++ grid_parameters n) }
 {
@@ -205,6 +213,7 @@ fn push_grid(alloc: Global, table: &mut List<Param>, n: u32) -> Result<(), Memor
     Ok(())
 }
 
+/// Adds the ghost widths of the three directions, and the one for all of them.
 fn push_ghosts(alloc: Global, table: &mut List<Param>, n: u32) -> Result<(), Memory>
     ensures { OnOk result (table.new ≡ table.old ++ ghost_parameters n) }
 {
@@ -219,6 +228,7 @@ fn push_ghosts(alloc: Global, table: &mut List<Param>, n: u32) -> Result<(), Mem
     Ok(())
 }
 
+/// Adds which directions are periodic.
 fn push_periodic(alloc: Global, table: &mut List<Param>, n: u32) -> Result<(), Memory>
     ensures { OnOk result (table.new ≡ table.old ++ periodic_parameters n) }
 {
@@ -233,6 +243,7 @@ fn push_periodic(alloc: Global, table: &mut List<Param>, n: u32) -> Result<(), M
     Ok(())
 }
 
+/// Adds the numbers of parts in the three directions.
 fn push_parts(alloc: Global, table: &mut List<Param>, n: u32) -> Result<(), Memory>
     ensures { OnOk result (table.new ≡ table.old ++ part_parameters n) }
 {
@@ -246,6 +257,7 @@ fn push_parts(alloc: Global, table: &mut List<Param>, n: u32) -> Result<(), Memo
     Ok(())
 }
 
+/// Adds the widths of the parts in the three directions.
 fn push_widths(alloc: Global, table: &mut List<Param>, n: u32) -> Result<(), Memory>
     ensures { OnOk result (table.new ≡ table.old ++ width_parameters n) }
 {
@@ -259,6 +271,7 @@ fn push_widths(alloc: Global, table: &mut List<Param>, n: u32) -> Result<(), Mem
     Ok(())
 }
 
+/// Adds how far parts may run ahead of each other, and the most passes of a `WHILE`.
 fn push_turns(alloc: Global, table: &mut List<Param>, n: u32) -> Result<(), Memory>
     ensures { OnOk result (table.new ≡ table.old ++ turn_parameters n) }
 {
@@ -278,6 +291,7 @@ fn push_turns(alloc: Global, table: &mut List<Param>, n: u32) -> Result<(), Memo
     Ok(())
 }
 
+/// Adds where, what and how often a run writes output.
 fn push_output(alloc: Global, table: &mut List<Param>, n: u32) -> Result<(), Memory>
     ensures { OnOk result (table.new ≡ table.old ++ output_parameters n) }
 {
@@ -291,6 +305,7 @@ fn push_output(alloc: Global, table: &mut List<Param>, n: u32) -> Result<(), Mem
     Ok(())
 }
 
+/// Adds where and how often a run saves checkpoints, and how many it keeps.
 fn push_checkpoint(alloc: Global, table: &mut List<Param>, n: u32) -> Result<(), Memory>
     ensures { OnOk result (table.new ≡ table.old ++ checkpoint_parameters n) }
 {
@@ -312,6 +327,7 @@ fn push_checkpoint(alloc: Global, table: &mut List<Param>, n: u32) -> Result<(),
     Ok(())
 }
 
+/// The words of `IO::recover`: no, auto and autoprobe.
 fn recover_words(alloc: Global) -> Result<List<Range>, Memory>
     ensures { IfOk result
         (λ words. words ≡ kinds.Word (codes "no") ∷ kinds.Word (codes "auto")
@@ -337,6 +353,7 @@ fn push_mode(alloc: Global, table: &mut List<Param>, n: u32) -> Result<(), Memor
     Ok(())
 }
 
+/// Adds whether and from where a run resumes from a checkpoint.
 fn push_recover(alloc: Global, table: &mut List<Param>, n: u32) -> Result<(), Memory>
     ensures { OnOk result (table.new ≡ table.old ++ recover_parameters n) }
 {
@@ -350,6 +367,7 @@ fn push_recover(alloc: Global, table: &mut List<Param>, n: u32) -> Result<(), Me
     Ok(())
 }
 
+/// Adds the parameters of the driver, in the order of their numbers.
 fn push_driver(alloc: Global, table: &mut List<Param>, n: u32) -> Result<(), Memory>
     ensures { OnOk result (table.new ≡ table.old ++ driver_parameters n) }
 {
@@ -362,6 +380,7 @@ fn push_driver(alloc: Global, table: &mut List<Param>, n: u32) -> Result<(), Mem
     Ok(())
 }
 
+/// Adds the parameters of `IO`, in the order of their numbers.
 fn push_io(alloc: Global, table: &mut List<Param>, n: u32) -> Result<(), Memory>
     ensures { OnOk result (table.new ≡ table.old ++ io_parameters n) }
 {

@@ -14,6 +14,7 @@ use cx_param::{PType, ParamDecl, Range};
 use cx_text::{CType, Text};
 use std::alloc::Global;
 
+/// Whether no run serves the type: variables hold bytes and integers only.
 fn is_unsupported_type(ctype: CType) -> bool
     ensures { result ≡ is_unsupported_type ctype }
 {
@@ -23,6 +24,7 @@ fn is_unsupported_type(ctype: CType) -> bool
     }
 }
 
+/// Whether no run serves the kind: an array, or a scalar with more than one time level.
 fn is_unsupported_kind(gtype: GType, levels: u8) -> bool
     ensures { result ≡ is_unsupported_kind gtype levels }
 {
@@ -33,18 +35,21 @@ fn is_unsupported_kind(gtype: GType, levels: u8) -> bool
     }
 }
 
+/// Whether no run serves the group, because of its type or its kind.
 fn is_unsupported_group(group: &Group) -> bool
     ensures { result ≡ is_unsupported_group group.now }
 {
     is_unsupported_type(group.ctype) || is_unsupported_kind(group.gtype, group.levels)
 }
 
+/// The first group, in file order, that no run serves.
 fn first_unsupported_group(groups: &[Group]) -> Option<&Group>
     ensures { option_copied result ≡ find is_unsupported_group groups.now }
 {
     groups.iter().find(|group| is_unsupported_group(group))
 }
 
+/// Whether a range is one word.
 fn is_word(range: &Range) -> bool
     ensures { result ≡ is_word range.now }
 {
@@ -54,12 +59,14 @@ fn is_word(range: &Range) -> bool
     }
 }
 
+/// Whether one of the ranges is a word.
 fn has_word(ranges: &[Range]) -> bool
     ensures { result ≡ list_any is_word ranges.now }
 {
     ranges.iter().any(|range| is_word(range))
 }
 
+/// Whether no run serves the parameter: a `REAL`, or a `STRING` with a word among its ranges.
 fn is_unsupported_parameter(decl: &ParamDecl) -> bool
     ensures { result ≡ is_unsupported_line decl.now }
 {
@@ -70,18 +77,21 @@ fn is_unsupported_parameter(decl: &ParamDecl) -> bool
     }
 }
 
+/// The first line of a param file whose parameter no run serves.
 fn first_unsupported_parameter(decls: &[ParamDecl]) -> Option<&ParamDecl>
     ensures { option_copied result ≡ find is_unsupported_line decls.now }
 {
     decls.iter().find(|decl| is_unsupported_parameter(decl))
 }
 
+/// The fault of a thorn with a group or parameter that no run serves.
 fn unsupported(alloc: Global, thorn: &Thorn, name: &Text) -> Result<(), BindFault>
     ensures { Tells faults.Memory (Some (faults.Unsupported thorn.now.name name.now)) result }
 {
     Err(BindFault::Unsupported(thorn.name.copy(alloc)?, name.copy(alloc)?))
 }
 
+/// Tests that runs serve each group of a thorn.
 fn check_groups_of(alloc: Global, thorn: &Thorn) -> Result<(), BindFault>
     ensures { Tells faults.Memory (unsupported_group thorn.now) result }
 {
@@ -91,6 +101,7 @@ fn check_groups_of(alloc: Global, thorn: &Thorn) -> Result<(), BindFault>
     }
 }
 
+/// Tests that runs serve each parameter that a thorn declares, uses or extends.
 fn check_parameters_of(alloc: Global, thorn: &Thorn) -> Result<(), BindFault>
     ensures { Tells faults.Memory (unsupported_line thorn.now) result }
 {
@@ -100,6 +111,7 @@ fn check_parameters_of(alloc: Global, thorn: &Thorn) -> Result<(), BindFault>
     }
 }
 
+/// Tests that runs serve a thorn's groups, and then its parameters.
 fn check_supported_of(alloc: Global, thorn: &Thorn) -> Result<(), BindFault>
     ensures { Tells faults.Memory (unsupported_of thorn.now) result }
 {
@@ -137,12 +149,14 @@ fn is_grid_but(dim: Option<u8>, group: &Group) -> bool
     }
 }
 
+/// The first group of grid functions; with a number, the first that has another number of directions.
 fn first_grid(dim: Option<u8>, groups: &[Group]) -> Option<&Group>
     ensures { option_copied result ≡ find (is_grid_but dim) groups.now }
 {
     groups.iter().find(|group| is_grid_but(dim, group))
 }
 
+/// The first group of grid functions of all thorns, or the first of another number of directions.
 fn first_grid_of_all(dim: Option<u8>, thorns: &[Thorn]) -> Option<(&Thorn, &Group)>
     ensures { lent result ≡ first_group (is_grid_but dim) thorns.now }
 {

@@ -15,6 +15,7 @@ use cx_param::{PType, ParamDecl};
 use cx_text::Text;
 use std::alloc::Global;
 
+/// The fault of a use or an extension whose parameter isn't there or can't be shared.
 fn missing_parameter(
     alloc: Global,
     thorn: &Thorn,
@@ -31,6 +32,7 @@ fn missing_parameter(
     ))
 }
 
+/// Tests that a use or an extension names a parameter that thorns can use.
 fn check_use(
     alloc: Global,
     table: &KnownTable,
@@ -49,6 +51,7 @@ fn check_use(
     }
 }
 
+/// Tests that each use and extension of one thorn names a parameter that thorns can use.
 fn check_uses_of(
     alloc: Global,
     table: &KnownTable,
@@ -78,6 +81,7 @@ pub(crate) fn check_uses(
     Ok(())
 }
 
+/// Whether two types of parameters are one.
 fn is_same_type(a: PType, b: PType) -> bool
     ensures { result ≡ is_same_type a b }
 {
@@ -91,6 +95,7 @@ fn is_same_type(a: PType, b: PType) -> bool
     }
 }
 
+/// Tests that a use or an extension has the type of the parameter found.
 fn check_type_against(
     alloc: Global,
     thorn: &Thorn,
@@ -105,6 +110,7 @@ fn check_type_against(
     Err(BindFault::WrongType(thorn.name.copy(alloc)?, decl.name.copy(alloc)?))
 }
 
+/// Tests the type of a use or an extension. Where no parameter is found, that isn't a fault here.
 fn check_type(
     alloc: Global,
     table: &KnownTable,
@@ -123,6 +129,7 @@ fn check_type(
     }
 }
 
+/// Tests that each use and extension of one thorn has the declared type.
 fn check_types_of(
     alloc: Global,
     table: &KnownTable,

@@ -29,6 +29,7 @@ pub(crate) fn group_full(alloc: Global, thorn: &Thorn, group: &Group) -> Result<
     full_name(alloc, owner_by(group.access, thorn), group.name.as_slice())
 }
 
+/// Whether the variables of a group are scalars: one number each, not one at each grid point.
 fn is_scalar(gtype: GType) -> bool
     ensures { result ≡ is_scalar gtype }
 {
@@ -48,6 +49,7 @@ pub fn with_copy(alloc: Global, name: &[u8], copy: Option<u32>) -> Result<Text, 
     }
 }
 
+/// What is known of one copy of a variable: full name, type, kind and time levels.
 fn info_of(
     alloc: Global,
     thorn: &Thorn,
@@ -66,6 +68,7 @@ fn info_of(
     })
 }
 
+/// Adds the copies of a variable by their numbers, from 0.
 fn push_numbered(
     alloc: Global,
     infos: &mut List<VarInfo>,
@@ -85,6 +88,7 @@ fn push_numbered(
     Ok(())
 }
 
+/// Adds a variable, or all copies of one in a vector group.
 fn push_copies(
     alloc: Global,
     infos: &mut List<VarInfo>,
@@ -100,6 +104,7 @@ fn push_copies(
     }
 }
 
+/// Adds the variables of a group with all their copies, in the order of the file.
 fn push_names(
     alloc: Global,
     infos: &mut List<VarInfo>,
@@ -116,6 +121,7 @@ fn push_names(
     Ok(())
 }
 
+/// Adds the variables of a thorn's groups, in the order of the file.
 fn push_groups(
     alloc: Global,
     infos: &mut List<VarInfo>,

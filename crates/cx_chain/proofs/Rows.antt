@@ -5,7 +5,8 @@ use Rattle.cx_values.specs.Naming.{names}
 use Rattle.cx_chain.specs.Settings.{sets_starred, names_starred, other_settings}
 
 abbrev line : List ℕ → List ℕ → List ℕ → ℕ → Setting
-line owner name value number = record { owner = Some owner; name = name; index = None; value = value; line = number }
+line owner name value number =
+    record { owner = Some owner; name = name; index = None; value = value; line = number }
 
 abbrev lead : ℕ → Setting
 lead n = line (codes "driver") (codes "lead") (codes "3") n

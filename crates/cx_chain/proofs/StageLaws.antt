@@ -24,7 +24,8 @@ use Rattle.cx_job.specs.Making.{Orders, Matches, Accepts, CutAnd, cut_limits, wi
 use Rattle.cx_chain.proofs.ListLaws.{none_told}
 
 -- a value that two stages come to
-pub then_ok : {A B F : Type 0} (p : Stage A F) (q : A → Stage B F) (y : B) → Then p q (Ok y) → (x : A) × p (Ok x) × q x (Ok y)
+pub then_ok : {A B F : Type 0} (p : Stage A F) (q : A → Stage B F) (y : B) → Then p q (Ok y)
+    → (x : A) × p (Ok x) × q x (Ok y)
 then_ok p q y (inl (e, s, never)) = absurd cc
 then_ok p q y (inr t) = t
 
@@ -34,7 +35,8 @@ unless_ok None x y e = (refl, cc)
 unless_ok (Some f) x y e = absurd cc
 
 -- all that a job is made of, behind thorns, schedules and settings
-pub record Pieces (specs : List Spec) (thorns : List Thorn) (schedules : List ScheduleFile) (settings : List Setting) (job : Job) : Type 0 where
+pub record Pieces (specs : List Spec) (thorns : List Thorn) (schedules : List ScheduleFile)
+    (settings : List Setting) (job : Job) : Type 0 where
   pub fit : bind_fault thorns ≡ None
   pub ordered : Ordered
   pub plan : IsPlan (input_of thorns schedules (assigned thorns settings)) ordered
@@ -48,20 +50,28 @@ module _ (specs : List Spec) (job : Job) where
   accepted : (made : Job) → LimitsAnd specs (run_count made.plan) made (Ok job) → job ≡ made
   accepted made done =
       let few = then_ok (Is (within_limits (run_count made.plan) made)) (CutAnd specs) job done in
-      let limited = unless_ok (limit_fault (run_count made.plan) made.items made.shape made.vars made.key) made few.0 few.1 in
+      let limited = unless_ok
+      (limit_fault (run_count made.plan) made.items made.shape made.vars made.key)
+      made few.0 few.1 in
       let cut = then_ok (Is (within_cut specs few.0)) Accepts job few.2 in
       let parted = unless_ok (cut_limits specs few.0) few.0 cut.0 cut.1 in
       cut.2.0 ∙ parted.1 ∙ limited.1
 
-  module _ (thorns : List Thorn) (schedules : List ScheduleFile) (settings : List Setting) (fit : bind_fault thorns ≡ None) where
+  module _ (thorns : List Thorn) (schedules : List ScheduleFile) (settings : List Setting)
+      (fit : bind_fault thorns ≡ None) where
     abbrev values : Values
     values = assigned thorns settings
 
-    planned : PlanAnd specs thorns schedules values (Ok job) → Pieces specs thorns schedules settings job
+    planned : PlanAnd specs thorns schedules values (Ok job)
+        → Pieces specs thorns schedules settings job
     planned done =
-        let ordered = then_ok (Orders (input_of thorns schedules values)) (OutputsAnd specs thorns values) job done in
-        let written = then_ok (Is (output_ids thorns values ordered.0.storage)) (ItemsAnd specs thorns values ordered.0) job ordered.2 in
-        let matched = then_ok (Matches thorns values specs ordered.0) (λ items. LimitsAnd specs (run_count ordered.0.plan) (job_of thorns values ordered.0 items written.0)) job written.2 in
+        let ordered = then_ok (Orders (input_of thorns schedules values))
+        (OutputsAnd specs thorns values) job done in
+        let written = then_ok (Is (output_ids thorns values ordered.0.storage))
+        (ItemsAnd specs thorns values ordered.0) job ordered.2 in
+        let matched = then_ok (Matches thorns values specs ordered.0)
+        (λ items. LimitsAnd specs (run_count ordered.0.plan)
+        (job_of thorns values ordered.0 items written.0)) job written.2 in
         record {
           fit = fit;
           ordered = ordered.0;
@@ -73,12 +83,19 @@ module _ (specs : List Spec) (job : Job) where
           is = accepted (job_of thorns values ordered.0 matched.0 written.0) matched.2;
         }
 
-  pub pieces_of : (c : Configured) → MadeOf specs c (Ok job) → Pieces specs c.thorns c.schedules c.settings.list job
+  pub pieces_of : (c : Configured) → MadeOf specs c (Ok job)
+      → Pieces specs c.thorns c.schedules c.settings.list job
   pieces_of c made =
-      let bound = then_ok (Is (bound_thorns c.thorns)) (ValuesAnd specs c.schedules c.settings.list) job made in
+      let bound = then_ok (Is (bound_thorns c.thorns)) (ValuesAnd specs c.schedules c.settings.list)
+      job made in
       let fit = unless_ok (option_map faults.Bind (bind_fault c.thorns)) c.thorns bound.0 bound.1 in
-      let after = subst (λ (ts : List Thorn). ValuesAnd specs c.schedules c.settings.list ts (Ok job)) fit.1 bound.2 in
-      let given = then_ok (Is (assigned_values c.thorns c.settings.list)) (PlanAnd specs c.thorns c.schedules) job after in
-      let sound = unless_ok (option_map faults.Value (assign_fault c.thorns c.settings.list)) (assigned c.thorns c.settings.list) given.0 given.1 in
-      planned c.thorns c.schedules c.settings.list (none_told faults.Bind (bind_fault c.thorns) fit.0)
+      let after =
+      subst (λ (ts : List Thorn). ValuesAnd specs c.schedules c.settings.list ts (Ok job))
+      fit.1 bound.2 in
+      let given = then_ok (Is (assigned_values c.thorns c.settings.list))
+      (PlanAnd specs c.thorns c.schedules) job after in
+      let sound = unless_ok (option_map faults.Value (assign_fault c.thorns c.settings.list))
+      (assigned c.thorns c.settings.list) given.0 given.1 in
+      planned c.thorns c.schedules c.settings.list
+      (none_told faults.Bind (bind_fault c.thorns) fit.0)
       (subst (λ (v : Values). PlanAnd specs c.thorns c.schedules v (Ok job)) sound.1 given.2)

@@ -9,8 +9,8 @@ use Rattle.cx_config.specs.Reading.{thorn_file, SaysSettings}
 use Rattle.cx_config.specs.Configuring.{Configures}
 use Rattle.cx_chain.specs.Settings.{other_settings, unnamed_settings}
 
--- The same active thorns, and the same settings but for those of starred parameters: the parameters that only say how and where a
--- run is done.
+-- The same active thorns, and the same settings but for those of starred parameters: the parameters
+-- that only say how and where a run is done.
 pub record DifferInStarred (a b : Configured) : Type 0 where
   pub active : a.settings.active ≡ b.settings.active
   pub others : other_settings a.thorns a.settings.list ≡ other_settings a.thorns b.settings.list
@@ -22,14 +22,16 @@ pub record HaveSameThorns (a b : Held) : Type 0 where
       (place : List ℕ × List ℕ) (file : List ℕ)
       → a (thorn_file place file) ≡ b (thorn_file place file)
 
--- The files beside the two parameter files are the same, and so is what these say, but for starred parameters.
+-- The files beside the two parameter files are the same, and so is what these say, but for starred
+-- parameters.
 pub record AreChained (name_a name_b : List ℕ) (a b : Held) : Type 0 where
   pub files : HaveSameThorns a b
   pub settings :
       (x y : Configured) → Configures name_a a (Ok x) → Configures name_b b (Ok y)
       → DifferInStarred x y
 
--- The same of what two parameter files say, whatever thorns there are: starred parameters stand there under their full names.
+-- The same of what two parameter files say, whatever thorns there are: starred parameters stand
+-- there under their full names.
 pub record DifferInNames (a b : Settings) : Type 0 where
   pub active : a.active ≡ b.active
   pub others : unnamed_settings a.list ≡ unnamed_settings b.list

@@ -1,4 +1,5 @@
--- The settings of a parameter file beside those of parameters that only say how and where a run is done.
+-- The settings of a parameter file beside those of parameters that only say how and where a run is
+-- done.
 use Rattle.std.specs.Prelude.{ℕ, Bool, false, not, List, map, filter, slice_get, Option, Some, None}
 use Rattle.cx_text.specs.Lexemes.{among}
 use Rattle.cx_parfile.specs.declared.settings.Setting.{Setting}
@@ -6,7 +7,9 @@ use Rattle.cx_bind.specs.declared.thorns.Thorn.{Thorn}
 use Rattle.cx_bind.specs.declared.thorns.Param.{Param}
 use Rattle.cx_bind.specs.BuiltIn.{starred}
 use Rattle.cx_bind.specs.Parameters.{parameters}
-use Rattle.cx_values.specs.Naming.{Names, written, names}
+use Rattle.cx_values.specs.Naming.{Names, names}
+use Rattle.cx_parfile.specs.Printed.{without_line}
+use Rattle.cx_plan.specs.Names.{with_owner}
 
 -- ---- parameters that only say how and where a run is done
 
@@ -23,18 +26,14 @@ is_starred_at ps (Some n) = is_starred (slice_get ps n)
 
 -- whether a setting names such a parameter, by whatever name
 abbrev pub sets_starred_by : List Param → Names → Setting → Bool
-sets_starred_by ps names s = is_starred_at ps (names (written s.owner s.name))
+sets_starred_by ps names s = is_starred_at ps (names (with_owner s.owner s.name))
 
 abbrev pub sets_starred : List Thorn → Setting → Bool
 sets_starred thorns s = sets_starred_by (parameters thorns) (names thorns) s
 
 -- the same by full names alone, whatever thorns there are
 abbrev pub names_starred : Setting → Bool
-names_starred s = among starred (written s.owner s.name)
-
--- the same on whatever line
-abbrev pub without_line : Setting → Setting
-without_line s = record s { line = 0 }
+names_starred s = among starred (with_owner s.owner s.name)
 
 -- all other settings, in their order, on whatever lines
 abbrev pub others_by : List Param → Names → List Setting → List Setting

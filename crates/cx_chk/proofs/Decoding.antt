@@ -15,18 +15,23 @@ use Rattle.cx_chk.proofs.Fields.{IsBytes, IsBytes-drop, bind_some, some_is, Take
 
 -- what stands behind the head
 abbrev pub fields : Checkpoint → List ℕ
-fields c = word c.iteration ++ (string c.key ++ (counted w32 word c.lengths ++ (counted w32 value c.scalars ++ counted w32 level c.levels)))
+fields c = word c.iteration
+    ++ (string c.key ++ (counted w32 word c.lengths
+    ++ (counted w32 value c.scalars ++ counted w32 level c.levels)))
 
-lengths_field : IsField (counted w32 word) (counted_at w32 (number_at w64)) (AreCounted (2 ^ 32) IsWord)
+lengths_field : IsField (counted w32 word) (counted_at w32 (number_at w64))
+    (AreCounted (2 ^ 32) IsWord)
 lengths_field = counted_field word (number_at w64) IsWord word_field w32 (2 ^ 32) wide32
 
-scalars_field : IsField (counted w32 value) (counted_at w32 value_at) (AreCounted (2 ^ 32) (FitsSigned w64))
+scalars_field : IsField (counted w32 value) (counted_at w32 value_at)
+    (AreCounted (2 ^ 32) (FitsSigned w64))
 scalars_field = counted_field value value_at (FitsSigned w64) value_field w32 (2 ^ 32) wide32
 
 levels_field : IsField (counted w32 level) (counted_at w32 level_at) (AreCounted (2 ^ 32) IsLevel)
 levels_field = counted_field level level_at IsLevel level_field w32 (2 ^ 32) wide32
 
-fields_take : (bytes : List ℕ) (x : Checkpoint × List ℕ) → IsBytes bytes → fields_at bytes ≡ Some x → Takes bytes (fields x.0) x.1 × IsCheckpoint x.0
+fields_take : (bytes : List ℕ) (x : Checkpoint × List ℕ) → IsBytes bytes → fields_at bytes ≡ Some x
+    → Takes bytes (fields x.0) x.1 × IsCheckpoint x.0
 unfolding fields_at
 fields_take bytes x fits e =
     let a = bind_some (number_at w64 bytes) _ x e in
@@ -39,35 +44,64 @@ fields_take bytes x fits e =
     let t2 = lengths_field.takes b.0.1 d.0 t1.0.rest_fits d.1 in
     let t3 = scalars_field.takes d.0.1 f.0 t2.0.rest_fits f.1 in
     let t4 = levels_field.takes f.0.1 h.0 t3.0.rest_fits h.1 in
-    let e34 = Takes-then d.0.1 (counted w32 value f.0.0) f.0.1 (counted w32 level h.0.0) h.0.1 t3.0 t4.0 in
-    let e24 = Takes-then b.0.1 (counted w32 word d.0.0) d.0.1 (counted w32 value f.0.0 ++ counted w32 level h.0.0) h.0.1 t2.0 e34 in
-    let e14 = Takes-then a.0.1 (string b.0.0) b.0.1 (counted w32 word d.0.0 ++ (counted w32 value f.0.0 ++ counted w32 level h.0.0)) h.0.1 t1.0 e24 in
-    let e04 = Takes-then bytes (word a.0.0) a.0.1 (string b.0.0 ++ (counted w32 word d.0.0 ++ (counted w32 value f.0.0 ++ counted w32 level h.0.0))) h.0.1 t0.0 e14 in
-    let made : Checkpoint × List ℕ = (record { iteration = a.0.0; key = b.0.0; lengths = d.0.0; scalars = f.0.0; levels = h.0.0 }, h.0.1) in
-    subst (λ (y : Checkpoint × List ℕ). Takes bytes (fields y.0) y.1 × IsCheckpoint y.0) (some_is made x h.2) (e04, record { iteration = t0.1; key = t1.1; lengths = t2.1; scalars = t3.1; levels = t4.1 })
+    let e34 = Takes-then d.0.1 (counted w32 value f.0.0) f.0.1 (counted w32 level h.0.0)
+    h.0.1 t3.0 t4.0 in
+    let e24 = Takes-then b.0.1 (counted w32 word d.0.0) d.0.1
+    (counted w32 value f.0.0 ++ counted w32 level h.0.0) h.0.1 t2.0 e34 in
+    let e14 = Takes-then a.0.1 (string b.0.0) b.0.1
+    (counted w32 word d.0.0 ++ (counted w32 value f.0.0 ++ counted w32 level h.0.0))
+    h.0.1 t1.0 e24 in
+    let e04 = Takes-then bytes (word a.0.0) a.0.1
+    (string b.0.0 ++ (counted w32 word d.0.0
+    ++ (counted w32 value f.0.0 ++ counted w32 level h.0.0))) h.0.1 t0.0 e14 in
+    let made : Checkpoint × List ℕ = (
+      record {
+        iteration = a.0.0;
+        key = b.0.0;
+        lengths = d.0.0;
+        scalars = f.0.0;
+        levels = h.0.0;
+      },
+      h.0.1,
+    ) in
+    subst (λ (y : Checkpoint × List ℕ). Takes bytes (fields y.0) y.1 × IsCheckpoint y.0)
+    (some_is made x h.2) (
+      e04,
+      record { iteration = t0.1; key = t1.1; lengths = t2.1; scalars = t3.1; levels = t4.1 },
+    )
 
-regroup : (a b c d e rest : List ℕ) → (a ++ (b ++ (c ++ (d ++ e)))) ++ rest ≡ a ++ (b ++ (c ++ (d ++ (e ++ rest))))
+regroup : (a b c d e rest : List ℕ)
+    → (a ++ (b ++ (c ++ (d ++ e)))) ++ rest ≡ a ++ (b ++ (c ++ (d ++ (e ++ rest))))
 regroup a b c d e rest = simp append_assoc
 
-fields_again : (c : Checkpoint) (rest : List ℕ) → IsCheckpoint c → fields_at (fields c ++ rest) ≡ Some (c, rest)
+fields_again : (c : Checkpoint) (rest : List ℕ) → IsCheckpoint c
+    → fields_at (fields c ++ rest) ≡ Some (c, rest)
 unfolding fields_at
 fields_again c rest fits =
-    let again = regroup (word c.iteration) (string c.key) (counted w32 word c.lengths) (counted w32 value c.scalars) (counted w32 level c.levels) rest in
+    let again = regroup (word c.iteration) (string c.key) (counted w32 word c.lengths)
+    (counted w32 value c.scalars) (counted w32 level c.levels) rest in
     ap fields_at again ∙ rw (
-      word_field.again c.iteration (string c.key ++ (counted w32 word c.lengths ++ (counted w32 value c.scalars ++ (counted w32 level c.levels ++ rest)))) fits.iteration,
-      string_field.again c.key (counted w32 word c.lengths ++ (counted w32 value c.scalars ++ (counted w32 level c.levels ++ rest))) fits.key,
-      lengths_field.again c.lengths (counted w32 value c.scalars ++ (counted w32 level c.levels ++ rest)) fits.lengths,
+      word_field.again c.iteration
+          (string c.key ++ (counted w32 word c.lengths
+          ++ (counted w32 value c.scalars ++ (counted w32 level c.levels ++ rest)))) fits.iteration,
+      string_field.again c.key
+          (counted w32 word c.lengths
+          ++ (counted w32 value c.scalars ++ (counted w32 level c.levels ++ rest))) fits.key,
+      lengths_field.again c.lengths
+          (counted w32 value c.scalars ++ (counted w32 level c.levels ++ rest)) fits.lengths,
       scalars_field.again c.scalars (counted w32 level c.levels ++ rest) fits.scalars,
       levels_field.again c.levels rest fits.levels,
     ) refl
 
 -- ---- the head
 
-guard_started : {A : Type 0} (b : Bool) (x y : A) → cond b (Some x) None ≡ Some y → (b ≡ true) × (x ≡ y)
+guard_started : {A : Type 0} (b : Bool) (x y : A) → cond b (Some x) None ≡ Some y
+    → (b ≡ true) × (x ≡ y)
 guard_started true x y e = (refl, cc)
 guard_started false x y e = absurd cc
 
-head_takes : (bytes rest : List ℕ) → behind_head bytes ≡ Some rest → (bytes ≡ head ++ rest) × (rest ≡ drop 9 bytes)
+head_takes : (bytes rest : List ℕ) → behind_head bytes ≡ Some rest
+    → (bytes ≡ head ++ rest) × (rest ≡ drop 9 bytes)
 head_takes bytes rest e =
     let g = guard_started (starts_with nat_eq bytes head) (drop 9 bytes) rest e in
     let law = starts_is Decides-eqb bytes head (starts_with nat_eq bytes head) refl in
@@ -78,7 +112,8 @@ head_again rest = refl
 
 -- ---- the whole
 
-pub decoded_spells : (bytes : List ℕ) (c : Checkpoint) → IsBytes bytes → decoded bytes ≡ Some c → SpellsSlot bytes c
+pub decoded_spells : (bytes : List ℕ) (c : Checkpoint) → IsBytes bytes → decoded bytes ≡ Some c
+    → SpellsSlot bytes c
 unfolding decoded
 decoded_spells bytes c fits e =
     let a = bind_some (behind_head bytes) _ c e in
@@ -87,24 +122,33 @@ decoded_spells bytes c fits e =
     let h = head_takes bytes a.0 a.1 in
     let t = fields_take a.0 b.0 (subst IsBytes (sym h.1) (IsBytes-drop 9 bytes fits)) b.1 in
     let nothing : b.0.1 ≡ [] = nil_from_length b.0.1 (eqb-true _ _ g.0) in
-    let whole : bytes ≡ head ++ fields b.0.0 = h.0 ∙ ap (λ (r : List ℕ). head ++ r) (t.0.parts ∙ ap (λ (r : List ℕ). fields b.0.0 ++ r) nothing ∙ append-nil (fields b.0.0)) in
+    let whole : bytes ≡ head ++ fields b.0.0 =
+    h.0 ∙ ap (λ (r : List ℕ). head ++ r)
+    (t.0.parts ∙ ap (λ (r : List ℕ). fields b.0.0 ++ r) nothing ∙ append-nil (fields b.0.0)) in
     subst (λ (x : Checkpoint). SpellsSlot bytes x) g.1 (record { in_range = t.1; spelled = whole })
 
 pub decoded_again : (bytes : List ℕ) (c : Checkpoint) → SpellsSlot bytes c → decoded bytes ≡ Some c
 unfolding decoded
 decoded_again bytes c spells =
-    let rest : fields_at (fields c) ≡ Some (c, []) = ap fields_at (sym (append-nil (fields c))) ∙ fields_again c [] spells.in_range in
+    let rest : fields_at (fields c) ≡ Some (c, []) =
+    ap fields_at (sym (append-nil (fields c))) ∙ fields_again c [] spells.in_range in
     let front : behind_head (slot_bytes c) ≡ Some (fields c) = head_again (fields c) in
     ap decoded spells.spelled
-    ∙ ap (λ (o : Option (List ℕ)). o >>= λ r. fields_at r >>= λ f. cond (eqb (length f.1) 0) (Some f.0) None) front
-    ∙ ap (λ (o : Option (Checkpoint × List ℕ)). o >>= λ f. cond (eqb (length f.1) 0) (Some f.0) None) rest
+    ∙ ap (λ (o : Option (List ℕ)). o >>= λ r. fields_at r
+    >>= λ f. cond (eqb (length f.1) 0) (Some f.0) None) front
+    ∙ ap (λ (o : Option (Checkpoint × List ℕ)). o
+    >>= λ f. cond (eqb (length f.1) 0) (Some f.0) None) rest
 
 -- a slot's bytes spell one checkpoint at most
-pub spells_one : (bytes : List ℕ) (c d : Checkpoint) → SpellsSlot bytes c → SpellsSlot bytes d → c ≡ d
-spells_one bytes c d one two = some_is c d (sym (decoded_again bytes c one) ∙ decoded_again bytes d two)
+pub spells_one : (bytes : List ℕ) (c d : Checkpoint) → SpellsSlot bytes c → SpellsSlot bytes d
+    → c ≡ d
+spells_one bytes c d one two =
+    some_is c d (sym (decoded_again bytes c one) ∙ decoded_again bytes d two)
 
-pub decodes_some : (bytes : List ℕ) (c : Checkpoint) → IsBytes bytes → decoded bytes ≡ Some c → Decodes bytes (Some c)
+pub decodes_some : (bytes : List ℕ) (c : Checkpoint) → IsBytes bytes → decoded bytes ≡ Some c
+    → Decodes bytes (Some c)
 decodes_some bytes c fits e = decoded_spells bytes c fits e
 
 pub decodes_none : (bytes : List ℕ) → decoded bytes ≡ None → Decodes bytes None
-decodes_none bytes e = λ c spells. absurd (let bad : None ≡ Some c = sym e ∙ decoded_again bytes c spells in cc)
+decodes_none bytes e = λ c spells.
+    absurd (let bad : None ≡ Some c = sym e ∙ decoded_again bytes c spells in cc)

@@ -4,6 +4,7 @@ use Rattle.std.proofs.Common.{refl}
 use Rattle.cx_chk.specs.Encoding.{slot_bytes}
 use Rattle.cx_chk.specs.Reading.{value_at, string_at, some_at, counted_at, fields_at, decoded}
 use Rattle.cx_chk.specs.Slots.{header_of, newest_below}
+use Rattle.cx_disk.specs.Files.{slot_count}
 use Rattle.cx_chk.specs.declared.checkpoint.Checkpoint.{Checkpoint}
 
 -- iteration 20, key k, one output file of 300 bytes, a scalar -1, and a level with 0 and 1
@@ -37,5 +38,5 @@ has_iteration : header_of small_bytes ≡ Some 20
 has_iteration = refl
 
 -- of equally new slots the first is the newest
-first_of_equal : newest_below 8 (λ file. small_bytes) ≡ Some (0, 20)
+first_of_equal : newest_below slot_count (λ file. small_bytes) ≡ Some (0, 20)
 first_of_equal = refl

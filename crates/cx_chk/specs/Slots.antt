@@ -2,14 +2,11 @@
 use Rattle.std.specs.Prelude.{ℕ, zero, suc, ◌<◌, ◌≤◌, ◌≡◌, ◌≢◌, ◌⊎◌, Bool, ◌&&◌, nat_le, nat_lt, nat_eq, List, ◌∷◌, length, take, drop, slice_index, Option, Some, None, if◌then◌else◌}
 use Rattle.std.specs.Int.{w64, from_be_bytes}
 use Rattle.cx_disk.specs.Disk.{Files, View, LeavesOnly}
+use Rattle.cx_disk.specs.Files.{slot_count}
 use Rattle.cx_disk.specs.Moments.{IsQuiet}
 use Rattle.cx_chk.specs.Steps.{Step}
 use Rattle.cx_chk.specs.declared.checkpoint.Checkpoint.{Checkpoint}
 use Rattle.cx_chk.specs.Encoding.{SpellsSlot}
-
--- how many slots there are: the files from 0 on
-abbrev pub slot_count : ℕ
-slot_count = 8
 
 -- a slot is open where its length is at least 17 and its first byte is 1
 abbrev pub is_open : List ℕ → Bool
@@ -23,7 +20,8 @@ iteration_of bytes = from_be_bytes w64 (take 8 (drop 9 bytes))
 abbrev pub header_of : List ℕ → Option ℕ
 header_of bytes = if is_open bytes then Some (iteration_of bytes) else None
 
--- of the slots below a number, the slot is open, and no open one is newer, nor as new with a lesser number
+-- of the slots below a number, the slot is open, and no open one is newer, nor as new with a lesser
+-- number
 pub record IsNewest (bound : ℕ) (files : Files) (slot : ℕ) (iteration : ℕ) : Type 0 where
   pub known : slot < bound
   pub header : header_of (files slot) ≡ Some iteration
@@ -49,18 +47,23 @@ newest_below (suc slot) files = newer (newest_below slot files) slot (header_of 
 abbrev pub IsNewestIn : Files → Option (ℕ × ℕ) → Type 0
 IsNewestIn files found = found ≡ newest_below slot_count files
 
--- the slot that a save among 0 to keep takes: the first that isn't open, else the oldest, the least number at a tie
+-- the slot that a save among 0 to keep takes: the first that isn't open, else the oldest, the least
+-- number at a tie
 pub record IsNext (files : Files) (keep slot : ℕ) : Type 0 where
   pub known : slot ≤ keep
-  pub closed_first : header_of (files slot) ≡ None → (other : ℕ) → other < slot → header_of (files other) ≢ None
-  pub oldest : (n : ℕ) → header_of (files slot) ≡ Some n → (other : ℕ) → other ≤ keep → (m : ℕ) × (header_of (files other) ≡ Some m) × (n ≤ m)
-  pub least_number : (n : ℕ) → header_of (files slot) ≡ Some n → (other m : ℕ) → other < slot → header_of (files other) ≡ Some m → n < m
+  pub closed_first : header_of (files slot) ≡ None → (other : ℕ) → other < slot
+      → header_of (files other) ≢ None
+  pub oldest : (n : ℕ) → header_of (files slot) ≡ Some n → (other : ℕ) → other ≤ keep
+      → (m : ℕ) × (header_of (files other) ≡ Some m) × (n ≤ m)
+  pub least_number : (n : ℕ) → header_of (files slot) ≡ Some n → (other m : ℕ) → other < slot
+      → header_of (files other) ≡ Some m → n < m
 
 -- the oldest of the slots below a number, all of which are open
 pub record IsOldest (bound : ℕ) (files : Files) (slot : ℕ) (iteration : ℕ) : Type 0 where
   pub known : slot < bound
   pub header : header_of (files slot) ≡ Some iteration
-  pub all : (other : ℕ) → other < bound → (m : ℕ) × (header_of (files other) ≡ Some m) × (iteration ≤ m)
+  pub all : (other : ℕ) → other < bound
+      → (m : ℕ) × (header_of (files other) ≡ Some m) × (iteration ≤ m)
   pub least_number : (other m : ℕ) → other < slot → header_of (files other) ≡ Some m → iteration < m
 
 abbrev pub OldestBelow : ℕ → Files → Option (ℕ × ℕ) → Type 0
@@ -113,7 +116,9 @@ Replaces slot bytes old new = Step slot (IsWithinWrite (old.seen slot) bytes) ol
 
 -- a save: nothing but reads yet, or the slot that it takes is within the save
 abbrev pub IsSaving : ℕ → Checkpoint → View → View → Type 0
-IsSaving keep c old new = IsQuiet old new ⊎ ((slot : ℕ) × IsNext old.seen keep slot × Step slot (IsWithinSave (old.seen slot) c) old new)
+IsSaving keep c old new =
+    IsQuiet old new ⊎ ((slot : ℕ) × IsNext old.seen keep slot
+    × Step slot (IsWithinSave (old.seen slot) c) old new)
 
 -- a save that is done: the slot that it takes has the checkpoint, in all images
 pub record IsSaved (keep : ℕ) (c : Checkpoint) (old new : View) : Type 0 where

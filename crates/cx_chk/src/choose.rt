@@ -2,13 +2,11 @@
 ghost use Rattle.std.specs.Prelude.{◌≡◌, ◌<◌, ◌≤◌, ◌+◌, length, IsTrue, IfOk, IfSome, Some};
 ghost use Rattle.cx_disk.specs.Cause.{HasCause};
 ghost use Rattle.cx_disk.specs.Moments.{IsQuiet};
-ghost use Rattle.cx_chk.specs.Slots.{slot_count, IsNewestIn, newer, older, IsNext};
+ghost use Rattle.cx_disk.specs.Files.{slot_count};
+ghost use Rattle.cx_chk.specs.Slots.{IsNewestIn, newer, older, IsNext};
 
 use crate::header::header;
-use cx_disk::{Disk, DiskFault};
-
-/// The slots are the files from 0 on, up to this number.
-pub(crate) const SLOTS: u32 = 8;
+use cx_disk::{Disk, DiskFault, SLOTS};
 
 // The newer of the newest so far and one more slot.
 fn newer_of(best: Option<(u32, u64)>, slot: u32, found: Option<u64>) -> Option<(u32, u64)>

@@ -4,18 +4,19 @@ ghost use Rattle.cx_disk.specs.Disk.{IsSettled};
 ghost use Rattle.cx_disk.specs.Cause.{HasCause};
 ghost use Rattle.cx_disk.specs.Moments.{IsQuiet};
 ghost use Rattle.cx_chk.specs.Encoding.{IsCheckpoint};
-ghost use Rattle.cx_chk.specs.Slots.{slot_count, header_of, IsNewestIn, NoneOpen, SlotsSettled, OutputsSame};
+ghost use Rattle.cx_disk.specs.Files.{slot_count};
+ghost use Rattle.cx_chk.specs.Slots.{header_of, IsNewestIn, NoneOpen, SlotsSettled, OutputsSame};
 ghost use Rattle.cx_chk.specs.Slots.{Closes, Replaces, IsSaving, IsSaved, ClosesSlots, LeavesClosing};
 
 use crate::Checkpoint;
-use crate::choose::{SLOTS, newest, next};
+use crate::choose::{newest, next};
 use crate::header::header;
 use crate::steps::{fill, open, shut};
 use crate::writing::encode;
-use cx_disk::{Disk, DiskFault, put, trim};
+use cx_disk::{Disk, DiskFault, SLOTS, put, trim};
 use std::alloc::Global;
 
-/// The eight slots of a disk: its files 0 to 7. A slot is open where it has at least 17 bytes and the first is 1.
+/// The slots of a disk, its first `SLOTS` files. A slot is open where it has at least 17 bytes and the first is 1.
 pub struct Slots;
 
 // Closes a slot, writes a body behind its gate, and opens it.

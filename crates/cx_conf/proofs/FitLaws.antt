@@ -24,7 +24,8 @@ pub record Kept (W : List ℕ → Type 0) (left : ℕ) (c : Configuration) : Typ
   pub requires_ : AllByRecursion W c.requires_
   pub thorns : AllByRecursion W c.thorns
   pub opens : OpensAsName c.requires_
-  pub lines : left + (length c.provides + length c.optional + lines_of c.requires_ + lines_of c.thorns) ≤ 4096
+  pub lines : left + (length c.provides + length c.optional + lines_of c.requires_
+      + lines_of c.thorns) ≤ 4096
 
 open_left : (left : ℕ) → nat_eq left 0 ≡ false → 0 < left
 open_left zero h = absurd (eqb-false zero zero h refl)
@@ -34,7 +35,9 @@ lines_le : (ns : List (List ℕ)) → lines_of ns ≤ 1
 lines_le [] = omega arith
 lines_le (n ∷ ns) = omega arith
 
-provides_holds : {T : Token → Type 0} (W : List ℕ → Type 0) → NamesAre T W → (left : ℕ) (c : Configuration) → Kept W left c → Holds T (provides left c) (λ n d. Kept W (left - 1) d)
+provides_holds : {T : Token → Type 0} (W : List ℕ → Type 0) → NamesAre T W
+    → (left : ℕ) (c : Configuration) → Kept W left c
+    → Holds T (provides left c) (λ n d. Kept W (left - 1) d)
 provides_holds W are left c k =
     holds_also (counted_holds PROVIDES (nat_eq left 0)) (λ n u full.
     holds_also (name_holds W are) (λ m x w.
@@ -45,10 +48,13 @@ provides_holds W are left c k =
       requires_ = k.requires_;
       thorns = k.thorns;
       opens = k.opens;
-      lines = let l = k.lines in let o = open_left left full in let e = length-append c.provides (x ∷ []) in omega (arith, l, o, e);
+      lines = let l = k.lines in let o = open_left left full in
+          let e = length-append c.provides (x ∷ []) in omega (arith, l, o, e);
     }))))
 
-optional_holds : {T : Token → Type 0} (W : List ℕ → Type 0) → NamesAre T W → (left : ℕ) (c : Configuration) → Kept W left c → Holds T (optional left c) (λ n d. Kept W (left - 1) d)
+optional_holds : {T : Token → Type 0} (W : List ℕ → Type 0) → NamesAre T W
+    → (left : ℕ) (c : Configuration) → Kept W left c
+    → Holds T (optional left c) (λ n d. Kept W (left - 1) d)
 optional_holds W are left c k =
     holds_also (counted_holds OPTIONAL (nat_eq left 0)) (λ n u full.
     holds_also (name_holds W are) (λ m x w.
@@ -59,10 +65,13 @@ optional_holds W are left c k =
       requires_ = k.requires_;
       thorns = k.thorns;
       opens = k.opens;
-      lines = let l = k.lines in let o = open_left left full in let e = length-append c.optional (x ∷ []) in omega (arith, l, o, e);
+      lines = let l = k.lines in let o = open_left left full in
+          let e = length-append c.optional (x ∷ []) in omega (arith, l, o, e);
     }))))
 
-thorns_holds : {T : Token → Type 0} (W : List ℕ → Type 0) → NamesAre T W → (left : ℕ) (c : Configuration) → Kept W left c → 0 < left → Holds T (thorns c) (λ n d. Kept W (left - 1) d)
+thorns_holds : {T : Token → Type 0} (W : List ℕ → Type 0) → NamesAre T W
+    → (left : ℕ) (c : Configuration) → Kept W left c → 0 < left
+    → Holds T (thorns c) (λ n d. Kept W (left - 1) d)
 thorns_holds W are left c k o =
     holds_also (holds_any (keyword THORNS)) (λ n u p.
     holds_also (holds_any (sign_here 58)) (λ m v q.
@@ -78,19 +87,26 @@ thorns_holds W are left c k o =
     })))))
 
 -- the first name of all is the first of the line
-named_otherwise : (t : Token) (n : List ℕ) → name_of t ≡ Some n → is_named THORNS t ≡ false → is_named THORNS (word n) ≡ false
+named_otherwise : (t : Token) (n : List ℕ) → name_of t ≡ Some n → is_named THORNS t ≡ false
+    → is_named THORNS (word n) ≡ false
 named_otherwise t n e h =
     let w = name_is_word t n e in
-    let same : is_named THORNS t ≡ bytes_eq (map to_ascii_lowercase t.text) (map to_ascii_lowercase THORNS) = rw w.0 refl in
-    sym (ap (λ (text : List ℕ). bytes_eq (map to_ascii_lowercase text) (map to_ascii_lowercase THORNS)) w.1) ∙ sym same ∙ h
+    let same : is_named THORNS t
+    ≡ bytes_eq (map to_ascii_lowercase t.text) (map to_ascii_lowercase THORNS) = rw w.0 refl in
+    sym (ap (λ (text : List ℕ).
+    bytes_eq (map to_ascii_lowercase text) (map to_ascii_lowercase THORNS)) w.1) ∙ sym same ∙ h
 
-opens_still : (W : List ℕ → Type 0) (old : List (List ℕ)) (next : Option Token) (new : List (List ℕ)) → OpensAsName old → Named W old next new → passes (is_named THORNS) next ≡ false → OpensAsName new
+opens_still : (W : List ℕ → Type 0) (old : List (List ℕ)) (next : Option Token)
+    (new : List (List ℕ)) → OpensAsName old → Named W old next new
+    → passes (is_named THORNS) next ≡ false → OpensAsName new
 opens_still W [] next new o q h =
     let first : is_named THORNS q.tok ≡ false = ap (passes (is_named THORNS)) (sym q.begins) ∙ h in
     subst OpensAsName (sym q.grown.is) (named_otherwise q.tok q.first q.named first)
 opens_still W (n ∷ ns) next new o q h = subst OpensAsName (sym q.grown.is) o
 
-capabilities_holds : {T : Token → Type 0} (W : List ℕ → Type 0) → NamesAre T W → (left : ℕ) (c : Configuration) → Kept W left c → 0 < left → Holds T (capabilities c) (λ n d. passes (is_named THORNS) n ≡ false → Kept W (left - 1) d)
+capabilities_holds : {T : Token → Type 0} (W : List ℕ → Type 0) → NamesAre T W
+    → (left : ℕ) (c : Configuration) → Kept W left c → 0 < left
+    → Holds T (capabilities c) (λ n d. passes (is_named THORNS) n ≡ false → Kept W (left - 1) d)
 capabilities_holds W are left c k o =
     holds_also (some_names_hold W are c.requires_) (λ n ns q.
     holds_also (holds_any line_end) (λ m u p.
@@ -103,29 +119,49 @@ capabilities_holds W are left c k o =
       lines = let l = k.lines in let e = lines_le ns in omega (arith, l, o, e);
     })))
 
-requires_holds : {T : Token → Type 0} (W : List ℕ → Type 0) → NamesAre T W → (left : ℕ) (c : Configuration) → Kept W left c → Holds T (requires_ left c) (λ n d. Kept W (left - 1) d)
+requires_holds : {T : Token → Type 0} (W : List ℕ → Type 0) → NamesAre T W
+    → (left : ℕ) (c : Configuration) → Kept W left c
+    → Holds T (requires_ left c) (λ n d. Kept W (left - 1) d)
 requires_holds W are left c k =
     holds_also (counted_holds REQUIRES (nat_eq left 0)) (λ n u full.
     let o = open_left left full in
-    holds_choice (weaker_holds (thorns_holds W are left c k o) (λ m d q e. q)) (capabilities_holds W are left c k o))
+    holds_choice (weaker_holds (thorns_holds W are left c k o) (λ m d q e. q))
+    (capabilities_holds W are left c k o))
 
-entry_holds : {T : Token → Type 0} (W : List ℕ → Type 0) → NamesAre T W → (left : ℕ) (c : Configuration) → Kept W left c → Holds T (entry left c) (λ n d. Kept W (left - 1) d)
+entry_holds : {T : Token → Type 0} (W : List ℕ → Type 0) → NamesAre T W
+    → (left : ℕ) (c : Configuration) → Kept W left c
+    → Holds T (entry left c) (λ n d. Kept W (left - 1) d)
 entry_holds W are left c k =
     holds_choice (weaker_holds (provides_holds W are left c k) (λ n d q e. q))
-    (weaker_holds (holds_choice (weaker_holds (optional_holds W are left c k) (λ n d q e. q)) (weaker_holds (requires_holds W are left c k) (λ n d q e. q))) (λ n d q e. q))
+    (weaker_holds (holds_choice (weaker_holds (optional_holds W are left c k) (λ n d q e. q))
+    (weaker_holds (requires_holds W are left c k) (λ n d q e. q))) (λ n d q e. q))
 
-more_holds : {T : Token → Type 0} (W : List ℕ → Type 0) → NamesAre T W → (s : Read) → Kept W s.left s.tree → Holds T (more s) (λ n r. Kept W r.left r.tree)
-more_holds W are s k = holds_also (entry_holds W are s.left s.tree k) (λ n c q. holds_nothing (λ m. q))
+more_holds : {T : Token → Type 0} (W : List ℕ → Type 0) → NamesAre T W → (s : Read)
+    → Kept W s.left s.tree → Holds T (more s) (λ n r. Kept W r.left r.tree)
+more_holds W are s k = holds_also (entry_holds W are s.left s.tree k)
+    (λ n c q. holds_nothing (λ m. q))
 
-pub configuration_holds : {T : Token → Type 0} (W : List ℕ → Type 0) → NamesAre T W → Holds T configuration (λ n c. (left : ℕ) × Kept W left c)
+pub configuration_holds : {T : Token → Type 0} (W : List ℕ → Type 0) → NamesAre T W
+    → Holds T configuration (λ n c. (left : ℕ) × Kept W left c)
 configuration_holds W are =
     holds_also (holds_any line_ends) (λ n u p.
-    holds_also (holds_loop (λ s. Kept W s.left s.tree) (more_holds W are) (record { provides = tt; optional = tt; requires_ = tt; thorns = tt; opens = tt; lines = omega arith })) (λ m s k.
+    holds_also (holds_loop (λ s. Kept W s.left s.tree) (more_holds W are)
+    (record {
+      provides = tt;
+      optional = tt;
+      requires_ = tt;
+      thorns = tt;
+      opens = tt;
+      lines = omega arith;
+    })) (λ m s k.
     holds_nothing (λ i. (s.left, k))))
 
 pub fits : (ts : List Token) (c : Configuration) → Spells configuration.derives ts c → Fits c
 fits ts c s =
-    let k = spelled_holds (configuration_holds {T = λ t. Unit {0}} IsShortName (λ t n h v m. name_is_short t n v m)) ts c s (unmarked_clean (λ t. Unit {0}) ts (λ t. tt)) in
+    let k =
+    spelled_holds (configuration_holds {T = λ t. Unit {0}} IsShortName
+    (λ t n h v m. name_is_short t n v m)) ts c s (unmarked_clean (λ t. Unit {0}) ts (λ t. tt))
+    in
     record {
       provides = k.1.provides;
       optional = k.1.optional;

@@ -18,7 +18,8 @@ pub line_short : (s : Places) → Short (line s)
 line_short s = short_part (line_part s).good (line_part s).full
 
 file_tail : Tail thorn_list (Not is_word)
-file_tail = tail_then (tail_loop None refl line_part (λ n h. tt) (λ n h. h)) (λ s. tail_end None refl)
+file_tail = tail_then (tail_loop None refl line_part (λ n h. tt) (λ n h. h))
+    (λ s. tail_end None refl)
 
 pub thorn_list_good : Good thorn_list (Not is_word)
 thorn_list_good = file_tail.good

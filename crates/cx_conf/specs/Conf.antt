@@ -6,8 +6,8 @@ use Rattle.cx_text.specs.declared.token.Token.{Token}
 use Rattle.cx_text.specs.Rules.{Rule, nothing, ◌>>=◌, choice, loop, is_named, line_ends, keyword, name, sign_here, line_end}
 use Rattle.cx_text.specs.Lexemes.{counted_keyword, some_names, names, braces}
 
-abbrev pub nobody : Configuration
-nobody = record { provides = []; requires_ = []; thorns = []; optional = [] }
+abbrev pub no_configuration : Configuration
+no_configuration = record { provides = []; requires_ = []; thorns = []; optional = [] }
 
 abbrev pub PROVIDES : List ℕ
 PROVIDES = codes "PROVIDES"
@@ -53,7 +53,8 @@ capabilities c = do
   w ← line_end
   nothing (record c { requires_ = ns })
 
--- REQUIRES THORNS ":" names LineEnd | REQUIRES Word { [","] Word } LineEnd, where that first Word isn't THORNS
+-- REQUIRES THORNS ":" names LineEnd | REQUIRES Word { [","] Word } LineEnd, where that first Word
+-- isn't THORNS
 abbrev pub requires_ : ℕ → Configuration → Rule Configuration
 requires_ left c = do
   u ← counted_keyword REQUIRES (nat_eq left 0)
@@ -64,7 +65,8 @@ is_entry t = is_named PROVIDES t || is_named OPTIONAL t || is_named REQUIRES t
 
 -- one entry, where so many are left that may stand
 abbrev pub entry : ℕ → Configuration → Rule Configuration
-entry left c = choice (is_named PROVIDES) (provides left c) (choice (is_named OPTIONAL) (optional left c) (requires_ left c))
+entry left c = choice (is_named PROVIDES) (provides left c)
+    (choice (is_named OPTIONAL) (optional left c) (requires_ left c))
 
 -- one of them behind others: one less may then stand
 abbrev pub more : Read → Rule Read
@@ -76,5 +78,5 @@ more s = do
 abbrev pub configuration : Rule Configuration
 configuration = do
   u ← line_ends
-  s ← loop is_entry more (record { left = 4096; tree = nobody })
+  s ← loop is_entry more (record { left = 4096; tree = no_configuration })
   nothing s.tree

@@ -1,5 +1,5 @@
--- A configuration, as tokens: a line for each capability that is provided or optional, and one line for all that are
--- required, and for all thorns.
+-- A configuration, as tokens: a line for each capability that is provided or optional, and one line
+-- for all that are required, and for all thorns.
 use Rattle.std.specs.Prelude.{ℕ, List, [], ◌∷◌, ◌++◌}
 use Rattle.std.specs.List.{flat_map}
 use Rattle.cx_text.specs.declared.token.Token.{Token}
@@ -22,4 +22,7 @@ thorns_line [] = []
 thorns_line (n ∷ ns) = word REQUIRES ∷ word THORNS ∷ sign 58 ∷ (words (n ∷ ns) ++ line_end ∷ [])
 
 abbrev pub configuration_tokens : Configuration → List Token
-configuration_tokens c = flat_map (braced_line PROVIDES) c.provides ++ (flat_map (braced_line OPTIONAL) c.optional ++ (capabilities_line c.requires_ ++ thorns_line c.thorns))
+configuration_tokens c =
+    flat_map (braced_line PROVIDES) c.provides
+    ++ (flat_map (braced_line OPTIONAL) c.optional
+    ++ (capabilities_line c.requires_ ++ thorns_line c.thorns))

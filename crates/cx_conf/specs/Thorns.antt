@@ -9,20 +9,19 @@ use Rattle.cx_conf.specs.declared.thorn_list.Places.{Places}
 use Rattle.cx_text.specs.Tokens.{is_word}
 use Rattle.cx_text.specs.Rules.{Rule, token, nothing, ◌>>=◌, loop, one_line_end}
 use Rattle.cx_text.specs.Lexemes.{first_mark}
+use Rattle.cx_text.specs.Bytes.{is_slash}
 
 -- an arrangement, and a thorn in it
 abbrev pub Place : Type 0
 Place = List ℕ × List ℕ
-
-abbrev pub is_slash : ℕ → Bool
-is_slash b = nat_eq b 47
 
 abbrev pub is_empty : List ℕ → Bool
 is_empty name = nat_eq (length name) 0
 
 -- the names before a slash and behind it, if both are names
 abbrev pub names_at : List ℕ → ℕ → Option Place
-names_at text i = cond (is_empty (take i text) || is_empty (drop (i + 1) text) || list_any is_slash (drop (i + 1) text)) None (Some (take i text, drop (i + 1) text))
+names_at text i = cond (is_empty (take i text) || is_empty (drop (i + 1) text)
+    || list_any is_slash (drop (i + 1) text)) None (Some (take i text, drop (i + 1) text))
 
 abbrev pub parted : List ℕ → Option ℕ → Option Place
 parted text None = None

@@ -31,6 +31,7 @@ struct Read {
     tree: Configuration,
 }
 
+/// Reads `PROVIDES`, a capability and a block in braces, whose content is skipped.
 fn provides(
     reader: &mut Reader,
     alloc: Global,
@@ -46,6 +47,7 @@ fn provides(
     Ok(())
 }
 
+/// Reads `OPTIONAL`, a capability and a block in braces, whose content is skipped.
 fn optional(
     reader: &mut Reader,
     alloc: Global,
@@ -61,6 +63,7 @@ fn optional(
     Ok(())
 }
 
+/// Reads `THORNS:` and the thorns that the rest of the line names.
 fn thorns(reader: &mut Reader, alloc: Global, tree: &mut Configuration) -> Result<(), Stop>
     ensures { Builds (thorns tree.old) tree.new result reader.old reader.new }
 {
@@ -70,6 +73,7 @@ fn thorns(reader: &mut Reader, alloc: Global, tree: &mut Configuration) -> Resul
     reader.line_end()
 }
 
+/// Reads the capabilities that the rest of the line names, at least one.
 fn capabilities(reader: &mut Reader, alloc: Global, tree: &mut Configuration) -> Result<(), Stop>
     ensures { Builds (capabilities tree.old) tree.new result reader.old reader.new }
 {
@@ -77,6 +81,7 @@ fn capabilities(reader: &mut Reader, alloc: Global, tree: &mut Configuration) ->
     reader.line_end()
 }
 
+/// Reads `REQUIRES` and the thorns or capabilities after it.
 fn requires_(
     reader: &mut Reader,
     alloc: Global,
@@ -93,6 +98,7 @@ fn requires_(
     }
 }
 
+/// Whether an entry begins at the next token: `PROVIDES`, `OPTIONAL` or `REQUIRES`.
 fn at_entry(reader: &Reader) -> bool
     ensures { result ≡ passes is_entry (head reader.now.rest.now) }
 {
@@ -104,6 +110,7 @@ fn at_entry(reader: &Reader) -> bool
     }
 }
 
+/// Reads one entry. `left` entries may still come, so it is a fault at 0.
 fn entry(
     reader: &mut Reader,
     alloc: Global,
@@ -121,6 +128,7 @@ fn entry(
     }
 }
 
+/// Reads one more entry and counts it.
 fn more(reader: &mut Reader, alloc: Global, read: &mut Read) -> Result<(), Stop>
     ensures { Builds (more read.old) read.new result reader.old reader.new }
 {
@@ -129,6 +137,7 @@ fn more(reader: &mut Reader, alloc: Global, read: &mut Read) -> Result<(), Stop>
     Ok(())
 }
 
+/// Reads entries for as long as one begins at the next token.
 fn entries(reader: &mut Reader, alloc: Global, read: &mut Read) -> Result<(), Stop>
     ensures { Builds (loop is_entry more read.old) read.new result reader.old reader.new }
 {
@@ -138,6 +147,7 @@ fn entries(reader: &mut Reader, alloc: Global, read: &mut Read) -> Result<(), St
     Ok(())
 }
 
+/// Reads a configuration file.
 fn whole(reader: &mut Reader, alloc: Global) -> Result<Configuration, Stop>
     ensures { Obeys configuration result reader.old reader.new }
 {

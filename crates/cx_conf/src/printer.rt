@@ -11,6 +11,7 @@ use crate::Configuration;
 use cx_text::{List, Memory, Text, Token, write_tokens};
 use std::alloc::Global;
 
+/// Appends a line with a keyword, a name and empty braces.
 fn braced_line(
     alloc: Global,
     tokens: &mut List<Token>,
@@ -26,6 +27,7 @@ fn braced_line(
     tokens.push_line_end(alloc)
 }
 
+/// Appends such a line for each of the names.
 fn braced_lines(
     alloc: Global,
     tokens: &mut List<Token>,
@@ -41,6 +43,7 @@ fn braced_lines(
     Ok(())
 }
 
+/// Appends the line of the required capabilities; nothing if there are none.
 fn capabilities_line(alloc: Global, tokens: &mut List<Token>, names: &[Text]) -> Result<(), Memory>
     ensures { OnOk result (tokens.new ≡ tokens.old ++ capabilities_line names.now) }
 {
@@ -52,6 +55,7 @@ fn capabilities_line(alloc: Global, tokens: &mut List<Token>, names: &[Text]) ->
     tokens.push_line_end(alloc)
 }
 
+/// Appends the line of the required thorns; nothing if there are none.
 fn thorns_line(alloc: Global, tokens: &mut List<Token>, names: &[Text]) -> Result<(), Memory>
     ensures { OnOk result (tokens.new ≡ tokens.old ++ thorns_line names.now) }
 {
@@ -65,6 +69,7 @@ fn thorns_line(alloc: Global, tokens: &mut List<Token>, names: &[Text]) -> Resul
     tokens.push_line_end(alloc)
 }
 
+/// The tokens of this configuration file.
 fn tokens_of(alloc: Global, tree: &Configuration) -> Result<List<Token>, Memory>
     ensures { IfOk result (λ tokens. tokens ≡ configuration_tokens tree.now) }
 {

@@ -5,7 +5,8 @@ ghost use Rattle.std.specs.List.{list_any};
 ghost use Rattle.cx_text.specs.Tokens.{is_word};
 ghost use Rattle.cx_text.specs.Grammar.{ReadsBy, AnswersOnly};
 ghost use Rattle.cx_text.specs.Rules.{Obeys, Builds, token, loop};
-ghost use Rattle.cx_conf.specs.Thorns.{is_slash, place_in, place_of, place_mark, line, thorn_list};
+ghost use Rattle.cx_conf.specs.Thorns.{place_in, place_of, place_mark, line, thorn_list};
+ghost use Rattle.cx_text.specs.Bytes.{is_slash};
 
 use cx_text::{CclFault, List, MAX_NAME, Mark, Reader, Stop, Text, Token, Why};
 use std::alloc::Global;
@@ -27,12 +28,14 @@ struct Places {
     places: List<(Text, Text)>,
 }
 
+/// The place of the first slash, where the arrangement ends.
 fn slash_at(text: &[u8]) -> Option<usize>
     ensures { result ≡ position is_slash text.now }
 {
     text.iter().position(|byte| *byte == b'/')
 }
 
+/// Whether a text has a slash.
 fn has_slash(text: &[u8]) -> bool
     ensures { result ≡ list_any is_slash text.now }
 {
@@ -54,6 +57,7 @@ fn place_in(text: &[u8]) -> Option<(&[u8], &[u8])>
     }
 }
 
+/// Reads `ARRANGEMENT/THORN`. It is a fault if no more lines may come.
 fn place(reader: &mut Reader, alloc: Global, left: usize) -> Result<(Text, Text), Stop>
     ensures { Obeys (token place_of (place_mark left)) result reader.old reader.new }
 {
@@ -74,6 +78,7 @@ fn place(reader: &mut Reader, alloc: Global, left: usize) -> Result<(Text, Text)
     }
 }
 
+/// Reads a thorn with its arrangement and the line end after it.
 fn line(reader: &mut Reader, alloc: Global, lines: &mut Places) -> Result<(), Stop>
     ensures { Builds (line lines.old) lines.new result reader.old reader.new }
 {
@@ -84,6 +89,7 @@ fn line(reader: &mut Reader, alloc: Global, lines: &mut Places) -> Result<(), St
     Ok(())
 }
 
+/// Reads lines for as long as a word comes next.
 fn lines(reader: &mut Reader, alloc: Global, read: &mut Places) -> Result<(), Stop>
     ensures { Builds (loop is_word line read.old) read.new result reader.old reader.new }
 {
@@ -93,6 +99,7 @@ fn lines(reader: &mut Reader, alloc: Global, read: &mut Places) -> Result<(), St
     Ok(())
 }
 
+/// Reads a list of thorns.
 fn whole(reader: &mut Reader, alloc: Global) -> Result<ThornList, Stop>
     ensures { Obeys thorn_list result reader.old reader.new }
 {

@@ -64,10 +64,12 @@ in_name b e = by (or_cases (begins_name b) (is_ascii_digit b) e)
 
 goes : (style : Style) (b : ℕ) → goes_on style b ≡ true → IsNameByte b
 goes Ccl b e = in_name b e
-goes Par b e = printable b (and_parts (is_printable b) (not ((nat_eq b 35) || (nat_eq b 34) || is_par_sign b)) e).0
+goes Par b e = printable b
+    (and_parts (is_printable b) (not ((nat_eq b 35) || (nat_eq b 34) || is_par_sign b)) e).0
 goes Thorns b e = printable b (and_parts (is_printable b) (not (nat_eq b 35)) e).0
 
-all_go : (style : Style) (bs : List ℕ) → list_all (has (classes.Word style)) bs ≡ true → All IsNameByte bs
+all_go : (style : Style) (bs : List ℕ) → list_all (has (classes.Word style)) bs ≡ true
+    → All IsNameByte bs
 all_go style [] e = All-nil IsNameByte
 all_go style (b ∷ bs) e =
     let k = and_parts (goes_on style b) (list_all (has (classes.Word style)) bs) e in
@@ -75,45 +77,58 @@ all_go style (b ∷ bs) e =
 
 -- ---- what begins a word
 
-past : (c : Bool) (x y : Role) → (x ≡ roles.Word → ⊥) → (if c then x else y) ≡ roles.Word → y ≡ roles.Word
+past : (c : Bool) (x y : Role) → (x ≡ roles.Word → ⊥) → (if c then x else y) ≡ roles.Word
+    → y ≡ roles.Word
 past true x y other e = absurd (other e)
 past false x y other e = e
 
-there : (c : Bool) (y : Role) → (y ≡ roles.Word → ⊥) → (if c then roles.Word else y) ≡ roles.Word → c ≡ true
+there : (c : Bool) (y : Role) → (y ≡ roles.Word → ⊥) → (if c then roles.Word else y) ≡ roles.Word
+    → c ≡ true
 there true y other e = refl
 there false y other e = absurd (other e)
 
-neither : (c : Bool) (x y : Role) → (x ≡ roles.Word → ⊥) → (y ≡ roles.Word → ⊥) → (if c then x else y) ≡ roles.Word → ⊥
+neither : (c : Bool) (x y : Role) → (x ≡ roles.Word → ⊥) → (y ≡ roles.Word → ⊥)
+    → (if c then x else y) ≡ roles.Word → ⊥
 neither true x y one other e = one e
 neither false x y one other e = other e
 
 ccl_word : (b : ℕ) → ccl_role b ≡ roles.Word → IsNameByte b
 ccl_word b e =
-    let others : Role = if is_ascii_digit b then roles.Number else (if nat_eq b 92 then roles.Joint else (if is_printable b then roles.Sign else roles.Bad)) in
-    let named = past (is_quote b) roles.Quote (if begins_name b then roles.Word else others) (λ q. absurd cc) e in
+    let others : Role = if is_ascii_digit b then roles.Number
+    else (if nat_eq b 92 then roles.Joint
+    else (if is_printable b then roles.Sign else roles.Bad)) in
+    let named = past (is_quote b) roles.Quote (if begins_name b then roles.Word else others)
+    (λ q. absurd cc) e in
     let last = neither (is_printable b) roles.Sign roles.Bad (λ q. absurd cc) (λ q. absurd cc) in
-    let later = neither (nat_eq b 92) roles.Joint (if is_printable b then roles.Sign else roles.Bad) (λ q. absurd cc) last in
-    let none = neither (is_ascii_digit b) roles.Number (if nat_eq b 92 then roles.Joint else (if is_printable b then roles.Sign else roles.Bad)) (λ q. absurd cc) later in
+    let later = neither (nat_eq b 92) roles.Joint (if is_printable b then roles.Sign else roles.Bad)
+    (λ q. absurd cc) last in
+    let none = neither (is_ascii_digit b) roles.Number
+    (if nat_eq b 92 then roles.Joint else (if is_printable b then roles.Sign else roles.Bad))
+    (λ q. absurd cc) later in
     begins b (there (begins_name b) others none named)
 
 par_word : (b : ℕ) → par_role b ≡ roles.Word → IsNameByte b
 par_word b e =
     let last : Role = if is_printable b then roles.Word else roles.Bad in
-    let unquoted = past (nat_eq b 34) roles.Quote (if is_par_sign b then roles.Sign else last) (λ q. absurd cc) e in
-    printable b (there (is_printable b) roles.Bad (λ q. absurd cc) (past (is_par_sign b) roles.Sign last (λ q. absurd cc) unquoted))
+    let unquoted = past (nat_eq b 34) roles.Quote (if is_par_sign b then roles.Sign else last)
+    (λ q. absurd cc) e in
+    printable b (there (is_printable b) roles.Bad (λ q. absurd cc)
+    (past (is_par_sign b) roles.Sign last (λ q. absurd cc) unquoted))
 
 style_word : (style : Style) (b : ℕ) → style_role style b ≡ roles.Word → IsNameByte b
 style_word Ccl b e = ccl_word b e
 style_word Par b e = par_word b e
 style_word Thorns b e = printable b (there (is_printable b) roles.Bad (λ q. absurd cc) e)
 
-begins_word : (style : Style) (fresh : Bool) (b : ℕ) → role_of style fresh b ≡ roles.Word → IsNameByte b
+begins_word : (style : Style) (fresh : Bool) (b : ℕ) → role_of style fresh b ≡ roles.Word
+    → IsNameByte b
 begins_word style fresh b e =
     let own : Role = style_role style b in
     let ignored : Bool = ignores_lines style && (nat_eq b 33) && fresh in
     let line : Role = if ignored then roles.IgnoredLine else own in
     let comment : Role = if nat_eq b 35 then roles.Comment else line in
-    let unblank = past (is_blank b) roles.Blank (if nat_eq b 10 then roles.LineFeed else comment) (λ q. absurd cc) e in
+    let unblank = past (is_blank b) roles.Blank (if nat_eq b 10 then roles.LineFeed else comment)
+    (λ q. absurd cc) e in
     let unfed = past (nat_eq b 10) roles.LineFeed comment (λ q. absurd cc) unblank in
     let said = past (nat_eq b 35) roles.Comment line (λ q. absurd cc) unfed in
     style_word style b (past ignored roles.IgnoredLine own (λ q. absurd cc) said)
@@ -124,12 +139,21 @@ begins_word style fresh b e =
 abbrev pub NamedWord : Token → Type 0
 NamedWord t = is_word t ≡ true → IsName t.text
 
-word_named : (style : Style) (fresh : Bool) (b line : ℕ) (bs rest : List ℕ) → Stands style fresh (Word b bs) rest → NamedWord (record { kind = kinds.Word; text = b ∷ bs; line = line })
-word_named style fresh b line bs rest s = λ w. (omega arith, All-cons IsNameByte b bs (begins_word style fresh b s.0) (all_go style bs s.1.0))
+word_named : (style : Style) (fresh : Bool) (b line : ℕ) (bs rest : List ℕ)
+    → Stands style fresh (Word b bs) rest
+    → NamedWord (record { kind = kinds.Word; text = b ∷ bs; line = line })
+word_named style fresh b line bs rest s =
+    λ w. (
+      omega arith,
+      All-cons IsNameByte b bs (begins_word style fresh b s.0)
+          (all_go style bs s.1.0),
+    )
 
-own_named : (style : Style) (fresh : Bool) (line : ℕ) (p : Piece) (rest : List ℕ) → Stands style fresh p rest → (t : Token) → own_token line p ≡ Some t → NamedWord t
+own_named : (style : Style) (fresh : Bool) (line : ℕ) (p : Piece) (rest : List ℕ)
+    → Stands style fresh p rest → (t : Token) → own_token line p ≡ Some t → NamedWord t
 own_named style fresh line (Blank b) rest s t e = absurd cc
-own_named style fresh line (LineFeed b) rest s t e = let same : line_end line ≡ t = cc in subst NamedWord same (λ w. absurd cc)
+own_named style fresh line (LineFeed b) rest s t e = let same : line_end line ≡ t = cc in
+    subst NamedWord same (λ w. absurd cc)
 own_named style fresh line (Comment b w) rest s t e = absurd cc
 own_named style fresh line (IgnoredLine b w) rest s t e = absurd cc
 own_named style fresh line (Joint b w) rest s t e = absurd cc
@@ -156,27 +180,36 @@ own_named style fresh line (Pair b c) rest s t e =
 
 -- a word that can be printed
 pub printed_named : (n : List ℕ) → Printable Ccl (word n) → IsName n
-printed_named n p = own_named Ccl true 0 p.piece [] (p.stands true [] (λ e. record { word = refl; number = refl; sign = λ b. refl })) (word n) (p.token 0) refl
+printed_named n p = own_named Ccl true 0 p.piece []
+    (p.stands true [] (λ e. record { word = refl; number = refl; sign = λ b. refl })) (word n)
+    (p.token 0) refl
 
 -- ---- the tokens of a text
 
-maybe_named : (o : Option Token) (ts : List Token) → ((t : Token) → o ≡ Some t → NamedWord t) → AllByRecursion NamedWord ts → AllByRecursion NamedWord (or_nothing o ++ ts)
+maybe_named : (o : Option Token) (ts : List Token) → ((t : Token) → o ≡ Some t → NamedWord t)
+    → AllByRecursion NamedWord ts → AllByRecursion NamedWord (or_nothing o ++ ts)
 maybe_named None ts h more = more
 maybe_named (Some t) ts h more = (h t refl, more)
 
-each_named : (style : Style) (ps : List Piece) (fresh : Bool) (line : ℕ) (bytes rest : List ℕ) → Cut style fresh ps bytes rest → AllByRecursion NamedWord (each_token line ps)
+each_named : (style : Style) (ps : List Piece) (fresh : Bool) (line : ℕ) (bytes rest : List ℕ)
+    → Cut style fresh ps bytes rest → AllByRecursion NamedWord (each_token line ps)
 each_named style [] fresh line bytes rest c = tt
 each_named style (p ∷ ps) fresh line bytes rest (more, parts, stands, c) =
-    maybe_named (own_token line p) (each_token (line + feeds (bytes_of p)) ps) (λ t e. own_named style fresh line p more stands t e)
+    maybe_named (own_token line p) (each_token (line + feeds (bytes_of p)) ps)
+    (λ t e. own_named style fresh line p more stands t e)
     (each_named style ps (fresh_after fresh p) (line + feeds (bytes_of p)) more rest c)
 
-unless_named : (left : Bool) (t : Token) (ts : List Token) → NamedWord t → AllByRecursion NamedWord ts → AllByRecursion NamedWord (cond left [] (t ∷ []) ++ ts)
+unless_named : (left : Bool) (t : Token) (ts : List Token) → NamedWord t
+    → AllByRecursion NamedWord ts → AllByRecursion NamedWord (cond left [] (t ∷ []) ++ ts)
 unless_named true t ts h more = more
 unless_named false t ts h more = (h, more)
 
-merged_named : (ts : List Token) (before : Bool) → AllByRecursion NamedWord ts → AllByRecursion NamedWord (merged before ts)
+merged_named : (ts : List Token) (before : Bool) → AllByRecursion NamedWord ts
+    → AllByRecursion NamedWord (merged before ts)
 merged_named [] before all = tt
-merged_named (t ∷ ts) before all = unless_named (is_line_end t && before) t (merged (is_line_end t) ts) all.0 (merged_named ts (is_line_end t) all.1)
+merged_named (t ∷ ts) before all =
+    unless_named (is_line_end t && before) t (merged (is_line_end t) ts) all.0
+    (merged_named ts (is_line_end t) all.1)
 
 end_named : (last : Bool) (line : ℕ) → AllByRecursion NamedWord (cond last [] (line_end line ∷ []))
 end_named true line = tt
@@ -187,7 +220,9 @@ all_named style ts (bytes, (ps, c, e)) =
     let es : List Token = each_token 1 ps in
     let last : Bool = ended true (merged true es) in
     subst (AllByRecursion NamedWord) (sym e)
-    (each-append NamedWord (merged true es) (cond last [] (line_end (line_behind 1 ps) ∷ [])) (merged_named es true (each_named style ps true 1 bytes [] c)) (end_named last (line_behind 1 ps)))
+    (each-append NamedWord (merged true es) (cond last [] (line_end (line_behind 1 ps) ∷ []))
+    (merged_named es true (each_named style ps true 1 bytes [] c))
+    (end_named last (line_behind 1 ps)))
 
 pub unmarked_named : (ts : List Token) → AllByRecursion NamedWord ts → Unmarked NamedWord (clean ts)
 unmarked_named [] all = tt

@@ -15,21 +15,32 @@ use Rattle.cx_config.specs.Reading.{SaysSettings, SaysThornList, ThornSays, file
 -- what the files of thorns at these places say, one thorn after another
 abbrev pub ThornsSay : List (List ℕ × List ℕ) → Held → Stage (List ThornFiles) ConfigFault
 ThornsSay [] files = Is (Ok [])
-ThornsSay (place ∷ places) files = Then (ThornSays place (file_names place) files) (λ t. Then (ThornsSay places files) (λ ts. Is (Ok (t ∷ ts))))
+ThornsSay (place ∷ places) files =
+    Then (ThornSays place (file_names place) files)
+    (λ t. Then (ThornsSay places files) (λ ts. Is (Ok (t ∷ ts))))
 
 abbrev pub configuration_of : Settings → List ThornFiles → Configured
-configuration_of settings ts = record { settings = settings; thorns = map (λ t. t.thorn) ts; schedules = map (λ t. t.schedule) ts }
+configuration_of settings ts =
+    record {
+      settings = settings;
+      thorns = map (λ t. t.thorn) ts;
+      schedules = map (λ t. t.schedule) ts;
+    }
 
--- The parameter file, the list of thorns, the places of the active thorns in it, and their files in the order of activation: a stage
--- stands behind what it takes from those before it.
+-- The parameter file, the list of thorns, the places of the active thorns in it, and their files in
+-- the order of activation: a stage stands behind what it takes from those before it.
 abbrev pub ThornsAnd : Settings → List (List ℕ × List ℕ) → Held → Stage Configured ConfigFault
-ThornsAnd settings places files = Then (ThornsSay places files) (λ ts. Is (Ok (configuration_of settings ts)))
+ThornsAnd settings places files =
+    Then (ThornsSay places files) (λ ts. Is (Ok (configuration_of settings ts)))
 
 abbrev pub PlacesAnd : Settings → ThornList → Held → Stage Configured ConfigFault
-PlacesAnd settings list files = Then (Is (or_fault faults.Bind (select list settings.active))) (λ places. ThornsAnd settings places files)
+PlacesAnd settings list files =
+    Then (Is (or_fault faults.Bind (select list settings.active)))
+    (λ places. ThornsAnd settings places files)
 
 abbrev pub ListAnd : Settings → Held → Stage Configured ConfigFault
-ListAnd settings files = Then (SaysThornList (codes "ThornList") files) (λ list. PlacesAnd settings list files)
+ListAnd settings files =
+    Then (SaysThornList (codes "ThornList") files) (λ list. PlacesAnd settings list files)
 
 abbrev pub Configures : List ℕ → Held → Stage Configured ConfigFault
 Configures name files = Then (SaysSettings name files) (λ settings. ListAnd settings files)

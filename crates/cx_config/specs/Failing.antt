@@ -5,7 +5,8 @@ use Rattle.cx_disk.specs.Fuse.{next_count}
 use Rattle.cx_config.specs.declared.shelf.ShelfFault.{ShelfFault}
 use Rattle.cx_config.specs.declared.shelf.ShelfFault.TheVariants.{Failed}
 
--- the files, the numbers of the calls that fail, the number of the next call, and how often it has failed
+-- the files, the numbers of the calls that fail, the number of the next call, and how often it has
+-- failed
 pub record Failing : Type 0 where
   pub files : List (List ℕ × List ℕ)
   pub fail : List ℕ
@@ -27,7 +28,8 @@ called f = record f { next = next_count f.next }
 abbrev pub failed : Failing → Failing
 failed f = record f { next = next_count f.next; faults = next_count f.faults }
 
--- A call whose number is among those fails, and is counted. Any other never fails. The files stay as they are.
+-- A call whose number is among those fails, and is counted. Any other never fails. The files stay
+-- as they are.
 pub record FailsAt {T : Type 0} (old new : Failing) (result : Result T ShelfFault) : Type 0 where
   pub fails : FailsNext old → (result ≡ Err Failed) × (new ≡ failed old)
   pub passes : (FailsNext old → ⊥) → (result ≢ Err Failed) × (new ≡ called old)

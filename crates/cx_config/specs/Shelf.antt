@@ -14,7 +14,8 @@ nothing_held name = None
 -- the bytes of the first file of that name
 abbrev pub looked_up : List (List ℕ × List ℕ) → Held
 looked_up [] name = None
-looked_up (file ∷ files) name = if pointwise nat_eq file.0 name then Some file.1 else looked_up files name
+looked_up (file ∷ files) name = if pointwise nat_eq file.0 name then Some file.1
+    else looked_up files name
 
 -- what was found is what is held
 abbrev pub Gives : Option (Vec ℕ Global) → Option (List ℕ) → Type 0

@@ -25,4 +25,5 @@ Raised {F = F} raised stage (Err e) = (fault : F) × (e ≡ raised fault) × sta
 
 -- what a lower layer's fault is to this one: its want of memory is this one's
 abbrev pub IsOf : {F G : Type 0} → F → G → (F → G) → F → G → Type 0
-IsOf low_memory memory raised fault e = ((fault ≡ low_memory) × (e ≡ memory)) ⊎ ((fault ≢ low_memory) × (e ≡ raised fault))
+IsOf low_memory memory raised fault e =
+    ((fault ≡ low_memory) × (e ≡ memory)) ⊎ ((fault ≢ low_memory) × (e ≡ raised fault))

@@ -27,6 +27,7 @@ pub struct Configured {
     pub schedules: List<ScheduleFile>,
 }
 
+/// The name of the file that lists the thorns.
 fn thorn_list_name(alloc: Global) -> Result<Text, Memory>
     ensures { IfOk result (λ name. name ≡ codes "ThornList") }
 {

@@ -52,7 +52,7 @@ impl FailingShelf {
         self.shelf
     }
 
-    // Counts a call, and tells whether it fails.
+    /// Counts a call, and says whether it fails.
     fn fails(&mut self) -> bool
         ensures value { IsTrue result ↔ FailsNext self.old }
         ensures later { self.old.faults ≤ self.new.faults }
@@ -75,6 +75,7 @@ impl Shelf for FailingShelf {
 
     ghost faults = { λ f. f.faults };
 
+    /// A file of the shelf in memory; a failure at each call that is to fail.
     fn read(&mut self, alloc: Global, name: &Text) -> Result<Option<Vec<u8>>, ShelfFault>
         ensures fails { FailsAt self.old self.new result }
         ensures found { IfOk result (λ found. Gives found (looked_up self.old.files name.now)) }

@@ -6,23 +6,30 @@ ghost use Rattle.cx_config.specs.Stages.{IsOf};
 ghost use Rattle.cx_config.specs.declared.fault.ConfigFault.TheVariants as faults;
 
 use cx_bind::BindFault;
-use cx_text::{CclFault, Memory, Text, TextFault};
+use cx_text::{CclFault, Memory, OrDash, Text, TextFault};
 use std::alloc::{AllocError, AllocFailed};
+use thiserror::Error;
 
 /// Why the files of a configuration say nothing.
-#[derive(Debug, Drop)]
+#[derive(Debug, Drop, Error)]
 pub enum ConfigFault {
     /// The shelf failed.
+    #[error("Shelf")]
     Shelf,
     /// A file isn't there.
+    #[error("NoFile {}", OrDash(.0))]
     NoFile(Text),
     /// A file's bytes aren't tokens.
+    #[error("{} {}", OrDash(.0), .1)]
     Text(Text, TextFault),
     /// A file's tokens aren't what it should hold.
+    #[error("{} {}", OrDash(.0), .1)]
     Ccl(Text, CclFault),
     /// An active thorn doesn't stand in the list of thorns just once.
+    #[error(transparent)]
     Bind(BindFault),
     /// Memory is wanting.
+    #[error("Memory")]
     Memory,
 }
 
@@ -50,6 +57,7 @@ impl<T: Drop> From<AllocFailed<T>> for ConfigFault {
     }
 }
 
+/// Whether binding failed because memory ran out.
 fn is_memory(fault: &BindFault) -> bool
     ensures { IsTrue result ↔ (fault.now ≡ binds.Memory) }
 {
@@ -59,6 +67,7 @@ fn is_memory(fault: &BindFault) -> bool
 impl From<BindFault> for ConfigFault {
     ghost from_gives = { λ fault e. IsOf binds.Memory faults.Memory faults.Bind fault e };
 
+    /// A binding fault as a configuration's; out of memory stays out of memory.
     fn from(fault: BindFault) -> Self {
         if is_memory(&fault) {
             ConfigFault::Memory

@@ -37,6 +37,7 @@ impl<R: Files + Drop> FolderShelf<R> {
         FolderShelf { rt, faults: 0 }
     }
 
+    /// The bytes of a file, up to the most that are read.
     fn load(&self, alloc: Global, path: &str) -> io::Result<Vec<u8>> {
         let mut bytes = Vec::new(alloc);
         fs::open(&self.rt, path)?
@@ -47,7 +48,7 @@ impl<R: Files + Drop> FolderShelf<R> {
 }
 
 impl<R> FolderShelf<R> {
-    // A failure, counted.
+    /// A failure, which is counted.
     fn count_failure(&mut self) -> Result<Option<Vec<u8>>, ShelfFault>
         ensures { HasCause ShelfFault.Failed self.old self.new result }
     {
@@ -63,6 +64,7 @@ impl<R: Files + Drop> Shelf for FolderShelf<R> {
 
     ghost faults = { λ shelf. shelf };
 
+    /// A file of the folder; none if there is no such file. A name that isn't UTF-8 is a failure.
     fn read(&mut self, alloc: Global, name: &Text) -> Result<Option<Vec<u8>>, ShelfFault> {
         let Ok(path) = str::from_utf8(name.as_slice()) else {
             return self.count_failure();

@@ -7,8 +7,9 @@ ghost use Rattle.cx_text.specs.Printing.{HasText};
 ghost use Rattle.cx_plan.specs.Whole.{IsName};
 ghost use Rattle.cx_parfile.specs.Values.{base_of};
 ghost use Rattle.cx_config.specs.declared.fault.ConfigFault.TheVariants as faults;
-ghost use Rattle.cx_config.specs.Reading.{Comes, ComesFrom, ConfAnd, Finds, IsTree, NamedText, NamedTree, ParamsAnd, SaysConfiguration, SaysInterface, SaysParams, SaysSchedule, SaysSettings, SaysThornList, ScheduleAnd, TextTokens, ThornSays, TokensOf, TokensOfAny, file_names, files_of, no_configuration, thorn_file};
+ghost use Rattle.cx_config.specs.Reading.{Comes, ComesFrom, ConfAnd, Finds, IsTree, NamedText, NamedTree, ParamsAnd, SaysConfiguration, SaysInterface, SaysParams, SaysSchedule, SaysSettings, SaysThornList, ScheduleAnd, TextTokens, ThornSays, TokensOf, TokensOfAny, file_names, files_of, thorn_file};
 ghost use Rattle.cx_config.specs.NamesAndLevels.{AreNamed, HasNames, IsReadThorn, SayOf};
+ghost use Rattle.cx_conf.specs.Conf.{no_configuration};
 
 use crate::fault::ConfigFault;
 use crate::shelf::{Shelf, ShelfFault};
@@ -334,6 +335,7 @@ fn thorn_says<H: Shelf>(
     params_and(alloc, shelf, place, names, interface)
 }
 
+/// The folder of the arrangements, with the slash that ends it.
 fn arrangements(alloc: Global) -> Result<Text, Memory>
     ensures { IfOk result (λ name. name ≡ codes "arrangements/") }
 {

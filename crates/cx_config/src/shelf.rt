@@ -7,13 +7,16 @@ ghost use Rattle.cx_disk.specs.Cause.{HasCause};
 use cx_text::{List, Text};
 use std::alloc::{AllocError, Global};
 use std::marker::Model;
+use thiserror::Error;
 
 /// Why a shelf gave nothing.
-#[derive(Clone, Copy, Debug, PartialEq, Eq)]
+#[derive(Clone, Copy, Debug, Error, PartialEq, Eq)]
 pub enum ShelfFault {
     /// The shelf failed. Its count of faults has risen in this call, or stands at 2^64 - 1.
+    #[error("Failed")]
     Failed,
     /// Memory was wanting.
+    #[error("Memory")]
     Memory,
 }
 
@@ -71,7 +74,7 @@ impl MemoryShelf {
     }
 }
 
-// The bytes of the first file of that name.
+/// The bytes of the first file of that name.
 #[tactic(auto, using(crate::proofs::Named::skipped, crate::proofs::Named::met, crate::proofs::Named::none_left))]
 fn bytes_under<'a>(files: &'a [(Text, Text)], name: &Text) -> Option<&'a Text>
     ensures { option_copied result ≡ looked_up files.now name.now }
@@ -91,6 +94,7 @@ impl Shelf for MemoryShelf {
 
     ghost faults = { λ _. 0 };
 
+    /// A copy of the first file of this name. It fails only when memory runs out.
     fn read(&mut self, alloc: Global, name: &Text) -> Result<Option<Vec<u8>>, ShelfFault>
         ensures kept { self.new ≡ self.old }
         ensures found { IfOk result (λ found. Gives found (looked_up self.old name.now)) }

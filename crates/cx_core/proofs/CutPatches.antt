@@ -19,7 +19,7 @@ use Rattle.cx_parts.specs.Holding.{IsHeld}
 use Rattle.cx_parts.specs.Runs.{Run, parts_in, cut_of}
 use Rattle.cx_parts.proofs.WholeRun.{IsRun, shape}
 use Rattle.cx_part.specs.Frames.{IsPatchOf}
-use Rattle.cx_gather.proofs.FilledLaws.{same_list}
+use Rattle.cx_parts.proofs.FilledLaws.{same_list}
 use Rattle.cx_gather.proofs.PieceLaws.{IsPartOf}
 
 -- what a part owns of a direction
@@ -29,7 +29,8 @@ record Span (n g low high : ℤ) : Type 0 where
   some : low <ℤ high
   wide : (low +ℤ g) ≤ℤ high
 
-span : (n g : ℤ) (ws : List ℕ) (a : ℕ) → IsAxisCut n g ws → a < length ws → Span n g (own_low ws a) (own_high ws a)
+span : (n g : ℤ) (ws : List ℕ) (a : ℕ) → IsAxisCut n g ws → a < length ws
+    → Span n g (own_low ws a) (own_high ws a)
 span n g ws a w l =
     let more = start_more ws a l in
     let end = start_le ws (suc a) in
@@ -43,7 +44,8 @@ span n g ws a w l =
       wide = omega (arith, ints, more, wide);
     }
 
-pub part_is : (r : Run) → IsRun r → (k : ℕ) → k < parts_in r → IsPart r.setup.shape (owned (cut_of r) k) (local (cut_of r) k)
+pub part_is : (r : Run) → IsRun r → (k : ℕ) → k < parts_in r
+    → IsPart r.setup.shape (owned (cut_of r) k) (local (cut_of r) k)
 part_is r run k l =
     let x = span _ _ (cut_of r).x _ run.cut.x (place_below (cut_of r) k l 0 (omega arith)) in
     let y = span _ _ (cut_of r).y _ run.cut.y (place_below (cut_of r) k l 1 (omega arith)) in
@@ -59,23 +61,29 @@ part_is r run k l =
 
 -- each variable has its levels, and each level its numbers
 sized : (setup : Setup) (b : Box3) (numbers : State) → IsHeld setup b numbers
-    → map (map length) numbers ≡ map (λ (v : VarInfo). replicate v.levels (number_count b v)) setup.vars
+    → map (map length) numbers
+    ≡ map (λ (v : VarInfo). replicate v.levels (number_count b v)) setup.vars
 sized setup b numbers held =
     let many = held.vars in
     let all = length-map numbers (map length) in
-    same_list (map (map length) numbers) (map (λ (v : VarInfo). replicate v.levels (number_count b v)) setup.vars) []
-    (length-map numbers (map length) ∙ held.vars ∙ sym (length-map setup.vars (λ (v : VarInfo). replicate v.levels (number_count b v))))
+    same_list (map (map length) numbers)
+    (map (λ (v : VarInfo). replicate v.levels (number_count b v)) setup.vars) []
+    (length-map numbers (map length) ∙ held.vars
+    ∙ sym (length-map setup.vars (λ (v : VarInfo). replicate v.levels (number_count b v))))
     (λ v l. variable v (omega (arith, l, all, many)) (omega (arith, l, all)))
   where
     variable : (v : ℕ) → v < length setup.vars → v < length numbers
-        → slice_index_or (map (map length) numbers) v [] ≡ slice_index_or (map (λ (v : VarInfo). replicate v.levels (number_count b v)) setup.vars) v []
+        → slice_index_or (map (map length) numbers) v []
+        ≡ slice_index_or (map (λ (v : VarInfo). replicate v.levels (number_count b v))
+        setup.vars) v []
     variable v l m =
         let info = slice_index_or setup.vars v no_variable in
         let levels = slice_index_or numbers v [] in
         let count : length levels ≡ info.levels = held.levels (record { 0 = v }) l in
         get_or-map (map length) numbers v [] [] m
         ∙ same_list (map length levels) (replicate info.levels (number_count b info)) 0
-        (length-map levels length ∙ count ∙ sym (length-replicate info.levels (number_count b info)))
+        (length-map levels length ∙ count
+        ∙ sym (length-replicate info.levels (number_count b info)))
         (λ i h.
         let long = length-map levels length in
         let inside : i < length levels = omega (arith, h, long) in
@@ -83,10 +91,12 @@ sized setup b numbers held =
         get_or-map length levels i [] 0 inside
         ∙ held.sizes (record { 0 = v }) i l stored
         ∙ sym (get_or-replicate info.levels i (number_count b info) 0 stored))
-        ∙ sym (get_or-map (λ (v : VarInfo). replicate v.levels (number_count b v)) setup.vars v no_variable [] l)
+        ∙ sym (get_or-map (λ (v : VarInfo). replicate v.levels (number_count b v))
+        setup.vars v no_variable [] l)
 
 -- without the buffers beside its numbers it is that of a part of the cut
-pub part_of_cut : (r : Run) → IsRun r → (k : ℕ) → k < parts_in r → (p : PatchValue) → IsPatchOf r.setup (cut_of r) k p → IsHeld r.setup (local (cut_of r) k) p.numbers
+pub part_of_cut : (r : Run) → IsRun r → (k : ℕ) → k < parts_in r → (p : PatchValue)
+    → IsPatchOf r.setup (cut_of r) k p → IsHeld r.setup (local (cut_of r) k) p.numbers
     → IsPartOf r.setup (cut_of r) k (unstaged p)
 part_of_cut r run k l p frame held =
     let part = part_is r run k l in
@@ -94,12 +104,18 @@ part_of_cut r run k l p frame held =
     record {
       patch = record {
         part = subst (λ s. IsPart s p.owned p.local) (sym frame.patch.shape)
-            (subst (λ b. IsPart r.setup.shape b p.local) (sym frame.owned_is) (subst (λ b. IsPart r.setup.shape (owned (cut_of r) k) b) (sym frame.local_is) part));
-        box = subst IsBox (sym frame.local_is) (local_box r.setup.shape (owned (cut_of r) k) (local (cut_of r) k) part);
-        small = subst IsSmall (sym frame.local_is) (local_small r.setup.shape (owned (cut_of r) k) (local (cut_of r) k) part);
+            (subst (λ b. IsPart r.setup.shape b p.local) (sym frame.owned_is)
+            (subst (λ b. IsPart r.setup.shape (owned (cut_of r) k) b) (sym frame.local_is)
+            part));
+        box = subst IsBox (sym frame.local_is)
+            (local_box r.setup.shape (owned (cut_of r) k) (local (cut_of r) k) part);
+        small = subst IsSmall (sym frame.local_is)
+            (local_small r.setup.shape (owned (cut_of r) k) (local (cut_of r) k) part);
         sized = sized r.setup (local (cut_of r) k) p.numbers held
-            ∙ ap (λ b. map (λ (v : VarInfo). replicate v.levels (number_count b v)) r.setup.vars) (sym frame.local_is)
-            ∙ ap (map (λ (v : VarInfo). replicate v.levels (number_count p.local v))) (sym frame.patch.vars);
+            ∙ ap (λ b. map (λ (v : VarInfo). replicate v.levels (number_count b v)) r.setup.vars)
+            (sym frame.local_is)
+            ∙ ap (map (λ (v : VarInfo). replicate v.levels (number_count p.local v)))
+            (sym frame.patch.vars);
         buffers = refl;
       };
       of = record { shape = frame.patch.shape; vars = frame.patch.vars };

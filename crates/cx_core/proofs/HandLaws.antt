@@ -52,31 +52,41 @@ one_number [] d e = absurd (omega (arith, e))
 one_number (x ∷ []) d e = refl
 one_number (x ∷ y ∷ ys) d e = absurd (omega (arith, e))
 
-first_there : {X : Type 0} (xs : List X) (n : ℕ) → length xs ≡ n → 0 < n → (x : X) × (slice_get xs 0 ≡ Some x)
+first_there : {X : Type 0} (xs : List X) (n : ℕ) → length xs ≡ n → 0 < n
+    → (x : X) × (slice_get xs 0 ≡ Some x)
 first_there [] n e l = absurd (omega (arith, e, l))
 first_there (x ∷ xs) n e l = (x, refl)
 
 -- ---- a text
 
-module _ (tells : Type 0) (t : tells) (r : Run) (trace : Trace) (laws : RunLaws tells r trace) (n : ℕ) (pieces : ℕ → List (Message tells)) (makes : MakesWork t r n pieces)
+module _ (tells : Type 0) (t : tells) (r : Run) (trace : Trace) (laws : RunLaws tells r trace)
+    (n : ℕ) (pieces : ℕ → List (Message tells)) (makes : MakesWork t r n pieces)
     (b : Buffers) (v : VarId) (op : op_of r n ≡ Piece v) (room : HasPiece r.setup b v)
-    (held : (k : ℕ) → k < parts_in r → HoldsPiece r.setup (cut_of r) b v k (only_level t (pieces k))) where
+    (held : (k : ℕ) → k < parts_in r
+    → HoldsPiece r.setup (cut_of r) b v k (only_level t (pieces k))) where
   abbrev now : State
   now = (undivided r n).state
 
-  pub text_entry : entries_of (notes_of r n) ≡ Wrote v (undivided r n).control.iteration (text_of_piece r.setup (undivided r n).control.iteration v (piece_of b v)) now ∷ []
+  pub text_entry : entries_of (notes_of r n)
+      ≡ Wrote v (undivided r n).control.iteration
+      (text_of_piece r.setup (undivided r n).control.iteration v (piece_of b v)) now ∷ []
   text_entry =
       makes.text v (text_of_piece r.setup (undivided r n).control.iteration v (piece_of b v)) op
-      (text_made tells t r laws.cut pieces b v room held laws.some_part (undivided r n).control.iteration)
+      (text_made tells t r laws.cut pieces b v room held laws.some_part
+      (undivided r n).control.iteration)
 
   pub piece_is : piece_of b v ≡ whole_piece r.setup v now
   piece_is = go (is_scalar r.setup v) refl
     where
-      go : (c : Bool) → is_scalar r.setup v ≡ c → piece_of b v ≡ (if c then scalar_of now v ∷ [] else level_of now v 0)
+      go : (c : Bool) → is_scalar r.setup v ≡ c
+          → piece_of b v ≡ (if c then scalar_of now v ∷ [] else level_of now v 0)
       go true e =
-          one_number (piece_of b v) (pos 0) (room.room ∙ ap (λ (c : Bool). if c then 1 else point_count (whole r.setup.shape)) e)
-          ∙ ap (λ x. x ∷ []) ((held 0 laws.some_part).scalar e refl ∙ ap (λ xs. get_or xs 0 (pos 0)) (makes.scalar v op e))
-      go false e = makes.level v (piece_of b v) op e (gathered tells t r laws.cut pieces b v room held laws.some_part e)
+          one_number (piece_of b v) (pos 0)
+          (room.room ∙ ap (λ (c : Bool). if c then 1 else point_count (whole r.setup.shape)) e)
+          ∙ ap (λ x. x ∷ []) ((held 0 laws.some_part).scalar e refl
+          ∙ ap (λ xs. get_or xs 0 (pos 0)) (makes.scalar v op e))
+      go false e = makes.level v (piece_of b v) op e
+          (gathered tells t r laws.cut pieces b v room held laws.some_part e)
 
 -- ---- the end
 
@@ -113,7 +123,8 @@ nothing R (x ∷ xs) z = absurd z
 by_none : (outcome : _) → EndsBy None outcome → ended_as outcome ≡ out.Done
 by_none outcome e = ap ended_as e.1
 
-module _ (tells : Type 0) (t : tells) (r : Run) (trace : Trace) (laws : RunLaws tells r trace) (first : Counts) (is : Standing tells) (at : IsAt tells r first is.core is.queue is.now) where
+module _ (tells : Type 0) (t : tells) (r : Run) (trace : Trace) (laws : RunLaws tells r trace)
+    (first : Counts) (is : Standing tells) (at : IsAt tells r first is.core is.queue is.now) where
   abbrev w : World Held (Message tells) Channel ℕ
   w = at.world
 
@@ -127,8 +138,10 @@ module _ (tells : Type 0) (t : tells) (r : Run) (trace : Trace) (laws : RunLaws 
     over_as : OverAs r o (Some n) is.core.outcome
     over_as = subst (λ x. OverAs r o x is.core.outcome) over at.shows.over
 
-    same_end : end_met_by r (next_op r (guided r o n).control) (guided r o n).control.iteration ≡ end_met_by r (op_of r n) (undivided r n).control.iteration
-    same_end = ap (λ (g : Flat). end_met_by r (next_op r g.control) g.control.iteration) (laws.way t o w at.reached n)
+    same_end : end_met_by r (next_op r (guided r o n).control) (guided r o n).control.iteration
+        ≡ end_met_by r (op_of r n) (undivided r n).control.iteration
+    same_end = ap (λ (g : Flat). end_met_by r (next_op r g.control) g.control.iteration)
+        (laws.way t o w at.reached n)
 
     pub outcome_is : is.core.outcome ≡ ended_as trace.outcome
     outcome_is = go (cases_eq n (last_of r o))
@@ -138,7 +151,8 @@ module _ (tells : Type 0) (t : tells) (r : Run) (trace : Trace) (laws : RunLaws 
         go (inr e) =
             let mine = over_as.1 e in
             let runs = ends_so.earlier e in
-            mine.2 ∙ ap (λ x. outcome_of (Some x)) (some_is mine.0 runs.0 (sym mine.1 ∙ same_end ∙ runs.1)) ∙ sym (ap ended_as runs.2)
+            mine.2 ∙ ap (λ x. outcome_of (Some x))
+            (some_is mine.0 runs.0 (sym mine.1 ∙ same_end ∙ runs.1)) ∙ sym (ap ended_as runs.2)
 
     pub works_are : works_of trace.entries ≡ handed_out r w
     works_are = ends_so.works
@@ -158,8 +172,12 @@ module _ (tells : Type 0) (t : tells) (r : Run) (trace : Trace) (laws : RunLaws 
       matches : TotalsMatch t r trace o w
       matches = laws.done t o w at.reached (over ∙ ap Some at_last)
 
-      none_in : (a b : ℕ) → (a < parts_in r) ⊎ (parts_in r ≤ a) → (b < parts_in r) ⊎ (parts_in r ≤ b) → is.queue a b ≡ []
-      none_in a b (inl l) (inl m) = nothing ShowsMessage (is.queue a b) (subst (λ q. ShowsQueue (is.queue a b) q) (matches.wires a b l m) (at.shows.wires a b l m))
+      none_in : (a b : ℕ) → (a < parts_in r) ⊎ (parts_in r ≤ a)
+          → (b < parts_in r) ⊎ (parts_in r ≤ b) → is.queue a b ≡ []
+      none_in a b (inl l) (inl m) =
+          nothing ShowsMessage (is.queue a b)
+          (subst (λ q. ShowsQueue (is.queue a b) q) (matches.wires a b l m)
+          (at.shows.wires a b l m))
       none_in a b (inl l) (inr m) = at.shows.others a b (λ i j. omega (arith, m, j))
       none_in a b (inr l) c = at.shows.others a b (λ i j. omega (arith, l, i))
 
@@ -173,7 +191,8 @@ module _ (tells : Type 0) (t : tells) (r : Run) (trace : Trace) (laws : RunLaws 
         none_left = λ a b. none_in a b (cases_lt a (parts_in r)) (cases_lt b (parts_in r));
         last = λ state v e scalar.
             let p = first_there is.core.patches (parts_in r) at.shows.count laws.some_part in
-            ap (λ (x : Option PatchValue). number_in x v) p.1 ∙ ap (λ ns. scalar_of ns v) (at.shows.patches 0 p.0 p.1).numbers
+            ap (λ (x : Option PatchValue). number_in x v) p.1
+            ∙ ap (λ ns. scalar_of ns v) (at.shows.patches 0 p.0 p.1).numbers
             ∙ ends_so.scalars at_last state e 0 v laws.some_part scalar;
       }
 
@@ -190,19 +209,25 @@ module _ (tells : Type 0) (t : tells) (r : Run) (trace : Trace) (laws : RunLaws 
       clash e = cc
 
       go : (x : Option ℕ) → w.over ≡ x → Tells tells r trace first is
-      go None e = record { ended = λ never. absurd (never (going e)); done = λ d. absurd (clash (sym (going e) ∙ d)) }
+      go None e = record {
+        ended = λ never. absurd (never (going e));
+        done = λ d. absurd (clash (sym (going e) ∙ d));
+      }
       go (Some n) e = record { ended = λ h. outcome_is n e; done = is_done n e }
 
 -- ---- scalars
 
-module _ (tells : Type 0) (r : Run) (trace : Trace) (laws : RunLaws tells r trace) (first : Counts) (is : Standing tells) (at : IsAt tells r first is.core is.queue is.now) where
-  pub scalar_there : (v : VarId) → v.0 < length r.setup.vars → 0 < levels_of r.setup v → is_scalar r.setup v ≡ true → HasScalar is.core v
+module _ (tells : Type 0) (r : Run) (trace : Trace) (laws : RunLaws tells r trace) (first : Counts)
+    (is : Standing tells) (at : IsAt tells r first is.core is.queue is.now) where
+  pub scalar_there : (v : VarId) → v.0 < length r.setup.vars → 0 < levels_of r.setup v
+      → is_scalar r.setup v ≡ true → HasScalar is.core v
   scalar_there v l stored scalar =
       let p = first_there is.core.patches (parts_in r) at.shows.count laws.some_part in
       let vars : p.0.vars ≡ r.setup.vars = (at.shows.patches 0 p.0 p.1).frame.patch.vars in
       subst (λ (x : Option PatchValue). HasScalarIn x v) (sym p.1)
       (record {
         var = subst (λ (vs : List VarInfo). v.0 < length vs) (sym vars) l;
-        stored = subst (λ (vs : List VarInfo). 0 < (get_or vs v.0 no_variable).levels) (sym vars) stored;
+        stored = subst (λ (vs : List VarInfo). 0 < (get_or vs v.0 no_variable).levels) (sym vars)
+            stored;
         scalar = ap (λ (vs : List VarInfo). (get_or vs v.0 no_variable).scalar) vars ∙ scalar;
       })

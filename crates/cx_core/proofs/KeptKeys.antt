@@ -11,7 +11,8 @@ abbrev pub key_in : {tells : Type 0} → Holdings tells → List ℕ
 key_in h = h.buffers.state.key
 
 module _ {tells : Type 0} (r : Run) (k : ℕ) (c : Control) (count : ℕ) where
-  pub key_stays : (o : Op) (was is : Holdings tells) (met : Option Outcome) → Operates r k c count o was is met → key_in is ≡ key_in was
+  pub key_stays : (o : Op) (was is : Holdings tells) (met : Option Outcome)
+      → Operates r k c count o was is met → key_in is ≡ key_in was
   key_stays (op.Sweep i) was is met d = ap key_in d.1.rest
   key_stays (op.Apply i) was is met d = ap key_in d.1.rest
   key_stays (op.Give i) was is met d = ap key_in d.1.rest

@@ -27,5 +27,7 @@ pub mod RankLaws
 pub mod PlaceRanks
 pub mod LeftLaws
 pub mod KeptKeys
+pub mod ItemLaws
 pub mod GoLaws
+pub mod GatherLaws
 pub mod OperateLaws

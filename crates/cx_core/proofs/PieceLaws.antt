@@ -18,52 +18,73 @@ use Rattle.cx_parts.specs.Nets.{only_level, IsGathered, IsTextOf, WritesAt}
 use Rattle.cx_parts.specs.Runs.{Run, cut_of, parts_in}
 use Rattle.cx_core.specs.Texts.{text_of_piece}
 
-module _ (tells : Type 0) (t : tells) (r : Run) (cut : IsCut (cut_of r)) (pieces : ℕ → List (Message tells)) where
+module _ (tells : Type 0) (t : tells) (r : Run) (cut : IsCut (cut_of r))
+    (pieces : ℕ → List (Message tells)) where
   -- pieces make one level
   pub one_level : (a b : List ℤ) → IsGathered t r pieces a → IsGathered t r pieces b → a ≡ b
   one_level a b g h = same-numbers r.setup.shape a b g.count h.count (λ p inside.
       let owner = (tiles (cut_of r) cut).each p inside in
-      ap (λ q. get_or a (index_in (whole r.setup.shape) q) (pos 0)) (wrap-own r.setup.shape p inside)
+      ap (λ q. get_or a (index_in (whole r.setup.shape) q) (pos 0))
+      (wrap-own r.setup.shape p inside)
       ∙ g.each owner.0 p owner.1 owner.2 ∙ sym (h.each owner.0 p owner.1 owner.2)
-      ∙ sym (ap (λ q. get_or b (index_in (whole r.setup.shape) q) (pos 0)) (wrap-own r.setup.shape p inside)))
+      ∙ sym (ap (λ q. get_or b (index_in (whole r.setup.shape) q) (pos 0))
+      (wrap-own r.setup.shape p inside)))
 
   module _ (b : Buffers) (v : VarId) (room : HasPiece r.setup b v)
-      (held : (k : ℕ) → k < parts_in r → HoldsPiece r.setup (cut_of r) b v k (only_level t (pieces k))) (some_part : 0 < parts_in r) where
+      (held : (k : ℕ) → k < parts_in r
+      → HoldsPiece r.setup (cut_of r) b v k (only_level t (pieces k)))
+      (some_part : 0 < parts_in r) where
     pub gathered : is_scalar r.setup v ≡ false → IsGathered t r pieces (piece_of b v)
     gathered e = record {
       count = room.room ∙ ap (λ (c : Bool). if c then 1 else point_count (whole r.setup.shape)) e;
       each = λ k p l inside. (held k l).grid e p inside;
     }
 
-    pub text_is : (iteration : ℕ) (text : List ℕ) → IsTextOf (is_scalar r.setup v) t r v iteration pieces text
+    pub text_is : (iteration : ℕ) (text : List ℕ)
+        → IsTextOf (is_scalar r.setup v) t r v iteration pieces text
         → text ≡ text_of_piece r.setup iteration v (piece_of b v)
     text_is iteration text = go (is_scalar r.setup v) refl
       where
         go : (c : Bool) → is_scalar r.setup v ≡ c → IsTextOf c t r v iteration pieces text
-            → text ≡ (if c then line (variable r.setup v).full iteration (get_or (piece_of b v) 0 (pos 0)) else section (variable r.setup v).full iteration r.setup.shape (piece_of b v))
-        go true e h = h ∙ ap (line (variable r.setup v).full iteration) (sym ((held 0 some_part).scalar e refl))
-        go false e h = h.2 ∙ ap (section (variable r.setup v).full iteration r.setup.shape) (one_level h.0 (piece_of b v) h.1 (gathered e))
+            → text
+            ≡ (if c then line (variable r.setup v).full iteration
+            (get_or (piece_of b v) 0 (pos 0))
+            else section (variable r.setup v).full iteration r.setup.shape (piece_of b v))
+        go true e h = h ∙ ap (line (variable r.setup v).full iteration)
+            (sym ((held 0 some_part).scalar e refl))
+        go false e h = h.2 ∙ ap (section (variable r.setup v).full iteration r.setup.shape)
+            (one_level h.0 (piece_of b v) h.1 (gathered e))
 
-    pub text_made : (iteration : ℕ) → IsTextOf (is_scalar r.setup v) t r v iteration pieces (text_of_piece r.setup iteration v (piece_of b v))
+    pub text_made : (iteration : ℕ)
+        → IsTextOf (is_scalar r.setup v) t r v iteration pieces
+        (text_of_piece r.setup iteration v (piece_of b v))
     text_made iteration = go (is_scalar r.setup v) refl
       where
         go : (c : Bool) → is_scalar r.setup v ≡ c → IsTextOf c t r v iteration pieces
-            (if c then line (variable r.setup v).full iteration (get_or (piece_of b v) 0 (pos 0)) else section (variable r.setup v).full iteration r.setup.shape (piece_of b v))
+            (if c then line (variable r.setup v).full iteration (get_or (piece_of b v) 0 (pos 0))
+            else section (variable r.setup v).full iteration r.setup.shape (piece_of b v))
         go true e = ap (line (variable r.setup v).full iteration) ((held 0 some_part).scalar e refl)
         go false e = (piece_of b v, gathered e, refl)
 
 -- what the writer keeps after a text, by what its buffer holds
-module _ (tells : Type 0) (r : Run) (cut : IsCut (cut_of r)) (pieces : ℕ → List (Message tells)) (b : Buffers) (v : VarId) (room : HasPiece r.setup b v)
-    (held : (t : tells) (k : ℕ) → k < parts_in r → HoldsPiece r.setup (cut_of r) b v k (only_level t (pieces k))) (some_part : 0 < parts_in r) (iteration so_far : ℕ) where
+module _ (tells : Type 0) (r : Run) (cut : IsCut (cut_of r)) (pieces : ℕ → List (Message tells))
+    (b : Buffers) (v : VarId) (room : HasPiece r.setup b v)
+    (held : (t : tells) (k : ℕ) → k < parts_in r
+    → HoldsPiece r.setup (cut_of r) b v k (only_level t (pieces k)))
+    (some_part : 0 < parts_in r) (iteration so_far : ℕ) where
   abbrev text_there : List ℕ
   text_there = text_of_piece r.setup iteration v (piece_of b v)
 
-  pub writes_on : (n : ℕ) → n ≡ so_far + length text_there → n ≤ greatest_output → WritesAt tells r (Piece v) iteration pieces so_far (Some n)
+  pub writes_on : (n : ℕ) → n ≡ so_far + length text_there → n ≤ greatest_output
+      → WritesAt tells r (Piece v) iteration pieces so_far (Some n)
   writes_on n e l t text h =
-      let same : length text ≡ length text_there = ap length (text_is tells t r cut pieces b v room (held t) some_part iteration text h) in
+      let same : length text ≡ length text_there =
+      ap length (text_is tells t r cut pieces b v room (held t) some_part iteration text h) in
       (omega (arith, same, e, l), omega (arith, same, e))
 
-  pub writes_full : greatest_output < so_far + length text_there → WritesAt tells r (Piece v) iteration pieces so_far None
+  pub writes_full : greatest_output < so_far + length text_there
+      → WritesAt tells r (Piece v) iteration pieces so_far None
   writes_full l t text h =
-      let same : length text ≡ length text_there = ap length (text_is tells t r cut pieces b v room (held t) some_part iteration text h) in
+      let same : length text ≡ length text_there =
+      ap length (text_is tells t r cut pieces b v room (held t) some_part iteration text h) in
       omega (arith, same, l)

@@ -11,9 +11,9 @@ use Rattle.cx_cut.specs.Neighbours.{partner}
 use Rattle.cx_field.specs.Patches.{PatchValue}
 use Rattle.cx_flat.specs.declared.op.Op.TheVariants as op
 use Rattle.cx_flat.specs.Flats.{control_after}
-use Rattle.cx_network.specs.Machine.{Part, After, taken_now, queue_after}
+use Rattle.cx_network.specs.Machine.{taken_now, queue_after}
 use Rattle.cx_wire.specs.Messages.{Sent as SentMail}
-use Rattle.cx_parts.specs.Moves.{Message, Sent, Channel, Wire, Board, sender, receiver, is_at, only, is_there, face_head, op_wants, op_posts, faces_by, number_by, held_values, Moves}
+use Rattle.cx_parts.specs.Moves.{Message, Sent, Channel, Wire, Board, sender, receiver, is_there, face_head, op_wants, op_posts, faces_by, number_by, held_values, Moves}
 use Rattle.cx_parts.specs.Nets.{points_of, values_of_op}
 use Rattle.cx_parts.specs.Operations.{NamesWell, IsExchange}
 use Rattle.cx_parts.specs.Runs.{Run, cut_of, parts_in}
@@ -25,13 +25,15 @@ use Rattle.cx_pace.specs.Steps.{moved_on}
 use Rattle.cx_gather.specs.Gathering.{HasRoom}
 use Rattle.cx_core.specs.Cores.{Cores}
 use Rattle.cx_core.specs.Shows.{ShowsPart, kinds_by}
-use Rattle.cx_core.specs.Steps.{Counts, IsAt}
+use Rattle.cx_core.specs.Steps.{Counts}
 use Rattle.cx_core.proofs.ZipLaws.{zip_append}
-use Rattle.cx_core.proofs.MovedStates.{Ready, world, its, next, network, moved_at}
+use Rattle.cx_core.proofs.MovedStates.{LedTo, Ready, world, its, next, network, moved_at}
 use Rattle.cx_core.proofs.QuietMoves.{cond_both, drop_zero, boards_kept, kinds_kept, pieces_kept, hands_by, values_none, sum_none}
 use Rattle.cx_core.proofs.QuietOperations.{held_with}
+use Rattle.cx_plan.specs.Lists.{only, is_at}
 
-pub set_there : {A : Type 0} (xs : List A) (k : ℕ) (x : A) → slice_get xs k ≡ Some x → set xs k x ≡ xs
+pub set_there : {A : Type 0} (xs : List A) (k : ℕ) (x : A) → slice_get xs k ≡ Some x
+    → set xs k x ≡ xs
 set_there [] k x e = refl
 set_there (y ∷ ys) zero x e = ap (λ z. z ∷ ys) (inside y x e)
   where
@@ -43,7 +45,9 @@ nothing : {tells : Type 0} (q : List (SentMail tells)) → ShowsQueue q [] → q
 nothing [] h = refl
 nothing (m ∷ q) h = absurd h
 
-module _ {tells : Type 0} {r : Run} {first : Counts} {old : Cores} {queue : ℕ → ℕ → List (SentMail tells)} {now : Counts} {k : ℕ} (s : Ready tells r first old queue now k) where
+module _ {tells : Type 0} {r : Run} {first : Counts} {old : Cores}
+    {queue : ℕ → ℕ → List (SentMail tells)} {now : Counts} {k : ℕ}
+    (s : Ready tells r first old queue now k) where
   -- all but where the part stands, queues and buffers is as before
   pub record LeavesPart (new : Cores) (later : Counts) : Type 0 where
     pub patch : PatchValue
@@ -67,82 +71,133 @@ module _ {tells : Type 0} {r : Run} {first : Counts} {old : Cores} {queue : ℕ 
     pub patches_set : new.patches ≡ set old.patches k l.patch
     patches_set = l.patches_are ∙ sym (set_there old.patches k l.patch l.patch_is)
 
-    pub points_none : points_of r k (next s) ≡ 0 → later.points ≡ raised now.points (points_of r k (next s))
+    pub points_none : points_of r k (next s) ≡ 0
+        → later.points ≡ raised now.points (points_of r k (next s))
     points_none e = l.points_are ∙ raised_none now.points ∙ ap (raised now.points) (sym e)
 
   -- what is posted on a channel is at its end
-  pub queue_grown : (c : Channel) → op_wants r (next s) c ≡ 0 → queue_after (network s) (world s) k c ≡ (world s).queue c ++ cond (eqb (sender c) k) ((network s).posts c (its s)) []
+  pub queue_grown : (c : Channel) → op_wants r (next s) c ≡ 0
+      → queue_after (network s) (world s) k c
+      ≡ (world s).queue c ++ cond (eqb (sender c) k) ((network s).posts c (its s)) []
   queue_grown c e =
-      ap (λ n. cond (eqb (receiver c) k) (drop n ((world s).queue c)) ((world s).queue c) ++ cond (eqb (sender c) k) ((network s).posts c (its s)) [])
+      ap (λ n. cond (eqb (receiver c) k) (drop n ((world s).queue c)) ((world s).queue c)
+      ++ cond (eqb (sender c) k) ((network s).posts c (its s)) [])
       (ap (λ n. cond (is_there r c) n 0) e ∙ cond_both (is_there r c) 0)
-      ∙ ap (λ q. cond (eqb (receiver c) k) q ((world s).queue c) ++ cond (eqb (sender c) k) ((network s).posts c (its s)) []) (drop_zero ((world s).queue c))
-      ∙ ap (λ q. q ++ cond (eqb (sender c) k) ((network s).posts c (its s)) []) (cond_both (eqb (receiver c) k) ((world s).queue c))
+      ∙ ap (λ q. cond (eqb (receiver c) k) q ((world s).queue c)
+      ++ cond (eqb (sender c) k) ((network s).posts c (its s)) [])
+      (drop_zero ((world s).queue c))
+      ∙ ap (λ q. q ++ cond (eqb (sender c) k) ((network s).posts c (its s)) [])
+      (cond_both (eqb (receiver c) k) ((world s).queue c))
 
   pub posts_there : (c : Channel) → sender c < parts_in r → receiver c < parts_in r
-      → (network s).posts c (its s) ≡ op_posts r (next s) (its s).count (faces_by r (sender c) (held_values r (sender c) (its s).numbers)) (number_by r (sender c) (held_values r (sender c) (its s).numbers)) c
-  posts_there c l m = ap (λ b. cond b (op_posts r (next s) (its s).count (faces_by r (sender c) (held_values r (sender c) (its s).numbers)) (number_by r (sender c) (held_values r (sender c) (its s).numbers)) c) []) (are_there r c l m)
+      → (network s).posts c (its s)
+      ≡ op_posts r (next s) (its s).count
+      (faces_by r (sender c) (held_values r (sender c) (its s).numbers))
+      (number_by r (sender c) (held_values r (sender c) (its s).numbers)) c
+  posts_there c l m =
+      ap (λ b. cond b (op_posts r (next s) (its s).count
+      (faces_by r (sender c) (held_values r (sender c) (its s).numbers))
+      (number_by r (sender c) (held_values r (sender c) (its s).numbers)) c) []) (are_there r c l m)
 
-  module _ (d : ℕ) (vars : List VarId) (is : next s ≡ op.Post d vars) (new : Cores) (after : ℕ → ℕ → List (SentMail tells)) (later : Counts) (l : LeavesPart new later)
+  module _ (d : ℕ) (vars : List VarId) (is : next s ≡ op.Post d vars) (new : Cores)
+      (after : ℕ → ℕ → List (SentMail tells)) (later : Counts) (l : LeavesPart new later)
       (posts : Posts r k (op.Post d vars) (its s).count l.patch.numbers queue after) where
     posted : (a b : ℕ) → a < parts_in r → b < parts_in r
-        → cond (eqb a k) (posted_to {tells = tells} r k (op.Post d vars) (its s).count l.patch.numbers b) [] ≡ cond (eqb a k) ((network s).posts (Wire a b) (its s)) []
+        → cond (eqb a k) (posted_to {tells = tells} r k (op.Post d vars)
+        (its s).count l.patch.numbers b) []
+        ≡ cond (eqb a k) ((network s).posts (Wire a b) (its s)) []
     posted a b i j = go (cases_eq a k)
       where
-        here : (c : ℕ) → c ≡ k → c < parts_in r → posted_to {tells = tells} r k (op.Post d vars) (its s).count l.patch.numbers b ≡ (network s).posts (Wire c b) (its s)
+        here : (c : ℕ) → c ≡ k → c < parts_in r
+            → posted_to {tells = tells} r k (op.Post d vars) (its s).count l.patch.numbers b
+            ≡ (network s).posts (Wire c b) (its s)
         here c e m =
-            ap (λ numbers. posted_to r k (op.Post d vars) (its s).count numbers b) (still_shown new later l).numbers
+            ap (λ numbers. posted_to r k (op.Post d vars) (its s).count numbers b)
+            (still_shown new later l).numbers
             ∙ ap (λ p. posted_to r k p (its s).count (its s).numbers b) (sym is)
-            ∙ ap (λ z. op_posts r (next s) (its s).count (faces_by r z (held_values r z (its s).numbers)) (number_by r z (held_values r z (its s).numbers)) (Wire z b)) (sym e)
+            ∙ ap (λ z. op_posts r (next s) (its s).count
+            (faces_by r z (held_values r z (its s).numbers))
+            (number_by r z (held_values r z (its s).numbers)) (Wire z b)) (sym e)
             ∙ sym (posts_there (Wire c b) m j)
 
-        go : (a ≡ k) ⊎ (a ≡ k → ⊥) → cond (eqb a k) (posted_to {tells = tells} r k (op.Post d vars) (its s).count l.patch.numbers b) [] ≡ cond (eqb a k) ((network s).posts (Wire a b) (its s)) []
+        go : (a ≡ k) ⊎ (a ≡ k → ⊥)
+            → cond (eqb a k) (posted_to {tells = tells} r k (op.Post d vars)
+            (its s).count l.patch.numbers b) []
+            ≡ cond (eqb a k) ((network s).posts (Wire a b) (its s)) []
         go (inl e) = ap (λ ms. cond (eqb a k) ms []) (here a e i)
-        go (inr n) = cond-false (eqb a k) _ [] (ne_eqb a k n) ∙ sym (cond-false (eqb a k) _ [] (ne_eqb a k n))
+        go (inr n) = cond-false (eqb a k) _ [] (ne_eqb a k n)
+            ∙ sym (cond-false (eqb a k) _ [] (ne_eqb a k n))
 
-    wires : (a b : ℕ) → a < parts_in r → b < parts_in r → ShowsQueue (after a b) (queue_after (network s) (world s) k (Wire a b))
+    wires : (a b : ℕ) → a < parts_in r → b < parts_in r
+        → ShowsQueue (after a b) (queue_after (network s) (world s) k (Wire a b))
     wires a b i j =
         let p = posts a b in
-        subst (λ q. ShowsQueue (after a b) q) (sym (queue_grown (Wire a b) (ap (λ o. op_wants r o (Wire a b)) is)))
-        (subst (λ q. ShowsQueue q ((world s).queue (Wire a b) ++ cond (eqb a k) ((network s).posts (Wire a b) (its s)) [])) (sym p.1)
-        (zip_append ShowsMessage (queue a b) p.0 ((world s).queue (Wire a b)) (cond (eqb a k) ((network s).posts (Wire a b) (its s)) [])
+        subst (λ q. ShowsQueue (after a b) q)
+        (sym (queue_grown (Wire a b) (ap (λ o. op_wants r o (Wire a b)) is)))
+        (subst (λ q. ShowsQueue q
+        ((world s).queue (Wire a b)
+        ++ cond (eqb a k) ((network s).posts (Wire a b) (its s)) [])) (sym p.1)
+        (zip_append ShowsMessage (queue a b) p.0 ((world s).queue (Wire a b))
+        (cond (eqb a k) ((network s).posts (Wire a b) (its s)) [])
         (s.at.shows.wires a b i j) (subst (λ q. ShowsQueue p.0 q) (posted a b i j) p.2)))
 
     -- a partner is a part
     below : d < 3
-    below = by (subst (NamesWell r.setup) is (names_at r s.run (its s).control.pc)) (shape r s.run).most
+    below = by (subst (NamesWell r.setup) is (names_at r s.run (its s).control.pc))
+        (shape r s.run).most
       where
         by : IsExchange r.setup d vars → r.setup.shape.dims ≤ 3 → d < 3
         by e m = let q = e.direction in omega (arith, q, m)
 
-    no_partner : (b : ℕ) → (b < parts_in r → ⊥) → (side : Side) → is_at (partner (cut_of r) k d side) b ≡ false
+    no_partner : (b : ℕ) → (b < parts_in r → ⊥) → (side : Side)
+        → is_at (partner (cut_of r) k d side) b ≡ false
     no_partner b none side = go (partner (cut_of r) k d side) refl
       where
         go : (o : Option ℕ) → partner (cut_of r) k d side ≡ o → is_at o b ≡ false
         go None e = refl
-        go (Some j) e = ne_eqb j b (λ same. none (subst (λ n. n < parts_in r) same ((law r s.run).there k d side j s.part below e)))
+        go (Some j) e = ne_eqb j b
+            (λ same. none (subst (λ n. n < parts_in r) same
+            ((law r s.run).there k d side j s.part below e)))
 
-    nothing_posted : (b : ℕ) → (b < parts_in r → ⊥) → posted_to {tells = tells} r k (op.Post d vars) (its s).count l.patch.numbers b ≡ []
+    nothing_posted : (b : ℕ) → (b < parts_in r → ⊥)
+        → posted_to {tells = tells} r k (op.Post d vars) (its s).count l.patch.numbers b ≡ []
     nothing_posted b none =
         let faces = faces_by {tells = tells} r k (held_values r k l.patch.numbers) d vars in
-        let low : List (Message tells) = Sent (face_head r (its s).count k d Low vars) (faces Low) ∷ [] in
-        let high : List (Message tells) = Sent (face_head r (its s).count k d High vars) (faces High) ∷ [] in
-        ap (λ x. only x low ++ only (is_at (partner (cut_of r) k d High) b) high) (no_partner b none Low)
+        let low : List (Message tells) =
+        Sent (face_head r (its s).count k d Low vars) (faces Low) ∷ [] in
+        let high : List (Message tells) =
+        Sent (face_head r (its s).count k d High vars) (faces High) ∷ [] in
+        ap (λ x. only x low ++ only (is_at (partner (cut_of r) k d High) b) high)
+        (no_partner b none Low)
         ∙ ap (λ y. only y high) (no_partner b none High)
 
     others : (a b : ℕ) → (a < parts_in r → b < parts_in r → ⊥) → after a b ≡ []
     others a b n =
         let p = posts a b in
-        p.1 ∙ ap (λ q. q ++ p.0) (s.at.shows.others a b n) ∙ nothing p.0 (subst (λ ms. ShowsQueue p.0 ms) (by (cases_eq a k)) p.2)
+        p.1 ∙ ap (λ q. q ++ p.0) (s.at.shows.others a b n)
+        ∙ nothing p.0 (subst (λ ms. ShowsQueue p.0 ms) (by (cases_eq a k)) p.2)
       where
-        by : (a ≡ k) ⊎ (a ≡ k → ⊥) → cond (eqb a k) (posted_to {tells = tells} r k (op.Post d vars) (its s).count l.patch.numbers b) [] ≡ []
-        by (inl e) = ap (λ ms. cond (eqb a k) ms []) (nothing_posted b (n (subst (λ i. i < parts_in r) (sym e) s.part))) ∙ cond_both (eqb a k) []
+        by : (a ≡ k) ⊎ (a ≡ k → ⊥)
+            → cond (eqb a k) (posted_to {tells = tells} r k (op.Post d vars)
+            (its s).count l.patch.numbers b) [] ≡ []
+        by (inl e) = ap (λ ms. cond (eqb a k) ms [])
+            (nothing_posted b (n (subst (λ i. i < parts_in r) (sym e) s.part)))
+            ∙ cond_both (eqb a k) []
         by (inr e) = cond-false (eqb a k) _ [] (ne_eqb a k e)
 
     pub post_goes : new.given ≡ old.given → new.buffers ≡ old.buffers
-        → (to : IsAt tells r first new after later) × After (network s) (world s) (Part k) to.world
+        → LedTo s.at k new after later
     post_goes given buffers = moved_at s new after later (held_with s (its s).numbers) (record {
-      move = subst (λ p. Moves tells r k (its s) (taken_now (network s) (world s) k) p (Some (held_with s (its s).numbers))) (sym is)
-          (record { count = refl; control = ap (λ p. control_after r.setup p (scalar_of (its s).numbers) (its s).control) is }, refl);
+      move =
+          subst (λ p. Moves tells r k (its s) (taken_now (network s) (world s) k) p
+          (Some (held_with s (its s).numbers))) (sym is) (
+            record {
+              count = refl;
+              control =
+                  ap (λ p. control_after r.setup p (scalar_of (its s).numbers) (its s).control) is;
+            },
+            refl,
+          );
       pace_is = l.pace_is;
       patch = l.patch;
       patches_are = patches_set new later l;
@@ -150,9 +205,12 @@ module _ {tells : Type 0} {r : Run} {first : Counts} {old : Cores} {queue : ℕ 
       wires = wires;
       others = others;
       senders = ap (λ g. length g.given) given;
-      boards = boards_kept s new.given given (λ a b. ap (λ o. op_wants r o (Board a b)) is) (λ a b n faces number. ap (λ o. op_posts r o n faces number (Board a b)) is);
+      boards = boards_kept s new.given given (λ a b. ap (λ o. op_wants r o (Board a b)) is)
+          (λ a b n faces number. ap (λ o. op_posts r o n faces number (Board a b)) is);
       kinds = kinds_kept s new.given given (ap (kinds_by r) is) (λ i e. no_join i (sym is ∙ e));
-      pieces = pieces_kept s new l.pace_is buffers (ap (λ o. work_of o (its s).control.iteration) is) (hands_by s (op.Post d vars) is (λ n piece all. refl));
+      pieces = pieces_kept s new l.pace_is buffers
+          (ap (λ o. work_of o (its s).control.iteration) is)
+          (hands_by s (op.Post d vars) is (λ n piece all. refl));
       room = subst (HasRoom r.setup) (sym buffers) s.at.shows.room;
       length_is = l.length_is;
       met_is = l.met_is;

@@ -1,4 +1,5 @@
--- Operations that touch the part's own numbers alone: a sweep, an application, a rotation, tests and jumps.
+-- Operations that touch the part's own numbers alone: a sweep, an application, a rotation, tests
+-- and jumps.
 use Rattle.std.proofs.Common.{◌≡◌, ℕ, suc, Bool, true, false, ℤ, List, [], set, length, Option, Some, None, refl, sym, ap, subst}
 use Rattle.std.proofs.lemmas.Bool.{both_ways}
 use Rattle.cx_grid.specs.declared.shapes.Side.{Side}
@@ -11,7 +12,7 @@ use Rattle.cx_field.specs.Sweeps.{RoseWithin}
 use Rattle.cx_flat.specs.declared.op.Op.{Op}
 use Rattle.cx_flat.specs.declared.op.Op.TheVariants as op
 use Rattle.cx_flat.specs.Flats.{control_after}
-use Rattle.cx_network.specs.Machine.{Part, After, taken_now}
+use Rattle.cx_network.specs.Machine.{taken_now}
 use Rattle.cx_wire.specs.Messages.{Sent as SentMail}
 use Rattle.cx_parts.specs.Holding.{Held}
 use Rattle.cx_parts.specs.Moves.{Message, Channel, Wire, Board, op_wants, op_posts, op_hands, Gives, Moves, turn_state}
@@ -25,8 +26,8 @@ use Rattle.cx_reached.specs.Endings.{end_met_by}
 use Rattle.cx_gather.specs.Gathering.{HasRoom}
 use Rattle.cx_core.specs.Cores.{Cores, outcome_of}
 use Rattle.cx_core.specs.Shows.{kinds_by}
-use Rattle.cx_core.specs.Steps.{Counts, IsAt}
-use Rattle.cx_core.proofs.MovedStates.{Ready, world, its, next, network, moved_at, met_at}
+use Rattle.cx_core.specs.Steps.{Counts}
+use Rattle.cx_core.proofs.MovedStates.{LedTo, Ready, world, its, next, network, moved_at, met_at}
 use Rattle.cx_core.proofs.QuietMoves.{wires_kept, others_kept, boards_kept, kinds_kept, pieces_kept, values_none, sum_none}
 
 abbrev pub is_quiet : Op → Bool
@@ -70,7 +71,8 @@ numbers_after r k (op.Piece v) x = Some x.numbers
 numbers_after r k op.Save x = Some x.numbers
 numbers_after r k op.Halt x = Some x.numbers
 
-quiet_moves : (tells : Type 0) (r : Run) (k : ℕ) (x : Held) (mails : Channel → List (Message tells)) (p : Op) (o : Option Held) → is_quiet p ≡ true
+quiet_moves : (tells : Type 0) (r : Run) (k : ℕ) (x : Held) (mails : Channel → List (Message tells))
+    (p : Op) (o : Option Held) → is_quiet p ≡ true
     → Gives r p x (numbers_after r k p x) o → Moves tells r k x mails p o
 quiet_moves tells r k x mails (op.Sweep i) o q g = g
 quiet_moves tells r k x mails (op.Apply i) o q g = g
@@ -131,7 +133,9 @@ wants_boards r (op.Piece v) a b q = absurd cc
 wants_boards r op.Save a b q = absurd cc
 wants_boards r op.Halt a b q = absurd cc
 
-posts_wires : {tells : Type 0} (r : Run) (p : Op) (a b n : ℕ) (faces : ℕ → List VarId → Side → tells → List ℤ) (number : ℕ → ℤ) → is_quiet p ≡ true → op_posts r p n faces number (Wire a b) ≡ []
+posts_wires : {tells : Type 0} (r : Run) (p : Op) (a b n : ℕ)
+    (faces : ℕ → List VarId → Side → tells → List ℤ) (number : ℕ → ℤ) → is_quiet p ≡ true
+    → op_posts r p n faces number (Wire a b) ≡ []
 posts_wires r (op.Sweep i) a b n faces number q = refl
 posts_wires r (op.Apply i) a b n faces number q = refl
 posts_wires r (op.Give i) a b n faces number q = absurd cc
@@ -151,7 +155,9 @@ posts_wires r (op.Piece v) a b n faces number q = absurd cc
 posts_wires r op.Save a b n faces number q = absurd cc
 posts_wires r op.Halt a b n faces number q = absurd cc
 
-posts_boards : {tells : Type 0} (r : Run) (p : Op) (a b n : ℕ) (faces : ℕ → List VarId → Side → tells → List ℤ) (number : ℕ → ℤ) → is_quiet p ≡ true → op_posts r p n faces number (Board a b) ≡ []
+posts_boards : {tells : Type 0} (r : Run) (p : Op) (a b n : ℕ)
+    (faces : ℕ → List VarId → Side → tells → List ℤ) (number : ℕ → ℤ) → is_quiet p ≡ true
+    → op_posts r p n faces number (Board a b) ≡ []
 posts_boards r (op.Sweep i) a b n faces number q = refl
 posts_boards r (op.Apply i) a b n faces number q = refl
 posts_boards r (op.Give i) a b n faces number q = absurd cc
@@ -214,7 +220,8 @@ no_work (op.Piece v) iteration q = absurd cc
 no_work op.Save iteration q = absurd cc
 no_work op.Halt iteration q = refl
 
-no_hands : {tells : Type 0} (r : Run) (p : Op) (n : ℕ) (piece : VarId → tells → List ℤ) (all : tells → State) → is_quiet p ≡ true → op_hands r p n piece all ≡ []
+no_hands : {tells : Type 0} (r : Run) (p : Op) (n : ℕ) (piece : VarId → tells → List ℤ)
+    (all : tells → State) → is_quiet p ≡ true → op_hands r p n piece all ≡ []
 no_hands r (op.Sweep i) n piece all q = refl
 no_hands r (op.Apply i) n piece all q = refl
 no_hands r (op.Give i) n piece all q = refl
@@ -254,10 +261,18 @@ no_values r k (op.Piece v) q = refl
 no_values r k op.Save q = refl
 no_values r k op.Halt q = refl
 
-pub some_gives : (r : Run) (p : Op) (x : Held) (o : Option State) (numbers : State) → o ≡ Some numbers
-    → Gives r p x o (Some (record { count = suc x.count; control = control_after r.setup p (scalar_of x.numbers) x.control; numbers = numbers }))
+pub some_gives : (r : Run) (p : Op) (x : Held) (o : Option State) (numbers : State)
+    → o ≡ Some numbers
+    → Gives r p x o
+    (Some
+    (record {
+      count = suc x.count;
+      control = control_after r.setup p (scalar_of x.numbers) x.control;
+      numbers = numbers;
+    }))
 some_gives r p x None numbers e = absurd cc
-some_gives r p x (Some a) numbers e = (record { count = refl; control = refl }, sym (inside a numbers e))
+some_gives r p x (Some a) numbers e =
+    (record { count = refl; control = refl }, sym (inside a numbers e))
   where
     inside : (a b : State) → Some a ≡ Some b → a ≡ b
     inside a b q = cc
@@ -266,9 +281,12 @@ pub none_gives : (r : Run) (p : Op) (x : Held) (o : Option State) → o ≡ None
 none_gives r p x None e = tt
 none_gives r p x (Some a) e = absurd cc
 
-module _ {tells : Type 0} {r : Run} {first : Counts} {old : Cores} {queue : ℕ → ℕ → List (SentMail tells)} {now : Counts} {k : ℕ} (s : Ready tells r first old queue now k) where
+module _ {tells : Type 0} {r : Run} {first : Counts} {old : Cores}
+    {queue : ℕ → ℕ → List (SentMail tells)} {now : Counts} {k : ℕ}
+    (s : Ready tells r first old queue now k) where
   -- all but where the part stands and its numbers is as before, and the meter
-  pub record Leaves (new : Cores) (after : ℕ → ℕ → List (SentMail tells)) (later : Counts) : Type 0 where
+  pub record Leaves (new : Cores) (after : ℕ → ℕ → List (SentMail tells))
+      (later : Counts) : Type 0 where
     pub patch : PatchValue
     pub patches_are : new.patches ≡ set old.patches k patch
     pub frame : IsPatchOf r.setup (cut_of r) k patch
@@ -282,38 +300,54 @@ module _ {tells : Type 0} {r : Run} {first : Counts} {old : Cores} {queue : ℕ 
 
   -- the part behind its operation, with these numbers
   abbrev pub held_with : State → Held
-  held_with numbers = record { count = suc (its s).count; control = control_after r.setup (next s) (scalar_of (its s).numbers) (its s).control; numbers = numbers }
+  held_with numbers = record {
+    count = suc (its s).count;
+    control = control_after r.setup (next s) (scalar_of (its s).numbers) (its s).control;
+    numbers = numbers;
+  }
 
-  module _ (new : Cores) (after : ℕ → ℕ → List (SentMail tells)) (later : Counts) (l : Leaves new after later) (quiet : is_quiet (next s) ≡ true) where
-    pub quiet_goes : new.pace ≡ moved_on r.setup old.pace k (scalar_of (its s).numbers) → new.met ≡ old.met
-        → numbers_after r k (next s) (its s) ≡ Some l.patch.numbers → later.points ≡ raised now.points (points_of r k (next s))
-        → (to : IsAt tells r first new after later) × After (network s) (world s) (Part k) to.world
-    quiet_goes pace met numbers points = moved_at s new after later (held_with l.patch.numbers) (record {
-      move = quiet_moves tells r k (its s) (taken_now (network s) (world s) k) (next s) (Some (held_with l.patch.numbers)) quiet
-          (some_gives r (next s) (its s) (numbers_after r k (next s) (its s)) l.patch.numbers numbers);
-      pace_is = pace;
-      patch = l.patch;
-      patches_are = l.patches_are;
-      shown = record { frame = l.frame; numbers = refl };
-      wires = wires_kept s after l.queue_is (λ a b. wants_wires r (next s) a b quiet) (λ a b n faces number. posts_wires r (next s) a b n faces number quiet);
-      others = others_kept s after l.queue_is;
-      senders = ap (λ g. length g.given) l.given_is;
-      boards = boards_kept s new.given l.given_is (λ a b. wants_boards r (next s) a b quiet) (λ a b n faces number. posts_boards r (next s) a b n faces number quiet);
-      kinds = kinds_kept s new.given l.given_is (no_kinds r (next s) quiet) (λ i e. no_join (next s) i quiet e);
-      pieces = pieces_kept s new pace l.buffers_are (no_work (next s) (its s).control.iteration quiet) (no_hands r (next s) _ _ _ quiet);
-      room = subst (HasRoom r.setup) (sym l.buffers_are) s.at.shows.room;
-      length_is = l.length_is;
-      met_is = met;
-      outcome_is = l.outcome_is;
-      points = points;
-      values = values_none s later l.values_are (no_values r k (next s) quiet);
-      sum = sum_none s later l.sum_is (λ a. wants_wires r (next s) a k quiet);
-    })
+  module _ (new : Cores) (after : ℕ → ℕ → List (SentMail tells)) (later : Counts)
+      (l : Leaves new after later) (quiet : is_quiet (next s) ≡ true) where
+    pub quiet_goes : new.pace ≡ moved_on r.setup old.pace k (scalar_of (its s).numbers)
+        → new.met ≡ old.met
+        → numbers_after r k (next s) (its s) ≡ Some l.patch.numbers
+        → later.points ≡ raised now.points (points_of r k (next s))
+        → LedTo s.at k new after later
+    quiet_goes pace met numbers points =
+        moved_at s new after later (held_with l.patch.numbers) (record {
+          move = quiet_moves tells r k (its s) (taken_now (network s) (world s) k) (next s)
+              (Some (held_with l.patch.numbers)) quiet
+              (some_gives r (next s) (its s) (numbers_after r k (next s) (its s))
+              l.patch.numbers numbers);
+          pace_is = pace;
+          patch = l.patch;
+          patches_are = l.patches_are;
+          shown = record { frame = l.frame; numbers = refl };
+          wires = wires_kept s after l.queue_is (λ a b. wants_wires r (next s) a b quiet)
+              (λ a b n faces number. posts_wires r (next s) a b n faces number quiet);
+          others = others_kept s after l.queue_is;
+          senders = ap (λ g. length g.given) l.given_is;
+          boards = boards_kept s new.given l.given_is (λ a b. wants_boards r (next s) a b quiet)
+              (λ a b n faces number. posts_boards r (next s) a b n faces number quiet);
+          kinds = kinds_kept s new.given l.given_is (no_kinds r (next s) quiet)
+              (λ i e. no_join (next s) i quiet e);
+          pieces = pieces_kept s new pace l.buffers_are
+              (no_work (next s) (its s).control.iteration quiet) (no_hands r (next s) _ _ _ quiet);
+          room = subst (HasRoom r.setup) (sym l.buffers_are) s.at.shows.room;
+          length_is = l.length_is;
+          met_is = met;
+          outcome_is = l.outcome_is;
+          points = points;
+          values = values_none s later l.values_are (no_values r k (next s) quiet);
+          sum = sum_none s later l.sum_is (λ a. wants_wires r (next s) a k quiet);
+        })
 
-    pub quiet_meets : new.pace ≡ met_by old.pace k → numbers_after r k (next s) (its s) ≡ None → l.patch.numbers ≡ (its s).numbers
-        → (end : End) → end_met_by r (next s) (its s).control.iteration ≡ Some end → new.met ≡ outcome_of (Some end)
+    pub quiet_meets : new.pace ≡ met_by old.pace k → numbers_after r k (next s) (its s) ≡ None
+        → l.patch.numbers ≡ (its s).numbers
+        → (end : End) → end_met_by r (next s) (its s).control.iteration ≡ Some end
+        → new.met ≡ outcome_of (Some end)
         → RoseWithin (points_of r k (next s)) now.points later.points
-        → (to : IsAt tells r first new after later) × After (network s) (world s) (Part k) to.world
+        → LedTo s.at k new after later
     quiet_meets pace none numbers end is met rose = met_at s new after later (record {
       move = quiet_moves tells r k (its s) (taken_now (network s) (world s) k) (next s) None quiet
           (none_gives r (next s) (its s) (numbers_after r k (next s) (its s)) none);

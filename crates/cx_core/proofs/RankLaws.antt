@@ -25,20 +25,24 @@ some_power base (suc n) l =
     let h : 1 * 1 ≤ base * base ^ n = mul-le-mul l (some_power base n l) in
     omega (arith, h, pow-succ' base n)
 
-pub rank_below : (base digits : ℕ) (xs : List ℕ) → 0 < base → Below base xs → rank_of base digits xs < base ^ digits
+pub rank_below : (base digits : ℕ) (xs : List ℕ) → 0 < base → Below base xs
+    → rank_of base digits xs < base ^ digits
 rank_below base zero xs some h = omega (arith, pow-zero base)
 rank_below base (suc n) [] some h = some_power base (suc n) some
 rank_below base (suc n) (x ∷ xs) some h =
     subst (λ p. x * base ^ n + rank_of base n xs < p) (sym (pow-succ' base n))
     (digit_first x base (base ^ n) (rank_of base n xs) h.0 (rank_below base n xs some h.1))
 
-pub rank_less : (base digits : ℕ) (xs ys : List ℕ) → 0 < base → Below base xs → length xs ≤ digits → Less xs ys → rank_of base digits xs < rank_of base digits ys
+pub rank_less : (base digits : ℕ) (xs ys : List ℕ) → 0 < base → Below base xs → length xs ≤ digits
+    → Less xs ys → rank_of base digits xs < rank_of base digits ys
 rank_less base digits [] ys some h l less = absurd less
 rank_less base digits (x ∷ xs) [] some h l less = absurd less
 rank_less base zero (x ∷ xs) (y ∷ ys) some h l less = absurd (omega (arith, l))
 rank_less base (suc n) (x ∷ xs) (y ∷ ys) some h l (inl first) =
-    digit_less x y (base ^ n) (rank_of base n xs) (rank_of base n ys) first (rank_below base n xs some h.1)
+    digit_less x y (base ^ n) (rank_of base n xs) (rank_of base n ys) first
+    (rank_below base n xs some h.1)
 rank_less base (suc n) (x ∷ xs) (y ∷ ys) some h l (inr same) =
-    let rest : rank_of base n xs < rank_of base n ys = rank_less base n xs ys some h.1 (omega (arith, l)) same.1 in
+    let rest : rank_of base n xs < rank_of base n ys =
+    rank_less base n xs ys some h.1 (omega (arith, l)) same.1 in
     let first : x * base ^ n ≡ y * base ^ n = ap (λ z. z * base ^ n) same.0 in
     omega (arith, rest, first)

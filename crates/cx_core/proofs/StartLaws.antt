@@ -1,5 +1,5 @@
 -- A core as it begins.
-use Rattle.std.proofs.Common.{◌≡◌, ℕ, zero, suc, ◌+◌, ◌%◌, ◌^◌, ◌<◌, ℤ, pos, List, [], ◌++◌, map, length, get_or, take, drop, replicate, slice_get, Option, Some, None, arith, refl, sym, ap, ◌∙◌, subst}
+use Rattle.std.proofs.Common.{◌≡◌, ℕ, zero, suc, ◌+◌, ◌%◌, ◌^◌, ◌<◌, ℤ, pos, List, [], ◌∷◌, ◌++◌, map, length, get_or, take, drop, replicate, slice_get, Option, Some, None, arith, refl, sym, ap, ◌∙◌, subst}
 use Rattle.std.specs.List.{AllZip}
 use Rattle.std.proofs.lemmas.List.{length-replicate}
 use Rattle.std.proofs.lemmas.List.FromFn.{length-map-range_with_len, get_or-map-range_with_len}
@@ -22,7 +22,7 @@ use Rattle.cx_cut.specs.Faults.{parts_of}
 use Rattle.cx_flat.specs.declared.op.Op.{Op}
 use Rattle.cx_flat.specs.Code.{code}
 use Rattle.cx_reduce.specs.Partials.{Reduced}
-use Rattle.cx_network.specs.Machine.{begun}
+use Rattle.cx_network.specs.Machine.{begun, sum_below}
 use Rattle.cx_gather.specs.Boards.{Given, none_given, queue as waiting}
 use Rattle.cx_gather.specs.Gathering.{fresh, fresh_piece, HasRoom}
 use Rattle.cx_gather.proofs.PieceLaws.{holds_is_state}
@@ -30,7 +30,8 @@ use Rattle.cx_pace.specs.Paces.{Paces, part_of}
 use Rattle.cx_pace.specs.Shows.{ShowsPace, first_paces}
 use Rattle.cx_pace.specs.declared.standing.Work.{Work}
 use Rattle.cx_part.specs.Exchanges.{ShowsQueue}
-use Rattle.cx_pace.specs.Steps.{first_place, all_at}
+use Rattle.cx_pace.specs.Steps.{first_place, all_at, standing_at}
+use Rattle.cx_part.specs.Copies.{copies_at}
 use Rattle.cx_part.specs.Frames.{IsPatchOf}
 use Rattle.cx_parts.proofs.CountLaws.{sum_none, sum_same}
 use Rattle.cx_parts.specs.Beginnings.{Beginning, Afresh, From, IsBeginning, run_of}
@@ -38,12 +39,11 @@ use Rattle.cx_parts.specs.Moves.{Message}
 use Rattle.cx_parts.specs.Nets.{net, within_lead, held_first, taken_sum}
 use Rattle.cx_parts.specs.Runs.{Run, cut_of, parts_in}
 use Rattle.cx_parts.specs.Truths.{truth}
-use Rattle.cx_parts.specs.Work.{sum_over}
 use Rattle.cx_core.specs.declared.answers.Outcome.TheVariants as out
-use Rattle.cx_core.specs.Cores.{Cores}
+use Rattle.cx_core.specs.Cores.{Cores, items_in, items_of}
 use Rattle.cx_core.specs.Laws.{RunLaws}
 use Rattle.cx_core.specs.Shows.{Shows, ShowsGiven, HoldsWork, kind_of}
-use Rattle.cx_core.specs.Starts.{begins_in, iteration_in, length_in, CanBegin, AreEmpty, ArePatches}
+use Rattle.cx_core.specs.Starts.{begins_in, first_iteration, iteration_in, length_in, CanBegin, AreEmpty, ArePatches}
 use Rattle.cx_core.specs.Steps.{Counts, IsAt, Begins}
 
 -- ---- nothing
@@ -62,7 +62,8 @@ all_none (suc n) zero = refl
 all_none (suc n) (suc a) = all_none n a
 
 none_waits : (n a b : ℕ) → waiting (none_given n) a b ≡ []
-none_waits n a b = ap (λ xs. drop (get_or (replicate n 0) b 0) xs) (all_none n a) ∙ drop_none (get_or (replicate n 0) b 0)
+none_waits n a b = ap (λ xs. drop (get_or (replicate n 0) b 0) xs) (all_none n a)
+    ∙ drop_none (get_or (replicate n 0) b 0)
 
 -- ---- buffers
 
@@ -72,30 +73,41 @@ fresh_room setup key = record {
     var = l;
     there = omega (arith, l, length-map-range_with_len (fresh_piece setup) 0 (length setup.vars));
     room =
-        ap length (get_or-map-range_with_len (fresh_piece setup) 0 (length setup.vars) v.0 v.0 [] l (omega arith))
+        ap length (get_or-map-range_with_len (fresh_piece setup) 0 (length setup.vars) v.0 v.0 [] l
+        (omega arith))
         ∙ (rw among (length-replicate (number_count setup (variable setup v)) (pos 0)));
   };
   lengths = refl;
   state = record {
     scalars = length-replicate _ (pos 0);
     levels = length-replicate _ (replicate (point_count (whole setup.shape)) (pos 0));
-    points = All-replicate (λ (level : List ℤ). length level ≡ point_count (whole setup.shape)) _ (replicate (point_count (whole setup.shape)) (pos 0))
+    points = All-replicate (λ (level : List ℤ). length level ≡ point_count (whole setup.shape)) _
+        (replicate (point_count (whole setup.shape)) (pos 0))
         (length-replicate (point_count (whole setup.shape)) (pos 0));
   };
 }
 
+-- ---- items
+
+each_part : {A B : Type 0} (f : A → B) (n : ℕ) (x : A) → map f (replicate n x) ≡ replicate n (f x)
+each_part f zero x = refl
+each_part f (suc n) x = ap (λ ys. f x ∷ ys) (each_part f n x)
+
 -- ---- beginnings
 
-pub can_begin : (setup : Setup) (state : Option Checkpoint) → CanBegin setup state → IsBeginning setup (begins_in setup state)
+pub can_begin : (setup : Setup) (state : Option Checkpoint) → CanBegin setup state
+    → IsBeginning setup (begins_in setup state)
 can_begin setup None h = tt
 can_begin setup (Some c) h = (h.0, holds_is_state setup c h.1)
 
-pub length_first : (job : Job) (rules : List Rule) (state : Option Checkpoint) → length_in state ≡ (run_of job rules (begins_in (setup_of job) state)).so_far
+pub length_first : (job : Job) (rules : List Rule) (state : Option Checkpoint)
+    → length_in state ≡ (run_of job rules (begins_in (setup_of job) state)).so_far
 length_first job rules None = refl
 length_first job rules (Some c) = refl
 
 pub place_first : (job : Job) (rules : List Rule) (state : Option Checkpoint)
-    → first_place (setup_of job) (iteration_in state) ≡ (run_of job rules (begins_in (setup_of job) state)).first.control
+    → first_place (setup_of job) (iteration_in state)
+    ≡ (run_of job rules (begins_in (setup_of job) state)).first.control
 place_first job rules None = refl
 place_first job rules (Some c) = refl
 
@@ -105,14 +117,17 @@ place_first job rules (Some c) = refl
 pub record IsFresh (r : Run) (core : Cores) : Type 0 where
   pub pace : core.pace ≡ first_paces r
   pub count : length core.patches ≡ parts_in r
-  pub patches : (k : ℕ) (p : PatchValue) → slice_get core.patches k ≡ Some p → IsPatchOf r.setup (cut_of r) k p × (p.numbers ≡ (held_first r k).numbers)
+  pub patches : (k : ℕ) (p : PatchValue) → slice_get core.patches k ≡ Some p
+      → IsPatchOf r.setup (cut_of r) k p × (p.numbers ≡ (held_first r k).numbers)
+  pub items : core.items ≡ items_of r.setup core.pace
   pub given : core.given ≡ none_given (parts_in r)
   pub room : HasRoom r.setup core.buffers
   pub met : core.met ≡ out.Going
   pub outcome : core.outcome ≡ out.Going
   pub length : core.length ≡ r.so_far
 
-module _ (tells : Type 0) (r : Run) (trace : Trace) (laws : RunLaws tells r trace) (core : Cores) (fresh_core : IsFresh r core)
+module _ (tells : Type 0) (r : Run) (trace : Trace) (laws : RunLaws tells r trace) (core : Cores)
+    (fresh_core : IsFresh r core)
     (queue : ℕ → ℕ → List (SentMail tells)) (none : AreEmpty queue) where
   no_works : core.pace.works ≡ []
   no_works = ap (λ (p : Paces). p.works) fresh_core.pace
@@ -122,17 +137,24 @@ module _ (tells : Type 0) (r : Run) (trace : Trace) (laws : RunLaws tells r trac
 
   shows_first : Shows tells r (truth r) core queue (begun (net tells within_lead r (truth r)))
   shows_first = record {
-    pace = subst (ShowsPace tells r (truth r) (begun (net tells within_lead r (truth r)))) (sym fresh_core.pace) laws.pace.begins;
+    pace = subst (ShowsPace tells r (truth r) (begun (net tells within_lead r (truth r))))
+        (sym fresh_core.pace) laws.pace.begins;
     count = fresh_core.count;
     patches = λ k p e. let h = fresh_core.patches k p e in record { frame = h.0; numbers = h.1 };
-    wires = λ a b l m. subst (λ (q : List (SentMail tells)). ShowsQueue {tells = tells} q []) (sym (none a b)) tt;
+    wires = λ a b l m. subst (λ (q : List (SentMail tells)). ShowsQueue {tells = tells} q [])
+        (sym (none a b)) tt;
     others = λ a b n. none a b;
-    senders = ap (λ (g : Given). length g.given) fresh_core.given ∙ length-replicate (parts_in r) [];
-    boards = λ a b l m. subst (λ (q : List Reduced). AllZip {B = Message tells} (ShowsGiven {tells = tells} r a) q []) (sym (none_there a b)) tt;
+    senders = ap (λ (g : Given). length g.given) fresh_core.given
+        ∙ length-replicate (parts_in r) [];
+    boards = λ a b l m. subst
+        (λ (q : List Reduced). AllZip {B = Message tells} (ShowsGiven {tells = tells} r a) q [])
+        (sym (none_there a b)) tt;
     kinds = λ a b l m. sym (ap (λ (xs : List Reduced). [] ++ map kind_of xs) (none_there a b));
     pieces = λ k l.
-        subst (λ (xs : List Work). AllZip {B = Message tells} (HoldsWork {tells = tells} r core.buffers k) xs [])
-        (sym (ap (take (part_of core.pace k).handed) no_works ∙ take_none (part_of core.pace k).handed)) tt;
+        subst (λ (xs : List Work).
+        AllZip {B = Message tells} (HoldsWork {tells = tells} r core.buffers k) xs [])
+        (sym (ap (take (part_of core.pace k).handed) no_works
+        ∙ take_none (part_of core.pace k).handed)) tt;
     room = fresh_core.room;
     book = fresh_core.length;
     met = (λ e. fresh_core.met, λ never. absurd (never refl));
@@ -141,12 +163,14 @@ module _ (tells : Type 0) (r : Run) (trace : Trace) (laws : RunLaws tells r trac
 
   none_taken : (t : tells) → taken_sum t r (truth r) (begun (net tells within_lead r (truth r))) ≡ 0
   none_taken t =
-      sum_same (parts_in r) (λ a. sum_over (parts_in r) (λ b. 0)) (λ a. 0) (λ a l. sum_none (parts_in r)) ∙ sum_none (parts_in r)
+      sum_same (parts_in r) (λ a. sum_below (parts_in r) (λ b. 0)) (λ a. 0)
+      (λ a l. sum_none (parts_in r)) ∙ sum_none (parts_in r)
 
   sum_is : (s n : ℕ) → s < 2 ^ 64 → n ≡ 0 → s ≡ (s + n) % 2 ^ 64
   sum_is s n l e = omega (arith, l, e)
 
-  abbrev at_first : (first : Counts) → (tells → first.sum < 2 ^ 64) → IsAt tells r first core queue first
+  abbrev at_first : (first : Counts) → (tells → first.sum < 2 ^ 64)
+      → IsAt tells r first core queue first
   at_first first small = record {
     world = begun (net tells within_lead r (truth r));
     oracle = truth r;
@@ -154,7 +178,10 @@ module _ (tells : Type 0) (r : Run) (trace : Trace) (laws : RunLaws tells r trac
     shows = shows_first;
     points = raised_none first.points;
     values = counted_none first.values;
-    sum = λ t. sum_is first.sum (taken_sum t r (truth r) (begun (net tells within_lead r (truth r)))) (small t) (none_taken t);
+    sum = λ t. sum_is first.sum
+        (taken_sum t r (truth r) (begun (net tells within_lead r (truth r)))) (small t)
+        (none_taken t);
+    items = fresh_core.items;
   }
 
   pub begins_at : (first : Counts) → (tells → first.sum < 2 ^ 64) → Begins tells r first core queue
@@ -163,7 +190,8 @@ module _ (tells : Type 0) (r : Run) (trace : Trace) (laws : RunLaws tells r trac
 -- ---- the core that is made
 
 -- what its parts are made as
-pub record IsMade (job : Job) (cut : Parts) (state : Option Checkpoint) (core : Cores) : Type 0 where
+pub record IsMade (job : Job) (cut : Parts) (state : Option Checkpoint)
+    (core : Cores) : Type 0 where
   pub cut_is : cut ≡ parts_of job.shape job.cut
   pub ops : List Op
   pub ops_are : ops ≡ code (setup_of job)
@@ -174,6 +202,9 @@ pub record IsMade (job : Job) (cut : Parts) (state : Option Checkpoint) (core : 
   pub patches : ArePatches job cut state core.patches
   pub parts : ℕ
   pub parts_are : parts ≡ part_count cut
+  pub begins : ℕ
+  pub begins_is : begins ≡ first_iteration state
+  pub items : core.items ≡ replicate parts (copies_at (setup_of job) begins)
   pub given : core.given ≡ none_given parts
   pub key : List ℕ
   pub buffers : core.buffers ≡ fresh (setup_of job) key
@@ -183,32 +214,61 @@ pub record IsMade (job : Job) (cut : Parts) (state : Option Checkpoint) (core : 
 
 module _ (job : Job) (rules : List Rule) (cut : Parts) (core : Cores) where
   pace_is : (state : Option Checkpoint) → (made : IsMade job cut state core)
-      → core.pace ≡ all_at (parts_of job.shape job.cut) (code (setup_of job)) job.lead (first_place (setup_of job) (iteration_in state))
+      → core.pace ≡ all_at (parts_of job.shape job.cut) (code (setup_of job)) job.lead
+      (first_place (setup_of job) (iteration_in state))
   pace_is state made =
-      made.pace ∙ ap (λ c. all_at c made.ops job.lead (first_place (setup_of job) made.from)) made.cut_is
-      ∙ ap (λ os. all_at (parts_of job.shape job.cut) os job.lead (first_place (setup_of job) made.from)) made.ops_are
-      ∙ ap (λ f. all_at (parts_of job.shape job.cut) (code (setup_of job)) job.lead (first_place (setup_of job) f)) made.from_is
+      made.pace ∙ ap (λ c. all_at c made.ops job.lead (first_place (setup_of job) made.from))
+      made.cut_is
+      ∙ ap (λ os. all_at (parts_of job.shape job.cut) os job.lead
+      (first_place (setup_of job) made.from)) made.ops_are
+      ∙ ap (λ f. all_at (parts_of job.shape job.cut) (code (setup_of job)) job.lead
+      (first_place (setup_of job) f)) made.from_is
 
-  patch_is : (state : Option Checkpoint) → IsMade job cut state core → (k : ℕ) (p : PatchValue) → slice_get core.patches k ≡ Some p
-      → IsPatchOf (setup_of job) (parts_of job.shape job.cut) k p × (p.numbers ≡ (held_first (run_of job rules (begins_in (setup_of job) state)) k).numbers)
+  patch_is : (state : Option Checkpoint) → IsMade job cut state core → (k : ℕ) (p : PatchValue)
+      → slice_get core.patches k ≡ Some p
+      → IsPatchOf (setup_of job) (parts_of job.shape job.cut) k p
+      × (p.numbers ≡ (held_first (run_of job rules (begins_in (setup_of job) state)) k).numbers)
   patch_is state made k p e =
       let h = made.patches k p e in
       (subst (λ c. IsPatchOf (setup_of job) c k p) made.cut_is h.frame, h.numbers rules)
 
-  room_is : (state : Option Checkpoint) → IsMade job cut state core → HasRoom (setup_of job) core.buffers
-  room_is state made = subst (HasRoom (setup_of job)) (sym made.buffers) (fresh_room (setup_of job) made.key)
+  room_is : (state : Option Checkpoint) → IsMade job cut state core
+      → HasRoom (setup_of job) core.buffers
+  room_is state made = subst (HasRoom (setup_of job)) (sym made.buffers)
+      (fresh_room (setup_of job) made.key)
 
-  many : (state : Option Checkpoint) → IsMade job cut state core → length core.patches ≡ part_count (parts_of job.shape job.cut)
+  many : (state : Option Checkpoint) → IsMade job cut state core
+      → length core.patches ≡ part_count (parts_of job.shape job.cut)
   many state made = made.count ∙ ap part_count made.cut_is
 
-  given_is : (state : Option Checkpoint) → IsMade job cut state core → core.given ≡ none_given (part_count (parts_of job.shape job.cut))
+  given_is : (state : Option Checkpoint) → IsMade job cut state core
+      → core.given ≡ none_given (part_count (parts_of job.shape job.cut))
   given_is state made = made.given ∙ ap none_given (made.parts_are ∙ ap part_count made.cut_is)
 
-  pub is_fresh : (state : Option Checkpoint) → IsMade job cut state core → IsFresh (run_of job rules (begins_in (setup_of job) state)) core
+  items_are : (state : Option Checkpoint) → IsMade job cut state core
+      → core.items ≡ items_of (setup_of job) core.pace
+  items_are state made =
+      made.items
+      ∙ ap (λ n. replicate n (copies_at (setup_of job) made.begins))
+      (made.parts_are ∙ ap part_count made.cut_is)
+      ∙ ap (λ n. replicate (part_count (parts_of job.shape job.cut)) (copies_at (setup_of job) n))
+      (made.begins_is ∙ sym (begins_there state))
+      ∙ sym (each_part (items_in (setup_of job)) (part_count (parts_of job.shape job.cut))
+      (standing_at (first_place (setup_of job) (iteration_in state))))
+      ∙ ap (items_of (setup_of job)) (sym (pace_is state made))
+    where
+      begins_there : (c : Option Checkpoint)
+          → (first_place (setup_of job) (iteration_in c)).iteration ≡ first_iteration c
+      begins_there None = refl
+      begins_there (Some c) = refl
+
+  pub is_fresh : (state : Option Checkpoint) → IsMade job cut state core
+      → IsFresh (run_of job rules (begins_in (setup_of job) state)) core
   is_fresh None made = record {
     pace = pace_is None made;
     count = many None made;
     patches = patch_is None made;
+    items = items_are None made;
     given = given_is None made;
     room = room_is None made;
     met = made.met;
@@ -219,6 +279,7 @@ module _ (job : Job) (rules : List Rule) (cut : Parts) (core : Cores) where
     pace = pace_is (Some c) made;
     count = many (Some c) made;
     patches = patch_is (Some c) made;
+    items = items_are (Some c) made;
     given = given_is (Some c) made;
     room = room_is (Some c) made;
     met = made.met;
@@ -227,10 +288,12 @@ module _ (job : Job) (rules : List Rule) (cut : Parts) (core : Cores) where
   }
 
 -- each run of a job is of its setup
-pub setup_same : (job : Job) (rules : List Rule) (b : Beginning) → (run_of job rules b).setup ≡ setup_of job
+pub setup_same : (job : Job) (rules : List Rule) (b : Beginning)
+    → (run_of job rules b).setup ≡ setup_of job
 setup_same job rules Afresh = refl
 setup_same job rules (From c state so_far) = refl
 
-pub cut_same : (job : Job) (rules : List Rule) (b : Beginning) → cut_of (run_of job rules b) ≡ parts_of job.shape job.cut
+pub cut_same : (job : Job) (rules : List Rule) (b : Beginning)
+    → cut_of (run_of job rules b) ≡ parts_of job.shape job.cut
 cut_same job rules Afresh = refl
 cut_same job rules (From c state so_far) = refl

@@ -37,10 +37,12 @@ some_is : {X : Type 0} (x y : X) → Some x ≡ Some y → x ≡ y
 some_is x y e = cc
 
 -- what holds of each element holds of the one at a place
-at_place : {X : Type 0} (P : X → Type 0) (xs : List X) (k : ℕ) (x : X) → All P xs → slice_get xs k ≡ Some x → P x
+at_place : {X : Type 0} (P : X → Type 0) (xs : List X) (k : ℕ) (x : X) → All P xs
+    → slice_get xs k ≡ Some x → P x
 at_place P xs k x all e = go xs k (λ i d l. all i d l) e
   where
-    go : (ys : List _) (i : ℕ) → ((j : ℕ) (d : _) → j < length ys → P (get_or ys j d)) → slice_get ys i ≡ Some x → P x
+    go : (ys : List _) (i : ℕ) → ((j : ℕ) (d : _) → j < length ys → P (get_or ys j d))
+        → slice_get ys i ≡ Some x → P x
     go [] i h f = absurd (none_some x f)
     go (y ∷ ys) zero h f = subst P (some_is y x f) (h 0 y (omega arith))
     go (y ∷ ys) (suc i) h f = go ys i (λ j d l. h (suc j) d (omega (arith, l))) f
@@ -59,7 +61,8 @@ get_below [] k x e = absurd (none_some x e)
 get_below (y ∷ ys) zero x e = omega arith
 get_below (y ∷ ys) (suc k) x e = let l = get_below ys k x e in omega (arith, l)
 
-get_mapped : {X Y : Type 0} (f : X → Y) (xs : List X) (k : ℕ) → slice_get (map f xs) k ≡ option_map f (slice_get xs k)
+get_mapped : {X Y : Type 0} (f : X → Y) (xs : List X) (k : ℕ)
+    → slice_get (map f xs) k ≡ option_map f (slice_get xs k)
 get_mapped f [] k = refl
 get_mapped f (y ∷ ys) zero = refl
 get_mapped f (y ∷ ys) (suc k) = get_mapped f ys k
@@ -67,16 +70,20 @@ get_mapped f (y ∷ ys) (suc k) = get_mapped f ys k
 going_done : out.Going ≡ out.Done → ⊥
 going_done e = cc
 
-module _ (tells : Type 0) (r : Run) (trace : Trace) (laws : RunLaws tells r trace) (first : Counts) (core : Cores) (queue : ℕ → ℕ → List (SentMail tells)) (now : Counts)
+module _ (tells : Type 0) (r : Run) (trace : Trace) (laws : RunLaws tells r trace) (first : Counts)
+    (core : Cores) (queue : ℕ → ℕ → List (SentMail tells)) (now : Counts)
     (at : IsAt tells r first core queue now) where
   -- the event at a place of the list
   module _ (k j : ℕ) (kth : slice_get (events core.pace) k ≡ Some (next.Part j)) where
-    part_at : slice_get (event_list tells r trace laws first core queue now at) k ≡ Some (network.Part j)
-    part_at = get_map (event_of (place tells r trace laws first core queue now at).0) (events core.pace) k (next.Part j) kth
+    part_at : slice_get (event_list tells r trace laws first core queue now at) k
+        ≡ Some (network.Part j)
+    part_at = get_map (event_of (place tells r trace laws first core queue now at).0)
+        (events core.pace) k (next.Part j) kth
 
     pub can_move : CanMove (net tells within_lead r at.oracle) at.world j
     can_move =
-        at_place (Can (net tells within_lead r at.oracle) at.world) (event_list tells r trace laws first core queue now at) k (network.Part j)
+        at_place (Can (net tells within_lead r at.oracle) at.world)
+        (event_list tells r trace laws first core queue now at) k (network.Part j)
         (enabled_are tells r trace laws first core queue now at).each part_at
 
     pub goes_now : can_go core.pace j ≡ true
@@ -86,23 +93,31 @@ module _ (tells : Type 0) (r : Run) (trace : Trace) (laws : RunLaws tells r trac
     below = omega (arith, can_move.part, at.shows.pace.count)
 
     reached : (i : ℕ) → i < length core.pace.parts → IsReached r.setup (part_of core.pace i).place
-    reached i l = (told tells r trace laws first core queue now at).reached i (omega (arith, l, at.shows.pace.count))
+    reached i l = (told tells r trace laws first core queue now at).reached i
+        (omega (arith, l, at.shows.pace.count))
 
     -- it leaves less to do
-    part_less : (new : Cores) → MovesOn r.setup j core new → steps_left r.setup new.pace < steps_left r.setup core.pace
+    part_less : (new : Cores) → MovesOn r.setup j core new
+        → steps_left r.setup new.pace < steps_left r.setup core.pace
     part_less new moves = go moves.pace
       where
-        go : ((s : VarId → ℤ) × (new.pace ≡ moved_on r.setup core.pace j s)) ⊎ (new.pace ≡ met_by core.pace j) → steps_left r.setup new.pace < steps_left r.setup core.pace
+        go : ((s : VarId → ℤ) × (new.pace ≡ moved_on r.setup core.pace j s))
+            ⊎ (new.pace ≡ met_by core.pace j)
+            → steps_left r.setup new.pace < steps_left r.setup core.pace
         go (inl h) =
             subst (λ (p : Paces). steps_left r.setup p < steps_left r.setup core.pace) (sym h.1)
-            (less_moved r.setup laws.ways laws.places core.pace at.shows.pace.ops reached j below goes_now h.0)
+            (less_moved r.setup laws.ways laws.places core.pace at.shows.pace.ops reached j below
+            goes_now h.0)
         go (inr h) =
             subst (λ (p : Paces). steps_left r.setup p < steps_left r.setup core.pace) (sym h)
-            (less_met r.setup laws.ways laws.places core.pace at.shows.pace.ops reached j below goes_now)
+            (less_met r.setup laws.ways laws.places core.pace at.shows.pace.ops reached j below
+            goes_now)
 
     -- the operation of a part
-    pub part_step : (new : Cores) (after : ℕ → ℕ → List (SentMail tells)) (later : Counts) → PartGoes tells r first j core new queue after now later
-        → StepsTo tells r trace first k (record { core = core; queue = queue; now = now }) (record { core = new; queue = after; now = later }) at (event.Part j)
+    pub part_step : (new : Cores) (after : ℕ → ℕ → List (SentMail tells)) (later : Counts)
+        → PartGoes tells r first j core new queue after now later
+        → StepsTo tells r trace first k (record { core = core; queue = queue; now = now })
+        (record { core = new; queue = after; now = later }) at (event.Part j)
     part_step new after later goes_to =
         let to = goes_to at in
         record {
@@ -115,11 +130,13 @@ module _ (tells : Type 0) (r : Run) (trace : Trace) (laws : RunLaws tells r trac
             after = to.1;
             answers = refl;
           };
-          falls = (goes tells r trace laws first core queue now at).falls (network.Part j) to.0.world can_move to.1;
+          falls = (goes tells r trace laws first core queue now at).falls (network.Part j)
+              to.0.world can_move to.1;
           less = part_less new to.2;
           leaves = (to.2.length, to.2.outcome);
           key = to.2.key;
           hands = λ t. (laws.works t at.oracle at.world at.reached).part j to.0.world can_move to.1;
+          same_way = to.3;
         }
 
   not_over : core.outcome ≡ out.Going → at.world.over ≡ None
@@ -141,12 +158,16 @@ module _ (tells : Type 0) (r : Run) (trace : Trace) (laws : RunLaws tells r trac
       omega (
         arith,
         c.1,
-        how_many tells r at.oracle at.world core.pace at.shows.pace.count (told tells r trace laws first core queue now at) (goes tells r trace laws first core queue now at)
-            (place tells r trace laws first core queue now at).0 (place tells r trace laws first core queue now at).1,
+        how_many tells r at.oracle at.world core.pace at.shows.pace.count
+            (told tells r trace laws first core queue now at)
+            (goes tells r trace laws first core queue now at)
+            (place tells r trace laws first core queue now at).0
+            (place tells r trace laws first core queue now at).1,
       )
 
   -- an event that isn't behind the writer's next checkpoint
-  pub some_before : core.outcome ≡ out.Going → (k : ℕ) × (k < enabled_in core) × (ahead_in core k ≡ false)
+  pub some_before : core.outcome ≡ out.Going
+      → (k : ℕ) × (k < enabled_in core) × (ahead_in core k ≡ false)
   some_before going =
       let says = told tells r trace laws first core queue now at in
       let x = says.some_before (not_over going) in
@@ -154,25 +175,36 @@ module _ (tells : Type 0) (r : Run) (trace : Trace) (laws : RunLaws tells r trac
       (y.0, get_below (events core.pace) y.0 x.0 y.1, ap (lies_ahead core.pace) y.1 ∙ x.2)
 
   -- which ones are
-  lies_behind : (k : ℕ) → ahead_in core k ≡ true ↔ LiesAhead r at.oracle at.world (slice_get (event_list tells r trace laws first core queue now at) k)
+  lies_behind : (k : ℕ) → ahead_in core k ≡ true
+      ↔ LiesAhead r at.oracle at.world
+      (slice_get (event_list tells r trace laws first core queue now at) k)
   lies_behind k =
-      subst (λ o. ahead_in core k ≡ true ↔ LiesAhead r at.oracle at.world o) (sym (get_mapped (event_of (place tells r trace laws first core queue now at).0) (events core.pace) k))
+      subst (λ o. ahead_in core k ≡ true ↔ LiesAhead r at.oracle at.world o)
+      (sym (get_mapped (event_of (place tells r trace laws first core queue now at).0)
+      (events core.pace) k))
       (by (slice_get (events core.pace) k) refl)
     where
       by : (o : Option Next) → slice_get (events core.pace) k ≡ o
-          → lies_ahead core.pace o ≡ true ↔ LiesAhead r at.oracle at.world (option_map (event_of (place tells r trace laws first core queue now at).0) o)
-      by (Some (next.Part j)) e = (told tells r trace laws first core queue now at).behind j (can_move k j e).part
+          → lies_ahead core.pace o ≡ true
+          ↔ LiesAhead r at.oracle at.world
+          (option_map (event_of (place tells r trace laws first core queue now at).0) o)
+      by (Some (next.Part j)) e =
+          (told tells r trace laws first core queue now at).behind j (can_move k j e).part
       by (Some next.Write) e = (false_true, λ h. absurd h)
       by (Some next.End) e = (false_true, λ h. absurd h)
       by None e = (false_true, λ h. absurd h)
 
   -- the list of those that can happen
-  pub enabled_list : (es : List network.Event) × AreEnabled tells r at.oracle at.world es × (length es ≡ length (events core.pace))
+  pub enabled_list : (es : List network.Event) × AreEnabled tells r at.oracle at.world es
+      × (length es ≡ length (events core.pace))
       × ((k : ℕ) → ahead_in core k ≡ true ↔ LiesAhead r at.oracle at.world (slice_get es k))
   enabled_list = (
     event_list tells r trace laws first core queue now at,
     enabled_are tells r trace laws first core queue now at,
-    how_many tells r at.oracle at.world core.pace at.shows.pace.count (told tells r trace laws first core queue now at) (goes tells r trace laws first core queue now at)
-        (place tells r trace laws first core queue now at).0 (place tells r trace laws first core queue now at).1,
+    how_many tells r at.oracle at.world core.pace at.shows.pace.count
+        (told tells r trace laws first core queue now at)
+        (goes tells r trace laws first core queue now at)
+        (place tells r trace laws first core queue now at).0
+        (place tells r trace laws first core queue now at).1,
     lies_behind,
   )

@@ -22,15 +22,18 @@ use Rattle.cx_core.specs.Steps.{Counts, Standing as Place, IsAt}
 use Rattle.cx_core.specs.Writes.{HasBuffer, CanWrite, Writes, WritesTo, length_behind, has_space, text_written, limit_met, piece_event}
 use Rattle.cx_core.proofs.WriterLaws.{is_write, in_front_by, has_piece, text_step, limit_step, save_step}
 
-some_first : (works : List Work) → is_some_work works ≡ true → (work : Work) × (slice_get works 0 ≡ Some work)
+some_first : (works : List Work) → is_some_work works ≡ true
+    → (work : Work) × (slice_get works 0 ≡ Some work)
 some_first [] e = absurd (none_there e)
   where
     none_there : false ≡ true → ⊥
     none_there h = cc
 some_first (w ∷ ws) e = (w, refl)
 
-module _ (tells : Type 0) (r : Run) (trace : Trace) (laws : RunLaws tells r trace) (first : Counts) (core : Cores) (queue : ℕ → ℕ → List (SentMail tells)) (now : Counts)
-    (at : IsAt tells r first core queue now) (k : ℕ) (kth : slice_get (events core.pace) k ≡ Some next.Write) where
+module _ (tells : Type 0) (r : Run) (trace : Trace) (laws : RunLaws tells r trace) (first : Counts)
+    (core : Cores) (queue : ℕ → ℕ → List (SentMail tells)) (now : Counts)
+    (at : IsAt tells r first core queue now) (k : ℕ)
+    (kth : slice_get (events core.pace) k ≡ Some next.Write) where
   abbrev was : Place tells
   was = record { core = core; queue = queue; now = now }
 
@@ -40,50 +43,65 @@ module _ (tells : Type 0) (r : Run) (trace : Trace) (laws : RunLaws tells r trac
   first_is : (work : Work) × (slice_get core.pace.works 0 ≡ Some work)
   first_is =
       some_first core.pace.works
-      (and_parts (is_some_work core.pace.works) (list_all (λ (s : Standing). nat_lt 0 s.handed) core.pace.parts)
-      (in_front_by core.pace.over (all_in core.pace) (all_stand core.pace) (is_write tells r trace laws first core queue now at k kth))).0
+      (and_parts (is_some_work core.pace.works)
+      (list_all (λ (s : Standing). nat_lt 0 s.handed) core.pace.parts)
+      (in_front_by core.pace.over (all_in core.pace) (all_stand core.pace)
+      (is_write tells r trace laws first core queue now at k kth))).0
 
   abbrev work : Work
   work = first_is.0
 
-  by_var : (var : Option VarId) → work.var ≡ var → work ≡ record { var = var; iteration = work.iteration }
+  by_var : (var : Option VarId) → work.var ≡ var
+      → work ≡ record { var = var; iteration = work.iteration }
   by_var var e = ap (λ (x : Option VarId). record { var = x; iteration = work.iteration }) e
 
   -- ---- what the code asks for
 
   buffer : (var : Option VarId) → work.var ≡ var → HasBuffer r.setup core.buffers var
   buffer None e = at.shows.room.lengths
-  buffer (Some v) e = has_piece tells r trace laws first core queue now at k kth work first_is.1 v work.iteration (by_var (Some v) e)
+  buffer (Some v) e = has_piece tells r trace laws first core queue now at k kth work first_is.1 v
+      work.iteration (by_var (Some v) e)
 
-  pub can_write : (setup : Setup) → r.setup ≡ setup → CanWrite setup core (slice_get core.pace.works 0)
+  pub can_write : (setup : Setup) → r.setup ≡ setup
+      → CanWrite setup core (slice_get core.pace.works 0)
   can_write setup same =
-      subst (CanWrite setup core) (sym first_is.1) (subst (λ (s : Setup). HasBuffer s core.buffers work.var) same (buffer work.var refl))
+      subst (CanWrite setup core) (sym first_is.1)
+      (subst (λ (s : Setup). HasBuffer s core.buffers work.var) same (buffer work.var refl))
 
   -- ---- what it does
 
-  by_text : (v : VarId) → work.var ≡ Some v → (b : Bool) → has_space r.setup v work.iteration core ≡ b
+  by_text : (v : VarId) → work.var ≡ Some v → (b : Bool)
+      → has_space r.setup v work.iteration core ≡ b
       → StepsTo tells r trace first k was
-      (behind (if b then text_written r.setup v work.iteration core else limit_met work.iteration core)) at
+      (behind (if b then text_written r.setup v work.iteration core
+      else limit_met work.iteration core)) at
       (if b then event.Section v work.iteration else event.End)
   by_text v e true h =
-      text_step tells r trace laws first core queue now at k kth work first_is.1 v work.iteration (by_var (Some v) e)
+      text_step tells r trace laws first core queue now at k kth work first_is.1 v work.iteration
+      (by_var (Some v) e)
       (leb-true (length_behind r.setup v work.iteration core) greatest_output h)
   by_text v e false h =
-      limit_step tells r trace laws first core queue now at k kth work first_is.1 v work.iteration (by_var (Some v) e)
+      limit_step tells r trace laws first core queue now at k kth work first_is.1 v work.iteration
+      (by_var (Some v) e)
       (leb-false (length_behind r.setup v work.iteration core) greatest_output h)
 
-  by_work : (new : Cores) (e : Event) (var : Option VarId) → work.var ≡ var → WritesTo r.setup var work.iteration core new e
+  by_work : (new : Cores) (e : Event) (var : Option VarId) → work.var ≡ var
+      → WritesTo r.setup var work.iteration core new e
       → StepsTo tells r trace first k was (behind new) at e
   by_work new e None is h =
       subst (λ (x : Event). StepsTo tells r trace first k was (behind new) at x) (sym h.1)
-      (subst (λ (c : Cores). StepsTo tells r trace first k was (behind c) at (event.Save work.iteration)) (sym h.0)
-      (save_step tells r trace laws first core queue now at k kth work first_is.1 work.iteration (by_var None is)))
+      (subst (λ (c : Cores). StepsTo tells r trace first k was (behind c) at
+      (event.Save work.iteration)) (sym h.0)
+      (save_step tells r trace laws first core queue now at k kth work first_is.1 work.iteration
+      (by_var None is)))
   by_work new e (Some v) is h =
       subst (λ (x : Event). StepsTo tells r trace first k was (behind new) at x) (sym h.1)
-      (subst (λ (c : Cores). StepsTo tells r trace first k was (behind c) at (piece_event r.setup v work.iteration core)) (sym h.0)
+      (subst (λ (c : Cores). StepsTo tells r trace first k was (behind c) at
+      (piece_event r.setup v work.iteration core)) (sym h.0)
       (by_text v is (has_space r.setup v work.iteration core) refl))
 
-  pub write_step : (setup : Setup) → r.setup ≡ setup → (new : Cores) (e : Event) → Writes setup (slice_get core.pace.works 0) core new e
+  pub write_step : (setup : Setup) → r.setup ≡ setup → (new : Cores) (e : Event)
+      → Writes setup (slice_get core.pace.works 0) core new e
       → StepsTo tells r trace first k was (behind new) at e
   write_step setup same new e h =
       by_work new e work.var refl

@@ -5,6 +5,7 @@ use Rattle.std.specs.List.{AllZip, list_all}
 use Rattle.std.proofs.lemmas.Bool.{and_parts, cases_eq, ltb-true}
 use Rattle.cx_plan.specs.declared.variable.VarId.{VarId}
 use Rattle.cx_plan.specs.Regions.{is_among}
+use Rattle.cx_plan.specs.Setups.{Setup}
 use Rattle.cx_rule.specs.States.{State}
 use Rattle.cx_model.specs.declared.ends.End.{End}
 use Rattle.cx_model.specs.declared.ends.End.TheVariants as ends
@@ -27,7 +28,7 @@ use Rattle.cx_pace.specs.declared.standing.Next.TheVariants as next
 use Rattle.cx_pace.specs.Paces.{part_of, no_part}
 use Rattle.cx_pace.specs.Events.{work_of, events, all_in, writer_going, writer_by, all_stand, parts_going, is_some_work}
 use Rattle.cx_pace.specs.Shows.{ShowsPace, TellsEvents, KeepsPace, work_there}
-use Rattle.cx_pace.specs.Steps.{wrote_one, over_now}
+use Rattle.cx_pace.specs.Steps.{one_less, wrote_one, over_now}
 use Rattle.cx_parts.specs.Holding.{Held}
 use Rattle.cx_parts.specs.Moves.{Message, Channel}
 use Rattle.cx_parts.specs.Nets.{net, within_lead, only_level, piece_levels, WritesAt}
@@ -41,7 +42,7 @@ use Rattle.cx_core.specs.declared.answers.Event.{Event}
 use Rattle.cx_core.specs.declared.answers.Event.TheVariants as event
 use Rattle.cx_core.specs.declared.answers.Outcome.{Outcome}
 use Rattle.cx_core.specs.declared.answers.Outcome.TheVariants as out
-use Rattle.cx_core.specs.Cores.{Cores, outcome_of}
+use Rattle.cx_core.specs.Cores.{Cores, items_in, outcome_of}
 use Rattle.cx_core.specs.Hands.{HandsOut, Leaves, StepsTo}
 use Rattle.cx_core.specs.Laws.{RunLaws}
 use Rattle.cx_core.specs.Texts.{text_of_piece}
@@ -78,8 +79,11 @@ module _ (iteration i : ℕ) where
   no_work : {P : Type 0} (w : Work) → None ≡ Some w → P
   no_work w e = absurd (none_some w e)
 
-  piece_work : (o : Op) (v : VarId) → work_of o iteration ≡ Some (record { var = Some v; iteration = i }) → IsPiece o iteration v i
-  piece_work (Piece u) v e = record { op = ap Piece (some_is u v (ap var_of e)); at = sym (ap iteration_in e) }
+  piece_work : (o : Op) (v : VarId)
+      → work_of o iteration ≡ Some (record { var = Some v; iteration = i })
+      → IsPiece o iteration v i
+  piece_work (Piece u) v e =
+      record { op = ap Piece (some_is u v (ap var_of e)); at = sym (ap iteration_in e) }
   piece_work Save v e = absurd (none_some v (ap var_of e))
   piece_work (Sweep k) v e = no_work (record { var = Some v; iteration = i }) e
   piece_work (Apply k) v e = no_work (record { var = Some v; iteration = i }) e
@@ -98,7 +102,8 @@ module _ (iteration i : ℕ) where
   piece_work (Next back) v e = no_work (record { var = Some v; iteration = i }) e
   piece_work Halt v e = no_work (record { var = Some v; iteration = i }) e
 
-  save_work : (o : Op) → work_of o iteration ≡ Some (record { var = None; iteration = i }) → (o ≡ Save) × (i ≡ iteration)
+  save_work : (o : Op) → work_of o iteration ≡ Some (record { var = None; iteration = i })
+      → (o ≡ Save) × (i ≡ iteration)
   save_work Save e = (refl, sym (ap iteration_in e))
   save_work (Piece u) e = absurd (none_some u (sym (ap var_of e)))
   save_work (Sweep k) e = no_work (record { var = None; iteration = i }) e
@@ -120,7 +125,8 @@ module _ (iteration i : ℕ) where
 
 -- ---- which event stands at a place
 
-writer_at : (ks : List ℕ) (o : Option PaceEvent) (k : ℕ) (x : PaceEvent) → ((j : ℕ) → x ≡ next.Part j → ⊥)
+writer_at : (ks : List ℕ) (o : Option PaceEvent) (k : ℕ) (x : PaceEvent)
+    → ((j : ℕ) → x ≡ next.Part j → ⊥)
     → slice_get (map next.Part ks ++ option_to_list o) k ≡ Some x → o ≡ Some x
 writer_at [] None k x never e = absurd (none_some x e)
 writer_at [] (Some y) zero x never e = e
@@ -128,7 +134,8 @@ writer_at [] (Some y) (suc k) x never e = absurd (none_some x e)
 writer_at (j ∷ ks) o zero x never e = absurd (never j (sym (some_is (next.Part j) x e)))
 writer_at (j ∷ ks) o (suc k) x never e = writer_at ks o k x never e
 
-pub in_front_by : (over in_front at_end : Bool) → writer_by over in_front at_end ≡ Some next.Write → in_front ≡ true
+pub in_front_by : (over in_front at_end : Bool) → writer_by over in_front at_end ≡ Some next.Write
+    → in_front ≡ true
 in_front_by true i a e = absurd (none_some next.Write e)
 in_front_by false true a e = refl
 in_front_by false false true e = absurd (end_write (some_is next.End next.Write e))
@@ -137,9 +144,18 @@ in_front_by false false true e = absurd (end_write (some_is next.End next.Write 
     end_write h = cc
 in_front_by false false false e = absurd (none_some next.Write e)
 
-not_over : (over in_front at_end : Bool) (x : PaceEvent) → writer_by over in_front at_end ≡ Some x → over ≡ false
+not_over : (over in_front at_end : Bool) (x : PaceEvent) → writer_by over in_front at_end ≡ Some x
+    → over ≡ false
 not_over true i a x e = absurd (none_some x e)
 not_over false i a x e = refl
+
+-- ---- items
+
+-- the writer's work leaves each part in its iteration
+items_written : (setup : Setup) (parts : List Standing)
+    → map (items_in setup) (map one_less parts) ≡ map (items_in setup) parts
+items_written setup [] = refl
+items_written setup (s ∷ ss) = ap (λ xs. items_in setup s ∷ xs) (items_written setup ss)
 
 -- ---- ends
 
@@ -149,7 +165,8 @@ ended_same (ends.Overflow iteration path) = refl
 ended_same (ends.WhileLimit iteration path) = refl
 ended_same (ends.OutputLimit iteration) = refl
 
-module _ (tells : Type 0) (r : Run) (trace : Trace) (laws : RunLaws tells r trace) (first : Counts) (core : Cores) (queue : ℕ → ℕ → List (SentMail tells)) (now : Counts)
+module _ (tells : Type 0) (r : Run) (trace : Trace) (laws : RunLaws tells r trace) (first : Counts)
+    (core : Cores) (queue : ℕ → ℕ → List (SentMail tells)) (now : Counts)
     (at : IsAt tells r first core queue now) where
   abbrev pub w : World Held (Message tells) Channel ℕ
   w = at.world
@@ -185,8 +202,10 @@ module _ (tells : Type 0) (r : Run) (trace : Trace) (laws : RunLaws tells r trac
   was = record { core = core; queue = queue; now = now }
 
   -- the run is over at a place, and all else is as before
-  over_shows : (n : ℕ) (outcome : Outcome) → OverAs r o (Some n) outcome → ShowsPace tells r o (over_at w n) (over_now core.pace)
-      → Shows tells r o (record core { pace = over_now core.pace; outcome = outcome }) queue (over_at w n)
+  over_shows : (n : ℕ) (outcome : Outcome) → OverAs r o (Some n) outcome
+      → ShowsPace tells r o (over_at w n) (over_now core.pace)
+      → Shows tells r o (record core { pace = over_now core.pace; outcome = outcome }) queue
+      (over_at w n)
   over_shows n outcome over pace = record {
     pace = pace;
     count = shows.count;
@@ -224,37 +243,66 @@ module _ (tells : Type 0) (r : Run) (trace : Trace) (laws : RunLaws tells r trac
 
       handed_some : (j : ℕ) → j < parts_in r → 0 < (part_of core.pace j).handed
       handed_some j l =
-          let b = and_parts (is_some_work core.pace.works) (list_all (λ (s : Standing). nat_lt 0 s.handed) core.pace.parts) (in_front_by core.pace.over (all_in core.pace) (all_stand core.pace) is_write) in
+          let b = and_parts (is_some_work core.pace.works)
+          (list_all (λ (s : Standing). nat_lt 0 s.handed) core.pace.parts)
+          (in_front_by core.pace.over (all_in core.pace) (all_stand core.pace) is_write) in
           ltb-true 0 (part_of core.pace j).handed
-          (all_at (λ (s : Standing). nat_lt 0 s.handed) core.pace.parts b.1 j no_part (omega (arith, l, shows.pace.count)))
+          (all_at (λ (s : Standing). nat_lt 0 s.handed) core.pace.parts b.1 j no_part
+          (omega (arith, l, shows.pace.count)))
 
-      fronts_at : (j : ℕ) → j < parts_in r → Front (HoldsWork r core.buffers j) (part_of core.pace j).handed core.pace.works (w.pieces j) work
-      fronts_at j l = front (HoldsWork r core.buffers j) (part_of core.pace j).handed core.pace.works (w.pieces j) work (handed_some j l) first_work (shows.pieces j l)
+      fronts_at : (j : ℕ) → j < parts_in r
+          → Front (HoldsWork r core.buffers j) (part_of core.pace j).handed core.pace.works
+          (w.pieces j) work
+      fronts_at j l = front (HoldsWork r core.buffers j)
+          (part_of core.pace j).handed core.pace.works (w.pieces j) work (handed_some j l)
+          first_work (shows.pieces j l)
 
       -- the buffers hold what stands in front
-      pub held : (t : tells) (j : ℕ) → j < parts_in r → HoldsFor r core.buffers j work.var (piece_levels t (fronts w j))
+      pub held : (t : tells) (j : ℕ) → j < parts_in r
+          → HoldsFor r core.buffers j work.var (piece_levels t (fronts w j))
       held t j l =
           let f = fronts_at j l in
-          subst (λ ms. HoldsFor r core.buffers j work.var (piece_levels t ms)) (sym f.is_first) (holds_front t r core.buffers j work f.first f.related)
+          subst (λ ms. HoldsFor r core.buffers j work.var (piece_levels t ms)) (sym f.is_first)
+          (holds_front t r core.buffers j work f.first f.related)
 
       at_kth : slice_get event_list k ≡ Some (network.Write n)
       at_kth = get_map (event_of n) (events core.pace) k next.Write kth
 
       before_last : n < last_of r o
-      before_last = omega (arith, nx.all_in 0 laws.some_part, at.reached.woven.within 0 laws.some_part)
+      before_last = omega (
+        arith,
+        nx.all_in 0 laws.some_part,
+        at.reached.woven.within 0 laws.some_part,
+      )
 
-      module _ (buffers : Buffers) (book : ℕ) (section : VarId) (on : (j : ℕ) (var : Option VarId) (state : State) → HoldsFor r core.buffers j var state → HoldsFor r buffers j var state)
+      module _ (buffers : Buffers) (book : ℕ) (section : VarId)
+          (on : (j : ℕ) (var : Option VarId) (state : State) → HoldsFor r core.buffers j var state
+          → HoldsFor r buffers j var state)
           (room : HasRoom r.setup buffers) where
         abbrev behind : Cores
-        behind = record core { pace = wrote_one core.pace; buffers = buffers; length = book; section = section }
+        behind = record core {
+          pace = wrote_one core.pace;
+          buffers = buffers;
+          length = book;
+          section = section;
+        }
 
-        pieces_on : (j : ℕ) → j < parts_in r → AllZip (HoldsWork r buffers j) (take (part_of (wrote_one core.pace) j).handed (drop 1 core.pace.works)) (drop 1 (w.pieces j))
+        pieces_on : (j : ℕ) → j < parts_in r
+            → AllZip (HoldsWork r buffers j)
+            (take (part_of (wrote_one core.pace) j).handed (drop 1 core.pace.works))
+            (drop 1 (w.pieces j))
         pieces_on j l =
             let f = fronts_at j l in
-            zip_weaker (HoldsWork r core.buffers j) (HoldsWork r buffers j) (holds_on r core.buffers buffers j (on j)) (take (part_of (wrote_one core.pace) j).handed (drop 1 core.pace.works)) (drop 1 (w.pieces j))
-            (subst (λ h. AllZip (HoldsWork r core.buffers j) (take h (drop 1 core.pace.works)) (drop 1 (w.pieces j))) (sym (less_of core.pace j (omega (arith, l, shows.pace.count)))) f.rest)
+            zip_weaker (HoldsWork r core.buffers j) (HoldsWork r buffers j)
+            (holds_on r core.buffers buffers j (on j))
+            (take (part_of (wrote_one core.pace) j).handed (drop 1 core.pace.works))
+            (drop 1 (w.pieces j))
+            (subst (λ h. AllZip (HoldsWork r core.buffers j) (take h (drop 1 core.pace.works))
+            (drop 1 (w.pieces j)))
+            (sym (less_of core.pace j (omega (arith, l, shows.pace.count)))) f.rest)
 
-        wrote_shows : ShowsPace tells r o (wrote_at w n book) (wrote_one core.pace) → Shows tells r o behind queue (wrote_at w n book)
+        wrote_shows : ShowsPace tells r o (wrote_at w n book) (wrote_one core.pace)
+            → Shows tells r o behind queue (wrote_at w n book)
         wrote_shows pace = record {
           pace = pace;
           count = shows.count;
@@ -272,20 +320,36 @@ module _ (tells : Type 0) (r : Run) (trace : Trace) (laws : RunLaws tells r trac
         }
 
         -- what is handed out, where wires tell
-        pub added : tells → WritesAt tells r (next_op r (guided r o n).control) (guided r o n).control.iteration (fronts w) w.book (Some book)
+        pub added : tells → WritesAt tells r (next_op r (guided r o n).control)
+            (guided r o n).control.iteration (fronts w) w.book (Some book)
             → handed_out r (wrote_at w n book) ≡ handed_out r w ++ entries_of (notes_of r n)
-        added t writes = ((laws.works t o w at.reached).work n (wrote_at w n book) nx (inl (book, writes, refl)) nx.going).added
+        added t writes =
+            ((laws.works t o w at.reached).work n (wrote_at w n book) nx (inl (book, writes, refl))
+            nx.going).added
 
-        pub goes_on : (e : Event) → WritesAt tells r (next_op r (guided r o n).control) (guided r o n).control.iteration (fronts w) w.book (Some book)
+        pub goes_on : (e : Event)
+            → WritesAt tells r (next_op r (guided r o n).control) (guided r o n).control.iteration
+            (fronts w) w.book (Some book)
             → e ≡ work_event (next_op r (guided r o n).control) (guided r o n).control.iteration
             → Leaves r.setup core behind e
             → buffers.state.key ≡ core.buffers.state.key
-            → (tells → HandsOut r trace behind (handed_out r w) (handed_out r (wrote_at w n book)) e)
-            → StepsTo tells r trace first k was (record { core = behind; queue = queue; now = now }) at e
+            → (tells → HandsOut r trace behind (handed_out r w) (handed_out r (wrote_at w n book))
+            e)
+            → StepsTo tells r trace first k was (record { core = behind; queue = queue; now = now })
+            at e
         goes_on e writes answers leaves key hands =
             let kept = keeps.wrote n book nx writes in
             record {
-              there = record { world = wrote_at w n book; oracle = o; reached = kept.0; shows = wrote_shows kept.1; points = at.points; values = at.values; sum = at.sum };
+              there = record {
+                world = wrote_at w n book;
+                oracle = o;
+                reached = kept.0;
+                shows = wrote_shows kept.1;
+                points = at.points;
+                values = at.values;
+                sum = at.sum;
+                items = at.items ∙ sym (items_written r.setup core.pace.parts);
+              };
               does = record {
                 events = event_list;
                 enabled = enabled_are;
@@ -294,19 +358,23 @@ module _ (tells : Type 0) (r : Run) (trace : Trace) (laws : RunLaws tells r trac
                 after = inl (book, writes, refl);
                 answers = subst (λ x. AnswersWork r o n x e) (sym nx.going) answers;
               };
-              falls = goes.falls (network.Write n) (wrote_at w n book) nx (inl (book, writes, refl));
+              falls = goes.falls (network.Write n) (wrote_at w n book) nx
+                  (inl (book, writes, refl));
               less = less_written r.setup core.pace work first_work;
               leaves = leaves;
               key = key;
               hands = hands;
+              same_way = λ j m l b. refl;
             }
 
       -- the undivided run's operation there
       op_is : (t : tells) (p : Op) → next_op r (guided r o n).control ≡ p → op_of r n ≡ p
       op_is t p e = ap (λ (g : Flat). next_op r g.control) (sym (laws.way t o w at.reached n)) ∙ e
 
-      iteration_is : (t : tells) (i : ℕ) → i ≡ (guided r o n).control.iteration → (undivided r n).control.iteration ≡ i
-      iteration_is t i e = ap (λ (g : Flat). g.control.iteration) (sym (laws.way t o w at.reached n)) ∙ sym e
+      iteration_is : (t : tells) (i : ℕ) → i ≡ (guided r o n).control.iteration
+          → (undivided r n).control.iteration ≡ i
+      iteration_is t i e = ap (λ (g : Flat). g.control.iteration)
+          (sym (laws.way t o w at.reached n)) ∙ sym e
 
       makes : (t : tells) → MakesWork t r n (fronts w)
       makes t = (laws.works t o w at.reached).makes n nx
@@ -314,7 +382,8 @@ module _ (tells : Type 0) (r : Run) (trace : Trace) (laws : RunLaws tells r trac
       -- a text
       module _ (v : VarId) (i : ℕ) (is : work ≡ record { var = Some v; iteration = i }) where
         piece : IsPiece (next_op r (guided r o n).control) (guided r o n).control.iteration v i
-        piece = piece_work (guided r o n).control.iteration i (next_op r (guided r o n).control) v (work_is ∙ ap Some is)
+        piece = piece_work (guided r o n).control.iteration i (next_op r (guided r o n).control) v
+            (work_is ∙ ap Some is)
 
         out_is : (v.0 < length r.setup.vars) × (is_among v r.setup.out_vars ≡ true)
         out_is = laws.outputs (guided r o n).control.pc v piece.op
@@ -322,54 +391,84 @@ module _ (tells : Type 0) (r : Run) (trace : Trace) (laws : RunLaws tells r trac
         pub has_piece : HasPiece r.setup core.buffers v
         has_piece = shows.room.pieces v out_is.0 out_is.1
 
-        pub held_piece : (t : tells) (j : ℕ) → j < parts_in r → HoldsPiece r.setup (cut_of r) core.buffers v j (only_level t (fronts w j))
-        held_piece t j l = subst (λ (x : Work). HoldsFor r core.buffers j x.var (piece_levels t (fronts w j))) is (held t j l)
+        pub held_piece : (t : tells) (j : ℕ) → j < parts_in r
+            → HoldsPiece r.setup (cut_of r) core.buffers v j (only_level t (fronts w j))
+        held_piece t j l = subst
+            (λ (x : Work). HoldsFor r core.buffers j x.var (piece_levels t (fronts w j))) is
+            (held t j l)
 
-        there : (x : Option ℕ) → WritesAt tells r (Piece v) i (fronts w) w.book x → WritesAt tells r (next_op r (guided r o n).control) (guided r o n).control.iteration (fronts w) w.book x
+        there : (x : Option ℕ) → WritesAt tells r (Piece v) i (fronts w) w.book x
+            → WritesAt tells r (next_op r (guided r o n).control) (guided r o n).control.iteration
+            (fronts w) w.book x
         there x writes =
-            subst (λ p. WritesAt tells r p (guided r o n).control.iteration (fronts w) w.book x) (sym piece.op)
+            subst (λ p. WritesAt tells r p (guided r o n).control.iteration (fronts w) w.book x)
+            (sym piece.op)
             (subst (λ j. WritesAt tells r (Piece v) j (fronts w) w.book x) piece.at writes)
 
         pub text_step : length_behind r.setup v i core ≤ greatest_output
-            → StepsTo tells r trace first k was (record { core = text_written r.setup v i core; queue = queue; now = now }) at (event.Section v i)
+            → StepsTo tells r trace first k was
+            (record { core = text_written r.setup v i core; queue = queue; now = now }) at
+            (event.Section v i)
         text_step l =
-            goes_on core.buffers (length_behind r.setup v i core) v (λ j var state h. h) shows.room (event.Section v i) writes
-            (ap (event.Section v) piece.at ∙ sym (ap (λ p. work_event p (guided r o n).control.iteration) piece.op))
+            goes_on core.buffers (length_behind r.setup v i core) v (λ j var state h. h) shows.room
+            (event.Section v i) writes
+            (ap (event.Section v) piece.at
+            ∙ sym (ap (λ p. work_event p (guided r o n).control.iteration) piece.op))
             (refl, l, has_piece)
             refl
             hands
           where
-            writes : WritesAt tells r (next_op r (guided r o n).control) (guided r o n).control.iteration (fronts w) w.book (Some (length_behind r.setup v i core))
+            writes : WritesAt tells r (next_op r (guided r o n).control)
+                (guided r o n).control.iteration (fronts w) w.book
+                (Some (length_behind r.setup v i core))
             writes =
                 there (Some (length_behind r.setup v i core))
-                (writes_on tells r laws.cut (fronts w) core.buffers v has_piece held_piece laws.some_part i w.book (length_behind r.setup v i core)
-                (ap (λ b. b + length (text_of_piece r.setup i v (piece_of core.buffers v))) shows.book) l)
+                (writes_on tells r laws.cut (fronts w)
+                core.buffers v has_piece held_piece laws.some_part i w.book
+                (length_behind r.setup v i core)
+                (ap (λ b. b + length (text_of_piece r.setup i v (piece_of core.buffers v)))
+                shows.book) l)
 
-            entry : (t : tells) → entries_of (notes_of r n) ≡ Wrote v i (text_of_piece r.setup i v (piece_of core.buffers v)) (undivided r n).state ∷ []
+            entry : (t : tells) → entries_of (notes_of r n)
+                ≡ Wrote v i (text_of_piece r.setup i v (piece_of core.buffers v))
+                (undivided r n).state ∷ []
             entry t =
-                text_entry tells t r trace laws n (fronts w) (makes t) core.buffers v (op_is t (Piece v) piece.op) has_piece (held_piece t)
-                ∙ ap (λ j. Wrote v j (text_of_piece r.setup j v (piece_of core.buffers v)) (undivided r n).state ∷ []) (iteration_is t i piece.at)
+                text_entry tells t r trace laws n (fronts w) (makes t) core.buffers v
+                (op_is t (Piece v) piece.op) has_piece (held_piece t)
+                ∙ ap (λ j. Wrote v j (text_of_piece r.setup j v (piece_of core.buffers v))
+                (undivided r n).state ∷ []) (iteration_is t i piece.at)
 
-            hands : tells → HandsOut r trace (text_written r.setup v i core) (handed_out r w) (handed_out r (wrote_at w n (length_behind r.setup v i core))) (event.Section v i)
+            hands : tells → HandsOut r trace (text_written r.setup v i core) (handed_out r w)
+                (handed_out r (wrote_at w n (length_behind r.setup v i core))) (event.Section v i)
             hands t = (
               text_of_piece r.setup i v (piece_of core.buffers v),
               (undivided r n).state,
-              added core.buffers (length_behind r.setup v i core) v (λ j var state h. h) shows.room t writes ∙ ap (λ (es : List Entry). handed_out r w ++ es) (entry t),
-              piece_is tells t r trace laws n (fronts w) (makes t) core.buffers v (op_is t (Piece v) piece.op) has_piece (held_piece t),
+              added core.buffers (length_behind r.setup v i core) v (λ j var state h. h)
+                  shows.room t writes ∙ ap (λ (es : List Entry). handed_out r w ++ es) (entry t),
+              piece_is tells t r trace laws n (fronts w) (makes t) core.buffers v
+                  (op_is t (Piece v) piece.op) has_piece (held_piece t),
               refl,
             )
 
         module _ (l : greatest_output < length_behind r.setup v i core) where
-          writes : WritesAt tells r (next_op r (guided r o n).control) (guided r o n).control.iteration (fronts w) w.book None
+          writes : WritesAt tells r (next_op r (guided r o n).control)
+              (guided r o n).control.iteration (fronts w) w.book None
           writes =
               there None
-              (writes_full tells r laws.cut (fronts w) core.buffers v has_piece held_piece laws.some_part i w.book
-              (subst (λ b. greatest_output < b + length (text_of_piece r.setup i v (piece_of core.buffers v))) shows.book l))
+              (writes_full tells r laws.cut (fronts w)
+              core.buffers v has_piece held_piece laws.some_part i w.book
+              (subst (λ b. greatest_output
+              < b + length (text_of_piece r.setup i v (piece_of core.buffers v))) shows.book l))
 
           over : OverAs r o (Some n) (out.OutputLimit i)
           over = (
             λ e. absurd (omega (arith, e, before_last)),
-            λ other. (ends.OutputLimit i, ap (λ p. end_met_by r p (guided r o n).control.iteration) piece.op ∙ ap (λ j. Some (ends.OutputLimit j)) (sym piece.at), refl),
+            λ other. (
+              ends.OutputLimit i,
+              ap (λ p. end_met_by r p (guided r o n).control.iteration) piece.op
+                  ∙ ap (λ j. Some (ends.OutputLimit j)) (sym piece.at),
+              refl,
+            ),
           )
 
           abbrev limit_place : Place tells
@@ -384,6 +483,7 @@ module _ (tells : Type 0) (r : Run) (trace : Trace) (laws : RunLaws tells r trac
             points = at.points;
             values = at.values;
             sum = at.sum;
+            items = at.items;
           }
 
           pub limit_step : StepsTo tells r trace first k was limit_place at event.End
@@ -398,59 +498,85 @@ module _ (tells : Type 0) (r : Run) (trace : Trace) (laws : RunLaws tells r trac
               answers = refl;
             };
             falls = goes.falls (network.Write n) (over_at w n) nx (inr (writes, refl));
-            less = less_over r.setup core.pace (not_over core.pace.over (all_in core.pace) (all_stand core.pace) next.Write is_write);
+            less = less_over r.setup core.pace
+                (not_over core.pace.over (all_in core.pace) (all_stand core.pace)
+                next.Write is_write);
             leaves = inr (v, i, refl, l);
             key = refl;
             hands = λ t. (
-              (laws.works t o w at.reached).over n (network.Write n) (over_at w n) nx (inr (writes, refl)) refl,
+              (laws.works t o w at.reached).over n (network.Write n) (over_at w n) nx
+                  (inr (writes, refl)) refl,
               works_are tells t r trace laws first limit_place limit_at n refl,
               outcome_is tells t r trace laws first limit_place limit_at n refl,
             );
+            same_way = λ j m l b. refl;
           }
 
       -- a checkpoint
       module _ (i : ℕ) (is : work ≡ record { var = None; iteration = i }) where
         saves : (next_op r (guided r o n).control ≡ Save) × (i ≡ (guided r o n).control.iteration)
-        saves = save_work (guided r o n).control.iteration i (next_op r (guided r o n).control) (work_is ∙ ap Some is)
+        saves = save_work (guided r o n).control.iteration i (next_op r (guided r o n).control)
+            (work_is ∙ ap Some is)
 
         abbrev named : Buffers
         named = with_name i core.length core.buffers
 
-        on_named : (j : ℕ) (var : Option VarId) (state : State) → HoldsFor r core.buffers j var state → HoldsFor r named j var state
+        on_named : (j : ℕ) (var : Option VarId) (state : State)
+            → HoldsFor r core.buffers j var state → HoldsFor r named j var state
         on_named j None state h = record { scalars = h.scalars; levels = h.levels }
         on_named j (Some v) state h = record { scalar = h.scalar; grid = h.grid }
 
         room_named : HasRoom r.setup named
         room_named = record {
-          pieces = λ v l a. let h = shows.room.pieces v l a in record { var = h.var; there = h.there; room = h.room };
+          pieces = λ v l a. let h = shows.room.pieces v l a in
+              record { var = h.var; there = h.there; room = h.room };
           lengths = refl;
-          state = record { scalars = shows.room.state.scalars; levels = shows.room.state.levels; points = shows.room.state.points };
+          state = record {
+            scalars = shows.room.state.scalars;
+            levels = shows.room.state.levels;
+            points = shows.room.state.points;
+          };
         }
 
-        pub held_state : (t : tells) (j : ℕ) → j < parts_in r → HoldsPart r.setup (cut_of r) core.buffers.state j (piece_levels t (fronts w j))
-        held_state t j l = subst (λ (x : Work). HoldsFor r core.buffers j x.var (piece_levels t (fronts w j))) is (held t j l)
+        pub held_state : (t : tells) (j : ℕ) → j < parts_in r
+            → HoldsPart r.setup (cut_of r) core.buffers.state j (piece_levels t (fronts w j))
+        held_state t j l = subst
+            (λ (x : Work). HoldsFor r core.buffers j x.var (piece_levels t (fronts w j))) is
+            (held t j l)
 
-        pub save_step : StepsTo tells r trace first k was (record { core = state_written i core; queue = queue; now = now }) at (event.Save i)
+        pub save_step : StepsTo tells r trace first k was
+            (record { core = state_written i core; queue = queue; now = now }) at (event.Save i)
         save_step =
             goes_on named core.length core.section on_named room_named (event.Save i) writes
-            (ap event.Save saves.1 ∙ sym (ap (λ p. work_event p (guided r o n).control.iteration) saves.0))
+            (ap event.Save saves.1
+            ∙ sym (ap (λ p. work_event p (guided r o n).control.iteration) saves.0))
             (refl, room_named.state)
             refl
             hands
           where
-            writes : WritesAt tells r (next_op r (guided r o n).control) (guided r o n).control.iteration (fronts w) w.book (Some core.length)
-            writes = subst (λ p. WritesAt tells r p (guided r o n).control.iteration (fronts w) w.book (Some core.length)) (sym saves.0) (ap Some shows.book)
+            writes : WritesAt tells r (next_op r (guided r o n).control)
+                (guided r o n).control.iteration (fronts w) w.book (Some core.length)
+            writes =
+                subst (λ p. WritesAt tells r p (guided r o n).control.iteration (fronts w) w.book
+                (Some core.length)) (sym saves.0) (ap Some shows.book)
 
-            hands : tells → HandsOut r trace (state_written i core) (handed_out r w) (handed_out r (wrote_at w n core.length)) (event.Save i)
+            hands : tells → HandsOut r trace (state_written i core) (handed_out r w)
+                (handed_out r (wrote_at w n core.length)) (event.Save i)
             hands t =
                 let op = op_is t Save saves.0 in (
                   (undivided r n).state,
                   added named core.length core.section on_named room_named t writes
-                      ∙ ap (λ (es : List Entry). handed_out r w ++ es) ((makes t).entry op ∙ ap (λ j. Saved j (undivided r n).state ∷ []) (iteration_is t i saves.1)),
+                      ∙ ap (λ (es : List Entry). handed_out r w ++ es)
+                      ((makes t).entry op
+                      ∙ ap (λ j. Saved j (undivided r n).state ∷ [])
+                      (iteration_is t i saves.1)),
                   record {
                     iteration_is = refl;
-                    state_is = state_is r.setup (cut_of r) refl (tiles (cut_of r) laws.cut) core.buffers.state shows.room.state laws.some_part (undivided r n).state (laws.states n)
-                        (λ j. piece_levels t (fronts w j)) (held_state t) (λ j l. (makes t).state op j l);
+                    state_is = state_is r.setup (cut_of r) refl (tiles (cut_of r) laws.cut)
+                        core.buffers.state shows.room.state laws.some_part (undivided r n).state
+                        (laws.states n)
+                        (λ j. piece_levels t (fronts w j)) (held_state t)
+                        (λ j l. (makes t).state op j l);
                     lengths_is = ap (λ x. x ∷ []) (shows.book ∙ laws.length_is t o w at.reached);
                   },
                 )
@@ -473,13 +599,19 @@ module _ (tells : Type 0) (r : Run) (trace : Trace) (laws : RunLaws tells r trac
         stands : EndStands tells r o w
         stands = laws.goes_on.end_stands o w at.reached
 
-        go : (w.stop ≡ r.most) ⊎ (w.stop ≡ r.most → ⊥) → OverAs r o (Some (end_of N w)) (ended_by core.met)
+        go : (w.stop ≡ r.most) ⊎ (w.stop ≡ r.most → ⊥)
+            → OverAs r o (Some (end_of N w)) (ended_by core.met)
         go (inl e) = (λ h. ap ended_by (shows.met.0 e), λ never. absurd (never (stands.at_last e)))
         go (inr e) =
             let s = stands.at_stop e in
             let m = shows.met.1 e in (
               λ h. absurd (omega (arith, h, s.0, s.1)),
-              λ other. (m.0, ap (λ n. end_met_by r (next_op r (guided r o n).control) (guided r o n).control.iteration) s.0 ∙ m.1, ap ended_by m.2 ∙ ended_same m.0),
+              λ other. (
+                m.0,
+                ap (λ n. end_met_by r (next_op r (guided r o n).control)
+                    (guided r o n).control.iteration) s.0 ∙ m.1,
+                ap ended_by m.2 ∙ ended_same m.0,
+              ),
             )
 
     abbrev end_place : Place tells
@@ -494,6 +626,7 @@ module _ (tells : Type 0) (r : Run) (trace : Trace) (laws : RunLaws tells r trac
       points = at.points;
       values = at.values;
       sum = at.sum;
+      items = at.items;
     }
 
     pub end_step : StepsTo tells r trace first k was end_place at event.End
@@ -508,12 +641,15 @@ module _ (tells : Type 0) (r : Run) (trace : Trace) (laws : RunLaws tells r trac
         answers = refl;
       };
       falls = goes.falls network.End (over_at w (end_of N w)) can refl;
-      less = less_over r.setup core.pace (not_over core.pace.over (all_in core.pace) (all_stand core.pace) next.End is_end);
+      less = less_over r.setup core.pace
+          (not_over core.pace.over (all_in core.pace) (all_stand core.pace) next.End is_end);
       leaves = inl refl;
       key = refl;
       hands = λ t. (
-        (laws.works t o w at.reached).over (end_of N w) network.End (over_at w (end_of N w)) can refl refl,
+        (laws.works t o w at.reached).over (end_of N w) network.End (over_at w (end_of N w))
+            can refl refl,
         works_are tells t r trace laws first end_place end_at (end_of N w) refl,
         outcome_is tells t r trace laws first end_place end_at (end_of N w) refl,
       );
+      same_way = λ j m l b. refl;
     }

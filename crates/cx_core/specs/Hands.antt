@@ -1,4 +1,5 @@
--- What a step hands out where the wire tells what it carries: the works of the undivided run, in its order, and its end.
+-- What a step hands out where the wire tells what it carries: the works of the undivided run, in
+-- its order, and its end.
 use Rattle.std.specs.Prelude.{ℕ, ◌+◌, ◌%◌, ◌^◌, ◌<◌, ◌≤◌, ◌≡◌, ◌↔◌, ◌⊎◌, true, false, ℤ, pos, List, [], ◌∷◌, ◌++◌, length, slice_get, Option, Some, None, if◌then◌else◌}
 use Rattle.cx_plan.specs.declared.variable.VarId.{VarId}
 use Rattle.cx_plan.specs.Setups.{Setup}
@@ -14,7 +15,7 @@ use Rattle.cx_wire.specs.Received.{counted}
 use Rattle.cx_chk.specs.declared.checkpoint.Checkpoint.{Checkpoint}
 use Rattle.cx_gather.specs.Checkpoints.{HoldsState, state_of}
 use Rattle.cx_gather.specs.Gathering.{HasPiece, piece_of}
-use Rattle.cx_pace.specs.Shows.{IsBehindSave}
+use Rattle.cx_pace.specs.Shows.{IsBehindSave, SameWay}
 use Rattle.cx_parts.specs.Holding.{Held}
 use Rattle.cx_parts.specs.Moves.{Message, Channel}
 use Rattle.cx_parts.specs.Nets.{net, within_lead}
@@ -36,7 +37,8 @@ abbrev pub whole_piece : Setup → VarId → State → List ℤ
 whole_piece setup v state = if is_scalar setup v then scalar_of state v ∷ [] else level_of state v 0
 
 -- a checkpoint of an iteration, with the whole state and the length of the output
-pub record IsCheckpointOf (setup : Setup) (c : Checkpoint) (iteration : ℕ) (state : State) (output : ℕ) : Type 0 where
+pub record IsCheckpointOf (setup : Setup) (c : Checkpoint) (iteration : ℕ) (state : State)
+    (output : ℕ) : Type 0 where
   pub iteration_is : c.iteration ≡ iteration
   pub state_is : state_of setup.vars c ≡ state
   pub lengths_is : c.lengths ≡ output ∷ []
@@ -55,7 +57,8 @@ HandsOut r trace core before now (Section v iteration) =
     × (text ≡ text_of_piece r.setup iteration v (piece_of core.buffers v))
 HandsOut r trace core before now (Save iteration) =
     (state : State) × (now ≡ before ++ Saved iteration state ∷ [])
-    × IsCheckpointOf r.setup core.buffers.state iteration state (r.so_far + length (output_of before))
+    × IsCheckpointOf r.setup core.buffers.state iteration state
+    (r.so_far + length (output_of before))
 HandsOut r trace core before now End =
     (now ≡ before) × (works_of trace.entries ≡ now) × (core.outcome ≡ ended_as trace.outcome)
 
@@ -67,28 +70,38 @@ pub record HasTotals (r : Run) (trace : Trace) (first now : Counts) : Type 0 whe
 
 -- ---- steps
 
--- What an answer leaves of the core, whatever its wire tells. A part's operation leaves the output as long as it is. A text or a
--- checkpoint is there to be lent; the run is over by the end that was met, or by a text with which the output would pass its limit.
+-- What an answer leaves of the core, whatever its wire tells. A part's operation leaves the output
+-- as long as it is. A text or a checkpoint is there to be lent; the run is over by the end that was
+-- met, or by a text with which the output would pass its limit.
 abbrev pub Leaves : Setup → (was is : Cores) → Event → Type 0
 Leaves setup was is (Part k) = (is.length ≡ was.length) × (is.outcome ≡ was.outcome)
 Leaves setup was is (Section v iteration) =
-    (is ≡ text_written setup v iteration was) × (is.length ≤ greatest_output) × HasPiece setup is.buffers v
-Leaves setup was is (Save iteration) = (is ≡ state_written iteration was) × HoldsState setup is.buffers.state
+    (is ≡ text_written setup v iteration was) × (is.length ≤ greatest_output)
+    × HasPiece setup is.buffers v
+Leaves setup was is (Save iteration) =
+    (is ≡ state_written iteration was) × HoldsState setup is.buffers.state
 Leaves setup was is End =
     (is ≡ run_ended was)
-    ⊎ ((v : VarId) × (iteration : ℕ) × (is ≡ limit_met iteration was) × (greatest_output < length_behind setup v iteration was))
+    ⊎ ((v : VarId) × (iteration : ℕ) × (is ≡ limit_met iteration was)
+    × (greatest_output < length_behind setup v iteration was))
 
--- A step from where a core is: it does the k-th event that can happen, and leads where the core is then, with less left to do, also by
--- where the parts stand alone. The key of the checkpoints stays. Where the wire tells what it carries, it hands out what the run does
--- next.
-pub record StepsTo (tells : Type 0) (r : Run) (trace : Trace) (first : Counts) (k : ℕ) (was is : Standing tells) (at : IsAt tells r first was.core was.queue was.now) (event : Event) : Type 0 where
+-- A step from where a core is: it does the k-th event that can happen, and leads where the core is
+-- then, with less left to do, also by where the parts stand alone. The key of the checkpoints
+-- stays, and so does the way of all parts wherever one has been. Where the wire tells what it
+-- carries, it hands out what the run does next.
+pub record StepsTo (tells : Type 0) (r : Run) (trace : Trace) (first : Counts) (k : ℕ)
+    (was is : Standing tells) (at : IsAt tells r first was.core was.queue was.now)
+    (event : Event) : Type 0 where
   pub there : IsAt tells r first is.core is.queue is.now
   pub does : DoesEvent tells r k at.oracle at.world there.world event
-  pub falls : left (net tells within_lead r there.oracle) there.world < left (net tells within_lead r at.oracle) at.world
+  pub falls : left (net tells within_lead r there.oracle) there.world
+      < left (net tells within_lead r at.oracle) at.world
   pub less : steps_left r.setup is.core.pace < steps_left r.setup was.core.pace
   pub leaves : Leaves r.setup was.core is.core event
   pub key : is.core.buffers.state.key ≡ was.core.buffers.state.key
-  pub hands : tells → HandsOut r trace is.core (handed_out r at.world) (handed_out r there.world) event
+  pub hands : tells → HandsOut r trace is.core (handed_out r at.world) (handed_out r there.world)
+      event
+  pub same_way : SameWay r at.oracle there.oracle there.world
 
 -- ---- what is lent
 
@@ -110,7 +123,8 @@ HasScalar core v = HasScalarIn (slice_get core.patches 0) v
 -- ---- the end
 
 -- the run is done: all was counted, and no message is left
-pub record IsDone (tells : Type 0) (r : Run) (trace : Trace) (first : Counts) (is : Standing tells) : Type 0 where
+pub record IsDone (tells : Type 0) (r : Run) (trace : Trace) (first : Counts)
+    (is : Standing tells) : Type 0 where
   pub totals : HasTotals r trace first is.now
   pub none_left : (a b : ℕ) → is.queue a b ≡ []
   -- what is lent is the scalars of the last state
@@ -118,27 +132,34 @@ pub record IsDone (tells : Type 0) (r : Run) (trace : Trace) (first : Counts) (i
       → last_number is.core v ≡ scalar_of state v
 
 -- of a core whose wire tells
-pub record Tells (tells : Type 0) (r : Run) (trace : Trace) (first : Counts) (is : Standing tells) : Type 0 where
+pub record Tells (tells : Type 0) (r : Run) (trace : Trace) (first : Counts)
+    (is : Standing tells) : Type 0 where
   pub ended : (is.core.outcome ≡ Going → ⊥) → is.core.outcome ≡ ended_as trace.outcome
   pub done : is.core.outcome ≡ Done → IsDone tells r trace first is
 
 -- an event is the operation of a part that stands behind the writer's next checkpoint
-abbrev pub LiesAhead : {tells : Type 0} → Run → Oracle → World Held (Message tells) Channel ℕ → Option network.Event → Type 0
+abbrev pub LiesAhead : {tells : Type 0} → Run → Oracle → World Held (Message tells) Channel ℕ
+    → Option network.Event → Type 0
 LiesAhead r oracle w (Some (network.Part k)) = IsBehindSave r oracle w k
 LiesAhead r oracle w (Some (network.Write n)) = ⊥
 LiesAhead r oracle w (Some network.End) = ⊥
 LiesAhead r oracle w None = ⊥
 
 -- wherever a core is
-pub record Stands (tells : Type 0) (r : Run) (trace : Trace) (first : Counts) (is : Standing tells) (at : IsAt tells r first is.core is.queue is.now) : Type 0 where
+pub record Stands (tells : Type 0) (r : Run) (trace : Trace) (first : Counts) (is : Standing tells)
+    (at : IsAt tells r first is.core is.queue is.now) : Type 0 where
   pub events : List network.Event
   pub enabled : AreEnabled tells r at.oracle at.world events
   pub count : enabled_in is.core ≡ length events
   pub some_event : is.core.outcome ≡ Going → 0 < enabled_in is.core
-  -- which of them lie behind the writer's next checkpoint; never do all. Where the wire tells, the way to it is the undivided run.
-  pub ahead : (k : ℕ) → k < enabled_in is.core → ahead_in is.core k ≡ true ↔ LiesAhead r at.oracle at.world (slice_get events k)
-  pub some_before : is.core.outcome ≡ Going → (k : ℕ) × (k < enabled_in is.core) × (ahead_in is.core k ≡ false)
+  -- which of them lie behind the writer's next checkpoint; never do all. Where the wire tells, the
+  -- way to it is the undivided run.
+  pub ahead : (k : ℕ) → k < enabled_in is.core
+      → ahead_in is.core k ≡ true ↔ LiesAhead r at.oracle at.world (slice_get events k)
+  pub some_before : is.core.outcome ≡ Going
+      → (k : ℕ) × (k < enabled_in is.core) × (ahead_in is.core k ≡ false)
   pub way : tells → (n : ℕ) → guided r at.oracle n ≡ undivided r n
   -- each stored scalar can be lent
-  pub scalars : (v : VarId) → v.0 < length r.setup.vars → 0 < levels_of r.setup v → is_scalar r.setup v ≡ true → HasScalar is.core v
+  pub scalars : (v : VarId) → v.0 < length r.setup.vars → 0 < levels_of r.setup v
+      → is_scalar r.setup v ≡ true → HasScalar is.core v
   pub told : tells → Tells tells r trace first is

@@ -44,4 +44,5 @@ going_left true = 0
 
 -- An operation may hand in one more work. So each place that is left counts twice.
 unfoldable pub steps_left : Setup → Paces → ℕ
-steps_left setup p = 2 * places_left setup p.parts + length p.works + stop_left setup p p.stopped + going_left p.over
+steps_left setup p = 2 * places_left setup p.parts + length p.works + stop_left setup p p.stopped
+    + going_left p.over

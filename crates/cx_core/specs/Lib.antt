@@ -3,6 +3,7 @@ pub mod Shows
 pub mod Steps
 pub mod Left
 pub mod Hands
+pub mod Gathered
 pub mod Moving
 pub mod Starts
 pub mod Writes

@@ -37,7 +37,8 @@ pub record ShowsPart (r : Run) (k : ℕ) (p : PatchValue) (x : Held) : Type 0 wh
 
 -- numbers that part a has given for reductions, one by one
 abbrev pub ShowsGiven : {tells : Type 0} → Run → ℕ → Reduced → Message tells → Type 0
-ShowsGiven r a x (Given number) = (x.number ≡ number) × (x.points ≡ point_count (owned (cut_of r) a))
+ShowsGiven r a x (Given number) =
+    (x.number ≡ number) × (x.points ≡ point_count (owned (cut_of r) a))
 ShowsGiven r a x (Sent h values) = ⊥
 ShowsGiven r a x (Handed n state) = ⊥
 
@@ -46,11 +47,12 @@ abbrev pub kinds_by : Run → Op → List ItemKind
 kinds_by r (Give i) = (item r.setup i).kind ∷ []
 kinds_by r _ = []
 
--- the kinds of all that a part gives before place n, and of what it has joined there: an operation joins what was given at the
--- place before it
+-- the kinds of all that a part gives before place n, and of what it has joined there: an operation
+-- joins what was given at the place before it
 abbrev pub kinds_given : Run → Oracle → ℕ → List ItemKind
 kinds_given r oracle zero = []
-kinds_given r oracle (suc n) = kinds_given r oracle n ++ kinds_by r (next_op r (guided r oracle n).control)
+kinds_given r oracle (suc n) =
+    kinds_given r oracle n ++ kinds_by r (next_op r (guided r oracle n).control)
 
 abbrev pub kinds_joined : Run → Oracle → ℕ → List ItemKind
 kinds_joined r oracle zero = []
@@ -62,7 +64,8 @@ kind_of x = x.kind
 -- the buffers hold a part's piece of a work, which is a state over its owned points
 abbrev pub HoldsFor : Run → Buffers → ℕ → Option VarId → State → Type 0
 HoldsFor r b k None state = HoldsPart r.setup (cut_of r) b.state k state
-HoldsFor r b k (Some v) state = HoldsPiece r.setup (cut_of r) b v k (level_of state (record { 0 = 0 }) 0)
+HoldsFor r b k (Some v) state =
+    HoldsPiece r.setup (cut_of r) b v k (level_of state (record { 0 = 0 }) 0)
 
 -- the same of the piece that the part has handed in, where wires tell
 abbrev pub HoldsWork : {tells : Type 0} → Run → Buffers → ℕ → Work → Message tells → Type 0
@@ -71,11 +74,13 @@ HoldsWork r b k work (Given number) = ⊥
 HoldsWork {tells} r b k work (Handed n state) = (t : tells) → HoldsFor r b k work.var (state t)
 
 -- the end that a part met at the stop, or none
-abbrev pub MetAt : {tells : Type 0} → Run → Oracle → World Held (Message tells) Channel ℕ → Outcome → Type 0
+abbrev pub MetAt : {tells : Type 0} → Run → Oracle → World Held (Message tells) Channel ℕ → Outcome
+    → Type 0
 MetAt r oracle w met =
     (w.stop ≡ r.most → met ≡ Going)
     × ((w.stop ≡ r.most → ⊥) → (end : End)
-    × (end_met_by r (next_op r (guided r oracle w.stop).control) (guided r oracle w.stop).control.iteration ≡ Some end)
+    × (end_met_by r (next_op r (guided r oracle w.stop).control)
+    (guided r oracle w.stop).control.iteration ≡ Some end)
     × (met ≡ outcome_of (Some end)))
 
 -- how a run that is over has ended
@@ -84,23 +89,31 @@ OverAs r oracle None outcome = outcome ≡ Going
 OverAs r oracle (Some n) outcome =
     (n ≡ last_of r oracle → outcome ≡ outcome_of None)
     × ((n ≡ last_of r oracle → ⊥) → (end : End)
-    × (end_met_by r (next_op r (guided r oracle n).control) (guided r oracle n).control.iteration ≡ Some end)
+    × (end_met_by r (next_op r (guided r oracle n).control) (guided r oracle n).control.iteration
+    ≡ Some end)
     × (outcome ≡ outcome_of (Some end)))
 
-pub record Shows (tells : Type 0) (r : Run) (oracle : Oracle) (core : Cores) (queue : ℕ → ℕ → List (SentMail tells)) (w : World Held (Message tells) Channel ℕ) : Type 0 where
+pub record Shows (tells : Type 0) (r : Run) (oracle : Oracle) (core : Cores)
+    (queue : ℕ → ℕ → List (SentMail tells))
+    (w : World Held (Message tells) Channel ℕ) : Type 0 where
   pub pace : ShowsPace tells r oracle w core.pace
   pub count : length core.patches ≡ parts_in r
-  pub patches : (k : ℕ) (p : PatchValue) → slice_get core.patches k ≡ Some p → ShowsPart r k p (w.held k)
-  pub wires : (a b : ℕ) → a < parts_in r → b < parts_in r → ShowsQueue (queue a b) (w.queue (Wire a b))
+  pub patches : (k : ℕ) (p : PatchValue) → slice_get core.patches k ≡ Some p
+      → ShowsPart r k p (w.held k)
+  pub wires : (a b : ℕ) → a < parts_in r → b < parts_in r
+      → ShowsQueue (queue a b) (w.queue (Wire a b))
   -- no message is in any other queue
   pub others : (a b : ℕ) → (a < parts_in r → b < parts_in r → ⊥) → queue a b ≡ []
   pub senders : length core.given.given ≡ parts_in r
-  pub boards : (a b : ℕ) → a < parts_in r → b < parts_in r → AllZip (ShowsGiven r a) (waiting core.given a b) (w.queue (Board a b))
+  pub boards : (a b : ℕ) → a < parts_in r → b < parts_in r
+      → AllZip (ShowsGiven r a) (waiting core.given a b) (w.queue (Board a b))
   -- each board has the kinds that its sender has given and its receiver hasn't joined
   pub kinds : (a b : ℕ) → a < parts_in r → b < parts_in r
-      → kinds_given r oracle (w.place a) ≡ kinds_joined r oracle (w.place b) ++ map kind_of (waiting core.given a b)
+      → kinds_given r oracle (w.place a)
+      ≡ kinds_joined r oracle (w.place b) ++ map kind_of (waiting core.given a b)
   pub pieces : (k : ℕ) → k < parts_in r
-      → AllZip (HoldsWork r core.buffers k) (take (part_of core.pace k).handed core.pace.works) (w.pieces k)
+      → AllZip (HoldsWork r core.buffers k) (take (part_of core.pace k).handed core.pace.works)
+      (w.pieces k)
   pub room : HasRoom r.setup core.buffers
   pub book : core.length ≡ w.book
   pub met : MetAt r oracle w core.met

@@ -17,7 +17,8 @@ use Rattle.cx_part.specs.Frames.{IsPatchOf}
 use Rattle.cx_parts.specs.Beginnings.{Beginning, Afresh, From, run_of}
 use Rattle.cx_parts.specs.Nets.{held_first}
 
--- a whole job with shapes, whose grid has interior points, that the region check accepts, and whose widths cut its grid
+-- a whole job with shapes, whose grid has interior points, that the region check accepts, and whose
+-- widths cut its grid
 pub record IsReady (job : Job) : Type 0 where
   pub whole : IsWhole job
   pub shapes : HasShapes (setup_of job)
@@ -33,6 +34,11 @@ iteration_in (Some c) = Some c.iteration
 abbrev pub length_in : Option Checkpoint → ℕ
 length_in None = 0
 length_in (Some c) = slice_index_or c.lengths 0 0
+
+-- the iteration at which a run begins
+abbrev pub first_iteration : Option Checkpoint → ℕ
+first_iteration None = 0
+first_iteration (Some c) = c.iteration
 
 -- a run begins at its start, or in the state of a checkpoint
 abbrev pub begins_in : Setup → Option Checkpoint → Beginning
@@ -56,9 +62,12 @@ filled_first setup None p = p
 filled_first setup (Some c) p = with_numbers p (scattered setup c p)
 
 -- the patch of part k as a run begins
-pub record HasFirst (job : Job) (cut : Parts) (state : Option Checkpoint) (k : ℕ) (p : PatchValue) : Type 0 where
+pub record HasFirst (job : Job) (cut : Parts) (state : Option Checkpoint) (k : ℕ)
+    (p : PatchValue) : Type 0 where
   pub frame : IsPatchOf (setup_of job) cut k p
-  pub numbers : (rules : List Rule) → p.numbers ≡ (held_first (run_of job rules (begins_in (setup_of job) state)) k).numbers
+  pub numbers : (rules : List Rule)
+      → p.numbers ≡ (held_first (run_of job rules (begins_in (setup_of job) state)) k).numbers
 
 abbrev pub ArePatches : Job → Parts → Option Checkpoint → List PatchValue → Type 0
-ArePatches job cut state patches = (k : ℕ) (p : PatchValue) → slice_get patches k ≡ Some p → HasFirst job cut state k p
+ArePatches job cut state patches = (k : ℕ) (p : PatchValue) → slice_get patches k ≡ Some p
+    → HasFirst job cut state k p

@@ -19,7 +19,7 @@ use Rattle.cx_parts.specs.Runs.{Run, Oracle, parts_in, next_op, guided}
 use Rattle.cx_parts.specs.Truths.{truth}
 use Rattle.cx_core.specs.declared.answers.Event.{Event}
 use Rattle.cx_core.specs.declared.answers.Event.TheVariants.{Part, Section, Save, End}
-use Rattle.cx_core.specs.Cores.{Cores}
+use Rattle.cx_core.specs.Cores.{Cores, items_of}
 use Rattle.cx_core.specs.Shows.{Shows}
 
 -- what a meter and a wire have counted: points, values received, and their sum
@@ -37,12 +37,16 @@ pub record Standing (tells : Type 0) : Type 0 where
 abbrev pub counts : (points values sum : ℕ) → Counts
 counts points values sum = record { points = points; values = values; sum = sum }
 
-abbrev pub stands_at : {tells : Type 0} → Cores → (ℕ → ℕ → List (SentMail tells)) → (points values sum : ℕ) → Standing tells
-stands_at core queue points values sum = record { core = core; queue = queue; now = counts points values sum }
+abbrev pub stands_at : {tells : Type 0} → Cores → (ℕ → ℕ → List (SentMail tells))
+    → (points values sum : ℕ) → Standing tells
+stands_at core queue points values sum =
+    record { core = core; queue = queue; now = counts points values sum }
 
--- Where a core, its wire and its meter are: in a state that a run in parts reaches, which they show. They have counted what the
--- run has, on top of what they had counted when it began.
-pub record IsAt (tells : Type 0) (r : Run) (first : Counts) (core : Cores) (queue : ℕ → ℕ → List (SentMail tells)) (now : Counts) : Type 0 where
+-- Where a core, its wire and its meter are: in a state that a run in parts reaches, which they
+-- show. They have counted what the run has, on top of what they had counted when it began. Each
+-- part's items are those of its iteration.
+pub record IsAt (tells : Type 0) (r : Run) (first : Counts) (core : Cores)
+    (queue : ℕ → ℕ → List (SentMail tells)) (now : Counts) : Type 0 where
   pub world : World Held (Message tells) Channel ℕ
   pub oracle : Oracle
   pub reached : IsReachedState tells r oracle world
@@ -50,14 +54,17 @@ pub record IsAt (tells : Type 0) (r : Run) (first : Counts) (core : Cores) (queu
   pub points : now.points ≡ raised first.points (world.meter 0)
   pub values : now.values ≡ counted first.values (world.meter 1)
   pub sum : (t : tells) → now.sum ≡ (first.sum + taken_sum t r oracle world) % 2 ^ 64
+  pub items : core.items ≡ items_of r.setup core.pace
 
 -- where a run begins: nobody has done anything
-pub record Begins (tells : Type 0) (r : Run) (first : Counts) (core : Cores) (queue : ℕ → ℕ → List (SentMail tells)) : Type 0 where
+pub record Begins (tells : Type 0) (r : Run) (first : Counts) (core : Cores)
+    (queue : ℕ → ℕ → List (SentMail tells)) : Type 0 where
   pub at : IsAt tells r first core queue first
   pub nothing_done : at.world ≡ begun (net tells within_lead r (truth r))
 
 -- in a run of the job by these rules, from some beginning
-pub record IsRunning (tells : Type 0) (job : Job) (rules : List Rule) (is : Standing tells) : Type 0 where
+pub record IsRunning (tells : Type 0) (job : Job) (rules : List Rule)
+    (is : Standing tells) : Type 0 where
   pub beginning : Beginning
   pub begins : IsBeginning (setup_of job) beginning
   pub first : Counts
@@ -76,7 +83,8 @@ Rises f [] = Unit {0}
 Rises f (e ∷ es) = All (λ (d : network.Event). f e < f d) es × Rises f es
 
 -- the events that can happen, each once, in their order
-pub record AreEnabled (tells : Type 0) (r : Run) (oracle : Oracle) (w : World Held (Message tells) Channel ℕ) (es : List network.Event) : Type 0 where
+pub record AreEnabled (tells : Type 0) (r : Run) (oracle : Oracle)
+    (w : World Held (Message tells) Channel ℕ) (es : List network.Event) : Type 0 where
   pub each : All (λ (e : network.Event). Can (net tells within_lead r oracle) w e) es
   pub all : (e : network.Event) → Can (net tells within_lead r oracle) w e → Contains es e
   pub order : Rises (rank (parts_in r)) es
@@ -94,13 +102,15 @@ AnswersWork r oracle n None event =
 AnswersWork r oracle n (Some m) event = event ≡ End
 
 -- what is answered for an event
-abbrev pub Answers : {tells : Type 0} → Run → Oracle → network.Event → World Held (Message tells) Channel ℕ → Event → Type 0
+abbrev pub Answers : {tells : Type 0} → Run → Oracle → network.Event
+    → World Held (Message tells) Channel ℕ → Event → Type 0
 Answers r oracle (network.Part k) new event = event ≡ Part k
 Answers r oracle (network.Write n) new event = AnswersWork r oracle n new.over event
 Answers r oracle network.End new event = event ≡ End
 
 -- the k-th of the events that can happen is done, and no other
-pub record DoesEvent (tells : Type 0) (r : Run) (k : ℕ) (oracle : Oracle) (old new : World Held (Message tells) Channel ℕ) (event : Event) : Type 0 where
+pub record DoesEvent (tells : Type 0) (r : Run) (k : ℕ) (oracle : Oracle)
+    (old new : World Held (Message tells) Channel ℕ) (event : Event) : Type 0 where
   pub events : List network.Event
   pub enabled : AreEnabled tells r oracle old events
   pub which : network.Event

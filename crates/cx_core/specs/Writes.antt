@@ -20,7 +20,8 @@ HasBuffer setup b (Some v) = HasPiece setup b v
 
 -- how long the output is behind a variable's text, and whether that is within its limit
 abbrev pub length_behind : Setup → VarId → ℕ → Cores → ℕ
-length_behind setup v iteration core = core.length + length (text_of_piece setup iteration v (piece_of core.buffers v))
+length_behind setup v iteration core =
+    core.length + length (text_of_piece setup iteration v (piece_of core.buffers v))
 
 abbrev pub has_space : Setup → VarId → ℕ → Cores → Bool
 has_space setup v iteration core = nat_le (length_behind setup v iteration core) greatest_output
@@ -28,22 +29,32 @@ has_space setup v iteration core = nat_le (length_behind setup v iteration core)
 -- the text comes next, or the output would pass its limit
 abbrev pub text_written : Setup → VarId → ℕ → Cores → Cores
 text_written setup v iteration core =
-    record core { pace = wrote_one core.pace; length = length_behind setup v iteration core; section = v }
+    record core {
+      pace = wrote_one core.pace;
+      length = length_behind setup v iteration core;
+      section = v;
+    }
 
 abbrev pub limit_met : ℕ → Cores → Cores
-limit_met iteration core = record core { pace = over_now core.pace; outcome = OutputLimit iteration }
+limit_met iteration core =
+    record core { pace = over_now core.pace; outcome = OutputLimit iteration }
 
 abbrev pub piece_written : Setup → VarId → ℕ → Cores → Cores
 piece_written setup v iteration core =
-    if has_space setup v iteration core then text_written setup v iteration core else limit_met iteration core
+    if has_space setup v iteration core then text_written setup v iteration core
+    else limit_met iteration core
 
 abbrev pub piece_event : Setup → VarId → ℕ → Cores → Event
-piece_event setup v iteration core = if has_space setup v iteration core then Section v iteration else End
+piece_event setup v iteration core = if has_space setup v iteration core then Section v iteration
+    else End
 
 -- a checkpoint comes next
 abbrev pub state_written : ℕ → Cores → Cores
 state_written iteration core =
-    record core { pace = wrote_one core.pace; buffers = with_name iteration core.length core.buffers }
+    record core {
+      pace = wrote_one core.pace;
+      buffers = with_name iteration core.length core.buffers;
+    }
 
 -- the run is over, by the end that a part has met, or by none
 abbrev pub ended_by : Outcome → Outcome
@@ -65,7 +76,8 @@ CanWrite setup core (Some work) = HasBuffer setup core.buffers work.var
 
 -- what is written, and what is answered
 abbrev pub WritesTo : Setup → Option VarId → ℕ → Cores → Cores → Event → Type 0
-WritesTo setup None iteration old new event = (new ≡ state_written iteration old) × (event ≡ Save iteration)
+WritesTo setup None iteration old new event =
+    (new ≡ state_written iteration old) × (event ≡ Save iteration)
 WritesTo setup (Some v) iteration old new event =
     (new ≡ piece_written setup v iteration old) × (event ≡ piece_event setup v iteration old)
 

@@ -4,6 +4,7 @@ ghost use Rattle.cx_core.specs.declared.answers.CoreFault.TheVariants as faults;
 
 use cx_plan::VarId;
 use cx_text::{Memory, Text};
+use thiserror::Error;
 
 /// What a step did.
 #[derive(Clone, Copy, Debug)]
@@ -19,11 +20,13 @@ pub enum Event {
 }
 
 /// Why a step didn't do its event. The core isn't used again then.
-#[derive(Clone, Copy, Debug, PartialEq, Eq)]
+#[derive(Clone, Copy, Debug, Error, PartialEq, Eq)]
 pub enum CoreFault {
     /// The wire failed.
+    #[error("Wire")]
     Wire,
     /// Memory was wanting.
+    #[error("Memory")]
     Memory,
 }
 

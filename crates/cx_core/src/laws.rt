@@ -4,6 +4,7 @@ ghost use Rattle.cx_plan.specs.Setups.{setup_of};
 ghost use Rattle.cx_rule.specs.Routine.{Rule};
 ghost use Rattle.cx_parts.specs.Beginnings.{Beginning, IsBeginning, run_of};
 ghost use Rattle.cx_parts.specs.Totals.{undivided_from};
+ghost use Rattle.cx_core.specs.Gathered.{CoresGather};
 ghost use Rattle.cx_core.specs.Hands.{Stands};
 ghost use Rattle.cx_core.specs.Laws.{RunLaws};
 ghost use Rattle.cx_core.specs.Starts.{IsReady};
@@ -61,3 +62,12 @@ pub fn core_stands(job: &Job)
 {
     run_laws(job);
 }
+
+/// A core of which no event that lies ahead is done while a checkpoint is to come: its parts stay together, and after each checkpoint
+/// no message is left. So another core can begin from that checkpoint, over the same wire. It does nothing that shows; its clause is
+/// the law.
+pub fn cores_gather(job: &Job)
+    ensures { (told : Bool) (rules : List Rule) (b : Beginning)
+        → CoresGather (IsTrue told)
+        (run_of job.now rules b) (undivided_from (setup_of job.now) rules b) }
+{}

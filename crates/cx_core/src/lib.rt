@@ -11,5 +11,5 @@ mod step;
 mod writing;
 
 pub use answers::{CoreFault, Event, Outcome};
-pub use laws::core_stands;
+pub use laws::{core_stands, cores_gather};
 pub use machine::Core;

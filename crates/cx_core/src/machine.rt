@@ -9,6 +9,7 @@ use cx_chk::Checkpoint;
 use cx_field::Patch;
 use cx_gather::{Boards, Gathering};
 use cx_pace::Pace;
+use cx_part::Items;
 use cx_plan::VarId;
 use cx_text::List;
 use std::marker::Model;
@@ -21,6 +22,8 @@ use std::marker::Model;
 pub struct Core {
     pub(crate) pace: Pace,
     pub(crate) patches: Vec<Patch>,
+    /// Those of each part.
+    pub(crate) items: Vec<Items>,
     pub(crate) boards: Boards,
     pub(crate) gathering: Gathering,
     /// The end that the least of the parts that met one has met.
@@ -40,6 +43,7 @@ impl Model for Core {
     ghost view = { λ c. record {
       pace = c.pace;
       patches = c.patches.items;
+      items = c.items.items;
       given = c.boards;
       buffers = c.gathering;
       met = c.met;
@@ -80,6 +84,13 @@ impl Core {
         ensures { result.now ≡ self.now.buffers.state }
     {
         self.gathering.state()
+    }
+
+    /// The checkpoint that came last; all else of the core is given up.
+    pub fn into_state(self) -> Checkpoint
+        ensures { result ≡ self.buffers.state }
+    {
+        self.gathering.into_state()
     }
 
     /// How the run has ended, or that it goes on.

@@ -1,5 +1,5 @@
 //! The next operation of a part.
-ghost use Rattle.std.specs.Prelude.{◌≡◌, ◌<◌, ◌≤◌, true, Bool, List as ListOf, IsTrue, ℤ, map, length, IfErr, OnOk};
+ghost use Rattle.std.specs.Prelude.{◌≡◌, ◌<◌, ◌≤◌, true, Bool, List as ListOf, IsTrue, ℤ, map, length, slice_get, slice_set, Some, IfErr, OnOk};
 ghost use Rattle.cx_disk.specs.Cause.{HasCause};
 ghost use Rattle.cx_plan.specs.Setups.{setup_of};
 ghost use Rattle.cx_rule.specs.Jobs.{FitJob};
@@ -9,9 +9,11 @@ ghost use Rattle.cx_plan.specs.Whole.{IsWhole};
 ghost use Rattle.cx_plan.specs.declared.variable.VarId.{VarId};
 ghost use Rattle.cx_flat.specs.Code.{code};
 ghost use Rattle.cx_way.specs.Steps.{IsReached, IsTested};
-ghost use Rattle.cx_pace.specs.Paces.{op_of, part_of};
+ghost use Rattle.cx_pace.specs.Paces.{iteration_of, op_of, part_of};
 ghost use Rattle.cx_pace.specs.Events.{can_go};
+ghost use Rattle.cx_part.specs.Copies.{copies_at};
 ghost use Rattle.cx_parts.specs.Beginnings.{Beginning, IsBeginning, run_of};
+ghost use Rattle.cx_core.specs.Cores.{items_of};
 ghost use Rattle.cx_core.specs.Moving.{MoveLaws, PartGoes, followed};
 ghost use Rattle.cx_core.specs.declared.answers.CoreFault.TheVariants as faults;
 ghost use Rattle.cx_core.specs.Starts.{IsReady};
@@ -21,8 +23,8 @@ use crate::answers::{CoreFault, Outcome};
 use crate::machine::Core;
 use crate::operations::operate;
 use cx_flat::{all_ways, flat_is_run, operation_needs_met};
-use cx_pace::pace_tells;
-use cx_part::tested;
+use cx_pace::{Pace, pace_tells};
+use cx_part::{Items, tested};
 use cx_plan::Job;
 use cx_reached::taken_adds_up;
 use cx_rule::{Meter, Routine};
@@ -73,6 +75,7 @@ pub(crate) fn go<W: Wire>(
     let done = operate(
         alloc,
         job,
+        &core.items[part as usize],
         routines,
         core.pace.cut(),
         part,
@@ -86,13 +89,41 @@ pub(crate) fn go<W: Wire>(
     );
     match done {
         Err(fault) => Err(fault),
-        Ok(met) => follow(core, job, part, scalar, met),
+        Ok(met) => follow(core, alloc, job, part, scalar, met),
     }
 }
 
-/// A part goes on behind its operation, by the scalar that it tests; or it has met an end.
+/// The iteration that a part is in.
+fn iteration_of(pace: &Pace, part: u32) -> u64
+    requires { part < length pace.now.parts }
+    ensures { result ≡ iteration_of pace.now part }
+{
+    pace.part(part).place.round()
+}
+
+/// Sets a part's items where it has come from an iteration to another one.
+fn come_to(alloc: Global, items: &mut Items, job: &Job, was: u64, now: u64)
+    requires { items.old ≡ copies_at (setup_of job.now) was }
+    ensures { items.new ≡ copies_at (setup_of job.now) now }
+{
+    if now != was {
+        items.set(alloc, job, now);
+    }
+}
+
+/// Sets the items of one of the parts.
+fn renew(alloc: Global, items: &mut Vec<Items>, job: &Job, part: u32, was: u64, now: u64)
+    requires { slice_get items.old.items part ≡ Some (copies_at (setup_of job.now) was) }
+    ensures { items.new.items ≡ slice_set items.old.items part
+        (copies_at (setup_of job.now) now) }
+{
+    come_to(alloc, &mut items[part as usize], job, was, now);
+}
+
+/// A part goes on after its operation, by the scalar that it tests; or it has met an end.
 fn follow(
     core: &mut Core,
+    alloc: Global,
     job: &Job,
     part: u32,
     scalar: i64,
@@ -101,6 +132,7 @@ fn follow(
     requires whole { IsWhole job.now }
     requires ops { core.old.pace.ops ≡ code (setup_of job.now) }
     requires part { part < length core.old.pace.parts }
+    requires items { core.old.items ≡ items_of (setup_of job.now) core.old.pace }
     requires reached { IsReached (setup_of job.now) (part_of core.old.pace part).place }
     ensures follows { (scalars : VarId → ℤ) → IsTested (op_of core.old.pace part) scalars scalar
         → OnOk result (core.new ≡ followed (setup_of job.now) core.old part scalars met) }
@@ -108,7 +140,10 @@ fn follow(
 {
     match met {
         None => {
+            let was = iteration_of(&core.pace, part);
             core.pace.moved(job, part, scalar)?;
+            let now = iteration_of(&core.pace, part);
+            renew(alloc, &mut core.items, job, part, was, now);
             Ok(())
         }
         Some(met) => {

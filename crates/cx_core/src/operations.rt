@@ -11,6 +11,7 @@ ghost use Rattle.cx_flat.specs.declared.op.Op.TheVariants as ops;
 ghost use Rattle.cx_gather.specs.Boards.{front};
 ghost use Rattle.cx_parts.specs.Holding.{joined};
 ghost use Rattle.cx_parts.specs.Runs.{Run, cut_of, parts_in};
+ghost use Rattle.cx_part.specs.Copies.{copies_at};
 ghost use Rattle.cx_part.specs.Frames.{IsPatchFor, IsPatchOf, IsInCut, KeepsFrame};
 ghost use Rattle.cx_part.specs.Jobs.{IsChecked, IsOperation, IsRunOf};
 ghost use Rattle.cx_core.specs.Moving.{AreFronts, CanOperate, HasFronts, Joins, LoopTests, Operates, Turns, all_fronts, fault_of, holdings};
@@ -24,6 +25,7 @@ use cx_flat::Op;
 use cx_gather::{Boards, Gathering};
 use cx_ghost::{PostFault, TakeFault};
 use cx_pace::Standing;
+use cx_part::Items;
 use cx_plan::{Job, VarId};
 use cx_reduce::{Partial, join as join_numbers};
 use cx_rule::{Meter, Routine};
@@ -64,6 +66,7 @@ fn overflow(alloc: Global, job: &Job, item: u32, iteration: u64) -> Result<Outco
 pub(crate) fn sweep(
     alloc: Global,
     job: &Job,
+    items: &Items,
     routines: &[Box<dyn Routine>],
     item: u32,
     patch: &mut Patch,
@@ -73,6 +76,7 @@ pub(crate) fn sweep(
     requires job { IsChecked job.now }
     requires routines { FitJob (map spec_of routines.now) job.now }
     requires item { item < length job.now.items }
+    requires items { items.now ≡ copies_at (setup_of job.now) iteration }
     requires operation { IsOperation (setup_of job.now) (ops.Sweep item) }
     requires patch { IsPatchFor (setup_of job.now) patch.old }
     requires cut { IsInCut (parts_of job.now.shape job.now.cut) patch.old }
@@ -82,7 +86,7 @@ pub(crate) fn sweep(
         → IfOk result (Turns r k
         (ops.Sweep item) iteration patch.old patch.new meter.old meter.new) }
 {
-    match cx_part::sweep(job, routines, item, patch, iteration, meter) {
+    match cx_part::sweep(job, items, routines, item, patch, iteration, meter) {
         Ok(()) => Ok(None),
         Err(_) => Ok(Some(overflow(alloc, job, item, iteration)?)),
     }
@@ -92,6 +96,7 @@ pub(crate) fn sweep(
 pub(crate) fn apply(
     alloc: Global,
     job: &Job,
+    items: &Items,
     routines: &[Box<dyn Routine>],
     item: u32,
     patch: &mut Patch,
@@ -101,6 +106,7 @@ pub(crate) fn apply(
     requires job { IsChecked job.now }
     requires routines { FitJob (map spec_of routines.now) job.now }
     requires item { item < length job.now.items }
+    requires items { items.now ≡ copies_at (setup_of job.now) iteration }
     requires operation { IsOperation (setup_of job.now) (ops.Apply item) }
     requires patch { IsPatchFor (setup_of job.now) patch.old }
     requires cut { IsInCut (parts_of job.now.shape job.now.cut) patch.old }
@@ -110,7 +116,7 @@ pub(crate) fn apply(
         → IfOk result (Turns r k
         (ops.Apply item) iteration patch.old patch.new meter.old meter.new) }
 {
-    match cx_part::apply(job, routines, item, patch, iteration, meter) {
+    match cx_part::apply(job, items, routines, item, patch, iteration, meter) {
         Ok(()) => Ok(None),
         Err(_) => Ok(Some(overflow(alloc, job, item, iteration)?)),
     }
@@ -186,6 +192,7 @@ pub(crate) fn test_loop(
 pub(crate) fn operate<W: Wire>(
     alloc: Global,
     job: &Job,
+    items: &Items,
     routines: &[Box<dyn Routine>],
     cut: &Cut,
     part: u32,
@@ -197,6 +204,7 @@ pub(crate) fn operate<W: Wire>(
     wire: &mut W,
     meter: &mut Meter,
 ) -> Result<Option<Outcome>, CoreFault>
+    requires items { items.now ≡ copies_at (setup_of job.now) at.now.place.iteration }
     requires routines { FitJob (map spec_of routines.now) job.now }
     requires can { CanOperate {tells = IsTrue W.tells} job.now cut.now part op.now
         (holdings patch.old boards.old gathering.old (W.queue wire.old)
@@ -214,8 +222,8 @@ pub(crate) fn operate<W: Wire>(
 {
     let iteration = at.place.round();
     match op {
-        Op::Sweep(item) => Ok(sweep(alloc, job, routines, *item, patch, iteration, meter)?),
-        Op::Apply(item) => Ok(apply(alloc, job, routines, *item, patch, iteration, meter)?),
+        Op::Sweep(item) => Ok(sweep(alloc, job, items, routines, *item, patch, iteration, meter)?),
+        Op::Apply(item) => Ok(apply(alloc, job, items, routines, *item, patch, iteration, meter)?),
         Op::Give(item) => {
             boards.give(part, cx_part::give(job, *item, patch))?;
             Ok(None)

@@ -1,5 +1,5 @@
 //! A core as a run begins.
-ghost use Rattle.std.specs.Prelude.{◌≡◌, ◌<◌, ◌^◌, ℕ, Bool, IsTrue, List as ListOf, Some, length, slice_get, IfOk};
+ghost use Rattle.std.specs.Prelude.{◌≡◌, ◌<◌, ◌^◌, ℕ, Bool, IsTrue, List as ListOf, Some, length, replicate, slice_get, IfOk};
 ghost use Rattle.std.specs.Option.{option_copied};
 ghost use Rattle.cx_plan.specs.Setups.{setup_of};
 ghost use Rattle.cx_plan.specs.Whole.{IsWhole};
@@ -10,9 +10,10 @@ ghost use Rattle.cx_field.specs.Patches.{PatchValue};
 ghost use Rattle.cx_wire.specs.Messages.{Sent};
 ghost use Rattle.cx_parts.specs.Beginnings.{run_of};
 ghost use Rattle.cx_parts.specs.Nets.{held_first};
+ghost use Rattle.cx_part.specs.Copies.{copies_at};
 ghost use Rattle.cx_part.specs.Jobs.{IsCutOf};
 ghost use Rattle.cx_part.specs.Frames.{IsPatchOf};
-ghost use Rattle.cx_core.specs.Starts.{IsReady, CanBegin, AreEmpty, begins_in, iteration_in, length_in, ArePatches, HasFirst, filled_first};
+ghost use Rattle.cx_core.specs.Starts.{IsReady, CanBegin, AreEmpty, begins_in, first_iteration, iteration_in, length_in, ArePatches, HasFirst, filled_first};
 ghost use Rattle.cx_core.specs.Steps.{Counts, Begins};
 ghost use Rattle.cx_core.specs.declared.answers.Outcome.TheVariants as outcomes;
 
@@ -25,6 +26,7 @@ use cx_field::Patch;
 use cx_flat::flatten;
 use cx_gather::{Boards, Gathering, scatter};
 use cx_pace::Pace;
+use cx_part::Items;
 use cx_plan::{Job, VarId};
 use cx_text::Memory;
 use std::alloc::Global;
@@ -52,12 +54,15 @@ impl Core {
         run_laws(job);
         let cut = cut_of(alloc, job)?;
         let patches = first_patches(alloc, job, &cut, state)?;
-        let boards = Boards::new(alloc, cut.count())?;
+        let parts = cut.count();
+        let items = first_items(alloc, job, parts, first_iteration(state))?;
+        let boards = Boards::new(alloc, parts)?;
         let gathering = Gathering::new(alloc, job, job.key.copy(alloc)?)?;
         let ops = flatten(alloc, job)?;
         Ok(Core {
             pace: Pace::new(alloc, job, cut, ops, iteration_in(state))?,
             patches,
+            items,
             boards,
             gathering,
             met: Outcome::Going,
@@ -86,6 +91,16 @@ fn iteration_in(state: Option<&Checkpoint>) -> Option<u64>
     match state {
         None => None,
         Some(checkpoint) => Some(checkpoint.iteration),
+    }
+}
+
+/// The iteration at which a run begins.
+fn first_iteration(state: Option<&Checkpoint>) -> u64
+    ensures { result ≡ first_iteration (option_copied state.entry) }
+{
+    match state {
+        None => 0,
+        Some(checkpoint) => checkpoint.iteration,
     }
 }
 
@@ -121,6 +136,18 @@ fn first_patches(
         patches.push(first_patch(alloc, job, cut, k, state)?)?;
     }
     Ok(patches)
+}
+
+/// The items of all parts in one iteration.
+fn first_items(alloc: Global, job: &Job, parts: u32, iteration: u64) -> Result<Vec<Items>, Memory>
+    ensures { IfOk result (λ items. items.items
+        ≡ replicate parts (copies_at (setup_of job.now) iteration)) }
+{
+    let mut items = Vec::new(alloc);
+    'parts: for _ in 0..parts {
+        items.push(Items::new(alloc, job, iteration)?)?;
+    }
+    Ok(items)
 }
 
 /// The patch of a part.

@@ -23,7 +23,8 @@ use Rattle.cx_course.proofs.StateLaws.{states_unpack, due_within}
 
 -- ---- the newest place
 
-pub newest_both : (m : Option ℕ) (a b : List Entry) → newest_after m (a ++ b) ≡ newest_after (newest_after m a) b
+pub newest_both : (m : Option ℕ) (a b : List Entry)
+    → newest_after m (a ++ b) ≡ newest_after (newest_after m a) b
 newest_both m [] b = refl
 newest_both m (Saved i s ∷ es) b = newest_both (Some i) es b
 newest_both m (Wrote v i text s ∷ es) b = newest_both m es b
@@ -35,7 +36,8 @@ newest_both m (Rotated s ∷ es) b = newest_both m es b
 
 -- ---- behind a place
 
-pub below_place : (a : List Entry) (b c : ℕ) (s : State) (rest : List Entry) → Rises b (a ++ Saved c s ∷ rest) → b < c
+pub below_place : (a : List Entry) (b c : ℕ) (s : State) (rest : List Entry)
+    → Rises b (a ++ Saved c s ∷ rest) → b < c
 below_place [] b c s rest r = r.0
 below_place (Saved i t ∷ es) b c s rest r = lt_trans r.0 (below_place es i c s rest r.1)
 below_place (Wrote v i text t ∷ es) b c s rest r = below_place es b c s rest r
@@ -54,10 +56,12 @@ at_false b x y e = rw e refl
 not_same : (i c : ℕ) → i < c → i ≡ c → ⊥
 not_same i c h e = omega (arith, h, e)
 
-behind_is : (a : List Entry) (b c : ℕ) (s : State) (rest : List Entry) → Rises b (a ++ Saved c s ∷ rest) → behind_place c (a ++ Saved c s ∷ rest) ≡ rest
+behind_is : (a : List Entry) (b c : ℕ) (s : State) (rest : List Entry)
+    → Rises b (a ++ Saved c s ∷ rest) → behind_place c (a ++ Saved c s ∷ rest) ≡ rest
 behind_is [] b c s rest r = at_true (c == c) rest (behind_place c rest) (eq-eqb c c refl)
 behind_is (Saved i t ∷ es) b c s rest r =
-    at_false (i == c) (es ++ Saved c s ∷ rest) (behind_place c (es ++ Saved c s ∷ rest)) (ne_eqb i c (not_same i c (below_place es i c s rest r.1)))
+    at_false (i == c) (es ++ Saved c s ∷ rest) (behind_place c (es ++ Saved c s ∷ rest))
+    (ne_eqb i c (not_same i c (below_place es i c s rest r.1)))
     ∙ behind_is es i c s rest r.1
 behind_is (Wrote v i text t ∷ es) b c s rest r = behind_is es b c s rest r
 behind_is (Turned k i t ∷ es) b c s rest r = behind_is es b c s rest r
@@ -77,27 +81,36 @@ pub record Behind (setup : Setup) (rules : List Rule) (found : Option Checkpoint
   pub begins : IsBeginning setup (beginning_of setup found)
   pub entries : (run_from setup rules found).entries ≡ entries_from setup rules (newest_left found)
 
-module _ (setup : Setup) (key : List ℕ) (rules : List Rule) (laws : Continues setup rules) (keeps : KeepsStates setup rules) where
+module _ (setup : Setup) (key : List ℕ) (rules : List Rule) (laws : Continues setup rules)
+    (keeps : KeepsStates setup rules) where
   -- the place of a checkpoint of the course, in the state that it holds
-  found_place : (c : Checkpoint) → Has (course_of setup key rules).checkpoints c → Reaches setup rules c.iteration (state_of setup.vars c) (length_in c 0)
+  found_place : (c : Checkpoint) → Has (course_of setup key rules).checkpoints c
+      → Reaches setup rules c.iteration (state_of setup.vars c) (length_in c 0)
   found_place c h =
       let p : IsPlace setup key rules c = (has_places setup rules laws key).places c h in
       let is : state_of setup.vars c ≡ p.state =
       ap (state_of setup.vars) p.packed
-      ∙ (states_unpack setup key c.iteration p.state (length_in c 0) (keeps.reached c.iteration p.state (length_in c 0) p.reached)).state_is in
+      ∙ (states_unpack setup key c.iteration p.state (length_in c 0)
+      (keeps.reached c.iteration p.state (length_in c 0) p.reached)).state_is in
       subst (λ (s : State). Reaches setup rules c.iteration s (length_in c 0)) (sym is) p.reached
 
-  no_text : (a : List Entry) (i : ℕ) (s : State) (n : ℕ) → n ≡ length (output_of a) → n ≡ length (output_of (a ++ Saved i s ∷ []))
-  no_text a i s n e = e ∙ ap length (sym (output-both a (Saved i s ∷ []) ∙ append-nil (output_of a)))
+  no_text : (a : List Entry) (i : ℕ) (s : State) (n : ℕ) → n ≡ length (output_of a)
+      → n ≡ length (output_of (a ++ Saved i s ∷ []))
+  no_text a i s n e = e ∙ ap length
+      (sym (output-both a (Saved i s ∷ []) ∙ append-nil (output_of a)))
 
-  behind_found : (c : Checkpoint) → Reaches setup rules c.iteration (state_of setup.vars c) (length_in c 0) → Behind setup rules (Some c)
+  behind_found : (c : Checkpoint)
+      → Reaches setup rules c.iteration (state_of setup.vars c) (length_in c 0)
+      → Behind setup rules (Some c)
   behind_found c r =
       let i = c.iteration in
       let s = state_of setup.vars c in
       let n = length_in c 0 in
       let run = laws.run i s n r in
-      let there : (undivided_run setup rules).entries ≡ r.earlier ++ Saved i s ∷ (continued_run setup rules i s n).entries =
-      ap (λ (t : Trace). t.entries) run ∙ append_assoc r.earlier (Saved i s ∷ []) (continued_run setup rules i s n).entries in
+      let there : (undivided_run setup rules).entries
+      ≡ r.earlier ++ Saved i s ∷ (continued_run setup rules i s n).entries =
+      ap (λ (t : Trace). t.entries) run
+      ∙ append_assoc r.earlier (Saved i s ∷ []) (continued_run setup rules i s n).entries in
       record {
         earlier = r.earlier ++ Saved i s ∷ [];
         all = ap (λ (t : Trace). t.entries) run;
@@ -106,10 +119,12 @@ module _ (setup : Setup) (key : List ℕ) (rules : List Rule) (laws : Continues 
         newest = newest_both None r.earlier (Saved i s ∷ []);
         begins = (due_within setup i (laws.due i s n r), keeps.reached i s n r);
         entries = sym (ap (behind_place i) there
-            ∙ behind_is r.earlier 0 i s (continued_run setup rules i s n).entries (subst (Rises 0) there (run_rises setup rules laws)));
+            ∙ behind_is r.earlier 0 i s (continued_run setup rules i s n).entries
+            (subst (Rises 0) there (run_rises setup rules laws)));
       }
 
-  pub behind : (found : Option Checkpoint) → IsFound setup key rules found → Behind setup rules found
+  pub behind : (found : Option Checkpoint) → IsFound setup key rules found
+      → Behind setup rules found
   behind None is =
       record {
         earlier = [];
@@ -130,12 +145,14 @@ front_is all a b n e l = ap (take n) e ∙ take_at a b n (sym l)
 front_within : (all a b : List ℕ) (n : ℕ) → all ≡ a ++ b → n ≡ length a → n ≤ length all
 front_within all a b n e l = let f = ap length e ∙ length-append a b in omega (arith, f, l)
 
-module _ (setup : Setup) (rules : List Rule) (found : Option Checkpoint) (b : Behind setup rules found) where
+module _ (setup : Setup) (rules : List Rule) (found : Option Checkpoint)
+    (b : Behind setup rules found) where
   split : output setup rules ≡ output_of b.earlier ++ output_of (run_from setup rules found).entries
   split = ap output_of b.all ∙ output-both b.earlier (run_from setup rules found).entries
 
   pub front_earlier : take (length_left found 0) (output setup rules) ≡ output_of b.earlier
-  front_earlier = front_is (output setup rules) (output_of b.earlier) (output_of (run_from setup rules found).entries) (length_left found 0) split b.length
+  front_earlier = front_is (output setup rules) (output_of b.earlier)
+      (output_of (run_from setup rules found).entries) (length_left found 0) split b.length
 
   pub goes_on : GoesOn setup rules found
   goes_on =
@@ -143,9 +160,14 @@ module _ (setup : Setup) (rules : List Rule) (found : Option Checkpoint) (b : Be
         begins = b.begins;
         entries = b.entries;
         outcome = b.outcome;
-        within = front_within (output setup rules) (output_of b.earlier) (output_of (run_from setup rules found).entries) (length_left found 0) split b.length;
-        output = split ∙ ap (λ (front : List ℕ). front ++ output_of (run_from setup rules found).entries) (sym front_earlier);
+        within = front_within (output setup rules) (output_of b.earlier)
+            (output_of (run_from setup rules found).entries) (length_left found 0) split b.length;
+        output =
+            split ∙ ap (λ (front : List ℕ). front ++ output_of (run_from setup rules found).entries)
+            (sym front_earlier);
       }
 
-pub course_goes_on : (setup : Setup) (key : List ℕ) (rules : List Rule) → Continues setup rules → KeepsStates setup rules → CourseGoesOn setup key rules
-course_goes_on setup key rules laws keeps found is = goes_on setup rules found (behind setup key rules laws keeps found is)
+pub course_goes_on : (setup : Setup) (key : List ℕ) (rules : List Rule) → Continues setup rules
+    → KeepsStates setup rules → CourseGoesOn setup key rules
+course_goes_on setup key rules laws keeps found is =
+    goes_on setup rules found (behind setup key rules laws keeps found is)

@@ -1,4 +1,5 @@
--- Where a run begins that a keeper found a checkpoint for, or none, and what is left of the undivided run from there.
+-- Where a run begins that a keeper found a checkpoint for, or none, and what is left of the
+-- undivided run from there.
 use Rattle.std.specs.Prelude.{ℕ, ◌==◌, ◌≤◌, ◌≡◌, true, List, [], ◌∷◌, ◌++◌, length, take, Option, Some, None, IfSome, if◌then◌else◌}
 use Rattle.cx_plan.specs.declared.job.Job.{Job}
 use Rattle.cx_plan.specs.Setups.{Setup, setup_of}
@@ -47,20 +48,23 @@ entries_from setup rules (Some c) = behind_place c (undivided_run setup rules).e
 abbrev pub IsFound : Setup → List ℕ → List Rule → Option Checkpoint → Type 0
 IsFound setup key rules found = IfSome found (Has (course_of setup key rules).checkpoints)
 
--- The run from there begins in a whole state, has the undivided run's entries from its place on, and ends as it does. The output
--- is as much of it as was there, and the texts from there on.
+-- The run from there begins in a whole state, has the undivided run's entries from its place on,
+-- and ends as it does. The output is as much of it as was there, and the texts from there on.
 pub record GoesOn (setup : Setup) (rules : List Rule) (found : Option Checkpoint) : Type 0 where
   pub begins : IsBeginning setup (beginning_of setup found)
   pub entries : (run_from setup rules found).entries ≡ entries_from setup rules (newest_left found)
   pub outcome : (run_from setup rules found).outcome ≡ (undivided_run setup rules).outcome
   pub within : length_left found 0 ≤ length (output setup rules)
   pub output : output setup rules
-      ≡ take (length_left found 0) (output setup rules) ++ output_of (run_from setup rules found).entries
+      ≡ take (length_left found 0) (output setup rules)
+      ++ output_of (run_from setup rules found).entries
 
 abbrev pub CourseGoesOn : Setup → List ℕ → List Rule → Type 0
-CourseGoesOn setup key rules = (found : Option Checkpoint) → IsFound setup key rules found → GoesOn setup rules found
+CourseGoesOn setup key rules = (found : Option Checkpoint) → IsFound setup key rules found
+    → GoesOn setup rules found
 
--- a checkpoint that fits a job, of its run or not, holds a whole state of an iteration in which a run can begin
+-- a checkpoint that fits a job, of its run or not, holds a whole state of an iteration in which a
+-- run can begin
 pub record CanBegin (setup : Setup) (c : Checkpoint) : Type 0 where
   pub holds : HoldsState setup c
   pub begins : IsBeginning setup (beginning_of setup (Some c))

@@ -32,10 +32,13 @@ abbrev pub checkpoints_in : Setup → List ℕ → ℕ → List Entry → List C
 checkpoints_in setup key so_far [] = []
 checkpoints_in setup key so_far (Saved iteration state ∷ es) =
     checkpoint_of setup key iteration state so_far ∷ checkpoints_in setup key so_far es
-checkpoints_in setup key so_far (Wrote v iteration text state ∷ es) = checkpoints_in setup key (so_far + length text) es
+checkpoints_in setup key so_far (Wrote v iteration text state ∷ es) =
+    checkpoints_in setup key (so_far + length text) es
 checkpoints_in setup key so_far (Turned k iteration state ∷ es) = checkpoints_in setup key so_far es
-checkpoints_in setup key so_far (Overflowed k iteration state ∷ es) = checkpoints_in setup key so_far es
-checkpoints_in setup key so_far (Exchanged vars path state ∷ es) = checkpoints_in setup key so_far es
+checkpoints_in setup key so_far (Overflowed k iteration state ∷ es) =
+    checkpoints_in setup key so_far es
+checkpoints_in setup key so_far (Exchanged vars path state ∷ es) =
+    checkpoints_in setup key so_far es
 checkpoints_in setup key so_far (Tested v path state ∷ es) = checkpoints_in setup key so_far es
 checkpoints_in setup key so_far (Rotated state ∷ es) = checkpoints_in setup key so_far es
 
@@ -61,15 +64,18 @@ pub record CourseRises (course : Course) : Type 0 where
   pub monotone : IsMonotone course
 
 -- the checkpoint of a place that the undivided run reaches
-pub record IsPlace (setup : Setup) (key : List ℕ) (rules : List Rule) (c : Checkpoint) : Type 0 where
+pub record IsPlace (setup : Setup) (key : List ℕ) (rules : List Rule)
+    (c : Checkpoint) : Type 0 where
   pub state : State
   pub reached : Reaches setup rules c.iteration state (length_in c 0)
   pub packed : c ≡ checkpoint_of setup key c.iteration state (length_in c 0)
 
 -- the checkpoints of the course are those of all places that the run reaches
 pub record HasPlaces (setup : Setup) (key : List ℕ) (rules : List Rule) : Type 0 where
-  pub places : (c : Checkpoint) → Has (course_of setup key rules).checkpoints c → IsPlace setup key rules c
-  pub all : (iteration : ℕ) (state : State) (so_far : ℕ) → Reaches setup rules iteration state so_far
+  pub places : (c : Checkpoint) → Has (course_of setup key rules).checkpoints c
+      → IsPlace setup key rules c
+  pub all : (iteration : ℕ) (state : State) (so_far : ℕ)
+      → Reaches setup rules iteration state so_far
       → Has (course_of setup key rules).checkpoints (checkpoint_of setup key iteration state so_far)
 
 -- a checkpoint has a spelling, and fits its job

@@ -27,8 +27,8 @@ begun_with Auto None = Err faults.NoCheckpoint
 begun_with Auto (Some c) = Ok (Some c)
 begun_with Autoprobe newest = Ok newest
 
--- the newest checkpoint of files is one of the run, which the output reaches, or there is none; and no start on the files is refused,
--- but where a checkpoint is asked for and there is none
+-- the newest checkpoint of files is one of the run, which the output reaches, or there is none; and
+-- no start on the files is refused, but where a checkpoint is asked for and there is none
 pub record BeginsOn (job : Job) (rules : List Rule) (files : Files) : Type 0 where
   pub newest : Option Checkpoint
   pub of_run : IsFound (setup_of job) job.key rules newest
@@ -37,10 +37,12 @@ pub record BeginsOn (job : Job) (rules : List Rule) (files : Files) : Type 0 whe
   pub begun_is : begun job files ≡ begun_with job.recover newest
 
 abbrev pub TrailsBegin : Job → List Rule → Type 0
-TrailsBegin job rules = (files : Files) → IsTrail (course_in job rules) files → BeginsOn job rules files
+TrailsBegin job rules = (files : Files) → IsTrail (course_in job rules) files
+    → BeginsOn job rules files
 
 -- two jobs have one run and one course, so that a trail of the one is a trail of the other
 pub record HaveOneCourse (a b : Job) (rules : List Rule) : Type 0 where
   pub run : undivided_run (setup_of a) rules ≡ undivided_run (setup_of b) rules
   pub course : course_in a rules ≡ course_in b rules
-  pub trails : (files : Files) → IsTrail (course_in a rules) files → IsTrail (course_in b rules) files
+  pub trails : (files : Files) → IsTrail (course_in a rules) files
+      → IsTrail (course_in b rules) files

@@ -9,7 +9,8 @@ use Rattle.std.proofs.lemmas.List.FromFn.{map-range_with_len_more}
 use Rattle.cx_cut.specs.Equal.{even_width, even}
 
 -- one width more
-pub one_width : (n p k w : ℕ) (before after : List ℕ) → before ≡ map (even_width n p) (range_with_len 0 k) → w ≡ even_width n p k
+pub one_width : (n p k w : ℕ) (before after : List ℕ)
+    → before ≡ map (even_width n p) (range_with_len 0 k) → w ≡ even_width n p k
     → after ≡ before ++ w ∷ [] → after ≡ map (even_width n p) (range_with_len 0 (k + 1))
 one_width n p k w before after was is next =
     next
@@ -24,7 +25,8 @@ sum_more [] w = omega arith
 sum_more (x ∷ xs) w = let e = sum_more xs w in omega (arith, e)
 
 -- k equal widths, and one point more for each of the first r
-widths_to : (n p k : ℕ) → sum_of (map (even_width n p) (range_with_len 0 k)) ≡ k * (n / p) + min k (n % p)
+widths_to : (n p k : ℕ) → sum_of (map (even_width n p) (range_with_len 0 k))
+    ≡ k * (n / p) + min k (n % p)
 widths_to n p zero = omega arith
 widths_to n p (suc k) =
     ap (λ m. sum_of (map (even_width n p) (range_with_len 0 m))) (sym (add-one k))
@@ -32,8 +34,10 @@ widths_to n p (suc k) =
     ∙ sum_more (map (even_width n p) (range_with_len 0 k)) (even_width n p k)
     ∙ go (widths_to n p k) (cases_lt k (n % p))
   where
-    go : sum_of (map (even_width n p) (range_with_len 0 k)) ≡ k * (n / p) + min k (n % p) → (k < n % p) ⊎ (n % p ≤ k)
-        → sum_of (map (even_width n p) (range_with_len 0 k)) + even_width n p k ≡ suc k * (n / p) + min (suc k) (n % p)
+    go : sum_of (map (even_width n p) (range_with_len 0 k)) ≡ k * (n / p) + min k (n % p)
+        → (k < n % p) ⊎ (n % p ≤ k)
+        → sum_of (map (even_width n p) (range_with_len 0 k)) + even_width n p k
+        ≡ suc k * (n / p) + min (suc k) (n % p)
     go e (inl l) =
         let q : ltb k (n % p) ≡ true = lt-ltb k (n % p) l in
         let m : suc k * (n / p) ≡ n / p + k * (n / p) = omega arith in

@@ -5,7 +5,8 @@ use Rattle.cx_disk.specs.Fuse.{next_count}
 use Rattle.cx_disk.specs.Memory.{History}
 use Rattle.cx_disk.specs.declared.disk.DiskFault.{DiskFault}
 
--- the disk, the numbers of the calls that fail, the number of the next call, and how often it has failed
+-- the disk, the numbers of the calls that fail, the number of the next call, and how often it has
+-- failed
 pub record Failing : Type 0 where
   pub disk : History
   pub fail : List ℕ
@@ -27,8 +28,10 @@ called f = record f { next = next_count f.next }
 abbrev pub failed : Failing → Failing
 failed f = record f { next = next_count f.next; faults = next_count f.faults }
 
--- A call whose number is among those fails so, and is counted. Any other is done by the disk within.
-pub record FailsAt {T : Type 0} (does stop : History → History → Result T DiskFault → Type 0) (old new : Failing) (result : Result T DiskFault) : Type 0 where
+-- A call whose number is among those fails so, and is counted. Any other is done by the disk
+-- within.
+pub record FailsAt {T : Type 0} (does stop : History → History → Result T DiskFault → Type 0)
+    (old new : Failing) (result : Result T DiskFault) : Type 0 where
   pub fails : FailsNext old
       → stop old.disk new.disk result × (new ≡ record (failed old) { disk = new.disk })
   pub passes : (FailsNext old → ⊥)

@@ -15,7 +15,8 @@ next_count n = min (n + 1) (2 ^ 64 - 1)
 abbrev pub Fails : {T : Type 0} → History → History → Result T DiskFault → Type 0
 Fails old new result = (result ≡ Err Failed) × (new ≡ old)
 
--- It is noted as stopped. Where memory is wanting for the note, that is told, and nothing has changed.
+-- It is noted as stopped. Where memory is wanting for the note, that is told, and nothing has
+-- changed.
 abbrev pub Stops : {T : Type 0} → Note → History → History → Result T DiskFault → Type 0
 Stops note old new result =
     ((result ≡ Err Failed) × (new ≡ noted old note)) ⊎ ((result ≡ Err Memory) × (new ≡ old))
@@ -28,9 +29,13 @@ pub record Fuse : Type 0 where
   pub calls : ℕ
   pub faults : ℕ
 
--- While calls are left, the disk within does this one, and one fewer is left. Then each fails so, and is counted.
-pub record Burns {T : Type 0} (does stop : History → History → Result T DiskFault → Type 0) (old new : Fuse) (result : Result T DiskFault) : Type 0 where
+-- While calls are left, the disk within does this one, and one fewer is left. Then each fails so,
+-- and is counted.
+pub record Burns {T : Type 0} (does stop : History → History → Result T DiskFault → Type 0)
+    (old new : Fuse) (result : Result T DiskFault) : Type 0 where
   pub passes : 0 < old.calls
-      → does old.disk new.disk result × (new ≡ record old { disk = new.disk; calls = old.calls - 1 })
+      → does old.disk new.disk result
+      × (new ≡ record old { disk = new.disk; calls = old.calls - 1 })
   pub fails : old.calls ≡ 0
-      → stop old.disk new.disk result × (new ≡ record old { disk = new.disk; faults = next_count old.faults })
+      → stop old.disk new.disk result
+      × (new ≡ record old { disk = new.disk; faults = next_count old.faults })

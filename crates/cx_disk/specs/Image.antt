@@ -44,19 +44,27 @@ Redoes note old new = HasFile note.file (changed note.change (old note.file)) ol
 abbrev pub Tears : ℕ → Note → Files → Files → Type 0
 Tears choice note old new = Changes (IsPart choice note.change) note.file old new
 
--- After a change of files that read so, an image by a choice: a sync leaves its file as it reads, and the others as they were;
--- any other change is left in part.
+-- After a change of files that read so, an image by a choice: a sync leaves its file as it reads,
+-- and the others as they were; any other change is left in part.
 abbrev pub chosen_by : ℕ → Change → ℕ → Files → (Files → Type 0) → Files → Type 0
-chosen_by choice Synced file seen images image = (before : Files) × images before × HasFile file (seen file) before image
-chosen_by choice (Wrote at bytes) file seen images image = (before : Files) × images before × Changes (IsPart choice (Wrote at bytes)) file before image
-chosen_by choice (Cut to) file seen images image = (before : Files) × images before × Changes (IsPart choice (Cut to)) file before image
-chosen_by choice (StoppedWrite at bytes) file seen images image = (before : Files) × images before × Changes (IsPart choice (StoppedWrite at bytes)) file before image
-chosen_by choice (StoppedCut to) file seen images image = (before : Files) × images before × Changes (IsPart choice (StoppedCut to)) file before image
+chosen_by choice Synced file seen images image =
+    (before : Files) × images before × HasFile file (seen file) before image
+chosen_by choice (Wrote at bytes) file seen images image =
+    (before : Files) × images before × Changes (IsPart choice (Wrote at bytes)) file before image
+chosen_by choice (Cut to) file seen images image =
+    (before : Files) × images before × Changes (IsPart choice (Cut to)) file before image
+chosen_by choice (StoppedWrite at bytes) file seen images image =
+    (before : Files) × images before
+    × Changes (IsPart choice (StoppedWrite at bytes)) file before image
+chosen_by choice (StoppedCut to) file seen images image =
+    (before : Files) × images before × Changes (IsPart choice (StoppedCut to)) file before image
 
 -- after all these changes, of files that read so and have these images
 abbrev pub chosen_from : ℕ → Files → (Files → Type 0) → List Note → Files → Type 0
 chosen_from choice seen images [] = images
-chosen_from choice seen images (note ∷ notes) = chosen_from choice (after_note note seen) (chosen_by choice note.change note.file seen images) notes
+chosen_from choice seen images (note ∷ notes) =
+    chosen_from choice (after_note note seen) (chosen_by choice note.change note.file seen images)
+    notes
 
 -- The images by a choice: what came since the last sync of each file is left in part.
 abbrev pub IsChosen : ℕ → Files → List Note → Files → Type 0
@@ -65,18 +73,22 @@ IsChosen choice first notes = chosen_from choice first (SameFiles first) notes
 -- ---- made change by change
 
 -- after these changes: the files as they read, and an image by a choice
-pub record IsImageAfter (choice : ℕ) (first : Files) (notes : List Note) (files image : Files) : Type 0 where
+pub record IsImageAfter (choice : ℕ) (first : Files) (notes : List Note)
+    (files image : Files) : Type 0 where
   pub exact : SameFiles (replay first notes) files
   pub chosen : IsChosen choice first notes image
 
 -- one change more
 abbrev pub Follows : ℕ → Note → Files → Files → Files → Files → Type 0
 Follows choice note old_files old_image files image = (first : Files) (notes : List Note)
-    → IsImageAfter choice first notes old_files old_image → IsImageAfter choice first (notes ++ note ∷ []) files image
+    → IsImageAfter choice first notes old_files old_image
+    → IsImageAfter choice first (notes ++ note ∷ []) files image
 
 -- the same of lists of files
-abbrev pub FollowsIn : ℕ → Note → List (List ℕ) → List (List ℕ) → List (List ℕ) → List (List ℕ) → Type 0
-FollowsIn choice note old_files old_image files image = Follows choice note (file_of old_files) (file_of old_image) (file_of files) (file_of image)
+abbrev pub FollowsIn : ℕ → Note → List (List ℕ) → List (List ℕ) → List (List ℕ) → List (List ℕ)
+    → Type 0
+FollowsIn choice note old_files old_image files image =
+    Follows choice note (file_of old_files) (file_of old_image) (file_of files) (file_of image)
 
 -- files by a choice after these changes of others
 abbrev pub IsLeft : ℕ → List (List ℕ) → List Note → List (List ℕ) → Type 0

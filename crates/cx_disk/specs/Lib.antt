@@ -1,4 +1,5 @@
 pub mod Cause
+pub mod Files
 pub mod Disk
 pub mod Moments
 pub mod Memory

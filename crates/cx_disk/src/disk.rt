@@ -2,16 +2,20 @@
 ghost use Rattle.std.specs.Prelude.{◌≡◌, ◌≤◌, ◌<◌, ◌+◌, ℕ, Bool, length, slice_range, IsTrue, OnOk, OnErr, IfOk, IfErr};
 ghost use Rattle.cx_disk.specs.Cause.{HasCause};
 ghost use Rattle.cx_disk.specs.Disk.{Folders, IsNamed, View, IsView, SameFiles, OthersSame, Changes, Holds, Torn, Front, CutShort, Passes, IsSettled};
+ghost use Rattle.cx_disk.specs.Files.{IsFile, count_with};
 
-use cx_text::Text;
+use cx_text::{List, Text};
 use std::alloc::{AllocError, AllocFailed};
+use thiserror::Error;
 
 /// Why a call of a disk gave nothing.
-#[derive(Clone, Copy, Debug, PartialEq, Eq)]
+#[derive(Clone, Copy, Debug, Error, PartialEq, Eq)]
 pub enum DiskFault {
     /// The device failed, and counted it.
+    #[error("Failed")]
     Failed,
     /// There was no memory left.
+    #[error("Memory")]
     Memory,
 }
 
@@ -37,7 +41,9 @@ impl<T: Drop> From<AllocFailed<T>> for DiskFault {
     }
 }
 
-/// Files by number: 0 to 7 hold checkpoints, 8 the output. A file that was never written has length 0.
+/// Files by number, as the constants and functions of this crate give them: the slots of checkpoints, the one output of a run
+/// whose outputs have no names, an output for each name that `mount` is given, and the chunks with the file that they are
+/// recombined to. A file that was never written has length 0.
 ///
 /// A disk counts its failures, and tells `Failed` only where that count rises. What a crash may leave is a set of
 /// images of all files. Between two syncs of a file each write may be left undone in part: the written range and
@@ -50,10 +56,10 @@ pub trait Disk {
     /// Whether a `mount` has answered Ok.
     ghost mounted: { Self → Bool };
 
-    /// The folders that the last `mount` named. They are known whether or not it tells what its files hold.
+    /// The folders and the outputs that the last `mount` named. They are known whether or not it tells what its files hold.
     ghost folders: { Self → Folders };
 
-    /// Its files are those below this number.
+    /// How many files it has below the chunks. The chunks and the recombined file are its files too.
     ghost file_count: { Self → ℕ };
 
     /// How its files read, and what a crash may leave of them.
@@ -62,16 +68,24 @@ pub trait Disk {
     /// How often it has failed, up to the last value of 64 bits.
     ghost faults: { Self → ℕ };
 
-    /// Names the folders of the output and of the checkpoints (`IO::out_dir` and `IO::checkpoint_dir` of the Cactus 4
-    /// Users' Guide). It changes no file's bytes, and comes before every other call.
+    /// Names the folder of the outputs, the outputs' files in it, and the folder of the checkpoints. The folders are
+    /// `IO::out_dir` and `IO::checkpoint_dir` of the Cactus 4 Users' Guide. It changes no file's bytes, and comes before every
+    /// other call.
     ///
     /// `Failed`: the device failed, and is mounted if it was, with the folders that it had. So it is after `Memory`.
-    fn mount(&mut self, output: &Text, checkpoints: &Text) -> Result<(), DiskFault>
+    fn mount(
+        &mut self,
+        output: &Text,
+        names: &List<Text>,
+        checkpoints: &Text,
+    ) -> Result<(), DiskFault>
         ensures mounted { OnOk result (IsTrue (mounted self.new)) }
         ensures stays { IsTrue (mounted self.old) → IsTrue (mounted self.new) }
-        ensures named { OnOk result (IsNamed output.now checkpoints.now (folders self.new)) }
+        ensures named { OnOk result
+            (IsNamed output.now names.now checkpoints.now (folders self.new)) }
         ensures unnamed { OnErr result (folders self.new ≡ folders self.old) }
-        ensures count { file_count self.new ≡ 9 }
+        ensures files { OnOk result (file_count self.new ≡ count_with (length names.now)) }
+        ensures as_many { OnErr result (file_count self.new ≡ file_count self.old) }
         ensures same { tells → SameFiles (view self.old).seen (view self.new).seen }
         ensures after { tells → Passes SameFiles (view self.old) (view self.new) }
         ensures cause { HasCause DiskFault.Failed (faults self.old) (faults self.new) result };
@@ -81,7 +95,7 @@ pub trait Disk {
     /// `Failed`: the device failed.
     fn length(&mut self, file: u32) -> Result<u64, DiskFault>
         requires mounted { IsTrue (mounted self.old) }
-        requires file { file < file_count self.old }
+        requires file { IsFile (file_count self.old) file }
         ensures length { tells → IfOk result
             (λ count. count ≡ length ((view self.old).seen file)) }
         ensures mounted { IsTrue (mounted self.new) }
@@ -97,7 +111,7 @@ pub trait Disk {
     /// `Failed`: the device failed, or it tells nothing and the range isn't there. What `into` holds is then left open.
     fn read(&mut self, file: u32, at: u64, into: &mut [u8]) -> Result<(), DiskFault>
         requires mounted { IsTrue (mounted self.old) }
-        requires file { file < file_count self.old }
+        requires file { IsFile (file_count self.old) file }
         requires range { tells → at + length into.old ≤ length ((view self.old).seen file) }
         ensures read { tells → OnOk result
             (into.new ≡ slice_range ((view self.old).seen file) at (at + length into.old)) }
@@ -116,7 +130,7 @@ pub trait Disk {
     /// may be left, and the others as before. So it may after `Memory`.
     fn write_at(&mut self, file: u32, at: u64, bytes: &[u8]) -> Result<(), DiskFault>
         requires mounted { IsTrue (mounted self.old) }
-        requires file { file < file_count self.old }
+        requires file { IsFile (file_count self.old) file }
         requires start { tells → at ≤ length ((view self.old).seen file) }
         ensures written { tells → OnOk result
             (Holds at bytes.now ((view self.old).seen file) ((view self.new).seen file)) }
@@ -137,7 +151,7 @@ pub trait Disk {
     /// left, and the others as before. So it may after `Memory`.
     fn cut(&mut self, file: u32, to: u64) -> Result<(), DiskFault>
         requires mounted { IsTrue (mounted self.old) }
-        requires file { file < file_count self.old }
+        requires file { IsFile (file_count self.old) file }
         requires within { tells → to ≤ length ((view self.old).seen file) }
         ensures cut { tells → OnOk result
             (Front to ((view self.old).seen file) ((view self.new).seen file)) }
@@ -156,7 +170,7 @@ pub trait Disk {
     /// `Failed`: the device failed. Nothing is settled then, nor after `Memory`.
     fn sync(&mut self, file: u32) -> Result<(), DiskFault>
         requires mounted { IsTrue (mounted self.old) }
-        requires file { file < file_count self.old }
+        requires file { IsFile (file_count self.old) file }
         ensures settled { tells → OnOk result (IsSettled (view self.new) file) }
         ensures mounted { IsTrue (mounted self.new) }
         ensures folders { folders self.new ≡ folders self.old }

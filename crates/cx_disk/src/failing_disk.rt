@@ -1,7 +1,8 @@
 //! A disk in memory that fails at some calls.
 ghost use Rattle.std.specs.Prelude.{◌≡◌, ◌≤◌, ◌<◌, ◌+◌, ◌↔◌, if◌then◌else◌, length, slice_range, IsTrue, OnOk, OnErr, IfOk, IfErr};
 ghost use Rattle.cx_disk.specs.Cause.{Rose, HasCause};
-ghost use Rattle.cx_disk.specs.Disk.{IsNamed, SameFiles, OthersSame, Changes, Holds, Torn, Front, CutShort, Passes, IsSettled};
+ghost use Rattle.cx_disk.specs.Disk.{IsNamed, SameFiles, OthersSame, Changes, Holds, Torn, Front, CutShort, Passes, IsSettled, files_in};
+ghost use Rattle.cx_disk.specs.Files.{IsFile};
 ghost use Rattle.cx_disk.specs.Failing.{failing_disk, FailsNext, FailsAt, called, failed};
 ghost use Rattle.cx_disk.specs.Fuse.{Fails, Stops};
 ghost use Rattle.cx_disk.specs.Memory.{whole_write, whole_cut, synced, stopped_write, stopped_cut, view_of, Notes, Looks, Mounts};
@@ -78,7 +79,7 @@ impl Disk for FailingDisk {
 
     ghost folders = { λ f. f.disk.folders };
 
-    ghost file_count = { λ _. 9 };
+    ghost file_count = { λ f. files_in f.disk.folders };
 
     ghost view = { λ f. view_of f.disk };
 
@@ -86,12 +87,18 @@ impl Disk for FailingDisk {
 
     ghost sound = { λ f _. sound_of f.disk };
 
-    fn mount(&mut self, output: &Text, checkpoints: &Text) -> Result<(), DiskFault>
-        ensures fails { FailsAt (Mounts output.now checkpoints.now) Fails
+    fn mount(
+        &mut self,
+        output: &Text,
+        names: &List<Text>,
+        checkpoints: &Text,
+    ) -> Result<(), DiskFault>
+        ensures fails { FailsAt (Mounts output.now names.now checkpoints.now) Fails
             self.old self.new result }
         ensures mounted { OnOk result (IsTrue self.new.disk.mounted) }
         ensures stays { IsTrue self.old.disk.mounted → IsTrue self.new.disk.mounted }
-        ensures named { OnOk result (IsNamed output.now checkpoints.now self.new.disk.folders) }
+        ensures named { OnOk result
+            (IsNamed output.now names.now checkpoints.now self.new.disk.folders) }
         ensures unnamed { OnErr result (self.new.disk.folders ≡ self.old.disk.folders) }
         ensures same { SameFiles (view_of self.old.disk).seen (view_of self.new.disk).seen }
         ensures after { Passes SameFiles (view_of self.old.disk) (view_of self.new.disk) }
@@ -100,12 +107,12 @@ impl Disk for FailingDisk {
         if self.fails() {
             return Err(DiskFault::Failed);
         }
-        self.disk.mount(output, checkpoints)
+        self.disk.mount(output, names, checkpoints)
     }
 
     fn length(&mut self, file: u32) -> Result<u64, DiskFault>
         requires mounted { IsTrue self.old.disk.mounted }
-        requires file { file < 9 }
+        requires file { IsFile (files_in self.old.disk.folders) file }
         ensures fails { FailsAt Looks Fails self.old self.new result }
         ensures length { IfOk result
             (λ count. count ≡ length ((view_of self.old.disk).seen file)) }
@@ -124,7 +131,7 @@ impl Disk for FailingDisk {
 
     fn read(&mut self, file: u32, at: u64, into: &mut [u8]) -> Result<(), DiskFault>
         requires mounted { IsTrue self.old.disk.mounted }
-        requires file { file < 9 }
+        requires file { IsFile (files_in self.old.disk.folders) file }
         requires range { at + length into.old ≤ length ((view_of self.old.disk).seen file) }
         ensures fails { FailsAt Looks Fails self.old self.new result }
         ensures read { OnOk result (into.new
@@ -144,7 +151,7 @@ impl Disk for FailingDisk {
 
     fn write_at(&mut self, file: u32, at: u64, bytes: &[u8]) -> Result<(), DiskFault>
         requires mounted { IsTrue self.old.disk.mounted }
-        requires file { file < 9 }
+        requires file { IsFile (files_in self.old.disk.folders) file }
         requires start { at ≤ length ((view_of self.old.disk).seen file) }
         ensures fails { FailsAt (Notes (whole_write file at bytes.now))
             (Stops (stopped_write file at bytes.now)) self.old self.new result }
@@ -168,7 +175,7 @@ impl Disk for FailingDisk {
 
     fn cut(&mut self, file: u32, to: u64) -> Result<(), DiskFault>
         requires mounted { IsTrue self.old.disk.mounted }
-        requires file { file < 9 }
+        requires file { IsFile (files_in self.old.disk.folders) file }
         requires within { to ≤ length ((view_of self.old.disk).seen file) }
         ensures fails { FailsAt (Notes (whole_cut file to)) (Stops (stopped_cut file to))
             self.old self.new result }
@@ -192,7 +199,7 @@ impl Disk for FailingDisk {
 
     fn sync(&mut self, file: u32) -> Result<(), DiskFault>
         requires mounted { IsTrue self.old.disk.mounted }
-        requires file { file < 9 }
+        requires file { IsFile (files_in self.old.disk.folders) file }
         ensures fails { FailsAt (Notes (synced file)) Fails self.old self.new result }
         ensures settled { OnOk result (IsSettled (view_of self.new.disk) file) }
         ensures mounted { IsTrue self.new.disk.mounted }

@@ -1,22 +1,24 @@
 //! Two folders, as a disk that tells nothing of what its files hold.
-ghost use Rattle.std.specs.Prelude.{◌≡◌, ◌<◌, false, vec_len, IsTrue, IfOk, IfErr};
+ghost use Rattle.std.specs.Prelude.{◌≡◌, ◌<◌, ◌+◌, false, length, vec_len, IsTrue, IfOk, IfErr};
 ghost use Rattle.cx_disk.specs.Cause.{HasCause};
-ghost use Rattle.cx_disk.specs.Disk.{untold, no_folders};
+ghost use Rattle.cx_disk.specs.Disk.{files_in, untold, no_folders};
+ghost use Rattle.cx_disk.specs.Files.{IsFile, chunk_count, count_with};
 ghost use Rattle.cx_disk.specs.Folder.{Adapter};
 
+use crate::files::{CHUNKS, FIRST_CHUNK, OLD_OUTPUT, RECOMBINED};
+use crate::memory_disk::copied;
 use crate::{Disk, DiskFault};
-use cx_text::Text;
+use cx_text::{List, Text};
 use std::alloc::{AllocError, Global};
 use std::fs::{self, OpenFile, OpenOptions};
 use std::io::{self, ErrorKind, Read, Seek, SeekFrom, Write};
 use std::marker::Model;
 use std::rt::Files;
 
-const OUTPUT: u32 = 8;
-
-/// Two folders as a disk: file 8 is `output.asc` in the folder of the output, and the files 0 to 7 are
-/// `checkpoint.chkpt.0` to `checkpoint.chkpt.7` in the folder of the checkpoints. Contracts see whether it is mounted, and
-/// on which folders, and how often it has failed.
+/// Two folders as a disk. In the folder of the checkpoints stand the slots, `checkpoint.chkpt.0` to `checkpoint.chkpt.7`. In the
+/// folder of the outputs stand `output.asc`, a file for each name that `mount` is given, the chunks `chunk.0.asc` to
+/// `chunk.511.asc`, and `recombined.asc`. Contracts see whether it is mounted, on which folders and names, and how often it has
+/// failed.
 ///
 /// `mount` makes folders that are missing. An empty name stands for the current folder, and one that isn't UTF-8 is a
 /// failure, as is a range that isn't there. Only `write_at` makes a file.
@@ -25,25 +27,34 @@ pub struct FolderDisk<R> {
     rt: R,
     alloc: Global,
     paths: Vec<String>,
+    chunks: Vec<String>,
     mounted: bool,
     output: Text,
+    names: List<Text>,
     checkpoints: Text,
     faults: u64,
 }
 
 impl<R> Model for FolderDisk<R> {
-    ghost use Rattle.std.specs.Prelude.{◌≡◌, true, vec_len};
+    ghost use Rattle.std.specs.Prelude.{◌≡◌, ◌+◌, true, length, vec_len};
+    ghost use Rattle.cx_disk.specs.Files.{chunk_count, count_with};
     ghost use Rattle.cx_disk.specs.Folder.{Adapter};
 
     ghost Value = { Adapter };
 
     ghost view = { λ disk. record {
       mounted = disk.mounted;
-      folders = record { output = disk.output; checkpoints = disk.checkpoints };
+      folders = record {
+        output = disk.output;
+        names = disk.names;
+        checkpoints = disk.checkpoints;
+      };
       faults = disk.faults;
     } };
 
-    ghost invariant = { λ disk. disk.mounted ≡ true → vec_len disk.paths ≡ 9 };
+    ghost invariant = { λ disk. disk.mounted ≡ true
+        → (vec_len disk.paths ≡ count_with (length disk.names))
+        × (vec_len disk.chunks ≡ chunk_count + 1) };
 }
 
 impl<R: Files + Drop> FolderDisk<R> {
@@ -55,8 +66,10 @@ impl<R: Files + Drop> FolderDisk<R> {
             rt,
             alloc,
             paths: Vec::new(alloc),
+            chunks: Vec::new(alloc),
             mounted: false,
             output: Text::new(Vec::new(alloc)),
+            names: List::empty(alloc),
             checkpoints: Text::new(Vec::new(alloc)),
             faults: 0,
         }
@@ -67,8 +80,11 @@ impl<R> FolderDisk<R> {
     // The place of a file.
     fn path(&self, file: u32) -> &str
         requires mounted { IsTrue self.now.mounted }
-        requires file { file < 9 }
+        requires file { IsFile (files_in self.now.folders) file }
     {
+        if (FIRST_CHUNK..=RECOMBINED).contains(&file) {
+            return self.chunks[(file - FIRST_CHUNK) as usize].as_str();
+        }
         self.paths[file as usize].as_str()
     }
 
@@ -89,16 +105,36 @@ impl<R> FolderDisk<R> {
     }
 }
 
-// The places of the files, by number.
+// The places of the slots and of the output without a name, by number.
 fn paths(alloc: Global, output: &str, checkpoints: &str) -> Result<Vec<String>, AllocError>
-    ensures { IfOk result (λ paths. vec_len paths ≡ 9) }
+    ensures { IfOk result (λ paths. vec_len paths ≡ count_with 0) }
 {
     let mut paths = Vec::new(alloc);
-    'slots: for slot in 0..OUTPUT {
+    'slots: for slot in 0..OLD_OUTPUT {
         paths.push(format!(in alloc; "{checkpoints}/checkpoint.chkpt.{slot}")?)?;
     }
     paths.push(format!(in alloc; "{output}/output.asc")?)?;
     Ok(paths)
+}
+
+// The places of the chunks and of the recombined file.
+fn chunk_paths(alloc: Global, output: &str) -> Result<Vec<String>, AllocError>
+    ensures { IfOk result (λ paths. vec_len paths ≡ chunk_count + 1) }
+{
+    let mut paths = Vec::new(alloc);
+    'chunks: for part in 0..CHUNKS {
+        paths.push(format!(in alloc; "{output}/chunk.{part}.asc")?)?;
+    }
+    paths.push(format!(in alloc; "{output}/recombined.asc")?)?;
+    Ok(paths)
+}
+
+// A file by its name.
+fn file_name(name: &Text) -> io::Result<&str> {
+    match str::from_utf8(name.as_slice()) {
+        Ok(name) => Ok(name),
+        Err(_) => Err(ErrorKind::InvalidInput.into()),
+    }
 }
 
 // A folder by its name.
@@ -184,6 +220,28 @@ fn make_folders<R: Files>(rt: &R, output: &str, checkpoints: &str) -> io::Result
     fs::create_dir_all(rt, checkpoints)
 }
 
+impl<R: Files + Drop> FolderDisk<R> {
+    // The places of the files below the chunks, by number.
+    fn places(
+        &mut self,
+        output: &str,
+        names: &[Text],
+        checkpoints: &str,
+    ) -> Result<Vec<String>, DiskFault>
+        ensures places { IfOk result (λ paths. vec_len paths ≡ count_with (length names.now)) }
+        ensures mounted { self.new.mounted ≡ self.old.mounted }
+        ensures folders { self.new.folders ≡ self.old.folders }
+        ensures cause { HasCause DiskFault.Failed self.old.faults self.new.faults result }
+    {
+        let mut paths = paths(self.alloc, output, checkpoints)?;
+        'names: for name in names {
+            let name = self.counted(file_name(name))?;
+            paths.push(format!(in self.alloc; "{output}/{name}")?)?;
+        }
+        Ok(paths)
+    }
+}
+
 impl<R: Files + Drop> Disk for FolderDisk<R> {
     ghost tells = { ⊥ };
 
@@ -191,7 +249,7 @@ impl<R: Files + Drop> Disk for FolderDisk<R> {
 
     ghost folders = { λ disk. disk.folders };
 
-    ghost file_count = { λ _. 9 };
+    ghost file_count = { λ disk. files_in disk.folders };
 
     ghost view = { λ _. untold };
 
@@ -199,16 +257,25 @@ impl<R: Files + Drop> Disk for FolderDisk<R> {
 
     ghost sound = { λ _ tells. absurd tells };
 
-    fn mount(&mut self, output: &Text, checkpoints: &Text) -> Result<(), DiskFault> {
+    fn mount(
+        &mut self,
+        output: &Text,
+        names: &List<Text>,
+        checkpoints: &Text,
+    ) -> Result<(), DiskFault> {
         let output_path = self.counted(folder(output))?;
         let checkpoint_path = self.counted(folder(checkpoints))?;
         let made = make_folders(&self.rt, output_path, checkpoint_path);
         self.counted(made)?;
-        let paths = paths(self.alloc, output_path, checkpoint_path)?;
+        let paths = self.places(output_path, names.as_slice(), checkpoint_path)?;
+        let chunks = chunk_paths(self.alloc, output_path)?;
         let output = Text::new(output.as_slice().to_vec(self.alloc)?);
+        let names = List::new(copied(self.alloc, names.as_slice())?);
         let checkpoints = Text::new(checkpoints.as_slice().to_vec(self.alloc)?);
         self.paths = paths;
+        self.chunks = chunks;
         self.output = output;
+        self.names = names;
         self.checkpoints = checkpoints;
         self.mounted = true;
         Ok(())

@@ -1,14 +1,15 @@
 //! A disk in memory that fails from some call on.
 ghost use Rattle.std.specs.Prelude.{◌≡◌, ◌≤◌, ◌<◌, ◌+◌, ◌-◌, false, true, length, slice_range, IsTrue, OnOk, OnErr, IfOk, IfErr};
 ghost use Rattle.cx_disk.specs.Cause.{Rose, HasCause};
-ghost use Rattle.cx_disk.specs.Disk.{IsNamed, SameFiles, OthersSame, Changes, Holds, Torn, Front, CutShort, Passes, IsSettled};
+ghost use Rattle.cx_disk.specs.Disk.{IsNamed, SameFiles, OthersSame, Changes, Holds, Torn, Front, CutShort, Passes, IsSettled, files_in};
+ghost use Rattle.cx_disk.specs.Files.{IsFile};
 ghost use Rattle.cx_disk.specs.Fuse.{next_count, Fails, Stops, Burns};
 ghost use Rattle.cx_disk.specs.Image.{IsImageOf, IsChosenOf};
 ghost use Rattle.cx_disk.specs.Memory.{whole_write, whole_cut, synced, stopped_write, stopped_cut, view_of, Notes, Looks, Mounts};
 ghost use Rattle.cx_disk.specs.MemoryLaws.{sound_of};
 
 use crate::{Disk, DiskFault, MemoryDisk};
-use cx_text::{Memory, Text};
+use cx_text::{List, Memory, Text};
 use std::marker::Model;
 
 /// A disk in memory that passes so many calls, and then fails every call. A write or a cut that fails leaves the files as
@@ -80,7 +81,7 @@ impl Disk for FuseDisk {
 
     ghost folders = { λ fuse. fuse.disk.folders };
 
-    ghost file_count = { λ _. 9 };
+    ghost file_count = { λ fuse. files_in fuse.disk.folders };
 
     ghost view = { λ fuse. view_of fuse.disk };
 
@@ -88,12 +89,18 @@ impl Disk for FuseDisk {
 
     ghost sound = { λ fuse _. sound_of fuse.disk };
 
-    fn mount(&mut self, output: &Text, checkpoints: &Text) -> Result<(), DiskFault>
-        ensures burns { Burns (Mounts output.now checkpoints.now) Fails
+    fn mount(
+        &mut self,
+        output: &Text,
+        names: &List<Text>,
+        checkpoints: &Text,
+    ) -> Result<(), DiskFault>
+        ensures burns { Burns (Mounts output.now names.now checkpoints.now) Fails
             self.old self.new result }
         ensures mounted { OnOk result (IsTrue self.new.disk.mounted) }
         ensures stays { IsTrue self.old.disk.mounted → IsTrue self.new.disk.mounted }
-        ensures named { OnOk result (IsNamed output.now checkpoints.now self.new.disk.folders) }
+        ensures named { OnOk result
+            (IsNamed output.now names.now checkpoints.now self.new.disk.folders) }
         ensures unnamed { OnErr result (self.new.disk.folders ≡ self.old.disk.folders) }
         ensures same { SameFiles (view_of self.old.disk).seen (view_of self.new.disk).seen }
         ensures after { Passes SameFiles (view_of self.old.disk) (view_of self.new.disk) }
@@ -102,12 +109,12 @@ impl Disk for FuseDisk {
         if !passes(&mut self.calls, &mut self.faults) {
             return Err(DiskFault::Failed);
         }
-        self.disk.mount(output, checkpoints)
+        self.disk.mount(output, names, checkpoints)
     }
 
     fn length(&mut self, file: u32) -> Result<u64, DiskFault>
         requires mounted { IsTrue self.old.disk.mounted }
-        requires file { file < 9 }
+        requires file { IsFile (files_in self.old.disk.folders) file }
         ensures burns { Burns Looks Fails self.old self.new result }
         ensures length { IfOk result
             (λ count. count ≡ length ((view_of self.old.disk).seen file)) }
@@ -126,7 +133,7 @@ impl Disk for FuseDisk {
 
     fn read(&mut self, file: u32, at: u64, into: &mut [u8]) -> Result<(), DiskFault>
         requires mounted { IsTrue self.old.disk.mounted }
-        requires file { file < 9 }
+        requires file { IsFile (files_in self.old.disk.folders) file }
         requires range { at + length into.old ≤ length ((view_of self.old.disk).seen file) }
         ensures burns { Burns Looks Fails self.old self.new result }
         ensures read { OnOk result (into.new
@@ -146,7 +153,7 @@ impl Disk for FuseDisk {
 
     fn write_at(&mut self, file: u32, at: u64, bytes: &[u8]) -> Result<(), DiskFault>
         requires mounted { IsTrue self.old.disk.mounted }
-        requires file { file < 9 }
+        requires file { IsFile (files_in self.old.disk.folders) file }
         requires start { at ≤ length ((view_of self.old.disk).seen file) }
         ensures burns { Burns (Notes (whole_write file at bytes.now))
             (Stops (stopped_write file at bytes.now)) self.old self.new result }
@@ -170,7 +177,7 @@ impl Disk for FuseDisk {
 
     fn cut(&mut self, file: u32, to: u64) -> Result<(), DiskFault>
         requires mounted { IsTrue self.old.disk.mounted }
-        requires file { file < 9 }
+        requires file { IsFile (files_in self.old.disk.folders) file }
         requires within { to ≤ length ((view_of self.old.disk).seen file) }
         ensures burns { Burns (Notes (whole_cut file to)) (Stops (stopped_cut file to))
             self.old self.new result }
@@ -194,7 +201,7 @@ impl Disk for FuseDisk {
 
     fn sync(&mut self, file: u32) -> Result<(), DiskFault>
         requires mounted { IsTrue self.old.disk.mounted }
-        requires file { file < 9 }
+        requires file { IsFile (files_in self.old.disk.folders) file }
         ensures burns { Burns (Notes (synced file)) Fails self.old self.new result }
         ensures settled { OnOk result (IsSettled (view_of self.new.disk) file) }
         ensures mounted { IsTrue self.new.disk.mounted }

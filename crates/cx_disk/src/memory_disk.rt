@@ -1,7 +1,8 @@
 //! A disk in memory.
 ghost use Rattle.std.specs.Prelude.{◌≡◌, ◌≤◌, ◌<◌, ◌+◌, ◌++◌, ℕ, length, take, drop, slice_range, vec_len, IsTrue, OnOk, OnErr, IfOk, IfErr, true, false};
 ghost use Rattle.cx_disk.specs.Cause.{HasCause};
-ghost use Rattle.cx_disk.specs.Disk.{Files, IsNamed, SameFiles, OthersSame, Changes, Holds, Torn, Front, CutShort, Passes, IsSettled};
+ghost use Rattle.cx_disk.specs.Disk.{Files, files_in, IsNamed, SameFiles, OthersSame, Changes, Holds, Torn, Front, CutShort, Passes, IsSettled};
+ghost use Rattle.cx_disk.specs.Files.{IsFile};
 ghost use Rattle.cx_disk.specs.Image.{IsImageOf, IsChosenOf};
 ghost use Rattle.cx_disk.specs.Memory.{fresh, noted, whole_write, whole_cut, synced, stopped_write, stopped_cut, file_of, changed, view_of, Notes, Looks, Mounts};
 ghost use Rattle.cx_disk.specs.MemoryLaws.{sound_of};
@@ -11,8 +12,6 @@ use crate::{Change, Disk, DiskFault, Note};
 use cx_text::{List, Text};
 use std::alloc::{AllocError, Global};
 use std::marker::Model;
-
-const FILES: usize = 9;
 
 /// A disk in memory. It tells what its files hold, never fails, and notes each change, so that what a crash at each
 /// moment may leave can be told. Contracts see whether it is mounted, and on which folders, its files at the
@@ -25,6 +24,7 @@ pub struct MemoryDisk {
     notes: Vec<Note>,
     mounted: bool,
     output: Text,
+    names: List<Text>,
     checkpoints: Text,
 }
 
@@ -35,7 +35,11 @@ impl Model for MemoryDisk {
 
     ghost view = { λ disk. record {
       mounted = disk.mounted;
-      folders = record { output = disk.output; checkpoints = disk.checkpoints };
+      folders = record {
+        output = disk.output;
+        names = disk.names;
+        checkpoints = disk.checkpoints;
+      };
       first = disk.first;
       notes = disk.notes.items;
     } };
@@ -59,6 +63,7 @@ impl MemoryDisk {
             notes: Vec::new(alloc),
             mounted: false,
             output: Text::new(Vec::new(alloc)),
+            names: List::empty(alloc),
             checkpoints: Text::new(Vec::new(alloc)),
         }
     }
@@ -89,9 +94,7 @@ impl MemoryDisk {
         ensures err { OnErr result (self.new ≡ self.old) }
     {
         if !self.mounted {
-            let mut files = copied(self.alloc, self.first.as_slice())?;
-            fill(self.alloc, &mut files, FILES)?;
-            self.files = files;
+            self.files = copied(self.alloc, self.first.as_slice())?;
             self.mounted = true;
         }
         Ok(())
@@ -100,12 +103,12 @@ impl MemoryDisk {
     // Notes a change, after which the file has these bytes.
     fn change(&mut self, note: Note, next: Vec<u8>) -> Result<(), AllocError>
         requires mounted { IsTrue self.old.mounted }
-        requires file { note.file < 9 }
         requires bytes { next.items ≡ changed note.change ((view_of self.old).seen note.file) }
         ensures ok { OnOk result (self.new ≡ noted self.old note) }
         ensures err { OnErr result (self.new ≡ self.old) }
     {
         let file = note.file as usize;
+        fill(self.alloc, &mut self.files, file + 1)?;
         self.notes.push(note)?;
         self.files[file] = Text::new(next);
         Ok(())
@@ -114,7 +117,7 @@ impl MemoryDisk {
     // Notes a write that was stopped.
     pub(crate) fn stop_write(&mut self, file: u32, at: u64, bytes: &[u8]) -> Result<(), AllocError>
         requires mounted { IsTrue self.old.mounted }
-        requires file { file < 9 }
+        requires file { IsFile (files_in self.old.folders) file }
         ensures ok { OnOk result
             (self.new ≡ noted self.old (stopped_write file at bytes.now)) }
         ensures err { OnErr result (self.new ≡ self.old) }
@@ -128,7 +131,7 @@ impl MemoryDisk {
     // Notes a cut that was stopped.
     pub(crate) fn stop_cut(&mut self, file: u32, to: u64) -> Result<(), AllocError>
         requires mounted { IsTrue self.old.mounted }
-        requires file { file < 9 }
+        requires file { IsFile (files_in self.old.folders) file }
         ensures ok { OnOk result
             (self.new ≡ noted self.old (stopped_cut file to)) }
         ensures err { OnErr result (self.new ≡ self.old) }
@@ -161,7 +164,7 @@ pub(crate) fn copied(alloc: Global, files: &[Text]) -> Result<Vec<Text>, AllocEr
 }
 
 // Adds empty files up to so many.
-#[tactic(auto, using(crate::proofs::Files::empty_file))]
+#[tactic(auto, using(crate::proofs::Filling::empty_file))]
 pub(crate) fn fill(alloc: Global, files: &mut Vec<Text>, count: usize) -> Result<(), AllocError>
     ensures all { OnOk result (count ≤ vec_len files.new) }
     ensures same { SameFiles (file_of files.old.items) (file_of files.new.items) }
@@ -179,7 +182,7 @@ impl Disk for MemoryDisk {
 
     ghost folders = { λ disk. disk.folders };
 
-    ghost file_count = { λ _. 9 };
+    ghost file_count = { λ disk. files_in disk.folders };
 
     ghost view = { view_of };
 
@@ -187,27 +190,35 @@ impl Disk for MemoryDisk {
 
     ghost sound = { λ disk _. sound_of disk };
 
-    fn mount(&mut self, output: &Text, checkpoints: &Text) -> Result<(), DiskFault>
-        ensures does { Mounts output.now checkpoints.now self.old self.new result }
+    fn mount(
+        &mut self,
+        output: &Text,
+        names: &List<Text>,
+        checkpoints: &Text,
+    ) -> Result<(), DiskFault>
+        ensures does { Mounts output.now names.now checkpoints.now self.old self.new result }
         ensures mounted { OnOk result (IsTrue self.new.mounted) }
         ensures stays { IsTrue self.old.mounted → IsTrue self.new.mounted }
-        ensures named { OnOk result (IsNamed output.now checkpoints.now self.new.folders) }
+        ensures named { OnOk result
+            (IsNamed output.now names.now checkpoints.now self.new.folders) }
         ensures unnamed { OnErr result (self.new.folders ≡ self.old.folders) }
         ensures same { SameFiles (view_of self.old).seen (view_of self.new).seen }
         ensures after { Passes SameFiles (view_of self.old) (view_of self.new) }
         ensures cause { HasCause DiskFault.Failed 0 0 result }
     {
         let output = Text::new(output.as_slice().to_vec(self.alloc)?);
+        let names = List::new(copied(self.alloc, names.as_slice())?);
         let checkpoints = Text::new(checkpoints.as_slice().to_vec(self.alloc)?);
         self.keep_files()?;
         self.output = output;
+        self.names = names;
         self.checkpoints = checkpoints;
         Ok(())
     }
 
     fn length(&mut self, file: u32) -> Result<u64, DiskFault>
         requires mounted { IsTrue self.old.mounted }
-        requires file { file < 9 }
+        requires file { IsFile (files_in self.old.folders) file }
         ensures does { Looks self.old self.new result }
         ensures length { IfOk result
             (λ count. count ≡ length ((view_of self.old).seen file)) }
@@ -223,7 +234,7 @@ impl Disk for MemoryDisk {
 
     fn read(&mut self, file: u32, at: u64, into: &mut [u8]) -> Result<(), DiskFault>
         requires mounted { IsTrue self.old.mounted }
-        requires file { file < 9 }
+        requires file { IsFile (files_in self.old.folders) file }
         requires range { at + length into.old ≤ length ((view_of self.old).seen file) }
         ensures does { Looks self.old self.new result }
         ensures read { OnOk result (into.new
@@ -243,7 +254,7 @@ impl Disk for MemoryDisk {
 
     fn write_at(&mut self, file: u32, at: u64, bytes: &[u8]) -> Result<(), DiskFault>
         requires mounted { IsTrue self.old.mounted }
-        requires file { file < 9 }
+        requires file { IsFile (files_in self.old.folders) file }
         requires start { at ≤ length ((view_of self.old).seen file) }
         ensures does { Notes (whole_write file at bytes.now) self.old self.new result }
         ensures written { OnOk result (Holds at bytes.now
@@ -265,7 +276,7 @@ impl Disk for MemoryDisk {
 
     fn cut(&mut self, file: u32, to: u64) -> Result<(), DiskFault>
         requires mounted { IsTrue self.old.mounted }
-        requires file { file < 9 }
+        requires file { IsFile (files_in self.old.folders) file }
         requires within { to ≤ length ((view_of self.old).seen file) }
         ensures does { Notes (whole_cut file to) self.old self.new result }
         ensures cut { OnOk result (Front to
@@ -286,7 +297,7 @@ impl Disk for MemoryDisk {
 
     fn sync(&mut self, file: u32) -> Result<(), DiskFault>
         requires mounted { IsTrue self.old.mounted }
-        requires file { file < 9 }
+        requires file { IsFile (files_in self.old.folders) file }
         ensures does { Notes (synced file) self.old self.new result }
         ensures settled { OnOk result (IsSettled (view_of self.new) file) }
         ensures mounted { IsTrue self.new.mounted }

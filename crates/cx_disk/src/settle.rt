@@ -2,6 +2,7 @@
 ghost use Rattle.std.specs.Prelude.{◌≡◌, ◌≤◌, ◌<◌, length, IsTrue, OnOk};
 ghost use Rattle.cx_disk.specs.Cause.{HasCause};
 ghost use Rattle.cx_disk.specs.Disk.{Holds, Torn, Front, CutShort};
+ghost use Rattle.cx_disk.specs.Files.{IsFile};
 ghost use Rattle.cx_disk.specs.Moments.{Stepped, IsDone};
 
 use crate::{Disk, DiskFault};
@@ -12,7 +13,7 @@ use crate::{Disk, DiskFault};
 /// part or not settled, as after `Memory`.
 pub fn put<D: Disk>(disk: &mut D, file: u32, at: u64, bytes: &[u8]) -> Result<(), DiskFault>
     requires mounted { IsTrue (D.mounted disk.old) }
-    requires file { file < D.file_count disk.old }
+    requires file { IsFile (D.file_count disk.old) file }
     requires start { D.tells → at ≤ length ((D.view disk.old).seen file) }
     ensures done { D.tells → OnOk result
         (IsDone (Holds at bytes.now) file (D.view disk.old) (D.view disk.new)) }
@@ -33,7 +34,7 @@ pub fn put<D: Disk>(disk: &mut D, file: u32, at: u64, bytes: &[u8]) -> Result<()
 /// settled, as after `Memory`.
 pub fn trim<D: Disk>(disk: &mut D, file: u32, to: u64) -> Result<(), DiskFault>
     requires mounted { IsTrue (D.mounted disk.old) }
-    requires file { file < D.file_count disk.old }
+    requires file { IsFile (D.file_count disk.old) file }
     requires within { D.tells → to ≤ length ((D.view disk.old).seen file) }
     ensures done { D.tells → OnOk result
         (IsDone (Front to) file (D.view disk.old) (D.view disk.new)) }

@@ -11,6 +11,7 @@ use Rattle.cx_chk.proofs.Choosing.{newest_law}
 use Rattle.cx_keep.specs.Tests.{begun_from}
 use Rattle.cx_keep.specs.Trails.{NewestIs}
 use Rattle.cx_course.specs.Starts.{begun_with}
+use Rattle.cx_disk.specs.Files.{slot_count}
 use Rattle.cx_drive.specs.Drives.{newest, from_place, IsNotBelow}
 
 some_is : {a b : ℕ} → Some a ≡ Some b → a ≡ b
@@ -30,7 +31,7 @@ found_none job files Autoprobe best found not is = absurd (let e : ⊥ = cc in e
 
 -- ---- the newest slot
 
-newest_one : (files : Files) (x : Option (ℕ × ℕ)) → NewestBelow 8 files x → (n : Option ℕ) → NewestIs files n → option_map (λ (f : ℕ × ℕ). f.1) x ≡ n
+newest_one : (files : Files) (x : Option (ℕ × ℕ)) → NewestBelow slot_count files x → (n : Option ℕ) → NewestIs files n → option_map (λ (f : ℕ × ℕ). f.1) x ≡ n
 newest_one files None closed None h = refl
 newest_one files None closed (Some n) h = absurd (let bad : Some n ≡ None = sym h.header ∙ closed h.slot h.known in cc)
 newest_one files (Some f) is None h = absurd (let bad : Some f.1 ≡ None = sym is.header ∙ h f.0 is.known in cc)
@@ -40,7 +41,7 @@ newest_one files (Some f) is (Some n) h =
     let e : f.1 ≡ n = omega arith in ap (λ (k : ℕ). Some k) e
 
 pub newest_is : (files : Files) (n : Option ℕ) → NewestIs files n → newest files ≡ n
-newest_is files n h = newest_one files (newest_below 8 files) (newest_law 8 files) n h
+newest_is files n h = newest_one files (newest_below slot_count files) (newest_law slot_count files) n h
 
 below_same : (n : ℕ) (f g : Files) → ((slot : ℕ) → slot < n → f slot ≡ g slot) → newest_below n f ≡ newest_below n g
 below_same zero f g same = refl
@@ -48,8 +49,8 @@ below_same (suc n) f g same =
     ap (λ (best : Option (ℕ × ℕ)). newer best n (header_of (f n))) (below_same n f g (λ s lt. same s (omega arith)))
     ∙ ap (λ (bytes : List ℕ). newer (newest_below n g) n (header_of bytes)) (same n (omega arith))
 
-pub newest_same_slots : (f g : Files) → ((slot : ℕ) → slot < 8 → f slot ≡ g slot) → newest f ≡ newest g
-newest_same_slots f g same = ap (λ (x : Option (ℕ × ℕ)). option_map (λ (y : ℕ × ℕ). y.1) x) (below_same 8 f g same)
+pub newest_same_slots : (f g : Files) → ((slot : ℕ) → slot < slot_count → f slot ≡ g slot) → newest f ≡ newest g
+newest_same_slots f g same = ap (λ (x : Option (ℕ × ℕ)). option_map (λ (y : ℕ × ℕ). y.1) x) (below_same slot_count f g same)
 
 pub not_below_same : (n : Option ℕ) → IsNotBelow n n
 not_below_same None = tt

@@ -8,12 +8,12 @@ use Rattle.std.specs.Prelude.{ℤ, All, if◌then◌else◌}
 use Rattle.cx_grid.specs.Boxes.{point_count}
 use Rattle.cx_grid.specs.Grid.{whole as box}
 use Rattle.cx_plan.specs.Setups.{setup_of}
-use Rattle.cx_plan.specs.Whole.{IsWhole}
+use Rattle.cx_plan.specs.Whole.{IsWhole, scalar_count, level_count}
 use Rattle.cx_plan.specs.declared.job.Job.{Job}
 use Rattle.cx_plan.specs.declared.variable.VarInfo.{VarInfo}
 use Rattle.cx_chk.specs.Encoding.{IsCheckpoint, IsLevel, IsWord}
 use Rattle.cx_chk.specs.declared.checkpoint.Checkpoint.{Checkpoint}
-use Rattle.cx_gather.specs.Checkpoints.{HoldsState, total, scalar_count, level_count}
+use Rattle.cx_gather.specs.Checkpoints.{HoldsState, total}
 use Rattle.cx_drive.specs.Numbers.{AreNumbers}
 use Rattle.cx_drive.proofs.Elements.{all_by}
 

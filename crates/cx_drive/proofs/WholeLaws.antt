@@ -41,6 +41,7 @@ use Rattle.cx_drive.specs.Going.{Setting, Place, IsDriven, IsImageOf, RunsFrom, 
 use Rattle.cx_drive.specs.Laws.{DriveLaws}
 use Rattle.cx_drive.proofs.FoundLaws.{found_is, found_none, newest_is, newest_same_slots, not_below_same, place_is, place_no}
 use Rattle.cx_drive.proofs.TurnLaws.{same_beginning, setup_is}
+use Rattle.cx_disk.specs.Files.{slot_count}
 use Rattle.cx_drive.proofs.Works.{driven_at}
 
 cut_is : (job : Job) (rules : List Rule) (b : Beginning) → cut_of (run_of job rules b) ≡ parts_of job.shape job.cut
@@ -112,7 +113,7 @@ module _ (d : Drive) (laws : DriveLaws d.wire.tells d.job d.rules) (mid : View) 
         | inl none ↦ inl none
         | inr same ↦ inr (b, same.0, same.1)
       ]
-  finds (inr given) t = inl (found_none d.job d.disk.old.seen d.job.recover (newest_below 8 d.disk.old.seen) found given (is_begun t), given)
+  finds (inr given) t = inl (found_none d.job d.disk.old.seen d.job.recover (newest_below slot_count d.disk.old.seen) found given (is_begun t), given)
 
   of_run : Finds → IsFound (setup_of d.job) d.job.key d.rules found
   of_run (inl h) = subst (λ (f : Option Checkpoint). IsFound (setup_of d.job) d.job.key d.rules f) (sym h.0) tt

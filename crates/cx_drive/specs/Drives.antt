@@ -35,6 +35,7 @@ use Rattle.cx_core.specs.declared.answers.Outcome.TheVariants.{Going, Done}
 use Rattle.cx_drive.specs.Lent.{Count, HasRisen, LentDisk, LentWire, lent_disk, lent_wire}
 use Rattle.cx_keep.specs.declared.fault.BeginFault.{BeginFault}
 use Rattle.cx_drive.specs.declared.fault.DriveFault.{DriveFault}
+use Rattle.cx_disk.specs.Files.{slot_count}
 use Rattle.cx_drive.specs.declared.fault.DriveFault.TheVariants as faults
 
 -- a run of a job by these rules, and what it was lent
@@ -88,7 +89,7 @@ EndsAsUndivided d core = core.outcome ≡ ended_as (undivided_run (setup_of d.jo
 
 -- the iteration of the newest checkpoint on a disk, from which a run goes on, or none
 abbrev pub newest : Files → Option ℕ
-newest files = option_map (λ (found : ℕ × ℕ). found.1) (newest_below 8 files)
+newest files = option_map (λ (found : ℕ × ℕ). found.1) (newest_below slot_count files)
 
 abbrev pub from_place : Recover → Files → Option ℕ
 from_place No files = None

@@ -1,8 +1,9 @@
 //! A run of a job, from its start or from a checkpoint to its end.
-ghost use Rattle.std.specs.Prelude.{◌≡◌, ◌≢◌, ◌<◌, ◌≤◌, ◌^◌, ◌↔◌, ℕ, Bool, true, IsTrue, List, map, IfOk, IfSome, OnOk};
+ghost use Rattle.std.specs.Prelude.{◌≡◌, ◌≢◌, ◌<◌, ◌≤◌, ◌^◌, ◌↔◌, ℕ, Bool, true, IsTrue, List, [], map, IfOk, IfSome, OnOk};
 ghost use Rattle.cx_cut.specs.Cuts.{part_count};
 ghost use Rattle.cx_cut.specs.Faults.{parts_of};
 ghost use Rattle.cx_disk.specs.Disk.{IsNamed};
+ghost use Rattle.cx_disk.specs.Files.{count_with};
 ghost use Rattle.cx_chk.specs.Slots.{SlotsSettled};
 ghost use Rattle.cx_plan.specs.Setups.{setup_of};
 ghost use Rattle.cx_rule.specs.Jobs.{FitJob};
@@ -59,7 +60,7 @@ pub fn drive<D: Disk, W: Wire, T: Turns>(
     ensures drives { Drives (driven_by job.now (map rule routines.now) D.Disk W.Wire
         disk.old disk.new wire.old wire.new meter.old meter.new) result }
     ensures folders { OnOk result
-        (IsNamed job.now.out_dir job.now.chk_dir (D.folders disk.new)) }
+        (IsNamed job.now.out_dir [] job.now.chk_dir (D.folders disk.new)) }
     ensures scalars { IfOk result (LendsScalars job.now) }
 {
     drive_laws(job);
@@ -83,7 +84,7 @@ fn drive_from<D: Disk, W: Wire, T: Turns>(
     requires routines { FitJob (map spec_of routines.now) job.now }
     requires parts { part_count (parts_of job.now.shape job.now.cut) ≤ W.parts wire.old }
     requires mounted { IsTrue (D.mounted disk.old) }
-    requires files { D.file_count disk.old ≡ 9 }
+    requires files { D.file_count disk.old ≡ count_with 0 }
     requires empty { AreEmpty (W.queue wire.old) }
     requires keeper { (keep ≡ keeper_of job.now found) × HasLengths found }
     requires fits { IfSome found (λ c. fits_job job.now c ≡ true) }
@@ -139,7 +140,7 @@ fn run_to_end<D: Disk, W: Wire, T: Turns>(
     requires routines { FitJob (map spec_of routines.now) job.now }
     requires parts { part_count (parts_of job.now.shape job.now.cut) ≤ W.parts wire.old }
     requires mounted { IsTrue (D.mounted disk.old) }
-    requires files { D.file_count disk.old ≡ 9 }
+    requires files { D.file_count disk.old ≡ count_with 0 }
     requires going { IsGoing (setting D.Disk W.Wire job.now (map rule routines.now)) keep
         (place_at D.Disk W.Wire core disk.old wire.old meter.old) }
     ensures ends { IfOk result (λ now. EndsAt
@@ -177,7 +178,7 @@ fn run<D: Disk, W: Wire, T: Turns>(
     requires routines { FitJob (map spec_of routines.now) job.now }
     requires parts { part_count (parts_of job.now.shape job.now.cut) ≤ W.parts wire.old }
     requires mounted { IsTrue (D.mounted disk.old) }
-    requires files { D.file_count disk.old ≡ 9 }
+    requires files { D.file_count disk.old ≡ count_with 0 }
     requires going { IsGoing (setting D.Disk W.Wire job.now (map rule routines.now)) keep.old
         (place_at D.Disk W.Wire core.old disk.old wire.old meter.old) }
     ensures moves { OnOk result (MovesOn (setting D.Disk W.Wire job.now (map rule routines.now))
@@ -190,7 +191,7 @@ fn run<D: Disk, W: Wire, T: Turns>(
         (setting D.Disk W.Wire job.now (map rule routines.now)) keep.new
         (place_at D.Disk W.Wire core.new disk.new wire.new meter.new)) }
     ensures mounted { IsTrue (D.mounted disk.new) }
-    ensures files { D.file_count disk.new ≡ 9 }
+    ensures files { D.file_count disk.new ≡ count_with 0 }
     ensures folders { D.folders disk.new ≡ D.folders disk.old }
     ensures stops { Stops
         (record { old = D.faults disk.old; new = D.faults disk.new })

@@ -1,5 +1,6 @@
 //! What an event of the core is to the keeper.
 ghost use Rattle.std.specs.Prelude.{◌≡◌, ℕ, length, IsTrue, OnOk, IfOk};
+ghost use Rattle.cx_disk.specs.Files.{count_with};
 ghost use Rattle.cx_plan.specs.Lookups.{variable};
 ghost use Rattle.cx_plan.specs.Setups.{setup_of};
 ghost use Rattle.cx_plan.specs.Whole.{IsWhole, IsVariable};
@@ -30,14 +31,14 @@ pub(crate) fn keep_event<D: Disk>(
     requires whole { IsWhole job.now }
     requires behind { IsBehind job.now D.tells keep.old core.now event (D.view disk.old) }
     requires mounted { IsTrue (D.mounted disk.old) }
-    requires files { D.file_count disk.old ≡ 9 }
+    requires files { D.file_count disk.old ≡ count_with 0 }
     ensures keeps { D.tells → OnOk result (KeepsEvent (setup_of job.now) core.now
         (D.view disk.old) (D.view disk.new) event) }
     ensures moments { D.tells → EventMoments (setup_of job.now) core.now
         (D.view disk.old) (D.view disk.new) event }
     ensures kept { OnOk result (IsKept job.now D.tells keep.new core.now (D.view disk.new)) }
     ensures mounted { IsTrue (D.mounted disk.new) }
-    ensures files { D.file_count disk.new ≡ 9 }
+    ensures files { D.file_count disk.new ≡ count_with 0 }
     ensures folders { D.folders disk.new ≡ D.folders disk.old }
     ensures stops { (n : ℕ) → Stops
         (record { old = D.faults disk.old; new = D.faults disk.new })
@@ -67,14 +68,14 @@ fn keep_text<D: Disk>(
     requires behind { IsBehind job.now D.tells keep.old core.now
         (Event.Section var iteration) (D.view disk.old) }
     requires mounted { IsTrue (D.mounted disk.old) }
-    requires files { D.file_count disk.old ≡ 9 }
+    requires files { D.file_count disk.old ≡ count_with 0 }
     ensures keeps { D.tells → OnOk result (KeepsEvent (setup_of job.now) core.now
         (D.view disk.old) (D.view disk.new) (Event.Section var iteration)) }
     ensures moments { D.tells → EventMoments (setup_of job.now) core.now
         (D.view disk.old) (D.view disk.new) (Event.Section var iteration) }
     ensures kept { OnOk result (IsKept job.now D.tells keep.new core.now (D.view disk.new)) }
     ensures mounted { IsTrue (D.mounted disk.new) }
-    ensures files { D.file_count disk.new ≡ 9 }
+    ensures files { D.file_count disk.new ≡ count_with 0 }
     ensures folders { D.folders disk.new ≡ D.folders disk.old }
     ensures stops { (n : ℕ) → Stops
         (record { old = D.faults disk.old; new = D.faults disk.new })
@@ -97,14 +98,14 @@ fn keep_state<D: Disk>(
     requires behind { IsBehind job.now D.tells keep.old core.now
         (Event.Save iteration) (D.view disk.old) }
     requires mounted { IsTrue (D.mounted disk.old) }
-    requires files { D.file_count disk.old ≡ 9 }
+    requires files { D.file_count disk.old ≡ count_with 0 }
     ensures keeps { D.tells → OnOk result (KeepsEvent (setup_of job.now) core.now
         (D.view disk.old) (D.view disk.new) (Event.Save iteration)) }
     ensures moments { D.tells → EventMoments (setup_of job.now) core.now
         (D.view disk.old) (D.view disk.new) (Event.Save iteration) }
     ensures kept { OnOk result (IsKept job.now D.tells keep.new core.now (D.view disk.new)) }
     ensures mounted { IsTrue (D.mounted disk.new) }
-    ensures files { D.file_count disk.new ≡ 9 }
+    ensures files { D.file_count disk.new ≡ count_with 0 }
     ensures folders { D.folders disk.new ≡ D.folders disk.old }
     ensures stops { (n : ℕ) → Stops
         (record { old = D.faults disk.old; new = D.faults disk.new })

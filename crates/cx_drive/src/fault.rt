@@ -7,17 +7,22 @@ use cx_core::CoreFault;
 use cx_disk::DiskFault;
 use cx_keep::BeginFault;
 use cx_text::Memory;
+use thiserror::Error;
 
 /// Why a run stopped before its end.
-#[derive(Debug, Drop)]
+#[derive(Debug, Drop, Error)]
 pub enum DriveFault {
     /// The disk's files refuse the start: `NoCheckpoint`, `Damaged`, `OtherJob` or `OutputShort`. Nothing has changed.
+    #[error(transparent)]
     Recovery(BeginFault),
     /// The disk failed.
+    #[error("Disk")]
     Disk,
     /// The wire failed.
+    #[error("Wire")]
     Wire,
     /// Memory was wanting.
+    #[error("Memory")]
     Memory,
 }
 

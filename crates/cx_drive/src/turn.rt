@@ -1,5 +1,6 @@
 //! One turn: an event of the core, and what it is to the keeper.
 ghost use Rattle.std.specs.Prelude.{◌≡◌, ◌<◌, ◌≤◌, ℕ, map, IsTrue, OnOk, IfOk};
+ghost use Rattle.cx_disk.specs.Files.{count_with};
 ghost use Rattle.cx_cut.specs.Cuts.{part_count};
 ghost use Rattle.cx_cut.specs.Faults.{parts_of};
 ghost use Rattle.cx_plan.specs.Setups.{setup_of};
@@ -39,7 +40,7 @@ pub(crate) fn turn<D: Disk, W: Wire, T: Turns>(
     requires routines { FitJob (map spec_of routines.now) job.now }
     requires parts { part_count (parts_of job.now.shape job.now.cut) ≤ W.parts wire.old }
     requires mounted { IsTrue (D.mounted disk.old) }
-    requires files { D.file_count disk.old ≡ 9 }
+    requires files { D.file_count disk.old ≡ count_with 0 }
     requires going { IsGoing (setting D.Disk W.Wire job.now (map rule routines.now)) keep.old
         (place_at D.Disk W.Wire core.old disk.old wire.old meter.old) }
     requires outcome { core.old.outcome ≡ outcomes.Going }
@@ -55,7 +56,7 @@ pub(crate) fn turn<D: Disk, W: Wire, T: Turns>(
         < steps_left (setup_of job.now) core.old.pace) }
     ensures parts { W.parts wire.new ≡ W.parts wire.old }
     ensures mounted { IsTrue (D.mounted disk.new) }
-    ensures files { D.file_count disk.new ≡ 9 }
+    ensures files { D.file_count disk.new ≡ count_with 0 }
     ensures folders { D.folders disk.new ≡ D.folders disk.old }
     ensures stops { Stops
         (record { old = D.faults disk.old; new = D.faults disk.new })

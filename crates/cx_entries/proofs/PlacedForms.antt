@@ -14,7 +14,8 @@ low : (a n k : ℕ) → 0 < count k (numbers_from a n) → k < a + n
 low a zero k there = nothing there
 low a (suc n) k there = elim (same_or_other a k) [
   | inl e ↦ (let P : ℕ → Type 0 = λ m. m < a + suc n in subst P e (omega arith))
-  | inr other ↦ (let P : ℕ → Type 0 = λ m. 0 < m in let h = low (a + 1) n k (subst P (other (numbers_from (a + 1) n)) there) in omega (arith, h))
+  | inr other ↦ (let P : ℕ → Type 0 = λ m. 0 < m in
+      let h = low (a + 1) n k (subst P (other (numbers_from (a + 1) n)) there) in omega (arith, h))
 ]
 
 numbers-below : (n k : ℕ) → 0 < count k (numbers n) → k < n
@@ -26,8 +27,10 @@ module _ (es : List Entry) where
 
   alike : (i j : ℕ) → i < many → j < many → contains_at es i j ≡ group_inside es i j
   alike i j first second =
-      ap (λ o. both_inside es o (slice_get (group_names es) j)) (slice_get-get_or (group_names es) i [] first)
-      ∙ ap (λ o. both_inside es (Some (get_or (group_names es) i [])) o) (slice_get-get_or (group_names es) j [] second)
+      ap (λ o. both_inside es o (slice_get (group_names es) j))
+      (slice_get-get_or (group_names es) i [] first)
+      ∙ ap (λ o. both_inside es (Some (get_or (group_names es) i [])) o)
+      (slice_get-get_or (group_names es) j [] second)
 
   abbrev Below : List ℕ → Type 0
   Below xs = (k : ℕ) → 0 < count k xs → k < many
@@ -38,17 +41,25 @@ module _ (es : List Entry) where
   later : (x : ℕ) (xs : List ℕ) → Below (x ∷ xs) → Below xs
   later x xs below k there = below k (count-later x k xs there)
 
-  follows : (x : ℕ) (ys : List ℕ) → x < many → Below ys → may_follow (contains_at es) x ys ≡ true → may_follow (group_inside es) x ys ≡ true
+  follows : (x : ℕ) (ys : List ℕ) → x < many → Below ys → may_follow (contains_at es) x ys ≡ true
+      → may_follow (group_inside es) x ys ≡ true
   follows x [] small below h = refl
   follows x (y ∷ ys) small below h =
       let parts = and_parts (not (contains_at es y x)) (may_follow (contains_at es) x ys) h in
-      and_from (not (group_inside es y x)) (may_follow (group_inside es) x ys) (ap not (sym (alike y x (here y ys below) small)) ∙ parts.0) (follows x ys small (later y ys below) parts.1)
+      and_from (not (group_inside es y x)) (may_follow (group_inside es) x ys)
+      (ap not (sym (alike y x (here y ys below) small)) ∙ parts.0)
+      (follows x ys small (later y ys below) parts.1)
 
-  respected : (xs : List ℕ) → Below xs → Respects (contains_at es) xs → Respects (group_inside es) xs
+  respected : (xs : List ℕ) → Below xs → Respects (contains_at es) xs
+      → Respects (group_inside es) xs
   respected [] below h = h
-  respected (x ∷ xs) below h = (follows x (x ∷ xs) (here x xs below) below h.0, respected xs (later x xs below) h.1)
+  respected (x ∷ xs) below h =
+      (follows x (x ∷ xs) (here x xs below) below h.0, respected xs (later x xs below) h.1)
 
-  pub nested-by-names : (xs : List ℕ) → IsOrder (contains_at es) (numbers many) xs → IsOrder (group_inside es) (numbers many) xs
+  pub nested-by-names : (xs : List ℕ) → IsOrder (contains_at es) (numbers many) xs
+      → IsOrder (group_inside es) (numbers many) xs
   nested-by-names xs order =
-      let below : Below xs = λ k there. numbers-below many k (let P : ℕ → Type 0 = λ n. 0 < n in subst P (sym (order.same k)) there) in
+      let below : Below xs = λ k there.
+      numbers-below many k (let P : ℕ → Type 0 = λ n. 0 < n in
+      subst P (sym (order.same k)) there) in
       record { same = order.same; respects = respected xs below order.respects }

@@ -13,7 +13,8 @@ nesting-fault es (GroupCycle names) h = h
 nesting-fault es Memory h = h
 nesting-fault es (Cycle names) h = absurd h
 
-pub order-fault : (es : List Entry) (e : PlaceFault) → NoGroupCycle es → AreOrdered es (Err e) → ArePlaced es (Err e)
+pub order-fault : (es : List Entry) (e : PlaceFault) → NoGroupCycle es → AreOrdered es (Err e)
+    → ArePlaced es (Err e)
 order-fault es (Cycle names) groups h = (groups, h)
 order-fault es Memory groups h = h
 order-fault es (GroupCycle names) groups h = absurd h

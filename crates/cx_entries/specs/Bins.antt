@@ -5,7 +5,8 @@ use Rattle.cx_plan.specs.Lookups.{bin_names}
 
 -- a name without the `CCTK_` at its beginning
 abbrev pub plain : List ℕ → List ℕ
-plain name = if nat_le 5 (length name) && same_name (take 5 name) (codes "CCTK_") then drop 5 name else name
+plain name = if nat_le 5 (length name) && same_name (take 5 name) (codes "CCTK_") then drop 5 name
+    else name
 
 -- the number of the bin of a name
 abbrev pub bin_of : List ℕ → Option ℕ

@@ -12,7 +12,8 @@ is_inside es outer inner = list_any (is_group inner) (entries_at es (Group outer
 
 -- the first group's block in the files that is one of these
 abbrev pub first_group : List Entry → List (List ℕ) → Option (List ℕ)
-first_group es names = option_map (λ e. e.block.name) (find (λ e. e.block.group && among names e.block.name) es)
+first_group es names = option_map (λ e. e.block.name)
+    (find (λ e. e.block.group && among names e.block.name) es)
 
 abbrev pub begins_with : List (List ℕ) → Option (List ℕ) → Bool
 begins_with [] name = false
@@ -29,7 +30,8 @@ abbrev pub AreSpelled : List Entry → List (List ℕ) → Type 0
 AreSpelled es [] = Unit {0}
 AreSpelled es (n ∷ ns) = (block_name es n ≡ Some n) × AreSpelled es ns
 
--- Each group contains the next, and the last the first; the first is the one that stands first in the files.
+-- Each group contains the next, and the last the first; the first is the one that stands first in
+-- the files.
 pub record IsGroupCycle (es : List Entry) (names : List (List ℕ)) : Type 0 where
   pub cycle : is_cycle (is_inside es) names ≡ true
   pub differ : AllDiffer names
@@ -39,9 +41,11 @@ pub record IsGroupCycle (es : List Entry) (names : List (List ℕ)) : Type 0 whe
 abbrev pub NoGroupCycle : List Entry → Type 0
 NoGroupCycle es = (names : List (List ℕ)) → is_cycle (is_inside es) names ≡ true → ⊥
 
--- Entries of one place by their numbers, each once and before the next and the last before the first; the first has the least number.
+-- Entries of one place by their numbers, each once and before the next and the last before the
+-- first; the first has the least number.
 pub record IsEntryCycle (es : List Entry) (names : List (List ℕ)) : Type 0 where
   pub place : Place
   pub numbers : List ℕ
   pub cycle : IsCycle (before_at es place) numbers
-  pub named : names ≡ filter_map (λ k. option_map entry_name (slice_get (entries_at es place) k)) numbers
+  pub named : names ≡ filter_map (λ k. option_map entry_name (slice_get (entries_at es place) k))
+      numbers

@@ -10,10 +10,7 @@ use Rattle.cx_entries.specs.Bins.{bin_of}
 use Rattle.cx_entries.specs.Counted.{Entry}
 use Rattle.cx_entries.specs.declared.fault.EntryFault.{EntryFault}
 use Rattle.cx_entries.specs.Entries.{entry_name, two_names}
-
--- a name in small letters
-abbrev pub folded : List ℕ → List ℕ
-folded name = map to_ascii_lowercase name
+use Rattle.cx_text.specs.Bytes.{folded}
 
 abbrev pub Key : Type 0
 Key = List ℕ × List ℕ

@@ -14,17 +14,18 @@ use Rattle.cx_entries.specs.declared.counted.Entry.{Entry as LentEntry}
 use Rattle.cx_entries.specs.Counted.{Entry}
 use Rattle.cx_entries.specs.Seen.{seen_entries}
 use Rattle.cx_entries.specs.Entries.{is_bin, both_before, entry_name, entries_at}
-use Rattle.cx_entries.specs.Keys.{folded}
 use Rattle.cx_least.specs.Orders.{IsLeastOrder, IsCycle, numbers}
 use Rattle.cx_least.specs.Links.{row}
 use Rattle.cx_entries.specs.PlaceNumbers.{group_names, place_count, place, AreLeast, orders_by}
 use Rattle.cx_plan.specs.Lookups.{bin_count}
 use Rattle.cx_entries.specs.Cycles.{IsEntryCycle}
+use Rattle.cx_text.specs.Bytes.{folded}
 
 -- the place number of a bin, or of a group among these
 abbrev pub spot_number : List (List ℕ) → Spot → Option ℕ
 spot_number groups (At name) = bin_of name
-spot_number groups (Inside name) = option_map (λ k. bin_count + k) (position (same_name name) groups)
+spot_number groups (Inside name) =
+    option_map (λ k. bin_count + k) (position (same_name name) groups)
 
 -- the names of groups as they are kept
 abbrev pub texts : Groups → List (List ℕ)
@@ -59,7 +60,8 @@ pub record AreMembers (es : List Entry) (rows : List (List ℕ)) : Type 0 where
 
 -- the place number of a group's block
 abbrev pub inside_of : List (List ℕ) → Entry → Option ℕ
-inside_of groups e = if e.block.group then option_map (λ k. bin_count + k) (position (same_name e.block.name) groups) else None
+inside_of groups e = if e.block.group
+    then option_map (λ k. bin_count + k) (position (same_name e.block.name) groups) else None
 
 -- the place number of a group by its name
 abbrev pub group_place : List (List ℕ) → List ℕ → Option ℕ
@@ -88,7 +90,8 @@ says_in keys es a b = says_before keys (slice_get es a) b || says_after keys (sl
 -- what was said before, and what an entry of this number says
 abbrev pub with_entry : List (List ℕ) → ℕ → Entry → (ℕ → ℕ → Bool) → ℕ → ℕ → Bool
 with_entry keys number e before a b =
-    (before a b || (a == number && has_number keys e.block.before b)) || (has_number keys e.block.after a && b == number)
+    (before a b || (a == number && has_number keys e.block.before b))
+    || (has_number keys e.block.after a && b == number)
 
 -- ---- orders
 
@@ -111,7 +114,8 @@ names_in es ks = filter_map (λ k. option_map entry_name (slice_get es k)) ks
 -- an order of some entries, or a cycle among them, or memory is wanting
 abbrev pub IsOrdered : List Entry → Result (List ℕ) PlaceFault → Type 0
 IsOrdered es (Ok xs) = IsLeastOrder (before_in es) (numbers (length es)) xs
-IsOrdered es (Err (Cycle names)) = (ks : List ℕ) × (IsCycle (before_in es) ks × (names ≡ names_in es ks))
+IsOrdered es (Err (Cycle names)) =
+    (ks : List ℕ) × (IsCycle (before_in es) ks × (names ≡ names_in es ks))
 IsOrdered es (Err Memory) = Unit {0}
 IsOrdered es (Err (GroupCycle names)) = ⊥
 

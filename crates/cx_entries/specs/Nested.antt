@@ -19,7 +19,9 @@ outer_number groups (Inside name) = position (same_name name) groups
 
 -- whether a block is the one group in the other
 abbrev pub puts_inside : List (List ℕ) → Entry → ℕ → ℕ → Bool
-puts_inside groups e outer inner = e.block.group && (is_bin outer (outer_number groups e.block.spot) && is_bin inner (position (same_name e.block.name) groups))
+puts_inside groups e outer inner =
+    e.block.group && (is_bin outer (outer_number groups e.block.spot)
+    && is_bin inner (position (same_name e.block.name) groups))
 
 -- whether one of some blocks does
 abbrev pub some_inside : List (List ℕ) → List Entry → ℕ → ℕ → Bool
@@ -40,7 +42,8 @@ contains_at es i j = both_inside es (slice_get (group_names es) i) (slice_get (g
 
 -- the groups, each before those that it contains, or a cycle, or memory is wanting
 abbrev pub IsNesting : List Entry → Result (List ℕ) PlaceFault → Type 0
-IsNesting es (Ok nested) = IsOrder (contains_at es) (numbers (length (group_names es))) nested × NoGroupCycle es
+IsNesting es (Ok nested) =
+    IsOrder (contains_at es) (numbers (length (group_names es))) nested × NoGroupCycle es
 IsNesting es (Err (GroupCycle names)) = IsGroupCycle es names
 IsNesting es (Err Memory) = Unit {0}
 IsNesting es (Err (Cycle names)) = ⊥

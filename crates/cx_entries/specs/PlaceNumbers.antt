@@ -31,7 +31,8 @@ place_count es = bin_count + length (group_names es)
 
 -- the place of a number
 abbrev pub place : List Entry → ℕ → Place
-place es k = if nat_lt k bin_count then Bin k else Group (slice_index_or (group_names es) (k - bin_count) [])
+place es k = if nat_lt k bin_count then Bin k
+    else Group (slice_index_or (group_names es) (k - bin_count) [])
 
 abbrev pub group_number : List Entry → List ℕ → Option ℕ
 group_number es name = option_map (λ k. bin_count + k) (position (same_name name) (group_names es))
@@ -49,7 +50,8 @@ Orders = Place → List ℕ
 
 -- in each place the order is the least
 abbrev pub AreLeast : List Entry → Orders → Type 0
-AreLeast es orders = (p : Place) → IsLeastOrder (before_at es p) (numbers (length (entries_at es p))) (orders p)
+AreLeast es orders = (p : Place)
+    → IsLeastOrder (before_at es p) (numbers (length (entries_at es p))) (orders p)
 
 abbrev pub row_or_none : List (List ℕ) → Option ℕ → List ℕ
 row_or_none rows None = []

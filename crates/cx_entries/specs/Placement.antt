@@ -25,12 +25,14 @@ group_inside es g h = is_inside es (name_of_group es g) (name_of_group es h)
 pub record IsPlaced (es : List Entry) (p : Placed) : Type 0 where
   pub member_rows : length p.members ≡ place_count es
   pub order_rows : length p.orders ≡ place_count es
-  pub members : (k : ℕ) → k < place_count es → entries_of es (row p.members k) ≡ entries_at es (place es k)
+  pub members : (k : ℕ) → k < place_count es
+      → entries_of es (row p.members k) ≡ entries_at es (place es k)
   pub within : (k : ℕ) → All (λ i. i < length es) (row p.members k)
   pub inside : p.inside ≡ map (contained es) es
   pub nested : IsOrder (group_inside es) (numbers (length (group_names es))) p.nested
 
--- the places and the least orders, or a cycle of groups, or else one of entries, or memory is wanting
+-- the places and the least orders, or a cycle of groups, or else one of entries, or memory is
+-- wanting
 abbrev pub ArePlaced : List Entry → Result Placed PlaceFault → Type 0
 ArePlaced es (Ok p) = IsPlaced es p × (NoGroupCycle es × AreLeast es (orders_by es p.orders))
 ArePlaced es (Err (GroupCycle names)) = IsGroupCycle es names

@@ -31,7 +31,8 @@ unless_memory (Ok u) = Ok u
 unless_memory (Err e) = Err Memory
 
 -- What counts of a part is added behind what was there, or there is a fault, or memory is wanting.
-abbrev pub Adds : Result Counted ExprFault → LentCounted → LentCounted → Result (Unit {0}) Uncounted → Type 0
+abbrev pub Adds : Result Counted ExprFault → LentCounted → LentCounted → Result (Unit {0}) Uncounted
+    → Type 0
 Adds told old new (Ok u) = joined (Ok (seen old)) told ≡ Ok (seen new)
 Adds told old new (Err (Expr e)) = told ≡ Err e.now
 Adds told old new (Err Memory) = Unit {0}

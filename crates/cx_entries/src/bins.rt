@@ -53,6 +53,7 @@ pub(crate) fn bin_of(name: &[u8]) -> Option<usize>
     None
 }
 
+/// Tests that an entry placed at a bin names one that exists.
 fn check_bin(alloc: Global, spot: &Spot) -> Result<(), EntryFault>
     ensures { Tells faults.Memory (unknown_bin spot.now) result }
 {

@@ -1,9 +1,10 @@
 //! The blocks and STORAGE lines that count: those whose enclosing `if`s all hold.
 
 ghost use Rattle.std.specs.Prelude.{◌≡◌, ℤ, Ok, Err, IfOk, IfErr, OnOk};
-ghost use Rattle.cx_expr.specs.Evaluation.{eval, is_true};
+ghost use Rattle.cx_expr.specs.Evaluation.{eval};
 ghost use Rattle.cx_entries.specs.Counted.{and_then, lines_alone, block_alone, one_counted, counted_of};
 ghost use Rattle.cx_entries.specs.Seen.{seen, unless_memory, Adds};
+ghost use Rattle.cx_text.specs.Numbers.{is_not_zero};
 
 use cx_expr::{Expr, ExprFault, Lookup, eval};
 use cx_sched::{Block, Node, Ref};
@@ -88,7 +89,7 @@ fn unless_memory<'e>(done: Result<(), Memory>) -> Result<(), Uncounted<'e>>
 /// Whether an expression isn't 0.
 fn holds<'e, L: Lookup>(test: &'e Expr, names: &L) -> Result<bool, &'e ExprFault>
     ensures ok { IfOk result
-        (λ b. (n : ℤ) × (eval (L.finds names.now) test.now ≡ Ok n) × (b ≡ is_true n)) }
+        (λ b. (n : ℤ) × (eval (L.finds names.now) test.now ≡ Ok n) × (b ≡ is_not_zero n)) }
     ensures err { IfErr result (λ e. eval (L.finds names.now) test.now ≡ Err e.now) }
 {
     match eval(test, names) {
@@ -97,6 +98,7 @@ fn holds<'e, L: Lookup>(test: &'e Expr, names: &L) -> Result<bool, &'e ExprFault
     }
 }
 
+/// Adds what a node of a schedule file counts; of an `if` only the body that its condition takes.
 #[cycle(count)]
 fn push_node<'a, L: Lookup>(
     counted: &mut Counted<'a>,

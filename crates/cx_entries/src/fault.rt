@@ -4,28 +4,35 @@ ghost use Rattle.std.specs.Prelude.{◌≡◌};
 ghost use Rattle.cx_entries.specs.declared.fault.EntryFault.TheVariants as entry_faults;
 ghost use Rattle.cx_entries.specs.declared.fault.PlaceFault.TheVariants as place_faults;
 
-use cx_text::{List, Memory, Text};
+use cx_text::{List, Listed, Memory, OrDash, Text};
 use std::alloc::{AllocError, AllocFailed};
+use thiserror::Error;
 
 /// Why entries aren't as they must be.
-#[derive(Debug, Drop)]
+#[derive(Debug, Drop, Error)]
 pub enum EntryFault {
     /// A block stands in a bin that isn't there.
+    #[error("UnknownBin {}", OrDash(.0))]
     UnknownBin(Text),
     /// Two entries of one bin or group have one name: the bin's or group's, `/` and theirs.
+    #[error("TwoNames {}", OrDash(.0))]
     TwoNames(Text),
     /// Memory is wanting.
+    #[error("Memory")]
     Memory,
 }
 
 /// Why entries have no places or no order.
-#[derive(Debug, Drop)]
+#[derive(Debug, Drop, Error)]
 pub enum PlaceFault {
     /// Groups, each of which contains the next, and the last the first.
+    #[error("GroupCycle {}", Listed(.0))]
     GroupCycle(List<Text>),
     /// Entries of one bin or group, each of which must come before the next, and the last before the first.
+    #[error("Cycle {}", Listed(.0))]
     Cycle(List<Text>),
     /// Memory is wanting.
+    #[error("Memory")]
     Memory,
 }
 

@@ -2,10 +2,11 @@
 
 ghost use Rattle.std.specs.Prelude.{◌≡◌, ◌++◌, not, IsTrue, ◌<◌, [], ◌∷◌, Some, IfOk, OnOk};
 ghost use Rattle.std.specs.Option.{option_map, option_to_list};
-ghost use Rattle.cx_entries.specs.Keys.{Key, folded, place_key, key_of, has_key};
+ghost use Rattle.cx_entries.specs.Keys.{Key, place_key, key_of, has_key};
 ghost use Rattle.cx_entries.specs.Entries.{entry_name};
 ghost use Rattle.cx_entries.specs.Seen.{seen_entry};
 ghost use Rattle.cx_plan.specs.Lookups.{bin_count};
+ghost use Rattle.cx_text.specs.Bytes.{folded};
 
 use crate::bins::bin_of;
 use crate::counted::Entry;
@@ -34,6 +35,7 @@ pub(crate) fn folded_name(alloc: Global, name: &[u8]) -> Result<Vec<u8>, Memory>
     Ok(bytes)
 }
 
+/// The key of a bin: a 0 and its number.
 fn bin_key(alloc: Global, bin: usize) -> Result<Vec<u8>, Memory>
     requires { bin < bin_count }
     ensures { IfOk result (λ bytes. bytes.items ≡ 0 ∷ bin ∷ []) }
@@ -44,6 +46,7 @@ fn bin_key(alloc: Global, bin: usize) -> Result<Vec<u8>, Memory>
     Ok(bytes)
 }
 
+/// The key of a group: a 1 and its name in small letters.
 fn group_key(alloc: Global, group: &[u8]) -> Result<Vec<u8>, Memory>
     ensures { IfOk result (λ bytes. bytes.items ≡ 1 ∷ folded group.now) }
 {
@@ -53,6 +56,7 @@ fn group_key(alloc: Global, group: &[u8]) -> Result<Vec<u8>, Memory>
     Ok(bytes)
 }
 
+/// The key of the bin or group that an entry is placed in; none for an unknown bin.
 fn place_key(alloc: Global, spot: &Spot) -> Result<Option<Vec<u8>>, Memory>
     ensures { IfOk result (λ key. option_map (λ bytes. bytes.items) key ≡ place_key spot.now) }
 {

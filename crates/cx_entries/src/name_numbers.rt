@@ -4,7 +4,7 @@ ghost use Rattle.std.specs.Prelude.{◌≡◌, ◌++◌, ◌∷◌, [], not, pos
 ghost use Rattle.std.specs.List.{list_any};
 ghost use Rattle.std.specs.Str.{bytes_eq};
 ghost use Rattle.cx_plan.specs.Lists.{once_behind};
-ghost use Rattle.cx_entries.specs.Keys.{folded};
+ghost use Rattle.cx_text.specs.Bytes.{folded};
 
 use crate::keys::folded_name;
 use cx_text::Memory;

@@ -63,6 +63,7 @@ pub fn join_names(alloc: Global, place: &[u8], name: &[u8]) -> Result<Text, Memo
     Ok(text)
 }
 
+/// The fault of an entry whose name another entry of its bin or group has.
 fn two_names(alloc: Global, entries: &[Entry<'_>], entry: &Entry<'_>) -> Result<EntryFault, Memory>
     ensures { let told = two_names (seen_entries entries.now) (seen_entry entry.now) in
         IfOk result (λ e. e ≡ told) }
@@ -72,6 +73,7 @@ fn two_names(alloc: Global, entries: &[Entry<'_>], entry: &Entry<'_>) -> Result<
     Ok(EntryFault::TwoNames(text))
 }
 
+/// Adds the key of an entry, unless another entry of its bin or group has the name.
 fn check_name(
     alloc: Global,
     keys: &mut Keys,

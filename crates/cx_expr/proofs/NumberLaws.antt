@@ -26,18 +26,24 @@ no_mark : (front : List Token) (t : Token) (m : Option Mark) → clean front ≡
 no_mark [] t m e = absurd cc
 no_mark (u ∷ us) t m e = let same : (u, None) ≡ (t, m) = cc in sym (ap (λ (i : Item). i.1) same)
 
-pub number_most : (high : ℕ) (ts us : List Token) (n : ℕ) → (number_in 0 high).reads ts ≡ Ok (n, us) → n ≤ high
+pub number_most : (high : ℕ) (ts us : List Token) (n : ℕ) → (number_in 0 high).reads ts ≡ Ok (n, us)
+    → n ≤ high
 number_most high ts us n e =
-    let a = ok_goes (read_token number_of (number_mark 0 high) ts) (λ x. (line_ends >>= λ u. nothing x).reads) n us e in
+    let a = ok_goes (read_token number_of (number_mark 0 high) ts)
+    (λ x. (line_ends >>= λ u. nothing x).reads) n us e in
     let b = ok_goes (line_ends.reads a.1) (λ u. read_nothing a.0) n us a.3 in
     let same : a.0 ≡ n = (ok_is a.0 n b.1 us b.3).0 in
     let k = (reads_token number_of (number_mark 0 high) a_number Any).takes ts a.0 a.1 a.2 in
     let t = k.spelled.0 in
-    let value : decimal_from 0 t.text ≡ a.0 = value_is (is_number t) (decimal_from 0 t.text) a.0 k.spelled.1 in
-    let low : nat_lt high (decimal_from 0 t.text) ≡ false = unmarked_high (nat_lt (decimal_from 0 t.text) 0) (nat_lt high (decimal_from 0 t.text)) (no_mark k.front t (number_mark 0 high t) k.spelled.2) in
+    let value : decimal_from 0 t.text ≡ a.0 =
+    value_is (is_number t) (decimal_from 0 t.text) a.0 k.spelled.1 in
+    let low : nat_lt high (decimal_from 0 t.text) ≡ false =
+    unmarked_high (nat_lt (decimal_from 0 t.text) 0) (nat_lt high (decimal_from 0 t.text))
+    (no_mark k.front t (number_mark 0 high t) k.spelled.2) in
     let most : decimal_from 0 t.text ≤ high = grind (arith, low) in
     subst (λ (m : ℕ). m ≤ high) (value ∙ same) most
 
-pub given_most : (high : ℕ) (ts us : List Token) (result : Result ℕ Stop) → Gives (λ n. n) result us ((number_in 0 high).reads ts) → IfOk result (λ n. n ≤ high)
+pub given_most : (high : ℕ) (ts us : List Token) (result : Result ℕ Stop)
+    → Gives (λ n. n) result us ((number_in 0 high).reads ts) → IfOk result (λ n. n ≤ high)
 given_most high ts us (Ok n) h = number_most high ts us n h
 given_most high ts us (Err s) h = tt

@@ -15,27 +15,35 @@ side most e = in_parens (nat_lt most (level e)) (expr_tokens e)
 -- ---- the tokens of an operator's expression
 
 pub not_tokens : (one : Expr) → expr_tokens (Not one) ≡ sign 33 ∷ side 0 one
-unfolding Rattle.cx_expr.specs.declared.tree.Expr.TheBlock.hidden-the_row-Expr-0 denote.Hole.Carrier.hidden
+unfolding Rattle.cx_expr.specs.declared.tree.Expr.TheBlock.hidden-the_row-Expr-0
+    denote.Hole.Carrier.hidden
 not_tokens one = refl
 
 pub negative_tokens : (s : Sign) (one : Expr) → expr_tokens (Negative s one) ≡ sign 45 ∷ side 0 one
-unfolding Rattle.cx_expr.specs.declared.tree.Expr.TheBlock.hidden-the_row-Expr-0 denote.Hole.Carrier.hidden
+unfolding Rattle.cx_expr.specs.declared.tree.Expr.TheBlock.hidden-the_row-Expr-0
+    denote.Hole.Carrier.hidden
 negative_tokens s one = refl
 
-pub pair_tokens : (s : Sign) (left right : Expr) → expr_tokens (Pair s left right) ≡ side (left_level s) left ++ (operator_token s ∷ side (right_level s) right)
-unfolding Rattle.cx_expr.specs.declared.tree.Expr.TheBlock.hidden-the_row-Expr-0 denote.Hole.Carrier.hidden
+pub pair_tokens : (s : Sign) (left right : Expr)
+    → expr_tokens (Pair s left right)
+    ≡ side (left_level s) left ++ (operator_token s ∷ side (right_level s) right)
+unfolding Rattle.cx_expr.specs.declared.tree.Expr.TheBlock.hidden-the_row-Expr-0
+    denote.Hole.Carrier.hidden
 pair_tokens s left right = refl
 
 pub not_level : (one : Expr) → level (Not one) ≡ 0
-unfolding Rattle.cx_expr.specs.declared.tree.Expr.TheBlock.hidden-the_row-Expr-0 denote.Hole.Carrier.hidden
+unfolding Rattle.cx_expr.specs.declared.tree.Expr.TheBlock.hidden-the_row-Expr-0
+    denote.Hole.Carrier.hidden
 not_level one = refl
 
 pub negative_level : (s : Sign) (one : Expr) → level (Negative s one) ≡ 0
-unfolding Rattle.cx_expr.specs.declared.tree.Expr.TheBlock.hidden-the_row-Expr-0 denote.Hole.Carrier.hidden
+unfolding Rattle.cx_expr.specs.declared.tree.Expr.TheBlock.hidden-the_row-Expr-0
+    denote.Hole.Carrier.hidden
 negative_level s one = refl
 
 pub pair_level : (s : Sign) (left right : Expr) → level (Pair s left right) ≡ level_of s
-unfolding Rattle.cx_expr.specs.declared.tree.Expr.TheBlock.hidden-the_row-Expr-0 denote.Hole.Carrier.hidden
+unfolding Rattle.cx_expr.specs.declared.tree.Expr.TheBlock.hidden-the_row-Expr-0
+    denote.Hole.Carrier.hidden
 pair_level s left right = refl
 
 -- ---- levels
@@ -75,10 +83,12 @@ lt_cases a b = search (arith)
 pub side_bare : (p : ℕ) (e : Expr) → level e ≤ p → side p e ≡ expr_tokens e
 side_bare p e h = rw (lt_false p (level e) h) refl
 
-pub side_inside : (p : ℕ) (e : Expr) → p < level e → side p e ≡ sign 40 ∷ (expr_tokens e ++ sign 41 ∷ [])
+pub side_inside : (p : ℕ) (e : Expr) → p < level e
+    → side p e ≡ sign 40 ∷ (expr_tokens e ++ sign 41 ∷ [])
 side_inside p e h = rw (lt_true p (level e) h) refl
 
--- ---- what can stand where operators up to a level may stand without parentheses, and so many parentheses and signs round one another
+-- ---- what can stand where operators up to a level may stand without parentheses, and so many
+-- parentheses and signs round one another
 
 abbrev pub IsPlace : Option ℕ → Type 0
 IsPlace None = Unit {0}
@@ -86,15 +96,24 @@ IsPlace (Some k) = k ≤ 2 ^ 32 - 1
 
 -- W holds of each name
 pub data Fits (W : List ℕ → Type 0) : ℕ → ℕ → ℕ → Expr → Type 0 where
-  number_fits : {depth signs most : ℕ} {e : Expr} (n : ℕ) → e ≡ Number (pos n) → n ≤ 2 ^ 63 - 1 → Fits W depth signs most e
-  named_fits : {depth signs most : ℕ} {e : Expr} (name : List ℕ) (place : Option ℕ) → e ≡ Named name place → W name → IsPlace place → Fits W depth signs most e
-  equals_fits : {depth signs most : ℕ} {e : Expr} (name text : List ℕ) → e ≡ Equals name text → W name → Fits W depth signs most e
-  not_fits : {depth signs most : ℕ} {e : Expr} (one : Expr) → e ≡ Not one → Fits W depth signs 0 one → Fits W depth (suc signs) most e
-  negative_fits : {depth signs most : ℕ} {e : Expr} (one : Expr) → e ≡ Negative Minus one → Fits W depth signs 0 one → Fits W depth (suc signs) most e
-  pair_fits : {depth signs most : ℕ} {e : Expr} (s : Sign) (left right : Expr) → e ≡ Pair s left right → level_of s ≤ most → Fits W depth signs (left_level s) left → Fits W depth signs (right_level s) right → Fits W depth signs most e
-  inside_fits : {depth signs most : ℕ} {e : Expr} → most < level e → Fits W depth signs 5 e → Fits W (suc depth) signs most e
+  number_fits : {depth signs most : ℕ} {e : Expr} (n : ℕ) → e ≡ Number (pos n) → n ≤ 2 ^ 63 - 1
+      → Fits W depth signs most e
+  named_fits : {depth signs most : ℕ} {e : Expr} (name : List ℕ) (place : Option ℕ)
+      → e ≡ Named name place → W name → IsPlace place → Fits W depth signs most e
+  equals_fits : {depth signs most : ℕ} {e : Expr} (name text : List ℕ) → e ≡ Equals name text
+      → W name → Fits W depth signs most e
+  not_fits : {depth signs most : ℕ} {e : Expr} (one : Expr) → e ≡ Not one → Fits W depth signs 0 one
+      → Fits W depth (suc signs) most e
+  negative_fits : {depth signs most : ℕ} {e : Expr} (one : Expr) → e ≡ Negative Minus one
+      → Fits W depth signs 0 one → Fits W depth (suc signs) most e
+  pair_fits : {depth signs most : ℕ} {e : Expr} (s : Sign) (left right : Expr)
+      → e ≡ Pair s left right → level_of s ≤ most → Fits W depth signs (left_level s) left
+      → Fits W depth signs (right_level s) right → Fits W depth signs most e
+  inside_fits : {depth signs most : ℕ} {e : Expr} → most < level e → Fits W depth signs 5 e
+      → Fits W (suc depth) signs most e
 
-pub deeper : {W : List ℕ → Type 0} {depth signs most : ℕ} {e : Expr} → Fits W depth signs most e → Fits W (suc depth) signs most e
+pub deeper : {W : List ℕ → Type 0} {depth signs most : ℕ} {e : Expr} → Fits W depth signs most e
+    → Fits W (suc depth) signs most e
 deeper (number_fits n is h) = number_fits n is h
 deeper (named_fits name place is h k) = named_fits name place is h k
 deeper (equals_fits name text is h) = equals_fits name text is h
@@ -104,7 +123,8 @@ deeper (pair_fits s left right is h f g) = pair_fits s left right is h (deeper f
 deeper (inside_fits h f) = inside_fits h (deeper f)
 
 -- without parentheses
-bare : {W : List ℕ → Type 0} {depth signs all : ℕ} {e : Expr} → Fits W depth signs all e → (most : ℕ) → 5 ≤ all → level e ≤ most → Fits W depth signs most e
+bare : {W : List ℕ → Type 0} {depth signs all : ℕ} {e : Expr} → Fits W depth signs all e
+    → (most : ℕ) → 5 ≤ all → level e ≤ most → Fits W depth signs most e
 bare (number_fits n is h) most whole fits = number_fits n is h
 bare (named_fits name place is h k) most whole fits = named_fits name place is h k
 bare (equals_fits name text is h) most whole fits = equals_fits name text is h
@@ -113,10 +133,12 @@ bare (negative_fits one is f) most whole fits = negative_fits one is f
 bare (pair_fits s left right is h f g) most whole fits =
     let same : level _ ≡ level_of s = ap level is ∙ pair_level s left right in
     pair_fits s left right is (omega (arith, same, fits)) f g
-bare {e = e} (inside_fits h f) most whole fits = absurd (let top = level_most e in omega (arith, top, h, whole))
+bare {e = e} (inside_fits h f) most whole fits =
+    absurd (let top = level_most e in omega (arith, top, h, whole))
 
 -- where one level more may stand
-pub wider : {W : List ℕ → Type 0} {depth signs most : ℕ} {e : Expr} → Fits W depth signs most e → Fits W depth signs (suc most) e
+pub wider : {W : List ℕ → Type 0} {depth signs most : ℕ} {e : Expr} → Fits W depth signs most e
+    → Fits W depth signs (suc most) e
 wider (number_fits n is h) = number_fits n is h
 wider (named_fits name place is h k) = named_fits name place is h k
 wider (equals_fits name text is h) = equals_fits name text is h
@@ -130,7 +152,8 @@ wider {most = most} {e = e} (inside_fits h f) =
     ]
 
 -- in parentheses, where they are needed
-pub enclosed : {W : List ℕ → Type 0} {depth signs : ℕ} {e : Expr} → Fits W depth signs 5 e → Fits W (suc depth) signs 0 e
+pub enclosed : {W : List ℕ → Type 0} {depth signs : ℕ} {e : Expr} → Fits W depth signs 5 e
+    → Fits W (suc depth) signs 0 e
 enclosed {e = e} f =
     elim (lt_cases 0 (level e)) [
       | inl k ↦ inside_fits k f

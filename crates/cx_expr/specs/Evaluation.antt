@@ -9,6 +9,7 @@ use Rattle.cx_expr.specs.declared.tree.Sign.TheVariants.{Or, And, Equal, Differs
 use Rattle.cx_expr.specs.declared.tree.Expr.{Expr, Number, Named, Equals, Not', Negative', Pair', Row_of-Expr, end_of-Expr, more_of-Expr}
 use Rattle.cx_expr.specs.Signs.{sign_text}
 use Rattle.cx_expr.specs.Known.{Known, NumberOf, TextOf, Nothing, Names}
+use Rattle.cx_text.specs.Numbers.{is_not_zero}
 
 abbrev pub Number_or : Type 0
 Number_or = Result ℤ ExprFault
@@ -17,9 +18,6 @@ Number_or = Result ℤ ExprFault
 abbrev pub truth : Bool → ℤ
 truth true = pos 1
 truth false = pos 0
-
-abbrev pub is_true : ℤ → Bool
-is_true n = not (int_eq n (pos 0))
 
 -- the numbers of 64 signed bits
 abbrev pub fits_64 : ℤ → Bool
@@ -30,12 +28,14 @@ within_64 sign n = if fits_64 n then Ok n else Err (Range (sign_text sign))
 
 -- a divisor of 0 has no result
 abbrev pub unless_zero : Sign → ℤ → ℤ → Number_or
-unless_zero sign divisor n = if int_eq divisor (pos 0) then Err (Range (sign_text sign)) else within_64 sign n
+unless_zero sign divisor n = if int_eq divisor (pos 0) then Err (Range (sign_text sign))
+    else within_64 sign n
 
--- the two sides of an operator that takes both; `/` cuts toward 0, and `%` has the sign of the left side
+-- the two sides of an operator that takes both; `/` cuts toward 0, and `%` has the sign of the left
+-- side
 abbrev pub combined : Sign → ℤ → ℤ → Number_or
-combined Or a b = Ok (truth (is_true b))
-combined And a b = Ok (truth (is_true b))
+combined Or a b = Ok (truth (is_not_zero b))
+combined And a b = Ok (truth (is_not_zero b))
 combined Equal a b = Ok (truth (int_eq a b))
 combined Differs a b = Ok (truth (not (int_eq a b)))
 combined Below a b = Ok (truth (int_lt a b))
@@ -50,8 +50,8 @@ combined Rest a b = unless_zero Rest b (int_rem a b)
 
 -- whether the left side decides alone, and as what
 abbrev pub decided : Sign → ℤ → Option ℤ
-decided Or a = if is_true a then Some (pos 1) else None
-decided And a = if is_true a then None else Some (pos 0)
+decided Or a = if is_not_zero a then Some (pos 1) else None
+decided And a = if is_not_zero a then None else Some (pos 0)
 decided Equal a = None
 decided Differs a = None
 decided Below a = None
@@ -76,7 +76,7 @@ equals name text (NumberOf n) = Err (NotText name)
 equals name text Nothing = Err (UnknownName name)
 
 abbrev pub not_of : Number_or → Number_or
-not_of (Ok n) = Ok (truth (not (is_true n)))
+not_of (Ok n) = Ok (truth (not (is_not_zero n)))
 not_of (Err e) = Err e
 
 abbrev pub negative_of : Sign → Number_or → Number_or
@@ -102,7 +102,8 @@ abbrev mutual
   eval names (Equals name text) = equals name text (names name None)
   eval names (Not' shape one) = not_of (eval_one names one)
   eval names (Negative' sign shape one) = negative_of sign (eval_one names one)
-  eval names (Pair' sign shape left shape2 right) = pair_of sign (eval_one names left) (eval_one names right)
+  eval names (Pair' sign shape left shape2 right) =
+      pair_of sign (eval_one names left) (eval_one names right)
 
   -- of the one expression in a box
   pub eval_one : {m : _} → Names → Row_of-Expr m → Number_or

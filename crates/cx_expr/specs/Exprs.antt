@@ -136,11 +136,13 @@ negative inner = do
   e ← inner
   nothing (Negative Minus e)
 
--- un = ("!" | "-") un | atom, where so many signs may still stand round one another; what may stand at a parenthesis
--- depends on how many are left
+-- un = ("!" | "-") un | atom, where so many signs may still stand round one another; what may stand
+-- at a parenthesis depends on how many are left
 unfoldable pub unary : (ℕ → Rule Expr) → ℕ → Rule Expr
 unary inner zero = choice is_unary (beyond is_unary zero_) (atom (inner zero))
-unary inner (suc signs) = choice (is_sign 33) (negation (unary inner signs)) (choice (is_sign 45) (negative (unary inner signs)) (atom (inner (suc signs))))
+unary inner (suc signs) =
+    choice (is_sign 33) (negation (unary inner signs))
+    (choice (is_sign 45) (negative (unary inner signs)) (atom (inner (suc signs))))
 
 -- ---- the levels, over what stands between operators
 
@@ -164,7 +166,8 @@ conjunction un = chain ands (comparison un)
 abbrev pub disjunction : Rule Expr → Rule Expr
 disjunction un = chain ors (conjunction un)
 
--- un, where so many parentheses and so many signs may still stand round one another, each counted by itself
+-- un, where so many parentheses and so many signs may still stand round one another, each counted
+-- by itself
 unfoldable pub operand : ℕ → ℕ → Rule Expr
 operand zero signs = unary (λ s. beyond (is_sign 40) zero_) signs
 operand (suc depth) signs = unary (λ s. parens (disjunction (operand depth s))) signs

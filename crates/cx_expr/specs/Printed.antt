@@ -9,8 +9,8 @@ use Rattle.cx_expr.specs.declared.tree.Sign.TheVariants.{Or, And, Equal, Differs
 use Rattle.cx_expr.specs.declared.tree.Expr.{Expr, Number, Named, Equals, Not', Negative', Pair', Row_of-Expr, end_of-Expr, more_of-Expr}
 use Rattle.cx_expr.specs.Signs.{sign_text}
 
--- The levels of the grammar by number: 0 for what stands between operators, 1 for products, 2 for sums, 3 for tests,
--- 4 for `&&` and 5 for `||`.
+-- The levels of the grammar by number: 0 for what stands between operators, 1 for products, 2 for
+-- sums, 3 for tests, 4 for `&&` and 5 for `||`.
 abbrev pub level_of : Sign → ℕ
 level_of Or = 5
 level_of And = 4
@@ -34,7 +34,8 @@ level (Not' shape one) = 0
 level (Negative' sign shape one) = 0
 level (Pair' sign shape left shape2 right) = level_of sign
 
--- what may stand at an operator's left side: operators of its own level, but of tests only one stands
+-- what may stand at an operator's left side: operators of its own level, but of tests only one
+-- stands
 abbrev pub left_level : Sign → ℕ
 left_level Or = 5
 left_level And = 4
@@ -65,7 +66,8 @@ index_tokens (Some k) = sign 91 ∷ number (decimal k) ∷ sign 93 ∷ []
 
 -- Word "(" Word "," Quoted ")"
 abbrev pub call_tokens : List ℕ → List ℕ → List ℕ → List Token
-call_tokens keyword name text = word keyword ∷ sign 40 ∷ word name ∷ sign 44 ∷ quoted text ∷ sign 41 ∷ []
+call_tokens keyword name text =
+    word keyword ∷ sign 40 ∷ word name ∷ sign 44 ∷ quoted text ∷ sign 41 ∷ []
 
 -- CCTK_Equals "(" Word "," Quoted ")"
 abbrev pub equals_tokens : List ℕ → List ℕ → List Token
@@ -83,7 +85,8 @@ abbrev mutual
   expr_tokens (Equals name text) = equals_tokens name text
   expr_tokens (Not' shape one) = sign 33 ∷ side_tokens 0 one
   expr_tokens (Negative' s shape one) = sign 45 ∷ side_tokens 0 one
-  expr_tokens (Pair' s shape left shape2 right) = side_tokens (left_level s) left ++ (operator_token s ∷ side_tokens (right_level s) right)
+  expr_tokens (Pair' s shape left shape2 right) =
+      side_tokens (left_level s) left ++ (operator_token s ∷ side_tokens (right_level s) right)
 
   -- of the one expression in a box, where operators up to a level may stand without parentheses
   pub side_tokens : {m : _} → ℕ → Row_of-Expr m → List Token

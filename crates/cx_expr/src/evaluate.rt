@@ -28,6 +28,7 @@ pub trait Lookup {
         ensures { known result ≡ finds self.now name.now index };
 }
 
+/// The value of `!`: 1 of 0, and 0 of another number. A fault stays.
 fn negated<'e>(one: Result<i64, &'e ExprFault>) -> Result<i64, &'e ExprFault>
     ensures { seen result ≡ not_of (seen one.entry) }
 {
@@ -37,6 +38,7 @@ fn negated<'e>(one: Result<i64, &'e ExprFault>) -> Result<i64, &'e ExprFault>
     }
 }
 
+/// The value of a minus sign before a number; a fault of the range at -2^63.
 fn negative<'e>(
     operator: &'e Operator,
     one: Result<i64, &'e ExprFault>,

@@ -20,6 +20,7 @@ const MAX_PARENTHESES: u32 = 32;
 /// The most signs round one another.
 const MAX_SIGNS: u32 = 32;
 
+/// How many tokens may still come after this one; a line end doesn't count.
 fn left_behind(left: usize, token: &Token) -> usize
     ensures { result ≡ left_behind left token.now }
 {

@@ -59,6 +59,7 @@ fn is_looser(e: &Expr, most: u8) -> bool
     }
 }
 
+/// Appends a number.
 fn push_value(alloc: Global, tokens: &mut List<Token>, value: i64) -> Result<(), Memory>
     ensures { OnOk result (tokens.new ≡ tokens.old ++ number (signed_decimal value) ∷ []) }
 {
@@ -70,6 +71,7 @@ fn push_value(alloc: Global, tokens: &mut List<Token>, value: i64) -> Result<(),
     })
 }
 
+/// Appends the sign of an operator.
 fn push_operator(alloc: Global, tokens: &mut List<Token>, sign: Sign) -> Result<(), Memory>
     ensures { OnOk result (tokens.new ≡ tokens.old ++ operator_token sign ∷ []) }
 {
@@ -80,6 +82,7 @@ fn push_operator(alloc: Global, tokens: &mut List<Token>, sign: Sign) -> Result<
     })
 }
 
+/// Appends a name and its index in brackets, if it has one.
 fn named(
     alloc: Global,
     tokens: &mut List<Token>,
@@ -117,6 +120,7 @@ fn call(
     tokens.push_sign(alloc, b')')
 }
 
+/// Appends `CCTK_Equals` with a name and a text in parentheses.
 fn equals(alloc: Global, tokens: &mut List<Token>, name: &Text, text: &Text) -> Result<(), Memory>
     ensures { OnOk result (tokens.new ≡ tokens.old ++ equals_tokens name.now text.now) }
 {
@@ -164,6 +168,7 @@ fn side(alloc: Global, e: &Expr, most: u8, tokens: &mut List<Token>) -> Result<(
     }
 }
 
+/// The tokens of a line that is this expression.
 fn line_of(alloc: Global, e: &Expr) -> Result<List<Token>, Memory>
     ensures { IfOk result (λ tokens. tokens ≡ expr_line e.now) }
 {

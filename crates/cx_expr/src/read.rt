@@ -24,6 +24,7 @@ pub enum Level {
 }
 
 impl Level {
+    /// The operators of this level, which bind equally tightly.
     fn signs(self) -> &'static [Sign]
         ensures { result.now ≡ signs_of self }
     {
@@ -46,6 +47,7 @@ impl Level {
 
 pub const TOO_DEEP: Stop = Stop::Fault(Why::Marked(Mark::Limit));
 
+/// Whether a token is the sign of this operator.
 fn is_written(token: &Token, sign: Sign) -> bool
     ensures { result ≡ is_written sign token.now }
 {
@@ -64,6 +66,7 @@ fn sign_among(token: &Token, signs: &[Sign]) -> Option<Sign>
     None
 }
 
+/// Whether the next token is an operator of this level.
 fn at_operator(reader: &Reader, level: Level) -> bool
     ensures { result ≡ passes (is_among (signs_of level)) (head reader.now.rest.now) }
 {
@@ -73,6 +76,7 @@ fn at_operator(reader: &Reader, level: Level) -> bool
     }
 }
 
+/// Reads an operator of this level, but no line end after it.
 fn operator_here(reader: &mut Reader, level: Level) -> Result<Sign, Stop>
     ensures { Obeys (token (sign_among (signs_of level)) unmarked) result reader.old reader.new }
 {
@@ -88,6 +92,7 @@ fn operator_here(reader: &mut Reader, level: Level) -> Result<Sign, Stop>
     }
 }
 
+/// Reads an operator of this level.
 fn operator(reader: &mut Reader, level: Level) -> Result<Sign, Stop>
     ensures { Obeys (operator (signs_of level)) result reader.old reader.new }
 {
@@ -96,6 +101,7 @@ fn operator(reader: &mut Reader, level: Level) -> Result<Sign, Stop>
     Ok(sign)
 }
 
+/// Reads a number from 0 to `high`, both included.
 fn number_up_to(reader: &mut Reader, high: u64) -> Result<u64, Stop>
     ensures reads { Obeys (number_in 0 high) result reader.old reader.new }
     ensures most { IfOk result (λ n. n ≤ high) }
@@ -103,6 +109,7 @@ fn number_up_to(reader: &mut Reader, high: u64) -> Result<u64, Stop>
     reader.number_in(0, high)
 }
 
+/// Reads a number from 0 to 2^63 - 1.
 fn number(reader: &mut Reader) -> Result<Expr, Stop>
     ensures { Obeys number result reader.old reader.new }
 {
@@ -110,6 +117,7 @@ fn number(reader: &mut Reader) -> Result<Expr, Stop>
     Ok(Expr::Number(value as i64))
 }
 
+/// Reads the index of an array's element in brackets, after the array's name.
 fn index(reader: &mut Reader, alloc: Global, name: &Text) -> Result<Expr, Stop>
     ensures { Obeys (index name.now) result reader.old reader.new }
 {
@@ -119,6 +127,7 @@ fn index(reader: &mut Reader, alloc: Global, name: &Text) -> Result<Expr, Stop>
     Ok(Expr::Named(Name::new(alloc, name.as_slice())?, Some(place as u32)))
 }
 
+/// Reads the arguments of `CCTK_Equals`: a name and a quoted text in parentheses.
 fn equals(reader: &mut Reader, alloc: Global) -> Result<Expr, Stop>
     ensures { Obeys equals result reader.old reader.new }
 {
@@ -130,6 +139,7 @@ fn equals(reader: &mut Reader, alloc: Global) -> Result<Expr, Stop>
     Ok(Expr::Equals(Name::new(alloc, name.as_slice())?, text))
 }
 
+/// Whether the arguments of `CCTK_Equals` begin here: it is the name before them.
 fn opens_equals(reader: &Reader, name: &Text) -> bool
     ensures { result ≡ passes (opens_equals name.now) (head reader.now.rest.now) }
 {
@@ -139,6 +149,7 @@ fn opens_equals(reader: &Reader, name: &Text) -> bool
     }
 }
 
+/// Reads what follows a name: arguments of `CCTK_Equals`, an index or nothing.
 fn behind(reader: &mut Reader, alloc: Global, name: &Text) -> Result<Expr, Stop>
     ensures { Obeys (behind name.now) result reader.old reader.new }
 {
@@ -151,6 +162,7 @@ fn behind(reader: &mut Reader, alloc: Global, name: &Text) -> Result<Expr, Stop>
     }
 }
 
+/// Reads a name with what follows it.
 fn named(reader: &mut Reader, alloc: Global) -> Result<Expr, Stop>
     ensures { Obeys named result reader.old reader.new }
 {
@@ -158,12 +170,14 @@ fn named(reader: &mut Reader, alloc: Global) -> Result<Expr, Stop>
     behind(reader, alloc, &name)
 }
 
+/// The expression `!` of this one.
 fn not_of(alloc: Global, inner: Expr) -> Result<Expr, Memory>
     ensures { IfOk result (λ e. e ≡ Not inner) }
 {
     Ok(Expr::Not(Boxed::new(alloc, inner)?))
 }
 
+/// The expression with a minus sign before it.
 fn negative_of(alloc: Global, inner: Expr) -> Result<Expr, Memory>
     ensures { IfOk result (λ e. e ≡ Negative signs.Minus inner) }
 {
@@ -171,6 +185,7 @@ fn negative_of(alloc: Global, inner: Expr) -> Result<Expr, Memory>
     Ok(Expr::Negative(minus, Boxed::new(alloc, inner)?))
 }
 
+/// The expression of two others with an operator between them.
 fn pair_of(alloc: Global, sign: Sign, left: Expr, right: Expr) -> Result<Expr, Memory>
     ensures { IfOk result (λ e. e ≡ Pair sign left right) }
 {
@@ -179,6 +194,7 @@ fn pair_of(alloc: Global, sign: Sign, left: Expr, right: Expr) -> Result<Expr, M
     Ok(Expr::Pair(operator, left, Boxed::new(alloc, right)?))
 }
 
+/// Reads an expression in parentheses.
 #[cycle(expr)]
 fn parens(reader: &mut Reader, alloc: Global, depth: u32, signs: u32) -> Result<Expr, Stop>
     ensures { Obeys (parens (expr depth signs)) result reader.old reader.new }
@@ -189,6 +205,7 @@ fn parens(reader: &mut Reader, alloc: Global, depth: u32, signs: u32) -> Result<
     Ok(inner)
 }
 
+/// Reads `!` and its operand.
 #[cycle(expr)]
 fn negation(reader: &mut Reader, alloc: Global, depth: u32, signs: u32) -> Result<Expr, Stop>
     ensures { Obeys (negation (operand depth signs)) result reader.old reader.new }
@@ -199,6 +216,7 @@ fn negation(reader: &mut Reader, alloc: Global, depth: u32, signs: u32) -> Resul
     Ok(negation)
 }
 
+/// Reads a minus sign and its operand.
 #[cycle(expr)]
 fn negative(reader: &mut Reader, alloc: Global, depth: u32, signs: u32) -> Result<Expr, Stop>
     ensures { Obeys (negative (operand depth signs)) result reader.old reader.new }
@@ -275,6 +293,7 @@ fn joined(
     Ok(pair)
 }
 
+/// Reads operators of a level, each with its right operand, for as long as one comes next.
 #[cycle(expr)]
 fn more(
     reader: &mut Reader,

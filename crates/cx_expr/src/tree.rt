@@ -4,20 +4,25 @@ ghost use Rattle.std.specs.Prelude.{◌≡◌, IfOk};
 ghost use Rattle.cx_expr.specs.declared.tree.ExprFault.TheVariants.{UnknownName, NotNumber, NotText, Range};
 ghost use Rattle.cx_expr.specs.Signs.{sign_text};
 
-use cx_text::{Boxed, Memory, Text};
+use cx_text::{Boxed, Memory, OrDash, Text};
 use std::alloc::Global;
 use std::marker::Model;
+use thiserror::Error;
 
 /// Why an expression has no value. Each text but that of `Range` is a name, without its index.
-#[derive(Debug, Drop)]
+#[derive(Debug, Drop, Error)]
 pub enum ExprFault {
     /// A name that stands for nothing.
+    #[error("UnknownName {}", OrDash(.0))]
     UnknownName(Text),
     /// A name that stands for a text, where a number is asked for.
+    #[error("NotNumber {}", OrDash(.0))]
     NotNumber(Text),
     /// A name that stands for a number, where a text is asked for.
+    #[error("NotText {}", OrDash(.0))]
     NotText(Text),
     /// An operator's sign: its result isn't a number of 64 signed bits, or it divides by 0.
+    #[error("Range {}", OrDash(.0))]
     Range(Text),
 }
 

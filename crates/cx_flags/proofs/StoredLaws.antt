@@ -16,9 +16,12 @@ use Rattle.cx_flags.specs.declared.flags.LevelFlags.{LevelFlags}
 use Rattle.cx_flags.specs.Cells.{none_set, flag_of, place, flags_in, IsKept}
 use Rattle.cx_flags.proofs.TableLaws.{flag-none}
 
-pub stored_kept : (job : Job) (cells : List LevelFlags) (v : VarId) (level : ℕ) → IsWhole job → length cells ≡ 8 * length job.vars → IsStored job v level → IsKept cells v level
+pub stored_kept : (job : Job) (cells : List LevelFlags) (v : VarId) (level : ℕ) → IsWhole job
+    → length cells ≡ 8 * length job.vars → IsStored job v level → IsKept cells v level
 stored_kept job cells v level is size stored =
-    let most : levels_of (setup_of job) v ≤ 8 = All-get_or (λ (x : VarInfo). x.levels ≤ 8) job.vars v.0 no_variable stored.0 is.levels_limit in
+    let most : levels_of (setup_of job) v ≤ 8 =
+    All-get_or (λ (x : VarInfo). x.levels ≤ 8)
+    job.vars v.0 no_variable stored.0 is.levels_limit in
     let few : level < 8 = omega (arith, stored.1, most) in
     let named : v.0 < length job.vars = stored.0 in
     record { few = few; there = omega (arith, few, size, named) }
@@ -31,5 +34,7 @@ same_everywhere n i x = by (cases_lt i n)
     by (inr past) = get_or_past (replicate n x) i x (omega (arith, length-replicate n x))
 
 -- no flag is set at first
-pub cleared_at_first : (n : ℕ) (v : VarId) (level : ℕ) (f : Flag) → flags_in (replicate n none_set) v level f ≡ cleared v level f
-cleared_at_first n v level f = ap (λ (x : LevelFlags). flag_of x f) (same_everywhere n (place v level) none_set) ∙ flag-none f
+pub cleared_at_first : (n : ℕ) (v : VarId) (level : ℕ) (f : Flag)
+    → flags_in (replicate n none_set) v level f ≡ cleared v level f
+cleared_at_first n v level f =
+    ap (λ (x : LevelFlags). flag_of x f) (same_everywhere n (place v level) none_set) ∙ flag-none f

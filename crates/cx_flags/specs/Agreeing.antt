@@ -11,7 +11,8 @@ use Rattle.cx_flags.specs.Cells.{flags_in, Holds}
 
 pub record Agrees (job : Job) (cells : List LevelFlags) (flags : Flags) : Type 0 where
   pub size : length cells ≡ 8 * length job.vars
-  pub same : (v : VarId) (level : ℕ) (f : Flag) → IsStored job v level → flags_in cells v level f ≡ flags v level f
+  pub same : (v : VarId) (level : ℕ) (f : Flag) → IsStored job v level
+      → flags_in cells v level f ≡ flags v level f
 
 -- a step of a path of the job
 abbrev pub IsAct : Job → Act → Type 0

@@ -18,21 +18,29 @@ use Rattle.cx_flags.specs.Cells.{flag_of, cell, flags_in}
 -- the flags that are set in both
 abbrev pub both : LevelFlags → LevelFlags → LevelFlags
 both a b =
-    record { interior = a.interior && b.interior; boundary = a.boundary && b.boundary; ghosts = a.ghosts && b.ghosts; scalar = a.scalar && b.scalar }
+    record {
+      interior = a.interior && b.interior;
+      boundary = a.boundary && b.boundary;
+      ghosts = a.ghosts && b.ghosts;
+      scalar = a.scalar && b.scalar;
+    }
 
 -- in each cell the flags are set that are set in both
 pub record Meet (a b both : List LevelFlags) : Type 0 where
   pub same_length : length both ≡ length a
-  pub set : (k : ℕ) (f : Flag) → flag_of (cell both k) f ≡ (flag_of (cell a k) f && flag_of (cell b k) f)
+  pub set : (k : ℕ) (f : Flag)
+      → flag_of (cell both k) f ≡ (flag_of (cell a k) f && flag_of (cell b k) f)
 
 -- what is set in a cell's flags is set in the other's
 abbrev pub is_within : LevelFlags → LevelFlags → Bool
 is_within a b =
-    (not a.interior || b.interior) && (not a.boundary || b.boundary) && (not a.ghosts || b.ghosts) && (not a.scalar || b.scalar)
+    (not a.interior || b.interior) && (not a.boundary || b.boundary) && (not a.ghosts || b.ghosts)
+    && (not a.scalar || b.scalar)
 
 -- in each of these cells what is set is set in the other's
 abbrev pub is_below : List LevelFlags → List LevelFlags → Bool
-is_below low high = list_all (λ k. is_within (cell low k) (cell high k)) (range_with_len 0 (length low))
+is_below low high = list_all (λ k. is_within (cell low k) (cell high k))
+    (range_with_len 0 (length low))
 
 -- what is set in the low cells is set in the high ones
 pub record IsBelow (low high : List LevelFlags) : Type 0 where
@@ -50,14 +58,17 @@ flags_after setup flags (Meets act ∷ marks) = flags_after setup (leaves setup 
 -- what the cells of stored levels have set is set
 pub record IsSure (job : Job) (cells : List LevelFlags) (flags : Flags) : Type 0 where
   pub size : length cells ≡ 8 * length job.vars
-  pub set : (v : VarId) (level : ℕ) (f : Flag) → IsStored job v level → flags_in cells v level f ≡ true → flags v level f ≡ true
+  pub set : (v : VarId) (level : ℕ) (f : Flag) → IsStored job v level
+      → flags_in cells v level f ≡ true → flags v level f ≡ true
 
--- From any flags that the old cells are sure of, each of these ways meets set flags alone, and ends with flags that the
--- new cells are sure of.
+-- From any flags that the old cells are sure of, each of these ways meets set flags alone, and ends
+-- with flags that the new cells are sure of.
 pub record Leads (job : Job) (Way : List Mark → Type 0) (old new : List LevelFlags) : Type 0 where
   pub same_length : length new ≡ length old
-  pub passes : (marks : List Mark) (flags : Flags) (letters : List ℕ) → Way marks → IsSure job old flags → first_unmet (setup_of job) letters flags marks ≡ None
-  pub ends : (marks : List Mark) (flags : Flags) → Way marks → IsSure job old flags → IsSure job new (flags_after (setup_of job) flags marks)
+  pub passes : (marks : List Mark) (flags : Flags) (letters : List ℕ) → Way marks
+      → IsSure job old flags → first_unmet (setup_of job) letters flags marks ≡ None
+  pub ends : (marks : List Mark) (flags : Flags) → Way marks → IsSure job old flags
+      → IsSure job new (flags_after (setup_of job) flags marks)
 
 -- ---- ways
 
@@ -78,7 +89,8 @@ PathOfBin job b = Path (tree_in job b)
 
 -- a test, and this or nothing
 abbrev pub Branch : Act → (List Mark → Type 0) → List Mark → Type 0
-Branch test Body marks = Then (Just (Meets test ∷ letter_y ∷ [])) Body marks ⊎ Just (Meets test ∷ letter_n ∷ []) marks
+Branch test Body marks =
+    Then (Just (Meets test ∷ letter_y ∷ [])) Body marks ⊎ Just (Meets test ∷ letter_n ∷ []) marks
 
 -- any number of turns
 abbrev pub Turning : Act → (List Mark → Type 0) → List Mark → Type 0

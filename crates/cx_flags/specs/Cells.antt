@@ -41,11 +41,13 @@ pub record IsKept (cells : List LevelFlags) (v : VarId) (level : ℕ) : Type 0 w
 -- the same cells have these flags now
 pub record Holds (old new : List LevelFlags) (flags : Flags) : Type 0 where
   pub same_length : length new ≡ length old
-  pub same_flags : (v : VarId) (level : ℕ) (f : Flag) → IsKept old v level → flags_in new v level f ≡ flags v level f
+  pub same_flags : (v : VarId) (level : ℕ) (f : Flag) → IsKept old v level
+      → flags_in new v level f ≡ flags v level f
 
 -- a flag of a level once it has been written
 abbrev pub flag_after : Setup → Touch → Flag → Bool → Bool
-flag_after setup w f was = if is_scalar setup w.var then after_scalar f was else after_write w.region f was
+flag_after setup w f was = if is_scalar setup w.var then after_scalar f was
+    else after_write w.region f was
 
 -- the flags of a cell after rotation
 abbrev pub cell_after : Setup → List LevelFlags → ℕ → LevelFlags

@@ -32,7 +32,8 @@ unmet_at job cells act = first_unmet_in job cells (needs (setup_of job) act)
 
 -- the needs of these flags of a level
 abbrev pub needs_of_flags : List ℕ → VarId → ℕ → List Flag → List Need
-needs_of_flags place v level flags = map (λ f. record { place = place; var = v; level = level; flag = f }) flags
+needs_of_flags place v level flags =
+    map (λ f. record { place = place; var = v; level = level; flag = f }) flags
 
 -- the flags that output of a variable needs
 abbrev pub output_flags : Setup → VarId → List Flag

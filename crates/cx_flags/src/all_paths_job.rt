@@ -16,6 +16,7 @@ use cx_plan::{Bin, Job};
 use cx_text::Memory;
 use std::alloc::Global;
 
+/// Walks all ways through one bin, if the job has items in it.
 fn walk_bin<'a>(
     alloc: Global,
     job: &'a Job,
@@ -31,6 +32,7 @@ fn walk_bin<'a>(
     }
 }
 
+/// Walks all ways through these bins, one after another.
 fn walk_bins<'a>(
     alloc: Global,
     job: &'a Job,
@@ -58,6 +60,7 @@ fn output_if_any(job: &Job, table: &FlagTable) -> Result<(), Stop<'static>>
     Ok(())
 }
 
+/// Walks the ANALYSIS bin, and then the output after it.
 fn walk_analysis<'a>(alloc: Global, job: &'a Job, table: &mut FlagTable) -> Result<(), Stop<'a>>
     requires { IsWhole job.now }
     ensures { OnOk result (Leads job.now (PathOfAnalysis (setup_of job.now)) table.old table.new) }
@@ -66,7 +69,7 @@ fn walk_analysis<'a>(alloc: Global, job: &'a Job, table: &mut FlagTable) -> Resu
     output_if_any(job, table)
 }
 
-/// The CHECKPOINT bin either way.
+/// Walks the CHECKPOINT bin, which runs or not: only flags set either way stay set.
 fn walk_checkpoint<'a>(alloc: Global, job: &'a Job, table: &mut FlagTable) -> Result<(), Stop<'a>>
     requires { IsWhole job.now }
     ensures { OnOk result
@@ -78,6 +81,7 @@ fn walk_checkpoint<'a>(alloc: Global, job: &'a Job, table: &mut FlagTable) -> Re
     Ok(())
 }
 
+/// Walks iteration 0: the bins before ANALYSIS, then ANALYSIS and the output.
 fn walk_start<'a>(alloc: Global, job: &'a Job, table: &mut FlagTable) -> Result<(), Stop<'a>>
     requires { IsWhole job.now }
     ensures { OnOk result (Leads job.now (PathOfStart (setup_of job.now)) table.old table.new) }
@@ -86,6 +90,7 @@ fn walk_start<'a>(alloc: Global, job: &'a Job, table: &mut FlagTable) -> Result<
     walk_analysis(alloc, job, table)
 }
 
+/// Walks one later iteration: levels rotate, then bins, CHECKPOINT, ANALYSIS and the output.
 fn walk_iteration<'a>(alloc: Global, job: &'a Job, table: &mut FlagTable) -> Result<(), Stop<'a>>
     requires { IsWhole job.now }
     ensures { OnOk result (Leads job.now (PathOfIteration (setup_of job.now)) table.old table.new) }
@@ -96,6 +101,7 @@ fn walk_iteration<'a>(alloc: Global, job: &'a Job, table: &mut FlagTable) -> Res
     walk_analysis(alloc, job, table)
 }
 
+/// What one bin leaves of the flags, whatever it needs.
 fn leave_bin(alloc: Global, job: &Job, table: &mut FlagTable, bin: Bin) -> Result<(), Memory>
     ensures { length table.new ≡ length table.old }
 {
@@ -115,6 +121,7 @@ fn leave_bins(alloc: Global, job: &Job, table: &mut FlagTable, bins: &[Bin]) -> 
     Ok(())
 }
 
+/// What the CHECKPOINT bin leaves of the flags, whether it runs or not.
 fn leave_checkpoint(alloc: Global, job: &Job, table: &mut FlagTable) -> Result<(), Memory>
     ensures { length table.new ≡ length table.old }
 {
@@ -134,8 +141,8 @@ fn leave_iteration(alloc: Global, job: &Job, table: &mut FlagTable) -> Result<()
     leave_bin(alloc, job, table, Bin::Analysis)
 }
 
-/// Clears the flags that any number of iterations may clear, whatever they need. Flags move through eight levels, so this takes
-/// about nine turns.
+/// Clears the flags that any number of iterations may clear, whatever they need. Flags move through eight
+/// levels, so this takes about nine passes.
 fn settle(alloc: Global, job: &Job, table: &mut FlagTable) -> Result<(), Memory>
     ensures { IsBelow table.new table.old }
 {
@@ -149,7 +156,7 @@ fn settle(alloc: Global, job: &Job, table: &mut FlagTable) -> Result<(), Memory>
     }
 }
 
-/// Iterations until no flag falls. The first one is the last one, since the flags have settled before it.
+/// Walks iterations until no flag falls. The flags have settled before, so the first walk is the last one.
 fn walk_iterations<'a>(alloc: Global, job: &'a Job, table: &mut FlagTable) -> Result<(), Stop<'a>>
     requires { IsWhole job.now }
     ensures { OnOk result

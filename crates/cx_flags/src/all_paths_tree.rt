@@ -12,7 +12,7 @@ use crate::left_by_loop::left_of_all;
 use cx_plan::{Job, Tree, VarId};
 use std::alloc::Global;
 
-/// Walks a tree. The table goes from flags that are set before it on every way to those that are set behind it.
+/// Walks a tree. The table goes from flags that are set on every way before it to those set after it.
 #[cycle(tree)]
 pub(crate) fn walk_tree<'a>(
     alloc: Global,
@@ -37,6 +37,7 @@ pub(crate) fn walk_tree<'a>(
     }
 }
 
+/// Walks trees one after another.
 #[cycle(tree)]
 fn walk_trees<'a>(
     alloc: Global,
@@ -54,7 +55,7 @@ fn walk_trees<'a>(
     Ok(())
 }
 
-/// The flags behind a tree.
+/// The flags after a tree.
 #[cycle(tree)]
 fn flags_behind<'a>(
     alloc: Global,
@@ -71,6 +72,7 @@ fn flags_behind<'a>(
     Ok(behind)
 }
 
+/// Walks the test of an `IF`, and then its work or nothing: only flags set either way stay set.
 #[cycle(tree)]
 fn walk_if<'a>(
     alloc: Global,
@@ -92,8 +94,8 @@ fn walk_if<'a>(
     Ok(())
 }
 
-/// Turns until no flag falls. The flags that a turn leaves cleared fall at once, so that the first turn is the last one, also where
-/// WHILEs stand in one another.
+/// Walks passes until no flag falls. The flags that a pass leaves cleared fall at once, so the first pass is
+/// the last one, also in nested WHILEs.
 #[cycle(tree)]
 fn walk_while<'a>(
     alloc: Global,

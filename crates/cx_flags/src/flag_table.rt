@@ -17,7 +17,7 @@ use std::marker::Model;
 /// No variable has more levels.
 const MOST_LEVELS: usize = 8;
 
-/// Where a level's flags stand.
+/// The place of a level's flags in the table.
 fn place_of(variable: VarId, level: u8) -> usize
     ensures { result ≡ place variable level }
 {
@@ -59,6 +59,7 @@ impl FlagTable {
         Ok(FlagTable { cells })
     }
 
+    /// The flags of the level at a place; none is set beyond the end of the table.
     fn get(&self, place: usize) -> LevelFlags
         ensures { result ≡ cell self.now place }
     {
@@ -68,6 +69,7 @@ impl FlagTable {
         }
     }
 
+    /// Sets the flags of the level at a place; nothing happens beyond the end of the table.
     fn put(&mut self, place: usize, flags: LevelFlags)
         ensures { self.new ≡ slice_set self.old place flags }
     {
@@ -83,6 +85,7 @@ impl FlagTable {
         is_set(self.get(place_of(variable, level)), flag)
     }
 
+    /// Sets and clears the flags of a level as a write of it does.
     fn write(&mut self, job: &Job, write: &Touch)
         ensures { Holds self.old self.new
             (written (setup_of job.now) (flags_in self.old) write.now) }
@@ -105,6 +108,7 @@ impl FlagTable {
         }
     }
 
+    /// Sets the ghost flags of a variable's level 0 as an exchange does.
     fn exchange_one(&mut self, variable: VarId)
         ensures { Holds self.old self.new (exchanged (variable ∷ []) (flags_in self.old)) }
     {
@@ -147,7 +151,7 @@ impl FlagTable {
         }
     }
 
-    /// The same flags again.
+    /// A copy of the table with the flags of all levels.
     pub fn copy(&self, alloc: Global) -> Result<Self, Memory>
         ensures { IfOk result (λ table. table ≡ self.now) }
     {

@@ -28,6 +28,7 @@ pub(crate) fn leave(
     Ok(())
 }
 
+/// What trees leave of the flags, one after another, whatever they need.
 #[cycle(left)]
 fn leave_all(alloc: Global, job: &Job, table: &mut FlagTable, trees: &[Tree]) -> Result<(), Memory>
     ensures { length table.new ≡ length table.old }

@@ -23,6 +23,7 @@ fn has_faces(periodic: bool, ghosts: i32) -> bool
     !periodic && ghosts >= 1
 }
 
+/// Whether some direction has boundary points: not periodic, and at least one ghost point wide.
 fn has_faced_direction(shape: &Shape) -> bool
     ensures { result ≡ has_faced_direction shape.now }
 {
@@ -50,6 +51,7 @@ fn along(point: &Point, direction: u8) -> i32
     }
 }
 
+/// Whether a read reaches no further than the ghost points of this direction.
 fn is_within(shape: &Shape, reach: u8, direction: u8) -> bool
     ensures { result ≡ int_le (pos reach) (along shape.now.ghost_ direction) }
 {
@@ -68,6 +70,7 @@ pub(crate) fn within_ghosts(shape: &Shape, reach: u8) -> bool
     true
 }
 
+/// Whether two regions are one.
 fn same_region(a: Region, b: Region) -> bool
     ensures { result ≡ same_region a b }
 {
@@ -119,12 +122,14 @@ fn region_of(writes: &[Touch]) -> Region
     }
 }
 
+/// Whether a read is of each point everywhere, without neighbours.
 fn is_plain(read: &Touch) -> bool
     ensures { result ≡ (same_region read.now.region regions.Everywhere && read.now.reach == 0) }
 {
     same_region(read.region, Region::Everywhere) && read.reach == 0
 }
 
+/// The flags that an item of this kind needs to read a grid variable so. None: it may not read so at all.
 fn grid_needs(
     shape: &Shape,
     kind: ItemKind,
@@ -157,12 +162,14 @@ pub(crate) fn read_needs(job: &Job, item: &Item, read: &Touch) -> Option<&'stati
     )
 }
 
+/// Whether two accesses are of one level of one variable.
 fn same_level(a: &Touch, b: &Touch) -> bool
     ensures { result ≡ same_level a.now b.now }
 {
     a.var.0 == b.var.0 && a.level == b.level
 }
 
+/// Whether one of the other accesses is of the same level of the same variable.
 fn is_again(write: &Touch, others: &[Touch]) -> bool
     ensures { result ≡ list_any (same_level write.now) others.now }
 {
@@ -183,12 +190,14 @@ pub(crate) fn are_distinct(writes: &[Touch]) -> bool
     true
 }
 
+/// Whether all accesses are of scalars.
 fn are_scalars(job: &Job, touches: &[Touch]) -> bool
     ensures { result ≡ list_all (λ t. is_scalar (setup_of job.now) t.var) touches.now }
 {
     touches.iter().all(|touch| is_scalar(job, touch.var))
 }
 
+/// Whether all accesses are of grid variables.
 fn are_grid_variables(job: &Job, touches: &[Touch]) -> bool
     ensures { result ≡ list_all (λ t. not (is_scalar (setup_of job.now) t.var)) touches.now }
 {
@@ -205,6 +214,7 @@ fn reduces(job: &Job, item: &Item) -> bool
         && are_scalars(job, item.writes.as_slice())
 }
 
+/// Whether there is exactly one access.
 fn is_one(touches: &[Touch]) -> bool
     ensures { result ≡ is_one touches.now }
 {
@@ -214,6 +224,7 @@ fn is_one(touches: &[Touch]) -> bool
     }
 }
 
+/// Whether an access is of a grid variable in this region.
 fn is_in_region(job: &Job, region: Region, write: &Touch) -> bool
     ensures { result ≡ is_in_region (setup_of job.now) region write.now }
 {
@@ -242,19 +253,21 @@ pub(crate) fn kinds_agree(job: &Job, item: &Item) -> bool
     }
 }
 
+/// Whether the item may read so at all, by its kind and region.
 fn has_row(job: &Job, item: &Item, read: &Touch) -> bool
     ensures { result ≡ has_row (setup_of job.now) item.now read.now }
 {
     read_needs(job, item, read).is_some()
 }
 
-/// Whether each read stands in the table.
+/// Whether the item may read so at all, for each of its reads.
 fn have_rows(job: &Job, item: &Item, reads: &[Touch]) -> bool
     ensures { result ≡ list_all (has_row (setup_of job.now) item.now) reads.now }
 {
     reads.iter().all(|read| has_row(job, item, read))
 }
 
+/// Whether there is at least one access.
 fn is_some_list(touches: &[Touch]) -> bool
     ensures { result ≡ is_some_list touches.now }
 {

@@ -35,6 +35,7 @@ fn is_empty(job: &Job, flag: Flag) -> bool
     }
 }
 
+/// Whether a flag is set, or says something of no point, since the grid has no such points.
 fn is_met(job: &Job, table: &FlagTable, variable: VarId, level: u8, flag: Flag) -> bool
     requires { IsShape job.now.shape }
     ensures { result
@@ -88,6 +89,7 @@ fn unmet_read<'a>(job: &Job, table: &FlagTable, item: &'a Item, read: &Touch) ->
     }
 }
 
+/// The first need of an item's reads that isn't met, in the order of its declaration.
 fn unmet_of_reads<'a>(
     job: &Job,
     table: &FlagTable,
@@ -159,6 +161,7 @@ fn output_flags(job: &Job, variable: VarId) -> &'static [Flag]
     &[Flag::I, Flag::B]
 }
 
+/// The first need of the output of one variable that isn't met.
 fn unmet_of_variable(job: &Job, table: &FlagTable, variable: VarId) -> Option<Unmet<'static>>
     requires { IsShape job.now.shape }
     ensures { option_map seen result
@@ -168,6 +171,7 @@ fn unmet_of_variable(job: &Job, table: &FlagTable, variable: VarId) -> Option<Un
     unmet_flag(job, table, flags, b"output", variable, 0)
 }
 
+/// The first need of the output that isn't met, variable by variable.
 fn unmet_of_variables(job: &Job, table: &FlagTable, variables: &[VarId]) -> Option<Unmet<'static>>
     requires { IsShape job.now.shape }
     ensures { option_map seen result

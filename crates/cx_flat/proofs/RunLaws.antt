@@ -15,27 +15,32 @@ abbrev pub StandsAt : List Op → ℕ → List Op → Type 0
 StandsAt ops at [] = Unit {0}
 StandsAt ops at (o ∷ os) = (op_at ops at ≡ o) × StandsAt ops (suc at) os
 
-pub stands_first : (ops : List Op) (at : ℕ) (a b : List Op) → StandsAt ops at (a ++ b) → StandsAt ops at a
+pub stands_first : (ops : List Op) (at : ℕ) (a b : List Op) → StandsAt ops at (a ++ b)
+    → StandsAt ops at a
 stands_first ops at [] b h = tt
 stands_first ops at (o ∷ os) b h = (h.0, stands_first ops (suc at) os b h.1)
 
-pub stands_then : (ops : List Op) (at : ℕ) (a b : List Op) → StandsAt ops at (a ++ b) → StandsAt ops (at + length a) b
+pub stands_then : (ops : List Op) (at : ℕ) (a b : List Op) → StandsAt ops at (a ++ b)
+    → StandsAt ops (at + length a) b
 stands_then ops at [] b h = let e : at ≡ at + 0 = omega arith in subst (λ n. StandsAt ops n b) e h
 stands_then ops at (o ∷ os) b h =
     let e : suc at + length os ≡ at + suc (length os) = omega arith in
     subst (λ n. StandsAt ops n b) e (stands_then ops (suc at) os b h.1)
 
-op_behind : (before : List Op) (o : Op) (os : List Op) → op_at (before ++ o ∷ os) (length before) ≡ o
+op_behind : (before : List Op) (o : Op) (os : List Op)
+    → op_at (before ++ o ∷ os) (length before) ≡ o
 op_behind [] o os = refl
 op_behind (x ∷ xs) o os = op_behind xs o os
 
 pub stands_all : (before ops : List Op) → StandsAt (before ++ ops) (length before) ops
 stands_all before [] = tt
 stands_all before (o ∷ os) =
-    let e : length (before ++ o ∷ []) ≡ suc (length before) = length-append before (o ∷ []) ∙ omega arith in (
+    let e : length (before ++ o ∷ []) ≡ suc (length before) =
+    length-append before (o ∷ []) ∙ omega arith in (
       op_behind before o os,
       subst (λ n. StandsAt (before ++ o ∷ os) n os) e
-          (subst (λ l. StandsAt l (length (before ++ o ∷ [])) os) (append_assoc before (o ∷ []) os) (stands_all (before ++ o ∷ []) os)),
+          (subst (λ l. StandsAt l (length (before ++ o ∷ [])) os) (append_assoc before (o ∷ []) os)
+          (stands_all (before ++ o ∷ []) os)),
     )
 
 -- ---- open WHILEs
@@ -45,7 +50,8 @@ last_of [] o = refl
 last_of (a ∷ []) o = refl
 last_of (a ∷ b ∷ os) o = last_of (b ∷ os) o
 
-pub turned_of : (os : List Opened) (o : Opened) → turned_on (os ++ o ∷ []) ≡ os ++ record { place = o.place; turns = suc o.turns } ∷ []
+pub turned_of : (os : List Opened) (o : Opened)
+    → turned_on (os ++ o ∷ []) ≡ os ++ record { place = o.place; turns = suc o.turns } ∷ []
 turned_of [] o = refl
 turned_of (a ∷ []) o = refl
 turned_of (a ∷ b ∷ os) o = ap (λ xs. a ∷ xs) (turned_of (b ∷ os) o)
@@ -58,7 +64,8 @@ closed_of (a ∷ b ∷ os) o = ap (λ xs. a ∷ xs) (closed_of (b ∷ os) o)
 -- ---- runs
 
 -- from one control and state to another, with what is noted on the way
-pub record RunsBetween (setup : Setup) (rules : List Rule) (ops : List Op) (p q : Option Pair) (from goal : Flat) (notes : List Note) : Type 0 where
+pub record RunsBetween (setup : Setup) (rules : List Rule) (ops : List Op) (p q : Option Pair)
+    (from goal : Flat) (notes : List Note) : Type 0 where
   pub count : ℕ
   pub arrives : flat_from setup rules ops count from ≡ goal
   pub noted : noted_from setup rules ops count from ≡ notes
@@ -150,100 +157,158 @@ no_begin setup Save h = refl
 no_begin setup Halt h = absurd cc
 
 module _ (setup : Setup) (rules : List Rule) (ops : List Op) where
-  flat_both : (m n : ℕ) (g : Flat) → flat_from setup rules ops (m + n) g ≡ flat_from setup rules ops n (flat_from setup rules ops m g)
+  flat_both : (m n : ℕ) (g : Flat)
+      → flat_from setup rules ops (m + n) g
+      ≡ flat_from setup rules ops n (flat_from setup rules ops m g)
   flat_both zero n g = let e : 0 + n ≡ n = omega arith in rw e refl
-  flat_both (suc m) n g = let e : suc m + n ≡ suc (m + n) = omega arith in rw e (flat_both m n (stepped setup rules (op_at ops g.control.pc) g))
+  flat_both (suc m) n g = let e : suc m + n ≡ suc (m + n) = omega arith in
+      rw e (flat_both m n (stepped setup rules (op_at ops g.control.pc) g))
 
-  noted_both : (m n : ℕ) (g : Flat) → noted_from setup rules ops (m + n) g ≡ noted_from setup rules ops m g ++ noted_from setup rules ops n (flat_from setup rules ops m g)
+  noted_both : (m n : ℕ) (g : Flat)
+      → noted_from setup rules ops (m + n) g
+      ≡ noted_from setup rules ops m g
+      ++ noted_from setup rules ops n (flat_from setup rules ops m g)
   noted_both zero n g = let e : 0 + n ≡ n = omega arith in rw e refl
   noted_both (suc m) n g = let e : suc m + n ≡ suc (m + n) = omega arith in rw e (
-      ap (λ xs. notes_at setup rules (op_at ops g.control.pc) g.control g.state ++ xs) (noted_both m n (stepped setup rules (op_at ops g.control.pc) g))
-      ∙ sym (append_assoc (notes_at setup rules (op_at ops g.control.pc) g.control g.state) (noted_from setup rules ops m (stepped setup rules (op_at ops g.control.pc) g)) (noted_from setup rules ops n (flat_from setup rules ops m (stepped setup rules (op_at ops g.control.pc) g)))))
+      ap (λ xs. notes_at setup rules (op_at ops g.control.pc) g.control g.state ++ xs)
+      (noted_both m n (stepped setup rules (op_at ops g.control.pc) g))
+      ∙ sym (append_assoc (notes_at setup rules (op_at ops g.control.pc) g.control g.state)
+      (noted_from setup rules ops m (stepped setup rules (op_at ops g.control.pc) g))
+      (noted_from setup rules ops n
+      (flat_from setup rules ops m (stepped setup rules (op_at ops g.control.pc) g)))))
 
-  on_both : (m n : ℕ) (g : Flat) → GoesOn setup rules ops m g → GoesOn setup rules ops n (flat_from setup rules ops m g) → GoesOn setup rules ops (m + n) g
-  on_both zero n g a b = let e : n ≡ 0 + n = omega arith in subst (λ k. GoesOn setup rules ops k g) e b
+  on_both : (m n : ℕ) (g : Flat) → GoesOn setup rules ops m g
+      → GoesOn setup rules ops n (flat_from setup rules ops m g) → GoesOn setup rules ops (m + n) g
+  on_both zero n g a b = let e : n ≡ 0 + n = omega arith in
+      subst (λ k. GoesOn setup rules ops k g) e b
   on_both (suc m) n g a b =
       let e : suc (m + n) ≡ suc m + n = omega arith in
-      subst (λ k. GoesOn setup rules ops k g) e (a.0, on_both m n (stepped setup rules (op_at ops g.control.pc) g) a.1 b)
+      subst (λ k. GoesOn setup rules ops k g) e
+      (a.0, on_both m n (stepped setup rules (op_at ops g.control.pc) g) a.1 b)
 
-  pairs_both : (p q s : Option Pair) (m n : ℕ) (g : Flat) → InPairs setup rules ops p q m g → InPairs setup rules ops q s n (flat_from setup rules ops m g) → InPairs setup rules ops p s (m + n) g
-  pairs_both p q s zero n g a b = let e : n ≡ 0 + n = omega arith in subst (λ k. InPairs setup rules ops p s k g) e (subst (λ x. InPairs setup rules ops x s n g) (sym a) b)
+  pairs_both : (p q s : Option Pair) (m n : ℕ) (g : Flat) → InPairs setup rules ops p q m g
+      → InPairs setup rules ops q s n (flat_from setup rules ops m g)
+      → InPairs setup rules ops p s (m + n) g
+  pairs_both p q s zero n g a b = let e : n ≡ 0 + n = omega arith in
+      subst (λ k. InPairs setup rules ops p s k g) e
+      (subst (λ x. InPairs setup rules ops x s n g) (sym a) b)
   pairs_both p q s (suc m) n g a b =
       let e : suc (m + n) ≡ suc m + n = omega arith in
-      subst (λ k. InPairs setup rules ops p s k g) e (a.0, pairs_both (begins_pair setup (op_at ops g.control.pc)) q s m n (stepped setup rules (op_at ops g.control.pc) g) a.1 b)
+      subst (λ k. InPairs setup rules ops p s k g) e (
+        a.0,
+        pairs_both (begins_pair setup (op_at ops g.control.pc)) q s m n
+            (stepped setup rules (op_at ops g.control.pc) g) a.1 b,
+      )
 
   pub runs_stay : (g : Flat) → Runs setup rules ops g g []
   runs_stay g = record { count = 0; arrives = refl; noted = refl; goes_on = tt; paired = refl }
 
-  pub between_then : (p q s : Option Pair) (g h i : Flat) (a b : List Note) → RunsBetween setup rules ops p q g h a → RunsBetween setup rules ops q s h i b → RunsBetween setup rules ops p s g i (a ++ b)
+  pub between_then : (p q s : Option Pair) (g h i : Flat) (a b : List Note)
+      → RunsBetween setup rules ops p q g h a → RunsBetween setup rules ops q s h i b
+      → RunsBetween setup rules ops p s g i (a ++ b)
   between_then p q s g h i a b x y =
       record {
         count = x.count + y.count;
-        arrives = flat_both x.count y.count g ∙ ap (flat_from setup rules ops y.count) x.arrives ∙ y.arrives;
-        noted = noted_both x.count y.count g ∙ ap (λ xs. xs ++ noted_from setup rules ops y.count (flat_from setup rules ops x.count g)) x.noted ∙ ap (λ z. a ++ noted_from setup rules ops y.count z) x.arrives ∙ ap (λ xs. a ++ xs) y.noted;
-        goes_on = on_both x.count y.count g x.goes_on (subst (GoesOn setup rules ops y.count) (sym x.arrives) y.goes_on);
-        paired = pairs_both p q s x.count y.count g x.paired (subst (InPairs setup rules ops q s y.count) (sym x.arrives) y.paired);
+        arrives = flat_both x.count y.count g ∙ ap (flat_from setup rules ops y.count) x.arrives
+            ∙ y.arrives;
+        noted = noted_both x.count y.count g
+            ∙ ap (λ xs. xs ++ noted_from setup rules ops y.count
+            (flat_from setup rules ops x.count g)) x.noted
+            ∙ ap (λ z. a ++ noted_from setup rules ops y.count z) x.arrives
+            ∙ ap (λ xs. a ++ xs) y.noted;
+        goes_on = on_both x.count y.count g x.goes_on
+            (subst (GoesOn setup rules ops y.count) (sym x.arrives) y.goes_on);
+        paired = pairs_both p q s x.count y.count g x.paired
+            (subst (InPairs setup rules ops q s y.count) (sym x.arrives) y.paired);
       }
 
-  pub runs_then : (g h i : Flat) (a b : List Note) → Runs setup rules ops g h a → Runs setup rules ops h i b → Runs setup rules ops g i (a ++ b)
+  pub runs_then : (g h i : Flat) (a b : List Note) → Runs setup rules ops g h a
+      → Runs setup rules ops h i b → Runs setup rules ops g i (a ++ b)
   runs_then g h i a b x y = between_then None None None g h i a b x y
 
-  pub between_to : (p q : Option Pair) (g h i : Flat) (a b : List Note) → RunsBetween setup rules ops p q g h a → h ≡ i → a ≡ b → RunsBetween setup rules ops p q g i b
-  between_to p q g h i a b x e f = subst (λ z. RunsBetween setup rules ops p q g z b) e (subst (RunsBetween setup rules ops p q g h) f x)
+  pub between_to : (p q : Option Pair) (g h i : Flat) (a b : List Note)
+      → RunsBetween setup rules ops p q g h a → h ≡ i → a ≡ b
+      → RunsBetween setup rules ops p q g i b
+  between_to p q g h i a b x e f =
+      subst (λ z. RunsBetween setup rules ops p q g z b) e
+      (subst (RunsBetween setup rules ops p q g h) f x)
 
-  pub runs_to : (g h i : Flat) (a b : List Note) → Runs setup rules ops g h a → h ≡ i → a ≡ b → Runs setup rules ops g i b
+  pub runs_to : (g h i : Flat) (a b : List Note) → Runs setup rules ops g h a → h ≡ i → a ≡ b
+      → Runs setup rules ops g i b
   runs_to g h i a b x e f = between_to None None g h i a b x e f
 
   -- one operation
-  pub runs_one : (g : Flat) (o : Op) → op_at ops g.control.pc ≡ o → is_alone o ≡ true → Runs setup rules ops g (stepped setup rules o g) (notes_at setup rules o g.control g.state)
+  pub runs_one : (g : Flat) (o : Op) → op_at ops g.control.pc ≡ o → is_alone o ≡ true
+      → Runs setup rules ops g (stepped setup rules o g) (notes_at setup rules o g.control g.state)
   runs_one g o e f =
       record {
         count = 1;
         arrives = ap (λ z. stepped setup rules z g) e;
-        noted = append-nil (notes_at setup rules (op_at ops g.control.pc) g.control g.state) ∙ ap (λ z. notes_at setup rules z g.control g.state) e;
+        noted = append-nil (notes_at setup rules (op_at ops g.control.pc) g.control g.state)
+            ∙ ap (λ z. notes_at setup rules z g.control g.state) e;
         goes_on = (ap is_halt e ∙ no_halt o f, tt);
         paired = (ap ends_pair e ∙ no_end o f, ap (begins_pair setup) e ∙ no_begin setup o f);
       }
 
   -- two in a pair
-  pub runs_pair : (u v : Option Pair) (g h : Flat) (o t : Op) (p : Pair) → op_at ops g.control.pc ≡ o → stepped setup rules o g ≡ h → op_at ops h.control.pc ≡ t → is_halt o ≡ false → is_halt t ≡ false
-      → ends_pair o ≡ u → begins_pair setup o ≡ Some p → ends_pair t ≡ Some p → begins_pair setup t ≡ v → notes_at setup rules o g.control g.state ≡ []
-      → RunsBetween setup rules ops u v g (stepped setup rules t h) (notes_at setup rules t h.control h.state)
+  pub runs_pair : (u v : Option Pair) (g h : Flat) (o t : Op) (p : Pair)
+      → op_at ops g.control.pc ≡ o → stepped setup rules o g ≡ h → op_at ops h.control.pc ≡ t
+      → is_halt o ≡ false → is_halt t ≡ false
+      → ends_pair o ≡ u → begins_pair setup o ≡ Some p → ends_pair t ≡ Some p
+      → begins_pair setup t ≡ v → notes_at setup rules o g.control g.state ≡ []
+      → RunsBetween setup rules ops u v g (stepped setup rules t h)
+      (notes_at setup rules t h.control h.state)
   runs_pair u v g h o t p e step f a b first some same last none =
-      let s : stepped setup rules (op_at ops g.control.pc) g ≡ h = ap (λ z. stepped setup rules z g) e ∙ step in
+      let s : stepped setup rules (op_at ops g.control.pc) g ≡ h =
+      ap (λ z. stepped setup rules z g) e ∙ step in
       record {
         count = 2;
-        arrives = ap (λ z. stepped setup rules (op_at ops z.control.pc) z) s ∙ ap (λ z. stepped setup rules z h) f;
+        arrives = ap (λ z. stepped setup rules (op_at ops z.control.pc) z) s
+            ∙ ap (λ z. stepped setup rules z h) f;
         noted =
-            ap (λ ns. ns ++ noted_from setup rules ops 1 (stepped setup rules (op_at ops g.control.pc) g)) (ap (λ z. notes_at setup rules z g.control g.state) e ∙ none)
+            ap (λ ns. ns ++ noted_from setup rules ops 1
+            (stepped setup rules (op_at ops g.control.pc) g))
+            (ap (λ z. notes_at setup rules z g.control g.state) e ∙ none)
             ∙ ap (λ z. noted_from setup rules ops 1 z) s
             ∙ append-nil (notes_at setup rules (op_at ops h.control.pc) h.control h.state)
             ∙ ap (λ z. notes_at setup rules z h.control h.state) f;
-        goes_on = (ap is_halt e ∙ a, (ap (λ z. is_halt (op_at ops z.control.pc)) s ∙ ap is_halt f ∙ b, tt));
+        goes_on = (
+          ap is_halt e ∙ a,
+          (ap (λ z. is_halt (op_at ops z.control.pc)) s ∙ ap is_halt f ∙ b, tt),
+        );
         paired = (
           ap ends_pair e ∙ first,
           (
-            ap (λ z. ends_pair (op_at ops z.control.pc)) s ∙ ap ends_pair f ∙ same ∙ sym (ap (begins_pair setup) e ∙ some),
-            ap (λ z. begins_pair setup (op_at ops z.control.pc)) s ∙ ap (begins_pair setup) f ∙ last,
+            ap (λ z. ends_pair (op_at ops z.control.pc)) s ∙ ap ends_pair f ∙ same
+                ∙ sym (ap (begins_pair setup) e ∙ some),
+            ap (λ z. begins_pair setup (op_at ops z.control.pc)) s ∙ ap (begins_pair setup) f
+                ∙ last,
           ),
         );
       }
 
   -- the last of so many operations
-  pub flat_last : (n : ℕ) (g : Flat) → flat_from setup rules ops (suc n) g ≡ stepped setup rules (op_at ops (flat_from setup rules ops n g).control.pc) (flat_from setup rules ops n g)
+  pub flat_last : (n : ℕ) (g : Flat)
+      → flat_from setup rules ops (suc n) g
+      ≡ stepped setup rules (op_at ops (flat_from setup rules ops n g).control.pc)
+      (flat_from setup rules ops n g)
   flat_last zero g = refl
   flat_last (suc n) g = flat_last n (stepped setup rules (op_at ops g.control.pc) g)
 
   -- each operation ends what the one before it begins
-  pub pairs_at : (p q : Option Pair) (n m : ℕ) (g : Flat) → suc n < m → InPairs setup rules ops p q m g
-      → ends_pair (op_at ops (flat_from setup rules ops (suc n) g).control.pc) ≡ begins_pair setup (op_at ops (flat_from setup rules ops n g).control.pc)
+  pub pairs_at : (p q : Option Pair) (n m : ℕ) (g : Flat) → suc n < m
+      → InPairs setup rules ops p q m g
+      → ends_pair (op_at ops (flat_from setup rules ops (suc n) g).control.pc)
+      ≡ begins_pair setup (op_at ops (flat_from setup rules ops n g).control.pc)
   pairs_at p q n zero g l h = absurd (omega arith)
   pairs_at p q n (suc zero) g l h = absurd (omega arith)
   pairs_at p q zero (suc (suc m)) g l h = h.1.0
   pairs_at p q (suc n) (suc (suc m)) g l h =
-      pairs_at (begins_pair setup (op_at ops g.control.pc)) q n (suc m) (stepped setup rules (op_at ops g.control.pc) g) (omega arith) h.1
+      pairs_at (begins_pair setup (op_at ops g.control.pc)) q n (suc m)
+      (stepped setup rules (op_at ops g.control.pc) g) (omega arith) h.1
 
   -- and the first one ends nothing
-  pub pairs_first : (p q : Option Pair) (m : ℕ) (g : Flat) → 0 < m → InPairs setup rules ops p q m g → ends_pair (op_at ops g.control.pc) ≡ p
+  pub pairs_first : (p q : Option Pair) (m : ℕ) (g : Flat) → 0 < m → InPairs setup rules ops p q m g
+      → ends_pair (op_at ops g.control.pc) ≡ p
   pairs_first p q zero g l h = absurd (omega arith)
   pairs_first p q (suc m) g l h = h.0

@@ -20,7 +20,8 @@ item_code Count k = Give k ∷ Join k ∷ []
 -- so many directions from this one on, one after another
 abbrev pub sync_code : List VarId → List ℕ → ℕ → ℕ → List Op
 sync_code vars path d zero = []
-sync_code vars path d (suc count) = Post d vars ∷ Take d vars path ∷ sync_code vars path (suc d) count
+sync_code vars path d (suc count) =
+    Post d vars ∷ Take d vars path ∷ sync_code vars path (suc d) count
 
 -- what is done where a scalar isn't 0
 abbrev pub if_code : VarId → List ℕ → List Op → List Op
@@ -28,7 +29,8 @@ if_code v path body = Test v path (suc (length body)) ∷ body
 
 -- what is done again and again
 abbrev pub while_code : VarId → List ℕ → List Op → List Op
-while_code v path body = Open ∷ Turn v path (suc (suc (length body))) ∷ body ++ Again (suc (length body)) ∷ []
+while_code v path body =
+    Open ∷ Turn v path (suc (suc (length body))) ∷ body ++ Again (suc (length body)) ∷ []
 
 abbrev mutual
   pub tree_code : Setup → Tree → List Op
@@ -55,7 +57,8 @@ bins_code setup (b ∷ bs) = tree_code setup (bin setup b) ++ bins_code setup bs
 
 -- the start
 abbrev pub start_code : Setup → List Op
-start_code setup = bins_code setup (STARTUP ∷ WRAGH ∷ PARAMCHECK ∷ BASEGRID ∷ INITIAL ∷ POSTINITIAL ∷ POSTSTEP ∷ [])
+start_code setup = bins_code setup
+    (STARTUP ∷ WRAGH ∷ PARAMCHECK ∷ BASEGRID ∷ INITIAL ∷ POSTINITIAL ∷ POSTSTEP ∷ [])
 
 -- an iteration before ANALYSIS, and from it on
 abbrev pub checkpoint_code : Setup → List Op
@@ -63,7 +66,8 @@ checkpoint_code setup = tree_code setup (bin setup CHECKPOINT) ++ Save ∷ []
 
 abbrev pub before_code : Setup → List Op
 before_code setup =
-    Rotate ∷ bins_code setup (PRESTEP ∷ EVOL ∷ POSTSTEP ∷ []) ++ Due (suc (length (checkpoint_code setup))) ∷ checkpoint_code setup
+    Rotate ∷ bins_code setup (PRESTEP ∷ EVOL ∷ POSTSTEP ∷ [])
+    ++ Due (suc (length (checkpoint_code setup))) ∷ checkpoint_code setup
 
 abbrev pub pieces_code : List VarId → List Op
 pieces_code [] = []
@@ -71,12 +75,14 @@ pieces_code (v ∷ vs) = Piece v ∷ pieces_code vs
 
 abbrev pub from_code : Setup → List Op
 from_code setup =
-    tree_code setup (bin setup ANALYSIS) ++ Written (suc (length setup.out_vars)) ∷ pieces_code setup.out_vars
+    tree_code setup (bin setup ANALYSIS) ++ Written (suc (length setup.out_vars))
+    ∷ pieces_code setup.out_vars
 
 -- an iteration, and back to its beginning
 abbrev pub loop_code : Setup → List Op
 loop_code setup =
-    before_code setup ++ (from_code setup ++ Next (length (before_code setup) + length (from_code setup)) ∷ [])
+    before_code setup ++ (from_code setup
+    ++ Next (length (before_code setup) + length (from_code setup)) ∷ [])
 
 abbrev pub end_code : Setup → List Op
 end_code setup = bins_code setup (TERMINATE ∷ SHUTDOWN ∷ []) ++ Halt ∷ []
@@ -84,7 +90,8 @@ end_code setup = bins_code setup (TERMINATE ∷ SHUTDOWN ∷ []) ++ Halt ∷ []
 -- all operations of a run: the start has no operations before ANALYSIS of its own iteration
 abbrev pub code : Setup → List Op
 code setup =
-    start_code setup ++ (Skip (suc (length (before_code setup))) ∷ (loop_code setup ++ end_code setup))
+    start_code setup ++ (Skip (suc (length (before_code setup)))
+    ∷ (loop_code setup ++ end_code setup))
 
 -- where ANALYSIS begins
 abbrev pub analysis_place : Setup → ℕ

@@ -4,6 +4,7 @@ use Rattle.cx_plan.specs.declared.variable.VarId.{VarId}
 use Rattle.cx_plan.specs.Setups.{Setup}
 use Rattle.cx_plan.specs.Dues.{is_due, is_written}
 use Rattle.cx_plan.specs.Lookups.{item}
+use Rattle.cx_plan.specs.Steering.{item_at}
 use Rattle.cx_rule.specs.Routine.{Rule}
 use Rattle.cx_model.specs.States.{State, scalar_of, start, rotate}
 use Rattle.cx_model.specs.Turns.{turn}
@@ -19,7 +20,8 @@ pub record Opened : Type 0 where
   pub place : ℕ
   pub turns : ℕ
 
--- what decides the way beside the scalars: the place of the next operation, the iteration, and the open WHILEs from the outside in
+-- what decides the way beside the scalars: the place of the next operation, the iteration, and the
+-- open WHILEs from the outside in
 pub record Control : Type 0 where
   pub pc : ℕ
   pub iteration : ℕ
@@ -52,7 +54,11 @@ abbrev pub next : Control → Control
 next c = to c (suc c.pc)
 
 abbrev pub opens : Control → Control
-opens c = record { pc = suc c.pc; iteration = c.iteration; opened = c.opened ++ record { place = suc c.pc; turns = 0 } ∷ [] }
+opens c = record {
+  pc = suc c.pc;
+  iteration = c.iteration;
+  opened = c.opened ++ record { place = suc c.pc; turns = 0 } ∷ [];
+}
 
 -- out of the innermost WHILE
 abbrev pub leaves_loop : Control → ℕ → Control
@@ -63,7 +69,8 @@ turns_back c pc = record { pc = pc; iteration = c.iteration; opened = turned_on 
 
 abbrev pub iterates : Setup → Control → ℕ → Control
 iterates setup c pc =
-    if nat_lt c.iteration setup.itlast then record { pc = pc; iteration = suc c.iteration; opened = c.opened } else next c
+    if nat_lt c.iteration setup.itlast
+    then record { pc = pc; iteration = suc c.iteration; opened = c.opened } else next c
 
 -- a WHILE's test: out where the scalar is 0, and where it has taken all its turns
 abbrev pub turn_control : Setup → Control → ℕ → ℤ → Control
@@ -85,8 +92,10 @@ control_after setup Open scalars c = opens c
 control_after setup (Turn v path skip) scalars c = turn_control setup c skip (scalars v)
 control_after setup (Again back) scalars c = turns_back c (c.pc - back)
 control_after setup Rotate scalars c = next c
-control_after setup (Due skip) scalars c = if is_due setup c.iteration then next c else to c (c.pc + skip)
-control_after setup (Written skip) scalars c = if is_written setup c.iteration then next c else to c (c.pc + skip)
+control_after setup (Due skip) scalars c = if is_due setup c.iteration then next c
+    else to c (c.pc + skip)
+control_after setup (Written skip) scalars c = if is_written setup c.iteration then next c
+    else to c (c.pc + skip)
 control_after setup (Skip skip) scalars c = to c (c.pc + skip)
 control_after setup (Next back) scalars c = iterates setup c (c.pc - back)
 control_after setup (Piece v) scalars c = next c
@@ -101,10 +110,13 @@ pub record Flat : Type 0 where
 
 -- the state after an operation; a reduction's number goes to its scalar when all parts are joined
 abbrev pub state_after : Setup → List Rule → Op → ℕ → State → State
-state_after setup rules (Sweep k) iteration state = turned setup rules (item setup k) state iteration
-state_after setup rules (Apply k) iteration state = turned setup rules (item setup k) state iteration
+state_after setup rules (Sweep k) iteration state =
+    turned setup rules (item_at setup k iteration) state iteration
+state_after setup rules (Apply k) iteration state =
+    turned setup rules (item_at setup k iteration) state iteration
 state_after setup rules (Give k) iteration state = state
-state_after setup rules (Join k) iteration state = turned setup rules (item setup k) state iteration
+state_after setup rules (Join k) iteration state =
+    turned setup rules (item_at setup k iteration) state iteration
 state_after setup rules (Post d vars) iteration state = state
 state_after setup rules (Take d vars path) iteration state = state
 state_after setup rules (Test v path skip) iteration state = state
@@ -123,12 +135,14 @@ state_after setup rules Halt iteration state = state
 -- what an item's turn notes
 abbrev pub item_note : Setup → List Rule → ℕ → ℕ → State → Note
 item_note setup rules k iteration state =
-    turn_note k (item setup k) iteration state (turn setup rules (item setup k) state iteration)
+    turn_note k (item_at setup k iteration) iteration state
+    (turn setup rules (item_at setup k iteration) state iteration)
 
 -- a WHILE's test: the limit is met behind its last turn
 abbrev pub turn_test : Setup → VarId → List ℕ → Control → State → Note
 turn_test setup v path c state =
-    if last_turns c.opened == setup.while_limit then limit_note v path (WhileLimit c.iteration path) state else note (Tested v path state)
+    if last_turns c.opened == setup.while_limit
+    then limit_note v path (WhileLimit c.iteration path) state else note (Tested v path state)
 
 -- what an operation notes; a SYNC is noted with its last direction, a reduction with its result
 abbrev pub notes_at : Setup → List Rule → Op → Control → State → List Note
@@ -137,7 +151,8 @@ notes_at setup rules (Apply k) c state = item_note setup rules k c.iteration sta
 notes_at setup rules (Give k) c state = []
 notes_at setup rules (Join k) c state = item_note setup rules k c.iteration state ∷ []
 notes_at setup rules (Post d vars) c state = []
-notes_at setup rules (Take d vars path) c state = if suc d == setup.shape.dims then note (Exchanged vars path state) ∷ [] else []
+notes_at setup rules (Take d vars path) c state = if suc d == setup.shape.dims
+    then note (Exchanged vars path state) ∷ [] else []
 notes_at setup rules (Test v path skip) c state = note (Tested v path state) ∷ []
 notes_at setup rules Open c state = []
 notes_at setup rules (Turn v path skip) c state = turn_test setup v path c state ∷ []
@@ -161,7 +176,8 @@ stepped setup rules o g =
 -- so many operations from here on
 abbrev pub flat_from : Setup → List Rule → List Op → ℕ → Flat → Flat
 flat_from setup rules ops zero g = g
-flat_from setup rules ops (suc n) g = flat_from setup rules ops n (stepped setup rules (op_at ops g.control.pc) g)
+flat_from setup rules ops (suc n) g =
+    flat_from setup rules ops n (stepped setup rules (op_at ops g.control.pc) g)
 
 -- and what they note
 abbrev pub noted_from : Setup → List Rule → List Op → ℕ → Flat → List Note
@@ -194,11 +210,13 @@ is_halt Save = false
 abbrev pub GoesOn : Setup → List Rule → List Op → ℕ → Flat → Type 0
 GoesOn setup rules ops zero g = Unit {0}
 GoesOn setup rules ops (suc n) g =
-    (is_halt (op_at ops g.control.pc) ≡ false) × GoesOn setup rules ops n (stepped setup rules (op_at ops g.control.pc) g)
+    (is_halt (op_at ops g.control.pc) ≡ false)
+    × GoesOn setup rules ops n (stepped setup rules (op_at ops g.control.pc) g)
 
 -- ---- operations that go together
 
--- what is sent is received next, and behind it comes the next direction; what is given is joined next
+-- what is sent is received next, and behind it comes the next direction; what is given is joined
+-- next
 pub data Pair : Type 0 where
   Exchange : ℕ → List VarId → Pair
   Onward : ℕ → List VarId → Pair
@@ -210,7 +228,8 @@ begins_pair setup (Apply k) = None
 begins_pair setup (Give k) = Some (Reduction k)
 begins_pair setup (Join k) = None
 begins_pair setup (Post d vars) = Some (Exchange d vars)
-begins_pair setup (Take d vars path) = if suc d == setup.shape.dims then None else Some (Onward (suc d) vars)
+begins_pair setup (Take d vars path) = if suc d == setup.shape.dims then None
+    else Some (Onward (suc d) vars)
 begins_pair setup (Test v path skip) = None
 begins_pair setup Open = None
 begins_pair setup (Turn v path skip) = None
@@ -254,11 +273,19 @@ abbrev pub InPairs : Setup → List Rule → List Op → Option Pair → Option 
 InPairs setup rules ops p q zero g = p ≡ q
 InPairs setup rules ops p q (suc n) g =
     (ends_pair (op_at ops g.control.pc) ≡ p)
-    × InPairs setup rules ops (begins_pair setup (op_at ops g.control.pc)) q n (stepped setup rules (op_at ops g.control.pc) g)
+    × InPairs setup rules ops (begins_pair setup (op_at ops g.control.pc)) q n
+    (stepped setup rules (op_at ops g.control.pc) g)
 
 -- a run from its start, and one that is continued from the checkpoint place of an iteration
 abbrev pub first_flat : Setup → Flat
-first_flat setup = record { control = record { pc = 0; iteration = 0; opened = [] }; state = start setup }
+first_flat setup = record {
+  control = record { pc = 0; iteration = 0; opened = [] };
+  state = start setup;
+}
 
 abbrev pub flat_after : Setup → ℕ → State → Flat
-flat_after setup c state = record { control = record { pc = analysis_place setup; iteration = c; opened = [] }; state = state }
+flat_after setup c state =
+    record {
+      control = record { pc = analysis_place setup; iteration = c; opened = [] };
+      state = state;
+    }

@@ -1,5 +1,5 @@
--- The way of a run by scalars that may be any numbers at each place, and the order of places. So it holds of a run in parts whatever its
--- wires tell.
+-- The way of a run by scalars that may be any numbers at each place, and the order of places. So it
+-- holds of a run in parts whatever its wires tell.
 use Rattle.std.specs.Prelude.{◌≡◌, ℕ, zero, suc, ◌+◌, ◌-◌, ◌<◌, ◌≤◌, ◌⊎◌, Bool, true, false, ℤ, List, [], ◌∷◌, length}
 use Rattle.cx_plan.specs.declared.variable.VarId.{VarId}
 use Rattle.cx_plan.specs.declared.tree.Tree.{Tree, Seq', Call, Sync, If', While', Row_of-Tree, end_of-Tree, more_of-Tree}
@@ -12,7 +12,8 @@ use Rattle.cx_flat.specs.Flats.{Opened, Control, control_after, is_halt}
 
 -- ---- the order of places
 
--- the iteration, from the outside in the place of each open WHILE's test and its turns so far, last the place of the operation
+-- the iteration, from the outside in the place of each open WHILE's test and its turns so far, last
+-- the place of the operation
 abbrev pub opened_key : List Opened → ℕ → List ℕ
 opened_key [] pc = pc ∷ []
 opened_key (o ∷ os) pc = o.place ∷ o.turns ∷ opened_key os pc
@@ -37,7 +38,8 @@ later scalars n = scalars (suc n)
 -- the control after so many operations, by the scalars before each
 abbrev pub way_from : Setup → List Op → Scalars → ℕ → Control → Control
 way_from setup ops scalars zero c = c
-way_from setup ops scalars (suc n) c = way_from setup ops (later scalars) n (control_after setup (op_at ops c.pc) (scalars 0) c)
+way_from setup ops scalars (suc n) c =
+    way_from setup ops (later scalars) n (control_after setup (op_at ops c.pc) (scalars 0) c)
 
 -- ---- what is posted is taken by the operation behind
 
@@ -105,14 +107,20 @@ Paired Halt p = is_receiving p ≡ false
 -- the last of so many operations, or the one before them
 abbrev pub last_from : Setup → List Op → Scalars → Op → ℕ → Control → Op
 last_from setup ops scalars before zero c = before
-last_from setup ops scalars before (suc n) c = last_from setup ops (later scalars) (op_at ops c.pc) n (control_after setup (op_at ops c.pc) (scalars 0) c)
+last_from setup ops scalars before (suc n) c =
+    last_from setup ops (later scalars) (op_at ops c.pc) n
+    (control_after setup (op_at ops c.pc) (scalars 0) c)
 
--- none of so many operations behind this one is the last one, each raises the key, and what one posts the next one takes
+-- none of so many operations behind this one is the last one, each raises the key, and what one
+-- posts the next one takes
 abbrev pub Rises : Setup → List Op → Scalars → Op → ℕ → Control → Type 0
 Rises setup ops scalars before zero c = Unit {0}
 Rises setup ops scalars before (suc n) c =
-    (is_halt (op_at ops c.pc) ≡ false) × Less (key c) (key (control_after setup (op_at ops c.pc) (scalars 0) c)) × Paired before (op_at ops c.pc)
-    × Rises setup ops (later scalars) (op_at ops c.pc) n (control_after setup (op_at ops c.pc) (scalars 0) c)
+    (is_halt (op_at ops c.pc) ≡ false)
+    × Less (key c) (key (control_after setup (op_at ops c.pc) (scalars 0) c))
+    × Paired before (op_at ops c.pc)
+    × Rises setup ops (later scalars) (op_at ops c.pc) n
+    (control_after setup (op_at ops c.pc) (scalars 0) c)
 
 -- ---- how many operations there are at most
 
@@ -131,7 +139,8 @@ abbrev mutual
   most_tree setup (Call k) = 2
   most_tree setup (Sync vars path) = most_sync setup.shape.dims
   most_tree setup (If' v path shape one) = suc (most_row setup one)
-  most_tree setup (While' v path shape one) = suc (most_turns setup.while_limit (most_row setup one))
+  most_tree setup (While' v path shape one) =
+      suc (most_turns setup.while_limit (most_row setup one))
 
   pub most_row : {m : _} → Setup → Row_of-Tree m → ℕ
   most_row setup end_of-Tree = 0
@@ -142,7 +151,9 @@ most_bins setup [] = 0
 most_bins setup (b ∷ bs) = most_tree setup (bin setup b) + most_bins setup bs
 
 abbrev pub most_before : Setup → ℕ
-most_before setup = suc (most_bins setup (PRESTEP ∷ EVOL ∷ POSTSTEP ∷ []) + suc (suc (most_tree setup (bin setup CHECKPOINT))))
+most_before setup =
+    suc (most_bins setup (PRESTEP ∷ EVOL ∷ POSTSTEP ∷ [])
+    + suc (suc (most_tree setup (bin setup CHECKPOINT))))
 
 abbrev pub most_from : Setup → ℕ
 most_from setup = most_tree setup (bin setup ANALYSIS) + suc (length setup.out_vars)
@@ -158,7 +169,8 @@ most_after setup c = most_from setup + most_rest setup (setup.itlast - c)
 
 abbrev pub most_operations : Setup → ℕ
 most_operations setup =
-    most_bins setup (STARTUP ∷ WRAGH ∷ PARAMCHECK ∷ BASEGRID ∷ INITIAL ∷ POSTINITIAL ∷ POSTSTEP ∷ []) + suc (most_after setup 0)
+    most_bins setup (STARTUP ∷ WRAGH ∷ PARAMCHECK ∷ BASEGRID ∷ INITIAL ∷ POSTINITIAL ∷ POSTSTEP
+    ∷ []) + suc (most_after setup 0)
 
 -- ---- all ways
 
@@ -168,7 +180,8 @@ pub record WayEnds (setup : Setup) (first : Control) (most : ℕ) (scalars : Sca
   pub within : count ≤ most
   pub rises : Rises setup (code setup) scalars Halt count first
   pub quiet : is_sending (last_from setup (code setup) scalars Halt count first) ≡ false
-  pub halts : is_halt (op_at (code setup) (way_from setup (code setup) scalars count first).pc) ≡ true
+  pub halts : is_halt (op_at (code setup) (way_from setup (code setup) scalars count first).pc)
+      ≡ true
 
 abbrev pub at_place : ℕ → ℕ → Control
 at_place pc iteration = record { pc = pc; iteration = iteration; opened = [] }

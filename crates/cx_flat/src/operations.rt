@@ -35,6 +35,7 @@ fn count_of_both(first: &[Op], second: &[Op]) -> u32
     count_of(first).saturating_add(count_of(second))
 }
 
+/// Adds the operations of one bin.
 fn push_bin(alloc: Global, job: &Job, ops: &mut Vec<Op>, bin: Bin) -> Result<(), Memory>
     requires { IsWhole job.now }
     ensures { OnOk result (ops.new.items
@@ -44,6 +45,7 @@ fn push_bin(alloc: Global, job: &Job, ops: &mut Vec<Op>, bin: Bin) -> Result<(),
     push_tree(alloc, job, ops, &bins[bin.number()])
 }
 
+/// Adds the operations of these bins, one after another.
 fn push_bins(alloc: Global, job: &Job, ops: &mut Vec<Op>, bins: &[Bin]) -> Result<(), Memory>
     requires { IsWhole job.now }
     ensures { OnOk result (ops.new.items
@@ -55,6 +57,7 @@ fn push_bins(alloc: Global, job: &Job, ops: &mut Vec<Op>, bins: &[Bin]) -> Resul
     Ok(())
 }
 
+/// Adds one operation for each variable whose pieces are gathered.
 fn push_pieces(ops: &mut Vec<Op>, variables: &[VarId]) -> Result<(), Memory>
     ensures { OnOk result (ops.new.items ≡ ops.old.items ++ pieces_code variables.now) }
 {

@@ -21,6 +21,7 @@ fn kind_of(job: &Job, k: u32) -> ItemKind
     }
 }
 
+/// Adds the two operations of a reduction: parts give their results, and the results are joined.
 fn push_reduction(ops: &mut Vec<Op>, k: u32) -> Result<(), Memory>
     ensures { OnOk result (ops.new.items ≡ ops.old.items ++ Op.Give k ∷ Op.Join k ∷ []) }
 {
@@ -29,6 +30,7 @@ fn push_reduction(ops: &mut Vec<Op>, k: u32) -> Result<(), Memory>
     Ok(())
 }
 
+/// Adds the operations of an item, by its kind.
 fn push_item(ops: &mut Vec<Op>, kind: ItemKind, k: u32) -> Result<(), Memory>
     ensures { OnOk result (ops.new.items ≡ ops.old.items ++ item_code kind k) }
 {
@@ -42,6 +44,7 @@ fn push_item(ops: &mut Vec<Op>, kind: ItemKind, k: u32) -> Result<(), Memory>
     }
 }
 
+/// A copy of variables in their order.
 fn copy_variables(alloc: Global, variables: &List<VarId>) -> Result<List<VarId>, Memory>
     ensures { IfOk result (λ copy. copy ≡ variables.now) }
 {
@@ -68,6 +71,7 @@ fn push_direction(
     Ok(())
 }
 
+/// Adds the exchanges of variables, direction by direction.
 fn push_sync(
     alloc: Global,
     ops: &mut Vec<Op>,
@@ -106,6 +110,7 @@ pub(crate) fn push_tree(
     }
 }
 
+/// Adds the operations of trees, one after another.
 #[cycle(tree)]
 fn push_trees(alloc: Global, job: &Job, ops: &mut Vec<Op>, trees: &[Tree]) -> Result<(), Memory>
     ensures { let these = trees_code (setup_of job.now) trees.now in
@@ -117,6 +122,7 @@ fn push_trees(alloc: Global, job: &Job, ops: &mut Vec<Op>, trees: &[Tree]) -> Re
     Ok(())
 }
 
+/// The operations of one tree.
 #[cycle(tree)]
 fn operations_of(alloc: Global, job: &Job, tree: &Tree) -> Result<Vec<Op>, Memory>
     ensures { let these = tree_code (setup_of job.now) tree.now in
@@ -145,6 +151,7 @@ fn push_if(
     push_guarded(alloc, ops, variable, path, body)
 }
 
+/// Adds operations that an `IF` skips where its scalar is 0.
 fn push_guarded(
     alloc: Global,
     ops: &mut Vec<Op>,
@@ -178,6 +185,7 @@ fn push_while(
     push_repeated(alloc, ops, variable, path, body)
 }
 
+/// Adds operations that a `WHILE` repeats until its scalar is 0.
 fn push_repeated(
     alloc: Global,
     ops: &mut Vec<Op>,

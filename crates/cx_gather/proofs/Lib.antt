@@ -1,4 +1,3 @@
-pub mod FilledLaws
 pub mod CheckpointLaws
 pub mod RowLaws
 pub mod FillLaws

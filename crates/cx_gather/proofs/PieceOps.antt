@@ -54,13 +54,17 @@ of_item setup Least k = (tt, (tt, tt))
 of_item setup Greatest k = (tt, (tt, tt))
 of_item setup Count k = (tt, (tt, tt))
 
-of_sync : (setup : Setup) (vars : List VarId) (path : List ℕ) (d count : ℕ) → All setup (sync_code vars path d count)
+of_sync : (setup : Setup) (vars : List VarId) (path : List ℕ) (d count : ℕ)
+    → All setup (sync_code vars path d count)
 of_sync setup vars path d zero = tt
 of_sync setup vars path d (suc count) = (tt, (tt, of_sync setup vars path (suc d) count))
 
-of_pieces : (setup : Setup) (vars : List VarId) → ((i : ℕ) → i < length vars → is_among (at_var vars i) setup.out_vars ≡ true) → All setup (pieces_code vars)
+of_pieces : (setup : Setup) (vars : List VarId)
+    → ((i : ℕ) → i < length vars → is_among (at_var vars i) setup.out_vars ≡ true)
+    → All setup (pieces_code vars)
 of_pieces setup [] h = tt
-of_pieces setup (v ∷ vs) h = (h 0 (omega arith), of_pieces setup vs (λ i l. h (suc i) (omega (arith, l))))
+of_pieces setup (v ∷ vs) h =
+    (h 0 (omega arith), of_pieces setup vs (λ i l. h (suc i) (omega (arith, l))))
 
 module _ (S : Setup) where
   mutual
@@ -69,38 +73,53 @@ module _ (S : Setup) where
     of_tree (Call k) = of_item S (item S k).kind k
     of_tree (Sync vars path) = of_sync S vars path 0 S.shape.dims
     of_tree (If' v path shape one) = (tt, of_row one)
-    of_tree (While' v path shape one) = (tt, (tt, both S (row_code S one) (Again (suc (length (row_code S one))) ∷ []) (of_row one) (tt, tt)))
+    of_tree (While' v path shape one) = (
+      tt,
+      (
+        tt,
+        both S (row_code S one) (Again (suc (length (row_code S one))) ∷ []) (of_row one)
+            (tt, tt),
+      ),
+    )
 
     of_row : {m : _} (row : Row_of-Tree m) → All S (row_code S row)
     of_row end_of-Tree = tt
-    of_row (more_of-Tree tree rest) = both S (tree_code S tree) (row_code S rest) (of_tree tree) (of_row rest)
+    of_row (more_of-Tree tree rest) =
+        both S (tree_code S tree) (row_code S rest) (of_tree tree) (of_row rest)
 
   of_bins : (bs : List ℕ) → All S (bins_code S bs)
   of_bins [] = tt
-  of_bins (b ∷ bs) = both S (tree_code S (bin S b)) (bins_code S bs) (of_tree (bin S b)) (of_bins bs)
+  of_bins (b ∷ bs) = both S (tree_code S (bin S b)) (bins_code S bs) (of_tree (bin S b))
+      (of_bins bs)
 
   of_checkpoint : All S (checkpoint_code S)
-  of_checkpoint = both S (tree_code S (bin S CHECKPOINT)) (Save ∷ []) (of_tree (bin S CHECKPOINT)) (tt, tt)
+  of_checkpoint = both S (tree_code S (bin S CHECKPOINT)) (Save ∷ []) (of_tree (bin S CHECKPOINT))
+      (tt, tt)
 
   of_before : All S (before_code S)
   of_before = (
     tt,
-    both S (bins_code S (PRESTEP ∷ EVOL ∷ POSTSTEP ∷ [])) (Due (suc (length (checkpoint_code S))) ∷ checkpoint_code S)
+    both S (bins_code S (PRESTEP ∷ EVOL ∷ POSTSTEP ∷ []))
+        (Due (suc (length (checkpoint_code S))) ∷ checkpoint_code S)
         (of_bins (PRESTEP ∷ EVOL ∷ POSTSTEP ∷ [])) (tt, of_checkpoint),
   )
 
   of_from : All S (from_code S)
   of_from =
-      both S (tree_code S (bin S ANALYSIS)) (Written (suc (length S.out_vars)) ∷ pieces_code S.out_vars) (of_tree (bin S ANALYSIS))
+      both S (tree_code S (bin S ANALYSIS))
+      (Written (suc (length S.out_vars)) ∷ pieces_code S.out_vars) (of_tree (bin S ANALYSIS))
       (tt, of_pieces S S.out_vars (at_among S.out_vars))
 
   of_loop : All S (loop_code S)
   of_loop =
-      both S (before_code S) (from_code S ++ Next (length (before_code S) + length (from_code S)) ∷ []) of_before
-      (both S (from_code S) (Next (length (before_code S) + length (from_code S)) ∷ []) of_from (tt, tt))
+      both S (before_code S) (from_code S ++ Next (length (before_code S) + length (from_code S))
+      ∷ []) of_before
+      (both S (from_code S) (Next (length (before_code S) + length (from_code S)) ∷ []) of_from
+      (tt, tt))
 
   of_end : All S (end_code S)
-  of_end = both S (bins_code S (TERMINATE ∷ SHUTDOWN ∷ [])) (Halt ∷ []) (of_bins (TERMINATE ∷ SHUTDOWN ∷ [])) (tt, tt)
+  of_end = both S (bins_code S (TERMINATE ∷ SHUTDOWN ∷ [])) (Halt ∷ [])
+      (of_bins (TERMINATE ∷ SHUTDOWN ∷ [])) (tt, tt)
 
   of_code : All S (code S)
   of_code =
@@ -112,5 +131,6 @@ module _ (S : Setup) where
   pub op_writes : (pc : ℕ) → WritesWell S (op_at (code S) pc)
   op_writes pc = at S (code S) pc of_code
 
-  pub piece_among : (pc : ℕ) (v : VarId) → op_at (code S) pc ≡ Piece v → is_among v S.out_vars ≡ true
+  pub piece_among : (pc : ℕ) (v : VarId) → op_at (code S) pc ≡ Piece v
+      → is_among v S.out_vars ≡ true
   piece_among pc v e = subst (WritesWell S) e (op_writes pc)

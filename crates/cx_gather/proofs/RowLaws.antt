@@ -27,20 +27,24 @@ use Rattle.cx_gather.specs.Rows.{row_starts}
 -- ---- lists over a box
 
 -- a list is that of its numbers
-pub of_list : (b : Box3) (level : List ℤ) → length level ≡ point_count b → numbers_in b (number_at b level) ≡ level
+pub of_list : (b : Box3) (level : List ℤ) → length level ≡ point_count b
+    → numbers_in b (number_at b level) ≡ level
 of_list b level e =
     sym (fill_by_all (λ i. number_at b level (point_in b i)) level (point_count b) (pos 0) e
     (λ i l. sym (ap (λ k. slice_index_or level k (pos 0)) (index_at_point b i l))))
 
 -- two lists over a box are one where their numbers are
-pub by_points : (b : Box3) (f : Point → ℤ) (level : List ℤ) → length level ≡ point_count b → ((y : Point) → IsIn b y → number_at b level y ≡ f y) → level ≡ numbers_in b f
+pub by_points : (b : Box3) (f : Point → ℤ) (level : List ℤ) → length level ≡ point_count b
+    → ((y : Point) → IsIn b y → number_at b level y ≡ f y) → level ≡ numbers_in b f
 by_points b f level e h =
     fill_by_all (λ i. f (point_in b i)) level (point_count b) (pos 0) e
-    (λ i l. ap (λ k. slice_index_or level k (pos 0)) (sym (index_at_point b i l)) ∙ h (point_in b i) (point_inside b i l))
+    (λ i l. ap (λ k. slice_index_or level k (pos 0)) (sym (index_at_point b i l))
+    ∙ h (point_in b i) (point_inside b i l))
 
 -- ---- numbers from a place on
 
-put_length : (at : ℕ) (xs values : List ℤ) → at + length values ≤ length xs → length (put_from at xs values) ≡ length xs
+put_length : (at : ℕ) (xs values : List ℤ) → at + length values ≤ length xs
+    → length (put_from at xs values) ≡ length xs
 put_length at xs values h =
     let a = length-append (take at xs) (values ++ drop (at + length values) xs) in
     let b = length-append values (drop (at + length values) xs) in
@@ -55,22 +59,27 @@ module _ (at : ℕ) (xs values : List ℤ) (h : at + length values ≤ length xs
   abbrev rest : List ℤ
   rest = values ++ drop (at + length values) xs
 
-  put_before : (i : ℕ) → i < at → slice_index_or (put_from at xs values) i (pos 0) ≡ slice_index_or xs i (pos 0)
+  put_before : (i : ℕ) → i < at
+      → slice_index_or (put_from at xs values) i (pos 0) ≡ slice_index_or xs i (pos 0)
   put_before i l =
-      get_or_append_left (take at xs) rest (pos 0) i (omega (arith, front, l)) ∙ get_or-take at xs i (pos 0) l
+      get_or_append_left (take at xs) rest (pos 0) i (omega (arith, front, l))
+      ∙ get_or-take at xs i (pos 0) l
 
-  put_within : (j : ℕ) → j < length values → slice_index_or (put_from at xs values) (at + j) (pos 0) ≡ slice_index_or values j (pos 0)
+  put_within : (j : ℕ) → j < length values
+      → slice_index_or (put_from at xs values) (at + j) (pos 0) ≡ slice_index_or values j (pos 0)
   put_within j l =
       let e : at + j - at ≡ j = omega arith in
       get_or-append_right (take at xs) rest at (at + j) (pos 0) front (omega arith)
       ∙ ap (λ k. slice_index_or rest k (pos 0)) e
       ∙ get_or_append_left values (drop (at + length values) xs) (pos 0) j l
 
-  put_behind : (i : ℕ) → at + length values ≤ i → slice_index_or (put_from at xs values) i (pos 0) ≡ slice_index_or xs i (pos 0)
+  put_behind : (i : ℕ) → at + length values ≤ i
+      → slice_index_or (put_from at xs values) i (pos 0) ≡ slice_index_or xs i (pos 0)
   put_behind i l =
       let e : at + length values + (i - at - length values) ≡ i = omega (arith, l) in
       get_or-append_right (take at xs) rest at i (pos 0) front (omega (arith, l))
-      ∙ get_or-append_right values (drop (at + length values) xs) (length values) (i - at) (pos 0) refl (omega (arith, l))
+      ∙ get_or-append_right values (drop (at + length values) xs) (length values) (i - at) (pos 0)
+      refl (omega (arith, l))
       ∙ get_or-drop (at + length values) xs (i - at - length values) (pos 0)
       ∙ ap (λ k. slice_index_or xs k (pos 0)) e
 
@@ -89,50 +98,69 @@ row_gap : (low : Point) (n : ℕ) (y : Point) → OnRow low n y → int_gap low.
 row_gap low n y r = omega (arith, ints, gap_up low.x y.x r.x.from, r.x.below)
 
 beside_row : (low : Point) (n j : ℕ) → j < n → OnRow low n (beside low j)
-beside_row low n j l = record { x = record { from = omega (arith, ints); below = omega (arith, ints, l) }; y = refl; z = refl }
+beside_row low n j l = record {
+  x =
+      record { from = omega (arith, ints); below = omega (arith, ints, l) };
+  y = refl;
+  z = refl;
+}
 
-module _ (b : Box3) (low : Point) (row level : List ℤ) (f : Point → ℤ) (inside : IsIn b low) (high : (low.x +ℤ pos (length row)) ≤ℤ b.high.x)
+module _ (b : Box3) (low : Point) (row level : List ℤ) (f : Point → ℤ) (inside : IsIn b low)
+    (high : (low.x +ℤ pos (length row)) ≤ℤ b.high.x)
     (size : length level ≡ point_count b)
-    (here : (y : Point) → IsIn b y → OnRow low (length row) y → f y ≡ slice_index_or row (int_gap low.x y.x) (pos 0))
-    (there : (y : Point) → IsIn b y → (OnRow low (length row) y → ⊥) → f y ≡ number_at b level y) where
-  fits : index_in b low + length row ≤ length level
-  fits = let e = row_end b low (length row) inside high in omega (arith, e, size)
+    (here : (y : Point) → IsIn b y → OnRow low (length row) y
+    → f y ≡ slice_index_or row (int_gap low.x y.x) (pos 0))
+    (there : (y : Point) → IsIn b y → (OnRow low (length row) y → ⊥) → f y ≡ number_at b level y)
+  where
+    fits : index_in b low + length row ≤ length level
+    fits = let e = row_end b low (length row) inside high in omega (arith, e, size)
 
-  -- a point whose place is in the row lies in it
-  placed : (y : Point) → IsIn b y → (j : ℕ) → j < length row → index_in b y ≡ index_in b low + j → OnRow low (length row) y
-  placed y i j l e =
-      let s = row_index b low j inside.x.from in
-      let q : beside low j ≡ y = index_once b (beside low j) y (row_inside b low (length row) j inside high l) i (s ∙ sym e) in
-      subst (OnRow low (length row)) q (beside_row low (length row) j l)
+    -- a point whose place is in the row lies in it
+    placed : (y : Point) → IsIn b y → (j : ℕ) → j < length row → index_in b y ≡ index_in b low + j
+        → OnRow low (length row) y
+    placed y i j l e =
+        let s = row_index b low j inside.x.from in
+        let q : beside low j ≡ y =
+        index_once b (beside low j) y (row_inside b low (length row) j inside high l) i
+        (s ∙ sym e) in
+        subst (OnRow low (length row)) q (beside_row low (length row) j l)
 
-  place_in : (y : Point) → OnRow low (length row) y → index_in b y ≡ index_in b low + int_gap low.x y.x
-  place_in y r = ap (index_in b) (sym (row_point low (length row) y r)) ∙ row_index b low (int_gap low.x y.x) inside.x.from
+    place_in : (y : Point) → OnRow low (length row) y
+        → index_in b y ≡ index_in b low + int_gap low.x y.x
+    place_in y r = ap (index_in b) (sym (row_point low (length row) y r))
+        ∙ row_index b low (int_gap low.x y.x) inside.x.from
 
-  number : (y : Point) → IsIn b y → number_at b (put_from (index_in b low) level row) y ≡ f y
-  number y i = go (cases_lt (index_in b y) (index_in b low)) (cases_lt (index_in b y) (index_in b low + length row))
-    where
-      go : (index_in b y < index_in b low) ⊎ (index_in b low ≤ index_in b y) → (index_in b y < index_in b low + length row) ⊎ (index_in b low + length row ≤ index_in b y)
-          → number_at b (put_from (index_in b low) level row) y ≡ f y
-      go (inl l) k =
-          put_before (index_in b low) level row fits (index_in b y) l
-          ∙ sym (there y i (λ r. let e = place_in y r in omega (arith, e, l)))
-      go (inr l) (inl k) =
-          let j = index_in b y - index_in b low in
-          let e : index_in b y ≡ index_in b low + j = omega (arith, l) in
-          let m : j < length row = omega (arith, l, k) in
-          let r = placed y i j m e in
-          let g = place_in y r in
-          let q : j ≡ int_gap low.x y.x = omega (arith, e, g) in
-          ap (λ n. slice_index_or (put_from (index_in b low) level row) n (pos 0)) e
-          ∙ put_within (index_in b low) level row fits j m
-          ∙ ap (λ n. slice_index_or row n (pos 0)) q
-          ∙ sym (here y i r)
-      go (inr l) (inr k) =
-          put_behind (index_in b low) level row fits (index_in b y) k
-          ∙ sym (there y i (λ r. let e = place_in y r in let g = row_gap low (length row) y r in omega (arith, e, g, k)))
+    number : (y : Point) → IsIn b y → number_at b (put_from (index_in b low) level row) y ≡ f y
+    number y i = go (cases_lt (index_in b y) (index_in b low))
+        (cases_lt (index_in b y) (index_in b low + length row))
+      where
+        go : (index_in b y < index_in b low) ⊎ (index_in b low ≤ index_in b y)
+            → (index_in b y < index_in b low + length row)
+            ⊎ (index_in b low + length row ≤ index_in b y)
+            → number_at b (put_from (index_in b low) level row) y ≡ f y
+        go (inl l) k =
+            put_before (index_in b low) level row fits (index_in b y) l
+            ∙ sym (there y i (λ r. let e = place_in y r in omega (arith, e, l)))
+        go (inr l) (inl k) =
+            let j = index_in b y - index_in b low in
+            let e : index_in b y ≡ index_in b low + j = omega (arith, l) in
+            let m : j < length row = omega (arith, l, k) in
+            let r = placed y i j m e in
+            let g = place_in y r in
+            let q : j ≡ int_gap low.x y.x = omega (arith, e, g) in
+            ap (λ n. slice_index_or (put_from (index_in b low) level row) n (pos 0)) e
+            ∙ put_within (index_in b low) level row fits j m
+            ∙ ap (λ n. slice_index_or row n (pos 0)) q
+            ∙ sym (here y i r)
+        go (inr l) (inr k) =
+            put_behind (index_in b low) level row fits (index_in b y) k
+            ∙ sym
+            (there y i (λ r. let e = place_in y r in let g = row_gap low (length row) y r in
+            omega (arith, e, g, k)))
 
-  pub row_put : put_from (index_in b low) level row ≡ numbers_in b f
-  row_put = by_points b f (put_from (index_in b low) level row) (put_length (index_in b low) level row fits ∙ size) number
+    pub row_put : put_from (index_in b low) level row ≡ numbers_in b f
+    row_put = by_points b f (put_from (index_in b low) level row)
+        (put_length (index_in b low) level row fits ∙ size) number
 
 -- ---- all rows
 
@@ -147,7 +175,9 @@ in_rows own i y = has_point own y && nat_lt (index_in (row_starts own) (start_of
 -- a whole level with the first so many rows of a part's level
 abbrev pub rows_put : PatchValue → List ℤ → ℕ → List ℤ → List ℤ
 rows_put p part i level =
-    numbers_in (whole p.shape) (λ y. if in_rows p.owned i y then number_at p.local part y else number_at (whole p.shape) level y)
+    numbers_in (whole p.shape)
+    (λ y. if in_rows p.owned i y then number_at p.local part y
+    else number_at (whole p.shape) level y)
 
 below : (k n : ℕ) → k < n → nat_lt k n ≡ true
 below k n l = lt-ltb k n l
@@ -156,7 +186,8 @@ not_below : (k n : ℕ) → n ≤ k → nat_lt k n ≡ false
 not_below k n l = le-ltb k n l
 
 -- a number of a list over a box, by its point
-pub at_point : (b : Box3) (f : Point → ℤ) (y : Point) → IsIn b y → number_at b (numbers_in b f) y ≡ f y
+pub at_point : (b : Box3) (f : Point → ℤ) (y : Point) → IsIn b y
+    → number_at b (numbers_in b f) y ≡ f y
 at_point b f y i = number_in b f (index_in b y) (index_below b y i) ∙ ap f (point_at_index b y i)
 
 is_true_or_false : (b : Bool) → (b ≡ true) ⊎ (b ≡ false)
@@ -165,16 +196,26 @@ is_true_or_false false = inr refl
 
 module _ (own : Box3) where
   starts_in : (y : Point) → IsIn own y → IsIn (row_starts own) (start_of own y)
-  starts_in y h = record { x = record { from = omega (arith, ints); below = omega (arith, ints) }; y = h.y; z = h.z }
+  starts_in y h = record {
+    x = record { from = omega (arith, ints); below = omega (arith, ints) };
+    y = h.y;
+    z = h.z;
+  }
 
-  rows_in : (i : ℕ) (y : Point) → IsIn own y → index_in (row_starts own) (start_of own y) < i → in_rows own i y ≡ true
-  rows_in i y h l = rw (in_from own y h, below (index_in (row_starts own) (start_of own y)) i l) refl
+  rows_in : (i : ℕ) (y : Point) → IsIn own y → index_in (row_starts own) (start_of own y) < i
+      → in_rows own i y ≡ true
+  rows_in i y h l = rw (in_from own y h, below (index_in (row_starts own) (start_of own y)) i l)
+      refl
 
   rows_off : (i : ℕ) (y : Point) → has_point own y ≡ false → in_rows own i y ≡ false
   rows_off i y h = rw h refl
 
-  rows_later : (i : ℕ) (y : Point) → IsIn own y → i ≤ index_in (row_starts own) (start_of own y) → in_rows own i y ≡ false
-  rows_later i y h l = rw (in_from own y h, not_below (index_in (row_starts own) (start_of own y)) i l) refl
+  rows_later : (i : ℕ) (y : Point) → IsIn own y → i ≤ index_in (row_starts own) (start_of own y)
+      → in_rows own i y ≡ false
+  rows_later i y h l = rw (
+    in_from own y h,
+    not_below (index_in (row_starts own) (start_of own y)) i l,
+  ) refl
 
   no_rows : (y : Point) → in_rows own 0 y ≡ false
   no_rows y = go (is_true_or_false (has_point own y))
@@ -183,7 +224,8 @@ module _ (own : Box3) where
       go (inl e) = rows_later 0 y (in_is own y e) (omega arith)
       go (inr e) = rows_off 0 y e
 
-  all_rows : (i : ℕ) (y : Point) → point_count (row_starts own) ≤ i → in_rows own i y ≡ has_point own y
+  all_rows : (i : ℕ) (y : Point) → point_count (row_starts own) ≤ i
+      → in_rows own i y ≡ has_point own y
   all_rows i y l = go (is_true_or_false (has_point own y))
     where
       go : (has_point own y ≡ true) ⊎ (has_point own y ≡ false) → in_rows own i y ≡ has_point own y
@@ -204,31 +246,43 @@ module _ (own : Box3) where
     start_at = omega (arith, ints, start_inside.x.from, start_inside.x.below)
 
     -- the point's row is this one where it starts there
-    same_row : (y : Point) → IsIn own y → index_in (row_starts own) (start_of own y) ≡ i → start_of own y ≡ start
-    same_row y h e = index_once (row_starts own) (start_of own y) start (starts_in y h) start_inside (e ∙ sym (index_at_point (row_starts own) i l))
+    same_row : (y : Point) → IsIn own y → index_in (row_starts own) (start_of own y) ≡ i
+        → start_of own y ≡ start
+    same_row y h e = index_once (row_starts own) (start_of own y) start (starts_in y h) start_inside
+        (e ∙ sym (index_at_point (row_starts own) i l))
 
-    row_is : (n : ℕ) (y : Point) → own.low.x ≤ℤ own.high.x → n ≡ extent own 0 → IsIn own y → index_in (row_starts own) (start_of own y) ≡ i → OnRow start n y
+    row_is : (n : ℕ) (y : Point) → own.low.x ≤ℤ own.high.x → n ≡ extent own 0 → IsIn own y
+        → index_in (row_starts own) (start_of own y) ≡ i → OnRow start n y
     row_is n y o e h q =
         let s = same_row y h q in
         let g = gap_up own.low.x own.high.x o in
         record {
-          x = record { from = omega (arith, ints, start_at, h.x.from); below = omega (arith, ints, start_at, h.x.below, g, e) };
+          x = record {
+            from = omega (arith, ints, start_at, h.x.from);
+            below = omega (arith, ints, start_at, h.x.below, g, e);
+          };
           y = ap (λ (z : Point). z.y) s;
           z = ap (λ (z : Point). z.z) s;
         }
 
-    own_row : (n : ℕ) (y : Point) → own.low.x ≤ℤ own.high.x → n ≡ extent own 0 → OnRow start n y → IsIn own y
+    own_row : (n : ℕ) (y : Point) → own.low.x ≤ℤ own.high.x → n ≡ extent own 0 → OnRow start n y
+        → IsIn own y
     own_row n y o e r =
         let g = gap_up own.low.x own.high.x o in
         record {
-          x = record { from = omega (arith, ints, start_at, r.x.from); below = omega (arith, ints, start_at, r.x.below, g, e) };
+          x = record {
+            from = omega (arith, ints, start_at, r.x.from);
+            below = omega (arith, ints, start_at, r.x.below, g, e);
+          };
           y = subst (IsOn own.low.y own.high.y) (sym r.y) start_inside.y;
           z = subst (IsOn own.low.z own.high.z) (sym r.z) start_inside.z;
         }
 
-    row_place : (n : ℕ) (y : Point) → OnRow start n y → index_in (row_starts own) (start_of own y) ≡ i
+    row_place : (n : ℕ) (y : Point) → OnRow start n y
+        → index_in (row_starts own) (start_of own y) ≡ i
     row_place n y r =
-        ap (index_in (row_starts own)) (same_point (sym start_at) r.y r.z) ∙ index_at_point (row_starts own) i l
+        ap (index_in (row_starts own)) (same_point (sym start_at) r.y r.z)
+        ∙ index_at_point (row_starts own) i l
 
 -- ---- of a patch
 
@@ -245,9 +299,18 @@ module _ (p : PatchValue) (s : IsPatch p) where
       let ys = s.part.y in
       let z = s.part.z in
       record {
-        x = record { from = omega (arith, ints, x.from, h.x.from); below = omega (arith, ints, x.to, h.x.below) };
-        y = record { from = omega (arith, ints, ys.from, h.y.from); below = omega (arith, ints, ys.to, h.y.below) };
-        z = record { from = omega (arith, ints, z.from, h.z.from); below = omega (arith, ints, z.to, h.z.below) };
+        x = record {
+          from = omega (arith, ints, x.from, h.x.from);
+          below = omega (arith, ints, x.to, h.x.below);
+        };
+        y = record {
+          from = omega (arith, ints, ys.from, h.y.from);
+          below = omega (arith, ints, ys.to, h.y.below);
+        };
+        z = record {
+          from = omega (arith, ints, z.from, h.z.from);
+          below = omega (arith, ints, z.to, h.z.below);
+        };
       }
 
   -- the starts of its rows
@@ -260,7 +323,10 @@ module _ (p : PatchValue) (s : IsPatch p) where
 
   starts_own : (y : Point) → IsIn (row_starts p.owned) y → IsIn p.owned y
   starts_own y h = record {
-    x = record { from = h.x.from; below = let o = s.part.x.some in omega (arith, ints, o, h.x.below) };
+    x = record {
+      from = h.x.from;
+      below = let o = s.part.x.some in omega (arith, ints, o, h.x.below);
+    };
     y = h.y;
     z = h.z;
   }
@@ -278,19 +344,33 @@ module _ (p : PatchValue) (s : IsPatch p) (v : VarId) (number : ℕ) where
   abbrev part : List ℤ
   part = level_of p.numbers v number
 
-  pub rows_none : (level : List ℤ) → length level ≡ point_count (whole p.shape) → level ≡ rows_put p part 0 level
+  pub rows_none : (level : List ℤ) → length level ≡ point_count (whole p.shape)
+      → level ≡ rows_put p part 0 level
   rows_none level e =
       sym (of_list (whole p.shape) level e)
-      ∙ numbers_same (whole p.shape) (number_at (whole p.shape) level) (λ y. if in_rows p.owned 0 y then number_at p.local part y else number_at (whole p.shape) level y)
-      (λ y i. sym (ap (λ (b : Bool). if b then number_at p.local part y else number_at (whole p.shape) level y) (no_rows p.owned y)))
+      ∙ numbers_same (whole p.shape) (number_at (whole p.shape) level)
+      (λ y. if in_rows p.owned 0 y then number_at p.local part y
+      else number_at (whole p.shape) level y)
+      (λ y i.
+      sym (ap (λ (b : Bool). if b then number_at p.local part y
+      else number_at (whole p.shape) level y) (no_rows p.owned y)))
 
-  pub rows_all : (level : List ℤ) (i : ℕ) → point_count (row_starts p.owned) ≤ i → rows_put p part i level ≡ put p part level
+  pub rows_all : (level : List ℤ) (i : ℕ) → point_count (row_starts p.owned) ≤ i
+      → rows_put p part i level ≡ put p part level
   rows_all level i l =
-      numbers_same (whole p.shape) (λ y. if in_rows p.owned i y then number_at p.local part y else number_at (whole p.shape) level y) (λ y. if has_point p.owned y then number_at p.local part y else number_at (whole p.shape) level y)
-      (λ y h. ap (λ (b : Bool). if b then number_at p.local part y else number_at (whole p.shape) level y) (all_rows p.owned i y l))
+      numbers_same (whole p.shape)
+      (λ y. if in_rows p.owned i y then number_at p.local part y
+      else number_at (whole p.shape) level y)
+      (λ y. if has_point p.owned y then number_at p.local part y
+      else number_at (whole p.shape) level y)
+      (λ y h. ap (λ (b : Bool). if b then number_at p.local part y
+      else number_at (whole p.shape) level y) (all_rows p.owned i y l))
 
-  pub rows_length : (level : List ℤ) (i : ℕ) → length (rows_put p part i level) ≡ point_count (whole p.shape)
-  rows_length level i = numbers_length (whole p.shape) (λ y. if in_rows p.owned i y then number_at p.local part y else number_at (whole p.shape) level y)
+  pub rows_length : (level : List ℤ) (i : ℕ)
+      → length (rows_put p part i level) ≡ point_count (whole p.shape)
+  rows_length level i = numbers_length (whole p.shape)
+      (λ y. if in_rows p.owned i y then number_at p.local part y
+      else number_at (whole p.shape) level y)
 
   module _ (level : List ℤ) (i : ℕ) (l : i < point_count (row_starts p.owned)) where
     abbrev low : Point
@@ -300,13 +380,16 @@ module _ (p : PatchValue) (s : IsPatch p) (v : VarId) (number : ℕ) where
     row = numbers_along p v number low (extent p.owned 0)
 
     row_size : length row ≡ extent p.owned 0
-    row_size = length-map-range_with_len (λ j. number_at p.local part (beside low j)) 0 (extent p.owned 0)
+    row_size = length-map-range_with_len (λ j. number_at p.local part (beside low j)) 0
+        (extent p.owned 0)
 
     abbrev next : Point → ℤ
-    next y = if in_rows p.owned (i + 1) y then number_at p.local part y else number_at (whole p.shape) level y
+    next y = if in_rows p.owned (i + 1) y then number_at p.local part y
+        else number_at (whole p.shape) level y
 
     abbrev now : Point → ℤ
-    now y = if in_rows p.owned i y then number_at p.local part y else number_at (whole p.shape) level y
+    now y = if in_rows p.owned i y then number_at p.local part y
+        else number_at (whole p.shape) level y
 
     pub row_high : (low.x +ℤ pos (length row)) ≤ℤ p.owned.high.x
     row_high =
@@ -314,23 +397,31 @@ module _ (p : PatchValue) (s : IsPatch p) (v : VarId) (number : ℕ) where
         let g = gap_up p.owned.low.x p.owned.high.x (order p s) in
         omega (arith, ints, a, g, row_size)
 
-    here : (y : Point) → IsIn (whole p.shape) y → OnRow low (length row) y → next y ≡ slice_index_or row (int_gap low.x y.x) (pos 0)
+    here : (y : Point) → IsIn (whole p.shape) y → OnRow low (length row) y
+        → next y ≡ slice_index_or row (int_gap low.x y.x) (pos 0)
     here y h r =
         let own = own_row p.owned i l (length row) y (order p s) row_size r in
         let q = row_place p.owned i l (length row) y r in
         let e = rows_in p.owned (i + 1) y own (omega (arith, q)) in
         let g = row_gap low (length row) y r in
-        ap (λ (b : Bool). if b then number_at p.local part y else number_at (whole p.shape) level y) e
+        ap (λ (b : Bool). if b then number_at p.local part y else number_at (whole p.shape) level y)
+        e
         ∙ ap (number_at p.local part) (sym (row_point low (length row) y r))
-        ∙ sym (get_or-map-range_with_len (λ j. number_at p.local part (beside low j)) 0 (extent p.owned 0) (int_gap low.x y.x) (int_gap low.x y.x) (pos 0) (omega (arith, g, row_size)) (omega arith))
+        ∙ sym (get_or-map-range_with_len (λ j. number_at p.local part (beside low j)) 0
+        (extent p.owned 0) (int_gap low.x y.x) (int_gap low.x y.x) (pos 0)
+        (omega (arith, g, row_size)) (omega arith))
 
-    same_rows : (y : Point) → (OnRow low (length row) y → ⊥) → in_rows p.owned (i + 1) y ≡ in_rows p.owned i y
-    same_rows y off = go (is_true_or_false (has_point p.owned y)) (cases_lt (index_in (row_starts p.owned) (start_of p.owned y)) i)
+    same_rows : (y : Point) → (OnRow low (length row) y → ⊥)
+        → in_rows p.owned (i + 1) y ≡ in_rows p.owned i y
+    same_rows y off = go (is_true_or_false (has_point p.owned y))
+        (cases_lt (index_in (row_starts p.owned) (start_of p.owned y)) i)
       where
         at : IsIn p.owned y → index_in (row_starts p.owned) (start_of p.owned y) ≡ i → ⊥
         at own e = off (row_is p.owned i l (length row) y (order p s) row_size own e)
 
-        go : (has_point p.owned y ≡ true) ⊎ (has_point p.owned y ≡ false) → (index_in (row_starts p.owned) (start_of p.owned y) < i) ⊎ (i ≤ index_in (row_starts p.owned) (start_of p.owned y))
+        go : (has_point p.owned y ≡ true) ⊎ (has_point p.owned y ≡ false)
+            → (index_in (row_starts p.owned) (start_of p.owned y) < i)
+            ⊎ (i ≤ index_in (row_starts p.owned) (start_of p.owned y))
             → in_rows p.owned (i + 1) y ≡ in_rows p.owned i y
         go (inr e) k = rows_off p.owned (i + 1) y e ∙ sym (rows_off p.owned i y e)
         go (inl e) (inl k) =
@@ -339,7 +430,9 @@ module _ (p : PatchValue) (s : IsPatch p) (v : VarId) (number : ℕ) where
         go (inl e) (inr k) =
             let own = in_is p.owned y e in
             let apart = at own in
-            rows_later p.owned (i + 1) y own (more (index_in (row_starts p.owned) (start_of p.owned y)) i k apart) ∙ sym (rows_later p.owned i y own k)
+            rows_later p.owned (i + 1) y own
+            (more (index_in (row_starts p.owned) (start_of p.owned y)) i k apart)
+            ∙ sym (rows_later p.owned i y own k)
           where
             more : (a b : ℕ) → b ≤ a → (a ≡ b → ⊥) → b + 1 ≤ a
             more a b h n = elim (cases_eq a b) [
@@ -347,16 +440,20 @@ module _ (p : PatchValue) (s : IsPatch p) (v : VarId) (number : ℕ) where
               | inr m ↦ omega (arith, h, m)
             ]
 
-    there : (y : Point) → IsIn (whole p.shape) y → (OnRow low (length row) y → ⊥) → next y ≡ number_at (whole p.shape) (rows_put p part i level) y
+    there : (y : Point) → IsIn (whole p.shape) y → (OnRow low (length row) y → ⊥)
+        → next y ≡ number_at (whole p.shape) (rows_put p part i level) y
     there y h off =
-        ap (λ (b : Bool). if b then number_at p.local part y else number_at (whole p.shape) level y) (same_rows y off)
+        ap (λ (b : Bool). if b then number_at p.local part y else number_at (whole p.shape) level y)
+        (same_rows y off)
         ∙ sym (at_point (whole p.shape) now y h)
 
-    pub rows_more : put_from (index_in (whole p.shape) low) (rows_put p part i level) row ≡ rows_put p part (i + 1) level
+    pub rows_more : put_from (index_in (whole p.shape) low) (rows_put p part i level) row
+        ≡ rows_put p part (i + 1) level
     rows_more =
         let inside = start_whole p s low (start_inside p.owned i l) in
         let to = s.part.x.to in
-        row_put (whole p.shape) low row (rows_put p part i level) next inside (omega (arith, ints, row_high, to))
+        row_put (whole p.shape) low row (rows_put p part i level) next inside
+        (omega (arith, ints, row_high, to))
         (numbers_length (whole p.shape) now) here there
 
 module _ (p : PatchValue) (s : IsPatch p) (low : Point) (h : IsIn (row_starts p.owned) low) where
@@ -367,10 +464,13 @@ module _ (p : PatchValue) (s : IsPatch p) (low : Point) (h : IsIn (row_starts p.
       omega (arith, ints, h.x.from, h.x.below, g)
 
   pub row_local : (low.x +ℤ pos (extent p.owned 0)) ≤ℤ p.local.high.x
-  row_local = let r = spans p.shape p.owned p.local s.part 0 (omega arith) in let t = row_to in omega (arith, ints, t, r.high)
+  row_local = let r = spans p.shape p.owned p.local s.part 0 (omega arith) in let t = row_to in
+      omega (arith, ints, t, r.high)
 
   pub row_room : index_in (whole p.shape) low + extent p.owned 0 ≤ point_count (whole p.shape)
-  row_room = let t = row_to in let e = s.part.x.to in row_end (whole p.shape) low (extent p.owned 0) (start_whole p s low h) (omega (arith, ints, t, e))
+  row_room = let t = row_to in let e = s.part.x.to in
+      row_end (whole p.shape) low (extent p.owned 0) (start_whole p s low h)
+      (omega (arith, ints, t, e))
 
 pub owned_few : (p : PatchValue) → IsPatch p → p.owned.high.x ≤ℤ pos 16777216
 owned_few p s = (spans p.shape p.owned p.local s.part 0 (omega arith)).to
@@ -381,10 +481,16 @@ starts_small p s =
     let y = spans p.shape p.owned p.local s.part 1 (omega arith) in
     let z = spans p.shape p.owned p.local s.part 2 (omega arith) in
     let some = s.part.x.some in
-    let a = gap_within p.owned.low.x (p.owned.low.x +ℤ pos 1) p.local.low.x p.local.high.x (omega (arith, ints)) (omega (arith, ints, x.low, x.some, x.high)) (omega (arith, ints, x.low, some, x.high)) in
-    let b = gap_within p.owned.low.y p.owned.high.y p.local.low.y p.local.high.y y.some (omega (arith, ints, y.low, y.some, y.high)) (omega (arith, ints, y.low, y.high)) in
-    let c = gap_within p.owned.low.z p.owned.high.z p.local.low.z p.local.high.z z.some (omega (arith, ints, z.low, z.some, z.high)) (omega (arith, ints, z.low, z.high)) in
-    let n = product (int_gap p.owned.low.x (p.owned.low.x +ℤ pos 1)) (int_gap p.owned.low.y p.owned.high.y) (int_gap p.owned.low.z p.owned.high.z) (extent p.local 0) (extent p.local 1) (extent p.local 2) a b c in
+    let a = gap_within p.owned.low.x (p.owned.low.x +ℤ pos 1) p.local.low.x p.local.high.x
+    (omega (arith, ints)) (omega (arith, ints, x.low, x.some, x.high))
+    (omega (arith, ints, x.low, some, x.high)) in
+    let b = gap_within p.owned.low.y p.owned.high.y p.local.low.y p.local.high.y y.some
+    (omega (arith, ints, y.low, y.some, y.high)) (omega (arith, ints, y.low, y.high)) in
+    let c = gap_within p.owned.low.z p.owned.high.z p.local.low.z p.local.high.z z.some
+    (omega (arith, ints, z.low, z.some, z.high)) (omega (arith, ints, z.low, z.high)) in
+    let n = product (int_gap p.owned.low.x (p.owned.low.x +ℤ pos 1))
+    (int_gap p.owned.low.y p.owned.high.y) (int_gap p.owned.low.z p.owned.high.z)
+    (extent p.local 0) (extent p.local 1) (extent p.local 2) a b c in
     let m = s.small in
     omega (arith, n, m)
   where

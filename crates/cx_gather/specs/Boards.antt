@@ -1,13 +1,13 @@
--- The numbers that parts have given for reductions: each part gives one number to every part, itself included, and takes the oldest one of
--- each part.
+-- The numbers that parts have given for reductions: each part gives one number to every part,
+-- itself included, and takes the oldest one of each part.
 use Rattle.std.specs.Prelude.{ℕ, ◌+◌, ◌==◌, ◌<◌, ◌≤◌, ◌≡◌, ◌^◌, ℤ, pos, List, [], ◌∷◌, ◌++◌, length, map, drop, replicate, slice_index_or, if◌then◌else◌, All}
 use Rattle.cx_plan.specs.declared.item.ItemKind.{ItemKind}
 use Rattle.cx_plan.specs.declared.item.ItemKind.TheVariants.{Sum}
 use Rattle.cx_parts.specs.Holding.{joined}
 use Rattle.cx_reduce.specs.Partials.{Reduced, IsReduction}
 
--- per part the numbers that it gave and that some part has still to take, the oldest first; and per part how many of these it has taken
--- of each
+-- per part the numbers that it gave and that some part has still to take, the oldest first; and per
+-- part how many of these it has taken of each
 pub record Given : Type 0 where
   pub given : List (List Reduced)
   pub taken : List ℕ
@@ -15,7 +15,8 @@ pub record Given : Type 0 where
 -- as many of both, and none takes what wasn't given
 pub record IsGiven (b : Given) : Type 0 where
   pub parts : length b.taken ≡ length b.given
-  pub within : (a k : ℕ) → a < length b.given → k < length b.given → slice_index_or b.taken k 0 ≤ length (slice_index_or b.given a [])
+  pub within : (a k : ℕ) → a < length b.given → k < length b.given
+      → slice_index_or b.taken k 0 ≤ length (slice_index_or b.given a [])
 
 -- the numbers that part a gave and part k hasn't taken, the oldest first
 abbrev pub queue : Given → ℕ → ℕ → List Reduced
@@ -23,7 +24,8 @@ queue b a k = drop (slice_index_or b.taken k 0) (slice_index_or b.given a [])
 
 -- there is a number of each part for part k
 abbrev pub IsReady : Given → ℕ → Type 0
-IsReady b k = (a : ℕ) → a < length b.given → slice_index_or b.taken k 0 < length (slice_index_or b.given a [])
+IsReady b k = (a : ℕ) → a < length b.given
+    → slice_index_or b.taken k 0 < length (slice_index_or b.given a [])
 
 abbrev pub no_number : Reduced
 no_number = record { kind = Sum; points = 0; number = pos 0 }
@@ -59,7 +61,11 @@ pub record AreOne (rs : List Reduced) : Type 0 where
 
 -- the number over all of them
 abbrev pub all_joined : List Reduced → Reduced
-all_joined rs = record { kind = kind_of rs; points = points_of rs; number = joined (kind_of rs) (map number_of rs) }
+all_joined rs = record {
+  kind = kind_of rs;
+  points = points_of rs;
+  number = joined (kind_of rs) (map number_of rs);
+}
 
 -- nothing is given
 abbrev pub none_given : ℕ → Given

@@ -1,5 +1,5 @@
--- States as checkpoints hold them: the scalars' numbers in one list, the levels of the grid variables in another one, variable by
--- variable, the current level first.
+-- States as checkpoints hold them: the scalars' numbers in one list, the levels of the grid
+-- variables in another one, variable by variable, the current level first.
 use Rattle.std.specs.Prelude.{ℕ, zero, suc, ◌+◌, ◌≡◌, ℤ, List, [], ◌∷◌, ◌++◌, map, length, take, drop, if◌then◌else◌, All}
 use Rattle.std.specs.List.{flat_map}
 use Rattle.cx_grid.specs.Boxes.{point_count}
@@ -8,13 +8,7 @@ use Rattle.cx_plan.specs.declared.variable.VarInfo.{VarInfo}
 use Rattle.cx_plan.specs.Setups.{Setup}
 use Rattle.cx_rule.specs.States.{State}
 use Rattle.cx_chk.specs.declared.checkpoint.Checkpoint.{Checkpoint}
-
--- how many numbers a checkpoint holds of a variable that is a scalar, and how many levels of a grid variable
-abbrev pub scalar_count : VarInfo → ℕ
-scalar_count v = if v.scalar then v.levels else 0
-
-abbrev pub level_count : VarInfo → ℕ
-level_count v = if v.scalar then 0 else v.levels
+use Rattle.cx_plan.specs.Whole.{scalar_count, level_count}
 
 -- how many of them all variables have, and those before a variable
 abbrev pub total : (VarInfo → ℕ) → List VarInfo → ℕ
@@ -31,7 +25,8 @@ abbrev pub state_from : List VarInfo → List ℤ → List (List ℤ) → State
 state_from [] scalars levels = []
 state_from (v ∷ vs) scalars levels =
     if v.scalar
-    then map (λ (n : ℤ). n ∷ []) (take v.levels scalars) ∷ state_from vs (drop v.levels scalars) levels
+    then map (λ (n : ℤ). n ∷ []) (take v.levels scalars)
+    ∷ state_from vs (drop v.levels scalars) levels
     else take v.levels levels ∷ state_from vs scalars (drop v.levels levels)
 
 abbrev pub state_of : List VarInfo → Checkpoint → State
@@ -49,7 +44,8 @@ levels_in [] state = []
 levels_in (v ∷ vs) [] = []
 levels_in (v ∷ vs) (levels ∷ more) = (if v.scalar then [] else levels) ++ levels_in vs more
 
--- a checkpoint that holds a whole state of a job: a number for each scalar, and for each level of a grid variable one for each point
+-- a checkpoint that holds a whole state of a job: a number for each scalar, and for each level of a
+-- grid variable one for each point
 pub record HoldsState (setup : Setup) (c : Checkpoint) : Type 0 where
   pub scalars : length c.scalars ≡ total scalar_count setup.vars
   pub levels : length c.levels ≡ total level_count setup.vars

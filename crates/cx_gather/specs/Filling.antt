@@ -29,4 +29,5 @@ local_level p level = numbers_in p.local (at p.shape level)
 abbrev pub levels_filled : PatchValue → VarId → ℕ → ℕ → List (List ℤ) → State → State
 levels_filled p v from zero all state = state
 levels_filled p v from (suc n) all state =
-    with_level (levels_filled p v from n all state) v n (local_level p (slice_index_or all (from + n) []))
+    with_level (levels_filled p v from n all state) v n
+    (local_level p (slice_index_or all (from + n) []))

@@ -13,10 +13,11 @@ use Rattle.cx_model.specs.Turns.{values_of}
 use Rattle.cx_chk.specs.declared.checkpoint.Checkpoint.{Checkpoint}
 use Rattle.cx_field.specs.Patches.{PatchValue}
 use Rattle.cx_parts.specs.Holding.{number_at, state_in}
-use Rattle.cx_gather.specs.Checkpoints.{HoldsState, scalar_count, level_count, total, state_of, scalars_in, levels_in}
+use Rattle.cx_gather.specs.Checkpoints.{HoldsState, total, state_of, scalars_in, levels_in}
+use Rattle.cx_plan.specs.Whole.{scalar_count, level_count}
 
--- Per variable the whole current level that is to be written, x fastest, or a scalar's number; none where the variable isn't written.
--- Beside them stands a whole checkpoint.
+-- Per variable the whole current level that is to be written, x fastest, or a scalar's number; none
+-- where the variable isn't written. Beside them stands a whole checkpoint.
 pub record Buffers : Type 0 where
   pub pieces : List (List ℤ)
   pub state : Checkpoint
@@ -41,7 +42,8 @@ fresh_state setup key =
       key = key;
       lengths = 0 ∷ [];
       scalars = replicate (total scalar_count setup.vars) (pos 0);
-      levels = replicate (total level_count setup.vars) (replicate (point_count (whole setup.shape)) (pos 0));
+      levels = replicate (total level_count setup.vars)
+          (replicate (point_count (whole setup.shape)) (pos 0));
     }
 
 abbrev pub fresh : Setup → List ℕ → Buffers
@@ -59,7 +61,8 @@ pub record HasPiece (setup : Setup) (b : Buffers) (v : VarId) : Type 0 where
 
 -- a buffer for each variable that is written, and for a checkpoint
 pub record HasRoom (setup : Setup) (b : Buffers) : Type 0 where
-  pub pieces : (v : VarId) → v.0 < length setup.vars → is_among v setup.out_vars ≡ true → HasPiece setup b v
+  pub pieces : (v : VarId) → v.0 < length setup.vars → is_among v setup.out_vars ≡ true
+      → HasPiece setup b v
   pub lengths : length b.state.lengths ≡ 1
   pub state : HoldsState setup b.state
 
@@ -74,7 +77,8 @@ pub record IsPatchOf (setup : Setup) (p : PatchValue) : Type 0 where
 abbrev pub put : PatchValue → List ℤ → List ℤ → List ℤ
 put p part level =
     numbers_in (whole p.shape)
-    (λ y. if has_point p.owned y then number_at p.local part y else number_at (whole p.shape) level y)
+    (λ y. if has_point p.owned y then number_at p.local part y
+    else number_at (whole p.shape) level y)
 
 -- the same, level by level
 abbrev pub put_all : PatchValue → List (List ℤ) → List (List ℤ) → List (List ℤ)
@@ -90,7 +94,10 @@ piece_put scalar k p v piece =
     else put p (level_of p.numbers v 0) piece
 
 abbrev pub with_piece : Setup → ℕ → PatchValue → VarId → Buffers → Buffers
-with_piece setup k p v b = record b { pieces = slice_set b.pieces v.0 (piece_put (is_scalar setup v) k p v (piece_of b v)) }
+with_piece setup k p v b =
+    record b {
+      pieces = slice_set b.pieces v.0 (piece_put (is_scalar setup v) k p v (piece_of b v));
+    }
 
 -- a checkpoint with a part's numbers; the scalars are those of part 0
 abbrev pub state_put : Setup → ℕ → PatchValue → Checkpoint → Checkpoint
@@ -118,7 +125,8 @@ with_name iteration length b =
 
 -- ---- a part filled from a checkpoint
 
--- the numbers of a part of these local points by a whole state: each point, a ghost too, has the number of the point of the grid
--- that it names
+-- the numbers of a part of these local points by a whole state: each point, a ghost too, has the
+-- number of the point of the grid that it names
 abbrev pub scattered : Setup → Checkpoint → PatchValue → State
-scattered setup c p = state_in setup (values_of setup (state_of setup.vars c)) p.local 0 (state_of setup.vars c)
+scattered setup c p = state_in setup (values_of setup (state_of setup.vars c)) p.local 0
+    (state_of setup.vars c)

@@ -8,7 +8,10 @@ use Rattle.cx_gather.specs.Gathering.{put}
 
 -- the first points of the rows of a box
 abbrev pub row_starts : Box3 → Box3
-row_starts b = record { low = b.low; high = record { x = b.low.x +ℤ pos 1; y = b.high.y; z = b.high.z } }
+row_starts b = record {
+  low = b.low;
+  high = record { x = b.low.x +ℤ pos 1; y = b.high.y; z = b.high.z };
+}
 
 -- the whole levels from a place on with the numbers of a variable's first levels
 abbrev pub levels_put : PatchValue → VarId → ℕ → ℕ → List (List ℤ) → List (List ℤ)

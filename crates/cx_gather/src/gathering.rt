@@ -7,11 +7,11 @@ ghost use Rattle.cx_plan.specs.Lookups.{variable};
 ghost use Rattle.cx_plan.specs.declared.variable.VarInfo.{VarInfo};
 ghost use Rattle.cx_plan.specs.Regions.{is_among};
 ghost use Rattle.cx_plan.specs.Setups.{setup_of};
-ghost use Rattle.cx_plan.specs.Whole.{IsWhole};
+ghost use Rattle.cx_plan.specs.Whole.{IsWhole, scalar_count, level_count};
 ghost use Rattle.cx_rule.specs.States.{scalar_of};
 ghost use Rattle.cx_model.specs.States.{number_count};
 ghost use Rattle.cx_field.specs.Patches.{IsPatch, IsScalar};
-ghost use Rattle.cx_gather.specs.Checkpoints.{HoldsState, scalar_count, level_count, total, scalars_in, levels_in};
+ghost use Rattle.cx_gather.specs.Checkpoints.{HoldsState, total, scalars_in, levels_in};
 ghost use Rattle.cx_parts.specs.Operations.{IsCurrent};
 ghost use Rattle.cx_gather.specs.Gathering.{fresh, fresh_piece, fresh_state, piece_of, piece_put, put_all, HasPiece, IsPatchOf, with_piece, with_state, with_name};
 ghost use Rattle.cx_gather.specs.Filling.{IsCurrentOf, scalar_put};
@@ -71,6 +71,13 @@ impl Gathering {
         ensures { result.now ≡ self.now.state }
     {
         &self.state
+    }
+
+    /// The checkpoint, without the other buffers.
+    pub fn into_state(self) -> Checkpoint
+        ensures { result ≡ self.state }
+    {
+        self.state
     }
 
     /// Sets a variable's current level to that of part `part` at the points that it owns; all other numbers stay. A scalar has the
@@ -144,6 +151,7 @@ fn fresh_piece(alloc: Global, job: &Job, v: VarId) -> Result<List<i64>, Memory>
     }
 }
 
+/// For each variable that is written, a whole level or a scalar of zeros; for another one nothing.
 fn fresh_pieces(alloc: Global, job: &Job) -> Result<Vec<List<i64>>, Memory>
     requires { IsWhole job.now }
     ensures { IfOk result (λ pieces. pieces.items
@@ -165,6 +173,7 @@ fn one(alloc: Global, number: u64) -> Result<List<u64>, Memory>
     Ok(numbers)
 }
 
+/// A checkpoint into which nothing is put yet.
 fn fresh_state(alloc: Global, job: &Job, key: Text) -> Result<Checkpoint, Memory>
     requires { IsWhole job.now }
     ensures { IfOk result (λ state. state ≡ fresh_state (setup_of job.now) key) }
@@ -201,6 +210,7 @@ fn put_piece(
     put_current(alloc, piece, scalar, part, v, patch);
 }
 
+/// Puts a part's share of level 0 of a variable into the whole; a scalar is taken from one part.
 fn put_current(
     alloc: Global,
     piece: &mut List<i64>,
@@ -242,7 +252,7 @@ fn set_number(alloc: Global, list: &mut List<i64>, number: i64)
     *list = List::new(numbers);
 }
 
-/// The same for a length.
+/// Sets a list of one length.
 fn set_length(alloc: Global, list: &mut List<u64>, output: u64)
     requires { length list.old ≡ 1 }
     ensures { list.new ≡ output ∷ [] }
@@ -269,6 +279,7 @@ fn put_scalars(alloc: Global, scalars: &mut List<i64>, part: u32, vars: &[VarInf
     }
 }
 
+/// Sets the scalars of a checkpoint to those of the part.
 fn set_scalars(scalars: &mut Vec<i64>, vars: &[VarInfo], patch: &Patch)
     requires held { IsPatch patch.now }
     requires vars { patch.now.vars ≡ vars.now }
@@ -311,6 +322,7 @@ fn put_grids(alloc: Global, levels: &mut List<List<i64>>, vars: &[VarInfo], patc
     *levels = List::new(all);
 }
 
+/// Puts a part's share of all stored levels into a checkpoint.
 fn put_variables(alloc: Global, all: &mut Vec<List<i64>>, vars: &[VarInfo], patch: &Patch)
     requires held { IsPatch patch.now }
     requires vars { patch.now.vars ≡ vars.now }

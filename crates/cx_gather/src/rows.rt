@@ -75,7 +75,8 @@ fn put_rows(level: &mut Vec<i64>, patch: &Patch, v: VarId, number: u8)
     }
 }
 
-/// The same for a list. The empty list that stands in its place meanwhile takes no memory.
+/// Sets the numbers of a whole level, here a list, at a part's own points to those of a level of the part.
+/// The empty list that takes its place meanwhile takes no memory.
 pub(crate) fn put_level(alloc: Global, level: &mut List<i64>, patch: &Patch, v: VarId, number: u8)
     requires stored { IsGridLevel patch.now v number }
     requires room { length level.old ≡ point_count (whole patch.now.shape) }
@@ -86,7 +87,7 @@ pub(crate) fn put_level(alloc: Global, level: &mut List<i64>, patch: &Patch, v: 
     *level = List::new(numbers);
 }
 
-/// The same for the first levels of a variable, whose whole levels stand from a place on.
+/// Sets the numbers of a variable's whole levels, the first of them at `from`, at a part's own points.
 pub(crate) fn put_levels(
     alloc: Global,
     all: &mut Vec<List<i64>>,
@@ -106,7 +107,7 @@ pub(crate) fn put_levels(
     }
 }
 
-/// The same for one of several whole levels.
+/// Sets the numbers of one of several whole levels at a part's own points to those of a level of the part.
 fn put_level_at(
     alloc: Global,
     all: &mut Vec<List<i64>>,

@@ -2,7 +2,8 @@
 ghost use Rattle.std.specs.Prelude.{◌≡◌, ◌≤◌, ◌<◌, IfOk, replicate, pos, length};
 ghost use Rattle.cx_grid.specs.Boxes.{point_count};
 ghost use Rattle.cx_grid.specs.Grid.{IsShape, whole};
-ghost use Rattle.cx_gather.specs.Checkpoints.{scalar_count, level_count, total};
+ghost use Rattle.cx_gather.specs.Checkpoints.{total};
+ghost use Rattle.cx_plan.specs.Whole.{scalar_count, level_count};
 
 use cx_grid::{Shape, count, whole};
 use cx_plan::VarInfo;

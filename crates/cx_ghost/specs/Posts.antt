@@ -11,12 +11,14 @@ use Rattle.cx_field.specs.Faces.{AreGrid, box_numbers}
 use Rattle.cx_wire.specs.declared.mail.Head.{Head}
 use Rattle.cx_wire.specs.declared.mail.Mail.{Mail}
 use Rattle.cx_wire.specs.Messages.{Sent, sent, IsCounted}
+use Rattle.cx_plan.specs.Lists.{only, is_at}
 
 -- how many values a face of these variables has
 abbrev pub face_count : Parts → ℕ → ℕ → List VarId → Side → ℕ
 face_count c k d vars side = length vars * point_count (face_of c k d side)
 
--- a part with its patch, a direction of the grid, and stored grid variables whose faces have fewer than 2^32 values
+-- a part with its patch, a direction of the grid, and stored grid variables whose faces have fewer
+-- than 2^32 values
 pub record CanExchange (c : Parts) (k d : ℕ) (vars : List VarId) (p : PatchValue) : Type 0 where
   pub whole : IsWhole c
   pub part : k < part_count c
@@ -29,32 +31,31 @@ pub record CanExchange (c : Parts) (k d : ℕ) (vars : List VarId) (p : PatchVal
 
 -- ---- messages
 
--- whether a neighbour is this part
-abbrev pub is_at : Option ℕ → ℕ → Bool
-is_at None b = false
-is_at (Some j) b = j == b
-
-abbrev pub only : {A : Type 0} → Bool → List A → List A
-only true xs = xs
-only false xs = []
-
 abbrev pub face_head : Parts → ℕ → ℕ → List VarId → ℕ → Side → Head
-face_head c k d vars op side = record { op = op; dir = d; side = side; count = face_count c k d vars side }
+face_head c k d vars op side =
+    record { op = op; dir = d; side = side; count = face_count c k d vars side }
 
 -- a face for part b
-abbrev pub posted_face : {tells : Type 0} → Parts → ℕ → ℕ → List VarId → ℕ → (Side → tells → List ℤ) → ℕ → Side → List (Sent tells)
+abbrev pub posted_face : {tells : Type 0} → Parts → ℕ → ℕ → List VarId → ℕ → (Side → tells → List ℤ)
+    → ℕ → Side → List (Sent tells)
 posted_face c k d vars op values b side =
-    only (is_at (partner c k d side) b) (record { head = face_head c k d vars op side; values = values side } ∷ [])
+    only (is_at (partner c k d side) b)
+    (record { head = face_head c k d vars op side; values = values side } ∷ [])
 
-abbrev pub low_face : {tells : Type 0} → Parts → ℕ → ℕ → List VarId → ℕ → (Side → tells → List ℤ) → ℕ → List (Sent tells)
+abbrev pub low_face : {tells : Type 0} → Parts → ℕ → ℕ → List VarId → ℕ → (Side → tells → List ℤ)
+    → ℕ → List (Sent tells)
 low_face c k d vars op values b = posted_face c k d vars op values b Low
 
--- what part b is sent: the low face, where it is the low neighbour, and then the high face, where it is the high one
-abbrev pub posted_faces : {tells : Type 0} → Parts → ℕ → ℕ → List VarId → ℕ → (Side → tells → List ℤ) → ℕ → List (Sent tells)
-posted_faces c k d vars op values b = posted_face c k d vars op values b Low ++ posted_face c k d vars op values b High
+-- what part b is sent: the low face, where it is the low neighbour, and then the high face, where
+-- it is the high one
+abbrev pub posted_faces : {tells : Type 0} → Parts → ℕ → ℕ → List VarId → ℕ
+    → (Side → tells → List ℤ) → ℕ → List (Sent tells)
+posted_faces c k d vars op values b =
+    posted_face c k d vars op values b Low ++ posted_face c k d vars op values b High
 
 -- the faces of a patch
-abbrev pub own_faces : {tells : Type 0} → Parts → ℕ → ℕ → List VarId → PatchValue → Side → tells → List ℤ
+abbrev pub own_faces : {tells : Type 0} → Parts → ℕ → ℕ → List VarId → PatchValue → Side → tells
+    → List ℤ
 own_faces c k d vars p side told = box_numbers p (face_of c k d side) vars
 
 -- ---- queues
@@ -75,7 +76,11 @@ IsBelow n (Some j) = j < n
 
 -- a mail with these values
 abbrev pub face_mail : ℕ → ℕ → Side → List ℤ → Mail
-face_mail op d side values = record { head = record { op = op; dir = d; side = side; count = length values }; values = values }
+face_mail op d side values =
+    record {
+      head = record { op = op; dir = d; side = side; count = length values };
+      values = values;
+    }
 
 abbrev pub mail_to : Option ℕ → Mail → Option (ℕ × Mail)
 mail_to None mail = None

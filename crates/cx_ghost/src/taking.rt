@@ -6,8 +6,9 @@ ghost use Rattle.cx_cut.specs.Cuts.{part_count};
 ghost use Rattle.cx_field.specs.Faces.{AreGrid, halo_in};
 ghost use Rattle.cx_wire.specs.Queues.{SameQueues};
 ghost use Rattle.cx_wire.specs.Received.{counted};
-ghost use Rattle.cx_ghost.specs.Posts.{CanExchange, IsBelow, is_at};
+ghost use Rattle.cx_ghost.specs.Posts.{CanExchange, IsBelow};
 ghost use Rattle.cx_ghost.specs.Takes.{IsReady, missing, missing_from, TellsMissing, Fills, Keeps, TakesNeeded, Stops, taken_count, taken_sum, IsNotYet, FindsMissing, FilledFrom, IsFronted, count_from, sum_from};
+ghost use Rattle.cx_plan.specs.Lists.{is_at};
 
 use crate::faults::TakeFault;
 use crate::partner::partner;

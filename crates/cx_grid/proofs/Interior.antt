@@ -7,29 +7,36 @@ use Rattle.cx_grid.specs.declared.shapes.Shape.{Shape}
 use Rattle.cx_grid.specs.Boxes.{IsOn, IsIn}
 use Rattle.cx_grid.specs.Grid.{is_periodic, HasInterior, is_boundary, source, whole, IsShape, IsNearGrid}
 
-pub in_no_face : (periodic : Bool) (n g c : ℤ) → pos 0 ≤ℤ g → IsTrue periodic ⊎ ((pos 2 *ℤ g +ℤ pos 1) ≤ℤ n)
+pub in_no_face : (periodic : Bool) (n g c : ℤ) → pos 0 ≤ℤ g
+    → IsTrue periodic ⊎ ((pos 2 *ℤ g +ℤ pos 1) ≤ℤ n)
     → let s : ℤ = if periodic then c else int_max g (int_min c (n -ℤ g -ℤ pos 1)) in
     (not periodic && (int_lt s g || int_le (n -ℤ g) s)) ≡ false
 in_no_face true n g c some wide = refl
 in_no_face false n g c some (inl w) = absurd cc
 in_no_face false n g c some (inr w) = grind (arith, ints, clamps)
 
-pub on_axis : (periodic : Bool) (n g c : ℤ) → pos 0 ≤ℤ g → IsTrue periodic ⊎ ((pos 2 *ℤ g +ℤ pos 1) ≤ℤ n)
-    → IsTrue periodic ⊎ IsOn (pos 0) n (if periodic then c else int_max g (int_min c (n -ℤ g -ℤ pos 1)))
+pub on_axis : (periodic : Bool) (n g c : ℤ) → pos 0 ≤ℤ g
+    → IsTrue periodic ⊎ ((pos 2 *ℤ g +ℤ pos 1) ≤ℤ n)
+    → IsTrue periodic ⊎ IsOn (pos 0) n
+    (if periodic then c else int_max g (int_min c (n -ℤ g -ℤ pos 1)))
 on_axis true n g c some wide = inl refl
 on_axis false n g c some (inl w) = absurd cc
-on_axis false n g c some (inr w) = inr (record { from = omega (arith, ints, clamps); below = omega (arith, ints, clamps) })
+on_axis false n g c some (inr w) =
+    inr (record { from = omega (arith, ints, clamps); below = omega (arith, ints, clamps) })
 
-stays_on : (periodic : Bool) (n g c : ℤ) → pos 0 ≤ℤ g → IsTrue periodic ⊎ ((pos 2 *ℤ g +ℤ pos 1) ≤ℤ n) → IsOn (pos 0) n c
+stays_on : (periodic : Bool) (n g c : ℤ) → pos 0 ≤ℤ g
+    → IsTrue periodic ⊎ ((pos 2 *ℤ g +ℤ pos 1) ≤ℤ n) → IsOn (pos 0) n c
     → IsOn (pos 0) n (if periodic then c else int_max g (int_min c (n -ℤ g -ℤ pos 1)))
 stays_on true n g c some wide on = on
 stays_on false n g c some (inl w) on = absurd cc
-stays_on false n g c some (inr w) on = record { from = omega (arith, ints, clamps); below = omega (arith, ints, clamps) }
+stays_on false n g c some (inr w) on =
+    record { from = omega (arith, ints, clamps); below = omega (arith, ints, clamps) }
 
 no_face : (x y z : Bool) → x ≡ false → y ≡ false → z ≡ false → (x || (y || z)) ≡ false
 no_face x y z e f g = rw (e, f, g) refl
 
-pub interior : (s : Shape) (p : Point) → IsShape s → HasInterior s → is_boundary s (source s p) ≡ false
+pub interior : (s : Shape) (p : Point) → IsShape s → HasInterior s
+    → is_boundary s (source s p) ≡ false
 interior s p h wide =
     no_face _ _ _
     (in_no_face (is_periodic s 0) s.n.x s.ghost_.x p.x h.x.least_ghosts wide.x)
@@ -44,7 +51,8 @@ near s p h wide =
       z = on_axis (is_periodic s 2) s.n.z s.ghost_.z p.z h.z.least_ghosts wide.z;
     }
 
-pub inside : (s : Shape) (p : Point) → IsShape s → HasInterior s → IsIn (whole s) p → IsIn (whole s) (source s p)
+pub inside : (s : Shape) (p : Point) → IsShape s → HasInterior s → IsIn (whole s) p
+    → IsIn (whole s) (source s p)
 inside s p h wide on =
     record {
       x = stays_on (is_periodic s 0) s.n.x s.ghost_.x p.x h.x.least_ghosts wide.x on.x;

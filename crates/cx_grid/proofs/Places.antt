@@ -54,7 +54,8 @@ pub record Bounds (x nx y ny z nz : ℕ) : Type 0 where
 pub bounds : (x nx y ny z nz : ℕ) → x < nx → y < ny → z < nz → Bounds x nx y ny z nz
 bounds x nx y ny z nz in_x in_y in_z =
     let rows : y + ny * z < ny * nz = radix y ny z nz in_y in_z in
-    let all : x + nx * (y + ny * z) < nx * (ny * nz) = radix x nx (y + ny * z) (ny * nz) in_x rows in
+    let all : x + nx * (y + ny * z) < nx * (ny * nz) =
+    radix x nx (y + ny * z) (ny * nz) in_x rows in
     let some : 1 ≤ nx = omega arith in
     record { below = rw mul_assoc all; rows = at_least (y + ny * z) nx some }
 
@@ -77,7 +78,13 @@ sides k a b c below =
     let e : a * b * c ≡ c * b * a = grind arith in
     let swapped : k < c * b * a = omega (arith, below, e) in
     let rows : k / a < c * b = (div-lt_iff_lt-mul some_a).1 swapped in
-    record { a_some = some_a; b_some = some_b; first = omega arith; second = omega arith; last = (div-lt_iff_lt-mul some_b).1 rows }
+    record {
+      a_some = some_a;
+      b_some = some_b;
+      first = omega arith;
+      second = omega arith;
+      last = (div-lt_iff_lt-mul some_b).1 rows;
+    }
 
 pub record Split (x nx y ny z : ℕ) : Type 0 where
   pub first : (x + nx * (y + ny * z)) % nx ≡ x
@@ -88,7 +95,8 @@ pub split : (x nx y ny z : ℕ) → x < nx → y < ny → Split x nx y ny z
 split x nx y ny z in_x in_y =
     let e : x + nx * (y + ny * z) ≡ (y + ny * z) * nx + x = grind arith in
     let e2 : y + ny * z ≡ z * ny + y = grind arith in
-    let rows : (x + nx * (y + ny * z)) / nx ≡ y + ny * z = rw e (div-mul-add (y + ny * z) nx x in_x) in
+    let rows : (x + nx * (y + ny * z)) / nx ≡ y + ny * z =
+    rw e (div-mul-add (y + ny * z) nx x in_x) in
     record {
       first = rw e (mod-mul-add (y + ny * z) nx x in_x);
       second = rw (rows, e2) (mod-mul-add z ny y in_y);
@@ -101,7 +109,8 @@ joined i a b some_a some_b =
     rw inner (omega arith)
 
 -- points are equal where their numbers are
-pub same_point : {x x' y y' z z' : ℤ} → x ≡ x' → y ≡ y' → z ≡ z' → ◌≡◌ {A = Point} record { x = x; y = y; z = z } record { x = x'; y = y'; z = z' }
+pub same_point : {x x' y y' z z' : ℤ} → x ≡ x' → y ≡ y' → z ≡ z'
+    → ◌≡◌ {A = Point} record { x = x; y = y; z = z } record { x = x'; y = y'; z = z' }
 same_point p q r i = record { x = p i; y = q i; z = r i }
 
 pub index_below : (b : Box3) (p : Point) → IsIn b p → index_in b p < point_count b
@@ -110,7 +119,8 @@ index_below b p h =
 
 pub point_at_index : (b : Box3) (p : Point) → IsIn b p → point_in b (index_in b p) ≡ p
 point_at_index b p h =
-    let s = split (int_gap b.low.x p.x) (extent b 0) (int_gap b.low.y p.y) (extent b 1) (int_gap b.low.z p.z) (gap_below _ _ _ h.x) (gap_below _ _ _ h.y) in
+    let s = split (int_gap b.low.x p.x) (extent b 0) (int_gap b.low.y p.y) (extent b 1)
+    (int_gap b.low.z p.z) (gap_below _ _ _ h.x) (gap_below _ _ _ h.y) in
     same_point
     (ap (λ n. b.low.x +ℤ pos n) s.first ∙ gap_up _ _ h.x.from)
     (ap (λ n. b.low.y +ℤ pos n) s.second ∙ gap_up _ _ h.y.from)
@@ -124,7 +134,13 @@ point_inside b i h =
 pub index_at_point : (b : Box3) (i : ℕ) → i < point_count b → index_in b (point_in b i) ≡ i
 index_at_point b i h =
     let s = sides i (extent b 0) (extent b 1) (extent b 2) h in
-    rw (gap_at b.low.x (i % extent b 0), gap_at b.low.y (i / extent b 0 % extent b 1), gap_at b.low.z (i / extent b 0 / extent b 1)) (joined i (extent b 0) (extent b 1) s.a_some s.b_some)
+    rw (
+      gap_at b.low.x (i % extent b 0),
+      gap_at b.low.y (i / extent b 0 % extent b 1),
+      gap_at b.low.z (i / extent b 0 / extent b 1),
+    )
+    (joined i (extent b 0) (extent b 1) s.a_some s.b_some)
 
-pub index_once : (b : Box3) (p q : Point) → IsIn b p → IsIn b q → index_in b p ≡ index_in b q → p ≡ q
+pub index_once : (b : Box3) (p q : Point) → IsIn b p → IsIn b q → index_in b p ≡ index_in b q
+    → p ≡ q
 index_once b p q hp hq e = sym (point_at_index b p hp) ∙ ap (point_in b) e ∙ point_at_index b q hq

@@ -21,11 +21,13 @@ lt_from : (a b : ℤ) → a <ℤ b → int_lt a b ≡ true
 lt_from a b h = grind (arith, ints)
 
 pub on_from : (low high c : ℤ) → IsOn low high c → is_on low high c ≡ true
-on_from low high c h = and_from (int_le low c) (int_lt c high) (le_from low c h.from) (lt_from c high h.below)
+on_from low high c h = and_from (int_le low c) (int_lt c high) (le_from low c h.from)
+    (lt_from c high h.below)
 
 pub in_is : (b : Box3) (p : Point) → has_point b p ≡ true → IsIn b p
 in_is b p e =
-    let u = and_parts (is_on b.low.x b.high.x p.x && is_on b.low.y b.high.y p.y) (is_on b.low.z b.high.z p.z) e in
+    let u = and_parts (is_on b.low.x b.high.x p.x && is_on b.low.y b.high.y p.y)
+    (is_on b.low.z b.high.z p.z) e in
     let v = and_parts (is_on b.low.x b.high.x p.x) (is_on b.low.y b.high.y p.y) u.0 in
     record {
       x = on_is b.low.x b.high.x p.x v.0;
@@ -55,13 +57,16 @@ first_index b =
 not_on : (low high : ℤ) → is_on low high low ≡ false → int_gap low high ≡ 0
 not_on low high e =
     by_lt_z low high
-    (λ l. absurd (off (sym (on_from low high low (record { from = omega (arith, ints); below = l })) ∙ e)))
+    (λ l.
+    absurd
+    (off (sym (on_from low high low (record { from = omega (arith, ints); below = l })) ∙ e)))
     (λ l. gap_none low high l)
   where
     off : true ≡ false → ⊥
     off t = cc
 
-none_of : (x y z : Bool) (a b c : ℕ) → (x && y && z) ≡ false → (x ≡ false → a ≡ 0) → (y ≡ false → b ≡ 0) → (z ≡ false → c ≡ 0)
+none_of : (x y z : Bool) (a b c : ℕ) → (x && y && z) ≡ false → (x ≡ false → a ≡ 0)
+    → (y ≡ false → b ≡ 0) → (z ≡ false → c ≡ 0)
     → a * b * c ≡ 0
 none_of true true true a b c e p q r = absurd cc
 none_of true true false a b c e p q r = let n : c ≡ 0 = r refl in rw n (grind arith)
@@ -72,7 +77,8 @@ none_of false y z a b c e p q r = let n : a ≡ 0 = p refl in rw n (grind arith)
 pub no_points : (b : Box3) → has_point b b.low ≡ false → points_in b ≡ []
 no_points b e =
     let n : point_count b ≡ 0 =
-    none_of (is_on b.low.x b.high.x b.low.x) (is_on b.low.y b.high.y b.low.y) (is_on b.low.z b.high.z b.low.z) (extent b 0) (extent b 1) (extent b 2) e
+    none_of (is_on b.low.x b.high.x b.low.x) (is_on b.low.y b.high.y b.low.y)
+    (is_on b.low.z b.high.z b.low.z) (extent b 0) (extent b 1) (extent b 2) e
     (not_on b.low.x b.high.x) (not_on b.low.y b.high.y) (not_on b.low.z b.high.z)
     in
     ap (λ k. map (point_in b) (range_with_len 0 k)) n

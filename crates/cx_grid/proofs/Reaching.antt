@@ -5,7 +5,8 @@ use Rattle.cx_grid.specs.Boxes.{point_count}
 use Rattle.cx_grid.specs.Windows.{reach_box}
 
 pub side : (there : Bool) (reach : ℕ)
-    → int_gap (if there then neg_ℤ (pos reach) else pos 0) (if there then pos (reach + 1) else pos 1) ≡ (if there then 2 * reach + 1 else 1)
+    → int_gap (if there then neg_ℤ (pos reach) else pos 0)
+    (if there then pos (reach + 1) else pos 1) ≡ (if there then 2 * reach + 1 else 1)
 side true zero = refl
 side true (suc reach) = omega arith
 side false reach = refl

@@ -1,4 +1,5 @@
--- Boxes of points, and the one order of their points: x is the fastest, then y. The directions x, y and z are 0, 1 and 2.
+-- Boxes of points, and the one order of their points: x is the fastest, then y. The directions x, y
+-- and z are 0, 1 and 2.
 use Rattle.std.specs.Prelude.{ℕ, zero, suc, ◌+◌, ◌*◌, ◌/◌, ◌%◌, ◌^◌, ◌<◌, Bool, ◌&&◌, ℤ, pos, ◌+ℤ◌, ◌≤ℤ◌, ◌<ℤ◌, int_le, int_lt, List, map}
 use Rattle.std.specs.List.{range_with_len}
 use Rattle.std.specs.Int.{int_gap}
@@ -35,7 +36,8 @@ abbrev pub is_on : ℤ → ℤ → ℤ → Bool
 is_on low high c = int_le low c && int_lt c high
 
 abbrev pub has_point : Box3 → Point → Bool
-has_point b p = is_on b.low.x b.high.x p.x && is_on b.low.y b.high.y p.y && is_on b.low.z b.high.z p.z
+has_point b p = is_on b.low.x b.high.x p.x && is_on b.low.y b.high.y p.y
+    && is_on b.low.z b.high.z p.z
 
 -- no end of a box is below its start
 pub record IsBox (b : Box3) : Type 0 where
@@ -56,7 +58,8 @@ IsSmall b = point_count b < 2 ^ 32
 
 -- the place of a point in a box
 abbrev pub index_in : Box3 → Point → ℕ
-index_in b p = int_gap b.low.x p.x + extent b 0 * (int_gap b.low.y p.y + extent b 1 * int_gap b.low.z p.z)
+index_in b p = int_gap b.low.x p.x
+    + extent b 0 * (int_gap b.low.y p.y + extent b 1 * int_gap b.low.z p.z)
 
 -- the point at a place of a box
 abbrev pub point_in : Box3 → ℕ → Point

@@ -1,4 +1,5 @@
--- The grid: which shapes there are, wrap, boundary and interior, and levels as whole lists of numbers.
+-- The grid: which shapes there are, wrap, boundary and interior, and levels as whole lists of
+-- numbers.
 use Rattle.std.specs.Prelude.{ℕ, ◌≡◌, ◌<◌, ◌≤◌, ◌^◌, Bool, false, IsTrue, ◌&&◌, ◌||◌, not, ℤ, pos, ◌+ℤ◌, ◌-ℤ◌, ◌*ℤ◌, ◌≤ℤ◌, int_lt, int_le, List, if◌then◌else◌, slice_index_or, ◌⊎◌}
 use Rattle.std.specs.Int.{int_rem_euclid, int_min, int_max}
 use Rattle.cx_grid.specs.declared.boxes.Point.{Point}
@@ -49,9 +50,11 @@ pub record IsNearGrid (s : Shape) (p : Point) : Type 0 where
   pub y : IsTrue (is_periodic s 1) ⊎ IsOn (pos 0) s.n.y p.y
   pub z : IsTrue (is_periodic s 2) ⊎ IsOn (pos 0) s.n.z p.z
 
--- whether a coordinate is below the ghost width or from that width before the end on, in a direction that is not periodic
+-- whether a coordinate is below the ghost width or from that width before the end on, in a
+-- direction that is not periodic
 abbrev pub in_face : Shape → ℕ → ℤ → Bool
-in_face s d c = not (is_periodic s d) && (int_lt c (along s.ghost_ d) || int_le (along s.n d -ℤ along s.ghost_ d) c)
+in_face s d c = not (is_periodic s d)
+    && (int_lt c (along s.ghost_ d) || int_le (along s.n d -ℤ along s.ghost_ d) c)
 
 -- whether a point is a boundary point; all others are interior
 abbrev pub is_boundary : Shape → Point → Bool
@@ -70,7 +73,8 @@ pub record HasInterior (s : Shape) : Type 0 where
 -- each coordinate of a direction that is not periodic moved into the interior
 abbrev pub source_along : Shape → ℕ → ℤ → ℤ
 source_along s d c =
-    if is_periodic s d then c else int_max (along s.ghost_ d) (int_min c (along s.n d -ℤ along s.ghost_ d -ℤ pos 1))
+    if is_periodic s d then c
+    else int_max (along s.ghost_ d) (int_min c (along s.n d -ℤ along s.ghost_ d -ℤ pos 1))
 
 abbrev pub source : Shape → Point → Point
 source s p = point_by (λ d. source_along s d (along p d))

@@ -38,6 +38,7 @@ pub fn contains(b: &Box3, p: Point) -> bool
     all_three(x, y, z)
 }
 
+/// Whether all three hold, one for each direction.
 fn all_three(x: bool, y: bool, z: bool) -> bool
     ensures { result ≡ (x && y && z) }
 {
@@ -66,6 +67,7 @@ pub fn count(b: &Box3) -> usize
     )
 }
 
+/// How many points three numbers of points make.
 fn product(x: usize, y: usize, z: usize) -> usize
     requires all { x * y * z < 2 ^ 32 }
     requires x { x < 2 ^ 32 }
@@ -104,6 +106,7 @@ struct Step {
     n: usize,
 }
 
+/// The place of a point among those of a box, x fastest.
 fn place(x: Step, y: Step, z: Step) -> usize
     requires x { x.at < x.n }
     requires y { y.at < y.n }
@@ -136,6 +139,7 @@ pub fn point_at(b: &Box3, place: usize) -> Point
     }
 }
 
+/// A coordinate so many steps above the low end, still below the high end.
 fn moved(low: i32, high: i32, by: usize) -> i32
     requires below { by < int_gap low high }
     requires order { low ≤ℤ high }
@@ -145,6 +149,7 @@ fn moved(low: i32, high: i32, by: usize) -> i32
     (low as i64 + by as i64) as i32
 }
 
+/// Where the point at a place of a box is along x, y and z, counted from its low corner.
 #[tactic(auto, using(crate::proofs::Places::sides))]
 fn coordinates(place: usize, nx: usize, ny: usize, nz: usize) -> (usize, usize, usize)
     requires { place < nx * ny * nz }

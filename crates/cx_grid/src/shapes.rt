@@ -53,6 +53,7 @@ pub fn wrap(shape: &Shape, p: Point) -> Point
     }
 }
 
+/// The coordinate on the grid of one in a periodic direction; in another direction it stays.
 fn wrapped(periodic: bool, n: i32, c: i32) -> i32
     requires { pos 0 <ℤ n }
     ensures value { result ≡ (if periodic then int_rem_euclid c n else c) }
@@ -87,6 +88,7 @@ pub fn clamp(shape: &Shape, p: Point) -> Point
     }
 }
 
+/// The nearest coordinate that isn't in the boundary; in a periodic direction it stays.
 fn clamped(periodic: bool, n: i32, ghosts: i32, c: i32) -> i32
     requires ghosts { (pos 0 ≤ℤ ghosts) × (ghosts ≤ℤ pos 8) }
     requires n { (pos 1 ≤ℤ n) × (n ≤ℤ pos 16777216) }
@@ -112,12 +114,14 @@ pub fn is_boundary(shape: &Shape, p: Point) -> bool
     any_of(x, y, z)
 }
 
+/// Whether one of three holds, one for each direction.
 fn any_of(x: bool, y: bool, z: bool) -> bool
     ensures { result ≡ (x || (y || z)) }
 {
     x || y || z
 }
 
+/// Whether a coordinate is in the boundary of a direction.
 fn is_in_face(periodic: bool, n: i32, ghosts: i32, c: i32) -> bool
     requires ghosts { (pos 0 ≤ℤ ghosts) × (ghosts ≤ℤ pos 8) }
     requires n { pos 1 ≤ℤ n }

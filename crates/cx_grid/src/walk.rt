@@ -45,6 +45,7 @@ impl Iterator for Rows {
 
     ghost remaining = { item_count (λ left. left) };
 
+    /// The next point of the box, x fastest.
     fn next(&mut self) -> Option<Point> {
         let p = self.next?;
         self.next = following(&self.all, p);

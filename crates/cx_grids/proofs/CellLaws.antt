@@ -33,9 +33,11 @@ factor_held a b m = by (split b m)
   where
     by : (b ≤ m) ⊎ (m < b) → min (a * min b m) m ≡ min (a * b) m
     by (inl h) = ap (λ c. min (a * c) m) (min-eq_left h)
-    by (inr h) = (let past : m ≤ b = omega (arith, h) in ap (λ c. min (a * c) m) (min-eq_right past) ∙ one_most a b m past)
+    by (inr h) = (let past : m ≤ b = omega (arith, h) in
+        ap (λ c. min (a * c) m) (min-eq_right past) ∙ one_most a b m past)
 
-pub product_held : (points levels m : ℕ) → min (min points m * min levels m) m ≡ min (levels * points) m
+pub product_held : (points levels m : ℕ)
+    → min (min points m * min levels m) m ≡ min (levels * points) m
 product_held points levels m =
     factor_held (min points m) levels m
     ∙ ap (λ c. min c m) (mul_comm (min points m) levels)

@@ -21,7 +21,13 @@ row_blanks_alone = refl
 -- ---- the grid and its cut
 
 abbrev set : List ℕ → List ℕ → List ℕ → Setting
-set owner name value = record { owner = Some owner; name = name; index = None; value = value; line = 1 }
+set owner name value = record {
+  owner = Some owner;
+  name = name;
+  index = None;
+  value = value;
+  line = 1;
+}
 
 abbrev set_driver : List ℕ → List ℕ → Setting
 set_driver name value = set (codes "driver") name value
@@ -31,7 +37,8 @@ row_no_grid = refl
 
 -- a ring of 8 points
 abbrev ring : List Setting
-ring = set_driver (codes "global_nx") (codes "8") ∷ set_driver (codes "periodic") (codes "yes") ∷ set_driver (codes "parts_x") (codes "3") ∷ []
+ring = set_driver (codes "global_nx") (codes "8") ∷ set_driver (codes "periodic") (codes "yes")
+    ∷ set_driver (codes "parts_x") (codes "3") ∷ []
 
 row_ring : shape_of (elem_ca ∷ []) (assigned (elem_ca ∷ []) ring) ≡ record {
   dims = 1;
@@ -42,13 +49,15 @@ row_ring : shape_of (elem_ca ∷ []) (assigned (elem_ca ∷ []) ring) ≡ record
 unfolding assigned names
 row_ring = refl
 
-row_ring_in_three : cuts_of (elem_ca ∷ []) (assigned (elem_ca ∷ []) ring) ≡ record { x = 3 ∷ 3 ∷ 2 ∷ []; y = 1 ∷ []; z = 1 ∷ [] }
+row_ring_in_three : cuts_of (elem_ca ∷ []) (assigned (elem_ca ∷ []) ring)
+    ≡ record { x = 3 ∷ 3 ∷ 2 ∷ []; y = 1 ∷ []; z = 1 ∷ [] }
 unfolding assigned names
 row_ring_in_three = refl
 
 -- a sheet of 6 points each way, which is periodic in y
 abbrev sheets : List Thorn
-sheets = thorn (codes "Sheet") (codes "sheet") [] (grid_group Public (codes "u") 2 (codes "u" ∷ []) ∷ []) [] ∷ []
+sheets = thorn (codes "Sheet") (codes "sheet") []
+    (grid_group Public (codes "u") 2 (codes "u" ∷ []) ∷ []) [] ∷ []
 
 abbrev sheet : List Setting
 sheet =
@@ -69,7 +78,8 @@ row_sheet : shape_of sheets (assigned sheets sheet) ≡ record {
 unfolding assigned names
 row_sheet = refl
 
-row_sheet_by_widths : cuts_of sheets (assigned sheets sheet) ≡ record { x = 6 ∷ []; y = 1 ∷ 5 ∷ []; z = 1 ∷ [] }
+row_sheet_by_widths : cuts_of sheets (assigned sheets sheet)
+    ≡ record { x = 6 ∷ []; y = 1 ∷ 5 ∷ []; z = 1 ∷ [] }
 unfolding assigned names
 row_sheet_by_widths = refl
 
@@ -79,7 +89,8 @@ row_default_end : itlast (assigned [] []) ≡ 10
 unfolding assigned names
 row_default_end = refl
 
-row_no_output : out_every (assigned [] (set (codes "IO") (codes "out_every") (codes "-1") ∷ [])) ≡ negsuc 0
+row_no_output : out_every (assigned [] (set (codes "IO") (codes "out_every") (codes "-1") ∷ []))
+    ≡ negsuc 0
 unfolding assigned names
 row_no_output = refl
 

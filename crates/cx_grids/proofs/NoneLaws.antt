@@ -27,10 +27,12 @@ pub both_first : (a b : Bool) → (a && b) ≡ true → a ≡ true
 both_first true b e = refl
 both_first false b e = e
 
-pub none_at : {X Y : Type 0} (f : X → Option Y) (xs : List X) (k : ℕ) (x : X) → first_of_each f xs ≡ None → slice_get xs k ≡ Some x → f x ≡ None
+pub none_at : {X Y : Type 0} (f : X → Option Y) (xs : List X) (k : ℕ) (x : X)
+    → first_of_each f xs ≡ None → slice_get xs k ≡ Some x → f x ≡ None
 none_at f [] zero x none there = no_some there
 none_at f [] (suc k) x none there = no_some there
 none_at f (y ∷ ys) zero x none there =
     let same : y ≡ x = cc in
     subst (λ z. f z ≡ None) same (first_none (f y) (first_of_each f ys) none)
-none_at f (y ∷ ys) (suc k) x none there = none_at f ys k x (second_none (f y) (first_of_each f ys) none) there
+none_at f (y ∷ ys) (suc k) x none there =
+    none_at f ys k x (second_none (f y) (first_of_each f ys) none) there

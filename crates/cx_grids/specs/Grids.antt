@@ -73,8 +73,8 @@ dim_in t = option_map (λ g. g.dim) (find (λ g. is_grid g.gtype) t.interface.gr
 abbrev pub first_dim : List Thorn → ℕ
 first_dim thorns = unwrap_or (first_of_each dim_in thorns) 1
 
--- The grid has as many directions as the groups of grid functions, which all have one number of them, from 1 to 3; and one
--- where there is no such group.
+-- The grid has as many directions as the groups of grid functions, which all have one number of
+-- them, from 1 to 3; and one where there is no such group.
 abbrev pub dims : List Thorn → ℕ
 dims thorns = max 1 (min (first_dim thorns) 3)
 
@@ -89,30 +89,46 @@ abbrev pub for_all_or : ℤ → ℤ → ℤ → ℤ
 for_all_or least all one = if int_le least all then all else one
 
 abbrev pub number_along : Values → ℤ → List ℕ → List ℕ → Direction → ℤ
-number_along v least all begin d = for_all_or least (number_at v all) (number_at v (begin ++ letter d))
+number_along v least all begin d =
+    for_all_or least (number_at v all) (number_at v (begin ++ letter d))
 
 abbrev pub points_along : ℕ → Values → Direction → ℤ
 points_along dims v d =
     if has_direction dims d
-    then within (pos 1) (pos 16777216) (for_all_or (pos 1) (number_at v (codes "driver::global_nsize")) (number_at v (codes "driver::global_n" ++ letter d)))
+    then within (pos 1) (pos 16777216)
+    (for_all_or (pos 1) (number_at v (codes "driver::global_nsize"))
+    (number_at v (codes "driver::global_n" ++ letter d)))
     else pos 1
 
 abbrev pub ghosts_along : ℕ → Values → Direction → ℤ
 ghosts_along dims v d =
     if has_direction dims d
-    then within (pos 0) (pos 8) (for_all_or (pos 0) (number_at v (codes "driver::ghost_size")) (number_at v (codes "driver::ghost_size_" ++ letter d)))
+    then within (pos 0) (pos 8)
+    (for_all_or (pos 0) (number_at v (codes "driver::ghost_size"))
+    (number_at v (codes "driver::ghost_size_" ++ letter d)))
     else pos 0
 
 abbrev pub is_periodic_along : ℕ → Values → Direction → Bool
-is_periodic_along dims v d = has_direction dims d && (holds_at v (codes "driver::periodic") && holds_at v (codes "driver::periodic_" ++ letter d))
+is_periodic_along dims v d =
+    has_direction dims d && (holds_at v (codes "driver::periodic")
+    && holds_at v (codes "driver::periodic_" ++ letter d))
 
 abbrev pub shape_by : ℕ → Values → Shape
 shape_by dims v =
     record {
       dims = dims;
-      n = record { x = points_along dims v X; y = points_along dims v Y; z = points_along dims v Z };
-      ghost_ = record { x = ghosts_along dims v X; y = ghosts_along dims v Y; z = ghosts_along dims v Z };
-      periodic = is_periodic_along dims v X ∷ is_periodic_along dims v Y ∷ is_periodic_along dims v Z ∷ [];
+      n = record {
+        x = points_along dims v X;
+        y = points_along dims v Y;
+        z = points_along dims v Z;
+      };
+      ghost_ = record {
+        x = ghosts_along dims v X;
+        y = ghosts_along dims v Y;
+        z = ghosts_along dims v Z;
+      };
+      periodic = is_periodic_along dims v X ∷ is_periodic_along dims v Y
+          ∷ is_periodic_along dims v Z ∷ [];
     }
 
 abbrev pub shape_of : List Thorn → Values → Shape
@@ -133,14 +149,21 @@ abbrev pub widths_or : List ℕ → List ℕ → List ℕ
 widths_or text equal = if length text == 0 then equal else listed_widths text
 
 abbrev pub equal_widths : ℕ → Values → Direction → List ℕ
-equal_widths dims v d = even (unsigned_abs (points_along dims v d)) (natural_within v 1 512 (codes "driver::parts_" ++ letter d))
+equal_widths dims v d = even (unsigned_abs (points_along dims v d))
+    (natural_within v 1 512 (codes "driver::parts_" ++ letter d))
 
 abbrev pub widths_along : ℕ → Values → Direction → List ℕ
 widths_along dims v d =
-    if has_direction dims d then widths_or (text_at v (codes "driver::widths_" ++ letter d)) (equal_widths dims v d) else 1 ∷ []
+    if has_direction dims d
+    then widths_or (text_at v (codes "driver::widths_" ++ letter d)) (equal_widths dims v d)
+    else 1 ∷ []
 
 abbrev pub cuts_by : ℕ → Values → Cuts
-cuts_by dims v = record { x = widths_along dims v X; y = widths_along dims v Y; z = widths_along dims v Z }
+cuts_by dims v = record {
+  x = widths_along dims v X;
+  y = widths_along dims v Y;
+  z = widths_along dims v Z;
+}
 
 abbrev pub cuts_of : List Thorn → Values → Cuts
 cuts_of thorns v = cuts_by (dims thorns) v

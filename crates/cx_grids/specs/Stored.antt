@@ -8,6 +8,7 @@ use Rattle.cx_plan.specs.declared.variable.VarInfo.{VarInfo}
 use Rattle.cx_plan.specs.Whole.{grid_levels}
 use Rattle.cx_bind.specs.declared.thorns.Thorn.{Thorn}
 use Rattle.cx_bind.specs.Variables.{variable_infos}
+use Rattle.cx_text.specs.Numbers.{in_64_bits}
 
 -- a variable by its number, with its stored levels; none where none are said
 abbrev pub stored_info : List ℕ → ℕ × VarInfo → VarInfo
@@ -15,10 +16,6 @@ stored_info storage v = record v.1 { levels = slice_index_or storage v.0 0 }
 
 abbrev pub stored_infos : List Thorn → List ℕ → List VarInfo
 stored_infos thorns storage = map (stored_info storage) (enumerate_from 0 (variable_infos thorns))
-
--- a number, or where 64 bits don't hold it the greatest that they hold
-abbrev pub in_64_bits : ℕ → ℕ
-in_64_bits n = min n (2 ^ 64 - 1)
 
 abbrev pub point_count : Shape → ℕ
 point_count shape = in_64_bits (boxes.point_count (whole shape))

@@ -93,6 +93,7 @@ pub(crate) fn natural_along(
     Ok(natural_at(values, low, high, &full))
 }
 
+/// Whether a value is the flag yes.
 fn is_on(value: &Value) -> bool
     ensures { result ≡ is_on value.now }
 {
@@ -133,6 +134,7 @@ pub(crate) fn holds_along(
     Ok(is_on_at(values, &full))
 }
 
+/// The bytes of a text; of another value none.
 fn text_of(value: &Value) -> &[u8]
     ensures { result.now ≡ text_of value.now }
 {

@@ -30,6 +30,7 @@ fn width_in(word: &[u8]) -> Option<u32>
     }
 }
 
+/// The widths among the words, in their order; other words are left out.
 fn widths_in(alloc: Global, words: &[&[u8]]) -> Result<List<u32>, Memory>
     ensures { IfOk result (λ widths. widths ≡ filter_map width_in (map (λ x. x.now) words.now)) }
 {
@@ -78,6 +79,7 @@ fn equal_widths(
     even(alloc, points, parts)
 }
 
+/// The widths that the text lists; if it is empty, those of an equal cut.
 fn widths_or(
     alloc: Global,
     text: &[u8],
@@ -113,6 +115,7 @@ fn widths_along(
     widths_or(alloc, text, dims, values, direction)
 }
 
+/// The cut along each direction, by the values of the parameters.
 fn cuts_by(alloc: Global, dims: u8, values: &Values) -> Result<Cuts, Memory>
     ensures { IfOk result (λ cuts. cuts ≡ cuts_by dims values.now) }
 {

@@ -20,6 +20,7 @@ const MAX_POINTS: i64 = 16_777_216;
 /// The greatest ghost width.
 const MAX_GHOSTS: i64 = 8;
 
+/// Whether a group is of grid functions.
 fn is_grid(gtype: GType) -> bool
     ensures { result ≡ is_grid gtype }
 {
@@ -29,6 +30,7 @@ fn is_grid(gtype: GType) -> bool
     }
 }
 
+/// The first group of grid functions, in file order.
 fn first_grid(groups: &[Group]) -> Option<&Group>
     ensures { option_copied result ≡ find (λ g. is_grid g.gtype) groups.now }
 {
@@ -136,6 +138,7 @@ fn ghosts_along(
     Ok(within(0, MAX_GHOSTS, n) as i32)
 }
 
+/// Whether a direction of the grid is periodic: by its own parameter, and by the one for all.
 fn is_periodic_along(
     alloc: Global,
     dims: u8,
@@ -150,6 +153,7 @@ fn is_periodic_along(
     holds_along(alloc, values, b"driver::periodic_", direction)
 }
 
+/// Points, ghosts and periodic directions of the grid, by the values of the parameters.
 fn shape_by(alloc: Global, dims: u8, values: &Values) -> Result<Shape, Memory>
     ensures { IfOk result (λ shape. shape ≡ shape_by dims values.now) }
 {

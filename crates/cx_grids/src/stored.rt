@@ -3,7 +3,8 @@
 ghost use Rattle.std.specs.Prelude.{◌≡◌, ◌≤◌, ◌^◌, pos, slice_index_or, if◌then◌else◌, IfOk};
 ghost use Rattle.std.specs.Int.{int_gap};
 ghost use Rattle.cx_plan.specs.Whole.{grid_levels};
-ghost use Rattle.cx_grids.specs.Stored.{stored_info, stored_infos, in_64_bits, point_count, owned_cells};
+ghost use Rattle.cx_grids.specs.Stored.{stored_info, stored_infos, point_count, owned_cells};
+ghost use Rattle.cx_text.specs.Numbers.{in_64_bits};
 
 use cx_bind::Bound;
 use cx_grid::Shape;

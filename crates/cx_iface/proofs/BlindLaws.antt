@@ -19,22 +19,31 @@ use Rattle.cx_iface.specs.File.{nobody, implements, inherits, friends, access, g
 sizes_same : (ts : List Token) → Blind (λ x. x) (sizes ts) (sizes ts)
 sizes_same ts =
     same_also (same_also (same_lexeme (λ t. refl) (λ t. refl)) (λ t. same_nothing)) (λ us.
-    same_loop us (λ t. refl) (λ vs. same_also (same_also (same_lexeme (λ t. refl) (λ t. refl)) (λ t. same_nothing)) (λ ws. same_also (same_lexeme (λ t. refl) (λ t. refl)) (λ t. same_nothing))))
+    same_loop us (λ t. refl)
+    (λ vs. same_also (same_also (same_lexeme (λ t. refl) (λ t. refl)) (λ t. same_nothing))
+    (λ ws. same_also (same_lexeme (λ t. refl) (λ t. refl)) (λ t. same_nothing))))
 
 type_same : (a : Attributes) → Blind (λ x. x) (type_ a) (type_ a)
-type_same a = same_also (same_lexeme (λ t. refl) (λ t. refl)) (λ u. same_also (same_lexeme (λ t. refl) (λ t. refl)) (λ v. same_also (same_lexeme (λ t. refl) (λ t. refl)) (λ g. same_nothing)))
+type_same a = same_also (same_lexeme (λ t. refl) (λ t. refl))
+    (λ u. same_also (same_lexeme (λ t. refl) (λ t. refl))
+    (λ v. same_also (same_lexeme (λ t. refl) (λ t. refl)) (λ g. same_nothing)))
 
 dim_same : (a : Attributes) → Blind (λ x. x) (dim a) (dim a)
-dim_same a = same_also (same_lexeme (λ t. refl) (λ t. refl)) (λ u. same_also (same_lexeme (λ t. refl) (λ t. refl)) (λ v. same_also (same_lexeme (λ t. refl) (λ t. refl)) (λ n. same_nothing)))
+dim_same a = same_also (same_lexeme (λ t. refl) (λ t. refl))
+    (λ u. same_also (same_lexeme (λ t. refl) (λ t. refl))
+    (λ v. same_also (same_lexeme (λ t. refl) (λ t. refl)) (λ n. same_nothing)))
 
 levels_same : (a : Attributes) → Blind (λ x. x) (levels a) (levels a)
-levels_same a = same_also (same_lexeme (λ t. refl) (λ t. refl)) (λ u. same_also (same_lexeme (λ t. refl) (λ t. refl)) (λ v. same_also (same_lexeme (λ t. refl) (λ t. refl)) (λ n. same_nothing)))
+levels_same a = same_also (same_lexeme (λ t. refl) (λ t. refl))
+    (λ u. same_also (same_lexeme (λ t. refl) (λ t. refl))
+    (λ v. same_also (same_lexeme (λ t. refl) (λ t. refl)) (λ n. same_nothing)))
 
 distrib_same : (a : Attributes) → Blind (λ x. x) (distrib a) (distrib a)
 distrib_same a =
     same_also (same_also (same_lexeme (λ t. refl) (λ t. refl)) (λ t. same_nothing)) (λ us.
     same_also (same_also (same_lexeme (λ t. refl) (λ t. refl)) (λ t. same_nothing)) (λ vs.
-    same_also (same_also (same_lexeme (λ t. refl) (λ t. refl)) (λ t. same_nothing)) (λ ws. same_nothing)))
+    same_also (same_also (same_lexeme (λ t. refl) (λ t. refl)) (λ t. same_nothing))
+    (λ ws. same_nothing)))
 
 size_same : (a : Attributes) → Blind (λ x. x) (size a) (size a)
 size_same a =
@@ -52,33 +61,43 @@ tags_same : (a : Attributes) → Blind (λ x. x) (tags a) (tags a)
 tags_same a =
     same_also (same_also (same_lexeme (λ t. refl) (λ t. refl)) (λ t. same_nothing)) (λ us.
     same_also (same_also (same_lexeme (λ t. refl) (λ t. refl)) (λ t. same_nothing)) (λ vs.
-    same_also (same_also (same_lexeme (λ t. refl) (λ t. refl)) (λ t. same_nothing)) (λ ws. same_nothing)))
+    same_also (same_also (same_lexeme (λ t. refl) (λ t. refl)) (λ t. same_nothing))
+    (λ ws. same_nothing)))
 
 attribute_same : (a : Attributes) → Blind (λ x. x) (attribute a) (attribute a)
 attribute_same a =
     same_choice (λ t. refl)
     (same_choice (λ t. refl) (type_same a) (same_choice (λ t. refl) (dim_same a) (levels_same a)))
-    (same_choice (λ t. refl) (distrib_same a) (same_choice (λ t. refl) (size_same a) (same_choice (λ t. refl) (ghostsize_same a) (tags_same a))))
+    (same_choice (λ t. refl) (distrib_same a)
+    (same_choice (λ t. refl) (size_same a)
+    (same_choice (λ t. refl) (ghostsize_same a) (tags_same a))))
 
 -- ---- groups
 
 copies_same : Blind (λ x. x) copies copies
-copies_same = same_also (same_lexeme (λ t. refl) (λ t. refl)) (λ u. same_also (same_lexeme (λ t. refl) (λ t. refl)) (λ n. same_also (same_lexeme (λ t. refl) (λ t. refl)) (λ v. same_nothing)))
+copies_same = same_also (same_lexeme (λ t. refl) (λ t. refl))
+    (λ u. same_also (same_lexeme (λ t. refl) (λ t. refl))
+    (λ n. same_also (same_lexeme (λ t. refl) (λ t. refl)) (λ v. same_nothing)))
 
 comma_same : Blind (λ u. u) comma comma
 comma_same = same_choice (λ t. refl) (same_lexeme (λ t. refl) (λ t. refl)) same_nothing
 
 variables_same : Blind (λ x. x) variables variables
-variables_same = same_also (same_lexeme (λ t. refl) (λ t. refl)) (λ v. same_loop (v ∷ []) (λ t. refl) (λ vs. same_also comma_same (λ u. same_also (same_lexeme (λ t. refl) (λ t. refl)) (λ w. same_nothing))))
+variables_same = same_also (same_lexeme (λ t. refl) (λ t. refl))
+    (λ v. same_loop (v ∷ []) (λ t. refl)
+    (λ vs. same_also comma_same
+    (λ u. same_also (same_lexeme (λ t. refl) (λ t. refl)) (λ w. same_nothing))))
 
 block_same : (text : List ℕ) → Blind (λ x. x) (block text) (block text)
 block_same text =
     same_also (same_lexeme (λ t. refl) (λ t. refl)) (λ u.
     same_also (same_choice (λ t. refl) variables_same same_nothing) (λ vs.
     same_also (same_lexeme (λ t. refl) (λ t. refl)) (λ v.
-    same_also (same_choice (λ t. refl) (same_lexeme (λ t. refl) (λ t. refl)) same_nothing) (λ s. same_nothing))))
+    same_also (same_choice (λ t. refl) (same_lexeme (λ t. refl) (λ t. refl)) same_nothing)
+    (λ s. same_nothing))))
 
-group_same : (a : Access) (c : CType) (full : Bool) → Blind (λ x. x) (group a c full) (group a c full)
+group_same : (a : Access) (c : CType) (full : Bool)
+    → Blind (λ x. x) (group a c full) (group a c full)
 group_same a c full =
     same_also line_ends_same (λ u.
     same_also (same_lexeme (λ t. refl) (λ t. refl)) (λ name.
@@ -90,23 +109,34 @@ group_same a c full =
 -- ---- the file
 
 implements_same : (s : Read) → Blind (λ x. x) (implements s) (implements s)
-implements_same s = same_also line_ends_same (λ u. same_also (same_lexeme (λ t. refl) (λ t. refl)) (λ v. same_also (same_token (λ t. refl) (λ t. refl)) (λ n. same_also (same_lexeme (λ t. refl) (λ t. refl)) (λ w. same_nothing))))
+implements_same s = same_also line_ends_same
+    (λ u. same_also (same_lexeme (λ t. refl) (λ t. refl))
+    (λ v. same_also (same_token (λ t. refl) (λ t. refl))
+    (λ n. same_also (same_lexeme (λ t. refl) (λ t. refl)) (λ w. same_nothing))))
 
 inherits_same : (s : Read) → Blind (λ x. x) (inherits s) (inherits s)
-inherits_same s = same_also line_ends_same (λ u. same_also (same_token (λ t. refl) (λ t. refl)) (λ v. same_also (names_same []) (λ ns. same_also (same_lexeme (λ t. refl) (λ t. refl)) (λ w. same_nothing))))
+inherits_same s = same_also line_ends_same
+    (λ u. same_also (same_token (λ t. refl) (λ t. refl))
+    (λ v. same_also (names_same [])
+    (λ ns. same_also (same_lexeme (λ t. refl) (λ t. refl)) (λ w. same_nothing))))
 
 friends_same : (s : Read) → Blind (λ x. x) (friends s) (friends s)
-friends_same s = same_also line_ends_same (λ u. same_also (same_token (λ t. refl) (λ t. refl)) (λ v. same_also (names_same []) (λ ns. same_also (same_lexeme (λ t. refl) (λ t. refl)) (λ w. same_nothing))))
+friends_same s = same_also line_ends_same
+    (λ u. same_also (same_token (λ t. refl) (λ t. refl))
+    (λ v. same_also (names_same [])
+    (λ ns. same_also (same_lexeme (λ t. refl) (λ t. refl)) (λ w. same_nothing))))
 
 access_same : (a : Access) (s : Read) → Blind (λ x. x) (access a s) (access a s)
-access_same a s = same_also line_ends_same (λ u. same_also (same_lexeme (λ t. refl) (λ t. refl)) (λ v. same_nothing))
+access_same a s = same_also line_ends_same
+    (λ u. same_also (same_lexeme (λ t. refl) (λ t. refl)) (λ v. same_nothing))
 
 grouped_same : (c : CType) (s : Read) → Blind (λ x. x) (grouped c s) (grouped c s)
 grouped_same c s = same_also (group_same s.access c (nat_eq s.groups 0)) (λ g. same_nothing)
 
 line_same : (ts : List Token) (s : Read) → Blind (λ x. x) (line ts s) (line ts s)
 line_same ts s =
-    same_also (same_loop ts (λ t. refl) (λ us. same_also (same_token (λ t. refl) (λ t. refl)) (λ t. same_nothing))) (λ us.
+    same_also (same_loop ts (λ t. refl)
+    (λ us. same_also (same_token (λ t. refl) (λ t. refl)) (λ t. same_nothing))) (λ us.
     same_also (same_lexeme (λ t. refl) (λ t. refl)) (λ w. same_nothing))
 
 kept_line_same : (s : Read) → Blind (λ x. x) (kept_line s) (kept_line s)
@@ -128,7 +158,8 @@ mark_same s true t = refl
 mark_same s false t = refl
 
 item_same : (s : Read) → Blind (λ x. x) (item s) (item s)
-item_same s = same_choice (λ t. refl) (kept_line_same s) (same_lookahead (λ t. refl) (λ t. refl) (mark_same s) (λ w. part_same (begins_with w) w s))
+item_same s = same_choice (λ t. refl) (kept_line_same s)
+    (same_lookahead (λ t. refl) (λ t. refl) (mark_same s) (λ w. part_same (begins_with w) w s))
 
 pub file_same : Blind (λ x. x) file file
 file_same = same_also line_ends_same (λ u. same_loop nobody (λ t. refl) item_same)

@@ -12,7 +12,16 @@ use Rattle.cx_iface.specs.declared.attributes.Kept.TheVariants as forms
 use Rattle.cx_iface.specs.Words.{TYPE, DIM, TIMELEVELS, DISTRIB, SIZE, GHOSTSIZE, TAGS, gtype_of}
 
 abbrev pub no_attributes : Attributes
-no_attributes = record { gtype = None; dim = None; levels = None; distrib = false; size = false; ghostsize = false; tags = false; rest = [] }
+no_attributes = record {
+  gtype = None;
+  dim = None;
+  levels = None;
+  distrib = false;
+  size = false;
+  ghostsize = false;
+  tags = false;
+  rest = [];
+}
 
 -- ---- tokens that are kept behind others
 
@@ -123,7 +132,8 @@ effective a = choice (is_named TYPE) (type_ a) (choice (is_named DIM) (dim a) (l
 
 -- an attribute that is kept and has none
 abbrev pub idle : Attributes → Rule Attributes
-idle a = choice (is_named DISTRIB) (distrib a) (choice (is_named SIZE) (size a) (choice (is_named GHOSTSIZE) (ghostsize a) (tags a)))
+idle a = choice (is_named DISTRIB) (distrib a)
+    (choice (is_named SIZE) (size a) (choice (is_named GHOSTSIZE) (ghostsize a) (tags a)))
 
 -- one attribute behind others, of which each kind may stand once
 abbrev pub attribute : Attributes → Rule Attributes

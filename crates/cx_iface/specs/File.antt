@@ -21,7 +21,15 @@ use Rattle.cx_iface.specs.Groups.{group}
 
 -- What stands before any access line is private. So many groups and lines may stand.
 abbrev pub nobody : Read
-nobody = record { access = Private; implements = false; inherits = false; friend = false; groups = 4096; lines = 4096; tree = record { implements = []; inherits = []; friends = []; groups = []; others = [] } }
+nobody = record {
+  access = Private;
+  implements = false;
+  inherits = false;
+  friend = false;
+  groups = 4096;
+  lines = 4096;
+  tree = record { implements = []; inherits = []; friends = []; groups = []; others = [] };
+}
 
 -- ---- headers, behind their first word
 
@@ -64,7 +72,11 @@ access a s = do
 abbrev pub grouped : CType → Read → Rule Read
 grouped c s = do
   g ← group s.access c (nat_eq s.groups 0)
-  nothing (record s { groups = s.groups - 1; tree = record s.tree { groups = s.tree.groups ++ g ∷ [] } })
+  nothing
+      (record s {
+        groups = s.groups - 1;
+        tree = record s.tree { groups = s.tree.groups ++ g ∷ [] };
+      })
 
 -- ---- lines that are kept as they stand
 
@@ -73,7 +85,8 @@ abbrev pub line : List Token → Read → Rule Read
 line ts s = do
   us ← loop in_line (more_kept in_line) ts
   w ← line_end
-  nothing (record s { lines = s.lines - 1; tree = record s.tree { others = s.tree.others ++ us ∷ [] } })
+  nothing
+      (record s { lines = s.lines - 1; tree = record s.tree { others = s.tree.others ++ us ∷ [] } })
 
 -- a line that one of six words begins
 abbrev pub kept_line : Read → Rule Read
@@ -104,7 +117,8 @@ part firsts.Other w s = function w s
 
 -- the first word of a header of which one stands already
 abbrev pub is_again : Read → Token → Bool
-is_again s t = (s.implements && is_named IMPLEMENTS t) || (s.inherits && is_named INHERITS t) || (s.friend && is_named FRIEND t)
+is_again s t = (s.implements && is_named IMPLEMENTS t) || (s.inherits && is_named INHERITS t)
+    || (s.friend && is_named FRIEND t)
 
 -- It is repeated, unless FUNCTION stands behind it.
 abbrev pub again_mark : Read → Bool → Token → Option Mark
@@ -112,7 +126,8 @@ again_mark s true t = None
 again_mark s false t = first_mark (is_again s t) Repeated None
 
 abbrev pub worded : Read → Rule Read
-worded s = lookahead (kept_if is_word) (is_named FUNCTION) (again_mark s) (λ w. part (begins_with w) w s)
+worded s = lookahead (kept_if is_word) (is_named FUNCTION) (again_mark s)
+    (λ w. part (begins_with w) w s)
 
 -- header | access | group | other
 abbrev pub item : Read → Rule Read
@@ -126,7 +141,8 @@ file = do
 
 -- A file says what its thorn implements.
 abbrev pub interface : Grammar Interface
-interface tree ms next = (s : Read) × file.derives s ms next × (s.implements ≡ true) × (tree ≡ s.tree)
+interface tree ms next =
+    (s : Read) × file.derives s ms next × (s.implements ≡ true) × (tree ≡ s.tree)
 
 -- what is answered for what was read of a file whose end has this line
 abbrev pub implemented : ℕ → Result Read CclFault → Result Interface CclFault

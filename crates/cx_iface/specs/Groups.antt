@@ -53,9 +53,11 @@ block text = do
 
 -- without a block there is one variable, of the group's own name
 abbrev pub block_or_name : List ℕ → List ℕ → Rule Contents
-block_or_name name text = choice (is_sign 123) (block text) (nothing (record { variables = name ∷ []; text = text }))
+block_or_name name text =
+    choice (is_sign 123) (block text) (nothing (record { variables = name ∷ []; text = text }))
 
--- Word [ "[" Number "]" ] { attribute } [ Quoted ] [ "{" [ Word { [","] Word } ] "}" [ Quoted ] ], behind the type
+-- Word [ "[" Number "]" ] { attribute } [ Quoted ] [ "{" [ Word { [","] Word } ] "}" [ Quoted ] ],
+-- behind the type
 abbrev pub group : Access → CType → Bool → Rule Group
 group access ctype full = do
   u ← line_ends

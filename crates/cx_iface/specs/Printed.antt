@@ -1,5 +1,5 @@
--- An interface file, as tokens: the lines that are kept, the headers, and a line for each group with its access. The lines
--- stand first, since a function's type may be called as a header.
+-- An interface file, as tokens: the lines that are kept, the headers, and a line for each group
+-- with its access. The lines stand first, since a function's type may be called as a header.
 use Rattle.std.specs.Prelude.{ℕ, List, [], ◌∷◌, ◌++◌, map, Option, Some, None, codes}
 use Rattle.std.specs.List.{flat_map}
 use Rattle.std.specs.Fmt.{decimal}
@@ -49,7 +49,8 @@ abbrev pub name_line : List ℕ → List ℕ → List Token
 name_line keyword n = word keyword ∷ sign 58 ∷ word n ∷ line_end ∷ []
 
 abbrev pub headers : Interface → List Token
-headers v = name_line IMPLEMENTS v.implements ++ (header INHERITS v.inherits ++ header FRIEND v.friends)
+headers v = name_line IMPLEMENTS v.implements
+    ++ (header INHERITS v.inherits ++ header FRIEND v.friends)
 
 -- ---- groups
 
@@ -68,7 +69,8 @@ numbered keyword n = word keyword ∷ sign 61 ∷ number (decimal n) ∷ []
 
 -- TYPE "=" Word DIM "=" Number TIMELEVELS "=" Number
 abbrev pub effects : Group → List Token
-effects g = word TYPE ∷ sign 61 ∷ word (gtype_word g.gtype) ∷ (numbered DIM g.dim ++ numbered TIMELEVELS g.levels)
+effects g = word TYPE ∷ sign 61 ∷ word (gtype_word g.gtype)
+    ∷ (numbered DIM g.dim ++ numbered TIMELEVELS g.levels)
 
 -- "{" { Word } "}" Quoted LineEnd
 abbrev pub block : Group → List Token

@@ -51,7 +51,9 @@ TAGS = codes "TAGS"
 
 -- the first word of a line that is kept as it stands
 abbrev pub is_line_word : Token → Bool
-is_line_word t = is_named (codes "USES") t || is_named (codes "INCLUDE") t || is_named (codes "INCLUDES") t || is_named (codes "PROVIDES") t || is_named (codes "REQUIRES") t || is_named (codes "SUBROUTINE") t
+is_line_word t = is_named (codes "USES") t || is_named (codes "INCLUDE") t
+    || is_named (codes "INCLUDES") t || is_named (codes "PROVIDES") t
+    || is_named (codes "REQUIRES") t || is_named (codes "SUBROUTINE") t
 
 abbrev pub ctype_of : Token → Option CType
 ctype_of t =
@@ -62,7 +64,8 @@ ctype_of t =
     (cond (is_named (codes "INT4") t || is_named (codes "CCTK_INT4") t) (Some Int4)
     (cond (is_named (codes "INT8") t || is_named (codes "CCTK_INT8") t) (Some Int8)
     (cond (is_named (codes "REAL") t || is_named (codes "CCTK_REAL") t) (Some Real)
-    (cond (is_named (codes "COMPLEX") t || is_named (codes "CCTK_COMPLEX") t) (Some Complex) None)))))))
+    (cond (is_named (codes "COMPLEX") t || is_named (codes "CCTK_COMPLEX") t) (Some Complex)
+    None)))))))
 
 abbrev pub group_or_other : Option CType → First
 group_or_other (Some ctype) = firsts.Group ctype
@@ -80,4 +83,6 @@ begins_with t =
 
 -- the kind of group that a word names
 abbrev pub gtype_of : Token → Option GType
-gtype_of t = cond (is_named (codes "GF") t) (Some Gf) (cond (is_named (codes "ARRAY") t) (Some Array) (cond (is_named (codes "SCALAR") t) (Some Scalar) None))
+gtype_of t = cond (is_named (codes "GF") t) (Some Gf)
+    (cond (is_named (codes "ARRAY") t) (Some Array)
+    (cond (is_named (codes "SCALAR") t) (Some Scalar) None))

@@ -35,24 +35,28 @@ enum Kept {
     Quoted,
 }
 
+/// Whether a token names a distribution: `DEFAULT` or `CONSTANT`.
 fn is_distribution(token: &Token) -> bool
     ensures { result ≡ is_distribution token.now }
 {
     token.is_named(b"DEFAULT") || token.is_named(b"CONSTANT")
 }
 
+/// Whether a token can be a size: a word or a number.
 fn is_size(token: &Token) -> bool
     ensures { result ≡ is_size token.now }
 {
     matches!(token.kind, Kind::Word | Kind::Number)
 }
 
+/// Whether a token is a quoted text.
 fn is_quoted(token: &Token) -> bool
     ensures { result ≡ has_form Kept.Quoted token.now }
 {
     matches!(token.kind, Kind::Quoted)
 }
 
+/// Whether a token is what an attribute without effect may have at this place.
 fn has_form(form: Kept, token: &Token) -> bool
     ensures { result ≡ has_form form token.now }
 {
@@ -64,6 +68,7 @@ fn has_form(form: Kept, token: &Token) -> bool
     }
 }
 
+/// Reads a token of this form and keeps it, but no line end after it.
 fn kept_here(reader: &mut Reader, alloc: Global, form: Kept) -> Result<Token, Stop>
     ensures { Obeys (token (kept_if (has_form form)) unmarked) result reader.old reader.new }
 {
@@ -93,6 +98,7 @@ fn keep(
     Ok(())
 }
 
+/// Reads the name of an attribute and keeps it. It is a fault if the group has the attribute already.
 fn once_here(reader: &mut Reader, alloc: Global, name: &[u8], seen: bool) -> Result<Token, Stop>
     ensures { Obeys (token (kept_if (is_named name.now)) (λ t. first_mark seen marks.Repeated None))
         result reader.old reader.new }
@@ -126,6 +132,7 @@ fn keep_once(
     Ok(())
 }
 
+/// Reads and keeps a comma and the size after it.
 fn more_sizes(reader: &mut Reader, alloc: Global, tokens: &mut List<Token>) -> Result<(), Stop>
     ensures { Builds (more_sizes tokens.old) tokens.new result reader.old reader.new }
 {
@@ -133,6 +140,7 @@ fn more_sizes(reader: &mut Reader, alloc: Global, tokens: &mut List<Token>) -> R
     keep(reader, alloc, Kept::Size, tokens)
 }
 
+/// Reads and keeps further sizes, each after a comma.
 fn sizes_after(reader: &mut Reader, alloc: Global, tokens: &mut List<Token>) -> Result<(), Stop>
     ensures { Builds (loop (is_sign 44) more_sizes tokens.old) tokens.new
         result reader.old reader.new }
@@ -151,6 +159,7 @@ fn sizes(reader: &mut Reader, alloc: Global, tokens: &mut List<Token>) -> Result
     sizes_after(reader, alloc, tokens)
 }
 
+/// Reads a kind of groups, but no line end after it.
 fn gtype_here(reader: &mut Reader) -> Result<GType, Stop>
     ensures { Obeys (token gtype_of unmarked) result reader.old reader.new }
 {
@@ -166,6 +175,7 @@ fn gtype_here(reader: &mut Reader) -> Result<GType, Stop>
     }
 }
 
+/// Reads a kind of groups: grid functions, arrays or scalars.
 fn gtype(reader: &mut Reader) -> Result<GType, Stop>
     ensures { Obeys (lexeme gtype_of unmarked) result reader.old reader.new }
 {
@@ -182,6 +192,7 @@ pub fn small(reader: &mut Reader, high: u8) -> Result<u8, Stop>
     Ok(number as u8)
 }
 
+/// Reads `TYPE =` and a kind, which a group has at most once.
 fn type_(reader: &mut Reader, attributes: &mut Attributes) -> Result<(), Stop>
     ensures { Builds (type_ attributes.old) attributes.new result reader.old reader.new }
 {
@@ -191,6 +202,7 @@ fn type_(reader: &mut Reader, attributes: &mut Attributes) -> Result<(), Stop>
     Ok(())
 }
 
+/// Reads `DIM =` and a number from 1 to 3, which a group has at most once.
 fn dim(reader: &mut Reader, attributes: &mut Attributes) -> Result<(), Stop>
     ensures { Builds (dim attributes.old) attributes.new result reader.old reader.new }
 {
@@ -200,6 +212,7 @@ fn dim(reader: &mut Reader, attributes: &mut Attributes) -> Result<(), Stop>
     Ok(())
 }
 
+/// Reads `TIMELEVELS =` and a number from 1 to 8, which a group has at most once.
 fn levels(reader: &mut Reader, attributes: &mut Attributes) -> Result<(), Stop>
     ensures { Builds (levels attributes.old) attributes.new result reader.old reader.new }
 {
@@ -209,6 +222,7 @@ fn levels(reader: &mut Reader, attributes: &mut Attributes) -> Result<(), Stop>
     Ok(())
 }
 
+/// Reads and keeps `DISTRIB =` and a distribution, which has no effect.
 fn distrib(reader: &mut Reader, alloc: Global, attributes: &mut Attributes) -> Result<(), Stop>
     ensures { Builds (distrib attributes.old) attributes.new result reader.old reader.new }
 {
@@ -225,6 +239,7 @@ fn distrib(reader: &mut Reader, alloc: Global, attributes: &mut Attributes) -> R
     Ok(())
 }
 
+/// Reads and keeps `SIZE =` and sizes, which have no effect.
 fn size(reader: &mut Reader, alloc: Global, attributes: &mut Attributes) -> Result<(), Stop>
     ensures { Builds (size attributes.old) attributes.new result reader.old reader.new }
 {
@@ -241,6 +256,7 @@ fn size(reader: &mut Reader, alloc: Global, attributes: &mut Attributes) -> Resu
     Ok(())
 }
 
+/// Reads and keeps `GHOSTSIZE =` and sizes, which have no effect.
 fn ghostsize(reader: &mut Reader, alloc: Global, attributes: &mut Attributes) -> Result<(), Stop>
     ensures { Builds (ghostsize attributes.old) attributes.new result reader.old reader.new }
 {
@@ -257,6 +273,7 @@ fn ghostsize(reader: &mut Reader, alloc: Global, attributes: &mut Attributes) ->
     Ok(())
 }
 
+/// Reads and keeps `TAGS =` and a quoted text, which has no effect.
 fn tags(reader: &mut Reader, alloc: Global, attributes: &mut Attributes) -> Result<(), Stop>
     ensures { Builds (tags attributes.old) attributes.new result reader.old reader.new }
 {
@@ -273,12 +290,14 @@ fn tags(reader: &mut Reader, alloc: Global, attributes: &mut Attributes) -> Resu
     Ok(())
 }
 
+/// Whether a token begins an attribute that has an effect: `TYPE`, `DIM` or `TIMELEVELS`.
 fn has_effect(token: &Token) -> bool
     ensures { result ≡ has_effect token.now }
 {
     token.is_named(b"TYPE") || token.is_named(b"DIM") || token.is_named(b"TIMELEVELS")
 }
 
+/// Whether a token begins an attribute that is read and has no effect.
 fn has_none(token: &Token) -> bool
     ensures { result ≡ has_none token.now }
 {
@@ -288,6 +307,7 @@ fn has_none(token: &Token) -> bool
         || token.is_named(b"TAGS")
 }
 
+/// Whether an attribute that has an effect begins at the next token.
 fn at_effective(reader: &Reader) -> bool
     ensures { result ≡ passes has_effect (head reader.now.rest.now) }
 {
@@ -297,6 +317,7 @@ fn at_effective(reader: &Reader) -> bool
     }
 }
 
+/// Whether any attribute begins at the next token.
 fn at_attribute(reader: &Reader) -> bool
     ensures { result ≡ passes is_attribute (head reader.now.rest.now) }
 {
@@ -306,6 +327,7 @@ fn at_attribute(reader: &Reader) -> bool
     }
 }
 
+/// Reads an attribute that has an effect.
 fn effective(reader: &mut Reader, attributes: &mut Attributes) -> Result<(), Stop>
     ensures { Builds (effective attributes.old) attributes.new result reader.old reader.new }
 {
@@ -318,6 +340,7 @@ fn effective(reader: &mut Reader, attributes: &mut Attributes) -> Result<(), Sto
     }
 }
 
+/// Reads an attribute without effect and keeps its tokens.
 fn idle(reader: &mut Reader, alloc: Global, attributes: &mut Attributes) -> Result<(), Stop>
     ensures { Builds (idle attributes.old) attributes.new result reader.old reader.new }
 {
@@ -332,6 +355,7 @@ fn idle(reader: &mut Reader, alloc: Global, attributes: &mut Attributes) -> Resu
     }
 }
 
+/// Reads one attribute of a group.
 fn attribute(reader: &mut Reader, alloc: Global, attributes: &mut Attributes) -> Result<(), Stop>
     ensures { Builds (attribute attributes.old) attributes.new result reader.old reader.new }
 {

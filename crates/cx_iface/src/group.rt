@@ -20,6 +20,7 @@ struct Contents {
     text: Text,
 }
 
+/// Reads the name of a group, which isn't `FUNCTION`, but no line end after it.
 fn group_name_here(reader: &mut Reader, alloc: Global, full: bool) -> Result<Text, Stop>
     ensures { Obeys (token group_name_of (λ t. first_mark full marks.Limit (name_mark t)))
         result reader.old reader.new }
@@ -59,6 +60,7 @@ fn copies(reader: &mut Reader) -> Result<Option<u32>, Stop>
     Ok(Some(u32::from(copies)))
 }
 
+/// Reads the name of a variable that the group doesn't have yet, but no line end after it.
 fn new_variable_here(reader: &mut Reader, alloc: Global, variables: &NameList) -> Result<Text, Stop>
     ensures { Obeys (new_name_here variables.now) result reader.old reader.new }
 {
@@ -87,6 +89,7 @@ fn new_variable(reader: &mut Reader, alloc: Global, variables: &NameList) -> Res
     Ok(name)
 }
 
+/// Reads an optional comma and a further variable of the group.
 fn more_variables(reader: &mut Reader, alloc: Global, variables: &mut NameList) -> Result<(), Stop>
     ensures { Builds (more_variables variables.old) variables.new result reader.old reader.new }
 {
@@ -96,6 +99,7 @@ fn more_variables(reader: &mut Reader, alloc: Global, variables: &mut NameList) 
     Ok(())
 }
 
+/// Reads variables for as long as a comma or a word comes next.
 fn variables_after(reader: &mut Reader, alloc: Global, variables: &mut NameList) -> Result<(), Stop>
     ensures { Builds (loop is_comma_or_word more_variables variables.old) variables.new
         result reader.old reader.new }
@@ -130,6 +134,7 @@ fn text_after(reader: &mut Reader, alloc: Global, text: Text) -> Result<Text, St
     }
 }
 
+/// Reads the variables of a group in braces, and the optional description after them.
 fn block(reader: &mut Reader, alloc: Global, text: Text) -> Result<Contents, Stop>
     ensures { Obeys (block text) result reader.old reader.new }
 {

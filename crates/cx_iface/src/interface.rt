@@ -31,6 +31,7 @@ struct Read {
     tree: Interface,
 }
 
+/// Reads what follows `IMPLEMENTS`: a colon, the implementation and the end of the line.
 fn implements(reader: &mut Reader, alloc: Global, read: &mut Read) -> Result<(), Stop>
     ensures { Builds (implements read.old) read.new result reader.old reader.new }
 {
@@ -43,6 +44,7 @@ fn implements(reader: &mut Reader, alloc: Global, read: &mut Read) -> Result<(),
     Ok(())
 }
 
+/// Reads what follows `INHERITS`: a colon, implementations and the end of the line.
 fn inherits(reader: &mut Reader, alloc: Global, read: &mut Read) -> Result<(), Stop>
     ensures { Builds (inherits read.old) read.new result reader.old reader.new }
 {
@@ -56,6 +58,7 @@ fn inherits(reader: &mut Reader, alloc: Global, read: &mut Read) -> Result<(), S
     Ok(())
 }
 
+/// Reads what follows `FRIEND`: a colon, implementations and the end of the line.
 fn friends(reader: &mut Reader, alloc: Global, read: &mut Read) -> Result<(), Stop>
     ensures { Builds (friends read.old) read.new result reader.old reader.new }
 {
@@ -69,6 +72,7 @@ fn friends(reader: &mut Reader, alloc: Global, read: &mut Read) -> Result<(), St
     Ok(())
 }
 
+/// Reads the colon of an access line, which holds for the groups after it.
 fn access(reader: &mut Reader, level: Access, read: &mut Read) -> Result<(), Stop>
     ensures { Builds (access level read.old) read.new result reader.old reader.new }
 {
@@ -78,6 +82,7 @@ fn access(reader: &mut Reader, level: Access, read: &mut Read) -> Result<(), Sto
     Ok(())
 }
 
+/// Reads a group whose variables have this type, and adds it.
 fn grouped(reader: &mut Reader, alloc: Global, ctype: CType, read: &mut Read) -> Result<(), Stop>
     ensures { Builds (grouped ctype read.old) read.new result reader.old reader.new }
 {
@@ -87,6 +92,7 @@ fn grouped(reader: &mut Reader, alloc: Global, ctype: CType, read: &mut Read) ->
     Ok(())
 }
 
+/// Reads and keeps one more token of the line.
 fn more_kept(reader: &mut Reader, alloc: Global, tokens: &mut List<Token>) -> Result<(), Stop>
     ensures { Builds (more_kept in_line tokens.old) tokens.new result reader.old reader.new }
 {
@@ -101,6 +107,7 @@ fn more_kept(reader: &mut Reader, alloc: Global, tokens: &mut List<Token>) -> Re
     }
 }
 
+/// Reads and keeps the remaining tokens of the line.
 fn kept_up_to_line_end(
     reader: &mut Reader,
     alloc: Global,
@@ -131,6 +138,7 @@ fn line(
     Ok(())
 }
 
+/// Reads the word that begins a line without effect. In a `full` file it is one line too many.
 fn line_word(reader: &mut Reader, alloc: Global, full: bool) -> Result<Token, Stop>
     ensures { Obeys (token (kept_if is_line_word) (λ t. first_mark full marks.Limit None))
         result reader.old reader.new }
@@ -148,6 +156,7 @@ fn line_word(reader: &mut Reader, alloc: Global, full: bool) -> Result<Token, St
     }
 }
 
+/// Reads a line without effect and keeps it.
 fn kept_line(reader: &mut Reader, alloc: Global, read: &mut Read) -> Result<(), Stop>
     ensures { Builds (kept_line read.old) read.new result reader.old reader.new }
 {
@@ -157,6 +166,7 @@ fn kept_line(reader: &mut Reader, alloc: Global, read: &mut Read) -> Result<(), 
     line(reader, alloc, tokens, read)
 }
 
+/// Reads `FUNCTION` in a line without effect. In a `full` file it is one line too many.
 fn function_word(reader: &mut Reader, alloc: Global, full: bool) -> Result<Token, Stop>
     ensures { Obeys (token (kept_if (is_named FUNCTION)) (λ t. first_mark full marks.Limit None))
         result reader.old reader.new }
@@ -202,6 +212,7 @@ fn part(reader: &mut Reader, alloc: Global, word: Token, read: &mut Read) -> Res
     }
 }
 
+/// Whether a token begins a header that the file already has.
 fn is_again(read: &Read, token: &Token) -> bool
     ensures { result ≡ is_again read.now token.now }
 {
@@ -210,6 +221,7 @@ fn is_again(read: &Read, token: &Token) -> bool
         || (read.friend && token.is_named(b"FRIEND"))
 }
 
+/// Whether the next token is `FUNCTION`, which makes a line of the word before it.
 fn is_function(rest: &[Token]) -> bool
     ensures { result ≡ passes (is_named FUNCTION) (head rest.now) }
 {
@@ -227,6 +239,7 @@ fn is_repeated(read: &Read, token: &Token, rest: &[Token]) -> bool
     !is_function(rest) && is_again(read, token)
 }
 
+/// Reads the word that begins a part of the file. It is a fault if it begins a header again.
 fn first_word(reader: &mut Reader, alloc: Global, read: &Read) -> Result<Token, Stop>
     ensures { Gives (λ w. w) result reader.new.rest.now
         (read_marked (kept_if is_word) (is_named FUNCTION) (again_mark read.now)
@@ -245,6 +258,7 @@ fn first_word(reader: &mut Reader, alloc: Global, read: &Read) -> Result<Token, 
     }
 }
 
+/// Reads a header, an access line, a group or a line that begins with this word.
 fn worded(reader: &mut Reader, alloc: Global, read: &mut Read) -> Result<(), Stop>
     ensures { Builds (worded read.old) read.new result reader.old reader.new }
 {
@@ -252,6 +266,7 @@ fn worded(reader: &mut Reader, alloc: Global, read: &mut Read) -> Result<(), Sto
     part(reader, alloc, word, read)
 }
 
+/// Whether a line without effect begins at the next token.
 fn at_line_word(reader: &Reader) -> bool
     ensures { result ≡ passes is_line_word (head reader.now.rest.now) }
 {
@@ -261,6 +276,7 @@ fn at_line_word(reader: &Reader) -> bool
     }
 }
 
+/// Reads one part of the file: a line without effect, a header, an access line or a group.
 fn item(reader: &mut Reader, alloc: Global, read: &mut Read) -> Result<(), Stop>
     ensures { Builds (item read.old) read.new result reader.old reader.new }
 {
@@ -271,6 +287,7 @@ fn item(reader: &mut Reader, alloc: Global, read: &mut Read) -> Result<(), Stop>
     }
 }
 
+/// Reads parts of the file for as long as a word comes next.
 fn items(reader: &mut Reader, alloc: Global, read: &mut Read) -> Result<(), Stop>
     ensures { Builds (loop is_word item read.old) read.new result reader.old reader.new }
 {
@@ -280,6 +297,7 @@ fn items(reader: &mut Reader, alloc: Global, read: &mut Read) -> Result<(), Stop
     Ok(())
 }
 
+/// Reads an interface file; its groups are private until an access line says otherwise.
 fn whole(reader: &mut Reader, alloc: Global) -> Result<Read, Stop>
     ensures { Obeys file result reader.old reader.new }
 {

@@ -12,6 +12,7 @@ use crate::{Access, GType, Group, Interface};
 use cx_text::{CType, List, Memory, Text, Token, write_tokens};
 use std::alloc::Global;
 
+/// Appends tokens that were kept.
 fn push_kept(tokens: &mut List<Token>, alloc: Global, others: &[Token]) -> Result<(), Memory>
     ensures { OnOk result (tokens.new ≡ tokens.old ++ map kept others.now) }
 {
@@ -21,6 +22,7 @@ fn push_kept(tokens: &mut List<Token>, alloc: Global, others: &[Token]) -> Resul
     Ok(())
 }
 
+/// The word of the access line for groups of this access.
 fn access_word(access: Access) -> &'static [u8]
     ensures { result.now ≡ access_word access }
 {
@@ -31,6 +33,7 @@ fn access_word(access: Access) -> &'static [u8]
     }
 }
 
+/// The word for a type of variables.
 fn ctype_word(ctype: CType) -> &'static [u8]
     ensures { result.now ≡ ctype_word ctype }
 {
@@ -46,6 +49,7 @@ fn ctype_word(ctype: CType) -> &'static [u8]
     }
 }
 
+/// The word for a kind of groups.
 fn gtype_word(gtype: GType) -> &'static [u8]
     ensures { result.now ≡ gtype_word gtype }
 {
@@ -86,6 +90,7 @@ fn name_line(
     tokens.push_line_end(alloc)
 }
 
+/// Appends the `IMPLEMENTS`, `INHERITS` and `FRIEND` lines.
 fn headers(tokens: &mut List<Token>, alloc: Global, tree: &Interface) -> Result<(), Memory>
     ensures { OnOk result (tokens.new ≡ tokens.old ++ headers tree.now) }
 {
@@ -95,6 +100,7 @@ fn headers(tokens: &mut List<Token>, alloc: Global, tree: &Interface) -> Result<
     Ok(())
 }
 
+/// Appends the access line, the type and the name of a group.
 fn opening(tokens: &mut List<Token>, alloc: Global, group: &Group) -> Result<(), Memory>
     ensures { OnOk result (tokens.new ≡ tokens.old ++ opening group.now) }
 {
@@ -104,6 +110,7 @@ fn opening(tokens: &mut List<Token>, alloc: Global, group: &Group) -> Result<(),
     tokens.push_word(alloc, group.name.as_slice())
 }
 
+/// Appends the number of copies in brackets, if the group is a vector group.
 fn copies(tokens: &mut List<Token>, alloc: Global, count: Option<u32>) -> Result<(), Memory>
     ensures { OnOk result (tokens.new ≡ tokens.old ++ copies count) }
 {
@@ -131,6 +138,7 @@ fn numbered(
     tokens.push_number(alloc, u64::from(value))
 }
 
+/// Appends the attributes that have an effect: kind, dimension and time levels.
 fn effects(tokens: &mut List<Token>, alloc: Global, group: &Group) -> Result<(), Memory>
     ensures { OnOk result (tokens.new ≡ tokens.old ++ effects group.now) }
 {
@@ -141,6 +149,7 @@ fn effects(tokens: &mut List<Token>, alloc: Global, group: &Group) -> Result<(),
     numbered(tokens, alloc, b"TIMELEVELS", group.levels)
 }
 
+/// Appends the variables of a group in braces, and its description.
 fn block(tokens: &mut List<Token>, alloc: Global, group: &Group) -> Result<(), Memory>
     ensures { OnOk result (tokens.new ≡ tokens.old ++ block group.now) }
 {
@@ -151,6 +160,7 @@ fn block(tokens: &mut List<Token>, alloc: Global, group: &Group) -> Result<(), M
     tokens.push_line_end(alloc)
 }
 
+/// Appends a whole group with its own access line.
 fn group(tokens: &mut List<Token>, alloc: Global, one: &Group) -> Result<(), Memory>
     ensures { OnOk result (tokens.new ≡ tokens.old ++ group one.now) }
 {
@@ -161,6 +171,7 @@ fn group(tokens: &mut List<Token>, alloc: Global, one: &Group) -> Result<(), Mem
     block(tokens, alloc, one)
 }
 
+/// Appends all groups in their order.
 fn groups(tokens: &mut List<Token>, alloc: Global, groups: &[Group]) -> Result<(), Memory>
     ensures { OnOk result (tokens.new ≡ tokens.old ++ flat_map group groups.now) }
 {
@@ -170,6 +181,7 @@ fn groups(tokens: &mut List<Token>, alloc: Global, groups: &[Group]) -> Result<(
     Ok(())
 }
 
+/// Appends a line that was kept, and its line end.
 fn line(tokens: &mut List<Token>, alloc: Global, others: &[Token]) -> Result<(), Memory>
     ensures { OnOk result (tokens.new ≡ tokens.old ++ line others.now) }
 {
@@ -177,6 +189,7 @@ fn line(tokens: &mut List<Token>, alloc: Global, others: &[Token]) -> Result<(),
     tokens.push_line_end(alloc)
 }
 
+/// Appends all lines that were kept, in their order.
 fn lines(tokens: &mut List<Token>, alloc: Global, others: &[List<Token>]) -> Result<(), Memory>
     ensures { OnOk result (tokens.new ≡ tokens.old ++ flat_map line others.now) }
 {
@@ -186,6 +199,7 @@ fn lines(tokens: &mut List<Token>, alloc: Global, others: &[List<Token>]) -> Res
     Ok(())
 }
 
+/// The tokens of this interface file: lines that were kept, headers and groups.
 fn tokens_of(alloc: Global, tree: &Interface) -> Result<List<Token>, Memory>
     ensures { IfOk result (λ tokens. tokens ≡ interface_tokens tree.now) }
 {

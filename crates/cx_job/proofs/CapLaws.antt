@@ -19,7 +19,6 @@ use Rattle.cx_rule.specs.Jobs.{HasRoutine, FitItem, FitJob}
 use Rattle.cx_rule.specs.declared.spec.Spec.{Spec}
 use Rattle.cx_rule.proofs.CutParts.{part_is}
 use Rattle.cx_rule.proofs.PartLaws.{local_small}
-use Rattle.cx_grids.specs.Stored.{in_64_bits}
 use Rattle.cx_grids.proofs.NoneLaws.{some_none}
 use Rattle.cx_job.specs.Caps.{part_points, greatest_part, too_large, cap_fault, caps_fault}
 use Rattle.cx_job.specs.JobLimits.{run_count}
@@ -28,6 +27,7 @@ use Rattle.cx_job.specs.declared.fault.JobFault.{JobFault}
 use Rattle.cx_job.specs.declared.fault.JobFault.TheVariants.{TooLarge}
 use Rattle.cx_job.proofs.LineLaws.{numbers_more}
 use Rattle.cx_job.proofs.MeantLaws.{all_none}
+use Rattle.cx_text.specs.Numbers.{in_64_bits}
 
 -- ---- the points of a part
 
@@ -35,13 +35,16 @@ held_all : (n : ℕ) → n < 2 ^ 32 → in_64_bits n ≡ n
 held_all n l = omega (arith, l)
 
 -- they fit in 64 bits
-pub held_part : (c : Parts) (k : ℕ) → IsWhole c → k < part_count c → in_64_bits (part_points c k) ≡ part_points c k
-held_part c k w l = held_all (part_points c k) (local_small c.shape (owned c k) (local c k) (part_is c w k l))
+pub held_part : (c : Parts) (k : ℕ) → IsWhole c → k < part_count c
+    → in_64_bits (part_points c k) ≡ part_points c k
+held_part c k w l = held_all (part_points c k)
+    (local_small c.shape (owned c k) (local c k) (part_is c w k l))
 
 -- ---- the greatest number of some
 
 -- of one part more
-pub greatest_more : (f : ℕ → ℕ) (n most : ℕ) → most ≡ greatest f (range_with_len 0 n) → max most (f n) ≡ greatest f (range_with_len 0 (n + 1))
+pub greatest_more : (f : ℕ → ℕ) (n most : ℕ) → most ≡ greatest f (range_with_len 0 n)
+    → max most (f n) ≡ greatest f (range_with_len 0 (n + 1))
 greatest_more f n most is =
     ap (λ m. max m (f n)) is
     ∙ sym (fold-append (λ m k. max m (f k)) 0 (range_with_len 0 n) (n ∷ []))
@@ -51,9 +54,11 @@ greatest_from : {X : Type 0} (f : X → ℕ) (a : ℕ) (xs : List X) → a ≤ f
 greatest_from f a [] = omega arith
 greatest_from f a (x ∷ xs) = (let more = greatest_from f (max a (f x)) xs in omega (arith, more))
 
-among_from : {X : Type 0} (f : X → ℕ) (a : ℕ) (xs : List X) (i : ℕ) (d : X) → i < length xs → f (get_or xs i d) ≤ fold (λ n x. max n (f x)) a xs
+among_from : {X : Type 0} (f : X → ℕ) (a : ℕ) (xs : List X) (i : ℕ) (d : X) → i < length xs
+    → f (get_or xs i d) ≤ fold (λ n x. max n (f x)) a xs
 among_from f a [] i d l = absurd (omega (arith, l))
-among_from f a (x ∷ xs) zero d l = (let more = greatest_from f (max a (f x)) xs in omega (arith, more))
+among_from f a (x ∷ xs) zero d l =
+    (let more = greatest_from f (max a (f x)) xs in omega (arith, more))
 among_from f a (x ∷ xs) (suc i) d l = among_from f (max a (f x)) xs i d (omega (arith, l))
 
 -- no part has more points
@@ -67,27 +72,35 @@ part_within c k l =
 -- ---- objects
 
 -- an item with this object
-pub its_object : {X : Type 0} (specs : List X) (f : X → Spec) (points : ℕ) (x : Item) (s : X) → x.routine < length specs → s ≡ get_or specs x.routine s
+pub its_object : {X : Type 0} (specs : List X) (f : X → Spec) (points : ℕ) (x : Item) (s : X)
+    → x.routine < length specs → s ≡ get_or specs x.routine s
     → cap_fault (map f specs) points x ≡ too_large points x.path (Some (f s))
 its_object specs f points x s there is =
-    ap (too_large points x.path) (slice_get-map f specs x.routine ∙ ap (option_map f) (slice_get_read specs (length specs) x.routine s refl there is))
+    ap (too_large points x.path)
+    (slice_get-map f specs x.routine
+    ∙ ap (option_map f) (slice_get_read specs (length specs) x.routine s refl there is))
 
-not_large : (points : ℕ) (path : List ℕ) (s : Spec) → too_large points path (Some s) ≡ None → points ≤ s.cap
+not_large : (points : ℕ) (path : List ℕ) (s : Spec) → too_large points path (Some s) ≡ None
+    → points ≤ s.cap
 not_large points path s none = by (nat_lt s.cap points) refl none
   where
-    by : (b : Bool) → nat_lt s.cap points ≡ b → (if b then Some (TooLarge path points s.cap) else None) ≡ None → points ≤ s.cap
+    by : (b : Bool) → nat_lt s.cap points ≡ b
+        → (if b then Some (TooLarge path points s.cap) else None) ≡ None → points ≤ s.cap
     by true e none = some_none none
     by false e none = ltb-false s.cap points e
 
 at_most : (a b c : ℕ) → a ≤ b → b ≤ c → a ≤ c
 at_most a b c l m = omega (arith, l, m)
 
-item_fits : (specs : List Spec) (c : Parts) (x : Item) → HasRoutine specs x → cap_fault specs (greatest_part c) x ≡ None → FitItem specs c x
+item_fits : (specs : List Spec) (c : Parts) (x : Item) → HasRoutine specs x
+    → cap_fault specs (greatest_part c) x ≡ None → FitItem specs c x
 item_fits specs c x has none =
-    let few = not_large (greatest_part c) x.path has.spec (subst (λ o. too_large (greatest_part c) x.path o ≡ None) has.object none) in
+    let few = not_large (greatest_part c) x.path has.spec
+    (subst (λ o. too_large (greatest_part c) x.path o ≡ None) has.object none) in
     record {
       routine = has;
-      parts = λ k l. at_most (point_count (local c k)) (greatest_part c) has.spec.cap (part_within c k l) few;
+      parts = λ k l. at_most (point_count (local c k)) (greatest_part c) has.spec.cap
+          (part_within c k l) few;
     }
 
 -- ---- jobs
@@ -99,7 +112,9 @@ pub record IsRunWith (specs : List Spec) (job : Job) (k : ℕ) : Type 0 where
   pub there : k < length job.items
 
 -- the objects sweep each part where none is too large
-pub job_fits : (specs : List Spec) (job : Job) → All (IsRunWith specs job) (run_items (setup_of job)) → caps_fault specs job ≡ None → FitJob specs job
+pub job_fits : (specs : List Spec) (job : Job)
+    → All (IsRunWith specs job) (run_items (setup_of job)) → caps_fault specs job ≡ None
+    → FitJob specs job
 job_fits specs job has none i d within =
     let k : ℕ = get_or (run_items (setup_of job)) i d in
     let h : IsRunWith specs job k = has i d within in
@@ -109,6 +124,8 @@ job_fits specs job has none i d within =
     let c = parts_of job.shape job.cut in
     let f : Item → Option JobFault = cap_fault specs (greatest_part c) in
     let long = length-take run job.items in
-    let at : get_or (take run job.items) k no_item ≡ get_or job.items k no_item = get_or-take run job.items k no_item low in
+    let at : get_or (take run job.items) k no_item ≡ get_or job.items k no_item =
+    get_or-take run job.items k no_item low in
     item_fits specs c (item (setup_of job) k) h.routine
-    (subst (λ x. f x ≡ None) at (all_none f (take run job.items) none k no_item (omega (arith, long, low, there))))
+    (subst (λ x. f x ≡ None) at
+    (all_none f (take run job.items) none k no_item (omega (arith, long, low, there))))

@@ -36,9 +36,13 @@ few_of (suc n) (tree ∷ trees) =
     let one = few_called tree in
     let others = few_of n trees in
     let both = length-append (called tree) (flat_map called (take n trees)) in
-    let first : flat_map called (take (suc n) (tree ∷ trees)) ≡ called tree ++ flat_map called (take n trees) = refl in
-    let long : length (flat_map called (take (suc n) (tree ∷ trees))) ≡ length (called tree ++ flat_map called (take n trees)) = ap length first in
-    let all : all_nodes (tree ∷ trees) ≡ nodes tree + all_nodes trees = sum-map nodes (tree ∷ trees) ∙ sum_by-cons nodes tree trees ∙ ap (λ n. nodes tree + n) (sym (sum-map nodes trees)) in
+    let first : flat_map called (take (suc n) (tree ∷ trees))
+    ≡ called tree ++ flat_map called (take n trees) = refl in
+    let long : length (flat_map called (take (suc n) (tree ∷ trees)))
+    ≡ length (called tree ++ flat_map called (take n trees)) = ap length first in
+    let all : all_nodes (tree ∷ trees) ≡ nodes tree + all_nodes trees =
+    sum-map nodes (tree ∷ trees) ∙ sum_by-cons nodes tree trees
+    ∙ ap (λ n. nodes tree + n) (sym (sum-map nodes trees)) in
     omega (arith, one, others, both, long, all)
 
 pub few_runs : (plan : Schedule) → all_nodes plan.bins ≤ 4096 → run_count plan ≤ 4096
@@ -56,18 +60,25 @@ counted calls = min (length calls) most
 both_counted : (a b : ℕ) → min (min a most + min b most) most ≡ min (a + b) most
 both_counted a b = omega arith
 
-pub count_next : (trees : List Tree) (k : ℕ) (tree : Tree) (before here after : ℕ) → k < length trees → tree ≡ get_or trees k tree → before ≡ counted (flat_map called (take k trees)) → here ≡ counted (called tree) → after ≡ min (before + here) most → after ≡ counted (flat_map called (take (k + 1) trees))
+pub count_next : (trees : List Tree) (k : ℕ) (tree : Tree) (before here after : ℕ)
+    → k < length trees → tree ≡ get_or trees k tree
+    → before ≡ counted (flat_map called (take k trees)) → here ≡ counted (called tree)
+    → after ≡ min (before + here) most → after ≡ counted (flat_map called (take (k + 1) trees))
 count_next trees k tree before here after within at is one more =
     let a = flat_map called (take k trees) in
-    let joined : a ++ called tree ≡ flat_map called (take (k + 1) trees) = ap (λ (t : Tree). a ++ called t) at ∙ flat_map-take called trees k tree within in
-    more ∙ ap (λ n. min (n + here) most) is ∙ ap (λ n. min (counted a + n) most) one ∙ both_counted (length a) (length (called tree))
+    let joined : a ++ called tree ≡ flat_map called (take (k + 1) trees) =
+    ap (λ (t : Tree). a ++ called t) at ∙ flat_map-take called trees k tree within in
+    more ∙ ap (λ n. min (n + here) most) is ∙ ap (λ n. min (counted a + n) most) one
+    ∙ both_counted (length a) (length (called tree))
     ∙ ap (λ n. min n most) (sym (length-append a (called tree))) ∙ ap counted joined
 
 pub count_seq : (trees : List Tree) → counted (flat_map called trees) ≡ counted (called (Seq trees))
 count_seq trees = ap counted (sym (called-seq trees))
 
-pub count_if : (v : VarId) (path : List ℕ) (one : Tree) → counted (called one) ≡ counted (called (If v path one))
+pub count_if : (v : VarId) (path : List ℕ) (one : Tree)
+    → counted (called one) ≡ counted (called (If v path one))
 count_if v path one = ap counted (sym (called-if v path one ∙ append-nil (called one)))
 
-pub count_while : (v : VarId) (path : List ℕ) (one : Tree) → counted (called one) ≡ counted (called (While v path one))
+pub count_while : (v : VarId) (path : List ℕ) (one : Tree)
+    → counted (called one) ≡ counted (called (While v path one))
 count_while v path one = ap counted (sym (called-while v path one ∙ append-nil (called one)))

@@ -39,11 +39,15 @@ row_boundary : direction_line ring 2 ≡ codes "direction z points 1 ghost 0 bou
 unfolding digits
 row_boundary = refl
 
-row_cell : variable_line (0, record { full = codes "ca::cell"; ctype = Byte; scalar = false; levels = 1 }) ≡ codes "variable 0 ca::cell BYTE GF levels 1" ++ line_feed
+row_cell : variable_line
+    (0, record { full = codes "ca::cell"; ctype = Byte; scalar = false; levels = 1 })
+    ≡ codes "variable 0 ca::cell BYTE GF levels 1" ++ line_feed
 unfolding digits
 row_cell = refl
 
-row_live : variable_line (12, record { full = codes "ca::live"; ctype = Int; scalar = true; levels = 1 }) ≡ codes "variable 12 ca::live INT SCALAR levels 1" ++ line_feed
+row_live : variable_line
+    (12, record { full = codes "ca::live"; ctype = Int; scalar = true; levels = 1 })
+    ≡ codes "variable 12 ca::live INT SCALAR levels 1" ++ line_feed
 unfolding digits
 row_live = refl
 
@@ -57,24 +61,35 @@ abbrev wave : Thorn
 wave = thorn (codes "WaveInt") (codes "wave") [] [] []
 
 abbrev amount : Param
-amount = parameter_of 0 wave (record (decl Restricted ptypes.Int (codes "amount") []) { default = Some (codes "5") })
+amount = parameter_of 0 wave
+    (record (decl Restricted ptypes.Int (codes "amount") []) { default = Some (codes "5") })
 
 abbrev pattern_ : Param
 pattern_ =
-    parameter_of 0 wave (record (decl Restricted ptypes.Keyword (codes "pattern") (Word (codes "point") ∷ Word (codes "uniform") ∷ [])) { default = Some (codes "UNIFORM") })
+    parameter_of 0 wave
+    (record (decl Restricted ptypes.Keyword (codes "pattern")
+    (Word (codes "point") ∷ Word (codes "uniform") ∷ [])) { default = Some (codes "UNIFORM") })
 
 abbrev title : Param
-title = parameter_of 0 wave (record (decl Restricted ptypes.String (codes "title") (AnyText ∷ [])) { default = Some (34 ∷ 92 ∷ 10 ∷ []) })
+title = parameter_of 0 wave
+    (record (decl Restricted ptypes.String (codes "title") (AnyText ∷ []))
+    { default = Some (34 ∷ 92 ∷ 10 ∷ []) })
 
 abbrev flags : Param
-flags = parameter_of 0 wave (record (decl Restricted ptypes.Boolean (codes "flags") []) { length = Some 2; default = Some (codes "t") })
+flags = parameter_of 0 wave
+    (record (decl Restricted ptypes.Boolean (codes "flags") [])
+    { length = Some 2; default = Some (codes "t") })
 
 -- the second flag is set to no
 abbrev values : Values
 values =
     record {
       slots = slot [] amount ∷ slot [] pattern_ ∷ slot [] title ∷ slot [] flags ∷ [];
-      given = record { parameter = 3; element = 1; held = record { value = kinds.Flag false; number = Some (pos 0) } } ∷ [];
+      given = record {
+        parameter = 3;
+        element = 1;
+        held = record { value = kinds.Flag false; number = Some (pos 0) };
+      } ∷ [];
       uses = [];
       globals = [];
     }
@@ -84,15 +99,20 @@ unfolding digits
 row_number = refl
 
 -- as it is declared, and with its number
-row_keyword : parameter_line values pattern_ None ≡ codes "parameter wave::pattern = \"uniform\" 1" ++ line_feed
+row_keyword : parameter_line values pattern_ None
+    ≡ codes "parameter wave::pattern = \"uniform\" 1" ++ line_feed
 unfolding digits
 row_keyword = refl
 
-row_text : parameter_line values title None ≡ codes "parameter wave::title = \"" ++ (92 ∷ 34 ∷ 92 ∷ 92 ∷ 92 ∷ 110 ∷ []) ++ codes "\"" ++ line_feed
+row_text : parameter_line values title None
+    ≡ codes "parameter wave::title = \"" ++ (92 ∷ 34 ∷ 92 ∷ 92 ∷ 92 ∷ 110 ∷ []) ++ codes "\""
+    ++ line_feed
 unfolding digits
 row_text = refl
 
-row_array : parameter_lines values flags ≡ codes "parameter wave::flags[0] = \"yes\"" ++ line_feed ++ codes "parameter wave::flags[1] = \"no\"" ++ line_feed
+row_array : parameter_lines values flags
+    ≡ codes "parameter wave::flags[0] = \"yes\"" ++ line_feed
+    ++ codes "parameter wave::flags[1] = \"no\"" ++ line_feed
 unfolding digits
 row_array = refl
 

@@ -23,7 +23,6 @@ use Rattle.cx_job.specs.declared.fault.JobFault.{JobFault}
 use Rattle.cx_job.specs.declared.fault.JobFault.TheVariants as faults
 use Rattle.cx_config.specs.declared.configuring.Configured.{Configured}
 use Rattle.cx_config.specs.Shelf.{Held}
-use Rattle.cx_grids.specs.Stored.{in_64_bits}
 use Rattle.cx_cut.specs.Faults.{parts_of, cut_fault}
 use Rattle.cx_cut.specs.declared.faults.CutFault.{CutFault}
 use Rattle.cx_job.specs.LocalCells.{local_cells, items_run}
@@ -43,6 +42,7 @@ use Rattle.cx_config.specs.Stages.{Is, unless, or_fault}
 use Rattle.cx_config.specs.Configuring.{Configures}
 use Rattle.cx_job.specs.Making.{Orders, Matches, Accepts, CutAnd, part_limits, cut_limits, within_cut, LimitsAnd, ItemsAnd, OutputsAnd, PlanAnd, ValuesAnd, MadeOf, Made, Makes, Yields, output_ids, within_limits}
 use Rattle.cx_job.proofs.OnlyJob.{Comes, only_job, only_fault}
+use Rattle.cx_text.specs.Numbers.{in_64_bits}
 
 abbrev err : (A : Type 0) → JobFault → Result A JobFault
 err A e = Err e
@@ -58,24 +58,28 @@ unread e = Err e
 moved : (A B : Type 0) (e f : JobFault) → err B e ≡ err B f → err A e ≡ err A f
 moved A B e f h = let same : e ≡ f = cc in ap (err A) same
 
-pub yields_halt : {A B : Type 0} (p : Stage A JobFault) (q : A → Stage B JobFault) (e : JobFault) → Yields p (err A e) → Yields (Then p q) (err B e)
+pub yields_halt : {A B : Type 0} (p : Stage A JobFault) (q : A → Stage B JobFault) (e : JobFault)
+    → Yields p (err A e) → Yields (Then p q) (err B e)
 yields_halt {A} {B} p q e (inl m) = inl (moved B A e faults.Memory m)
 yields_halt {A} {B} p q e (inr s) = inr (inl (e, s, refl))
 
-pub yields_pass : {A B : Type 0} (p : Stage A JobFault) (q : A → Stage B JobFault) (x : A) (r : Result B JobFault) → Yields p (Ok x) → Yields (q x) r → Yields (Then p q) r
+pub yields_pass : {A B : Type 0} (p : Stage A JobFault) (q : A → Stage B JobFault) (x : A)
+    (r : Result B JobFault) → Yields p (Ok x) → Yields (q x) r → Yields (Then p q) r
 yields_pass p q x r (inl m) b = absurd cc
 yields_pass p q x r (inr s) (inl m) = inl m
 yields_pass p q x r (inr s) (inr t) = inr (inr (x, s, t))
 
 -- the value of a stage without a fault
-pub unless_ok : {A : Type 0} (o : Option JobFault) (x y : A) → Yields (Is (unless o x)) (Ok y) → (o ≡ None) × (y ≡ x)
+pub unless_ok : {A : Type 0} (o : Option JobFault) (x y : A) → Yields (Is (unless o x)) (Ok y)
+    → (o ≡ None) × (y ≡ x)
 unless_ok None x y (inl m) = absurd cc
 unless_ok None x y (inr s) = (refl, cc)
 unless_ok (Some e) x y (inl m) = absurd cc
 unless_ok (Some e) x y (inr s) = absurd cc
 
 -- the second of two tests, where the first has found nothing
-pub told_second : {A : Type 0} (a b : Option JobFault) (r : Result A JobFault) → a ≡ None → Tells faults.Memory b r → Tells faults.Memory (or_else a b) r
+pub told_second : {A : Type 0} (a b : Option JobFault) (r : Result A JobFault) → a ≡ None
+    → Tells faults.Memory b r → Tells faults.Memory (or_else a b) r
 told_second None b r none told = told
 told_second (Some e) b r none told = absurd cc
 
@@ -89,11 +93,15 @@ yields_ok p x (inr s) = s
 abbrev NotShelf : Option JobFault → Type 0
 NotShelf o = o ≢ Some faults.Shelf
 
-then_not : {A B : Type 0} (p : Stage A JobFault) (q : A → Stage B JobFault) → (p (err A faults.Shelf) → ⊥) → ((x : A) → q x (err B faults.Shelf) → ⊥) → Then p q (err B faults.Shelf) → ⊥
-then_not {A} {B} p q first second (inl (e, s, z)) = (let same : e ≡ faults.Shelf = cc in first (subst (λ f. p (err A f)) same s))
+then_not : {A B : Type 0} (p : Stage A JobFault) (q : A → Stage B JobFault)
+    → (p (err A faults.Shelf) → ⊥) → ((x : A) → q x (err B faults.Shelf) → ⊥)
+    → Then p q (err B faults.Shelf) → ⊥
+then_not {A} {B} p q first second (inl (e, s, z)) =
+    (let same : e ≡ faults.Shelf = cc in first (subst (λ f. p (err A f)) same s))
 then_not p q first second (inr (x, s, t)) = second x t
 
-unless_not : {A : Type 0} (o : Option JobFault) (x : A) → NotShelf o → err A faults.Shelf ≡ unless o x → ⊥
+unless_not : {A : Type 0} (o : Option JobFault) (x : A) → NotShelf o
+    → err A faults.Shelf ≡ unless o x → ⊥
 unless_not None x other z = absurd cc
 unless_not (Some e) x other z = other (let same : e ≡ faults.Shelf = cc in ap (λ f. Some f) same)
 
@@ -105,7 +113,8 @@ value_not : (o : Option ValueFault) → NotShelf (option_map faults.Value o)
 value_not None z = absurd cc
 value_not (Some e) z = absurd cc
 
-or_fault_not : {A F : Type 0} (as_job : F → JobFault) (r : Result A F) → ((f : F) → as_job f ≢ faults.Shelf) → err A faults.Shelf ≡ or_fault as_job r → ⊥
+or_fault_not : {A F : Type 0} (as_job : F → JobFault) (r : Result A F)
+    → ((f : F) → as_job f ≢ faults.Shelf) → err A faults.Shelf ≡ or_fault as_job r → ⊥
 or_fault_not as_job (Ok x) other z = absurd cc
 or_fault_not as_job (Err f) other z = other f (let same : faults.Shelf ≡ as_job f = cc in sym same)
 
@@ -115,7 +124,8 @@ or_else_not : (a b : Option JobFault) → NotShelf a → NotShelf b → NotShelf
 or_else_not None b first second = second
 or_else_not (Some e) b first second = first
 
-each_not : {X : Type 0} (f : X → Option JobFault) (xs : List X) → ((x : X) → NotShelf (f x)) → NotShelf (first_of_each f xs)
+each_not : {X : Type 0} (f : X → Option JobFault) (xs : List X) → ((x : X) → NotShelf (f x))
+    → NotShelf (first_of_each f xs)
 each_not f [] all = λ z. absurd cc
 each_not f (x ∷ xs) all = or_else_not (f x) (first_of_each f xs) (all x) (each_not f xs all)
 
@@ -128,14 +138,21 @@ over_not what number limit = by (nat_lt limit number)
 
 each_limit_not : (items : List Item) → NotShelf (each_limit items)
 each_limit_not items =
-    or_else_not (first_of_each writes_fault items) (or_else (first_of_each reads_fault items) (first_of_each parameters_fault items))
+    or_else_not (first_of_each writes_fault items)
+    (or_else (first_of_each reads_fault items) (first_of_each parameters_fault items))
     (each_not writes_fault items (λ x. over_not _ _ _))
-    (or_else_not (first_of_each reads_fault items) (first_of_each parameters_fault items) (each_not reads_fault items (λ x. over_not _ _ _)) (each_not parameters_fault items (λ x. over_not _ _ _)))
+    (or_else_not (first_of_each reads_fault items) (first_of_each parameters_fault items)
+    (each_not reads_fault items (λ x. over_not _ _ _))
+    (each_not parameters_fault items (λ x. over_not _ _ _)))
 
 limits_not : (run : ℕ) (job : Job) → NotShelf (limit_fault run job.items job.shape job.vars job.key)
 limits_not run job =
-    or_else_not (item_limits run job.items) (or_else (grid_limits job.shape job.vars) (key_limit job.key)) (each_limit_not (take run job.items))
-    (or_else_not (grid_limits job.shape job.vars) (key_limit job.key) (or_else_not (points_fault job.shape) (cells_fault job.shape job.vars) (over_not _ _ _) (over_not _ _ _)) (over_not _ _ _))
+    or_else_not (item_limits run job.items)
+    (or_else (grid_limits job.shape job.vars) (key_limit job.key))
+    (each_limit_not (take run job.items))
+    (or_else_not (grid_limits job.shape job.vars) (key_limit job.key)
+    (or_else_not (points_fault job.shape) (cells_fault job.shape job.vars) (over_not _ _ _)
+    (over_not _ _ _)) (over_not _ _ _))
 
 -- ---- items
 
@@ -159,12 +176,15 @@ object_not points path (Some s) = by (nat_lt s.cap points)
 caps_not : (specs : List Spec) (job : Job) → NotShelf (caps_fault specs job)
 caps_not specs job =
     let points : ℕ = greatest_part (parts_of job.shape job.cut) in
-    each_not (cap_fault specs points) (items_run job) (λ x. object_not points x.path (slice_get specs x.routine))
+    each_not (cap_fault specs points) (items_run job)
+    (λ x. object_not points x.path (slice_get specs x.routine))
 
 cut_limits_not : (specs : List Spec) (job : Job) → NotShelf (cut_limits specs job)
 cut_limits_not specs job =
-    or_else_not (option_map faults.Cut (cut_fault (parts_of job.shape job.cut))) (part_limits specs job) (cut_not _)
-    (or_else_not (over (codes "local cells") (local_cells job) (2 ^ 27)) (caps_fault specs job) (over_not _ _ _) (caps_not specs job))
+    or_else_not (option_map faults.Cut (cut_fault (parts_of job.shape job.cut)))
+    (part_limits specs job) (cut_not _)
+    (or_else_not (over (codes "local cells") (local_cells job) (2 ^ 27)) (caps_fault specs job)
+    (over_not _ _ _) (caps_not specs job))
 
 -- ---- all stages
 
@@ -172,42 +192,68 @@ accepts_not : (job : Job) → Accepts job (err Job faults.Shelf) → ⊥
 accepts_not job (fault, is, other, told) = absurd cc
 
 cut_and_not : (specs : List Spec) (job : Job) → CutAnd specs job (err Job faults.Shelf) → ⊥
-cut_and_not specs job = then_not (Is (within_cut specs job)) Accepts (unless_not (cut_limits specs job) job (cut_limits_not specs job)) accepts_not
+cut_and_not specs job = then_not (Is (within_cut specs job)) Accepts
+    (unless_not (cut_limits specs job) job (cut_limits_not specs job)) accepts_not
 
-limits_and_not : (specs : List Spec) (run : ℕ) (job : Job) → LimitsAnd specs run job (err Job faults.Shelf) → ⊥
-limits_and_not specs run job = then_not (Is (within_limits run job)) (CutAnd specs) (unless_not (limit_fault run job.items job.shape job.vars job.key) job (limits_not run job)) (cut_and_not specs)
+limits_and_not : (specs : List Spec) (run : ℕ) (job : Job)
+    → LimitsAnd specs run job (err Job faults.Shelf) → ⊥
+limits_and_not specs run job =
+    then_not (Is (within_limits run job)) (CutAnd specs)
+    (unless_not (limit_fault run job.items job.shape job.vars job.key) job (limits_not run job))
+    (cut_and_not specs)
 
 module _ (specs : List Spec) where
-  items_not : (thorns : List Thorn) (values : Values) (ordered : Ordered) → Matches thorns values specs ordered (err (List Item) faults.Shelf) → ⊥
+  items_not : (thorns : List Thorn) (values : Values) (ordered : Ordered)
+      → Matches thorns values specs ordered (err (List Item) faults.Shelf) → ⊥
   items_not thorns values ordered m = or_fault_not match_fault _ match_not m.items
 
-  items_and_not : (thorns : List Thorn) (values : Values) (ordered : Ordered) (out_vars : List VarId) → ItemsAnd specs thorns values ordered out_vars (err Job faults.Shelf) → ⊥
+  items_and_not : (thorns : List Thorn) (values : Values) (ordered : Ordered)
+      (out_vars : List VarId) → ItemsAnd specs thorns values ordered out_vars (err Job faults.Shelf)
+      → ⊥
   items_and_not thorns values ordered out_vars =
-      then_not (Matches thorns values specs ordered) (λ items. LimitsAnd specs (run_count ordered.plan) (job_of thorns values ordered items out_vars)) (items_not thorns values ordered)
-      (λ items. limits_and_not specs (run_count ordered.plan) (job_of thorns values ordered items out_vars))
+      then_not (Matches thorns values specs ordered)
+      (λ items. LimitsAnd specs (run_count ordered.plan)
+      (job_of thorns values ordered items out_vars)) (items_not thorns values ordered)
+      (λ items. limits_and_not specs (run_count ordered.plan)
+      (job_of thorns values ordered items out_vars))
 
-  outputs_not : (thorns : List Thorn) (values : Values) (ordered : Ordered) → OutputsAnd specs thorns values ordered (err Job faults.Shelf) → ⊥
+  outputs_not : (thorns : List Thorn) (values : Values) (ordered : Ordered)
+      → OutputsAnd specs thorns values ordered (err Job faults.Shelf) → ⊥
   outputs_not thorns values ordered =
-      then_not (Is (output_ids thorns values ordered.storage)) (ItemsAnd specs thorns values ordered)
-      (or_fault_not (λ f. faults.Order (orders.Scope (codes "output") f)) (output_variables thorns values ordered.storage) (λ f z. absurd cc)) (items_and_not thorns values ordered)
+      then_not (Is (output_ids thorns values ordered.storage))
+      (ItemsAnd specs thorns values ordered)
+      (or_fault_not (λ f. faults.Order (orders.Scope (codes "output") f))
+      (output_variables thorns values ordered.storage) (λ f z. absurd cc))
+      (items_and_not thorns values ordered)
 
   order_not : (input : Input) → Orders input (err Ordered faults.Shelf) → ⊥
   order_not input (fault, is, other, told) = absurd cc
 
-  plan_not : (thorns : List Thorn) (schedules : List ScheduleFile) (values : Values) → PlanAnd specs thorns schedules values (err Job faults.Shelf) → ⊥
-  plan_not thorns schedules values = then_not (Orders (input_of thorns schedules values)) (OutputsAnd specs thorns values) (order_not (input_of thorns schedules values)) (outputs_not thorns values)
+  plan_not : (thorns : List Thorn) (schedules : List ScheduleFile) (values : Values)
+      → PlanAnd specs thorns schedules values (err Job faults.Shelf) → ⊥
+  plan_not thorns schedules values =
+      then_not (Orders (input_of thorns schedules values)) (OutputsAnd specs thorns values)
+      (order_not (input_of thorns schedules values)) (outputs_not thorns values)
 
-  values_not : (schedules : List ScheduleFile) (settings : List Setting) (thorns : List Thorn) → ValuesAnd specs schedules settings thorns (err Job faults.Shelf) → ⊥
+  values_not : (schedules : List ScheduleFile) (settings : List Setting) (thorns : List Thorn)
+      → ValuesAnd specs schedules settings thorns (err Job faults.Shelf) → ⊥
   values_not schedules settings thorns =
-      then_not (Is (unless (option_map faults.Value (assign_fault thorns settings)) (assigned thorns settings))) (PlanAnd specs thorns schedules)
-      (unless_not (option_map faults.Value (assign_fault thorns settings)) (assigned thorns settings) (value_not (assign_fault thorns settings))) (plan_not thorns schedules)
+      then_not
+      (Is (unless (option_map faults.Value (assign_fault thorns settings))
+      (assigned thorns settings))) (PlanAnd specs thorns schedules)
+      (unless_not (option_map faults.Value (assign_fault thorns settings))
+      (assigned thorns settings) (value_not (assign_fault thorns settings)))
+      (plan_not thorns schedules)
 
   made_not : (c : Configured) → MadeOf specs c (err Job faults.Shelf) → ⊥
   made_not c =
-      then_not (Is (unless (option_map faults.Bind (bind_fault c.thorns)) c.thorns)) (ValuesAnd specs c.schedules c.settings.list)
-      (unless_not (option_map faults.Bind (bind_fault c.thorns)) c.thorns (bind_not (bind_fault c.thorns))) (values_not c.schedules c.settings.list)
+      then_not (Is (unless (option_map faults.Bind (bind_fault c.thorns)) c.thorns))
+      (ValuesAnd specs c.schedules c.settings.list)
+      (unless_not (option_map faults.Bind (bind_fault c.thorns)) c.thorns
+      (bind_not (bind_fault c.thorns))) (values_not c.schedules c.settings.list)
 
-  pub yields_not : (c : Configured) (r : Result Job JobFault) → Yields (MadeOf specs c) r → r ≢ err Job faults.Shelf
+  pub yields_not : (c : Configured) (r : Result Job JobFault) → Yields (MadeOf specs c) r
+      → r ≢ err Job faults.Shelf
   yields_not c r (inl m) z = absurd cc
   yields_not c r (inr s) z = made_not c (subst (λ (v : Result Job JobFault). MadeOf specs c v) z s)
 
@@ -222,18 +268,26 @@ module _ (specs : List Spec) where
   shelf_only (configs.Bind fault) z = absurd cc
   shelf_only configs.Memory z = absurd cc
 
-  since : (before now : ℕ) (c : Configured) (r : Result Job JobFault) → HasCause configs.Shelf before now (okay c) → r ≢ err Job faults.Shelf → HasCause faults.Shelf before now r
+  since : (before now : ℕ) (c : Configured) (r : Result Job JobFault)
+      → HasCause configs.Shelf before now (okay c) → r ≢ err Job faults.Shelf
+      → HasCause faults.Shelf before now r
   since before now c (Ok v) cause other = record { later = cause.later; failed = λ z. absurd cc }
-  since before now c (Err e) cause other = record { later = cause.later; failed = λ z. absurd (other z) }
+  since before now c (Err e) cause other =
+      record { later = cause.later; failed = λ z. absurd (other z) }
 
-  made_answers : (name : List ℕ) (files : Held) (c : Configured) (r : Result Job JobFault) → (okay c ≡ unread configs.Memory) ⊎ (okay c ≡ unread configs.Shelf) ⊎ Configures name files (Ok c) → Yields (MadeOf specs c) r → (r ≡ err Job faults.Memory) ⊎ (r ≡ err Job faults.Shelf) ⊎ Made name specs files r
+  made_answers : (name : List ℕ) (files : Held) (c : Configured) (r : Result Job JobFault)
+      → (okay c ≡ unread configs.Memory) ⊎ (okay c ≡ unread configs.Shelf)
+      ⊎ Configures name files (Ok c) → Yields (MadeOf specs c) r
+      → (r ≡ err Job faults.Memory) ⊎ (r ≡ err Job faults.Shelf) ⊎ Made name specs files r
   made_answers name files c r (inl m) b = absurd cc
   made_answers name files c r (inr (inl m)) b = absurd cc
   made_answers name files c r (inr (inr s)) (inl m) = inl m
   made_answers name files c r (inr (inr s)) (inr t) = inr (inr (inr (c, s, t)))
 
   -- what the files make is one
-  makes_of : (tells : Type 0) (name : List ℕ) (h0 h1 : Held) (f0 f1 : ℕ) (r : Result Job JobFault) → (tells → Comes h0 name specs r) → (tells → h1 ≡ h0) → HasCause faults.Shelf f0 f1 r → Makes tells (Made name specs) h0 h1 f0 f1 r
+  makes_of : (tells : Type 0) (name : List ℕ) (h0 h1 : Held) (f0 f1 : ℕ) (r : Result Job JobFault)
+      → (tells → Comes h0 name specs r) → (tells → h1 ≡ h0) → HasCause faults.Shelf f0 f1 r
+      → Makes tells (Made name specs) h0 h1 f0 f1 r
   makes_of tells name h0 h1 f0 f1 r answers same cause = record {
     answers = answers;
     only = λ t. only_job h0 name specs r (answers t);
@@ -242,29 +296,52 @@ module _ (specs : List Spec) where
     cause = cause;
   }
 
-  pub makes_pass : (tells : Type 0) (name : List ℕ) (h0 h1 : Held) (f0 f1 : ℕ) (c : Configured) (r : Result Job JobFault) → Follows tells (Configures name) h0 h1 f0 f1 (Ok c) → Yields (MadeOf specs c) r → Makes tells (Made name specs) h0 h1 f0 f1 r
-  makes_pass tells name h0 h1 f0 f1 c r a b = makes_of tells name h0 h1 f0 f1 r (λ t. made_answers name h0 c r (a.answers t) b) a.same (since f0 f1 c r a.cause (yields_not c r b))
+  pub makes_pass : (tells : Type 0) (name : List ℕ) (h0 h1 : Held) (f0 f1 : ℕ) (c : Configured)
+      (r : Result Job JobFault) → Follows tells (Configures name) h0 h1 f0 f1 (Ok c)
+      → Yields (MadeOf specs c) r → Makes tells (Made name specs) h0 h1 f0 f1 r
+  makes_pass tells name h0 h1 f0 f1 c r a b =
+      makes_of tells name h0 h1 f0 f1 r (λ t. made_answers name h0 c r (a.answers t) b) a.same
+      (since f0 f1 c r a.cause (yields_not c r b))
 
-  halt_answers : (name : List ℕ) (files : Held) (e : ConfigFault) → (unread e ≡ unread configs.Memory) ⊎ (unread e ≡ unread configs.Shelf) ⊎ Configures name files (Err e) → Comes files name specs (err Job (config_fault e))
-  halt_answers name files e (inl m) = inl (ap (λ (f : ConfigFault). err Job (config_fault f)) (same_fault Configured e configs.Memory m))
-  halt_answers name files e (inr (inl m)) = inr (inl (ap (λ (f : ConfigFault). err Job (config_fault f)) (same_fault Configured e configs.Shelf m)))
+  halt_answers : (name : List ℕ) (files : Held) (e : ConfigFault)
+      → (unread e ≡ unread configs.Memory) ⊎ (unread e ≡ unread configs.Shelf)
+      ⊎ Configures name files (Err e) → Comes files name specs (err Job (config_fault e))
+  halt_answers name files e (inl m) =
+      inl (ap (λ (f : ConfigFault). err Job (config_fault f))
+      (same_fault Configured e configs.Memory m))
+  halt_answers name files e (inr (inl m)) =
+      inr (inl (ap (λ (f : ConfigFault). err Job (config_fault f))
+      (same_fault Configured e configs.Shelf m)))
   halt_answers name files e (inr (inr s)) = inr (inr (inl (config_fault e, (e, refl, s), refl)))
 
-  pub makes_halt : (tells : Type 0) (name : List ℕ) (h0 h1 : Held) (f0 f1 : ℕ) (e : ConfigFault) → Follows tells (Configures name) h0 h1 f0 f1 (Err e) → Makes tells (Made name specs) h0 h1 f0 f1 (err Job (config_fault e))
+  pub makes_halt : (tells : Type 0) (name : List ℕ) (h0 h1 : Held) (f0 f1 : ℕ) (e : ConfigFault)
+      → Follows tells (Configures name) h0 h1 f0 f1 (Err e)
+      → Makes tells (Made name specs) h0 h1 f0 f1 (err Job (config_fault e))
   makes_halt tells name h0 h1 f0 f1 e a =
-      makes_of tells name h0 h1 f0 f1 (err Job (config_fault e)) (λ t. halt_answers name h0 e (a.answers t)) a.same
-      (record { later = a.cause.later; failed = λ z. a.cause.failed (ap unread (shelf_only e (same_fault Job (config_fault e) faults.Shelf z))) })
+      makes_of tells name h0 h1 f0 f1 (err Job (config_fault e))
+      (λ t. halt_answers name h0 e (a.answers t)) a.same
+      (record {
+        later = a.cause.later;
+        failed = λ z. a.cause.failed
+            (ap unread (shelf_only e (same_fault Job (config_fault e) faults.Shelf z)));
+      })
 
-  pub makes_memory : (tells : Type 0) (name : List ℕ) (h : Held) (f : ℕ) → Makes tells (Made name specs) h h f f (err Job faults.Memory)
-  makes_memory tells name h f = makes_of tells name h h f f (err Job faults.Memory) (λ t. inl refl) (λ t. refl) (record { later = omega arith; failed = λ z. absurd cc })
+  pub makes_memory : (tells : Type 0) (name : List ℕ) (h : Held) (f : ℕ)
+      → Makes tells (Made name specs) h h f f (err Job faults.Memory)
+  makes_memory tells name h f =
+      makes_of tells name h h f f (err Job faults.Memory) (λ t. inl refl) (λ t. refl)
+      (record { later = omega arith; failed = λ z. absurd cc })
 
 -- ---- the limits, one after another
 
-pub key_over : (run : ℕ) (job : Job) (e : JobFault) → item_limits run job.items ≡ None → grid_limits job.shape job.vars ≡ None → (e ≡ faults.Memory) ⊎ (key_limit job.key ≡ Some e) → Yields (Is (within_limits run job)) (err Job e)
+pub key_over : (run : ℕ) (job : Job) (e : JobFault) → item_limits run job.items ≡ None
+    → grid_limits job.shape job.vars ≡ None → (e ≡ faults.Memory) ⊎ (key_limit job.key ≡ Some e)
+    → Yields (Is (within_limits run job)) (err Job e)
 key_over run job e items grid (inl m) = inl (ap (err Job) m)
 key_over run job e items grid (inr key) =
     inr
     (sym
-    (ap (λ (o : Option JobFault). unless (or_else o (or_else (grid_limits job.shape job.vars) (key_limit job.key))) job) items
+    (ap (λ (o : Option JobFault).
+    unless (or_else o (or_else (grid_limits job.shape job.vars) (key_limit job.key))) job) items
     ∙ ap (λ (o : Option JobFault). unless (or_else o (key_limit job.key)) job) grid
     ∙ ap (λ (o : Option JobFault). unless o job) key))

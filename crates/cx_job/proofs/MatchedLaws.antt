@@ -29,22 +29,26 @@ job_same : {X : Type 0} {x y : X} → job_answered x ≡ job_answered y → x �
 job_same e = cc
 
 -- a job's answer is that of the layer below
-pub answered_below : {X : Type 0} (r : Result X MatchFault) (x : X) → job_answered x ≡ or_fault match_fault r → r ≡ answered x
+pub answered_below : {X : Type 0} (r : Result X MatchFault) (x : X)
+    → job_answered x ≡ or_fault match_fault r → r ≡ answered x
 answered_below (Ok y) x told = ap (λ z. answered z) (sym (job_same told))
 answered_below (Err e) x told = err_ok (sym told)
 
 -- an answer, and the answers of others behind it
-record IsFirst (r : Result Item MatchFault) (s : Result (List Item) MatchFault) (ys : List Item) : Type 0 where
+record IsFirst (r : Result Item MatchFault) (s : Result (List Item) MatchFault)
+    (ys : List Item) : Type 0 where
   pub one : Item
   pub others : List Item
   pub first : r ≡ Ok one
   pub rest : s ≡ Ok others
   pub are : ys ≡ one ∷ others
 
-first_given : (r : Result Item MatchFault) (s : Result (List Item) MatchFault) (ys : List Item) → with_next r s ≡ Ok ys → IsFirst r s ys
+first_given : (r : Result Item MatchFault) (s : Result (List Item) MatchFault) (ys : List Item)
+    → with_next r s ≡ Ok ys → IsFirst r s ys
 first_given (Err e) s ys told = err_ok told
 first_given (Ok y) (Err e) ys told = err_ok told
-first_given (Ok y) (Ok others) ys told = record { one = y; others = others; first = refl; rest = refl; are = sym (ok_same told) }
+first_given (Ok y) (Ok others) ys told =
+    record { one = y; others = others; first = refl; rest = refl; are = sym (ok_same told) }
 
 -- ---- one item
 
@@ -59,21 +63,37 @@ pub record IsMatched (w : World) (v : Values) (specs : List Spec) (x y : Item) :
   pub is : y ≡ completed x number spec.kind given
 
 module _ (w : World) (v : Values) (specs : List Spec) (x y : Item) where
-  by_fit : (n : ℕ) (s : Spec) (o : Offer) (b : Bool) → (if b then Ok (completed x n s.kind o) else Err (mismatch w v (thorn_number w.thorns x.thorn) x s)) ≡ answered y → y ≡ completed x n s.kind o
+  by_fit : (n : ℕ) (s : Spec) (o : Offer) (b : Bool)
+      → (if b then Ok (completed x n s.kind o)
+      else Err (mismatch w v (thorn_number w.thorns x.thorn) x s)) ≡ answered y
+      → y ≡ completed x n s.kind o
   by_fit n s o true told = sym (ok_same told)
   by_fit n s o false told = err_ok told
 
-  by_offer : (n : ℕ) (s : Spec) → routine_number specs x ≡ Some n → slice_get specs n ≡ Some s → (o : Option Offer) → offer w v (thorn_number w.thorns x.thorn) s ≡ o
-      → matched_by w v (thorn_number w.thorns x.thorn) x n s o ≡ answered y → IsMatched w v specs x y
+  by_offer : (n : ℕ) (s : Spec) → routine_number specs x ≡ Some n → slice_get specs n ≡ Some s
+      → (o : Option Offer) → offer w v (thorn_number w.thorns x.thorn) s ≡ o
+      → matched_by w v (thorn_number w.thorns x.thorn) x n s o ≡ answered y
+      → IsMatched w v specs x y
   by_offer n s first object None offered told = err_ok told
   by_offer n s first object (Some o) offered told =
-      record { spec = s; number = n; given = o; first = first; object = object; offered = offered; is = by_fit n s o (fits x o) told }
+      record {
+        spec = s;
+        number = n;
+        given = o;
+        first = first;
+        object = object;
+        offered = offered;
+        is = by_fit n s o (fits x o) told;
+      }
 
-  by_spec : (n : ℕ) → routine_number specs x ≡ Some n → (s : Option Spec) → slice_get specs n ≡ s → with_routine w v x (option_map (λ s. (n, s)) s) ≡ answered y → IsMatched w v specs x y
+  by_spec : (n : ℕ) → routine_number specs x ≡ Some n → (s : Option Spec) → slice_get specs n ≡ s
+      → with_routine w v x (option_map (λ s. (n, s)) s) ≡ answered y → IsMatched w v specs x y
   by_spec n first None object told = err_ok told
-  by_spec n first (Some s) object told = by_offer n s first object (offer w v (thorn_number w.thorns x.thorn) s) refl told
+  by_spec n first (Some s) object told =
+      by_offer n s first object (offer w v (thorn_number w.thorns x.thorn) s) refl told
 
-  by_number : (n : Option ℕ) → routine_number specs x ≡ n → with_routine w v x (spec_at specs n) ≡ answered y → IsMatched w v specs x y
+  by_number : (n : Option ℕ) → routine_number specs x ≡ n
+      → with_routine w v x (spec_at specs n) ≡ answered y → IsMatched w v specs x y
   by_number None first told = err_ok told
   by_number (Some n) first told = by_spec n first (slice_get specs n) refl told
 
@@ -87,23 +107,33 @@ module _ (w : World) (v : Values) (specs : List Spec) (run : ℕ) where
   one x = matched_if_run w v specs run x
 
   abbrev Gives : ℕ → List Item → List Item → Type 0
-  Gives n xs ys = (length ys ≡ length xs) × ((k : ℕ) (d e : Item) → k < length xs → one (n + k, get_or xs k d) ≡ Ok (get_or ys k e))
+  Gives n xs ys = (length ys ≡ length xs)
+      × ((k : ℕ) (d e : Item) → k < length xs → one (n + k, get_or xs k d) ≡ Ok (get_or ys k e))
 
-  with_one : (n : ℕ) (x : Item) (xs ys zs : List Item) (y : Item) → one (n, x) ≡ Ok y → ys ≡ y ∷ zs → Gives (n + 1) xs zs → Gives n (x ∷ xs) ys
-  with_one n x xs ys zs y first are others = (ap (λ (us : List Item). length us) are ∙ ap suc others.0, by)
+  with_one : (n : ℕ) (x : Item) (xs ys zs : List Item) (y : Item) → one (n, x) ≡ Ok y → ys ≡ y ∷ zs
+      → Gives (n + 1) xs zs → Gives n (x ∷ xs) ys
+  with_one n x xs ys zs y first are others =
+      (ap (λ (us : List Item). length us) are ∙ ap suc others.0, by)
     where
-      by : (k : ℕ) (d e : Item) → k < length (x ∷ xs) → one (n + k, get_or (x ∷ xs) k d) ≡ Ok (get_or ys k e)
+      by : (k : ℕ) (d e : Item) → k < length (x ∷ xs)
+          → one (n + k, get_or (x ∷ xs) k d) ≡ Ok (get_or ys k e)
       by zero d e within =
           let here : n + 0 ≡ n = omega arith in
           ap (λ m. one (m, x)) here ∙ first ∙ ap (λ us. answered (get_or us 0 e)) (sym are)
       by (suc k) d e within =
           let next : n + suc k ≡ (n + 1) + k = omega arith in
-          ap (λ m. one (m, get_or xs k d)) next ∙ others.1 k d e (omega (arith, within)) ∙ ap (λ us. answered (get_or us (suc k) e)) (sym are)
+          ap (λ m. one (m, get_or xs k d)) next ∙ others.1 k d e (omega (arith, within))
+          ∙ ap (λ us. answered (get_or us (suc k) e)) (sym are)
 
-  each_given : (n : ℕ) (xs ys : List Item) → all_ok (map one (enumerate_from n xs)) ≡ answered ys → Gives n xs ys
-  each_given n [] ys told = (ap (λ (zs : List Item). length zs) (sym (ok_same told)), λ k d e within. absurd (let no : ⊥ = omega (arith, within) in no))
+  each_given : (n : ℕ) (xs ys : List Item) → all_ok (map one (enumerate_from n xs)) ≡ answered ys
+      → Gives n xs ys
+  each_given n [] ys told = (
+    ap (λ (zs : List Item). length zs) (sym (ok_same told)),
+    λ k d e within. absurd (let no : ⊥ = omega (arith, within) in no),
+  )
   each_given n (x ∷ xs) ys told =
-      let h : IsFirst (one (n, x)) (all_ok (map one (enumerate_from (n + 1) xs))) ys = first_given (one (n, x)) (all_ok (map one (enumerate_from (n + 1) xs))) ys told in
+      let h : IsFirst (one (n, x)) (all_ok (map one (enumerate_from (n + 1) xs))) ys =
+      first_given (one (n, x)) (all_ok (map one (enumerate_from (n + 1) xs))) ys told in
       with_one n x xs ys h.others h.one h.first h.are (each_given (n + 1) xs h.others h.rest)
 
   module _ (xs ys : List Item) (told : all_matched w v specs run xs ≡ answered ys) where
@@ -112,20 +142,33 @@ module _ (w : World) (v : Values) (specs : List Spec) (run : ℕ) where
     as_many_matched = (each_given 0 xs ys told).0
 
     -- each is matched, or behind those that are run and as it was
-    pub matched_or_kept : (k : ℕ) (d e : Item) → k < length xs → ((k < run) × IsMatched w v specs (get_or xs k d) (get_or ys k e)) ⊎ ((run ≤ k) × (get_or ys k e ≡ get_or xs k d))
-    matched_or_kept k d e within = by (nat_lt k run) refl (ap (λ m. one (m, get_or xs k d)) same ∙ (each_given 0 xs ys told).1 k d e within)
+    pub matched_or_kept : (k : ℕ) (d e : Item) → k < length xs
+        → ((k < run) × IsMatched w v specs (get_or xs k d) (get_or ys k e))
+        ⊎ ((run ≤ k) × (get_or ys k e ≡ get_or xs k d))
+    matched_or_kept k d e within =
+        by (nat_lt k run) refl
+        (ap (λ m. one (m, get_or xs k d)) same ∙ (each_given 0 xs ys told).1 k d e within)
       where
         same : k ≡ 0 + k
         same = omega arith
 
-        by : (b : Bool) → nat_lt k run ≡ b → (if b then matched w v specs (get_or xs k d) else Ok (get_or xs k d)) ≡ answered (get_or ys k e)
-            → ((k < run) × IsMatched w v specs (get_or xs k d) (get_or ys k e)) ⊎ ((run ≤ k) × (get_or ys k e ≡ get_or xs k d))
-        by true e told = inl (ltb-true k run e, is_matched w v specs (get_or xs k d) (get_or ys k _) told)
+        by : (b : Bool) → nat_lt k run ≡ b
+            → (if b then matched w v specs (get_or xs k d) else Ok (get_or xs k d))
+            ≡ answered (get_or ys k e)
+            → ((k < run) × IsMatched w v specs (get_or xs k d) (get_or ys k e))
+            ⊎ ((run ≤ k) × (get_or ys k e ≡ get_or xs k d))
+        by true e told = inl (
+          ltb-true k run e,
+          is_matched w v specs (get_or xs k d) (get_or ys k _) told,
+        )
         by false e told = inr (ltb-false k run e, sym (ok_same told))
 
-    pub matched_at : (k : ℕ) (d e : Item) → k < length xs → k < run → IsMatched w v specs (get_or xs k d) (get_or ys k e)
+    pub matched_at : (k : ℕ) (d e : Item) → k < length xs → k < run
+        → IsMatched w v specs (get_or xs k d) (get_or ys k e)
     matched_at k d e within low = by (matched_or_kept k d e within)
       where
-        by : ((k < run) × IsMatched w v specs (get_or xs k d) (get_or ys k e)) ⊎ ((run ≤ k) × (get_or ys k e ≡ get_or xs k d)) → IsMatched w v specs (get_or xs k d) (get_or ys k e)
+        by : ((k < run) × IsMatched w v specs (get_or xs k d) (get_or ys k e))
+            ⊎ ((run ≤ k) × (get_or ys k e ≡ get_or xs k d))
+            → IsMatched w v specs (get_or xs k d) (get_or ys k e)
         by (inl is) = is.1
         by (inr is) = (let past = is.0 in absurd (let no : ⊥ = omega (arith, past, low) in no))

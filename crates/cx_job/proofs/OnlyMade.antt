@@ -34,73 +34,109 @@ use Rattle.cx_config.proofs.Settled.{Settled, same_fault, settled_is, then_settl
 use Rattle.cx_job.specs.JobLimits.{run_count}
 use Rattle.cx_job.specs.Making.{Orders, Matches, Accepts, CutAnd, within_cut, LimitsAnd, ItemsAnd, OutputsAnd, PlanAnd, ValuesAnd, MadeOf, output_ids, within_limits, without_witness}
 
-matches_same : (thorns : List Thorn) (values : Values) (specs : List Spec) (ordered : Ordered) (r s : Result (List Item) JobFault) → Matches thorns values specs ordered r → Matches thorns values specs ordered s → r ≡ s
+matches_same : (thorns : List Thorn) (values : Values) (specs : List Spec) (ordered : Ordered)
+    (r s : Result (List Item) JobFault) → Matches thorns values specs ordered r
+    → Matches thorns values specs ordered s → r ≡ s
 matches_same thorns values specs ordered r s m n =
-    m.items ∙ ap (or_fault match_fault) (all-same thorns m.sight n.sight ordered.storage values m.told n.told specs (run_count ordered.plan) ordered.items) ∙ sym n.items
+    m.items ∙ ap (or_fault match_fault)
+    (all-same thorns m.sight n.sight ordered.storage values m.told n.told specs
+    (run_count ordered.plan) ordered.items) ∙ sym n.items
 
-matches_settled : (thorns : List Thorn) (values : Values) (specs : List Spec) (ordered : Ordered) → Settled without_witness (Matches thorns values specs ordered)
+matches_settled : (thorns : List Thorn) (values : Values) (specs : List Spec) (ordered : Ordered)
+    → Settled without_witness (Matches thorns values specs ordered)
 matches_settled thorns values specs ordered = record {
   one = λ x r m n. matches_same thorns values specs ordered r (Ok x) n m;
-  alike = λ e f m n. ap without_witness (same_fault (List Item) e f (matches_same thorns values specs ordered (Err e) (Err f) m n));
+  alike = λ e f m n. ap without_witness
+      (same_fault (List Item) e f (matches_same thorns values specs ordered (Err e) (Err f) m n));
 }
 
 -- ---- the plan, and the job's acceptance
 
-orders_one : (input : Input) (x : Ordered) (r : Result Ordered JobFault) → Orders input (Ok x) → Orders input r → r ≡ Ok x
+orders_one : (input : Input) (x : Ordered) (r : Result Ordered JobFault) → Orders input (Ok x)
+    → Orders input r → r ≡ Ok x
 orders_one input x (Ok y) p q = ap (λ (o : Ordered). Ok o) (only input y x q p)
 orders_one input x (Err e) p (fault, is, other, told) = absurd (never-both input x fault p told)
 
 orders_settled : (input : Input) → Settled without_witness (Orders input)
 orders_settled input = record {
   one = orders_one input;
-  alike = λ e f (a, is, other, told) (b, is2, other2, told2). ap without_witness is ∙ ap faults.Order (orders.one-fault input a b told told2) ∙ sym (ap without_witness is2);
+  alike = λ e f (a, is, other, told) (b, is2, other2, told2). ap without_witness is
+      ∙ ap faults.Order (orders.one-fault input a b told told2) ∙ sym (ap without_witness is2);
 }
 
-never-refused : (setup : Setup) (fault : RegionFault) → HasShapes setup → Sound setup → IsRegionFault setup fault → ⊥
+never-refused : (setup : Setup) (fault : RegionFault) → HasShapes setup → Sound setup
+    → IsRegionFault setup fault → ⊥
 never-refused setup fault shapes sound (inl told) = no-shape-fault setup fault shapes told
 never-refused setup fault shapes sound (inr (has, f)) =
     let none = sound f.first.0 f.first.1 in
     let some = f.first.2 in
     absurd cc
 
-accepts_one : (job : Job) (x : Job) (r : Result Job JobFault) → Accepts job (Ok x) → Accepts job r → r ≡ Ok x
+accepts_one : (job : Job) (x : Job) (r : Result Job JobFault) → Accepts job (Ok x) → Accepts job r
+    → r ≡ Ok x
 accepts_one job x (Ok y) p q = ap (λ (j : Job). Ok j) (q.0 ∙ sym p.0)
-accepts_one job x (Err e) p (fault, is, other, told) = absurd (never-refused (setup_of job) fault p.1 p.2 told)
+accepts_one job x (Err e) p (fault, is, other, told) =
+    absurd (never-refused (setup_of job) fault p.1 p.2 told)
 
 accepts_settled : (job : Job) → Settled without_witness (Accepts job)
 accepts_settled job = record {
   one = accepts_one job;
-  alike = λ e f (a, is, other, told) (b, is2, other2, told2). ap without_witness is ∙ ap faults.Region (regions.one-fault (setup_of job) a b told told2) ∙ sym (ap without_witness is2);
+  alike = λ e f (a, is, other, told) (b, is2, other2, told2). ap without_witness is
+      ∙ ap faults.Region (regions.one-fault (setup_of job) a b told told2)
+      ∙ sym (ap without_witness is2);
 }
 
 -- ---- all stages behind the files
 
 cut_settled : (specs : List Spec) (job : Job) → Settled without_witness (CutAnd specs job)
-cut_settled specs job = then_settled without_witness (Is (within_cut specs job)) Accepts (settled_is without_witness (within_cut specs job)) accepts_settled
+cut_settled specs job = then_settled without_witness (Is (within_cut specs job)) Accepts
+    (settled_is without_witness (within_cut specs job)) accepts_settled
 
-limits_settled : (specs : List Spec) (run : ℕ) (job : Job) → Settled without_witness (LimitsAnd specs run job)
-limits_settled specs run job = then_settled without_witness (Is (within_limits run job)) (CutAnd specs) (settled_is without_witness (within_limits run job)) (cut_settled specs)
+limits_settled : (specs : List Spec) (run : ℕ) (job : Job)
+    → Settled without_witness (LimitsAnd specs run job)
+limits_settled specs run job =
+    then_settled without_witness (Is (within_limits run job)) (CutAnd specs)
+    (settled_is without_witness (within_limits run job)) (cut_settled specs)
 
 module _ (specs : List Spec) where
-  items_settled : (thorns : List Thorn) (values : Values) (ordered : Ordered) (out_vars : List VarId) → Settled without_witness (ItemsAnd specs thorns values ordered out_vars)
+  items_settled : (thorns : List Thorn) (values : Values) (ordered : Ordered)
+      (out_vars : List VarId)
+      → Settled without_witness (ItemsAnd specs thorns values ordered out_vars)
   items_settled thorns values ordered out_vars =
-      then_settled without_witness (Matches thorns values specs ordered) (λ items. LimitsAnd specs (run_count ordered.plan) (job_of thorns values ordered items out_vars)) (matches_settled thorns values specs ordered)
-      (λ items. limits_settled specs (run_count ordered.plan) (job_of thorns values ordered items out_vars))
+      then_settled without_witness (Matches thorns values specs ordered)
+      (λ items. LimitsAnd specs (run_count ordered.plan)
+      (job_of thorns values ordered items out_vars))
+      (matches_settled thorns values specs ordered)
+      (λ items. limits_settled specs (run_count ordered.plan)
+      (job_of thorns values ordered items out_vars))
 
-  outputs_settled : (thorns : List Thorn) (values : Values) (ordered : Ordered) → Settled without_witness (OutputsAnd specs thorns values ordered)
+  outputs_settled : (thorns : List Thorn) (values : Values) (ordered : Ordered)
+      → Settled without_witness (OutputsAnd specs thorns values ordered)
   outputs_settled thorns values ordered =
-      then_settled without_witness (Is (output_ids thorns values ordered.storage)) (ItemsAnd specs thorns values ordered) (settled_is without_witness (output_ids thorns values ordered.storage)) (items_settled thorns values ordered)
+      then_settled without_witness (Is (output_ids thorns values ordered.storage))
+      (ItemsAnd specs thorns values ordered)
+      (settled_is without_witness (output_ids thorns values ordered.storage))
+      (items_settled thorns values ordered)
 
-  plan_settled : (thorns : List Thorn) (schedules : List ScheduleFile) (values : Values) → Settled without_witness (PlanAnd specs thorns schedules values)
+  plan_settled : (thorns : List Thorn) (schedules : List ScheduleFile) (values : Values)
+      → Settled without_witness (PlanAnd specs thorns schedules values)
   plan_settled thorns schedules values =
-      then_settled without_witness (Orders (input_of thorns schedules values)) (OutputsAnd specs thorns values) (orders_settled (input_of thorns schedules values)) (outputs_settled thorns values)
+      then_settled without_witness (Orders (input_of thorns schedules values))
+      (OutputsAnd specs thorns values) (orders_settled (input_of thorns schedules values))
+      (outputs_settled thorns values)
 
-  values_settled : (schedules : List ScheduleFile) (settings : List Setting) (thorns : List Thorn) → Settled without_witness (ValuesAnd specs schedules settings thorns)
+  values_settled : (schedules : List ScheduleFile) (settings : List Setting) (thorns : List Thorn)
+      → Settled without_witness (ValuesAnd specs schedules settings thorns)
   values_settled schedules settings thorns =
-      let told : Result Values JobFault = unless (option_map faults.Value (assign_fault thorns settings)) (assigned thorns settings) in
-      then_settled without_witness (Is told) (PlanAnd specs thorns schedules) (settled_is without_witness told) (plan_settled thorns schedules)
+      let told : Result Values JobFault =
+      unless (option_map faults.Value (assign_fault thorns settings)) (assigned thorns settings)
+      in
+      then_settled without_witness (Is told) (PlanAnd specs thorns schedules)
+      (settled_is without_witness told) (plan_settled thorns schedules)
 
   pub made_settled : (c : Configured) → Settled without_witness (MadeOf specs c)
   made_settled c =
-      let told : Result (List Thorn) JobFault = unless (option_map faults.Bind (bind_fault c.thorns)) c.thorns in
-      then_settled without_witness (Is told) (ValuesAnd specs c.schedules c.settings.list) (settled_is without_witness told) (values_settled c.schedules c.settings.list)
+      let told : Result (List Thorn) JobFault =
+      unless (option_map faults.Bind (bind_fault c.thorns)) c.thorns in
+      then_settled without_witness (Is told) (ValuesAnd specs c.schedules c.settings.list)
+      (settled_is without_witness told) (values_settled c.schedules c.settings.list)

@@ -1,4 +1,5 @@
--- Worked rows: which variables are written, the stored levels of variables, and how many cells they have.
+-- Worked rows: which variables are written, the stored levels of variables, and how many cells they
+-- have.
 use Rattle.std.specs.Prelude.{◌≡◌, refl, ℕ, pos, true, false, List, [], ◌∷◌, ◌++◌, map, codes, Some, Result, Ok, Err}
 use Rattle.cx_iface.specs.declared.tree.Access.TheVariants.{Public}
 use Rattle.cx_grid.specs.declared.shapes.Shape.{Shape}
@@ -14,7 +15,13 @@ use Rattle.cx_job.specs.Outputs.{output_names, output_variables}
 use Rattle.cx_grids.specs.Stored.{stored_infos, point_count, owned_cells}
 
 abbrev out_vars : List ℕ → Values
-out_vars text = record { slots = slot [] (text_parameter 1 (codes "IO") (codes "out_vars") text) ∷ []; given = []; uses = []; globals = [] }
+out_vars text = record {
+  slots =
+      slot [] (text_parameter 1 (codes "IO") (codes "out_vars") text) ∷ [];
+  given = [];
+  uses = [];
+  globals = [];
+}
 
 -- the automaton has the cell, of the group cells, and the scalar live, of the group counts
 abbrev written : List ℕ → List ℕ → Result (List VarId) ScopeFault
@@ -23,7 +30,8 @@ written text storage = output_variables (elem_ca ∷ []) (out_vars text) storage
 abbrev both_stored : List ℕ
 both_stored = 1 ∷ 1 ∷ []
 
-row_names : output_names (out_vars (codes " ca::cell" ++ 10 ∷ 9 ∷ codes "CA::CELLS ")) ≡ codes "ca::cell" ∷ codes "CA::CELLS" ∷ []
+row_names : output_names (out_vars (codes " ca::cell" ++ 10 ∷ 9 ∷ codes "CA::CELLS "))
+    ≡ codes "ca::cell" ∷ codes "CA::CELLS" ∷ []
 row_names = refl
 
 row_none : written [] both_stored ≡ Ok []
@@ -36,7 +44,8 @@ row_group : written (codes "CA::CELLS") both_stored ≡ Ok (record { 0 = 0 } ∷
 row_group = refl
 
 -- once, and in the order of the numbers
-row_several : written (codes "ca::counts CA::CELLS ca::live") both_stored ≡ Ok (record { 0 = 0 } ∷ record { 0 = 1 } ∷ [])
+row_several : written (codes "ca::counts CA::CELLS ca::live") both_stored
+    ≡ Ok (record { 0 = 0 } ∷ record { 0 = 1 } ∷ [])
 row_several = refl
 
 row_nobody : written (codes "ca::cell ca::nobody") both_stored ≡ Err (NotFound (codes "ca::nobody"))
@@ -49,17 +58,20 @@ row_short = refl
 row_past : written (codes "ca::cell_p") both_stored ≡ Err (NotFound (codes "ca::cell_p"))
 row_past = refl
 
-row_not_stored : written (codes "ca::live CA::Cells") (0 ∷ 1 ∷ []) ≡ Err (NoStorage (codes "CA::Cells"))
+row_not_stored : written (codes "ca::live CA::Cells") (0 ∷ 1 ∷ [])
+    ≡ Err (NoStorage (codes "CA::Cells"))
 row_not_stored = refl
 
 -- the first name that has a fault
-row_first_fault : written (codes "ca::cells ca::nobody") (0 ∷ 1 ∷ []) ≡ Err (NoStorage (codes "ca::cells"))
+row_first_fault : written (codes "ca::cells ca::nobody") (0 ∷ 1 ∷ [])
+    ≡ Err (NoStorage (codes "ca::cells"))
 row_first_fault = refl
 
 -- ---- copies
 
 abbrev pair_ : List Thorn
-pair_ = thorn (codes "Pair") (codes "pair") [] (record (grid_group Public (codes "g") 1 (codes "v" ∷ [])) { copies = Some 2 } ∷ []) [] ∷ []
+pair_ = thorn (codes "Pair") (codes "pair") []
+    (record (grid_group Public (codes "g") 1 (codes "v" ∷ [])) { copies = Some 2 } ∷ []) [] ∷ []
 
 abbrev of_pair : List ℕ → Result (List VarId) ScopeFault
 of_pair text = output_variables pair_ (out_vars text) both_stored

@@ -47,78 +47,129 @@ err A e = Err e
 -- ---- what objects say of themselves
 
 -- what is kept of the first ones, with one more
-pub kept_one : {X Y Z : Type 0} (f : X → Z) (g : Y → Z) (xs xs2 : List X) (x : X) (ys : List Y) (k : ℕ) (y : Y) → k < length ys → y ≡ get_or ys k y → f x ≡ g y → map f xs ≡ map g (take k ys) → xs2 ≡ xs ++ x ∷ [] → map f xs2 ≡ map g (take (k + 1) ys)
+pub kept_one : {X Y Z : Type 0} (f : X → Z) (g : Y → Z) (xs xs2 : List X) (x : X) (ys : List Y)
+    (k : ℕ) (y : Y) → k < length ys → y ≡ get_or ys k y → f x ≡ g y → map f xs ≡ map g (take k ys)
+    → xs2 ≡ xs ++ x ∷ [] → map f xs2 ≡ map g (take (k + 1) ys)
 kept_one f g xs xs2 x ys k y within at one before after =
-    ap (map f) after ∙ map-append f xs (x ∷ []) ∙ ap (λ zs. zs ++ f x ∷ []) before ∙ ap (λ z. map g (take k ys) ++ z ∷ []) one
-    ∙ ap (λ v. map g (take k ys) ++ g v ∷ []) at ∙ sym (map-append g (take k ys) (get_or ys k y ∷ [])) ∙ ap (map g) (sym (take_more ys k y within))
+    ap (map f) after ∙ map-append f xs (x ∷ []) ∙ ap (λ zs. zs ++ f x ∷ []) before
+    ∙ ap (λ z. map g (take k ys) ++ z ∷ []) one
+    ∙ ap (λ v. map g (take k ys) ++ g v ∷ []) at
+    ∙ sym (map-append g (take k ys) (get_or ys k y ∷ []))
+    ∙ ap (map g) (sym (take_more ys k y within))
 
 -- ---- items by what the thorns see
 
-module _ (thorns : List Thorn) (values : Values) (specs : List Spec) (ordered : Ordered) (sight : Sight) (run : ℕ) (items : List Item) where
+module _ (thorns : List Thorn) (values : Values) (specs : List Spec) (ordered : Ordered)
+    (sight : Sight) (run : ℕ) (items : List Item) where
   abbrev w : World
   w = record { thorns = thorns; sight = sight; storage = ordered.storage }
 
-  same_items : run ≡ run_count ordered.plan → items ≡ ordered.items → all_matched w values specs run items ≡ all_matched w values specs (run_count ordered.plan) ordered.items
-  same_items counted taken = ap (λ k. all_matched w values specs k items) counted ∙ ap (all_matched w values specs (run_count ordered.plan)) taken
+  same_items : run ≡ run_count ordered.plan → items ≡ ordered.items
+      → all_matched w values specs run items
+      ≡ all_matched w values specs (run_count ordered.plan) ordered.items
+  same_items counted taken =
+      ap (λ k. all_matched w values specs k items) counted
+      ∙ ap (all_matched w values specs (run_count ordered.plan)) taken
 
-  pub matches_of : IsSightOf thorns sight → run ≡ run_count ordered.plan → items ≡ ordered.items → (r : Result (List Item) MatchFault) → Answers matches.Memory (all_matched w values specs run items) r → Yields (Matches thorns values specs ordered) (or_fault match_fault r)
-  matches_of told counted taken (Ok xs) is = inr (record { sight = sight; told = told; items = ap (or_fault match_fault) (sym is ∙ same_items counted taken) })
-  matches_of told counted taken (Err e) (inl m) = inl (ap (λ (f : MatchFault). err (List Item) (match_fault f)) m)
-  matches_of told counted taken (Err e) (inr is) = inr (record { sight = sight; told = told; items = ap (or_fault match_fault) (sym is ∙ same_items counted taken) })
+  pub matches_of : IsSightOf thorns sight → run ≡ run_count ordered.plan → items ≡ ordered.items
+      → (r : Result (List Item) MatchFault)
+      → Answers matches.Memory (all_matched w values specs run items) r
+      → Yields (Matches thorns values specs ordered) (or_fault match_fault r)
+  matches_of told counted taken (Ok xs) is =
+      inr (record {
+        sight = sight;
+        told = told;
+        items = ap (or_fault match_fault) (sym is ∙ same_items counted taken);
+      })
+  matches_of told counted taken (Err e) (inl m) =
+      inl (ap (λ (f : MatchFault). err (List Item) (match_fault f)) m)
+  matches_of told counted taken (Err e) (inr is) =
+      inr (record {
+        sight = sight;
+        told = told;
+        items = ap (or_fault match_fault) (sym is ∙ same_items counted taken);
+      })
 
 -- ---- the job, of a plan whose items were taken out to be matched
 
-module _ (specs : List Spec) (thorns : List Thorn) (values : Values) (ordered : Ordered) (out_vars : List VarId) where
+module _ (specs : List Spec) (thorns : List Thorn) (values : Values) (ordered : Ordered)
+    (out_vars : List VarId) where
   abbrev job_by : List Item → Job
   job_by items = job_of thorns values ordered items out_vars
 
   abbrev limits : ℕ → Job → Option JobFault
   limits run job = limit_fault run job.items job.shape job.vars job.key
 
-  module _ (left : Ordered) (run : ℕ) (items : List Item) (taken : left ≡ record ordered { items = [] }) (counted : run ≡ run_count ordered.plan) where
+  module _ (left : Ordered) (run : ℕ) (items : List Item)
+      (taken : left ≡ record ordered { items = [] }) (counted : run ≡ run_count ordered.plan) where
     abbrev job_left : Job
     job_left = job_of thorns values left items out_vars
 
     one_job : job_left ≡ job_by items
     one_job = ap (λ (o : Ordered). job_of thorns values o items out_vars) taken
 
-    limits_too : (r : Result Job JobFault) → Yields (LimitsAnd specs run job_left) r → Yields (LimitsAnd specs (run_count ordered.plan) (job_by items)) r
-    limits_too r here = subst (λ k. Yields (LimitsAnd specs k (job_by items)) r) counted (subst (λ j. Yields (LimitsAnd specs run j) r) one_job here)
+    limits_too : (r : Result Job JobFault) → Yields (LimitsAnd specs run job_left) r
+        → Yields (LimitsAnd specs (run_count ordered.plan) (job_by items)) r
+    limits_too r here = subst (λ k. Yields (LimitsAnd specs k (job_by items)) r) counted
+        (subst (λ j. Yields (LimitsAnd specs run j) r) one_job here)
 
-    pub over_limits : (e : JobFault) → Yields (Matches thorns values specs ordered) (Ok items) → Yields (Is (within_limits run job_left)) (err Job e) → Yields (ItemsAnd specs thorns values ordered out_vars) (err Job e)
+    pub over_limits : (e : JobFault) → Yields (Matches thorns values specs ordered) (Ok items)
+        → Yields (Is (within_limits run job_left)) (err Job e)
+        → Yields (ItemsAnd specs thorns values ordered out_vars) (err Job e)
     over_limits e matches limited =
-        yields_pass (Matches thorns values specs ordered) (λ items. LimitsAnd specs (run_count ordered.plan) (job_by items)) items (Err e) matches
-        (limits_too (Err e) (yields_halt (Is (within_limits run job_left)) (CutAnd specs) e limited))
+        yields_pass (Matches thorns values specs ordered)
+        (λ items. LimitsAnd specs (run_count ordered.plan) (job_by items)) items (Err e) matches
+        (limits_too (Err e) (yields_halt (Is (within_limits run job_left)) (CutAnd specs)
+        e limited))
 
-    pub items_made : (job : Job) (r : Result Job JobFault) → Yields (Matches thorns values specs ordered) (Ok items) → Yields (Is (within_limits run job_left)) (Ok job) → Yields (CutAnd specs job) r → Yields (ItemsAnd specs thorns values ordered out_vars) r
+    pub items_made : (job : Job) (r : Result Job JobFault)
+        → Yields (Matches thorns values specs ordered) (Ok items)
+        → Yields (Is (within_limits run job_left)) (Ok job) → Yields (CutAnd specs job) r
+        → Yields (ItemsAnd specs thorns values ordered out_vars) r
     items_made job r matches limited accepted =
-        yields_pass (Matches thorns values specs ordered) (λ items. LimitsAnd specs (run_count ordered.plan) (job_by items)) items r matches
-        (limits_too r (yields_pass (Is (within_limits run job_left)) (CutAnd specs) job r limited accepted))
+        yields_pass (Matches thorns values specs ordered)
+        (λ items. LimitsAnd specs (run_count ordered.plan) (job_by items)) items r matches
+        (limits_too r (yields_pass (Is (within_limits run job_left)) (CutAnd specs)
+        job r limited accepted))
 
-    module _ (job : Job) (matches : Yields (Matches thorns values specs ordered) (Ok items)) (limited : Yields (Is (within_limits run job_left)) (Ok job)) (planned : IsPlanned thorns values ordered) where
+    module _ (job : Job) (matches : Yields (Matches thorns values specs ordered) (Ok items))
+        (limited : Yields (Is (within_limits run job_left)) (Ok job))
+        (planned : IsPlanned thorns values ordered) where
       the_job : job ≡ job_by items
       the_job = (unless_ok (limits run job_left) job_left job limited).1 ∙ one_job
 
       none_over : limits (run_count ordered.plan) (job_by items) ≡ None
       none_over =
           subst (λ k. limits k (job_by items) ≡ None) counted
-          (subst (λ j. limits run j ≡ None) one_job (unless_ok (limits run job_left) job_left job limited).0)
+          (subst (λ j. limits run j ≡ None) one_job
+          (unless_ok (limits run job_left) job_left job limited).0)
 
-      pub whole_of : AreRead (variable_infos thorns) → output_variables thorns values ordered.storage ≡ Ok out_vars → IsWhole job
+      pub whole_of : AreRead (variable_infos thorns)
+          → output_variables thorns values ordered.storage ≡ Ok out_vars → IsWhole job
       whole_of read outputs =
           subst IsWhole (sym the_job)
-          (is_whole thorns planned.files values specs ordered items out_vars (record { fit = planned.fit; planned = planned.plan; few = none_over; written = outputs }) read (yields_ok (Matches thorns values specs ordered) items matches))
+          (is_whole thorns planned.files values specs ordered items out_vars
+          (record {
+            fit = planned.fit;
+            planned = planned.plan;
+            few = none_over;
+            written = outputs;
+          }) read
+          (yields_ok (Matches thorns values specs ordered) items matches))
 
       pub run_of : All (IsRunWith specs job) (run_items (setup_of job))
       run_of =
           subst (λ (j : Job). All (IsRunWith specs j) (run_items (setup_of j))) (sym the_job)
-          (fits thorns planned.files values specs ordered items out_vars planned.plan (yields_ok (Matches thorns values specs ordered) items matches))
+          (fits thorns planned.files values specs ordered items out_vars planned.plan
+          (yields_ok (Matches thorns values specs ordered) items matches))
 
 pub unmapped : (o : Option CutFault) → option_map faults.Cut o ≡ None → o ≡ None
 unmapped None none = refl
 unmapped (Some e) none = absurd cc
 
-pub ready_of : (specs : List Spec) (job : Job) (r : Result Job JobFault) → IsWhole job → All (IsRunWith specs job) (run_items (setup_of job)) → Yields (CutAnd specs job) r → IfOk r (IsReady specs)
+pub ready_of : (specs : List Spec) (job : Job) (r : Result Job JobFault) → IsWhole job
+    → All (IsRunWith specs job) (run_items (setup_of job)) → Yields (CutAnd specs job) r
+    → IfOk r (IsReady specs)
 ready_of specs job (Err e) whole run accepted = tt
 ready_of specs job (Ok other) whole run (inl m) = absurd cc
 ready_of specs job (Ok other) whole run (inr (inl (e, s, z))) = absurd cc
@@ -133,24 +184,39 @@ ready_of specs job (Ok other) whole run (inr (inr (x, s, t))) =
       shapes = subst (λ j. HasShapes (setup_of j)) cut.1 t.1;
       sound = subst (λ j. Sound (setup_of j)) cut.1 t.2;
       fit = job_fits specs job run (second_none cells (caps_fault specs job) none);
-      cut = unmapped (cut_fault (parts_of job.shape job.cut)) (first_none parts (part_limits specs job) cut.0);
-      few_cells = not_over (codes "local cells") (local_cells job) (2 ^ 27) (first_none cells (caps_fault specs job) none);
+      cut = unmapped (cut_fault (parts_of job.shape job.cut))
+          (first_none parts (part_limits specs job) cut.0);
+      few_cells = not_over (codes "local cells") (local_cells job) (2 ^ 27)
+          (first_none cells (caps_fault specs job) none);
     })
 
 -- ---- the plan and the variables that are written
 
-module _ (specs : List Spec) (thorns : List Thorn) (schedules : List ScheduleFile) (values : Values) where
-  pub unwritten : (ordered : Ordered) (e : JobFault) → Yields (Orders (input_of thorns schedules values)) (Ok ordered) → Yields (Is (output_ids thorns values ordered.storage)) (err (List VarId) e) → Yields (PlanAnd specs thorns schedules values) (err Job e)
-  unwritten ordered e plan told =
-      yields_pass (Orders (input_of thorns schedules values)) (OutputsAnd specs thorns values) ordered (Err e) plan (yields_halt (Is (output_ids thorns values ordered.storage)) (ItemsAnd specs thorns values ordered) e told)
+module _ (specs : List Spec) (thorns : List Thorn) (schedules : List ScheduleFile) (values : Values)
+  where
+    pub unwritten : (ordered : Ordered) (e : JobFault)
+        → Yields (Orders (input_of thorns schedules values)) (Ok ordered)
+        → Yields (Is (output_ids thorns values ordered.storage)) (err (List VarId) e)
+        → Yields (PlanAnd specs thorns schedules values) (err Job e)
+    unwritten ordered e plan told =
+        yields_pass (Orders (input_of thorns schedules values)) (OutputsAnd specs thorns values)
+        ordered (Err e) plan (yields_halt (Is (output_ids thorns values ordered.storage))
+        (ItemsAnd specs thorns values ordered) e told)
 
-  pub plan_made : (ordered : Ordered) (out_vars : List VarId) (r : Result Job JobFault) → Yields (Orders (input_of thorns schedules values)) (Ok ordered) → Yields (Is (output_ids thorns values ordered.storage)) (Ok out_vars) → Yields (ItemsAnd specs thorns values ordered out_vars) r → Yields (PlanAnd specs thorns schedules values) r
-  plan_made ordered out_vars r plan told made =
-      yields_pass (Orders (input_of thorns schedules values)) (OutputsAnd specs thorns values) ordered r plan (yields_pass (Is (output_ids thorns values ordered.storage)) (ItemsAnd specs thorns values ordered) out_vars r told made)
+    pub plan_made : (ordered : Ordered) (out_vars : List VarId) (r : Result Job JobFault)
+        → Yields (Orders (input_of thorns schedules values)) (Ok ordered)
+        → Yields (Is (output_ids thorns values ordered.storage)) (Ok out_vars)
+        → Yields (ItemsAnd specs thorns values ordered out_vars) r
+        → Yields (PlanAnd specs thorns schedules values) r
+    plan_made ordered out_vars r plan told made =
+        yields_pass (Orders (input_of thorns schedules values)) (OutputsAnd specs thorns values)
+        ordered r plan (yields_pass (Is (output_ids thorns values ordered.storage))
+        (ItemsAnd specs thorns values ordered) out_vars r told made)
 
 -- ---- the answer
 
 -- what holds of a job that is ready
-pub if_ready : (specs : List Spec) (P : Job → Type 0) (r : Result Job JobFault) → ((job : Job) → IsReady specs job → P job) → IfOk r (IsReady specs) → IfOk r P
+pub if_ready : (specs : List Spec) (P : Job → Type 0) (r : Result Job JobFault)
+    → ((job : Job) → IsReady specs job → P job) → IfOk r (IsReady specs) → IfOk r P
 if_ready specs P (Ok job) each ready = each job ready
 if_ready specs P (Err e) each ready = tt

@@ -37,7 +37,8 @@ numbers_then k zero b =
 numbers_then k (suc a) b =
     let next : k + suc a ≡ (k + 1) + a = omega arith in
     let all : suc (a + b) ≡ suc a + b = omega arith in
-    ap (λ n. k ∷ numbers (k + 1) a ++ numbers n b) next ∙ ap (λ l. k ∷ l) (numbers_then (k + 1) a b) ∙ ap (λ n. numbers k n) all
+    ap (λ n. k ∷ numbers (k + 1) a ++ numbers n b) next ∙ ap (λ l. k ∷ l) (numbers_then (k + 1) a b)
+    ∙ ap (λ n. numbers k n) all
 
 numbers_many : (k n : ℕ) → length (numbers k n) ≡ n
 numbers_many k zero = refl
@@ -45,7 +46,9 @@ numbers_many k (suc n) = ap suc (numbers_many (k + 1) n)
 
 numbers_below : (k n m : ℕ) → k + n ≤ m → All (λ j. j < m) (numbers k n)
 numbers_below k zero m room = none_in (λ j. j < m)
-numbers_below k (suc n) m room = All-cons (λ j. j < m) k (numbers (k + 1) n) (omega (arith, room)) (numbers_below (k + 1) n m (omega (arith, room)))
+numbers_below k (suc n) m room =
+    All-cons (λ j. j < m) k (numbers (k + 1) n) (omega (arith, room))
+    (numbers_below (k + 1) n m (omega (arith, room)))
 
 -- ---- what trees call
 
@@ -54,7 +57,9 @@ all_called ts = flat_map called ts
 
 called_behind : (ts us : List Tree) → all_called (ts ++ us) ≡ all_called ts ++ all_called us
 called_behind [] us = refl
-called_behind (t ∷ ts) us = ap (λ l. called t ++ l) (called_behind ts us) ∙ sym (append_assoc (called t) (all_called ts) (all_called us))
+called_behind (t ∷ ts) us =
+    ap (λ l. called t ++ l) (called_behind ts us)
+    ∙ sym (append_assoc (called t) (all_called ts) (all_called us))
 
 syncs_call_none : (path : List ℕ) (vars : List VarId) → all_called (sync_tree path vars) ≡ []
 syncs_call_none path [] = refl
@@ -64,19 +69,26 @@ call_calls : (path : List ℕ) (vars : List VarId) (k : ℕ) → called (call_tr
 call_calls path [] k = refl
 call_calls path (v ∷ vs) k = called-seq (Call k ∷ Sync (v ∷ vs) path ∷ [])
 
-under_while : (path : List ℕ) (turn : Option VarId) (work : Tree) → called (with_while path turn work) ≡ called work
+under_while : (path : List ℕ) (turn : Option VarId) (work : Tree)
+    → called (with_while path turn work) ≡ called work
 under_while path None work = refl
 under_while path (Some v) work = called-while v path work ∙ append-nil (called work)
 
-under_if : (path : List ℕ) (test : Option VarId) (work : Tree) → called (with_if path test work) ≡ called work
+under_if : (path : List ℕ) (test : Option VarId) (work : Tree)
+    → called (with_if path test work) ≡ called work
 under_if path None work = refl
 under_if path (Some v) work = called-if v path work ∙ append-nil (called work)
 
-under_both : (w : World) (e : Entry) (path : List ℕ) (work : Tree) → called (wrapped (names_of w e) path work) ≡ called work
-under_both w e path work = under_if path (names_of w e).test (with_while path (names_of w e).turn work) ∙ under_while path (names_of w e).turn work
+under_both : (w : World) (e : Entry) (path : List ℕ) (work : Tree)
+    → called (wrapped (names_of w e) path work) ≡ called work
+under_both w e path work =
+    under_if path (names_of w e).test (with_while path (names_of w e).turn work)
+    ∙ under_while path (names_of w e).turn work
 
-work_calls : (group : Bool) (path : List ℕ) (vars : List VarId) (k c : ℕ) (inner : List Tree) → all_called inner ≡ numbers k c
-    → called (if group then Seq (inner ++ sync_tree path vars) else call_tree path vars k) ≡ numbers k (if group then c else 1)
+work_calls : (group : Bool) (path : List ℕ) (vars : List VarId) (k c : ℕ) (inner : List Tree)
+    → all_called inner ≡ numbers k c
+    → called (if group then Seq (inner ++ sync_tree path vars) else call_tree path vars k)
+    ≡ numbers k (if group then c else 1)
 work_calls true path vars k c inner is =
     called-seq (inner ++ sync_tree path vars)
     ∙ called_behind inner (sync_tree path vars)
@@ -90,8 +102,12 @@ trees_call w k Done = refl
 trees_call w k (Then e path inside rest) =
     let m = names_of w e in
     let c : ℕ = if e.block.group then calls inside else 1 in
-    let work : Tree = if e.block.group then Seq (trees w k inside ++ sync_tree path m.sync) else call_tree path m.sync k in
-    let here : called (wrapped m path work) ≡ numbers k c = under_both w e path work ∙ work_calls e.block.group path m.sync k (calls inside) (trees w k inside) (trees_call w k inside) in
+    let work : Tree = if e.block.group then Seq (trees w k inside ++ sync_tree path m.sync)
+    else call_tree path m.sync k in
+    let here : called (wrapped m path work) ≡ numbers k c =
+    under_both w e path work
+    ∙ work_calls e.block.group path m.sync k (calls inside) (trees w k inside)
+    (trees_call w k inside) in
     ap (λ l. l ++ all_called (trees w (k + c) rest)) here
     ∙ ap (λ l. numbers k c ++ l) (trees_call w (k + c) rest)
     ∙ numbers_then k c (calls rest)
@@ -107,7 +123,8 @@ first_calls zero fs = 0
 first_calls (suc n) [] = 0
 first_calls (suc n) (f ∷ fs) = calls f + first_calls n fs
 
-first_bins_call : (w : World) (n k : ℕ) (fs : List Forest) → all_called (take n (bin_trees w k fs)) ≡ numbers k (first_calls n fs)
+first_bins_call : (w : World) (n k : ℕ) (fs : List Forest)
+    → all_called (take n (bin_trees w k fs)) ≡ numbers k (first_calls n fs)
 first_bins_call w zero k fs = refl
 first_bins_call w (suc n) k [] = refl
 first_bins_call w (suc n) k (f ∷ fs) =
@@ -116,7 +133,8 @@ first_bins_call w (suc n) k (f ∷ fs) =
     ∙ numbers_then k (calls f) (first_calls n fs)
 
 -- no more than there are items
-first_few : (w : World) (n : ℕ) (fs : List Forest) → first_calls n fs ≤ length (flat_map (forest_items w) fs)
+first_few : (w : World) (n : ℕ) (fs : List Forest)
+    → first_calls n fs ≤ length (flat_map (forest_items w) fs)
 first_few w zero fs = omega arith
 first_few w (suc n) [] = omega arith
 first_few w (suc n) (f ∷ fs) =
@@ -128,23 +146,28 @@ first_few w (suc n) (f ∷ fs) =
 calls_none : (P : ℕ → Type 0) → All P (called (Seq []))
 calls_none P = subst (λ l. All P l) (sym (called-seq [])) (none_in P)
 
-bin_below : (w : World) (n k m : ℕ) (fs : List Forest) → k + first_calls n fs ≤ m → (b : ℕ) → b < n → All (λ j. j < m) (called (get_or (bin_trees w k fs) b (Seq [])))
+bin_below : (w : World) (n k m : ℕ) (fs : List Forest) → k + first_calls n fs ≤ m → (b : ℕ) → b < n
+    → All (λ j. j < m) (called (get_or (bin_trees w k fs) b (Seq [])))
 bin_below w zero k m fs room b below = absurd (let no : ⊥ = omega (arith, below) in no)
 bin_below w (suc n) k m [] room zero below = calls_none (λ j. j < m)
 bin_below w (suc n) k m [] room (suc b) below = calls_none (λ j. j < m)
 bin_below w (suc n) k m (f ∷ fs) room zero below =
-    subst (λ l. All (λ j. j < m) l) (sym (bin_calls w k f)) (numbers_below k (calls f) m (omega (arith, room)))
-bin_below w (suc n) k m (f ∷ fs) room (suc b) below = bin_below w n (k + calls f) m fs (omega (arith, room)) b (omega (arith, below))
+    subst (λ l. All (λ j. j < m) l) (sym (bin_calls w k f))
+    (numbers_below k (calls f) m (omega (arith, room)))
+bin_below w (suc n) k m (f ∷ fs) room (suc b) below =
+    bin_below w n (k + calls f) m fs (omega (arith, room)) b (omega (arith, below))
 
 -- the bins that are run call as many items as the first forests
-run_is : (w : World) (fs : List Forest) (plan : Schedule) → plan.bins ≡ bin_trees w 0 fs → run_count plan ≡ first_calls 13 fs
+run_is : (w : World) (fs : List Forest) (plan : Schedule) → plan.bins ≡ bin_trees w 0 fs
+    → run_count plan ≡ first_calls 13 fs
 run_is w fs plan bins =
     ap (λ ts. length (all_called (take 13 ts))) bins
     ∙ ap (λ (l : List ℕ). length l) (first_bins_call w 13 0 fs)
     ∙ numbers_many 0 (first_calls 13 fs)
 
 -- and the first ones alone
-run_below : (w : World) (fs : List Forest) (setup : Setup) → setup.bins ≡ bin_trees w 0 fs → All (λ k. k < first_calls 13 fs) (run_items setup)
+run_below : (w : World) (fs : List Forest) (setup : Setup) → setup.bins ≡ bin_trees w 0 fs
+    → All (λ k. k < first_calls 13 fs) (run_items setup)
 run_below w fs setup bins =
     let m : ℕ = first_calls 13 fs in
     in_all (λ k. k < m) (λ b. called (bin setup b)) (range_with_len 0 13)
@@ -152,15 +175,21 @@ run_below w fs setup bins =
     let b : ℕ = get_or (range_with_len 0 13) i d in
     let at : b ≡ 0 + i = get_or-range_with_len 0 13 i d within in
     let few = length-range_with_len 0 13 in
-    subst (λ ts. All (λ k. k < m) (called (get_or ts b (Seq [])))) (sym bins) (bin_below w 13 0 m fs (omega arith) b (omega (arith, at, few, within))))
+    subst (λ ts. All (λ k. k < m) (called (get_or ts b (Seq [])))) (sym bins)
+    (bin_below w 13 0 m fs (omega arith) b (omega (arith, at, few, within))))
 
 -- of a plan's items, by its bins
-pub called_of_plan : (input : Input) (ordered : Ordered) → IsPlan input ordered → (setup : Setup) → setup.bins ≡ ordered.plan.bins → All (λ k. (k < run_count ordered.plan) × (k < length ordered.items)) (run_items setup)
+pub called_of_plan : (input : Input) (ordered : Ordered) → IsPlan input ordered → (setup : Setup)
+    → setup.bins ≡ ordered.plan.bins
+    → All (λ k. (k < run_count ordered.plan) × (k < length ordered.items)) (run_items setup)
 called_of_plan input ordered plan setup same =
     let w : World = world input plan.c plan.sight in
     let fs : List Forest = forests plan.c.entries plan.orders in
-    let bins : ordered.plan.bins ≡ bin_trees w 0 fs = ap (λ (o : Ordered). o.plan.bins) plan.is_planned in
-    let items : length ordered.items ≡ length (flat_map (forest_items w) fs) = ap (λ (o : Ordered). length o.items) plan.is_planned in
+    let bins : ordered.plan.bins ≡ bin_trees w 0 fs =
+    ap (λ (o : Ordered). o.plan.bins) plan.is_planned in
+    let items : length ordered.items ≡ length (flat_map (forest_items w) fs) =
+    ap (λ (o : Ordered). length o.items) plan.is_planned in
     let is : run_count ordered.plan ≡ first_calls 13 fs = run_is w fs ordered.plan bins in
     let few = first_few w 13 fs in
-    λ i d within. (let below = run_below w fs setup (same ∙ bins) i d within in (omega (arith, is, below), omega (arith, items, few, below)))
+    λ i d within. (let below = run_below w fs setup (same ∙ bins) i d within in
+    (omega (arith, is, below), omega (arith, items, few, below)))

@@ -2,6 +2,7 @@
 use Rattle.std.proofs.Common.{◌≡◌, ◌≢◌, ◌⊎◌, inl, inr, refl, ap, sym, subst, ◌∙◌, ℕ, ◌*◌, ◌-◌, ◌^◌, ◌≤◌, ◌<◌, Bool, true, false, nat_lt, ltb-false, pos, negsuc, List, length, get_or, take, Some, None, Ok, if◌then◌else◌, codes, arith, ◌+◌}
 use Rattle.std.proofs.lemmas.Int.{ints}
 use Rattle.std.proofs.lemmas.List.{get_or-take, length-take}
+use Rattle.std.proofs.lemmas.List.Elements.{All-nil}
 use Rattle.std.specs.List.{flat_map}
 use Rattle.std.specs.Prelude.{All, AllPairs, slice_index_or}
 use Rattle.cx_grid.specs.Boxes.{point_count}
@@ -9,6 +10,7 @@ use Rattle.cx_grid.specs.Grid.{IsShape, whole}
 use Rattle.cx_plan.specs.Lists.{or_else, first_of_each}
 use Rattle.cx_plan.specs.Whole.{IsName, IsStored, IsItem, IsSmall, IsTree, IsWhole, grid_levels}
 use Rattle.cx_plan.specs.Setups.{setup_of}
+use Rattle.cx_plan.specs.Steering.{IsSteer}
 use Rattle.cx_plan.specs.Lookups.{item, no_item}
 use Rattle.cx_plan.specs.Regions.{run_items}
 use Rattle.cx_plan.specs.declared.variable.VarId.{VarId}
@@ -31,7 +33,7 @@ use Rattle.cx_job.specs.JobLimits.{over, writes_fault, reads_fault, parameters_f
 use Rattle.cx_job.specs.Jobs.{job_of}
 use Rattle.cx_config.specs.NamesAndLevels.{AreRead}
 use Rattle.cx_job.specs.Outputs.{output_variables}
-use Rattle.cx_grids.specs.Stored.{in_64_bits, stored_infos}
+use Rattle.cx_grids.specs.Stored.{stored_infos}
 use Rattle.cx_grids.specs.Grids.{number_at}
 use Rattle.cx_job.specs.Making.{Matches}
 use Rattle.cx_grids.proofs.NoneLaws.{some_none, first_none, second_none}
@@ -47,51 +49,62 @@ use Rattle.cx_job.proofs.MatchedLaws.{answered_below, IsMatched, as_many_matched
 use Rattle.cx_job.proofs.TouchLaws.{matched_whole, planned_whole}
 use Rattle.cx_job.proofs.RunLaws.{called_of_plan}
 use Rattle.cx_job.proofs.PlanFacts.{each_variable, each_bin, not_deep, not_large, no_more_levels}
+use Rattle.cx_text.specs.Numbers.{in_64_bits}
 
 -- ---- limits
 
 pub not_over : (what : List ℕ) (number limit : ℕ) → over what number limit ≡ None → number ≤ limit
 not_over what number limit none = by (nat_lt limit number) refl none
   where
-    by : (b : Bool) → nat_lt limit number ≡ b → (if b then Some (Limit what (in_64_bits number)) else None) ≡ None → number ≤ limit
+    by : (b : Bool) → nat_lt limit number ≡ b
+        → (if b then Some (Limit what (in_64_bits number)) else None) ≡ None → number ≤ limit
     by true e none = some_none none
     by false e none = ltb-false limit number e
 
 -- what the stages before have made sure of
-pub record IsSound (thorns : List Thorn) (files : List ScheduleFile) (values : Values) (run : ℕ) (ordered : Ordered) (items : List Item) (out_vars : List VarId) : Type 0 where
+pub record IsSound (thorns : List Thorn) (files : List ScheduleFile) (values : Values) (run : ℕ)
+    (ordered : Ordered) (items : List Item) (out_vars : List VarId) : Type 0 where
   pub fit : bind_fault thorns ≡ None
   pub planned : IsPlan (input_of thorns files values) ordered
-  pub few : (let job = job_of thorns values ordered items out_vars in limit_fault run job.items job.shape job.vars job.key) ≡ None
+  pub few : (let job = job_of thorns values ordered items out_vars in
+      limit_fault run job.items job.shape job.vars job.key) ≡ None
   pub written : output_variables thorns values ordered.storage ≡ Ok out_vars
 
 at_most : (a b c : ℕ) → a ≤ b → b ≤ c → a ≤ c
 at_most a b c h i = omega arith
 
-module _ (thorns : List Thorn) (files : List ScheduleFile) (values : Values) (run : ℕ) (ordered : Ordered) (items : List Item) (out_vars : List VarId) (sound : IsSound thorns files values run ordered items out_vars) where
+module _ (thorns : List Thorn) (files : List ScheduleFile) (values : Values) (run : ℕ)
+    (ordered : Ordered) (items : List Item) (out_vars : List VarId)
+    (sound : IsSound thorns files values run ordered items out_vars) where
   abbrev job : Job
   job = job_of thorns values ordered items out_vars
 
   -- ---- the grid and the key
 
   behind_items : or_else (grid_limits job.shape job.vars) (key_limit job.key) ≡ None
-  behind_items = second_none (item_limits run job.items) (or_else (grid_limits job.shape job.vars) (key_limit job.key)) sound.few
+  behind_items = second_none (item_limits run job.items)
+      (or_else (grid_limits job.shape job.vars) (key_limit job.key)) sound.few
 
   pub items_fit : item_limits run job.items ≡ None
-  items_fit = first_none (item_limits run job.items) (or_else (grid_limits job.shape job.vars) (key_limit job.key)) sound.few
+  items_fit = first_none (item_limits run job.items)
+      (or_else (grid_limits job.shape job.vars) (key_limit job.key)) sound.few
 
   grid_fits : grid_limits job.shape job.vars ≡ None
   grid_fits = first_none (grid_limits job.shape job.vars) (key_limit job.key) behind_items
 
   pub few_points : point_count (whole job.shape) ≤ 2 ^ 24
-  few_points = not_over (codes "points") (point_count (whole job.shape)) (2 ^ 24) (first_none (points_fault job.shape) (cells_fault job.shape job.vars) grid_fits)
+  few_points = not_over (codes "points") (point_count (whole job.shape)) (2 ^ 24)
+      (first_none (points_fault job.shape) (cells_fault job.shape job.vars) grid_fits)
 
   pub few_cells : grid_levels job.vars * point_count (whole job.shape) ≤ 2 ^ 26
   few_cells =
-      not_over (codes "owned cells") (grid_levels job.vars * point_count (whole job.shape)) (2 ^ 26) (second_none (points_fault job.shape) (cells_fault job.shape job.vars) grid_fits)
+      not_over (codes "owned cells") (grid_levels job.vars * point_count (whole job.shape)) (2 ^ 26)
+      (second_none (points_fault job.shape) (cells_fault job.shape job.vars) grid_fits)
 
   pub short_key : length job.key < 2 ^ 32
   short_key =
-      let most = not_over (codes "key") (length job.key) (2 ^ 32 - 1) (second_none (grid_limits job.shape job.vars) (key_limit job.key) behind_items) in
+      let most = not_over (codes "key") (length job.key) (2 ^ 32 - 1)
+      (second_none (grid_limits job.shape job.vars) (key_limit job.key) behind_items) in
       omega (arith, most)
 
   pub shape : IsShape job.shape
@@ -103,14 +116,17 @@ module _ (thorns : List Thorn) (files : List ScheduleFile) (values : Values) (ru
   names_apart = stored_differ thorns ordered.storage (no_two_variables thorns sound.fit)
 
   pub few_variables : length job.vars ≤ 256
-  few_variables = (let same = as_many_stored thorns ordered.storage in let most = few_declared thorns sound.fit in omega (arith, same, most))
+  few_variables = (let same = as_many_stored thorns ordered.storage in
+      let most = few_declared thorns sound.fit in omega (arith, same, most))
 
   pub one_of_scalars : All (λ (v : VarInfo). v.scalar ≡ true → v.levels ≤ 1) job.vars
   one_of_scalars =
       each_stored thorns ordered.storage (λ (v : VarInfo). v.scalar ≡ true → v.levels ≤ 1)
       (λ k d within scalar.
       let v : VarInfo = get_or (variable_infos thorns) k d in
-      at_most (slice_index_or ordered.storage k 0) v.levels 1 (no_more_levels (input_of thorns files values) ordered sound.planned k d within) (one_level thorns sound.fit k d within scalar))
+      at_most (slice_index_or ordered.storage k 0) v.levels 1
+      (no_more_levels (input_of thorns files values) ordered sound.planned k d within)
+      (one_level thorns sound.fit k d within scalar))
 
   pub names : AreRead (variable_infos thorns) → All (λ (v : VarInfo). IsName v.full) job.vars
   names read = names_kept thorns ordered.storage IsName read.names
@@ -120,7 +136,9 @@ module _ (thorns : List Thorn) (files : List ScheduleFile) (values : Values) (ru
       each_stored thorns ordered.storage (λ (v : VarInfo). v.levels ≤ 8)
       (λ k d within.
       let v : VarInfo = get_or (variable_infos thorns) k d in
-      at_most (slice_index_or ordered.storage k 0) v.levels 8 (no_more_levels (input_of thorns files values) ordered sound.planned k d within) (read.levels k d within))
+      at_most (slice_index_or ordered.storage k 0) v.levels 8
+      (no_more_levels (input_of thorns files values) ordered sound.planned k d within)
+      (read.levels k d within))
 
   pub written_stored : All (λ v. IsStored job v 0) job.out_vars
   written_stored = outputs_stored thorns values ordered.storage out_vars sound.written
@@ -137,23 +155,36 @@ module _ (thorns : List Thorn) (files : List ScheduleFile) (values : Values) (ru
   trees_named as_many =
       let w : World = world (input_of thorns files values) sound.planned.c sound.planned.sight in
       let all : List Forest = forests sound.planned.c.entries sound.planned.orders in
-      let vars : job.vars ≡ stored_infos w.thorns w.storage = ap (λ (o : Ordered). stored_infos thorns o.storage) sound.planned.is_planned in
-      let calls : length ordered.items ≡ length (flat_map (forest_items w) all) = ap (λ (o : Ordered). length o.items) sound.planned.is_planned in
-      let bins : ordered.plan.bins ≡ bin_trees w 0 all = ap (λ (o : Ordered). o.plan.bins) sound.planned.is_planned in
+      let vars : job.vars ≡ stored_infos w.thorns w.storage =
+      ap (λ (o : Ordered). stored_infos thorns o.storage) sound.planned.is_planned in
+      let calls : length ordered.items ≡ length (flat_map (forest_items w) all) =
+      ap (λ (o : Ordered). length o.items) sound.planned.is_planned in
+      let bins : ordered.plan.bins ≡ bin_trees w 0 all =
+      ap (λ (o : Ordered). o.plan.bins) sound.planned.is_planned in
       subst (λ trees. All (IsTree job) trees) (sym bins)
-      (bins_whole job w (are_names job w vars (each_variable thorns sound.planned.sight sound.planned.c.lines)) 0 all (as_much_room (length items) (length ordered.items) (length (flat_map (forest_items w) all)) as_many calls))
+      (bins_whole job w (are_names job w vars
+      (each_variable thorns sound.planned.sight sound.planned.c.lines)) 0 all
+      (as_much_room (length items) (length ordered.items)
+      (length (flat_map (forest_items w) all)) as_many calls))
 
   -- ---- all together
 
-  -- Of the items it is left to show that they touch what is there, and that those that are run are within their limits.
-  whole_with : AreRead (variable_infos thorns) → length items ≡ length ordered.items → All (IsItem job) job.items → All (λ k. IsSmall (item (setup_of job) k)) (run_items (setup_of job)) → IsWhole job
+  -- Of the items it is left to show that they touch what is there, and that those that are run are
+  -- within their limits.
+  whole_with : AreRead (variable_infos thorns) → length items ≡ length ordered.items
+      → All (IsItem job) job.items
+      → All (λ k. IsSmall (item (setup_of job) k)) (run_items (setup_of job)) → IsWhole job
   whole_with read as_many of_items small =
-      let iterations = natural_lies_within values 0 1000000 (codes "Cactus::cctk_itlast") (omega arith) in
-      let turns = natural_lies_within values 1 1000000 (codes "driver::while_limit") (omega arith) in
+      let iterations = natural_lies_within values 0 1000000 (codes "Cactus::cctk_itlast")
+      (omega arith) in
+      let turns = natural_lies_within values 1 1000000 (codes "driver::while_limit") (omega arith)
+      in
       let ahead = natural_lies_within values 0 64 (codes "driver::lead") (omega arith) in
       let slots = natural_lies_within values 1 7 (codes "IO::checkpoint_keep") (omega arith) in
-      let outputs = lies_within (negsuc 0) (pos 1000000) (number_at values (codes "IO::out_every")) (omega (arith, ints)) in
-      let checkpoints = lies_within (negsuc 0) (pos 1000000) (number_at values (codes "IO::checkpoint_every")) (omega (arith, ints)) in
+      let outputs = lies_within (negsuc 0) (pos 1000000) (number_at values (codes "IO::out_every"))
+      (omega (arith, ints)) in
+      let checkpoints = lies_within (negsuc 0) (pos 1000000)
+      (number_at values (codes "IO::checkpoint_every")) (omega (arith, ints)) in
       record {
         shape = shape;
         names = names read;
@@ -167,6 +198,8 @@ module _ (thorns : List Thorn) (files : List ScheduleFile) (values : Values) (ru
         nodes_limit = not_large (input_of thorns files values) ordered sound.planned;
         depth_limit = not_deep (input_of thorns files values) ordered sound.planned;
         outputs = written_stored;
+        steers = All-nil (IsSteer (setup_of job));
+        weight = tt;
         outputs_rise = written_rise;
         variables_limit = few_variables;
         itlast_limit = iterations.1;
@@ -185,8 +218,10 @@ module _ (thorns : List Thorn) (files : List ScheduleFile) (values : Values) (ru
 
 -- ---- items that were matched
 
-module _ (thorns : List Thorn) (files : List ScheduleFile) (values : Values) (specs : List Spec) (ordered : Ordered) (items : List Item) (out_vars : List VarId)
-    (sound : IsSound thorns files values (run_count ordered.plan) ordered items out_vars) (matches : Matches thorns values specs ordered (Ok items)) where
+module _ (thorns : List Thorn) (files : List ScheduleFile) (values : Values) (specs : List Spec)
+    (ordered : Ordered) (items : List Item) (out_vars : List VarId)
+    (sound : IsSound thorns files values (run_count ordered.plan) ordered items out_vars)
+    (matches : Matches thorns values specs ordered (Ok items)) where
   abbrev made : Job
   made = job_of thorns values ordered items out_vars
 
@@ -197,58 +232,88 @@ module _ (thorns : List Thorn) (files : List ScheduleFile) (values : Values) (sp
   run = run_count ordered.plan
 
   as_many : length items ≡ length ordered.items
-  as_many = as_many_matched seen values specs run ordered.items items (answered_below (all_matched seen values specs run ordered.items) items matches.items)
+  as_many = as_many_matched seen values specs run ordered.items items
+      (answered_below (all_matched seen values specs run ordered.items) items matches.items)
 
   each_stored_level : length ordered.storage ≡ length (variable_infos thorns)
-  each_stored_level = ap (λ (o : Ordered). length o.storage) sound.planned.is_planned ∙ each_variable thorns sound.planned.sight sound.planned.c.lines
+  each_stored_level = ap (λ (o : Ordered). length o.storage) sound.planned.is_planned
+      ∙ each_variable thorns sound.planned.sight sound.planned.c.lines
 
   of_plan : All (IsItem made) ordered.items
   of_plan =
       let w : World = world (input_of thorns files values) sound.planned.c sound.planned.sight in
-      let vars : made.vars ≡ stored_infos w.thorns w.storage = ap (λ (o : Ordered). stored_infos thorns o.storage) sound.planned.is_planned in
-      subst (λ xs. All (IsItem made) xs) (sym (ap (λ (o : Ordered). o.items) sound.planned.is_planned))
-      (planned_whole made w vars (each_variable thorns sound.planned.sight sound.planned.c.lines) (forests sound.planned.c.entries sound.planned.orders))
+      let vars : made.vars ≡ stored_infos w.thorns w.storage =
+      ap (λ (o : Ordered). stored_infos thorns o.storage) sound.planned.is_planned in
+      subst (λ xs. All (IsItem made) xs)
+      (sym (ap (λ (o : Ordered). o.items) sound.planned.is_planned))
+      (planned_whole made w vars (each_variable thorns sound.planned.sight sound.planned.c.lines)
+      (forests sound.planned.c.entries sound.planned.orders))
 
-  -- an item that isn't run has the touches of its schedule line, and each other one those of its routine
+  -- an item that isn't run has the touches of its schedule line, and each other one those of its
+  -- routine
   of_items : All (IsItem made) items
-  of_items k d within = by (matched_or_kept seen values specs run ordered.items items (answered_below (all_matched seen values specs run ordered.items) items matches.items) k d d there)
+  of_items k d within = by
+      (matched_or_kept seen values specs run ordered.items items
+      (answered_below (all_matched seen values specs run ordered.items) items matches.items)
+      k d d there)
     where
       there : k < length ordered.items
       there = (let same = as_many in omega (arith, within, same))
 
-      by : ((k < run) × IsMatched seen values specs (get_or ordered.items k d) (get_or items k d)) ⊎ ((run ≤ k) × (get_or items k d ≡ get_or ordered.items k d)) → IsItem made (get_or items k d)
-      by (inl is) = matched_whole made seen refl each_stored_level values specs (get_or ordered.items k d) (get_or items k d) is.1
+      by : ((k < run) × IsMatched seen values specs (get_or ordered.items k d) (get_or items k d))
+          ⊎ ((run ≤ k) × (get_or items k d ≡ get_or ordered.items k d))
+          → IsItem made (get_or items k d)
+      by (inl is) = matched_whole made seen refl each_stored_level values specs
+          (get_or ordered.items k d) (get_or items k d) is.1
       by (inr is) = subst (λ x. IsItem made x) (sym is.1) (of_plan k d there)
 
   -- what is within a limit for each of the first items
-  first_within : (what : List ℕ) (size : Item → ℕ) (limit : ℕ) → first_of_each (λ x. over what (size x) limit) (take run items) ≡ None → (k : ℕ) → k < run → k < length items → size (get_or items k no_item) ≤ limit
+  first_within : (what : List ℕ) (size : Item → ℕ) (limit : ℕ)
+      → first_of_each (λ x. over what (size x) limit) (take run items) ≡ None → (k : ℕ) → k < run
+      → k < length items → size (get_or items k no_item) ≤ limit
   first_within what size limit none k low there =
       let long = length-take run items in
-      let at : get_or (take run items) k no_item ≡ get_or items k no_item = get_or-take run items k no_item low in
+      let at : get_or (take run items) k no_item ≡ get_or items k no_item =
+      get_or-take run items k no_item low in
       not_over what (size (get_or items k no_item)) limit
-      (subst (λ x. over what (size x) limit ≡ None) at (all_none (λ x. over what (size x) limit) (take run items) none k no_item (omega (arith, long, low, there))))
+      (subst (λ x. over what (size x) limit ≡ None) at
+      (all_none (λ x. over what (size x) limit) (take run items) none k no_item
+      (omega (arith, long, low, there))))
 
   small_at : (k : ℕ) → k < run → k < length items → IsSmall (get_or items k no_item)
   small_at k low there =
       let first : List Item = take run items in
-      let none : item_limits run items ≡ None = items_fit thorns files values run ordered items out_vars sound in
-      let behind = second_none (first_of_each writes_fault first) (or_else (first_of_each reads_fault first) (first_of_each parameters_fault first)) none in
+      let none : item_limits run items ≡ None =
+      items_fit thorns files values run ordered items out_vars sound in
+      let behind = second_none (first_of_each writes_fault first)
+      (or_else (first_of_each reads_fault first) (first_of_each parameters_fault first)) none in
       record {
-        reads = first_within (codes "reads") (λ x. length x.reads) 32 (first_none (first_of_each reads_fault first) (first_of_each parameters_fault first) behind) k low there;
-        writes = first_within (codes "writes") (λ x. length x.writes) 16 (first_none (first_of_each writes_fault first) (or_else (first_of_each reads_fault first) (first_of_each parameters_fault first)) none) k low there;
-        params = first_within (codes "parameters") (λ x. length x.params) 32 (second_none (first_of_each reads_fault first) (first_of_each parameters_fault first) behind) k low there;
+        reads = first_within (codes "reads") (λ x. length x.reads) 32
+            (first_none (first_of_each reads_fault first) (first_of_each parameters_fault first)
+            behind) k low there;
+        writes = first_within (codes "writes") (λ x. length x.writes) 16
+            (first_none (first_of_each writes_fault first)
+            (or_else (first_of_each reads_fault first) (first_of_each parameters_fault first)) none)
+            k low there;
+        params = first_within (codes "parameters") (λ x. length x.params) 32
+            (second_none (first_of_each reads_fault first) (first_of_each parameters_fault first)
+            behind) k low there;
       }
 
   small_items : All (λ k. IsSmall (item (setup_of made) k)) (run_items (setup_of made))
   small_items i d within =
       let k : ℕ = get_or (run_items (setup_of made)) i d in
-      let at = called_of_plan (input_of thorns files values) ordered sound.planned (setup_of made) refl i d within in
+      let at = called_of_plan (input_of thorns files values) ordered sound.planned (setup_of made)
+      refl i d within in
       let same = as_many in
       small_at k at.0 (omega (arith, at.1, same))
 
 -- A job is whole where its parts are sound, its thorns were read and its items matched.
-pub is_whole : (thorns : List Thorn) (files : List ScheduleFile) (values : Values) (specs : List Spec) (ordered : Ordered) (items : List Item) (out_vars : List VarId)
-    → IsSound thorns files values (run_count ordered.plan) ordered items out_vars → AreRead (variable_infos thorns) → Matches thorns values specs ordered (Ok items) → IsWhole (job_of thorns values ordered items out_vars)
+pub is_whole : (thorns : List Thorn) (files : List ScheduleFile) (values : Values)
+    (specs : List Spec) (ordered : Ordered) (items : List Item) (out_vars : List VarId)
+    → IsSound thorns files values (run_count ordered.plan) ordered items out_vars
+    → AreRead (variable_infos thorns) → Matches thorns values specs ordered (Ok items)
+    → IsWhole (job_of thorns values ordered items out_vars)
 is_whole thorns files values specs ordered items out_vars sound read matches =
     whole_with thorns files values (run_count ordered.plan) ordered items out_vars sound read
     (as_many thorns files values specs ordered items out_vars sound matches)

@@ -22,11 +22,13 @@ greatest_part c = greatest (part_points c) (range_with_len 0 (part_count c))
 -- a part of so many points is too large for an item's object, where there is one
 abbrev pub too_large : ℕ → List ℕ → Option Spec → Option JobFault
 too_large points path None = None
-too_large points path (Some s) = if nat_lt s.cap points then Some (TooLarge path points s.cap) else None
+too_large points path (Some s) = if nat_lt s.cap points then Some (TooLarge path points s.cap)
+    else None
 
 abbrev pub cap_fault : List Spec → ℕ → Item → Option JobFault
 cap_fault specs points x = too_large points x.path (slice_get specs x.routine)
 
 -- the first item that is run for whose object the greatest part is too large
 abbrev pub caps_fault : List Spec → Job → Option JobFault
-caps_fault specs job = first_of_each (cap_fault specs (greatest_part (parts_of job.shape job.cut))) (items_run job)
+caps_fault specs job = first_of_each (cap_fault specs (greatest_part (parts_of job.shape job.cut)))
+    (items_run job)

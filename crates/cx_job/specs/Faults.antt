@@ -16,5 +16,6 @@ config_fault configs.Memory = faults.Memory
 
 abbrev pub match_fault : MatchFault → JobFault
 match_fault (matches.UnknownRoutine path) = faults.UnknownRoutine path
-match_fault (matches.RoutineMismatch path declared offered) = faults.RoutineMismatch path declared offered
+match_fault (matches.RoutineMismatch path declared offered) =
+    faults.RoutineMismatch path declared offered
 match_fault matches.Memory = faults.Memory

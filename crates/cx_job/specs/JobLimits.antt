@@ -12,7 +12,7 @@ use Rattle.cx_plan.specs.declared.item.Item.{Item}
 use Rattle.cx_plan.specs.declared.tree.Schedule.{Schedule}
 use Rattle.cx_job.specs.declared.fault.JobFault.{JobFault}
 use Rattle.cx_job.specs.declared.fault.JobFault.TheVariants.{Limit}
-use Rattle.cx_grids.specs.Stored.{in_64_bits}
+use Rattle.cx_text.specs.Numbers.{in_64_bits}
 
 -- a number that 64 bits do not hold is told as their greatest
 abbrev pub over : List ℕ → ℕ → ℕ → Option JobFault
@@ -35,7 +35,8 @@ parameters_fault x = over (codes "parameters") (length x.params) 32
 
 -- the writes of all items go before the reads of any, and these before the parameters
 abbrev pub each_limit : List Item → Option JobFault
-each_limit items = or_else (first_of_each writes_fault items) (or_else (first_of_each reads_fault items) (first_of_each parameters_fault items))
+each_limit items = or_else (first_of_each writes_fault items)
+    (or_else (first_of_each reads_fault items) (first_of_each parameters_fault items))
 
 -- only these items have limits
 abbrev pub item_limits : ℕ → List Item → Option JobFault
@@ -48,7 +49,8 @@ points_fault shape = over (codes "points") (point_count (whole shape)) (2 ^ 24)
 
 -- the points of the grid, once for each stored level of each grid variable
 abbrev pub cells_fault : Shape → List VarInfo → Option JobFault
-cells_fault shape vars = over (codes "owned cells") (grid_levels vars * point_count (whole shape)) (2 ^ 26)
+cells_fault shape vars =
+    over (codes "owned cells") (grid_levels vars * point_count (whole shape)) (2 ^ 26)
 
 abbrev pub grid_limits : Shape → List VarInfo → Option JobFault
 grid_limits shape vars = or_else (points_fault shape) (cells_fault shape vars)
@@ -59,4 +61,5 @@ key_limit key = over (codes "key") (length key) (2 ^ 32 - 1)
 -- ---- all together
 
 abbrev pub limit_fault : ℕ → List Item → Shape → List VarInfo → List ℕ → Option JobFault
-limit_fault run items shape vars key = or_else (item_limits run items) (or_else (grid_limits shape vars) (key_limit key))
+limit_fault run items shape vars key =
+    or_else (item_limits run items) (or_else (grid_limits shape vars) (key_limit key))

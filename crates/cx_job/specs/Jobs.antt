@@ -1,5 +1,6 @@
--- The job of bound thorns, by the values of their parameters, their plan, the items and the variables that are written.
-use Rattle.std.specs.Prelude.{ℕ, List}
+-- The job of bound thorns, by the values of their parameters, their plan, the items and the
+-- variables that are written.
+use Rattle.std.specs.Prelude.{ℕ, false, List, [], None}
 use Rattle.cx_plan.specs.declared.variable.VarId.{VarId}
 use Rattle.cx_plan.specs.declared.item.Item.{Item}
 use Rattle.cx_plan.specs.declared.job.Job.{Job}
@@ -33,10 +34,19 @@ run_of v =
 
 -- the grid, how it is cut, and the variables with their stored levels
 abbrev pub layout_of : List Thorn → Values → List ℕ → Layout
-layout_of thorns values storage = record { shape = shape_of thorns values; cut = cuts_of thorns values; vars = stored_infos thorns storage }
+layout_of thorns values storage =
+    record {
+      shape = shape_of thorns values;
+      cut = cuts_of thorns values;
+      vars = stored_infos thorns storage;
+    }
 
 abbrev pub texts_of : List Thorn → Values → Layout → List ℕ → Texts
-texts_of thorns values layout plan_text = record { key = key layout.shape thorns values layout.vars plan_text; starred = starred_lines thorns values }
+texts_of thorns values layout plan_text =
+    record {
+      key = key layout.shape thorns values layout.vars plan_text;
+      starred = starred_lines thorns values;
+    }
 
 abbrev pub parts_of : List Thorn → Values → List ℕ → List ℕ → Parts
 parts_of thorns values storage plan_text =
@@ -53,11 +63,15 @@ job_with parts ordered items out_vars =
       shape = parts.layout.shape;
       vars = parts.layout.vars;
       items = items;
+      steers = [];
       plan = ordered.plan;
       cut = parts.layout.cut;
       itlast = parts.run.itlast;
       while_limit = parts.run.while_limit;
       lead = parts.run.lead;
+      balance = false;
+      weight = None;
+      weight_factor = 1;
       out_every = parts.run.out_every;
       out_vars = out_vars;
       chk_every = parts.run.checkpoint_every;
@@ -72,4 +86,5 @@ job_with parts ordered items out_vars =
     }
 
 abbrev pub job_of : List Thorn → Values → Ordered → List Item → List VarId → Job
-job_of thorns values ordered items out_vars = job_with (parts_of thorns values ordered.storage ordered.text) ordered items out_vars
+job_of thorns values ordered items out_vars =
+    job_with (parts_of thorns values ordered.storage ordered.text) ordered items out_vars

@@ -20,6 +20,7 @@ use Rattle.cx_bind.specs.BuiltIn.{starred}
 use Rattle.cx_bind.specs.Parameters.{parameters}
 use Rattle.cx_values.specs.declared.values.Values.{Values}
 use Rattle.cx_values.specs.Assigned.{get, number}
+use Rattle.cx_bind.specs.Variables.{copies}
 
 abbrev pub line_feed : List ℕ
 line_feed = 10 ∷ []
@@ -27,7 +28,8 @@ line_feed = 10 ∷ []
 -- ---- thorns and directions
 
 abbrev pub thorn_line : Thorn → List ℕ
-thorn_line t = codes "thorn " ++ t.arrangement ++ codes "/" ++ t.name ++ codes " " ++ t.interface.implements ++ line_feed
+thorn_line t = codes "thorn " ++ t.arrangement ++ codes "/" ++ t.name ++ codes " "
+    ++ t.interface.implements ++ line_feed
 
 abbrev pub letter : ℕ → List ℕ
 letter zero = codes "x"
@@ -40,7 +42,8 @@ side_text periodic = if periodic then codes " periodic" else codes " boundary"
 -- a direction with its points, the width of its ghost zone, and what its ends are
 abbrev pub direction_line : Shape → ℕ → List ℕ
 direction_line shape d =
-    codes "direction " ++ letter d ++ codes " points " ++ signed_decimal (along shape.n d) ++ codes " ghost "
+    codes "direction " ++ letter d ++ codes " points " ++ signed_decimal (along shape.n d)
+    ++ codes " ghost "
     ++ signed_decimal (along shape.ghost_ d) ++ side_text (is_periodic shape d) ++ line_feed
 
 abbrev pub direction_lines : Shape → List ℕ
@@ -64,7 +67,8 @@ kind_text scalar = if scalar then codes " SCALAR" else codes " GF"
 -- a variable by its number, with its levels
 abbrev pub variable_line : ℕ × VarInfo → List ℕ
 variable_line v =
-    codes "variable " ++ decimal v.0 ++ codes " " ++ v.1.full ++ codes " " ++ type_name v.1.ctype ++ kind_text v.1.scalar ++ codes " levels "
+    codes "variable " ++ decimal v.0 ++ codes " " ++ v.1.full ++ codes " " ++ type_name v.1.ctype
+    ++ kind_text v.1.scalar ++ codes " levels "
     ++ decimal v.1.levels ++ line_feed
 
 abbrev pub variable_lines : List VarInfo → List ℕ
@@ -74,7 +78,8 @@ variable_lines vars = flat_map variable_line (enumerate_from 0 vars)
 
 -- a quote and a backslash behind a backslash, and a line feed as `\n`
 abbrev pub escaped_byte : ℕ → List ℕ
-escaped_byte b = if b == 34 then 92 ∷ 34 ∷ [] else (if b == 92 then 92 ∷ 92 ∷ [] else (if b == 10 then 92 ∷ 110 ∷ [] else b ∷ []))
+escaped_byte b = if b == 34 then 92 ∷ 34 ∷ []
+    else (if b == 92 then 92 ∷ 92 ∷ [] else (if b == 10 then 92 ∷ 110 ∷ [] else b ∷ []))
 
 abbrev pub escaped : List ℕ → List ℕ
 escaped text = flat_map escaped_byte text
@@ -101,19 +106,15 @@ element_name full (Some k) = bracketed full k
 -- a parameter, or with an index an element of an array
 abbrev pub parameter_line : Values → Param → Option ℕ → List ℕ
 parameter_line values p index =
-    codes "parameter " ++ element_name p.full index ++ codes " = \"" ++ value_text (get values p.full index) ++ codes "\""
+    codes "parameter " ++ element_name p.full index ++ codes " = \""
+    ++ value_text (get values p.full index) ++ codes "\""
     ++ place_text p.decl.ptype (number values p.full index) ++ line_feed
-
--- each element of an array by itself
-abbrev pub indices : Option ℕ → List (Option ℕ)
-indices None = None ∷ []
-indices (Some n) = map (λ k. Some k) (range_with_len 0 n)
 
 abbrev pub lines_at : Values → Param → List (Option ℕ) → List ℕ
 lines_at values p places = flat_map (parameter_line values p) places
 
 abbrev pub parameter_lines : Values → Param → List ℕ
-parameter_lines values p = flat_map (parameter_line values p) (indices p.decl.length)
+parameter_lines values p = flat_map (parameter_line values p) (copies p.decl.length)
 
 -- a parameter that only says how and where a run is done
 abbrev pub is_starred : Param → Bool
@@ -135,8 +136,9 @@ other_lines thorns values = flat_map (lines_unless_starred values) (parameters t
 
 -- ---- the key
 
--- What two jobs have in common if a checkpoint of one serves the other: the thorns, the grid, the variables, the parameters
--- that aren't starred, and the plan.
+-- What two jobs have in common if a checkpoint of one serves the other: the thorns, the grid, the
+-- variables, the parameters that aren't starred, and the plan.
 abbrev pub key : Shape → List Thorn → Values → List VarInfo → List ℕ → List ℕ
 key shape thorns values vars plan_text =
-    flat_map thorn_line thorns ++ direction_lines shape ++ variable_lines vars ++ other_lines thorns values ++ plan_text
+    flat_map thorn_line thorns ++ direction_lines shape ++ variable_lines vars
+    ++ other_lines thorns values ++ plan_text

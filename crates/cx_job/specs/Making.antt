@@ -56,36 +56,47 @@ Yields stage result = (result ≡ Err faults.Memory) ⊎ stage result
 -- the plan, or a fault of ordering
 abbrev pub Orders : Input → Stage Ordered JobFault
 Orders input (Ok ordered) = IsPlan input ordered
-Orders input (Err e) = (fault : OrderFault) × (e ≡ faults.Order fault) × (fault ≢ orders.Memory) × IsFault input fault
+Orders input (Err e) = (fault : OrderFault) × (e ≡ faults.Order fault) × (fault ≢ orders.Memory)
+    × IsFault input fault
 
--- what the fault of a name of a variable that is to be written is to a job: it has the path `output`
+-- what the fault of a name of a variable that is to be written is to a job: it has the path
+-- `output`
 abbrev pub IsOutputFault : ScopeFault → JobFault → Type 0
-IsOutputFault fault e = (e ≡ faults.Memory) ⊎ ((fault ≢ scopes.Memory) × (e ≡ faults.Order (orders.Scope (codes "output") fault)))
+IsOutputFault fault e = (e ≡ faults.Memory)
+    ⊎ ((fault ≢ scopes.Memory) × (e ≡ faults.Order (orders.Scope (codes "output") fault)))
 
 -- the variables that are written; a name's fault has the path `output`
 abbrev pub output_ids : List Thorn → Values → List ℕ → Result (List VarId) JobFault
-output_ids thorns values storage = or_fault (λ f. faults.Order (orders.Scope (codes "output") f)) (output_variables thorns values storage)
+output_ids thorns values storage =
+    or_fault (λ f. faults.Order (orders.Scope (codes "output") f))
+    (output_variables thorns values storage)
 
 -- the items matched with the objects' Specs, by what the thorns see
-pub record Matches (thorns : List Thorn) (values : Values) (specs : List Spec) (ordered : Ordered) (result : Result (List Item) JobFault) : Type 0 where
+pub record Matches (thorns : List Thorn) (values : Values) (specs : List Spec) (ordered : Ordered)
+    (result : Result (List Item) JobFault) : Type 0 where
   pub sight : Sight
   pub told : IsSightOf thorns sight
-  pub items : result ≡ or_fault match_fault (all_matched (record { thorns = thorns; sight = sight; storage = ordered.storage }) values specs (run_count ordered.plan) ordered.items)
+  pub items : result ≡ or_fault match_fault
+      (all_matched (record { thorns = thorns; sight = sight; storage = ordered.storage })
+      values specs (run_count ordered.plan) ordered.items)
 
 abbrev pub within_limits : ℕ → Job → Result Job JobFault
 within_limits run job = unless (limit_fault run job.items job.shape job.vars job.key) job
 
 -- the job of these items and written variables, within its limits
 abbrev pub job_within : ℕ → List Thorn → Values → Ordered → Contents → Result Job JobFault
-job_within run thorns values ordered c = within_limits run (job_of thorns values ordered c.items c.out_vars)
+job_within run thorns values ordered c =
+    within_limits run (job_of thorns values ordered c.items c.out_vars)
 
 -- the parts don't hold too many numbers, and none is too large for a routine
 abbrev pub part_limits : List Spec → Job → Option JobFault
-part_limits specs job = or_else (over (codes "local cells") (local_cells job) (2 ^ 27)) (caps_fault specs job)
+part_limits specs job = or_else (over (codes "local cells") (local_cells job) (2 ^ 27))
+    (caps_fault specs job)
 
 -- the grid can be cut as the job says, into such parts
 abbrev pub cut_limits : List Spec → Job → Option JobFault
-cut_limits specs job = or_else (option_map faults.Cut (cut_fault (parts_of job.shape job.cut))) (part_limits specs job)
+cut_limits specs job = or_else (option_map faults.Cut (cut_fault (parts_of job.shape job.cut)))
+    (part_limits specs job)
 
 abbrev pub within_cut : List Spec → Job → Result Job JobFault
 within_cut specs job = unless (cut_limits specs job) job
@@ -93,10 +104,11 @@ within_cut specs job = unless (cut_limits specs job) job
 -- the job itself, where on no path a need is unmet
 abbrev pub Accepts : Job → Stage Job JobFault
 Accepts job (Ok other) = (other ≡ job) × HasShapes (setup_of job) × Sound (setup_of job)
-Accepts job (Err e) = (fault : RegionFault) × (e ≡ faults.Region fault) × (fault ≢ regions.Memory) × IsRegionFault (setup_of job) fault
+Accepts job (Err e) = (fault : RegionFault) × (e ≡ faults.Region fault) × (fault ≢ regions.Memory)
+    × IsRegionFault (setup_of job) fault
 
--- Bound, with values, ordered, with the variables that are written, matched, within the limits, cut, and accepted: a stage stands behind
--- what it takes from those before it.
+-- Bound, with values, ordered, with the variables that are written, matched, within the limits,
+-- cut, and accepted: a stage stands behind what it takes from those before it.
 abbrev pub CutAnd : List Spec → Job → Stage Job JobFault
 CutAnd specs job = Then (Is (within_cut specs job)) Accepts
 
@@ -105,13 +117,17 @@ LimitsAnd specs run job = Then (Is (within_limits run job)) (CutAnd specs)
 
 abbrev pub ItemsAnd : List Spec → List Thorn → Values → Ordered → List VarId → Stage Job JobFault
 ItemsAnd specs thorns values ordered out_vars =
-    Then (Matches thorns values specs ordered) (λ items. LimitsAnd specs (run_count ordered.plan) (job_of thorns values ordered items out_vars))
+    Then (Matches thorns values specs ordered)
+    (λ items. LimitsAnd specs (run_count ordered.plan)
+    (job_of thorns values ordered items out_vars))
 
 abbrev pub OutputsAnd : List Spec → List Thorn → Values → Ordered → Stage Job JobFault
-OutputsAnd specs thorns values ordered = Then (Is (output_ids thorns values ordered.storage)) (ItemsAnd specs thorns values ordered)
+OutputsAnd specs thorns values ordered =
+    Then (Is (output_ids thorns values ordered.storage)) (ItemsAnd specs thorns values ordered)
 
 abbrev pub PlanAnd : List Spec → List Thorn → List ScheduleFile → Values → Stage Job JobFault
-PlanAnd specs thorns schedules values = Then (Orders (input_of thorns schedules values)) (OutputsAnd specs thorns values)
+PlanAnd specs thorns schedules values =
+    Then (Orders (input_of thorns schedules values)) (OutputsAnd specs thorns values)
 
 -- bound thorns, or their fault
 abbrev pub bound_thorns : List Thorn → Result (List Thorn) JobFault
@@ -119,9 +135,11 @@ bound_thorns thorns = unless (option_map faults.Bind (bind_fault thorns)) thorns
 
 -- the values of parameters, or the fault of one
 abbrev pub assigned_values : List Thorn → List Setting → Result Values JobFault
-assigned_values thorns settings = unless (option_map faults.Value (assign_fault thorns settings)) (assigned thorns settings)
+assigned_values thorns settings =
+    unless (option_map faults.Value (assign_fault thorns settings)) (assigned thorns settings)
 
-abbrev pub ValuesAnd : List Spec → List ScheduleFile → List Setting → List Thorn → Stage Job JobFault
+abbrev pub ValuesAnd : List Spec → List ScheduleFile → List Setting → List Thorn
+    → Stage Job JobFault
 ValuesAnd specs schedules settings thorns =
     Then (Is (assigned_values thorns settings)) (PlanAnd specs thorns schedules)
 
@@ -158,22 +176,31 @@ without_witness (faults.Ccl name fault) = faults.Ccl name fault
 without_witness (faults.Bind fault) = faults.Bind fault
 without_witness (faults.Value fault) = faults.Value fault
 without_witness (faults.UnknownRoutine path) = faults.UnknownRoutine path
-without_witness (faults.RoutineMismatch path declared offered) = faults.RoutineMismatch path declared offered
+without_witness (faults.RoutineMismatch path declared offered) =
+    faults.RoutineMismatch path declared offered
 without_witness (faults.Limit name count) = faults.Limit name count
 without_witness (faults.Cut fault) = faults.Cut fault
 without_witness (faults.TooLarge path points cap) = faults.TooLarge path points cap
 without_witness faults.Memory = faults.Memory
 
--- An answer over a shelf that held these files, with its counts of faults before and after. Where the shelf tells its files, it is what
--- they make, but for want of memory and failures of the shelf; and they are as they were. Where they make a job, it is this one, and where
--- they make a fault, it is this one but for its witness.
-pub record Makes (tells : Type 0) (made : Held → Stage Job JobFault) (old new : Held) (before now : ℕ) (result : Result Job JobFault) : Type 0 where
+-- An answer over a shelf that held these files, with its counts of faults before and after. Where
+-- the shelf tells its files, it is what they make, but for want of memory and failures of the
+-- shelf; and they are as they were. Where they make a job, it is this one, and where they make a
+-- fault, it is this one but for its witness.
+pub record Makes (tells : Type 0) (made : Held → Stage Job JobFault) (old new : Held)
+    (before now : ℕ) (result : Result Job JobFault) : Type 0 where
   pub answers : tells → (result ≡ Err faults.Memory) ⊎ (result ≡ Err faults.Shelf) ⊎ made old result
-  pub only : tells → (job : Job) → made old (Ok job) → MatchResult result (λ found. found ≡ job) (λ e. (e ≡ faults.Memory) ⊎ (e ≡ faults.Shelf))
-  pub faulty : tells → (fault : JobFault) → made old (Err fault) → IsErrAnd result (λ e. (e ≡ faults.Memory) ⊎ (e ≡ faults.Shelf) ⊎ (without_witness e ≡ without_witness fault))
+  pub only : tells → (job : Job) → made old (Ok job)
+      → MatchResult result (λ found. found ≡ job) (λ e. (e ≡ faults.Memory) ⊎ (e ≡ faults.Shelf))
+  pub faulty : tells → (fault : JobFault) → made old (Err fault)
+      → IsErrAnd result (λ e. (e ≡ faults.Memory) ⊎ (e ≡ faults.Shelf)
+      ⊎ (without_witness e ≡ without_witness fault))
   pub same : tells → new ≡ old
   pub cause : HasCause faults.Shelf before now result
 
 -- the same of a shelf before and after a call
-abbrev pub MakesFrom : {S : Type 0} → Ghosts S → (Held → Stage Job JobFault) → S → S → Result Job JobFault → Type 0
-MakesFrom shelf made old new result = Makes shelf.tells made (shelf.held old) (shelf.held new) (shelf.faults old) (shelf.faults new) result
+abbrev pub MakesFrom : {S : Type 0} → Ghosts S → (Held → Stage Job JobFault) → S → S
+    → Result Job JobFault → Type 0
+MakesFrom shelf made old new result =
+    Makes shelf.tells made (shelf.held old) (shelf.held new) (shelf.faults old) (shelf.faults new)
+    result

@@ -84,7 +84,8 @@ variable_or None None = None
 
 abbrev pub named_by : List VarInfo → List FullGroup → List ℕ → Option Named
 named_by vars groups name =
-    variable_or (position_from (λ v. same_name name v.full) 0 vars) (option_map (λ g. g.at) (find (λ g. same_name name g.full) groups))
+    variable_or (position_from (λ v. same_name name v.full) 0 vars)
+    (option_map (λ g. g.at) (find (λ g. same_name name g.full) groups))
 
 -- ---- what names give
 
@@ -108,10 +109,13 @@ lacks_storage places storage named = list_any (is_missing storage named) (enumer
 
 abbrev pub output_of : List GroupPlace → List ℕ → List ℕ → Option Named → Result Named ScopeFault
 output_of places storage name None = Err (NotFound name)
-output_of places storage name (Some named) = if lacks_storage places storage named then Err (NoStorage name) else Ok named
+output_of places storage name (Some named) = if lacks_storage places storage named
+    then Err (NoStorage name) else Ok named
 
-abbrev pub outputs : List VarInfo → List FullGroup → List GroupPlace → List ℕ → List (List ℕ) → Result (List Named) ScopeFault
-outputs vars groups places storage names = all_ok (map (λ name. output_of places storage name (named_by vars groups name)) names)
+abbrev pub outputs : List VarInfo → List FullGroup → List GroupPlace → List ℕ → List (List ℕ)
+    → Result (List Named) ScopeFault
+outputs vars groups places storage names =
+    all_ok (map (λ name. output_of places storage name (named_by vars groups name)) names)
 
 abbrev pub is_written : List Named → ℕ × GroupPlace → Bool
 is_written named v = list_any (is_of v) named
@@ -120,11 +124,14 @@ is_written named v = list_any (is_of v) named
 abbrev pub named_ids : List GroupPlace → List Named → List VarId
 named_ids places named = map (λ v. var_id v.0) (filter (is_written named) (enumerate_from 0 places))
 
-abbrev pub ids_or_fault : List GroupPlace → Result (List Named) ScopeFault → Result (List VarId) ScopeFault
+abbrev pub ids_or_fault : List GroupPlace → Result (List Named) ScopeFault
+    → Result (List VarId) ScopeFault
 ids_or_fault places (Ok named) = Ok (named_ids places named)
 ids_or_fault places (Err e) = Err e
 
 -- the variables that are written, or the fault of the first name that has one
 abbrev pub output_variables : List Thorn → Values → List ℕ → Result (List VarId) ScopeFault
 output_variables thorns values storage =
-    ids_or_fault (group_places thorns) (outputs (variable_infos thorns) (full_groups thorns) (group_places thorns) storage (output_names values))
+    ids_or_fault (group_places thorns)
+    (outputs (variable_infos thorns) (full_groups thorns) (group_places thorns) storage
+    (output_names values))

@@ -36,6 +36,7 @@ pub(crate) fn greatest_part(cut: &Cut) -> u64
     most
 }
 
+/// The fault of a routine that doesn't sweep a part of so many points: its path, the points and its cap.
 fn too_large(alloc: Global, path: &Text, points: u64, cap: u64) -> Result<JobFault, Memory>
     ensures { IfOk result (λ fault. fault ≡ faults.TooLarge path.now points cap) }
 {

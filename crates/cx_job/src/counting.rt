@@ -21,6 +21,7 @@ fn count_tree(tree: &Tree) -> usize
     }
 }
 
+/// How many items the trees call, or the greatest number of 64 bits.
 #[cycle(tree)]
 fn count_trees(trees: &[Tree]) -> usize
     ensures { result ≡ min (length (flat_map called trees.now)) (2 ^ 64 - 1) }
@@ -32,6 +33,7 @@ fn count_trees(trees: &[Tree]) -> usize
     count
 }
 
+/// The trees of the bins that a run calls, the others left out.
 fn run_bins(bins: &[Tree]) -> &[Tree]
     ensures { result.now ≡ take run_bin_count bins.now }
 {

@@ -15,39 +15,54 @@ use cx_cut::CutFault;
 use cx_match::MatchFault;
 use cx_order::OrderFault;
 use cx_region::RegionFault;
-use cx_text::{CclFault, Memory, Text, TextFault};
+use cx_text::{CclFault, Memory, OrDash, Text, TextFault};
 use cx_values::ValueFault;
 use std::alloc::{AllocError, AllocFailed};
+use thiserror::Error;
 
 /// Why files make no job.
-#[derive(Debug, Drop)]
+#[derive(Debug, Drop, Error)]
 pub enum JobFault {
     /// The shelf failed.
+    #[error("Shelf")]
     Shelf,
     /// A file isn't there.
+    #[error("NoFile {}", OrDash(.0))]
     NoFile(Text),
     /// A file's bytes aren't tokens.
+    #[error("{} {}", OrDash(.0), .1)]
     Text(Text, TextFault),
     /// A file's tokens aren't what it should hold.
+    #[error("{} {}", OrDash(.0), .1)]
     Ccl(Text, CclFault),
+    #[error(transparent)]
     Bind(BindFault),
+    #[error(transparent)]
     Value(ValueFault),
+    #[error(transparent)]
     Order(OrderFault),
     /// No object is handed in for the item of this path.
+    #[error("UnknownRoutine {}", OrDash(.0))]
     UnknownRoutine(Text),
     /// The object of the item of this path doesn't read and write what the schedule says: its path, what is declared, and
     /// what the object offers.
+    #[error("RoutineMismatch {} {} {}", OrDash(.0), OrDash(.1), OrDash(.2))]
     RoutineMismatch(Text, Text, Text),
     /// More of these than may be.
+    #[error("Limit {} {}", OrDash(.0), .1)]
     Limit(Text, u64),
     /// The grid can't be cut into parts of the widths that are said.
+    #[error(transparent)]
     Cut(CutFault),
     /// The object of the item of this path doesn't sweep the largest part of the grid's cut: its path, the points of that part, its
     /// ghosts among them, and the most points that the object sweeps.
+    #[error("TooLarge {} {} {}", OrDash(.0), .1, .2)]
     TooLarge(Text, u64, u64),
     /// A routine might read a point that nobody has filled.
+    #[error(transparent)]
     Region(RegionFault),
     /// Memory is wanting.
+    #[error("Memory")]
     Memory,
 }
 
@@ -80,6 +95,7 @@ impl From<ConfigFault> for JobFault {
 
     ghost from_gives = { λ fault e. e ≡ config_fault fault };
 
+    /// A configuration's fault as the job's of the same name.
     fn from(fault: ConfigFault) -> Self {
         match fault {
             ConfigFault::Shelf => JobFault::Shelf,
@@ -97,6 +113,7 @@ impl From<MatchFault> for JobFault {
 
     ghost from_gives = { λ fault e. e ≡ match_fault fault };
 
+    /// A matching fault as the job's of the same name.
     fn from(fault: MatchFault) -> Self {
         match fault {
             MatchFault::UnknownRoutine(path) => JobFault::UnknownRoutine(path),
@@ -108,6 +125,7 @@ impl From<MatchFault> for JobFault {
     }
 }
 
+/// Whether binding failed because memory ran out.
 fn is_bind_memory(fault: &BindFault) -> bool
     ensures { IsTrue result ↔ (fault.now ≡ binds.Memory) }
 {
@@ -117,6 +135,7 @@ fn is_bind_memory(fault: &BindFault) -> bool
 impl From<BindFault> for JobFault {
     ghost from_gives = { λ fault e. IsOf binds.Memory faults.Memory faults.Bind fault e };
 
+    /// A binding fault as a job's; out of memory stays out of memory.
     fn from(fault: BindFault) -> Self {
         if is_bind_memory(&fault) {
             JobFault::Memory
@@ -126,6 +145,7 @@ impl From<BindFault> for JobFault {
     }
 }
 
+/// Whether values couldn't be assigned because memory ran out.
 fn is_value_memory(fault: &ValueFault) -> bool
     ensures { IsTrue result ↔ (fault.now ≡ values.Memory) }
 {
@@ -135,6 +155,7 @@ fn is_value_memory(fault: &ValueFault) -> bool
 impl From<ValueFault> for JobFault {
     ghost from_gives = { λ fault e. IsOf values.Memory faults.Memory faults.Value fault e };
 
+    /// A fault of values as a job's; out of memory stays out of memory.
     fn from(fault: ValueFault) -> Self {
         if is_value_memory(&fault) {
             JobFault::Memory
@@ -144,6 +165,7 @@ impl From<ValueFault> for JobFault {
     }
 }
 
+/// Whether ordering failed because memory ran out.
 fn is_order_memory(fault: &OrderFault) -> bool
     ensures { IsTrue result ↔ (fault.now ≡ orders.Memory) }
 {
@@ -153,6 +175,7 @@ fn is_order_memory(fault: &OrderFault) -> bool
 impl From<OrderFault> for JobFault {
     ghost from_gives = { λ fault e. IsOf orders.Memory faults.Memory faults.Order fault e };
 
+    /// A fault of ordering as a job's; out of memory stays out of memory.
     fn from(fault: OrderFault) -> Self {
         if is_order_memory(&fault) {
             JobFault::Memory
@@ -162,6 +185,7 @@ impl From<OrderFault> for JobFault {
     }
 }
 
+/// Whether the check of regions failed because memory ran out.
 fn is_region_memory(fault: &RegionFault) -> bool
     ensures { IsTrue result ↔ (fault.now ≡ regions.Memory) }
 {
@@ -171,6 +195,7 @@ fn is_region_memory(fault: &RegionFault) -> bool
 impl From<RegionFault> for JobFault {
     ghost from_gives = { λ fault e. IsOf regions.Memory faults.Memory faults.Region fault e };
 
+    /// A fault of regions as a job's; out of memory stays out of memory.
     fn from(fault: RegionFault) -> Self {
         if is_region_memory(&fault) {
             JobFault::Memory
@@ -180,6 +205,7 @@ impl From<RegionFault> for JobFault {
     }
 }
 
+/// Whether the grid couldn't be cut because memory ran out.
 fn is_cut_memory(fault: &CutFault) -> bool
     ensures { IsTrue result ↔ (fault.now ≡ cuts.Memory) }
 {
@@ -189,6 +215,7 @@ fn is_cut_memory(fault: &CutFault) -> bool
 impl From<CutFault> for JobFault {
     ghost from_gives = { λ fault e. IsOf cuts.Memory faults.Memory faults.Cut fault e };
 
+    /// A fault of the cut as a job's; out of memory stays out of memory.
     fn from(fault: CutFault) -> Self {
         if is_cut_memory(&fault) {
             JobFault::Memory

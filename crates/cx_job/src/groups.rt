@@ -58,6 +58,7 @@ fn owner_by<'a>(access: Access, thorn: &'a Thorn) -> &'a [u8]
     }
 }
 
+/// A group by its full name, with its thorn and its place in the thorn's file.
 fn full_group(
     alloc: Global,
     number: usize,
@@ -77,6 +78,7 @@ fn full_group(
     })
 }
 
+/// Adds the groups of one thorn with their full names, in the order of its file.
 fn push_groups(
     alloc: Global,
     full: &mut List<FullGroup>,
@@ -138,6 +140,7 @@ impl FullGroups {
     }
 }
 
+/// Adds the place of a group once for each copy of a variable.
 fn push_numbered(places: &mut List<GroupPlace>, at: GroupPlace, count: u32) -> Result<(), Memory>
     ensures { OnOk result (places.new ≡ places.old ++ map (λ k. at) (range_with_len 0 count)) }
 {
@@ -147,6 +150,7 @@ fn push_numbered(places: &mut List<GroupPlace>, at: GroupPlace, count: u32) -> R
     Ok(())
 }
 
+/// Adds the place of a group for a variable, or once for each of its copies.
 fn push_copies(
     places: &mut List<GroupPlace>,
     at: GroupPlace,
@@ -160,6 +164,7 @@ fn push_copies(
     }
 }
 
+/// Adds the place of a group once for each of its variables and their copies.
 fn push_names(
     places: &mut List<GroupPlace>,
     at: GroupPlace,
@@ -174,6 +179,7 @@ fn push_names(
     Ok(())
 }
 
+/// Adds the place of a group once for each variable in it.
 fn push_places_in(
     places: &mut List<GroupPlace>,
     number: usize,
@@ -191,6 +197,7 @@ fn push_places_in(
     push_names(places, at, group.copies, group.variables.as_slice())
 }
 
+/// Adds for each variable of one thorn the place of its group.
 fn push_places(
     places: &mut List<GroupPlace>,
     number: usize,

@@ -34,6 +34,7 @@ pub(crate) struct Run {
     pub(crate) checkpoint_dir: Text,
 }
 
+/// What the parameters say of a run: its end, its passes, its output, its checkpoints and its recovery.
 fn run_of(alloc: Global, values: &Values) -> Result<Run, Memory>
     ensures { IfOk result (λ run. run ≡ run_of values.now) }
 {
@@ -59,6 +60,7 @@ pub(crate) struct Layout {
     pub(crate) vars: List<VarInfo>,
 }
 
+/// The grid, its cut and the stored variables.
 fn layout_of(
     alloc: Global,
     bound: &Bound,
@@ -81,6 +83,7 @@ pub(crate) struct Texts {
     pub(crate) starred: Text,
 }
 
+/// The key of the job, and the lines of the parameters that aren't in it.
 fn texts_of(
     alloc: Global,
     bound: &Bound,
@@ -105,6 +108,7 @@ pub(crate) struct Parts {
     pub(crate) texts: Texts,
 }
 
+/// What a job has besides its plan and its items.
 fn parts_of(
     alloc: Global,
     bound: &Bound,
@@ -125,7 +129,13 @@ fn parts_of(
 }
 
 /// The job that these parts make.
-fn job_with(parts: Parts, ordered: Ordered, items: List<Item>, out_vars: List<VarId>) -> Job
+fn job_with(
+    alloc: Global,
+    parts: Parts,
+    ordered: Ordered,
+    items: List<Item>,
+    out_vars: List<VarId>,
+) -> Job
     ensures { result ≡ job_with parts ordered items out_vars }
 {
     let Parts { run, layout, texts } = parts;
@@ -133,11 +143,15 @@ fn job_with(parts: Parts, ordered: Ordered, items: List<Item>, out_vars: List<Va
         shape: layout.shape,
         vars: layout.vars,
         items,
+        steers: List::empty(alloc),
         plan: ordered.plan,
         cut: layout.cut,
         itlast: run.itlast,
         while_limit: run.while_limit,
         lead: run.lead,
+        balance: false,
+        weight: None,
+        weight_factor: 1,
         out_every: run.out_every,
         out_vars,
         chk_every: run.checkpoint_every,
@@ -165,5 +179,5 @@ pub(crate) fn job_of(
     ensures { IfOk result (λ job. job ≡ job_of bound.now values.now ordered items out_vars) }
 {
     let parts = parts_of(alloc, bound, values, &ordered.storage, &ordered.text)?;
-    Ok(job_with(parts, ordered, items, out_vars))
+    Ok(job_with(alloc, parts, ordered, items, out_vars))
 }

@@ -3,7 +3,8 @@
 ghost use Rattle.std.specs.Prelude.{◌≡◌, ◌<◌, ◌++◌, Some, map, IfOk, OnOk};
 ghost use Rattle.std.specs.List.{flat_map};
 ghost use Rattle.cx_grid.specs.Grid.{IsShape};
-ghost use Rattle.cx_job.specs.Keys.{thorn_line, direction_line, direction_lines, variable_line, variable_lines, indices, parameter_line, parameter_lines, lines_if_starred, lines_unless_starred, starred_lines, key, lines_at};
+ghost use Rattle.cx_job.specs.Keys.{thorn_line, direction_line, direction_lines, variable_line, variable_lines, parameter_line, parameter_lines, lines_if_starred, lines_unless_starred, starred_lines, key, lines_at};
+ghost use Rattle.cx_bind.specs.Variables.{copies};
 
 use crate::lines::{direction_line, parameter_line, thorn_line, variable_line};
 use cx_bind::{Bound, Param, Thorn};
@@ -14,6 +15,7 @@ use cx_text::{List, Memory, Text};
 use cx_values::Values;
 use std::alloc::Global;
 
+/// Adds a line for each active thorn, in the order of activation.
 fn push_thorns(alloc: Global, text: &mut Text, thorns: &[Thorn]) -> Result<(), Memory>
     ensures { OnOk result (text.new ≡ text.old ++ flat_map thorn_line thorns.now) }
 {
@@ -23,6 +25,7 @@ fn push_thorns(alloc: Global, text: &mut Text, thorns: &[Thorn]) -> Result<(), M
     Ok(())
 }
 
+/// Adds the line of one direction of the grid: points, ghosts and whether it is periodic.
 fn push_direction(
     alloc: Global,
     text: &mut Text,
@@ -35,6 +38,7 @@ fn push_direction(
     text.push_slice(direction_line(alloc, shape, direction)?.as_slice())
 }
 
+/// Adds the lines of the grid's directions.
 fn push_directions(alloc: Global, text: &mut Text, shape: &Shape) -> Result<(), Memory>
     requires { IsShape shape.now }
     ensures { OnOk result (text.new ≡ text.old ++ direction_lines shape.now) }
@@ -45,6 +49,7 @@ fn push_directions(alloc: Global, text: &mut Text, shape: &Shape) -> Result<(), 
     Ok(())
 }
 
+/// Adds the line of a variable with its number.
 fn push_variable(
     alloc: Global,
     text: &mut Text,
@@ -56,6 +61,7 @@ fn push_variable(
     text.push_slice(variable_line(alloc, number, info)?.as_slice())
 }
 
+/// Adds the lines of all variables, in the order of their numbers.
 fn push_variables(alloc: Global, text: &mut Text, vars: &[VarInfo]) -> Result<(), Memory>
     ensures { OnOk result (text.new ≡ text.old ++ variable_lines vars.now) }
 {
@@ -65,6 +71,7 @@ fn push_variables(alloc: Global, text: &mut Text, vars: &[VarInfo]) -> Result<()
     Ok(())
 }
 
+/// Adds the line of a parameter, or of one element of an array.
 fn push_element(
     alloc: Global,
     text: &mut Text,
@@ -77,6 +84,7 @@ fn push_element(
     text.push_slice(parameter_line(alloc, values, param, index)?.as_slice())
 }
 
+/// Adds the lines of all elements of an array.
 fn push_elements(
     alloc: Global,
     text: &mut Text,
@@ -85,7 +93,7 @@ fn push_elements(
     length: u32,
 ) -> Result<(), Memory>
     ensures { OnOk result
-        (text.new ≡ text.old ++ lines_at values.now param.now (indices (Some length))) }
+        (text.new ≡ text.old ++ lines_at values.now param.now (copies (Some length))) }
 {
     'elements: for k in 0..length {
         push_element(alloc, text, values, param, Some(k))?;
@@ -93,6 +101,7 @@ fn push_elements(
     Ok(())
 }
 
+/// Adds the line of a parameter, or those of all its elements.
 fn push_parameter(
     alloc: Global,
     text: &mut Text,
@@ -107,6 +116,7 @@ fn push_parameter(
     }
 }
 
+/// Adds the lines of a parameter that only says how and where a run is done; of another one nothing.
 fn push_if_starred(
     alloc: Global,
     text: &mut Text,
@@ -122,6 +132,7 @@ fn push_if_starred(
     }
 }
 
+/// Adds the lines of a parameter; nothing if it only says how and where a run is done.
 fn push_unless_starred(
     alloc: Global,
     text: &mut Text,
@@ -137,6 +148,7 @@ fn push_unless_starred(
     }
 }
 
+/// Adds the lines of all parameters that only say how and where a run is done.
 fn push_starred(
     alloc: Global,
     text: &mut Text,
@@ -152,6 +164,7 @@ fn push_starred(
     Ok(())
 }
 
+/// Adds the lines of all other parameters, which belong to the key.
 fn push_others(
     alloc: Global,
     text: &mut Text,

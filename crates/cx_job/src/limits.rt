@@ -1,11 +1,11 @@
 //! The limits of a job.
 
 ghost use Rattle.std.specs.Prelude.{ℕ, ◌≡◌, ◌^◌, codes, take, IfOk};
-ghost use Rattle.cx_grids.specs.Stored.{in_64_bits};
 ghost use Rattle.cx_plan.specs.Lists.{first_of_each};
 ghost use Rattle.cx_job.specs.declared.fault.JobFault.TheVariants as faults;
 ghost use Rattle.cx_text.specs.Telling.{Tells};
 ghost use Rattle.cx_job.specs.JobLimits.{over, writes_fault, reads_fault, parameters_fault, each_limit, item_limits, points_fault, cells_fault, grid_limits, key_limit};
+ghost use Rattle.cx_text.specs.Numbers.{in_64_bits};
 
 use crate::JobFault;
 use cx_grid::Shape;
@@ -35,12 +35,14 @@ const MAX_KEY: u64 = 4_294_967_295;
 /// The most numbers that all parts hold together.
 const MAX_LOCAL_CELLS: u64 = 134_217_728;
 
+/// The fault of a number above its limit, with what it counts.
 fn limit_fault(alloc: Global, what: &[u8], number: u64) -> Result<JobFault, Memory>
     ensures { IfOk result (λ fault. fault ≡ faults.Limit what.now number) }
 {
     Ok(JobFault::Limit(Text::from_slice(alloc, what)?, number))
 }
 
+/// Tests that a number isn't above its limit.
 fn check_limit(alloc: Global, what: &[u8], number: u64, limit: u64) -> Result<(), JobFault>
     ensures { Tells faults.Memory (over what.now number limit) result }
 {
@@ -50,18 +52,21 @@ fn check_limit(alloc: Global, what: &[u8], number: u64, limit: u64) -> Result<()
     Ok(())
 }
 
+/// Tests that an item doesn't write too many levels.
 fn check_writes_of(alloc: Global, item: &Item) -> Result<(), JobFault>
     ensures { Tells faults.Memory (writes_fault item.now) result }
 {
     check_limit(alloc, b"writes", item.writes.len() as u64, MAX_WRITES)
 }
 
+/// Tests that an item doesn't read too many levels.
 fn check_reads_of(alloc: Global, item: &Item) -> Result<(), JobFault>
     ensures { Tells faults.Memory (reads_fault item.now) result }
 {
     check_limit(alloc, b"reads", item.reads.len() as u64, MAX_READS)
 }
 
+/// Tests that an item doesn't take too many parameters.
 fn check_parameters_of(alloc: Global, item: &Item) -> Result<(), JobFault>
     ensures { Tells faults.Memory (parameters_fault item.now) result }
 {
@@ -73,6 +78,7 @@ fn check_parameters_of(alloc: Global, item: &Item) -> Result<(), JobFault>
     )
 }
 
+/// Tests the number of writes of each item; the first item above the limit counts.
 fn check_writes(alloc: Global, items: &[Item]) -> Result<(), JobFault>
     ensures { Tells faults.Memory (first_of_each writes_fault items.now) result }
 {
@@ -82,6 +88,7 @@ fn check_writes(alloc: Global, items: &[Item]) -> Result<(), JobFault>
     Ok(())
 }
 
+/// Tests the number of reads of each item; the first item above the limit counts.
 fn check_reads(alloc: Global, items: &[Item]) -> Result<(), JobFault>
     ensures { Tells faults.Memory (first_of_each reads_fault items.now) result }
 {
@@ -91,6 +98,7 @@ fn check_reads(alloc: Global, items: &[Item]) -> Result<(), JobFault>
     Ok(())
 }
 
+/// Tests the number of parameters of each item; the first item above the limit counts.
 fn check_parameters(alloc: Global, items: &[Item]) -> Result<(), JobFault>
     ensures { Tells faults.Memory (first_of_each parameters_fault items.now) result }
 {
@@ -123,12 +131,14 @@ pub(crate) fn check_item_limits(alloc: Global, run: usize, items: &[Item]) -> Re
     check_each(alloc, first_items(items, run))
 }
 
+/// Tests that the grid doesn't have too many points.
 fn check_points(alloc: Global, shape: &Shape) -> Result<(), JobFault>
     ensures { Tells faults.Memory (points_fault shape.now) result }
 {
     check_limit(alloc, b"points", point_count(shape), MAX_POINTS)
 }
 
+/// Tests that the stored levels of all grid variables together don't have too many points.
 fn check_cells(alloc: Global, shape: &Shape, vars: &List<VarInfo>) -> Result<(), JobFault>
     ensures { Tells faults.Memory (cells_fault shape.now vars.now) result }
 {

@@ -39,6 +39,7 @@ pub fn direction_letter(direction: u8) -> &'static [u8]
     }
 }
 
+/// The coordinate of a point along a direction, where each direction from 2 on is z.
 fn coordinate(point: &Point, direction: u8) -> i64
     ensures { result ≡ along point.now direction }
 {
@@ -49,6 +50,7 @@ fn coordinate(point: &Point, direction: u8) -> i64
     }
 }
 
+/// The word for what is at the ends of a direction: ` periodic` or ` boundary`.
 fn side(periodic: bool) -> &'static [u8]
     ensures { result.now ≡ side_text periodic }
 {
@@ -71,6 +73,7 @@ pub(crate) fn direction_line(alloc: Global, shape: &Shape, direction: u8) -> Res
     Ok(line)
 }
 
+/// The word for a type of variables, as an interface file has it.
 fn type_name(ctype: CType) -> &'static [u8]
     ensures { result.now ≡ type_name ctype }
 {
@@ -86,6 +89,7 @@ fn type_name(ctype: CType) -> &'static [u8]
     }
 }
 
+/// The word for a kind of variables: ` SCALAR` or ` GF`.
 fn kind(scalar: bool) -> &'static [u8]
     ensures { result.now ≡ kind_text scalar }
 {
@@ -109,6 +113,7 @@ pub(crate) fn variable_line(alloc: Global, number: usize, info: &VarInfo) -> Res
     Ok(line)
 }
 
+/// Adds a byte; a quote, a backslash or a line end is escaped with a backslash.
 fn push_escaped_byte(text: &mut Text, byte: u8) -> Result<(), Memory>
     ensures { OnOk result (text.new ≡ text.old ++ escaped_byte byte) }
 {
@@ -120,6 +125,7 @@ fn push_escaped_byte(text: &mut Text, byte: u8) -> Result<(), Memory>
     }
 }
 
+/// Adds bytes with quotes, backslashes and line ends escaped.
 fn push_escaped(text: &mut Text, bytes: &[u8]) -> Result<(), Memory>
     ensures { OnOk result (text.new ≡ text.old ++ escaped bytes.now) }
 {
@@ -129,6 +135,7 @@ fn push_escaped(text: &mut Text, bytes: &[u8]) -> Result<(), Memory>
     Ok(())
 }
 
+/// Adds a value: a number, yes or no, or an escaped text. Of no value nothing.
 fn push_value(alloc: Global, text: &mut Text, value: Option<&Value>) -> Result<(), Memory>
     ensures { OnOk result (text.new ≡ text.old ++ value_text (option_copied value.entry)) }
 {
@@ -141,6 +148,7 @@ fn push_value(alloc: Global, text: &mut Text, value: Option<&Value>) -> Result<(
     }
 }
 
+/// Adds a blank and the place of a keyword's word among its ranges. Of another type nothing.
 fn push_place(
     alloc: Global,
     text: &mut Text,
@@ -156,6 +164,7 @@ fn push_place(
     text.push_signed_number(alloc, place)
 }
 
+/// Adds the full name of a parameter, and the index of an element in brackets.
 fn push_element_name(
     alloc: Global,
     text: &mut Text,

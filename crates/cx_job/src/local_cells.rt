@@ -3,11 +3,12 @@
 ghost use Rattle.std.specs.Prelude.{◌≡◌, ◌<◌, ◌≤◌, ◌*◌};
 ghost use Rattle.std.specs.Int.{int_gap};
 ghost use Rattle.cx_grid.specs.Boxes.{point_count};
-ghost use Rattle.cx_grids.specs.Stored.{in_64_bits};
 ghost use Rattle.cx_cut.specs.Cuts.{part_count};
 ghost use Rattle.cx_cut.specs.Faults.{parts_of};
 ghost use Rattle.cx_job.specs.JobLimits.{run_count};
-ghost use Rattle.cx_job.specs.LocalCells.{greatest, write_count, window_size, part_cells, cells_by, local_cells};
+ghost use Rattle.cx_job.specs.LocalCells.{greatest, part_cells, cells_by, local_cells};
+ghost use Rattle.cx_rule.specs.Patches.{write_count, value_count};
+ghost use Rattle.cx_text.specs.Numbers.{in_64_bits};
 
 use crate::counting::run_count;
 use crate::limits::first_items;
@@ -80,7 +81,7 @@ fn most_writes(items: &[Item]) -> u64
 
 /// How many values an item's reads hand over, or the greatest number of 64 bits.
 fn window_size(dims: u8, item: &Item) -> u64
-    ensures { result ≡ in_64_bits (window_size dims item.now) }
+    ensures { result ≡ in_64_bits (value_count dims item.now) }
 {
     let reads = item.reads.as_slice();
     let mut values = 0_u64;
@@ -92,7 +93,7 @@ fn window_size(dims: u8, item: &Item) -> u64
 
 /// The greatest number of values that an item's reads hand over, or the greatest number of 64 bits.
 fn greatest_window(dims: u8, items: &[Item]) -> u64
-    ensures { result ≡ in_64_bits (greatest (window_size dims) items.now) }
+    ensures { result ≡ in_64_bits (greatest (value_count dims) items.now) }
 {
     let mut window = 0;
     'items: for item in items {

@@ -30,18 +30,21 @@ fn is_between(byte: u8) -> bool
     byte == b' ' || byte == b'\t' || byte == b'\r' || byte == b'\n'
 }
 
+/// The parts of a text between separators, empty ones too.
 fn parts_of(alloc: Global, text: &[u8]) -> Result<Vec<&[u8]>, AllocError>
     ensures { IfOk result (λ ps. map (λ x. x.now) ps.items ≡ slice_split is_between text.now) }
 {
     text.split(|byte| is_between(*byte)).collect(alloc)
 }
 
+/// Whether a part of a text is a name: it isn't empty.
 fn is_name(text: &[u8]) -> bool
     ensures { result ≡ is_name text.now }
 {
     !text.is_empty()
 }
 
+/// The names among the parts of a text.
 fn names_in(alloc: Global, parts: &[&[u8]]) -> Result<List<Text>, Memory>
     ensures { IfOk result (λ names. names ≡ filter is_name (map (λ x. x.now) parts.now)) }
 {
@@ -63,6 +66,7 @@ fn output_names(alloc: Global, values: &Values) -> Result<List<Text>, Memory>
     names_in(alloc, &parts)
 }
 
+/// The number of the variable that has this full name, in any case.
 fn variable_named(vars: &[VarInfo], name: &[u8]) -> Option<usize>
     ensures { result ≡ position_from (λ v. same_name name.now v.full) 0 vars.now }
 {
@@ -83,6 +87,7 @@ fn named_by(vars: &[VarInfo], groups: &FullGroups, name: &[u8]) -> Option<Named>
     }
 }
 
+/// Whether two are one group: of one thorn and at one place in its file.
 fn is_same_group(a: GroupPlace, b: GroupPlace) -> bool
     ensures { result ≡ is_same_group a b }
 {
@@ -99,12 +104,14 @@ fn is_of(number: usize, group: GroupPlace, named: Named) -> bool
     }
 }
 
+/// Whether a variable has storage.
 fn is_stored(storage: &[u8], number: usize) -> bool
     ensures { result ≡ is_stored storage.now number }
 {
     stored_levels(storage, number) > 0
 }
 
+/// Whether a variable is meant by the name and has no storage.
 fn is_missing(storage: &[u8], named: Named, number: usize, group: GroupPlace) -> bool
     ensures { result ≡ is_missing storage.now named (number, group) }
 {
@@ -123,6 +130,7 @@ fn lacks_storage(places: &[GroupPlace], storage: &[u8], named: Named) -> bool
     false
 }
 
+/// What a name of `IO::out_vars` means; a fault if it means nothing or a variable without storage.
 fn output_of(
     alloc: Global,
     places: &[GroupPlace],
@@ -162,12 +170,14 @@ fn outputs(
     Ok(outputs)
 }
 
+/// Whether one of the names means the variable, by itself or by its group.
 fn is_written(named: &[Named], number: usize, group: GroupPlace) -> bool
     ensures { result ≡ is_written named.now (number, group) }
 {
     named.iter().any(|named| is_of(number, group, *named))
 }
 
+/// The variables that the names mean, each once and in the order of their numbers.
 fn named_ids(alloc: Global, places: &[GroupPlace], named: &[Named]) -> Result<List<VarId>, Memory>
     requires { length places.now < 2 ^ 32 }
     ensures { IfOk result (λ written. written ≡ named_ids places.now named.now) }

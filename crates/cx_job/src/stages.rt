@@ -40,12 +40,14 @@ use cx_text::{List, Memory, Text};
 use cx_values::{Values, assign};
 use std::alloc::Global;
 
+/// Whether a name couldn't be looked up because memory ran out.
 fn is_scope_memory(fault: &ScopeFault) -> bool
     ensures { IsTrue result ↔ (fault.now ≡ scopes.Memory) }
 {
     matches!(fault, ScopeFault::Memory)
 }
 
+/// The path that faults of the output have in place of an item's.
 fn output_path(alloc: Global) -> Result<Text, Memory>
     ensures { IfOk result (λ path. path ≡ codes "output") }
 {

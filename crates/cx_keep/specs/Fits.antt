@@ -1,5 +1,5 @@
 -- When a checkpoint fits a job: its iteration, how many values it holds, and the values.
-use Rattle.std.specs.Prelude.{ℕ, Bool, true, false, ◌&&◌, ◌==◌, nat_le, ℤ, int_le, List, [], ◌∷◌, length, take, replicate, if◌then◌else◌}
+use Rattle.std.specs.Prelude.{ℕ, Bool, true, false, ◌&&◌, ◌==◌, nat_le, ℤ, int_le, List, [], ◌∷◌, length, take, replicate}
 use Rattle.std.specs.List.{list_all, flat_map}
 use Rattle.cx_grid.specs.Boxes.{point_count}
 use Rattle.cx_grid.specs.Grid.{whole}
@@ -9,17 +9,11 @@ use Rattle.cx_plan.specs.Setups.{setup_of}
 use Rattle.cx_plan.specs.declared.variable.VarInfo.{VarInfo}
 use Rattle.cx_plan.specs.declared.job.Job.{Job}
 use Rattle.cx_chk.specs.declared.checkpoint.Checkpoint.{Checkpoint}
+use Rattle.cx_plan.specs.Whole.{scalar_count, level_count}
 
 -- how many files the output has
 abbrev pub output_count : ℕ
 output_count = 1
-
--- how many values a checkpoint holds of a variable that is a scalar, and how many levels of a grid variable
-abbrev pub scalar_count : VarInfo → ℕ
-scalar_count v = if v.scalar then v.levels else 0
-
-abbrev pub level_count : VarInfo → ℕ
-level_count v = if v.scalar then 0 else v.levels
 
 -- the variables of so many items each, item by item
 abbrev pub variables_by : (VarInfo → ℕ) → List VarInfo → List VarInfo
@@ -44,7 +38,8 @@ abbrev pub scalars_fit : List VarInfo → List ℤ → Bool
 scalars_fit vars values = each_fits holds_value (variables_by scalar_count vars) values
 
 abbrev pub levels_fit : ℕ → List VarInfo → List (List ℤ) → Bool
-levels_fit points vars levels = each_fits (holds_level points) (variables_by level_count vars) levels
+levels_fit points vars levels =
+    each_fits (holds_level points) (variables_by level_count vars) levels
 
 abbrev pub fits_job : Job → Checkpoint → Bool
 fits_job job c =

@@ -45,12 +45,14 @@ abbrev pub KeepsOutput : Files → Files → Type 0
 KeepsOutput old new = Changes (λ was now. take (length was) now ≡ was) output_file old new
 
 -- what a keeper keeps between two calls, and that these bytes come next
-pub record CanAppend (course : Course) (newest : Option ℕ) (next : Option Checkpoint) (bytes : List ℕ) (v : View) : Type 0 where
+pub record CanAppend (course : Course) (newest : Option ℕ) (next : Option Checkpoint)
+    (bytes : List ℕ) (v : View) : Type 0 where
   pub stands : Stands course newest next v
   pub piece : IsNextPiece course next 0 bytes (v.seen output_file)
 
 abbrev pub AppendStands : List ℕ → View → View → Type 0
-AppendStands bytes old new = (course : Course) (newest : Option ℕ) (next : Option Checkpoint) → CanAppend course newest next bytes old → Stands course newest next new
+AppendStands bytes old new = (course : Course) (newest : Option ℕ) (next : Option Checkpoint)
+    → CanAppend course newest next bytes old → Stands course newest next new
 
 -- a piece that is appended: its bytes, and where the run's keeper stands
 pub record IsAppended (piece : List ℕ) (old new : View) : Type 0 where
@@ -64,19 +66,27 @@ pub record KeepsRest (old new : View) : Type 0 where
 
 -- at each moment each image is a trail with the newest that was, and not past the next checkpoint
 abbrev pub AppendMoments : List ℕ → View → View → Type 0
-AppendMoments bytes old new = (course : Course) (newest : Option ℕ) (next : Option Checkpoint) → CanAppend course newest next bytes old → LeavesOnly old new (IsTrailOf course newest next)
+AppendMoments bytes old new = (course : Course) (newest : Option ℕ) (next : Option Checkpoint)
+    → CanAppend course newest next bytes old → LeavesOnly old new (IsTrailOf course newest next)
 
 -- ---- a checkpoint
 
 -- what a keeper keeps between two calls, and that this checkpoint comes next
-pub record CanSave (course : Course) (newest : Option ℕ) (next : Option Checkpoint) (c : Checkpoint) (v : View) : Type 0 where
+pub record CanSave (course : Course) (newest : Option ℕ) (next : Option Checkpoint) (c : Checkpoint)
+    (v : View) : Type 0 where
   pub stands : Stands course newest next v
   pub outputs : length course.outputs ≡ output_count
   pub comes : IsNextCheckpoint course newest c v
 
 abbrev pub SaveStands : Checkpoint → View → View → Type 0
-SaveStands c old new = (course : Course) (newest : Option ℕ) (next later : Option Checkpoint) → CanSave course newest next c old → IsLater course (Some c) later → Stands course (Some c.iteration) later new
+SaveStands c old new = (course : Course) (newest : Option ℕ) (next later : Option Checkpoint)
+    → CanSave course newest next c old → IsLater course (Some c) later
+    → Stands course (Some c.iteration) later new
 
--- at each moment each image is a trail with the newest that was, or with this one, and not past the next checkpoint
+-- at each moment each image is a trail with the newest that was, or with this one, and not past the
+-- next checkpoint
 abbrev pub SaveMoments : Checkpoint → View → View → Type 0
-SaveMoments c old new = (course : Course) (newest : Option ℕ) (next : Option Checkpoint) → CanSave course newest next c old → LeavesOnly old new (λ f. IsTrailOf course newest next f ⊎ IsTrailOf course (Some c.iteration) next f)
+SaveMoments c old new = (course : Course) (newest : Option ℕ) (next : Option Checkpoint)
+    → CanSave course newest next c old
+    → LeavesOnly old new (λ f. IsTrailOf course newest next f
+    ⊎ IsTrailOf course (Some c.iteration) next f)

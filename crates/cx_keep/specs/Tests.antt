@@ -6,7 +6,8 @@ use Rattle.cx_plan.specs.declared.job.Recover.TheVariants.{No, Auto, Autoprobe}
 use Rattle.cx_disk.specs.Disk.{Files}
 use Rattle.cx_chk.specs.declared.checkpoint.Checkpoint.{Checkpoint}
 use Rattle.cx_chk.specs.Reading.{decoded}
-use Rattle.cx_chk.specs.Slots.{slot_count, newest_below}
+use Rattle.cx_disk.specs.Files.{slot_count}
+use Rattle.cx_chk.specs.Slots.{newest_below}
 use Rattle.cx_keep.specs.declared.fault.BeginFault.{BeginFault}
 use Rattle.cx_keep.specs.declared.fault.BeginFault.TheVariants as faults
 use Rattle.cx_keep.specs.Fits.{fits_job}
@@ -16,7 +17,8 @@ use Rattle.cx_keep.specs.Trails.{file_of_output}
 -- the first output from this one on that is shorter than recorded, as both lengths
 abbrev pub short_from : ℕ → List ℕ → Files → Option (ℕ × ℕ)
 short_from j [] files = None
-short_from j (n ∷ ns) files = if nat_le n (length (files (file_of_output j))) then short_from (j + 1) ns files else Some (length (files (file_of_output j)), n)
+short_from j (n ∷ ns) files = if nat_le n (length (files (file_of_output j)))
+    then short_from (j + 1) ns files else Some (length (files (file_of_output j)), n)
 
 abbrev pub short_in : Checkpoint → Files → Option (ℕ × ℕ)
 short_in c files = short_from 0 c.lengths files
@@ -44,7 +46,8 @@ resumed (Ok c) = Ok (Some c)
 resumed (Err e) = Err e
 
 -- what a start comes to: with no checkpoint, with one, or its fault
-abbrev pub begun_from : Job → Files → Recover → Option (ℕ × ℕ) → Result (Option Checkpoint) BeginFault
+abbrev pub begun_from : Job → Files → Recover → Option (ℕ × ℕ)
+    → Result (Option Checkpoint) BeginFault
 begun_from job files No newest = Ok None
 begun_from job files Auto None = Err faults.NoCheckpoint
 begun_from job files Autoprobe None = Ok None

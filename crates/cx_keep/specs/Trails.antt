@@ -3,7 +3,8 @@ use Rattle.std.specs.Prelude.{ℕ, ◌+◌, ◌^◌, ◌<◌, ◌≤◌, ◌≡�
 use Rattle.cx_disk.specs.Disk.{Files, View, IsSettled}
 use Rattle.cx_chk.specs.declared.checkpoint.Checkpoint.{Checkpoint}
 use Rattle.cx_chk.specs.Encoding.{SpellsSlot}
-use Rattle.cx_chk.specs.Slots.{slot_count, header_of, SlotsSettled}
+use Rattle.cx_disk.specs.Files.{slot_count, old_output_file}
+use Rattle.cx_chk.specs.Slots.{header_of, SlotsSettled}
 
 -- a run as far as a disk is concerned: a text per output file, and its checkpoints
 pub record Course : Type 0 where
@@ -16,7 +17,7 @@ Has (d ∷ ds) c = (c ≡ d) ⊎ Has ds c
 
 -- the number of an output's file, its text, and its length in a checkpoint
 abbrev pub file_of_output : ℕ → ℕ
-file_of_output j = 8 + j
+file_of_output j = old_output_file + j
 
 abbrev pub text_of : Course → ℕ → List ℕ
 text_of course j = slice_index_or course.outputs j []
@@ -31,7 +32,8 @@ pub record GoesAsFar (count : ℕ) (text file : List ℕ) : Type 0 where
 
 -- the outputs go as far as a checkpoint says
 abbrev pub OutputsReach : Course → Checkpoint → Files → Type 0
-OutputsReach course c files = (j : ℕ) → j < length course.outputs → GoesAsFar (length_in c j) (text_of course j) (files (file_of_output j))
+OutputsReach course c files = (j : ℕ) → j < length course.outputs
+    → GoesAsFar (length_in c j) (text_of course j) (files (file_of_output j))
 
 -- a slot's bytes spell a checkpoint of the run
 pub record IsOfRun (course : Course) (bytes : List ℕ) : Type 0 where
@@ -40,7 +42,8 @@ pub record IsOfRun (course : Course) (bytes : List ℕ) : Type 0 where
   pub spelled : SpellsSlot bytes checkpoint
 
 abbrev pub IsTrail : Course → Files → Type 0
-IsTrail course files = (slot n : ℕ) → slot < slot_count → header_of (files slot) ≡ Some n → (s : IsOfRun course (files slot)) × OutputsReach course s.checkpoint files
+IsTrail course files = (slot n : ℕ) → slot < slot_count → header_of (files slot) ≡ Some n
+    → (s : IsOfRun course (files slot)) × OutputsReach course s.checkpoint files
 
 -- the greatest iteration of an open slot, or none
 pub record IsGreatest (files : Files) (n : ℕ) : Type 0 where
@@ -57,41 +60,56 @@ NewestIs files (Some n) = IsGreatest files n
 abbrev pub IsFrontOf : List ℕ → List ℕ → Type 0
 IsFrontOf text file = file ≡ take (length file) text
 
--- what a keeper keeps between two calls, with the newest iteration and the next checkpoint of the run
-pub record Stands (course : Course) (newest : Option ℕ) (next : Option Checkpoint) (v : View) : Type 0 where
+-- what a keeper keeps between two calls, with the newest iteration and the next checkpoint of the
+-- run
+pub record Stands (course : Course) (newest : Option ℕ) (next : Option Checkpoint)
+    (v : View) : Type 0 where
   pub slots : SlotsSettled v
-  pub kept : (slot n : ℕ) → slot < slot_count → header_of (v.seen slot) ≡ Some n → (s : IsOfRun course (v.seen slot)) × ((c : Files) → v.images c → OutputsReach course s.checkpoint c)
+  pub kept : (slot n : ℕ) → slot < slot_count → header_of (v.seen slot) ≡ Some n
+      → (s : IsOfRun course (v.seen slot))
+      × ((c : Files) → v.images c → OutputsReach course s.checkpoint c)
   pub newest_is : NewestIs v.seen newest
-  pub fronts : (j : ℕ) → j < length course.outputs → IsFrontOf (text_of course j) (v.seen (file_of_output j))
-  pub within : IfSome next (λ d. (c : Files) (j : ℕ) → v.images c → j < length course.outputs → length (c (file_of_output j)) ≤ length_in d j)
+  pub fronts : (j : ℕ) → j < length course.outputs
+      → IsFrontOf (text_of course j) (v.seen (file_of_output j))
+  pub within : IfSome next
+      (λ d. (c : Files) (j : ℕ) → v.images c → j < length course.outputs
+      → length (c (file_of_output j)) ≤ length_in d j)
 
 -- no output goes past the next checkpoint
 abbrev pub AreWithin : Course → Option Checkpoint → Files → Type 0
-AreWithin course next c = IfSome next (λ d. (j : ℕ) → j < length course.outputs → length (c (file_of_output j)) ≤ length_in d j)
+AreWithin course next c =
+    IfSome next (λ d. (j : ℕ) → j < length course.outputs
+    → length (c (file_of_output j)) ≤ length_in d j)
 
--- an image at a moment in a call: a trail with this newest, and with no output past the next checkpoint
-pub record IsTrailOf (course : Course) (newest : Option ℕ) (next : Option Checkpoint) (c : Files) : Type 0 where
+-- an image at a moment in a call: a trail with this newest, and with no output past the next
+-- checkpoint
+pub record IsTrailOf (course : Course) (newest : Option ℕ) (next : Option Checkpoint)
+    (c : Files) : Type 0 where
   pub trail : IsTrail course c
   pub newest_is : NewestIs c newest
   pub within : AreWithin course next c
 
 -- a piece is what comes next in an output's text, and not past the next checkpoint
-pub record IsNextPiece (course : Course) (next : Option Checkpoint) (j : ℕ) (piece : List ℕ) (file : List ℕ) : Type 0 where
+pub record IsNextPiece (course : Course) (next : Option Checkpoint) (j : ℕ) (piece : List ℕ)
+    (file : List ℕ) : Type 0 where
   pub output : j < length course.outputs
   pub front : IsFrontOf (text_of course j) (file ++ piece)
   pub within : IfSome next (λ d. length file + length piece ≤ length_in d j)
 
 -- the keeper's own count of the outputs' lengths
 abbrev pub Counts : List ℕ → View → Type 0
-Counts lengths v = (j : ℕ) → j < length lengths → slice_index lengths j ≡ length (v.seen (file_of_output j))
+Counts lengths v = (j : ℕ) → j < length lengths
+    → slice_index lengths j ≡ length (v.seen (file_of_output j))
 
 -- each of so many outputs is the same in all images
 abbrev pub OutputsSettled : ℕ → View → Type 0
 OutputsSettled count v = (j : ℕ) → j < count → IsSettled v (file_of_output j)
 
 -- the checkpoint comes next, and records the outputs as they are
-pub record IsNextCheckpoint (course : Course) (newest : Option ℕ) (c : Checkpoint) (v : View) : Type 0 where
+pub record IsNextCheckpoint (course : Course) (newest : Option ℕ) (c : Checkpoint)
+    (v : View) : Type 0 where
   pub of_run : Has course.checkpoints c
   pub in_range : c.iteration < 2 ^ 64
   pub later : IfSome newest (λ n. n < c.iteration)
-  pub lengths : (j : ℕ) → j < length course.outputs → length_in c j ≡ length (v.seen (file_of_output j))
+  pub lengths : (j : ℕ) → j < length course.outputs
+      → length_in c j ≡ length (v.seen (file_of_output j))

@@ -3,22 +3,29 @@
 use cx_disk::DiskFault;
 use cx_text::{Memory, Text};
 use std::alloc::{AllocError, AllocFailed};
+use thiserror::Error;
 
 /// Why a run didn't begin.
-#[derive(Debug, Drop)]
+#[derive(Debug, Drop, Error)]
 pub enum BeginFault {
     /// The disk failed.
+    #[error("Disk")]
     Disk,
     /// A checkpoint was asked for, and no slot is open.
+    #[error("NoCheckpoint")]
     NoCheckpoint,
     /// The newest slot is of another job: the first lines in which the two keys differ, the kept one first. A key that has ended
     /// there has an empty one.
+    #[error("OtherJob\n{0}\n{1}")]
     OtherJob(Text, Text),
     /// The newest slot, this one, spells no checkpoint, or one that doesn't fit the job.
+    #[error("Damaged {0}")]
     Damaged(u32),
     /// The output is shorter than recorded: its length, and the recorded one.
+    #[error("OutputShort {0} {1}")]
     OutputShort(u64, u64),
     /// There was no memory left.
+    #[error("Memory")]
     Memory,
 }
 

@@ -1,8 +1,8 @@
 //! Whether a checkpoint fits a job.
 ghost use Rattle.std.specs.Prelude.{◌≡◌, ◌≤◌, take, length};
 ghost use Rattle.std.specs.List.{list_all};
-ghost use Rattle.cx_plan.specs.Whole.{IsWhole};
-ghost use Rattle.cx_keep.specs.Fits.{fits_job, scalars_fit, levels_fit, scalar_count, level_count, holds_value, holds_level, begins_with};
+ghost use Rattle.cx_plan.specs.Whole.{IsWhole, scalar_count, level_count};
+ghost use Rattle.cx_keep.specs.Fits.{fits_job, scalars_fit, levels_fit, holds_value, holds_level, begins_with};
 
 use cx_chk::Checkpoint;
 use cx_grid::{count, whole};

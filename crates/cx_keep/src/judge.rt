@@ -3,36 +3,18 @@ ghost use Rattle.std.specs.Prelude.{◌≡◌, ◌<◌, ◌≤◌, ◌+◌, true
 ghost use Rattle.cx_disk.specs.Cause.{HasCause};
 ghost use Rattle.cx_disk.specs.Moments.{IsQuiet};
 ghost use Rattle.cx_plan.specs.Whole.{IsWhole};
-ghost use Rattle.cx_chk.specs.Slots.{slot_count};
+ghost use Rattle.cx_disk.specs.Files.{count_with, output_limit, slot_count};
 ghost use Rattle.cx_keep.specs.Fits.{output_count, fits_job};
 ghost use Rattle.cx_keep.specs.Tests.{Answers, tested, or_short, short_in, short_from};
+ghost use Rattle.cx_keep.specs.Trails.{file_of_output};
 
 use crate::fault::BeginFault;
 use crate::fits::fits;
 use crate::keys::first_difference;
-use crate::resume::OUTPUT;
 use cx_chk::{Checkpoint, decode};
-use cx_disk::{Disk, DiskFault};
+use cx_disk::{Disk, DiskFault, OLD_OUTPUT, read_whole};
 use cx_plan::Job;
 use std::alloc::Global;
-
-// The bytes of a file.
-fn bytes_of<D: Disk>(alloc: Global, disk: &mut D, file: u32) -> Result<Vec<u8>, DiskFault>
-    requires mounted { IsTrue (D.mounted disk.old) }
-    requires file { file < D.file_count disk.old }
-    ensures bytes { D.tells → IfOk result
-        (λ bytes. bytes.items ≡ (D.view disk.old).seen file) }
-    ensures quiet { D.tells → IsQuiet (D.view disk.old) (D.view disk.new) }
-    ensures mounted { IsTrue (D.mounted disk.new) }
-    ensures folders { D.folders disk.new ≡ D.folders disk.old }
-    ensures count { D.file_count disk.new ≡ D.file_count disk.old }
-    ensures cause { HasCause DiskFault.Failed (D.faults disk.old) (D.faults disk.new) result }
-{
-    let count = disk.length(file)?;
-    let mut bytes = vec![in alloc; 0u8; count as usize]?;
-    disk.read(file, 0, &mut bytes)?;
-    Ok(bytes)
-}
 
 // Whether a checkpoint has the job's key.
 fn has_key(found: &Checkpoint, job: &Job) -> bool
@@ -44,8 +26,8 @@ fn has_key(found: &Checkpoint, job: &Job) -> bool
 // The first output that is shorter than recorded, as both lengths.
 fn short_of<D: Disk>(disk: &mut D, lengths: &[u64]) -> Result<Option<(u64, u64)>, DiskFault>
     requires mounted { IsTrue (D.mounted disk.old) }
-    requires few { length lengths.now ≤ 256 }
-    requires files { 8 + length lengths.now ≤ D.file_count disk.old }
+    requires few { length lengths.now ≤ output_limit }
+    requires files { file_of_output (length lengths.now) ≤ D.file_count disk.old }
     ensures short { D.tells → IfOk result
         (λ found. found ≡ short_from 0 lengths.now (D.view disk.old).seen) }
     ensures quiet { D.tells → IsQuiet (D.view disk.old) (D.view disk.new) }
@@ -55,7 +37,7 @@ fn short_of<D: Disk>(disk: &mut D, lengths: &[u64]) -> Result<Option<(u64, u64)>
     ensures cause { HasCause DiskFault.Failed (D.faults disk.old) (D.faults disk.new) result }
 {
     'each: for output in 0..lengths.len() {
-        let count = disk.length(OUTPUT + output as u32)?;
+        let count = disk.length(OLD_OUTPUT + output as u32)?;
         if count < lengths[output] {
             return Ok(Some((count, lengths[output])));
         }
@@ -66,8 +48,8 @@ fn short_of<D: Disk>(disk: &mut D, lengths: &[u64]) -> Result<Option<(u64, u64)>
 // A checkpoint of the job, unless an output is shorter than it records.
 fn long_enough<D: Disk>(disk: &mut D, found: Checkpoint) -> Result<Checkpoint, BeginFault>
     requires mounted { IsTrue (D.mounted disk.old) }
-    requires few { length found.lengths ≤ 256 }
-    requires files { 8 + length found.lengths ≤ D.file_count disk.old }
+    requires few { length found.lengths ≤ output_limit }
+    requires files { file_of_output (length found.lengths) ≤ D.file_count disk.old }
     ensures tests { D.tells → Answers (λ c. c) result
         (or_short found (short_in found (D.view disk.old).seen)) }
     ensures same { IfOk result (λ c. c ≡ found) }
@@ -91,7 +73,7 @@ pub fn judge<D: Disk>(
     slot: u32,
 ) -> Result<Checkpoint, BeginFault>
     requires mounted { IsTrue (D.mounted disk.old) }
-    requires files { D.file_count disk.old ≡ 9 }
+    requires files { D.file_count disk.old ≡ count_with 0 }
     requires slot { slot < slot_count }
     requires whole { IsWhole job.now }
     ensures tests { D.tells → Answers (λ c. c) result
@@ -102,11 +84,11 @@ pub fn judge<D: Disk>(
     ensures quiet { D.tells → IsQuiet (D.view disk.old) (D.view disk.new) }
     ensures mounted { IsTrue (D.mounted disk.new) }
     ensures folders { D.folders disk.new ≡ D.folders disk.old }
-    ensures count { D.file_count disk.new ≡ 9 }
+    ensures count { D.file_count disk.new ≡ count_with 0 }
     ensures cause { HasCause BeginFault.Disk (D.faults disk.old) (D.faults disk.new) result }
 {
-    let bytes = bytes_of(alloc, disk, slot)?;
-    let Some(found) = decode(alloc, &bytes)? else {
+    let bytes = read_whole(alloc, disk, slot)?;
+    let Some(found) = decode(alloc, bytes.as_slice())? else {
         return Err(BeginFault::Damaged(slot));
     };
     if !has_key(&found, job) {

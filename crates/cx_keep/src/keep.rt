@@ -1,6 +1,7 @@
 //! The keeper of a run's output and checkpoints.
-ghost use Rattle.std.specs.Prelude.{◌≡◌, ◌≤◌, ◌+◌, ◌^◌, true, length, IsTrue, OnOk, OnErr, IfOk, IfErr, IfSome, vec_len};
+ghost use Rattle.std.specs.Prelude.{◌≡◌, ◌≤◌, ◌+◌, ◌^◌, true, [], length, IsTrue, OnOk, OnErr, IfOk, IfErr, IfSome, vec_len};
 ghost use Rattle.cx_disk.specs.Disk.{IsNamed};
+ghost use Rattle.cx_disk.specs.Files.{count_with, output_limit};
 ghost use Rattle.cx_disk.specs.Cause.{HasCause};
 ghost use Rattle.cx_disk.specs.Moments.{IsQuiet};
 ghost use Rattle.cx_plan.specs.Whole.{IsWhole};
@@ -8,18 +9,17 @@ ghost use Rattle.cx_chk.specs.Encoding.{IsCheckpoint};
 ghost use Rattle.cx_chk.specs.Slots.{SlotsSettled, OutputsSame, IsSaving, IsSaved};
 ghost use Rattle.cx_keep.specs.Fits.{fits_job};
 ghost use Rattle.cx_keep.specs.Tests.{Answers, begun};
-ghost use Rattle.cx_keep.specs.Trails.{Counts, OutputsSettled};
+ghost use Rattle.cx_keep.specs.Trails.{Counts, OutputsSettled, file_of_output};
 ghost use Rattle.cx_keep.specs.Beginning.{HasLengths, LeavesAsIs, IsStarted, StartMoments, lengths_left};
 ghost use Rattle.cx_keep.specs.Keeping.{keeper_of, written, grown, IsAppended, KeepsRest, AppendMoments};
 ghost use Rattle.cx_keep.specs.Keeping.{SaveStands, SaveMoments};
 
 use crate::fault::BeginFault;
-use crate::resume::OUTPUT;
 use crate::start::start;
 use cx_chk::{Checkpoint, Slots};
-use cx_disk::{Disk, DiskFault};
+use cx_disk::{Disk, DiskFault, OLD_OUTPUT};
 use cx_plan::Job;
-use cx_text::Memory;
+use cx_text::{List, Memory};
 use std::alloc::Global;
 use std::marker::Model;
 
@@ -45,8 +45,8 @@ impl Model for Keep {
 // Settles so many outputs.
 fn settle<D: Disk>(disk: &mut D, outputs: u32) -> Result<(), DiskFault>
     requires mounted { IsTrue (D.mounted disk.old) }
-    requires few { outputs ≤ 256 }
-    requires files { 8 + outputs ≤ D.file_count disk.old }
+    requires few { outputs ≤ output_limit }
+    requires files { file_of_output outputs ≤ D.file_count disk.old }
     ensures quiet { D.tells → IsQuiet (D.view disk.old) (D.view disk.new) }
     ensures settled { D.tells → OnOk result (OutputsSettled outputs (D.view disk.new)) }
     ensures mounted { IsTrue (D.mounted disk.new) }
@@ -55,7 +55,7 @@ fn settle<D: Disk>(disk: &mut D, outputs: u32) -> Result<(), DiskFault>
     ensures cause { HasCause DiskFault.Failed (D.faults disk.old) (D.faults disk.new) result }
 {
     'each: for output in 0..outputs {
-        disk.sync(OUTPUT + output)?;
+        disk.sync(OLD_OUTPUT + output)?;
     }
     Ok(())
 }
@@ -78,7 +78,7 @@ impl Keep {
         job: &Job,
     ) -> Result<(Keep, Option<Checkpoint>), BeginFault>
         requires mounted { IsTrue (D.mounted disk.old) }
-        requires files { D.file_count disk.old ≡ 9 }
+        requires files { D.file_count disk.old ≡ count_with 0 }
         requires whole { IsWhole job.now }
         ensures begun { D.tells → Answers (λ r. r.1) result
             (begun job.now (D.view disk.old).seen) }
@@ -93,7 +93,7 @@ impl Keep {
         ensures keeper { IfOk result (λ r. (r.0 ≡ keeper_of job.now r.1) × HasLengths r.1) }
         ensures mounted { IsTrue (D.mounted disk.new) }
         ensures folders { D.folders disk.new ≡ D.folders disk.old }
-        ensures count { D.file_count disk.new ≡ 9 }
+        ensures count { D.file_count disk.new ≡ count_with 0 }
         ensures cause { HasCause BeginFault.Disk (D.faults disk.old) (D.faults disk.new) result }
     {
         let found = start(alloc, disk, job)?;
@@ -135,11 +135,12 @@ impl Keep {
         ensures keeper { IfOk result (λ r. (r.0 ≡ keeper_of job.now r.1) × HasLengths r.1) }
         ensures mounted { OnOk result (IsTrue (D.mounted disk.new)) }
         ensures folders { OnOk result
-            (IsNamed job.now.out_dir job.now.chk_dir (D.folders disk.new)) }
-        ensures count { D.file_count disk.new ≡ 9 }
+            (IsNamed job.now.out_dir [] job.now.chk_dir (D.folders disk.new)) }
+        ensures count { OnOk result (D.file_count disk.new ≡ count_with 0) }
         ensures cause { HasCause BeginFault.Disk (D.faults disk.old) (D.faults disk.new) result }
     {
-        disk.mount(&job.out_dir, &job.chk_dir)?;
+        let names = List::empty(alloc);
+        disk.mount(&job.out_dir, &names, &job.chk_dir)?;
         Keep::begin_mounted(alloc, disk, job)
     }
 
@@ -148,7 +149,7 @@ impl Keep {
     /// `Failed`: the disk failed. The output then has what it had, and maybe bytes behind it. So it may after `Memory`.
     pub fn write_out<D: Disk>(&mut self, disk: &mut D, bytes: &[u8]) -> Result<(), DiskFault>
         requires mounted { IsTrue (D.mounted disk.old) }
-        requires files { 9 ≤ D.file_count disk.old }
+        requires files { count_with 0 ≤ D.file_count disk.old }
         requires room { written self.old + length bytes.now ≤ 2 ^ 32 }
         requires counts { D.tells → Counts self.old.lengths (D.view disk.old) }
         ensures counts { D.tells → OnOk result (Counts self.new.lengths (D.view disk.new)) }
@@ -164,7 +165,7 @@ impl Keep {
         ensures cause { HasCause DiskFault.Failed (D.faults disk.old) (D.faults disk.new) result }
     {
         let at = self.lengths[0];
-        disk.write_at(OUTPUT, at, bytes)?;
+        disk.write_at(OLD_OUTPUT, at, bytes)?;
         self.lengths[0] = at + bytes.len() as u64;
         Ok(())
     }
@@ -180,7 +181,7 @@ impl Keep {
         c: &Checkpoint,
     ) -> Result<(), DiskFault>
         requires mounted { IsTrue (D.mounted disk.old) }
-        requires files { 9 ≤ D.file_count disk.old }
+        requires files { count_with 0 ≤ D.file_count disk.old }
         requires fits { IsCheckpoint c.now }
         requires slots { D.tells → SlotsSettled (D.view disk.old) }
         ensures keeper { self.new ≡ self.old }
@@ -206,7 +207,7 @@ impl Keep {
     /// `Failed`: the disk failed.
     pub fn finish<D: Disk>(&mut self, disk: &mut D) -> Result<(), DiskFault>
         requires mounted { IsTrue (D.mounted disk.old) }
-        requires files { 9 ≤ D.file_count disk.old }
+        requires files { count_with 0 ≤ D.file_count disk.old }
         ensures keeper { self.new ≡ self.old }
         ensures quiet { D.tells → IsQuiet (D.view disk.old) (D.view disk.new) }
         ensures settled { D.tells → OnOk result

@@ -2,15 +2,14 @@
 ghost use Rattle.std.specs.Prelude.{◌≡◌, ◌≤◌, ◌+◌, length, IsTrue, OnOk};
 ghost use Rattle.cx_disk.specs.Cause.{HasCause};
 ghost use Rattle.cx_disk.specs.Moments.{IsQuiet};
-ghost use Rattle.cx_chk.specs.Slots.{slot_count, SlotsSettled};
+ghost use Rattle.cx_disk.specs.Files.{output_limit, slot_count};
+ghost use Rattle.cx_chk.specs.Slots.{SlotsSettled};
 ghost use Rattle.cx_keep.specs.Resuming.{AreLong, CutsOutputs, LeavesCut, AreCut, SlotsSame, ResumeMoments};
 ghost use Rattle.cx_keep.specs.Beginning.{IsLeft, ResumeStands};
+ghost use Rattle.cx_keep.specs.Trails.{file_of_output};
 
 use cx_chk::Checkpoint;
-use cx_disk::{Disk, DiskFault, trim};
-
-/// The file of the first output. The slots are the files before it.
-pub(crate) const OUTPUT: u32 = 8;
+use cx_disk::{Disk, DiskFault, OLD_OUTPUT, SLOTS, trim};
 
 /// Settles the slots.
 pub fn settle_slots<D: Disk>(disk: &mut D) -> Result<(), DiskFault>
@@ -23,7 +22,7 @@ pub fn settle_slots<D: Disk>(disk: &mut D) -> Result<(), DiskFault>
     ensures count { D.file_count disk.new ≡ D.file_count disk.old }
     ensures cause { HasCause DiskFault.Failed (D.faults disk.old) (D.faults disk.new) result }
 {
-    'each: for slot in 0..OUTPUT {
+    'each: for slot in 0..SLOTS {
         disk.sync(slot)?;
     }
     Ok(())
@@ -32,8 +31,8 @@ pub fn settle_slots<D: Disk>(disk: &mut D) -> Result<(), DiskFault>
 /// Cuts each output to its length, and settles it.
 pub fn cut_outputs<D: Disk>(disk: &mut D, lengths: &[u64]) -> Result<(), DiskFault>
     requires mounted { IsTrue (D.mounted disk.old) }
-    requires few { length lengths.now ≤ 256 }
-    requires files { 8 + length lengths.now ≤ D.file_count disk.old }
+    requires few { length lengths.now ≤ output_limit }
+    requires files { file_of_output (length lengths.now) ≤ D.file_count disk.old }
     requires long { D.tells → AreLong lengths.now (D.view disk.old).seen }
     ensures crash { D.tells → CutsOutputs lengths.now (D.view disk.old) (D.view disk.new) }
     ensures moments { D.tells → LeavesCut lengths.now (D.view disk.old) (D.view disk.new) }
@@ -46,7 +45,7 @@ pub fn cut_outputs<D: Disk>(disk: &mut D, lengths: &[u64]) -> Result<(), DiskFau
     ensures cause { HasCause DiskFault.Failed (D.faults disk.old) (D.faults disk.new) result }
 {
     'each: for output in 0..lengths.len() {
-        trim(disk, OUTPUT + output as u32, lengths[output])?;
+        trim(disk, OLD_OUTPUT + output as u32, lengths[output])?;
     }
     Ok(())
 }
@@ -54,8 +53,8 @@ pub fn cut_outputs<D: Disk>(disk: &mut D, lengths: &[u64]) -> Result<(), DiskFau
 /// Goes on from a checkpoint: settles the slots, and cuts the outputs to what it records.
 pub fn resume<D: Disk>(disk: &mut D, c: &Checkpoint) -> Result<(), DiskFault>
     requires mounted { IsTrue (D.mounted disk.old) }
-    requires few { length c.now.lengths ≤ 256 }
-    requires files { 8 + length c.now.lengths ≤ D.file_count disk.old }
+    requires few { length c.now.lengths ≤ output_limit }
+    requires files { file_of_output (length c.now.lengths) ≤ D.file_count disk.old }
     requires long { D.tells → AreLong c.now.lengths (D.view disk.old).seen }
     ensures stands { D.tells → OnOk result
         (ResumeStands c.now (D.view disk.old) (D.view disk.new)) }

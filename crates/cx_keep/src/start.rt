@@ -3,7 +3,8 @@ ghost use Rattle.std.specs.Prelude.{◌≡◌, ◌≢◌, ◌<◌, true, Some, N
 ghost use Rattle.cx_disk.specs.Cause.{HasCause};
 ghost use Rattle.cx_plan.specs.Whole.{IsWhole};
 ghost use Rattle.cx_plan.specs.declared.job.Recover.TheVariants as recovers;
-ghost use Rattle.cx_chk.specs.Slots.{slot_count, newest_below};
+ghost use Rattle.cx_disk.specs.Files.{count_with, slot_count};
+ghost use Rattle.cx_chk.specs.Slots.{newest_below};
 ghost use Rattle.cx_keep.specs.Fits.{output_count, fits_job};
 ghost use Rattle.cx_keep.specs.Tests.{Answers, tested, begun};
 ghost use Rattle.cx_keep.specs.Beginning.{HasLengths, LeavesAsIs, IsStarted, StartMoments};
@@ -19,7 +20,7 @@ use std::alloc::Global;
 // Begins with nothing where no slot is open: settles the slots, and cuts the output to nothing.
 fn afresh<D: Disk>(disk: &mut D) -> Result<(), DiskFault>
     requires mounted { IsTrue (D.mounted disk.old) }
-    requires files { D.file_count disk.old ≡ 9 }
+    requires files { D.file_count disk.old ≡ count_with 0 }
     requires none { D.tells → newest_below slot_count (D.view disk.old).seen ≡ None }
     ensures started { D.tells → OnOk result
         (IsStarted recovers.Autoprobe None (D.view disk.old) (D.view disk.new)) }
@@ -27,7 +28,7 @@ fn afresh<D: Disk>(disk: &mut D) -> Result<(), DiskFault>
         StartMoments recovers.Autoprobe (D.view disk.old) (D.view disk.new) }
     ensures mounted { IsTrue (D.mounted disk.new) }
     ensures folders { D.folders disk.new ≡ D.folders disk.old }
-    ensures count { D.file_count disk.new ≡ 9 }
+    ensures count { D.file_count disk.new ≡ count_with 0 }
     ensures cause { HasCause DiskFault.Failed (D.faults disk.old) (D.faults disk.new) result }
 {
     settle_slots(disk)?;
@@ -37,13 +38,13 @@ fn afresh<D: Disk>(disk: &mut D) -> Result<(), DiskFault>
 // Gives up all checkpoints, and cuts the output to nothing.
 fn give_up<D: Disk>(disk: &mut D) -> Result<(), DiskFault>
     requires mounted { IsTrue (D.mounted disk.old) }
-    requires files { D.file_count disk.old ≡ 9 }
+    requires files { D.file_count disk.old ≡ count_with 0 }
     ensures started { D.tells → OnOk result
         (IsStarted recovers.No None (D.view disk.old) (D.view disk.new)) }
     ensures moments { D.tells → StartMoments recovers.No (D.view disk.old) (D.view disk.new) }
     ensures mounted { IsTrue (D.mounted disk.new) }
     ensures folders { D.folders disk.new ≡ D.folders disk.old }
-    ensures count { D.file_count disk.new ≡ 9 }
+    ensures count { D.file_count disk.new ≡ count_with 0 }
     ensures cause { HasCause DiskFault.Failed (D.faults disk.old) (D.faults disk.new) result }
 {
     settle_slots(disk)?;
@@ -60,7 +61,7 @@ fn go_on<D: Disk>(
     iteration: u64,
 ) -> Result<Checkpoint, BeginFault>
     requires mounted { IsTrue (D.mounted disk.old) }
-    requires files { D.file_count disk.old ≡ 9 }
+    requires files { D.file_count disk.old ≡ count_with 0 }
     requires slot { slot < slot_count }
     requires whole { IsWhole job.now }
     requires newest { D.tells →
@@ -77,7 +78,7 @@ fn go_on<D: Disk>(
     ensures one { IfOk result (λ c. length c.lengths ≡ output_count) }
     ensures mounted { IsTrue (D.mounted disk.new) }
     ensures folders { D.folders disk.new ≡ D.folders disk.old }
-    ensures count { D.file_count disk.new ≡ 9 }
+    ensures count { D.file_count disk.new ≡ count_with 0 }
     ensures cause { HasCause BeginFault.Disk (D.faults disk.old) (D.faults disk.new) result }
 {
     let found = judge(alloc, disk, job, slot)?;
@@ -88,7 +89,7 @@ fn go_on<D: Disk>(
 // Where no slot is open.
 fn with_none<D: Disk>(disk: &mut D, job: &Job) -> Result<Option<Checkpoint>, BeginFault>
     requires mounted { IsTrue (D.mounted disk.old) }
-    requires files { D.file_count disk.old ≡ 9 }
+    requires files { D.file_count disk.old ≡ count_with 0 }
     requires kept { job.now.recover ≢ recovers.No }
     requires none { D.tells → newest_below slot_count (D.view disk.old).seen ≡ None }
     ensures begun { D.tells → Answers (λ c. c) result (begun job.now (D.view disk.old).seen) }
@@ -102,7 +103,7 @@ fn with_none<D: Disk>(disk: &mut D, job: &Job) -> Result<Option<Checkpoint>, Beg
     ensures one { IfOk result HasLengths }
     ensures mounted { IsTrue (D.mounted disk.new) }
     ensures folders { D.folders disk.new ≡ D.folders disk.old }
-    ensures count { D.file_count disk.new ≡ 9 }
+    ensures count { D.file_count disk.new ≡ count_with 0 }
     ensures cause { HasCause BeginFault.Disk (D.faults disk.old) (D.faults disk.new) result }
 {
     if let Recover::Auto = job.recover {
@@ -121,7 +122,7 @@ fn with_newest<D: Disk>(
     iteration: u64,
 ) -> Result<Option<Checkpoint>, BeginFault>
     requires mounted { IsTrue (D.mounted disk.old) }
-    requires files { D.file_count disk.old ≡ 9 }
+    requires files { D.file_count disk.old ≡ count_with 0 }
     requires slot { slot < slot_count }
     requires whole { IsWhole job.now }
     requires kept { job.now.recover ≢ recovers.No }
@@ -138,7 +139,7 @@ fn with_newest<D: Disk>(
     ensures one { IfOk result HasLengths }
     ensures mounted { IsTrue (D.mounted disk.new) }
     ensures folders { D.folders disk.new ≡ D.folders disk.old }
-    ensures count { D.file_count disk.new ≡ 9 }
+    ensures count { D.file_count disk.new ≡ count_with 0 }
     ensures cause { HasCause BeginFault.Disk (D.faults disk.old) (D.faults disk.new) result }
 {
     let found = go_on(alloc, disk, job, slot, iteration)?;
@@ -153,7 +154,7 @@ fn with_slot<D: Disk>(
     newest: Option<(u32, u64)>,
 ) -> Result<Option<Checkpoint>, BeginFault>
     requires mounted { IsTrue (D.mounted disk.old) }
-    requires files { D.file_count disk.old ≡ 9 }
+    requires files { D.file_count disk.old ≡ count_with 0 }
     requires slot { IfSome newest (λ f. f.0 < slot_count) }
     requires whole { IsWhole job.now }
     requires kept { job.now.recover ≢ recovers.No }
@@ -169,7 +170,7 @@ fn with_slot<D: Disk>(
     ensures one { IfOk result HasLengths }
     ensures mounted { IsTrue (D.mounted disk.new) }
     ensures folders { D.folders disk.new ≡ D.folders disk.old }
-    ensures count { D.file_count disk.new ≡ 9 }
+    ensures count { D.file_count disk.new ≡ count_with 0 }
     ensures cause { HasCause BeginFault.Disk (D.faults disk.old) (D.faults disk.new) result }
 {
     match newest {
@@ -185,7 +186,7 @@ fn with_kept<D: Disk>(
     job: &Job,
 ) -> Result<Option<Checkpoint>, BeginFault>
     requires mounted { IsTrue (D.mounted disk.old) }
-    requires files { D.file_count disk.old ≡ 9 }
+    requires files { D.file_count disk.old ≡ count_with 0 }
     requires whole { IsWhole job.now }
     requires kept { job.now.recover ≢ recovers.No }
     ensures begun { D.tells → Answers (λ c. c) result (begun job.now (D.view disk.old).seen) }
@@ -199,7 +200,7 @@ fn with_kept<D: Disk>(
     ensures one { IfOk result HasLengths }
     ensures mounted { IsTrue (D.mounted disk.new) }
     ensures folders { D.folders disk.new ≡ D.folders disk.old }
-    ensures count { D.file_count disk.new ≡ 9 }
+    ensures count { D.file_count disk.new ≡ count_with 0 }
     ensures cause { HasCause BeginFault.Disk (D.faults disk.old) (D.faults disk.new) result }
 {
     let newest = Slots::newest(disk)?;
@@ -213,7 +214,7 @@ pub fn start<D: Disk>(
     job: &Job,
 ) -> Result<Option<Checkpoint>, BeginFault>
     requires mounted { IsTrue (D.mounted disk.old) }
-    requires files { D.file_count disk.old ≡ 9 }
+    requires files { D.file_count disk.old ≡ count_with 0 }
     requires whole { IsWhole job.now }
     ensures begun { D.tells → Answers (λ c. c) result (begun job.now (D.view disk.old).seen) }
     ensures refused { D.tells → IfErr result (LeavesAsIs (D.view disk.old) (D.view disk.new)) }
@@ -226,7 +227,7 @@ pub fn start<D: Disk>(
     ensures one { IfOk result HasLengths }
     ensures mounted { IsTrue (D.mounted disk.new) }
     ensures folders { D.folders disk.new ≡ D.folders disk.old }
-    ensures count { D.file_count disk.new ≡ 9 }
+    ensures count { D.file_count disk.new ≡ count_with 0 }
     ensures cause { HasCause BeginFault.Disk (D.faults disk.old) (D.faults disk.new) result }
 {
     if let Recover::No = job.recover {

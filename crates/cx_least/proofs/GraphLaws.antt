@@ -10,7 +10,12 @@ and_or true false true = refl
 and_or true false false = refl
 and_or false q w = refl
 
-pub pair_more : (pairs : List (ℕ × ℕ)) (i : ℕ) (within : Bool) (a b : ℕ) → i < length pairs → ((pair_before (take i pairs) a b && within) || ((eqb (get_or pairs i (0, 0)).0 a && eqb (get_or pairs i (0, 0)).1 b) && within)) ≡ (pair_before (take (i + 1) pairs) a b && within)
+pub pair_more : (pairs : List (ℕ × ℕ)) (i : ℕ) (within : Bool) (a b : ℕ) → i < length pairs
+    → ((pair_before (take i pairs) a b && within)
+    || ((eqb (get_or pairs i (0, 0)).0 a && eqb (get_or pairs i (0, 0)).1 b) && within))
+    ≡ (pair_before (take (i + 1) pairs) a b && within)
 pair_more pairs i within a b h =
-    sym (ap (λ t. t && within) (list_any_more (λ pair. eqb pair.0 a && eqb pair.1 b) pairs i (0, 0) h)
-    ∙ and_or (pair_before (take i pairs) a b) (eqb (get_or pairs i (0, 0)).0 a && eqb (get_or pairs i (0, 0)).1 b) within)
+    sym (ap (λ t. t && within)
+    (list_any_more (λ pair. eqb pair.0 a && eqb pair.1 b) pairs i (0, 0) h)
+    ∙ and_or (pair_before (take i pairs) a b)
+    (eqb (get_or pairs i (0, 0)).0 a && eqb (get_or pairs i (0, 0)).1 b) within)

@@ -36,7 +36,8 @@ with_pair before first second a b = before a b || (first == a && second == b)
 
 -- the same, where both numbers lie below a count
 abbrev pub with_pair_within : ℕ → (ℕ → ℕ → Bool) → ℕ → ℕ → ℕ → ℕ → Bool
-with_pair_within count before first second a b = before a b || ((first == a && second == b) && (nat_lt a count && nat_lt b count))
+with_pair_within count before first second a b =
+    before a b || ((first == a && second == b) && (nat_lt a count && nat_lt b count))
 
 -- whether a number is there and not marked
 abbrev pub is_left : List Bool → ℕ → Bool

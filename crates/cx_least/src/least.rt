@@ -23,6 +23,7 @@ struct Sorting {
 }
 
 impl Sorting {
+    /// The sorting of so many numbers, of which none is in the order yet.
     fn new(alloc: Global, count: usize, pairs: &[(usize, usize)]) -> Result<Self, Memory>
         ensures marks { IfOk result (λ s. s.marks.items ≡ replicate count false) }
         ensures before_length { IfOk result (λ s. length s.graph.before ≡ count) }

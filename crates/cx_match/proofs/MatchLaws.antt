@@ -26,7 +26,8 @@ none_before : {Y : Type 0} (o : Option (List Y)) → followed [] o ≡ o
 none_before None = refl
 none_before (Some ys) = refl
 
-one_before : {Y : Type 0} (ys : List Y) (y : Y) (o : Option (List Y)) → followed (ys ++ y ∷ []) o ≡ followed ys (with_first (Some y) o)
+one_before : {Y : Type 0} (ys : List Y) (y : Y) (o : Option (List Y))
+    → followed (ys ++ y ∷ []) o ≡ followed ys (with_first (Some y) o)
 one_before ys y None = refl
 one_before ys y (Some others) = ap (λ zs. Some zs) (append_assoc ys (y ∷ []) others)
 
@@ -38,19 +39,24 @@ module _ {X Y : Type 0} (f : X → Option Y) (xs : List X) where
   pub had_none : Had 0 []
   had_none = none_before (all_some (map f xs))
 
-  behind : (k : ℕ) (x : X) (o : Option Y) → k < length xs → x ≡ get_or xs k x → f x ≡ o → all_some (map f (drop k xs)) ≡ with_first o (all_some (map f (drop (k + 1) xs)))
+  behind : (k : ℕ) (x : X) (o : Option Y) → k < length xs → x ≡ get_or xs k x → f x ≡ o
+      → all_some (map f (drop k xs)) ≡ with_first o (all_some (map f (drop (k + 1) xs)))
   behind k x o within at is =
-      ap (λ rest. all_some (map f rest)) (left_over xs k x within at) ∙ ap (λ o. with_first o (all_some (map f (drop (k + 1) xs)))) is
+      ap (λ rest. all_some (map f rest)) (left_over xs k x within at)
+      ∙ ap (λ o. with_first o (all_some (map f (drop (k + 1) xs)))) is
 
-  pub had_one : (k : ℕ) (x : X) (y : Y) (ys ys2 : List Y) → k < length xs → x ≡ get_or xs k x → f x ≡ Some y → Had k ys → ys2 ≡ ys ++ y ∷ [] → Had (k + 1) ys2
+  pub had_one : (k : ℕ) (x : X) (y : Y) (ys ys2 : List Y) → k < length xs → x ≡ get_or xs k x
+      → f x ≡ Some y → Had k ys → ys2 ≡ ys ++ y ∷ [] → Had (k + 1) ys2
   had_one k x y ys ys2 within at is before after =
       ap (λ zs. followed zs (all_some (map f (drop (k + 1) xs)))) after
       ∙ one_before ys y (all_some (map f (drop (k + 1) xs)))
       ∙ ap (λ o. followed ys o) (sym (behind k x (Some y) within at is))
       ∙ before
 
-  pub had_not : (k : ℕ) (x : X) (ys : List Y) → k < length xs → x ≡ get_or xs k x → f x ≡ None → Had k ys → all_some (map f xs) ≡ None
-  had_not k x ys within at is before = sym before ∙ ap (λ o. followed ys o) (behind k x None within at is)
+  pub had_not : (k : ℕ) (x : X) (ys : List Y) → k < length xs → x ≡ get_or xs k x → f x ≡ None
+      → Had k ys → all_some (map f xs) ≡ None
+  had_not k x ys within at is before =
+      sym before ∙ ap (λ o. followed ys o) (behind k x None within at is)
 
   pub had_all : (k : ℕ) (ys : List Y) → length xs ≤ k → Had k ys → all_some (map f xs) ≡ Some ys
   had_all k ys past before =
@@ -60,18 +66,28 @@ module _ {X Y : Type 0} (f : X → Option Y) (xs : List X) where
 
 -- ---- the first routine of an item
 
-from_through : {X Y : Type 0} (p : Y → Bool) (f : X → Y) (n : ℕ) (xs : List X) → position_from p n (map f xs) ≡ position_from (λ x. p (f x)) n xs
+from_through : {X Y : Type 0} (p : Y → Bool) (f : X → Y) (n : ℕ) (xs : List X)
+    → position_from p n (map f xs) ≡ position_from (λ x. p (f x)) n xs
 from_through p f n [] = refl
 from_through p f n (x ∷ xs) = ap (λ o. if p (f x) then Some n else o) (from_through p f (n + 1) xs)
 
-pub position_through : {X Y : Type 0} (p : Y → Bool) (f : X → Y) (xs : List X) → position p (map f xs) ≡ position (λ x. p (f x)) xs
-position_through p f xs = position_from-zero p (map f xs) ∙ from_through p f 0 xs ∙ sym (position_from-zero (λ x. p (f x)) xs)
+pub position_through : {X Y : Type 0} (p : Y → Bool) (f : X → Y) (xs : List X)
+    → position p (map f xs) ≡ position (λ x. p (f x)) xs
+position_through p f xs =
+    position_from-zero p (map f xs) ∙ from_through p f 0 xs
+    ∙ sym (position_from-zero (λ x. p (f x)) xs)
 
-found : {X Y : Type 0} (f : X → Y) (xs : List X) (k : ℕ) (d : X) → k < length xs → slice_get (map f xs) k ≡ Some (f (get_or xs k d))
+found : {X Y : Type 0} (f : X → Y) (xs : List X) (k : ℕ) (d : X) → k < length xs
+    → slice_get (map f xs) k ≡ Some (f (get_or xs k d))
 found f xs k d within = slice_get-map f xs k ∙ ap (option_map f) (slice_get-get_or xs k d within)
 
 -- what is answered with the routine of an item is what is answered of the item
-pub as_matched : {X : Type 0} (f : X → Spec) (specs : List X) (w w2 : World) (v : Values) (x : Item) (k routine : ℕ) (d : X) (t : Option ℕ) {number : Option ℕ} (result : Result Item MatchFault) → number ≡ routine_number (map f specs) x → number ≡ Some k → k < length specs → routine ≡ k → w2 ≡ w → t ≡ thorn_number w.thorns x.thorn → Answers Memory (matched_with w2 v t x routine (f (get_or specs k d))) result → Answers Memory (matched w v (map f specs) x) result
+pub as_matched : {X : Type 0} (f : X → Spec) (specs : List X) (w w2 : World) (v : Values) (x : Item)
+    (k routine : ℕ) (d : X) (t : Option ℕ) {number : Option ℕ} (result : Result Item MatchFault)
+    → number ≡ routine_number (map f specs) x → number ≡ Some k → k < length specs → routine ≡ k
+    → w2 ≡ w → t ≡ thorn_number w.thorns x.thorn
+    → Answers Memory (matched_with w2 v t x routine (f (get_or specs k d))) result
+    → Answers Memory (matched w v (map f specs) x) result
 as_matched f specs w w2 v x k routine d t result told is within same world thorn answers =
     let s = f (get_or specs k d) in
     let A : Result Item MatchFault → Type 0 = λ r. Answers Memory r result in
@@ -87,10 +103,12 @@ as_matched f specs w w2 v x k routine d t result told is within same world thorn
 
 -- ---- all items
 
-numbered : {X : Type 0} (xs : List X) (k : ℕ) (x : X) → k < length xs → x ≡ get_or xs k x → (k, x) ≡ get_or (enumerate_from 0 xs) k (k, x)
+numbered : {X : Type 0} (xs : List X) (k : ℕ) (x : X) → k < length xs → x ≡ get_or xs k x
+    → (k, x) ≡ get_or (enumerate_from 0 xs) k (k, x)
 numbered xs k x within at =
     let none : 0 + k ≡ k = omega arith in
-    sym (get_or-enumerate_from 0 xs k (k, x) within ∙ ap (λ m. (m, get_or xs k x)) none ∙ ap (λ y. (k, y)) (sym at))
+    sym (get_or-enumerate_from 0 xs k (k, x) within ∙ ap (λ m. (m, get_or xs k x)) none
+    ∙ ap (λ y. (k, y)) (sym at))
 
 module _ (w : World) (v : Values) (specs : List Spec) (run : ℕ) (items : List Item) where
   abbrev one : ℕ × Item → Result Item MatchFault
@@ -107,20 +125,33 @@ module _ (w : World) (v : Values) (specs : List Spec) (run : ℕ) (items : List 
   within_all : (k : ℕ) → k < length items → k < length (enumerate_from 0 items)
   within_all k within = let same = length-enumerate_from 0 items in omega (arith, same, within)
 
-  pub sofar_one : (k : ℕ) (x y : Item) (ys ys2 : List Item) (number : ℕ) → (k < length items) × (x ≡ get_or items k x) → number ≡ length ys → Answers Memory (one (number, x)) (Ok y) → Sofar k ys → ys2 ≡ ys ++ y ∷ [] → Sofar (k + 1) ys2
+  pub sofar_one : (k : ℕ) (x y : Item) (ys ys2 : List Item) (number : ℕ)
+      → (k < length items) × (x ≡ get_or items k x) → number ≡ length ys
+      → Answers Memory (one (number, x)) (Ok y) → Sofar k ys → ys2 ≡ ys ++ y ∷ []
+      → Sofar (k + 1) ys2
   sofar_one k x y ys ys2 number at is told before after =
       record {
-        many = (let n = before.many in let more : length (ys ++ y ∷ []) ≡ length ys + 1 = length-append ys (y ∷ []) in ap length after ∙ more ∙ ap (λ n. n + 1) n);
+        many = (let n = before.many in
+            let more : length (ys ++ y ∷ []) ≡ length ys + 1 = length-append ys (y ∷ []) in
+            ap length after ∙ more ∙ ap (λ n. n + 1) n);
         given =
-            given_one one (enumerate_from 0 items) k (k, x) y ys ys2 (within_all k at.0) (numbered items k x at.0 at.1)
+            given_one one (enumerate_from 0 items) k (k, x) y ys ys2 (within_all k at.0)
+            (numbered items k x at.0 at.1)
             (ap (λ n. one (n, x)) (sym (is ∙ before.many)) ∙ told) before.given after;
       }
 
-  pub sofar_fault : (k : ℕ) (x : Item) (ys : List Item) (number : ℕ) (e : MatchFault) → (k < length items) × (x ≡ get_or items k x) → number ≡ length ys → Sofar k ys → Answers Memory (one (number, x)) (Err e) → (e ≡ Memory) ⊎ (all_matched w v specs run items ≡ Err e)
+  pub sofar_fault : (k : ℕ) (x : Item) (ys : List Item) (number : ℕ) (e : MatchFault)
+      → (k < length items) × (x ≡ get_or items k x) → number ≡ length ys → Sofar k ys
+      → Answers Memory (one (number, x)) (Err e)
+      → (e ≡ Memory) ⊎ (all_matched w v specs run items ≡ Err e)
   sofar_fault k x ys number e at is before (inl memory) = inl memory
   sofar_fault k x ys number e at is before (inr told) =
-      inr (given_fault one (enumerate_from 0 items) k (k, x) ys e (within_all k at.0) (numbered items k x at.0 at.1) (ap (λ n. one (n, x)) (sym (is ∙ before.many)) ∙ told) before.given)
+      inr (given_fault one (enumerate_from 0 items) k (k, x) ys e (within_all k at.0)
+      (numbered items k x at.0 at.1) (ap (λ n. one (n, x)) (sym (is ∙ before.many)) ∙ told)
+      before.given)
 
-  pub sofar_all : (k : ℕ) (ys : List Item) → length items ≤ k → Sofar k ys → all_matched w v specs run items ≡ Ok ys
+  pub sofar_all : (k : ℕ) (ys : List Item) → length items ≤ k → Sofar k ys
+      → all_matched w v specs run items ≡ Ok ys
   sofar_all k ys past before =
-      given_all one (enumerate_from 0 items) k ys (let same = length-enumerate_from 0 items in omega (arith, same, past)) before.given
+      given_all one (enumerate_from 0 items) k ys
+      (let same = length-enumerate_from 0 items in omega (arith, same, past)) before.given

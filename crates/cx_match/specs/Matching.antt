@@ -43,7 +43,8 @@ most_copies = 4294967295
 
 -- The number of a copy; none where the text doesn't end with its bracket.
 abbrev pub copy_at : List ℕ → ℕ → Option ℕ
-copy_at t k = if byte_at t (length t - 1) == 93 then natural_in most_copies (in_brackets t k) else None
+copy_at t k = if byte_at t (length t - 1) == 93 then natural_in most_copies (in_brackets t k)
+    else None
 
 abbrev pub ref_by : Option (List ℕ) → List ℕ → ℕ → Option ℕ → Ref
 ref_by owner t k None = ref_of owner t None
@@ -62,7 +63,8 @@ owned owner t = with_copy owner t (bracket t)
 
 abbrev pub with_owner : List ℕ → Option ℕ → Ref
 with_owner t None = owned None t
-with_owner t (Some k) = if byte_at t (k + 1) == 58 then owned (Some (take k t)) (drop (k + 2) t) else owned None t
+with_owner t (Some k) = if byte_at t (k + 1) == 58 then owned (Some (take k t)) (drop (k + 2) t)
+    else owned None t
 
 abbrev pub ref_in : List ℕ → Ref
 ref_in t = with_owner t (position (λ b. b == 58) t)
@@ -86,7 +88,8 @@ level_of w (Some t) name = only_level (meant w t (ref_in name))
 
 abbrev pub touch_by : Want → Option (VarId × ℕ) → Option Touch
 touch_by want None = None
-touch_by want (Some l) = Some (record { var = l.0; level = l.1; region = want.region; reach = want.reach })
+touch_by want (Some l) =
+    Some (record { var = l.0; level = l.1; region = want.region; reach = want.reach })
 
 abbrev pub touch_of : World → Option ℕ → Want → Option Touch
 touch_of w t want = touch_by want (level_of w t want.name)
@@ -120,7 +123,8 @@ want_text w want (Some x) = touch_text w x
 
 abbrev pub wants_text : List ℕ → World → Option ℕ → List Want → List ℕ
 wants_text word w t [] = []
-wants_text word w t (x ∷ xs) = word ++ flat_map (λ want. want_text w want (touch_of w t want)) (x ∷ xs)
+wants_text word w t (x ∷ xs) =
+    word ++ flat_map (λ want. want_text w want (touch_of w t want)) (x ∷ xs)
 
 abbrev pub lacks_number : Values → List ℕ → Bool
 lacks_number v name = is_none (param_number v name)
@@ -130,18 +134,21 @@ param_text v name = if lacks_number v name then codes " " ++ name else []
 
 -- the parameters without a number
 abbrev pub params_text : Values → List (List ℕ) → List ℕ
-params_text v names = if list_any (lacks_number v) names then codes " params" ++ flat_map (param_text v) names else []
+params_text v names = if list_any (lacks_number v) names
+    then codes " params" ++ flat_map (param_text v) names else []
 
 -- without the blank at the beginning
 abbrev pub enclosed : List ℕ → List ℕ
 enclosed parts = codes "(" ++ drop 1 parts ++ codes ")"
 
 abbrev pub declared_text : World → Item → List ℕ
-declared_text w x = enclosed (touches_text (codes " reads") w x.reads ++ touches_text (codes " writes") w x.writes)
+declared_text w x = enclosed
+    (touches_text (codes " reads") w x.reads ++ touches_text (codes " writes") w x.writes)
 
 abbrev pub offered_text : World → Values → Option ℕ → Spec → List ℕ
 offered_text w v t s =
-    enclosed (wants_text (codes " reads") w t s.reads ++ wants_text (codes " writes") w t s.writes ++ params_text v s.params)
+    enclosed (wants_text (codes " reads") w t s.reads ++ wants_text (codes " writes") w t s.writes
+    ++ params_text v s.params)
 
 -- ---- matching
 
@@ -162,12 +169,14 @@ abbrev pub numbers_of : Values → List (List ℕ) → Option (List ℤ)
 numbers_of v names = all_some (map (param_number v) names)
 
 abbrev pub offer_by : Option (List Touch) → Option (List Touch) → Option (List ℤ) → Option Offer
-offer_by (Some reads) (Some writes) (Some params) = Some (record { reads = reads; writes = writes; params = params })
+offer_by (Some reads) (Some writes) (Some params) =
+    Some (record { reads = reads; writes = writes; params = params })
 offer_by None writes params = None
 offer_by (Some reads) None params = None
 offer_by (Some reads) (Some writes) None = None
 
--- what a routine reads and writes and the numbers of its parameters, if each of its names has a meaning
+-- what a routine reads and writes and the numbers of its parameters, if each of its names has a
+-- meaning
 abbrev pub offer : World → Values → Option ℕ → Spec → Option Offer
 offer w v t s = offer_by (touches_of w t s.reads) (touches_of w t s.writes) (numbers_of v s.params)
 
@@ -177,14 +186,25 @@ fits x o = same_touches o.reads x.reads && same_touches o.writes x.writes
 -- the item with its routine's number, kind, reads, writes and parameters, in the routine's order
 abbrev pub completed : Item → ℕ → ItemKind → Offer → Item
 completed x k kind o =
-    record { thorn = x.thorn; name = x.name; path = x.path; kind = kind; routine = k; reads = o.reads; writes = o.writes; params = o.params }
+    record {
+      thorn = x.thorn;
+      name = x.name;
+      path = x.path;
+      kind = kind;
+      routine = k;
+      reads = o.reads;
+      writes = o.writes;
+      params = o.params;
+    }
 
 abbrev pub mismatch : World → Values → Option ℕ → Item → Spec → MatchFault
 mismatch w v t x s = RoutineMismatch x.path (declared_text w x) (offered_text w v t s)
 
-abbrev pub matched_by : World → Values → Option ℕ → Item → ℕ → Spec → Option Offer → Result Item MatchFault
+abbrev pub matched_by : World → Values → Option ℕ → Item → ℕ → Spec → Option Offer
+    → Result Item MatchFault
 matched_by w v t x k s None = Err (mismatch w v t x s)
-matched_by w v t x k s (Some o) = if fits x o then Ok (completed x k s.kind o) else Err (mismatch w v t x s)
+matched_by w v t x k s (Some o) = if fits x o then Ok (completed x k s.kind o)
+    else Err (mismatch w v t x s)
 
 -- an item with a routine by its number
 abbrev pub matched_with : World → Values → Option ℕ → Item → ℕ → Spec → Result Item MatchFault
@@ -215,4 +235,5 @@ matched_if_run w v specs run x = if nat_lt x.0 run then matched w v specs x.1 el
 
 -- all of them, or the first fault
 abbrev pub all_matched : World → Values → List Spec → ℕ → List Item → Result (List Item) MatchFault
-all_matched w v specs run items = all_ok (map (matched_if_run w v specs run) (enumerate_from 0 items))
+all_matched w v specs run items =
+    all_ok (map (matched_if_run w v specs run) (enumerate_from 0 items))

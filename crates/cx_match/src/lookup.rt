@@ -29,12 +29,14 @@ pub(crate) struct Lookup<'a> {
     pub thorn: Option<u32>,
 }
 
+/// Whether a name couldn't be looked up because memory ran out.
 fn is_memory(fault: &ScopeFault) -> bool
     ensures { IsTrue result ↔ (fault.now ≡ faults.Memory) }
 {
     matches!(fault, ScopeFault::Memory)
 }
 
+/// The level that a name means, if it means exactly one.
 fn only_level(levels: &[(VarId, u8)]) -> Option<(VarId, u8)>
     ensures { result ≡ only_level (Ok levels.now) }
 {

@@ -42,6 +42,7 @@ pub struct Routines<'a> {
     pub specs: &'a [&'a Spec],
 }
 
+/// Whether two regions are one.
 fn same_region(a: Region, b: Region) -> bool
     ensures { result ≡ same_region a b }
 {
@@ -62,12 +63,14 @@ fn same_touch(a: &Touch, b: &Touch) -> bool
     a.var.0 == b.var.0 && a.level == b.level && same_region(a.region, b.region)
 }
 
+/// Whether one of the accesses has the same variable, level and region.
 fn is_among(touches: &[Touch], touch: &Touch) -> bool
     ensures { result ≡ list_any (same_touch touch.now) touches.now }
 {
     touches.iter().any(|other| same_touch(touch, other))
 }
 
+/// Whether each of these accesses is one of the others.
 fn all_among(some: &[Touch], touches: &[Touch]) -> bool
     ensures { result ≡ all_among some.now touches.now }
 {
@@ -89,6 +92,7 @@ fn fits(item: &Item, offer: &Offer) -> bool
         && same_touches(offer.writes.as_slice(), item.writes.as_slice())
 }
 
+/// What a routine offers; nothing if a name means no one level or a parameter has no number.
 fn offer_by(
     reads: Option<List<Touch>>,
     writes: Option<List<Touch>>,
@@ -120,6 +124,7 @@ fn offer_of(
     Ok(offer_by(reads, writes, params))
 }
 
+/// The item with its routine, and with the accesses and parameters that the routine offers.
 fn complete(item: Item, routine: u32, kind: ItemKind, offer: Offer) -> Item
     ensures { result ≡ completed item routine kind offer }
 {
@@ -161,6 +166,7 @@ fn matched_with(
     }
 }
 
+/// The number of the thorn of a name, in the order of activation.
 fn place_of(thorns: &[Thorn], name: &[u8]) -> Option<usize>
     ensures place { result ≡ thorn_number thorns.now name.now }
     ensures within { IfSome result (λ place. place < length thorns.now) }
@@ -181,6 +187,7 @@ fn thorn_number(bound: &Bound, name: &[u8]) -> Option<u32>
     }
 }
 
+/// Whether a routine is for this item, by thorn and by name.
 fn is_for(item: &Item, spec: &Spec) -> bool
     ensures { result ≡ is_for item.now spec.now }
 {
@@ -188,6 +195,7 @@ fn is_for(item: &Item, spec: &Spec) -> bool
         && same_name(spec.name.as_slice(), item.name.as_slice())
 }
 
+/// The place of the first routine for this item.
 fn place_for(specs: &[&Spec], item: &Item) -> Option<usize>
     ensures place { result ≡ position (λ s. is_for item.now s.now) specs.now }
     ensures within { IfSome result (λ place. place < length specs.now) }

@@ -22,6 +22,7 @@ fn variable<'a>(lookup: &Lookup<'a>, variable: VarId) -> Option<&'a VarInfo>
     lookup.bound.variables().as_slice().get(variable.0 as usize)
 }
 
+/// Adds the full name of a variable with one `_p` for each past level.
 fn push_level_name(
     text: &mut Text,
     alloc: Global,
@@ -37,6 +38,7 @@ fn push_level_name(
     }
 }
 
+/// Adds a blank and one access: the name of its level, and its region in parentheses.
 fn push_touch(
     text: &mut Text,
     alloc: Global,
@@ -52,6 +54,7 @@ fn push_touch(
     text.push_slice(b")")
 }
 
+/// Adds the accesses in order.
 fn push_each_touch(
     text: &mut Text,
     alloc: Global,
@@ -66,7 +69,7 @@ fn push_each_touch(
     Ok(())
 }
 
-/// Adds what an item reads or writes behind a word, unless it is nothing.
+/// Adds a word and what an item reads or writes after it, unless that is nothing.
 fn push_touches(
     text: &mut Text,
     alloc: Global,
@@ -94,6 +97,7 @@ fn push_named(text: &mut Text, name: &[u8], region: Region) -> Result<(), Memory
     text.push_slice(b")")
 }
 
+/// Adds the access that a routine asks for, as it is found, or by its own name where none is.
 fn push_want(text: &mut Text, alloc: Global, lookup: &Lookup<'_>, want: &Want) -> Result<(), Memory>
     requires scope { IsOfBound lookup.now }
     requires thorn { HasThorn lookup.now }
@@ -105,6 +109,7 @@ fn push_want(text: &mut Text, alloc: Global, lookup: &Lookup<'_>, want: &Want) -
     }
 }
 
+/// Adds the accesses that a routine asks for, in order.
 fn push_each_want(
     text: &mut Text,
     alloc: Global,
@@ -121,7 +126,7 @@ fn push_each_want(
     Ok(())
 }
 
-/// Adds what a routine reads or writes behind a word, unless it is nothing.
+/// Adds a word and what a routine reads or writes after it, unless that is nothing.
 fn push_wants(
     text: &mut Text,
     alloc: Global,
@@ -140,12 +145,14 @@ fn push_wants(
     push_each_want(text, alloc, lookup, wants)
 }
 
+/// Whether a name means no parameter with a number to the thorn.
 fn lacks_number(values: &Values, name: &Text) -> bool
     ensures { result ≡ lacks_number values.now name.now }
 {
     param_number(values, name).is_none()
 }
 
+/// Adds a blank and the name of a parameter, if it has no number.
 fn push_param(text: &mut Text, values: &Values, name: &Text) -> Result<(), Memory>
     ensures { OnOk result (text.new ≡ text.old ++ param_text values.now name.now) }
 {
@@ -156,6 +163,7 @@ fn push_param(text: &mut Text, values: &Values, name: &Text) -> Result<(), Memor
     text.push_slice(name.as_slice())
 }
 
+/// Adds the names of those parameters that have no number.
 fn push_each_param(text: &mut Text, values: &Values, names: &[Text]) -> Result<(), Memory>
     ensures { OnOk result (text.new ≡ text.old ++ flat_map (param_text values.now) names.now) }
 {
@@ -165,6 +173,7 @@ fn push_each_param(text: &mut Text, values: &Values, names: &[Text]) -> Result<(
     Ok(())
 }
 
+/// Whether one of these parameters has no number.
 fn some_lack_numbers(values: &Values, names: &[Text]) -> bool
     ensures { result ≡ list_any (lacks_number values.now) names.now }
 {
@@ -182,6 +191,7 @@ fn push_params(text: &mut Text, values: &Values, names: &[Text]) -> Result<(), M
     push_each_param(text, values, names)
 }
 
+/// The text without its first byte, which is a blank.
 fn without_first(parts: &[u8]) -> &[u8]
     ensures { result.now ≡ drop 1 parts.now }
 {

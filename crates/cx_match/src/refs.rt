@@ -21,6 +21,7 @@ fn byte_at(text: &[u8], place: usize) -> u8
     }
 }
 
+/// The place of the first `[`, where the number of a copy begins.
 fn bracket(text: &[u8]) -> Option<usize>
     ensures place { result ≡ bracket text.now }
     ensures within { IfSome result (λ place. place < length text.now) }
@@ -28,6 +29,7 @@ fn bracket(text: &[u8]) -> Option<usize>
     text.iter().position(|byte| *byte == b'[')
 }
 
+/// The place of the first `:`, where the owner ends.
 fn colon(text: &[u8]) -> Option<usize>
     ensures place { result ≡ position (λ b. b == 58) text.now }
     ensures within { IfSome result (λ place. place < length text.now) }
@@ -45,7 +47,7 @@ fn number_in(text: &[u8]) -> Option<u32>
     }
 }
 
-/// What stands between a bracket at a place and one at the end.
+/// The text between a bracket at this place and the one at the end.
 fn in_brackets(text: &[u8], place: usize) -> &[u8]
     requires { place < length text.now }
     ensures { result.now ≡ in_brackets text.now place }
@@ -66,6 +68,7 @@ fn copy_at(text: &[u8], place: usize) -> Option<u32>
     }
 }
 
+/// A reference by its owner, its name and the number of its copy.
 fn ref_of(alloc: Global, owner: Option<Text>, name: &[u8], copy: Option<u32>) -> Result<Ref, Memory>
     ensures { IfOk result (λ r. r ≡ ref_of owner name.now copy) }
 {
@@ -92,7 +95,7 @@ fn ref_at_bracket(
     }
 }
 
-/// What stands behind an owner.
+/// The name after an owner, with the number of its copy.
 fn ref_behind_owner(alloc: Global, owner: Option<Text>, text: &[u8]) -> Result<Ref, Memory>
     ensures { IfOk result (λ r. r ≡ owned owner text.now) }
 {
@@ -102,7 +105,7 @@ fn ref_behind_owner(alloc: Global, owner: Option<Text>, text: &[u8]) -> Result<R
     }
 }
 
-/// What stands behind two colons at a place.
+/// The text after two colons at this place.
 fn behind_colons(text: &[u8], place: usize) -> &[u8]
     requires { place < length text.now }
     ensures { result.now ≡ drop (place + 2) text.now }
@@ -114,7 +117,7 @@ fn behind_colons(text: &[u8], place: usize) -> &[u8]
     }
 }
 
-/// A name whose first colon stands at a place.
+/// The reference that a text spells, whose first colon is at this place.
 fn with_colon(alloc: Global, text: &[u8], place: usize) -> Result<Ref, Memory>
     requires { place < length text.now }
     ensures { IfOk result (λ r. r ≡ with_owner text.now (Some place)) }
@@ -126,7 +129,7 @@ fn with_colon(alloc: Global, text: &[u8], place: usize) -> Result<Ref, Memory>
     ref_behind_owner(alloc, Some(owner), behind_colons(text, place))
 }
 
-/// The name that a text is: what stands before `::` is its owner, and a number in brackets at its end is that of a copy.
+/// The reference that a text spells: the owner before `::`, and at the end the number of a copy in brackets.
 pub(crate) fn ref_in(alloc: Global, text: &[u8]) -> Result<Ref, Memory>
     ensures { IfOk result (λ r. r ≡ ref_in text.now) }
 {

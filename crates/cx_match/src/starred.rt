@@ -21,6 +21,7 @@ const STARRED: [&[u8]; 11] = [
     b"IO::recover",
 ];
 
+/// Whether a name is one of these, in any case.
 fn is_one_of(names: &[&[u8]], name: &[u8]) -> bool
     ensures { result ≡ list_any (λ other. same_name name.now other.now) names.now }
 {

@@ -15,79 +15,122 @@ use Rattle.cx_model.proofs.StageLaws.{Rises, each-after, each-stage}
 
 -- ---- one place
 
--- a run comes to the checkpoint place of c; it is what came before, the place and the run that is continued from it
-pub record Comes (setup : Setup) (rules : List Rule) (t : Trace) (entries : List Entry) (b so_far : ℕ) (earlier : List Entry) (c : ℕ) (state : State) : Type 0 where
+-- a run comes to the checkpoint place of c; it is what came before, the place and the run that is
+-- continued from it
+pub record Comes (setup : Setup) (rules : List Rule) (t : Trace) (entries : List Entry)
+    (b so_far : ℕ) (earlier : List Entry) (c : ℕ) (state : State) : Type 0 where
   pub due : is_due setup c ≡ true
   pub later : b < c
-  pub all : t ≡ after (earlier ++ Saved c state ∷ []) (continued_run setup rules c state (so_far + length (output_of earlier)))
+  pub all : t ≡ after (earlier ++ Saved c state ∷ [])
+      (continued_run setup rules c state (so_far + length (output_of earlier)))
   -- and so does the run without a limit
-  pub full : entries ≡ earlier ++ Saved c state ∷ (run_stages setup rules (stages_after setup c) state).entries
+  pub full : entries ≡ earlier ++ Saved c state
+      ∷ (run_stages setup rules (stages_after setup c) state).entries
 
-comes : (setup : Setup) (rules : List Rule) (t : Trace) (entries : List Entry) (b so_far : ℕ) (earlier : List Entry) (c : ℕ) (state : State) → Found (Rises setup b) setup rules t entries so_far earlier c state
+comes : (setup : Setup) (rules : List Rule) (t : Trace) (entries : List Entry) (b so_far : ℕ)
+    (earlier : List Entry) (c : ℕ) (state : State)
+    → Found (Rises setup b) setup rules t entries so_far earlier c state
     → Comes setup rules t entries b so_far earlier c state
 comes setup rules t entries b so_far earlier c state f =
     record {
       due = f.holds.due;
       later = f.holds.later;
-      all = f.all ∙ ap (λ ss. after (earlier ++ Saved c state ∷ []) (limited (so_far + length (output_of earlier)) (run_stages setup rules ss state))) f.holds.rest;
-      full = f.full ∙ ap (λ ss. earlier ++ Saved c state ∷ (run_stages setup rules ss state).entries) f.holds.rest;
+      all =
+          f.all
+          ∙ ap (λ ss. after (earlier ++ Saved c state ∷ [])
+          (limited (so_far + length (output_of earlier)) (run_stages setup rules ss state)))
+          f.holds.rest;
+      full =
+          f.full ∙ ap (λ ss. earlier ++ Saved c state ∷ (run_stages setup rules ss state).entries)
+          f.holds.rest;
     }
 
-pub comes-run : (setup : Setup) (rules : List Rule) (c : ℕ) (state : State) (so_far : ℕ) (r : Reaches setup rules c state so_far) → Comes setup rules (undivided_run setup rules) (run_stages setup rules (stages setup) (start setup)).entries 0 0 r.earlier c state
+pub comes-run : (setup : Setup) (rules : List Rule) (c : ℕ) (state : State) (so_far : ℕ)
+    (r : Reaches setup rules c state so_far)
+    → Comes setup rules (undivided_run setup rules)
+    (run_stages setup rules (stages setup) (start setup)).entries 0 0 r.earlier c state
 comes-run setup rules c state so_far r =
-    comes setup rules (undivided_run setup rules) (run_stages setup rules (stages setup) (start setup)).entries 0 0 r.earlier c state
-    (found (Rises setup 0) setup rules (stages setup) (each-stage setup) (start setup) 0 r.earlier c state r.later r.there)
+    comes setup rules (undivided_run setup rules)
+    (run_stages setup rules (stages setup) (start setup)).entries 0 0 r.earlier c state
+    (found (Rises setup 0) setup rules (stages setup) (each-stage setup) (start setup)
+    0 r.earlier c state r.later r.there)
 
-comes-rest : (setup : Setup) (rules : List Rule) (c : ℕ) (state : State) (so_far d : ℕ) (now : State) (written : ℕ) (r : ReachesFrom setup rules c state so_far d now written)
-    → Comes setup rules (continued_run setup rules c state so_far) (run_stages setup rules (stages_after setup c) state).entries c so_far r.earlier d now
+comes-rest : (setup : Setup) (rules : List Rule) (c : ℕ) (state : State) (so_far d : ℕ)
+    (now : State) (written : ℕ) (r : ReachesFrom setup rules c state so_far d now written)
+    → Comes setup rules (continued_run setup rules c state so_far)
+    (run_stages setup rules (stages_after setup c) state).entries c so_far r.earlier d now
 comes-rest setup rules c state so_far d now written r =
-    comes setup rules (continued_run setup rules c state so_far) (run_stages setup rules (stages_after setup c) state).entries c so_far r.earlier d now
-    (found (Rises setup c) setup rules (stages_after setup c) (each-after setup c) state so_far r.earlier d now r.later r.there)
+    comes setup rules (continued_run setup rules c state so_far)
+    (run_stages setup rules (stages_after setup c) state).entries c so_far r.earlier d now
+    (found (Rises setup c) setup rules (stages_after setup c) (each-after setup c)
+    state so_far r.earlier d now r.later r.there)
 
-run-goes-on : (setup : Setup) (rules : List Rule) (c : ℕ) (state : State) (so_far : ℕ) (r : Reaches setup rules c state so_far)
-    → undivided_run setup rules ≡ after (r.earlier ++ Saved c state ∷ []) (continued_run setup rules c state so_far)
+run-goes-on : (setup : Setup) (rules : List Rule) (c : ℕ) (state : State) (so_far : ℕ)
+    (r : Reaches setup rules c state so_far)
+    → undivided_run setup rules
+    ≡ after (r.earlier ++ Saved c state ∷ []) (continued_run setup rules c state so_far)
 run-goes-on setup rules c state so_far r =
     (comes-run setup rules c state so_far r).all
-    ∙ ap (λ n. after (r.earlier ++ Saved c state ∷ []) (continued_run setup rules c state n)) (zero-add (length (output_of r.earlier)) ∙ sym r.length_there)
+    ∙ ap (λ n. after (r.earlier ++ Saved c state ∷ []) (continued_run setup rules c state n))
+    (zero-add (length (output_of r.earlier)) ∙ sym r.length_there)
 
-rest-goes-on : (setup : Setup) (rules : List Rule) (c : ℕ) (state : State) (so_far d : ℕ) (now : State) (written : ℕ) (r : ReachesFrom setup rules c state so_far d now written)
-    → continued_run setup rules c state so_far ≡ after (r.earlier ++ Saved d now ∷ []) (continued_run setup rules d now written)
+rest-goes-on : (setup : Setup) (rules : List Rule) (c : ℕ) (state : State) (so_far d : ℕ)
+    (now : State) (written : ℕ) (r : ReachesFrom setup rules c state so_far d now written)
+    → continued_run setup rules c state so_far
+    ≡ after (r.earlier ++ Saved d now ∷ []) (continued_run setup rules d now written)
 rest-goes-on setup rules c state so_far d now written r =
     (comes-rest setup rules c state so_far d now written r).all
-    ∙ ap (λ n. after (r.earlier ++ Saved d now ∷ []) (continued_run setup rules d now n)) (sym r.length_there)
+    ∙ ap (λ n. after (r.earlier ++ Saved d now ∷ []) (continued_run setup rules d now n))
+    (sym r.length_there)
 
 -- ---- two places
 
 abbrev Order : Setup → List Rule → ℕ → State → ℕ → ℕ → State → ℕ → Type 0
 Order setup rules c state so_far d now written =
     ((c ≡ d) × (state ≡ now) × (so_far ≡ written))
-    ⊎ (ReachesFrom setup rules c state so_far d now written ⊎ ReachesFrom setup rules d now written c state so_far)
+    ⊎ (ReachesFrom setup rules c state so_far d now written
+    ⊎ ReachesFrom setup rules d now written c state so_far)
 
 -- the entries of a run, with the run that is continued from a place in it
-entries-there : (setup : Setup) (rules : List Rule) (c : ℕ) (state : State) (so_far : ℕ) (r : Reaches setup rules c state so_far)
-    → (undivided_run setup rules).entries ≡ r.earlier ++ Saved c state ∷ (continued_run setup rules c state so_far).entries
+entries-there : (setup : Setup) (rules : List Rule) (c : ℕ) (state : State) (so_far : ℕ)
+    (r : Reaches setup rules c state so_far)
+    → (undivided_run setup rules).entries
+    ≡ r.earlier ++ Saved c state ∷ (continued_run setup rules c state so_far).entries
 entries-there setup rules c state so_far r =
     ap (λ (t : Trace). t.entries) (run-goes-on setup rules c state so_far r)
     ∙ append_assoc r.earlier (Saved c state ∷ []) (continued_run setup rules c state so_far).entries
 
 -- the length of an output behind a place
-length-behind : (a : List Entry) (c : ℕ) (state : State) (between b : List Entry) → b ≡ a ++ Saved c state ∷ between → length (output_of b) ≡ length (output_of a) + length (output_of between)
+length-behind : (a : List Entry) (c : ℕ) (state : State) (between b : List Entry)
+    → b ≡ a ++ Saved c state ∷ between
+    → length (output_of b) ≡ length (output_of a) + length (output_of between)
 length-behind a c state between b is =
     let e = length-both a (Saved c state ∷ between) 0 in
     ap (λ l. length (output_of l)) is ∙ omega (arith, e)
 
-further : (setup : Setup) (rules : List Rule) (c d : ℕ) (state now : State) (so_far written : ℕ) (r : Reaches setup rules c state so_far) (q : Reaches setup rules d now written)
-    → Further r.earlier (Saved c state) (continued_run setup rules c state so_far).entries q.earlier (Saved d now) (continued_run setup rules d now written).entries
+further : (setup : Setup) (rules : List Rule) (c d : ℕ) (state now : State) (so_far written : ℕ)
+    (r : Reaches setup rules c state so_far) (q : Reaches setup rules d now written)
+    → Further r.earlier (Saved c state) (continued_run setup rules c state so_far).entries q.earlier
+    (Saved d now) (continued_run setup rules d now written).entries
     → ReachesFrom setup rules c state so_far d now written
 further setup rules c d state now so_far written r q f =
     let lengths = length-behind r.earlier c state f.between q.earlier f.is in
     let one = r.length_there in
     let two = q.length_there in
-    record { earlier = f.between; later = (continued_run setup rules d now written).entries; there = f.rest; length_there = omega (arith, lengths, one, two) }
+    record {
+      earlier = f.between;
+      later = (continued_run setup rules d now written).entries;
+      there = f.rest;
+      length_there = omega (arith, lengths, one, two);
+    }
 
-compared : (setup : Setup) (rules : List Rule) (c d : ℕ) (state now : State) (so_far written : ℕ) → Reaches setup rules c state so_far → Reaches setup rules d now written → Order setup rules c state so_far d now written
+compared : (setup : Setup) (rules : List Rule) (c d : ℕ) (state now : State) (so_far written : ℕ)
+    → Reaches setup rules c state so_far → Reaches setup rules d now written
+    → Order setup rules c state so_far d now written
 compared setup rules c d state now so_far written r q =
-    by (two_places r.earlier (Saved c state) (continued_run setup rules c state so_far).entries q.earlier (Saved d now) (continued_run setup rules d now written).entries
+    by (two_places r.earlier (Saved c state)
+    (continued_run setup rules c state so_far).entries q.earlier (Saved d now)
+    (continued_run setup rules d now written).entries
     (sym (entries-there setup rules c state so_far r) ∙ entries-there setup rules d now written q))
   where
     place_saved : Entry → ℕ
@@ -99,32 +142,52 @@ compared setup rules c d state now so_far written r q =
     state_saved _ = state
 
     by : Same r.earlier (Saved c state) q.earlier (Saved d now)
-        ⊎ (Further r.earlier (Saved c state) (continued_run setup rules c state so_far).entries q.earlier (Saved d now) (continued_run setup rules d now written).entries
-        ⊎ Further q.earlier (Saved d now) (continued_run setup rules d now written).entries r.earlier (Saved c state) (continued_run setup rules c state so_far).entries)
+        ⊎ (Further r.earlier (Saved c state)
+        (continued_run setup rules c state so_far).entries q.earlier (Saved d now)
+        (continued_run setup rules d now written).entries
+        ⊎ Further q.earlier (Saved d now)
+        (continued_run setup rules d now written).entries r.earlier (Saved c state)
+        (continued_run setup rules c state so_far).entries)
         → Order setup rules c state so_far d now written
-    by (inl s) = inl (ap place_saved s.here, ap state_saved s.here, r.length_there ∙ ap (λ a. length (output_of a)) s.before ∙ sym q.length_there)
+    by (inl s) = inl (
+      ap place_saved s.here,
+      ap state_saved s.here,
+      r.length_there ∙ ap (λ a. length (output_of a)) s.before ∙ sym q.length_there,
+    )
     by (inr (inl f)) = inr (inl (further setup rules c d state now so_far written r q f))
     by (inr (inr f)) = inr (inr (further setup rules d c now state written so_far q r f))
 
-once : (setup : Setup) (rules : List Rule) (c : ℕ) (state now : State) (so_far written : ℕ) → Order setup rules c state so_far c now written → (state ≡ now) × (so_far ≡ written)
+once : (setup : Setup) (rules : List Rule) (c : ℕ) (state now : State) (so_far written : ℕ)
+    → Order setup rules c state so_far c now written → (state ≡ now) × (so_far ≡ written)
 once setup rules c state now so_far written (inl same) = (same.1, same.2)
-once setup rules c state now so_far written (inr (inl f)) = let l = (comes-rest setup rules c state so_far c now written f).later in absurd (omega (arith, l))
-once setup rules c state now so_far written (inr (inr f)) = let l = (comes-rest setup rules c now written c state so_far f).later in absurd (omega (arith, l))
+once setup rules c state now so_far written (inr (inl f)) = let l =
+    (comes-rest setup rules c state so_far c now written f).later in absurd (omega (arith, l))
+once setup rules c state now so_far written (inr (inr f)) = let l =
+    (comes-rest setup rules c now written c state so_far f).later in absurd (omega (arith, l))
 
-rises : (setup : Setup) (rules : List Rule) (c d : ℕ) (state now : State) (so_far written : ℕ) → c < d → Order setup rules c state so_far d now written → ReachesFrom setup rules c state so_far d now written
-rises setup rules c d state now so_far written below (inl same) = let e = same.0 in absurd (omega (arith, e, below))
+rises : (setup : Setup) (rules : List Rule) (c d : ℕ) (state now : State) (so_far written : ℕ)
+    → c < d → Order setup rules c state so_far d now written
+    → ReachesFrom setup rules c state so_far d now written
+rises setup rules c d state now so_far written below (inl same) = let e = same.0 in
+    absurd (omega (arith, e, below))
 rises setup rules c d state now so_far written below (inr (inl f)) = f
-rises setup rules c d state now so_far written below (inr (inr f)) = let l = (comes-rest setup rules d now written c state so_far f).later in absurd (omega (arith, l, below))
+rises setup rules c d state now so_far written below (inr (inr f)) = let l =
+    (comes-rest setup rules d now written c state so_far f).later in
+    absurd (omega (arith, l, below))
 
-joins : (setup : Setup) (rules : List Rule) (c d : ℕ) (state now : State) (so_far written : ℕ) → Reaches setup rules c state so_far → ReachesFrom setup rules c state so_far d now written → Reaches setup rules d now written
+joins : (setup : Setup) (rules : List Rule) (c d : ℕ) (state now : State) (so_far written : ℕ)
+    → Reaches setup rules c state so_far → ReachesFrom setup rules c state so_far d now written
+    → Reaches setup rules d now written
 joins setup rules c d state now so_far written r f =
-    let lengths = length-behind r.earlier c state f.earlier (r.earlier ++ Saved c state ∷ f.earlier) refl in
+    let lengths = length-behind r.earlier c state f.earlier (r.earlier ++ Saved c state ∷ f.earlier)
+    refl in
     let one = r.length_there in
     let two = f.length_there in
     record {
       earlier = r.earlier ++ Saved c state ∷ f.earlier;
       later = f.later;
-      there = entries-there setup rules c state so_far r ∙ ap (λ l. r.earlier ++ Saved c state ∷ l) f.there
+      there = entries-there setup rules c state so_far r
+          ∙ ap (λ l. r.earlier ++ Saved c state ∷ l) f.there
           ∙ sym (append_assoc r.earlier (Saved c state ∷ f.earlier) (Saved d now ∷ f.later));
       length_there = omega (arith, lengths, one, two);
     }
@@ -136,15 +199,23 @@ run-continues setup rules =
       rest = rest-goes-on setup rules;
       due = λ c state so_far r. (comes-run setup rules c state so_far r).due;
       due_later = λ c state so_far d now written r.
-          let is = r.length_there in
-          ((comes-rest setup rules c state so_far d now written r).due, (comes-rest setup rules c state so_far d now written r).later, omega (arith, is));
-      once = λ c state now so_far written r q. once setup rules c state now so_far written (compared setup rules c c state now so_far written r q);
-      rises = λ c d state now so_far written below r q. rises setup rules c d state now so_far written below (compared setup rules c d state now so_far written r q);
+          let is = r.length_there in (
+            (comes-rest setup rules c state so_far d now written r).due,
+            (comes-rest setup rules c state so_far d now written r).later,
+            omega (arith, is),
+          );
+      once = λ c state now so_far written r q.
+          once setup rules c state now so_far written
+          (compared setup rules c c state now so_far written r q);
+      rises = λ c d state now so_far written below r q.
+          rises setup rules c d state now so_far written below
+          (compared setup rules c d state now so_far written r q);
       joins = joins setup rules;
       within = λ c state so_far r. within setup rules c state so_far r;
     }
   where
-    within : (setup : Setup) (rules : List Rule) (c : ℕ) (state : State) (so_far : ℕ) → Reaches setup rules c state so_far → so_far ≤ greatest_output
+    within : (setup : Setup) (rules : List Rule) (c : ℕ) (state : State) (so_far : ℕ)
+        → Reaches setup rules c state so_far → so_far ≤ greatest_output
     within setup rules c state so_far r =
         let run = run_stages setup rules (stages setup) (start setup) in
         let all = within-greatest 0 run.entries run.outcome (omega arith) in

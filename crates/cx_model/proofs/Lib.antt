@@ -24,3 +24,4 @@ pub mod CutLaws
 pub mod MoreLaws
 pub mod CourseGuides
 pub mod CourseLaws
+pub mod SteerLaws

@@ -44,17 +44,22 @@ one_cell w at = one (if is_place (param_of at 0) (global_index at) then pos 1 el
 -- an elementary automaton by its number
 abbrev automaton : Rule
 automaton w at =
-    one (pos (unsigned_abs (param_of at 0) / 2 ^ (4 * nonzero (value_of w 0 low_side) + 2 * nonzero (value_of w 0 here) + nonzero (value_of w 0 high_side)) % 2))
+    one (pos (unsigned_abs (param_of at 0) / 2
+    ^ (4 * nonzero (value_of w 0 low_side) + 2 * nonzero (value_of w 0 here)
+    + nonzero (value_of w 0 high_side)) % 2))
 
 -- the first parameter at the point of the second, twice
 abbrev point_twice : Rule
 point_twice w at =
-    let n = if is_place (param_of at 1) (global_index at) then param_of at 0 else pos 0 in Some (n ∷ n ∷ [])
+    let n = if is_place (param_of at 1) (global_index at) then param_of at 0 else pos 0 in
+    Some (n ∷ n ∷ [])
 
 abbrev wave : Rule
 wave w at =
     one ((pos 2 *ℤ value_of w 0 here) -ℤ value_of w 1 here
-    +ℤ int_div_euclid (param_of at 0 *ℤ (value_of w 0 low_side -ℤ (pos 2 *ℤ value_of w 0 here) +ℤ value_of w 0 high_side)) (pos 256))
+    +ℤ int_div_euclid (param_of at 0 *ℤ
+    (value_of w 0 low_side -ℤ (pos 2 *ℤ value_of w 0 here) +ℤ value_of w 0 high_side))
+    (pos 256))
 
 -- the read's value without the first parameter
 abbrev less : Rule
@@ -70,7 +75,16 @@ touch v level region reach = record { var = var v; level = level; region = regio
 
 abbrev make_item : List ℕ → ItemKind → ℕ → List Touch → List Touch → List ℤ → Item
 make_item path kind routine reads writes params =
-    record { thorn = []; name = []; path = path; kind = kind; routine = routine; reads = reads; writes = writes; params = params }
+    record {
+      thorn = [];
+      name = [];
+      path = path;
+      kind = kind;
+      routine = routine;
+      reads = reads;
+      writes = writes;
+      params = params;
+    }
 
 abbrev grid_variable : List ℕ → CType → ℕ → VarInfo
 grid_variable full t levels = record { full = full; ctype = t; scalar = false; levels = levels }
@@ -80,31 +94,42 @@ scalar_variable full = record { full = full; ctype = Int; scalar = true; levels 
 
 -- a periodic row of so many points
 abbrev ring : ℕ → Shape
-ring n = record { dims = 1; n = record { x = pos n; y = pos 1; z = pos 1 }; ghost_ = record { x = pos 1; y = pos 0; z = pos 0 }; periodic = true ∷ false ∷ false ∷ [] }
+ring n = record {
+  dims = 1;
+  n = record { x = pos n; y = pos 1; z = pos 1 };
+  ghost_ = record { x = pos 1; y = pos 0; z = pos 0 };
+  periodic = true ∷ false ∷ false ∷ [];
+}
 
-abbrev setup_with : Shape → List VarInfo → List Item → ℕ → ℕ → List VarId → Tree → Tree → Tree → Setup
+abbrev setup_with : Shape → List VarInfo → List Item → ℕ → ℕ → List VarId → Tree → Tree → Tree
+    → Setup
 setup_with shape vars items itlast while_limit out_vars initial evol poststep =
     record {
       shape = shape;
       vars = vars;
       items = items;
-      bins = Seq [] ∷ Seq [] ∷ Seq [] ∷ Seq [] ∷ initial ∷ Seq [] ∷ Seq [] ∷ evol ∷ poststep ∷ replicate 8 (Seq []);
+      bins = Seq [] ∷ Seq [] ∷ Seq [] ∷ Seq [] ∷ initial ∷ Seq [] ∷ Seq [] ∷ evol ∷ poststep
+          ∷ replicate 8 (Seq []);
       itlast = itlast;
       while_limit = while_limit;
       out_every = pos 1;
       out_vars = out_vars;
       chk_every = negsuc 0;
       on_end = false;
+      steers = [];
     }
 
 -- the automaton on eight points, with this many iterations
 abbrev pub ca : ℕ → Setup
 ca itlast =
-    setup_with (ring 8) (grid_variable (codes "ca::cell") Byte 1 ∷ scalar_variable (codes "ca::live") ∷ [])
+    setup_with (ring 8) (grid_variable (codes "ca::cell") Byte 1
+    ∷ scalar_variable (codes "ca::live") ∷ [])
     (make_item (codes "INITIAL/ca_init") Cell 0 [] (touch 0 0 Everywhere 0 ∷ []) (pos 3 ∷ [])
-    ∷ make_item (codes "EVOL/ca_step") Cell 1 (touch 0 0 Everywhere 1 ∷ []) (touch 0 0 Interior 0 ∷ []) (pos 90 ∷ [])
+    ∷ make_item (codes "EVOL/ca_step") Cell 1 (touch 0 0 Everywhere 1 ∷ [])
+    (touch 0 0 Interior 0 ∷ []) (pos 90 ∷ [])
     ∷ make_item (codes "EVOL/ca_zero") Cell 2 [] (touch 0 0 Boundary 0 ∷ []) []
-    ∷ make_item (codes "POSTSTEP/ca_count") Sum 3 (touch 0 0 Everywhere 0 ∷ []) (touch 1 0 Everywhere 0 ∷ []) []
+    ∷ make_item (codes "POSTSTEP/ca_count") Sum 3 (touch 0 0 Everywhere 0 ∷ [])
+    (touch 1 0 Everywhere 0 ∷ []) []
     ∷ [])
     itlast 1000 (var 0 ∷ []) (Call 0)
     (Seq (Seq (Call 1 ∷ Sync (var 0 ∷ []) (codes "EVOL/ca_step") ∷ []) ∷ Call 2 ∷ [])) (Call 3)
@@ -116,9 +141,12 @@ ca_rules = one_cell ∷ automaton ∷ zero_rule ∷ zero_rule ∷ []
 abbrev pub wave_setup : Setup
 wave_setup =
     setup_with (ring 6) (grid_variable (codes "wave::phi") Int 3 ∷ [])
-    (make_item (codes "INITIAL/wave_init") Cell 0 [] (touch 0 0 Everywhere 0 ∷ touch 0 1 Everywhere 0 ∷ []) (pos 8 ∷ pos 2 ∷ [])
-    ∷ make_item (codes "EVOL/wave_step") Cell 1 (touch 0 1 Everywhere 1 ∷ touch 0 2 Interior 0 ∷ []) (touch 0 0 Interior 0 ∷ []) (pos 256 ∷ [])
-    ∷ make_item (codes "EVOL/wave_flat") Cell 2 (touch 0 0 Interior 0 ∷ []) (touch 0 0 Boundary 0 ∷ []) []
+    (make_item (codes "INITIAL/wave_init") Cell 0 []
+    (touch 0 0 Everywhere 0 ∷ touch 0 1 Everywhere 0 ∷ []) (pos 8 ∷ pos 2 ∷ [])
+    ∷ make_item (codes "EVOL/wave_step") Cell 1 (touch 0 1 Everywhere 1 ∷ touch 0 2 Interior 0 ∷ [])
+    (touch 0 0 Interior 0 ∷ []) (pos 256 ∷ [])
+    ∷ make_item (codes "EVOL/wave_flat") Cell 2 (touch 0 0 Interior 0 ∷ [])
+    (touch 0 0 Boundary 0 ∷ []) []
     ∷ [])
     1 1000 (var 0 ∷ []) (Call 0)
     (Seq (Seq (Call 1 ∷ Sync (var 0 ∷ []) (codes "EVOL/wave_step") ∷ []) ∷ Call 2 ∷ [])) (Seq [])
@@ -130,8 +158,10 @@ wave_rules = point_twice ∷ wave ∷ read_rule ∷ []
 abbrev pub control : ℕ → ℤ → Setup
 control turns drop =
     setup_with (ring 4) (scalar_variable (codes "control::count") ∷ [])
-    (make_item (codes "INITIAL/control_set") Scalar 0 [] (touch 0 0 Everywhere 0 ∷ []) (pos turns ∷ [])
-    ∷ make_item (codes "EVOL/control_spin") Scalar 1 (touch 0 0 Everywhere 0 ∷ []) (touch 0 0 Everywhere 0 ∷ []) (drop ∷ [])
+    (make_item (codes "INITIAL/control_set") Scalar 0 [] (touch 0 0 Everywhere 0 ∷ [])
+    (pos turns ∷ [])
+    ∷ make_item (codes "EVOL/control_spin") Scalar 1 (touch 0 0 Everywhere 0 ∷ [])
+    (touch 0 0 Everywhere 0 ∷ []) (drop ∷ [])
     ∷ [])
     1 5 (var 0 ∷ []) (Call 0) (While (var 0) (codes "EVOL/control_spin") (Call 1)) (Seq [])
 

@@ -18,10 +18,18 @@ abbrev pub IsOther : Entry → Type 0
 IsOther (Saved n state) = ⊥
 IsOther _ = Unit {0}
 
-others : OfTrees IsOther (λ _. Unit {0})
-others = record { turned = λ _ _ _. tt; overflowed = λ _ _ _. tt; exchanged = λ _ _ _. tt; tested = λ _ _ _. tt; overflow = λ _ _. tt; while_limit = λ _ _. tt }
+pub others : OfTrees IsOther (λ _. Unit {0})
+others = record {
+  turned = λ _ _ _. tt;
+  overflowed = λ _ _ _. tt;
+  exchanged = λ _ _ _. tt;
+  tested = λ _ _ _. tt;
+  overflow = λ _ _. tt;
+  while_limit = λ _ _. tt;
+}
 
-others-written : (setup : Setup) (iteration : ℕ) (state : State) (vs : List VarId) → Each IsOther (all_written setup iteration state vs)
+pub others-written : (setup : Setup) (iteration : ℕ) (state : State) (vs : List VarId)
+    → Each IsOther (all_written setup iteration state vs)
 others-written setup iteration state [] = tt
 others-written setup iteration state (v ∷ vs) = (tt, others-written setup iteration state vs)
 
@@ -29,9 +37,12 @@ others-written setup iteration state (v ∷ vs) = (tt, others-written setup iter
 
 pub output-both : (xs ys : List Entry) → output_of (xs ++ ys) ≡ output_of xs ++ output_of ys
 output-both [] ys = refl
-output-both (e ∷ xs) ys = ap (λ t. text_added e ++ t) (output-both xs ys) ∙ sym (append_assoc (text_added e) (output_of xs) (output_of ys))
+output-both (e ∷ xs) ys =
+    ap (λ t. text_added e ++ t) (output-both xs ys)
+    ∙ sym (append_assoc (text_added e) (output_of xs) (output_of ys))
 
-pub length-both : (xs ys : List Entry) (n : ℕ) → n + length (output_of (xs ++ ys)) ≡ n + length (output_of xs) + length (output_of ys)
+pub length-both : (xs ys : List Entry) (n : ℕ)
+    → n + length (output_of (xs ++ ys)) ≡ n + length (output_of xs) + length (output_of ys)
 length-both xs ys n =
     let e = ap length (output-both xs ys) ∙ length-append (output_of xs) (output_of ys) in
     omega (arith, e)
@@ -42,44 +53,60 @@ abbrev pub Stands : Trace → List Entry → ℕ → State → List Entry → Ty
 Stands t earlier c state later = t.entries ≡ earlier ++ Saved c state ∷ later
 
 -- where a checkpoint place stands behind some entries, they are passed
-pub record Passes (so_far : ℕ) (es more : List Entry) (o : Outcome) (earlier : List Entry) (c : ℕ) (state : State) (later : List Entry) : Type 0 where
+pub record Passes (so_far : ℕ) (es more : List Entry) (o : Outcome) (earlier : List Entry) (c : ℕ)
+    (state : State) (later : List Entry) : Type 0 where
   pub between : List Entry
   pub is : earlier ≡ es ++ between
-  pub all : within_limit so_far (es ++ more) o ≡ after es (within_limit (so_far + length (output_of es)) more o)
+  pub all : within_limit so_far (es ++ more) o
+      ≡ after es (within_limit (so_far + length (output_of es)) more o)
   pub there : Stands (within_limit (so_far + length (output_of es)) more o) between c state later
 
 not_other : (e : Entry) (c : ℕ) (state : State) → IsOther e → e ≡ Saved c state → ⊥
 not_other e c state other is = subst IsOther is other
 
-pub passes : (so_far : ℕ) (es more : List Entry) (o : Outcome) (earlier : List Entry) (c : ℕ) (state : State) (later : List Entry)
-    → Each IsOther es → Stands (within_limit so_far (es ++ more) o) earlier c state later → Passes so_far es more o earlier c state later
+pub passes : (so_far : ℕ) (es more : List Entry) (o : Outcome) (earlier : List Entry) (c : ℕ)
+    (state : State) (later : List Entry)
+    → Each IsOther es → Stands (within_limit so_far (es ++ more) o) earlier c state later
+    → Passes so_far es more o earlier c state later
 passes so_far [] more o earlier c state later others there =
     record {
       between = earlier;
       is = refl;
       all = ap (λ n. within_limit n more o) (sym (add-zero so_far));
-      there = subst (λ n. Stands (within_limit n more o) earlier c state later) (sym (add-zero so_far)) there;
+      there = subst (λ n. Stands (within_limit n more o) earlier c state later)
+          (sym (add-zero so_far)) there;
     }
 passes so_far (e ∷ es) more o earlier c state later others there =
-    by (passing so_far e) refl earlier there (λ rest at. passes (so_far + length (text_added e)) es more o rest c state later others.1 at)
+    by (passing so_far e) refl earlier there
+    (λ rest at. passes (so_far + length (text_added e))
+    es more o rest c state later others.1 at)
   where
     inner : Trace
     inner = within_limit (so_far + length (text_added e)) (es ++ more) o
 
-    more_length : so_far + length (text_added e) + length (output_of es) ≡ so_far + length (output_of (e ∷ es))
+    more_length : so_far + length (text_added e) + length (output_of es)
+        ≡ so_far + length (output_of (e ∷ es))
     more_length = let f = length-append (text_added e) (output_of es) in omega (arith, f)
 
-    by : (p : Option ℕ) → passing so_far e ≡ p → (earlier : List Entry) → Stands (stop_or p (after (e ∷ []) inner)) earlier c state later
-        → ((rest : List Entry) → Stands inner rest c state later → Passes (so_far + length (text_added e)) es more o rest c state later)
+    by : (p : Option ℕ) → passing so_far e ≡ p → (earlier : List Entry)
+        → Stands (stop_or p (after (e ∷ []) inner)) earlier c state later
+        → ((rest : List Entry) → Stands inner rest c state later
+        → Passes (so_far + length (text_added e)) es more o rest c state later)
         → Passes so_far (e ∷ es) more o earlier c state later
-    by None is [] there again = absurd (not_other e c state others.0 (heads e (Saved c state) inner.entries later there))
+    by None is [] there again =
+        absurd (not_other e c state others.0 (heads e (Saved c state) inner.entries later there))
     by None is (f ∷ rest) there again =
         let r = again rest (tails e f inner.entries (rest ++ Saved c state ∷ later) there) in
         record {
           between = r.between;
-          is = ap (λ g. g ∷ rest) (sym (heads e f inner.entries (rest ++ Saved c state ∷ later) there)) ∙ ap (λ l. e ∷ l) r.is;
-          all = ap (λ p. stop_or p (after (e ∷ []) inner)) is ∙ ap (after (e ∷ [])) (r.all ∙ ap (λ n. after es (within_limit n more o)) more_length);
-          there = subst (λ n. Stands (within_limit n more o) r.between c state later) more_length r.there;
+          is = ap (λ g. g ∷ rest)
+              (sym (heads e f inner.entries (rest ++ Saved c state ∷ later) there))
+              ∙ ap (λ l. e ∷ l) r.is;
+          all = ap (λ p. stop_or p (after (e ∷ []) inner)) is
+              ∙ ap (after (e ∷ []))
+              (r.all ∙ ap (λ n. after es (within_limit n more o)) more_length);
+          there = subst (λ n. Stands (within_limit n more o) r.between c state later)
+              more_length r.there;
         }
     by (Some n) is earlier there again = absurd (nothing_there earlier (Saved c state) later there)
 
@@ -94,24 +121,36 @@ EachSave P (Rotate ∷ ss) = EachSave P ss
 EachSave P (Write n ∷ ss) = EachSave P ss
 
 -- a place that a run of stages reaches, with the stages behind it
-pub record Found (P : ℕ → List Stage → Type 0) (setup : Setup) (rules : List Rule) (t : Trace) (entries : List Entry) (so_far : ℕ) (earlier : List Entry) (c : ℕ) (state : State) : Type 0 where
+pub record Found (P : ℕ → List Stage → Type 0) (setup : Setup) (rules : List Rule) (t : Trace)
+    (entries : List Entry) (so_far : ℕ) (earlier : List Entry) (c : ℕ)
+    (state : State) : Type 0 where
   pub behind : List Stage
   pub holds : P c behind
-  pub all : t ≡ after (earlier ++ Saved c state ∷ []) (limited (so_far + length (output_of earlier)) (run_stages setup rules behind state))
+  pub all : t ≡ after (earlier ++ Saved c state ∷ [])
+      (limited (so_far + length (output_of earlier)) (run_stages setup rules behind state))
   pub full : entries ≡ earlier ++ Saved c state ∷ (run_stages setup rules behind state).entries
 
-after-joined : (es between earlier : List Entry) (x : Entry) (t : Trace) → earlier ≡ es ++ between → after es (after (between ++ x ∷ []) t) ≡ after (earlier ++ x ∷ []) t
+after-joined : (es between earlier : List Entry) (x : Entry) (t : Trace) → earlier ≡ es ++ between
+    → after es (after (between ++ x ∷ []) t) ≡ after (earlier ++ x ∷ []) t
 after-joined es between earlier x t is =
     ap (λ (all : List Entry). record { entries = all; outcome = t.outcome })
     (sym (append_assoc es (between ++ x ∷ []) t.entries)
-    ∙ ap (λ (a : List Entry). a ++ t.entries) (sym (append_assoc es between (x ∷ [])) ∙ ap (λ (a : List Entry). a ++ x ∷ []) (sym is)))
+    ∙ ap (λ (a : List Entry). a ++ t.entries)
+    (sym (append_assoc es between (x ∷ [])) ∙ ap (λ (a : List Entry). a ++ x ∷ []) (sym is)))
 
 -- the place stands behind the entries of one stage
-found_behind : (P : ℕ → List Stage → Type 0) (setup : Setup) (rules : List Rule) (es : List Entry) (out : Outcome) (ss : List Stage) (so_far : ℕ) (earlier : List Entry) (c : ℕ) (state : State) (later : List Entry)
+found_behind : (P : ℕ → List Stage → Type 0) (setup : Setup) (rules : List Rule) (es : List Entry)
+    (out : Outcome) (ss : List Stage) (so_far : ℕ) (earlier : List Entry) (c : ℕ) (state : State)
+    (later : List Entry)
     → Each IsOther es
-    → ((first : State) (n : ℕ) (between : List Entry) → Stands (limited n (run_stages setup rules ss first)) between c state later → Found P setup rules (limited n (run_stages setup rules ss first)) (run_stages setup rules ss first).entries n between c state)
-    → Stands (limited so_far (after es (follow out (run_stages setup rules ss)))) earlier c state later
-    → Found P setup rules (limited so_far (after es (follow out (run_stages setup rules ss)))) (after es (follow out (run_stages setup rules ss))).entries so_far earlier c state
+    → ((first : State) (n : ℕ) (between : List Entry)
+    → Stands (limited n (run_stages setup rules ss first)) between c state later
+    → Found P setup rules (limited n (run_stages setup rules ss first))
+    (run_stages setup rules ss first).entries n between c state)
+    → Stands (limited so_far (after es (follow out (run_stages setup rules ss))))
+    earlier c state later
+    → Found P setup rules (limited so_far (after es (follow out (run_stages setup rules ss))))
+    (after es (follow out (run_stages setup rules ss))).entries so_far earlier c state
 found_behind P setup rules es (Goes first) ss so_far earlier c state later others again there =
     let rest = run_stages setup rules ss first in
     let r = passes so_far es rest.entries rest.outcome earlier c state later others there in
@@ -120,39 +159,57 @@ found_behind P setup rules es (Goes first) ss so_far earlier c state later other
       behind = f.behind;
       holds = f.holds;
       all = r.all ∙ ap (after es) f.all
-          ∙ after-joined es r.between earlier (Saved c state) (limited (so_far + length (output_of es) + length (output_of r.between)) (run_stages setup rules f.behind state)) r.is
-          ∙ ap (λ n. after (earlier ++ Saved c state ∷ []) (limited n (run_stages setup rules f.behind state)))
-          (sym (length-both es r.between so_far) ∙ ap (λ a. so_far + length (output_of a)) (sym r.is));
-      full = ap (λ l. es ++ l) f.full ∙ sym (append_assoc es r.between (Saved c state ∷ (run_stages setup rules f.behind state).entries))
-          ∙ ap (λ a. a ++ Saved c state ∷ (run_stages setup rules f.behind state).entries) (sym r.is);
+          ∙ after-joined es r.between earlier (Saved c state)
+          (limited (so_far + length (output_of es) + length (output_of r.between))
+          (run_stages setup rules f.behind state)) r.is
+          ∙ ap (λ n. after (earlier ++ Saved c state ∷ [])
+          (limited n (run_stages setup rules f.behind state)))
+          (sym (length-both es r.between so_far)
+          ∙ ap (λ a. so_far + length (output_of a)) (sym r.is));
+      full = ap (λ l. es ++ l) f.full
+          ∙ sym (append_assoc es r.between
+          (Saved c state ∷ (run_stages setup rules f.behind state).entries))
+          ∙ ap (λ a. a ++ Saved c state ∷ (run_stages setup rules f.behind state).entries)
+          (sym r.is);
     }
 found_behind P setup rules es (Ends end) ss so_far earlier c state later others again there =
     let r = passes so_far es [] (Ends end) earlier c state later others there in
     absurd (nothing_there r.between (Saved c state) later r.there)
 
-pub found : (P : ℕ → List Stage → Type 0) (setup : Setup) (rules : List Rule) (ss : List Stage) → EachSave P ss
-    → (first : State) (so_far : ℕ) (earlier : List Entry) (c : ℕ) (state : State) (later : List Entry)
+pub found : (P : ℕ → List Stage → Type 0) (setup : Setup) (rules : List Rule) (ss : List Stage)
+    → EachSave P ss
+    → (first : State) (so_far : ℕ) (earlier : List Entry) (c : ℕ) (state : State)
+    (later : List Entry)
     → Stands (limited so_far (run_stages setup rules ss first)) earlier c state later
-    → Found P setup rules (limited so_far (run_stages setup rules ss first)) (run_stages setup rules ss first).entries so_far earlier c state
-found P setup rules [] each first so_far earlier c state later there = absurd (nothing_there earlier (Saved c state) later there)
+    → Found P setup rules (limited so_far (run_stages setup rules ss first))
+    (run_stages setup rules ss first).entries so_far earlier c state
+found P setup rules [] each first so_far earlier c state later there =
+    absurd (nothing_there earlier (Saved c state) later there)
 found P setup rules (Bin b n ∷ ss) each first so_far earlier c state later there =
     let t = run_tree setup rules n (bin setup b) first in
-    found_behind P setup rules t.entries t.outcome ss so_far earlier c state later (walk-tree IsOther (λ _. Unit {0}) setup rules n (bin setup b) first others).entries
+    found_behind P setup rules t.entries t.outcome ss so_far earlier c state later
+    (walk-tree IsOther (λ _. Unit {0}) setup rules n (bin setup b) first others).entries
     (λ now k between at. found P setup rules ss each now k between c state later at) there
 found P setup rules (Rotate ∷ ss) each first so_far earlier c state later there =
-    found_behind P setup rules (Rotated first ∷ []) (Goes (rotate first)) ss so_far earlier c state later (tt, tt)
+    found_behind P setup rules (Rotated first ∷ []) (Goes (rotate first))
+    ss so_far earlier c state later (tt, tt)
     (λ now k between at. found P setup rules ss each now k between c state later at) there
 found P setup rules (Write n ∷ ss) each first so_far earlier c state later there =
-    found_behind P setup rules (all_written setup n first setup.out_vars) (Goes first) ss so_far earlier c state later (others-written setup n first setup.out_vars)
+    found_behind P setup rules (all_written setup n first setup.out_vars) (Goes first)
+    ss so_far earlier c state later (others-written setup n first setup.out_vars)
     (λ now k between at. found P setup rules ss each now k between c state later at) there
 found P setup rules (Save n ∷ ss) each first so_far [] c state later there =
-    let same = heads (Saved n first) (Saved c state) (limited (so_far + 0) (run_stages setup rules ss first)).entries later there in
+    let same = heads (Saved n first) (Saved c state)
+    (limited (so_far + 0) (run_stages setup rules ss first)).entries later there in
     let s : first ≡ state = ap state_saved same in
     record {
       behind = ss;
       holds = subst (λ k. P k ss) (ap place_saved same) each.0;
-      all = ap (λ (e : Entry). after (e ∷ []) (limited (so_far + 0) (run_stages setup rules ss first))) same
-          ∙ ap (λ (now : State). after (Saved c state ∷ []) (limited (so_far + 0) (run_stages setup rules ss now))) s;
+      all =
+          ap (λ (e : Entry). after (e ∷ [])
+          (limited (so_far + 0) (run_stages setup rules ss first))) same
+          ∙ ap (λ (now : State).
+          after (Saved c state ∷ []) (limited (so_far + 0) (run_stages setup rules ss now))) s;
       full = ap (λ (e : Entry). e ∷ (run_stages setup rules ss first).entries) same
           ∙ ap (λ (now : State). Saved c state ∷ (run_stages setup rules ss now).entries) s;
     }
@@ -167,45 +224,68 @@ found P setup rules (Save n ∷ ss) each first so_far [] c state later there =
 found P setup rules (Save n ∷ ss) each first so_far (e ∷ earlier) c state later there =
     let rest = limited (so_far + 0) (run_stages setup rules ss first) in
     let same = heads (Saved n first) e rest.entries (earlier ++ Saved c state ∷ later) there in
-    let f = found P setup rules ss each.1 first (so_far + 0) earlier c state later (tails (Saved n first) e rest.entries (earlier ++ Saved c state ∷ later) there) in
+    let f = found P setup rules ss each.1 first (so_far + 0) earlier c state later
+    (tails (Saved n first) e rest.entries (earlier ++ Saved c state ∷ later) there) in
     record {
       behind = f.behind;
       holds = f.holds;
       all = ap (after (Saved n first ∷ [])) f.all
-          ∙ ap (λ (g : Entry). after (g ∷ earlier ++ Saved c state ∷ []) (limited (so_far + 0 + length (output_of earlier)) (run_stages setup rules f.behind state))) same
-          ∙ ap (λ k. after (e ∷ earlier ++ Saved c state ∷ []) (limited k (run_stages setup rules f.behind state))) (longer e same);
+          ∙ ap (λ (g : Entry). after (g ∷ earlier ++ Saved c state ∷ [])
+          (limited (so_far + 0 + length (output_of earlier))
+          (run_stages setup rules f.behind state))) same
+          ∙ ap (λ k. after (e ∷ earlier ++ Saved c state ∷ [])
+          (limited k (run_stages setup rules f.behind state))) (longer e same);
       full = ap (λ (l : List Entry). Saved n first ∷ l) f.full
-          ∙ ap (λ (g : Entry). g ∷ earlier ++ Saved c state ∷ (run_stages setup rules f.behind state).entries) same;
+          ∙ ap (λ (g : Entry). g ∷ earlier ++ Saved c state
+          ∷ (run_stages setup rules f.behind state).entries) same;
     }
   where
-    longer : (e : Entry) → Saved n first ≡ e → so_far + 0 + length (output_of earlier) ≡ so_far + length (output_of (e ∷ earlier))
-    longer e same = subst (λ (g : Entry). so_far + 0 + length (output_of earlier) ≡ so_far + length (output_of (g ∷ earlier))) same (omega arith)
+    longer : (e : Entry) → Saved n first ≡ e
+        → so_far + 0 + length (output_of earlier) ≡ so_far + length (output_of (e ∷ earlier))
+    longer e same = subst (λ (g : Entry). so_far + 0 + length (output_of earlier)
+        ≡ so_far + length (output_of (g ∷ earlier))) same (omega arith)
 
 -- ---- the limit
 
-not_passed : (so_far : ℕ) (e : Entry) → so_far ≤ greatest_output → passing so_far e ≡ None → so_far + length (text_added e) ≤ greatest_output
-not_passed so_far (Wrote v n text state) below none = by (nat_le (so_far + length text) greatest_output) refl none
+not_passed : (so_far : ℕ) (e : Entry) → so_far ≤ greatest_output → passing so_far e ≡ None
+    → so_far + length (text_added e) ≤ greatest_output
+not_passed so_far (Wrote v n text state) below none =
+    by (nat_le (so_far + length text) greatest_output) refl none
   where
-    by : (b : Bool) → nat_le (so_far + length text) greatest_output ≡ b → (if b then None else Some n) ≡ None → so_far + length text ≤ greatest_output
+    by : (b : Bool) → nat_le (so_far + length text) greatest_output ≡ b
+        → (if b then None else Some n) ≡ None → so_far + length text ≤ greatest_output
     by true is none = grind (arith, is)
     by false is none = absurd cc
-not_passed so_far (Turned k n state) below none = subst (λ m. m ≤ greatest_output) (sym (add-zero so_far)) below
-not_passed so_far (Overflowed k n state) below none = subst (λ m. m ≤ greatest_output) (sym (add-zero so_far)) below
-not_passed so_far (Exchanged vars path state) below none = subst (λ m. m ≤ greatest_output) (sym (add-zero so_far)) below
-not_passed so_far (Tested v path state) below none = subst (λ m. m ≤ greatest_output) (sym (add-zero so_far)) below
-not_passed so_far (Rotated state) below none = subst (λ m. m ≤ greatest_output) (sym (add-zero so_far)) below
-not_passed so_far (Saved n state) below none = subst (λ m. m ≤ greatest_output) (sym (add-zero so_far)) below
+not_passed so_far (Turned k n state) below none =
+    subst (λ m. m ≤ greatest_output) (sym (add-zero so_far)) below
+not_passed so_far (Overflowed k n state) below none =
+    subst (λ m. m ≤ greatest_output) (sym (add-zero so_far)) below
+not_passed so_far (Exchanged vars path state) below none =
+    subst (λ m. m ≤ greatest_output) (sym (add-zero so_far)) below
+not_passed so_far (Tested v path state) below none =
+    subst (λ m. m ≤ greatest_output) (sym (add-zero so_far)) below
+not_passed so_far (Rotated state) below none =
+    subst (λ m. m ≤ greatest_output) (sym (add-zero so_far)) below
+not_passed so_far (Saved n state) below none =
+    subst (λ m. m ≤ greatest_output) (sym (add-zero so_far)) below
 
-pub within-greatest : (so_far : ℕ) (es : List Entry) (o : Outcome) → so_far ≤ greatest_output → so_far + length (output_of (within_limit so_far es o).entries) ≤ greatest_output
+pub within-greatest : (so_far : ℕ) (es : List Entry) (o : Outcome) → so_far ≤ greatest_output
+    → so_far + length (output_of (within_limit so_far es o).entries) ≤ greatest_output
 within-greatest so_far [] o below = subst (λ n. n ≤ greatest_output) (sym (add-zero so_far)) below
 within-greatest so_far (e ∷ es) o below =
-    by (passing so_far e) (within_limit (so_far + length (text_added e)) es o) (not_passed so_far e below) (within-greatest (so_far + length (text_added e)) es o)
+    by (passing so_far e) (within_limit (so_far + length (text_added e)) es o)
+    (not_passed so_far e below) (within-greatest (so_far + length (text_added e)) es o)
   where
-    more : (t : List ℕ) (xs : List Entry) → so_far + length (text_added e) + length (output_of xs) ≡ so_far + length (output_of (e ∷ xs))
+    more : (t : List ℕ) (xs : List Entry)
+        → so_far + length (text_added e) + length (output_of xs)
+        ≡ so_far + length (output_of (e ∷ xs))
     more t xs = let f = length-append (text_added e) (output_of xs) in omega (arith, f)
 
-    by : (p : Option ℕ) (rest : Trace) → (p ≡ None → so_far + length (text_added e) ≤ greatest_output)
-        → (so_far + length (text_added e) ≤ greatest_output → so_far + length (text_added e) + length (output_of rest.entries) ≤ greatest_output)
+    by : (p : Option ℕ) (rest : Trace)
+        → (p ≡ None → so_far + length (text_added e) ≤ greatest_output)
+        → (so_far + length (text_added e) ≤ greatest_output
+        → so_far + length (text_added e) + length (output_of rest.entries) ≤ greatest_output)
         → so_far + length (output_of (stop_or p (after (e ∷ []) rest)).entries) ≤ greatest_output
-    by None rest fits again = subst (λ n. n ≤ greatest_output) (more [] rest.entries) (again (fits refl))
+    by None rest fits again =
+        subst (λ n. n ≤ greatest_output) (more [] rest.entries) (again (fits refl))
     by (Some n) rest fits again = subst (λ n. n ≤ greatest_output) (sym (add-zero so_far)) below

@@ -14,17 +14,21 @@ use Rattle.cx_rule.specs.Sweeps.{scalars_after}
 -- ---- the start
 
 -- the levels of a variable at the start
-zeros_at : (setup : Setup) (v : VarId) → v.0 < length setup.vars → get_or (start setup) v.0 [] ≡ zeros setup (variable setup v)
+zeros_at : (setup : Setup) (v : VarId) → v.0 < length setup.vars
+    → get_or (start setup) v.0 [] ≡ zeros setup (variable setup v)
 zeros_at setup v h = get_or-map (zeros setup) setup.vars v.0 no_variable [] h
 
 pub start_is_state : (setup : Setup) → IsState setup (start setup)
 start_is_state setup =
     record {
       vars = length-map setup.vars (zeros setup);
-      levels = λ v h. ap length (zeros_at setup v h) ∙ length-replicate (levels_of setup v) (replicate (number_count setup (variable setup v)) (pos 0));
+      levels = λ v h. ap length (zeros_at setup v h)
+          ∙ length-replicate (levels_of setup v)
+          (replicate (number_count setup (variable setup v)) (pos 0));
       numbers = λ v level h k.
           ap (λ levels. length (get_or levels level [])) (zeros_at setup v h)
-          ∙ ap length (get_or-replicate (levels_of setup v) level (replicate (number_count setup (variable setup v)) (pos 0)) [] k)
+          ∙ ap length (get_or-replicate (levels_of setup v) level
+          (replicate (number_count setup (variable setup v)) (pos 0)) [] k)
           ∙ length-replicate (number_count setup (variable setup v)) (pos 0);
     }
 
@@ -49,17 +53,21 @@ rotated-lengths xs k n l each within h =
     elim (cases_lt l (length xs - k)) [
       | inl front ↦
           let here : l < length (drop k xs) = omega (arith, last, front) in
-          ap length (get_or_append_left (drop k xs) (take k xs) [] l here ∙ get_or-drop k xs l []) ∙ each (k + l) (omega (arith, front))
+          ap length (get_or_append_left (drop k xs) (take k xs) [] l here ∙ get_or-drop k xs l [])
+          ∙ each (k + l) (omega (arith, front))
       | inr behind ↦
-          ap length (get_or-append_right (drop k xs) (take k xs) (length xs - k) l [] last behind ∙ get_or-take k xs (l - (length xs - k)) [] (omega (arith, behind)))
+          ap length (get_or-append_right (drop k xs) (take k xs) (length xs - k) l [] last behind
+          ∙ get_or-take k xs (l - (length xs - k)) [] (omega (arith, behind)))
           ∙ each (l - (length xs - k)) (omega (arith, behind))
     ]
 
 -- the levels of a variable after a rotation
-rotated_at : (state : State) (i : ℕ) → i < length state → get_or (rotate state) i [] ≡ rotated_levels (get_or state i [])
+rotated_at : (state : State) (i : ℕ) → i < length state
+    → get_or (rotate state) i [] ≡ rotated_levels (get_or state i [])
 rotated_at state i h = get_or-map rotated_levels state i [] [] h
 
-pub rotate_keeps : (setup : Setup) (state : State) → IsState setup state → IsState setup (rotate state)
+pub rotate_keeps : (setup : Setup) (state : State) → IsState setup state
+    → IsState setup (rotate state)
 rotate_keeps setup state is =
     record {
       vars = length-map state rotated_levels ∙ is.vars;
@@ -71,8 +79,10 @@ rotate_keeps setup state is =
           let there : v.0 < length state = subst (λ n. v.0 < n) (sym is.vars) h in
           let many = is.levels v h in
           ap (λ levels. length (get_or levels level [])) (rotated_at state v.0 there)
-          ∙ rotated-lengths (get_or state v.0 []) (length (get_or state v.0 []) - 1) (number_count setup (variable setup v)) level
-          (λ j below. is.numbers v j h (subst (λ n. j < n) many below)) (omega arith) (subst (λ n. level < n) (sym many) k);
+          ∙ rotated-lengths (get_or state v.0 []) (length (get_or state v.0 []) - 1)
+          (number_count setup (variable setup v)) level
+          (λ j below. is.numbers v j h (subst (λ n. j < n) many below)) (omega arith)
+          (subst (λ n. level < n) (sym many) k);
     }
 
 -- ---- other numbers
@@ -86,7 +96,8 @@ levels-set state i k levels h e =
     elim (cases_eq i k) [
       | inl same ↦
           let here : k < length state = subst (λ i. i < length state) same h in
-          subst (λ i. length (get_or (set state k levels) i []) ≡ length (get_or state i [])) (sym same) (ap length (get_or-set_same state k levels [] here) ∙ e)
+          subst (λ i. length (get_or (set state k levels) i []) ≡ length (get_or state i []))
+          (sym same) (ap length (get_or-set_same state k levels [] here) ∙ e)
       | inr other ↦ ap length (get_or-set_other state k i levels [] other)
     ]
 
@@ -100,7 +111,8 @@ numbers-set levels l level numbers n h was now =
     elim (cases_eq l level) [
       | inl same ↦
           let here : level < length levels = subst (λ l. l < length levels) same h in
-          subst (λ l. length (get_or (set levels level numbers) l []) ≡ n) (sym same) (ap length (get_or-set_same levels level numbers [] here) ∙ now)
+          subst (λ l. length (get_or (set levels level numbers) l []) ≡ n) (sym same)
+          (ap length (get_or-set_same levels level numbers [] here) ∙ now)
       | inr other ↦ ap length (get_or-set_other levels level l numbers [] other) ∙ was
     ]
 
@@ -115,10 +127,17 @@ all-set state i k l level numbers n h below was now =
     elim (cases_eq i k) [
       | inl same ↦
           let here : k < length state = subst (λ i. i < length state) same h in
-          subst (λ i. length (get_or (get_or (set state k (set (get_or state k []) level numbers)) i []) l []) ≡ n) (sym same)
-          (ap (λ levels. length (get_or levels l [])) (get_or-set_same state k (set (get_or state k []) level numbers) [] here)
-          ∙ numbers-set (get_or state k []) l level numbers n (subst (λ i. l < length (get_or state i [])) same below) (subst (λ i. length (get_or (get_or state i []) l []) ≡ n) same was) (now same))
-      | inr other ↦ ap (λ levels. length (get_or levels l [])) (get_or-set_other state k i (set (get_or state k []) level numbers) [] other) ∙ was
+          subst
+          (λ i.
+          length (get_or (get_or (set state k (set (get_or state k []) level numbers)) i []) l
+          []) ≡ n) (sym same)
+          (ap (λ levels. length (get_or levels l []))
+          (get_or-set_same state k (set (get_or state k []) level numbers) [] here)
+          ∙ numbers-set (get_or state k []) l level numbers n
+          (subst (λ i. l < length (get_or state i [])) same below)
+          (subst (λ i. length (get_or (get_or state i []) l []) ≡ n) same was) (now same))
+      | inr other ↦ ap (λ levels. length (get_or levels l []))
+          (get_or-set_other state k i (set (get_or state k []) level numbers) [] other) ∙ was
     ]
 
 pub with_level_keeps : (setup : Setup) (state : State) (v : VarId) (level : ℕ) (numbers : List ℤ)
@@ -129,11 +148,16 @@ with_level_keeps setup state v level numbers is size =
     record {
       vars = length-set state v.0 (set (get_or state v.0 []) level numbers) ∙ is.vars;
       levels = λ w h.
-          levels-set state w.0 v.0 (set (get_or state v.0 []) level numbers) (subst (λ n. w.0 < n) (sym is.vars) h) (length-set (get_or state v.0 []) level numbers)
+          levels-set state w.0 v.0 (set (get_or state v.0 []) level numbers)
+          (subst (λ n. w.0 < n) (sym is.vars) h)
+          (length-set (get_or state v.0 []) level numbers)
           ∙ is.levels w h;
       numbers = λ w l h k.
-          all-set state w.0 v.0 l level numbers (number_count setup (variable setup w)) (subst (λ n. w.0 < n) (sym is.vars) h) (subst (λ n. l < n) (sym (is.levels w h)) k) (is.numbers w l h k)
-          (λ same. size ∙ ap (λ i. number_count setup (get_or setup.vars i no_variable)) (sym same));
+          all-set state w.0 v.0 l level numbers (number_count setup (variable setup w))
+          (subst (λ n. w.0 < n) (sym is.vars) h) (subst (λ n. l < n) (sym (is.levels w h)) k)
+          (is.numbers w l h k)
+          (λ same. size ∙ ap (λ i. number_count setup (get_or setup.vars i no_variable))
+          (sym same));
     }
 
 pub with_scalar_keeps : (setup : Setup) (state : State) (v : VarId) (number : ℤ)
@@ -151,5 +175,7 @@ pub scalars_after_keeps : (setup : Setup) (ws : List Touch) (ns : List ℤ) (sta
 scalars_after_keeps setup [] ns state scalars is = is
 scalars_after_keeps setup (w ∷ ws) [] state scalars is = is
 scalars_after_keeps setup (w ∷ ws) (n ∷ ns) state scalars is =
-    let both = and_parts (is_scalar setup w.var) (list_all (λ (w : Touch). is_scalar setup w.var) ws) scalars in
-    scalars_after_keeps setup ws ns (with_scalar state w.var n) both.1 (with_scalar_keeps setup state w.var n is both.0)
+    let both = and_parts (is_scalar setup w.var)
+    (list_all (λ (w : Touch). is_scalar setup w.var) ws) scalars in
+    scalars_after_keeps setup ws ns (with_scalar state w.var n) both.1
+    (with_scalar_keeps setup state w.var n is both.0)

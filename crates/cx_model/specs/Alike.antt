@@ -52,4 +52,5 @@ pub record SameRun (setup : Setup) (one two : Trace) : Type 0 where
 -- what a run does, writes and ends with doesn't depend on the numbers with which it begins
 abbrev pub UsesOnlyOwn : Setup → List Rule → Type 0
 UsesOnlyOwn setup rules =
-    (a b : State) → IsState setup a → IsState setup b → SameRun setup (run_from setup rules a) (run_from setup rules b)
+    (a b : State) → IsState setup a → IsState setup b
+    → SameRun setup (run_from setup rules a) (run_from setup rules b)

@@ -12,3 +12,4 @@ pub mod Alike
 pub mod Values
 pub mod Courses
 pub mod Needs
+pub mod Steers

@@ -40,7 +40,8 @@ run_stage setup rules (Write iteration) state =
 -- the run of several stages, one after another
 abbrev pub run_stages : Setup → List Rule → List Stage → State → Trace
 run_stages setup rules [] state = stays state
-run_stages setup rules (s ∷ ss) state = then_go (run_stage setup rules s state) (run_stages setup rules ss)
+run_stages setup rules (s ∷ ss) state =
+    then_go (run_stage setup rules s state) (run_stages setup rules ss)
 
 -- ---- the output and its limit
 
@@ -59,7 +60,8 @@ greatest_output = 2 ^ 32
 
 -- the iteration of a text with which an output of this length would pass its limit
 abbrev pub passing : ℕ → Entry → Option ℕ
-passing so_far (Wrote v iteration text state) = if nat_le (so_far + length text) greatest_output then None else Some iteration
+passing so_far (Wrote v iteration text state) = if nat_le (so_far + length text) greatest_output
+    then None else Some iteration
 passing so_far _ = None
 
 -- the end at the limit where a text would pass it, else what follows
@@ -71,7 +73,8 @@ stop_or (Some iteration) rest = ends (OutputLimit iteration)
 abbrev pub within_limit : ℕ → List Entry → Outcome → Trace
 within_limit so_far [] outcome = record { entries = []; outcome = outcome }
 within_limit so_far (e ∷ es) outcome =
-    stop_or (passing so_far e) (after (e ∷ []) (within_limit (so_far + length (text_added e)) es outcome))
+    stop_or (passing so_far e)
+    (after (e ∷ []) (within_limit (so_far + length (text_added e)) es outcome))
 
 -- a trace as far as the output's limit lets it go
 abbrev pub limited : ℕ → Trace → Trace
@@ -79,12 +82,14 @@ limited so_far t = within_limit so_far t.entries t.outcome
 
 -- ---- the run
 
--- the undivided run, and the rest of a run that is continued from a state of iteration c and an output of this length
+-- the undivided run, and the rest of a run that is continued from a state of iteration c and an
+-- output of this length
 abbrev pub undivided_run : Setup → List Rule → Trace
 undivided_run setup rules = limited 0 (run_stages setup rules (stages setup) (start setup))
 
 abbrev pub continued_run : Setup → List Rule → ℕ → State → ℕ → Trace
-continued_run setup rules c state so_far = limited so_far (run_stages setup rules (stages_after setup c) state)
+continued_run setup rules c state so_far =
+    limited so_far (run_stages setup rules (stages_after setup c) state)
 
 -- how a run ends by its outcome; one that goes on has done all its iterations
 abbrev pub end_by : Outcome → End
@@ -98,8 +103,10 @@ output setup rules = output_of (undivided_run setup rules).entries
 abbrev pub end : Setup → List Rule → End
 end setup rules = end_by (undivided_run setup rules).outcome
 
--- the undivided run comes to the checkpoint place of c, in this state and with an output of this length
-pub record Reaches (setup : Setup) (rules : List Rule) (c : ℕ) (state : State) (so_far : ℕ) : Type 0 where
+-- the undivided run comes to the checkpoint place of c, in this state and with an output of this
+-- length
+pub record Reaches (setup : Setup) (rules : List Rule) (c : ℕ) (state : State)
+    (so_far : ℕ) : Type 0 where
   pub earlier : List Entry
   pub later : List Entry
   pub there : (undivided_run setup rules).entries ≡ earlier ++ Saved c state ∷ later

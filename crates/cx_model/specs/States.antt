@@ -1,4 +1,5 @@
--- The whole states of a job's undivided run. The numbers themselves, and how they are read and written, are those over any box.
+-- The whole states of a job's undivided run. The numbers themselves, and how they are read and
+-- written, are those over any box.
 use Rattle.std.specs.Prelude.{ℕ, ◌≡◌, ◌<◌, ℤ, pos, List, [], map, length, replicate, if◌then◌else◌, slice_index_or}
 use Rattle.cx_grid.specs.Boxes.{point_count}
 use Rattle.cx_grid.specs.Grid.{whole}
@@ -23,6 +24,7 @@ start setup = map (zeros setup) setup.vars
 -- a state in which each variable has its stored levels, and each level its numbers
 pub record IsState (setup : Setup) (state : State) : Type 0 where
   pub vars : length state ≡ length setup.vars
-  pub levels : (v : VarId) → v.0 < length setup.vars → length (slice_index_or state v.0 []) ≡ levels_of setup v
+  pub levels : (v : VarId) → v.0 < length setup.vars
+      → length (slice_index_or state v.0 []) ≡ levels_of setup v
   pub numbers : (v : VarId) (level : ℕ) → v.0 < length setup.vars → level < levels_of setup v
       → length (level_of state v level) ≡ number_count setup (variable setup v)

@@ -4,7 +4,7 @@ use Rattle.cx_plan.specs.declared.variable.VarId.{VarId}
 use Rattle.cx_plan.specs.declared.item.Item.{Item}
 use Rattle.cx_plan.specs.declared.tree.Tree.{Tree, Seq', Call, Sync, If', While', Row_of-Tree, end_of-Tree, more_of-Tree}
 use Rattle.cx_plan.specs.Setups.{Setup}
-use Rattle.cx_plan.specs.Lookups.{item}
+use Rattle.cx_plan.specs.Steering.{item_at}
 use Rattle.cx_rule.specs.Routine.{Rule}
 use Rattle.cx_rule.specs.States.{State, scalar_of}
 use Rattle.cx_model.specs.Turns.{turn}
@@ -24,24 +24,29 @@ test v path a b state = after (Tested v path state ∷ []) (at_zero (scalar_of s
 
 -- an item's turn, or the end that it meets
 abbrev pub turn_trace : ℕ → Item → ℕ → State → Option State → Trace
-turn_trace k x iteration before None = after (Overflowed k iteration before ∷ []) (ends (Overflow iteration x.path))
+turn_trace k x iteration before None =
+    after (Overflowed k iteration before ∷ []) (ends (Overflow iteration x.path))
 turn_trace k x iteration before (Some state) = does (Turned k iteration before) state
 
 -- at most so many turns of a WHILE, each after a test that finds the scalar not 0
 abbrev pub loop : VarId → List ℕ → End → (State → Trace) → ℕ → State → Trace
 loop v path limit body zero state = test v path stays (λ _. ends limit) state
-loop v path limit body (suc turns) state = test v path stays (λ s. then_go (body s) (loop v path limit body turns)) state
+loop v path limit body (suc turns) state =
+    test v path stays (λ s. then_go (body s) (loop v path limit body turns)) state
 
 -- the run of a tree from a state; the row of an IF or a WHILE has one tree
 abbrev mutual
   pub run_tree : Setup → List Rule → ℕ → Tree → State → Trace
   run_tree setup rules iteration (Seq' shape all) state = run_row setup rules iteration all state
   run_tree setup rules iteration (Call k) state =
-      turn_trace k (item setup k) iteration state (turn setup rules (item setup k) state iteration)
+      turn_trace k (item_at setup k iteration) iteration state
+      (turn setup rules (item_at setup k iteration) state iteration)
   run_tree setup rules iteration (Sync vars path) state = does (Exchanged vars path state) state
-  run_tree setup rules iteration (If' v path shape one) state = test v path stays (run_row setup rules iteration one) state
+  run_tree setup rules iteration (If' v path shape one) state =
+      test v path stays (run_row setup rules iteration one) state
   run_tree setup rules iteration (While' v path shape one) state =
-      loop v path (WhileLimit iteration path) (run_row setup rules iteration one) setup.while_limit state
+      loop v path (WhileLimit iteration path) (run_row setup rules iteration one)
+      setup.while_limit state
 
   pub run_row : {m : _} → Setup → List Rule → ℕ → Row_of-Tree m → State → Trace
   run_row setup rules iteration end_of-Tree state = stays state

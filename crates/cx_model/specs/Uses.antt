@@ -38,6 +38,7 @@ UsesSet setup entries =
     (earlier : List Entry) (e : Entry) (later : List Entry) → entries ≡ earlier ++ e ∷ later
     → Met setup (entries_leave setup earlier cleared) (entry_needs setup e)
 
--- the undivided run never uses a value of a region that no write has set since its flag was last cleared
+-- the undivided run never uses a value of a region that no write has set since its flag was last
+-- cleared
 abbrev pub UsesOnlySet : Setup → List Rule → Type 0
 UsesOnlySet setup rules = UsesSet setup (undivided_run setup rules).entries

@@ -11,9 +11,11 @@ use Rattle.cx_plan.specs.Setups.{Setup}
 use Rattle.cx_model.specs.Traces.{Entry, Turned}
 use Rattle.cx_rule.specs.Sweeps.{in_region}
 
--- how many points a turn of an item computes: those of its region, of a Scalar item one, of a reduction none
+-- how many points a turn of an item computes: those of its region, of a Scalar item one, of a
+-- reduction none
 abbrev pub points_by : ItemKind → Setup → Item → ℕ
-points_by Cell setup x = length (filter (in_region setup.shape (region_of x.writes)) (points_in (whole setup.shape)))
+points_by Cell setup x =
+    length (filter (in_region setup.shape (region_of x.writes)) (points_in (whole setup.shape)))
 points_by Scalar setup x = 1
 points_by Sum setup x = 0
 points_by Least setup x = 0

@@ -12,6 +12,7 @@ ghost use Rattle.cx_model.specs.Alike.{UsesOnlyOwn};
 ghost use Rattle.cx_model.specs.Checkpoints.{Continues};
 ghost use Rattle.cx_model.specs.Courses.{IsCourseCut};
 ghost use Rattle.cx_model.specs.Needs.{NeedsMet};
+ghost use Rattle.cx_model.specs.Steers.{SteeredAlike};
 ghost use Rattle.cx_model.specs.Uses.{UsesOnlySet};
 ghost use Rattle.cx_model.specs.Values.{StepsAgree, NeedsOnlyTold, KeepsStates};
 
@@ -63,9 +64,9 @@ pub fn sound_uses_only_own(job: &Job)
     ensures { (rules : List Rule) → UsesOnlyOwn (setup_of job.now) rules }
 {}
 
-/// The same of a sound job's run that is continued from a checkpoint place: from each state that agrees with the one there, at
-/// all points and in all scalars of the regions that are set there, it does the same, writes the same and ends alike. It does
-/// nothing; its clause is the law.
+/// What the yes of the region check means for a checkpoint: a sound job's run that resumes from each state
+/// that agrees with the one at the checkpoint, at all points and in all scalars of the regions that are set
+/// there, does the same, writes the same and ends alike. It does nothing; its clause is the law.
 pub fn sound_needs_only_told(job: &Job)
     requires whole { IsWhole job.now }
     requires shapes { HasShapes (setup_of job.now) }
@@ -95,4 +96,11 @@ pub fn course_is_run(job: &Job)
 pub fn course_needs_met(job: &Job)
     requires { Sound (setup_of job.now) }
     ensures { (rules : List Rule) → NeedsMet (setup_of job.now) rules }
+{}
+
+/// A law of every job and all rules: a run that is steered otherwise behind an iteration alone is the same up to the checkpoint place
+/// of that iteration. It reaches the same places in the same states, and what it has written there is the same. It does nothing; its
+/// clause is the law.
+pub fn steered_alike(job: &Job)
+    ensures { (rules : List Rule) → SteeredAlike (setup_of job.now) rules }
 {}

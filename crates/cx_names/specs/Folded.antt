@@ -4,9 +4,7 @@ use Rattle.std.specs.Char.{to_ascii_lowercase}
 use Rattle.std.specs.List.{list_any}
 use Rattle.std.specs.Str.{bytes_eq}
 use Rattle.cx_text.specs.Lexemes.{among}
-
-abbrev pub folded : List ℕ → List ℕ
-folded name = map to_ascii_lowercase name
+use Rattle.cx_text.specs.Bytes.{folded}
 
 -- Names in small letters are those of a list.
 abbrev pub HasNames : List (List ℕ) → List (List ℕ) → Type 0

@@ -2,7 +2,7 @@
 
 ghost use Rattle.std.specs.Prelude.{◌≡◌, ◌++◌, ◌∷◌, [], IfOk, OnOk, OnErr};
 ghost use Rattle.cx_text.specs.Lexemes.{among};
-ghost use Rattle.cx_names.specs.Folded.{folded};
+ghost use Rattle.cx_text.specs.Bytes.{folded};
 
 use cx_text::{List, Memory, Text};
 use indexmap::IndexSet;

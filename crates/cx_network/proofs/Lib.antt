@@ -6,3 +6,4 @@ pub mod Runs
 pub mod Keys
 pub mod Prefix
 pub mod OrderLaws
+pub mod TogetherLaws

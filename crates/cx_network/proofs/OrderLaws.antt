@@ -5,8 +5,11 @@ use Rattle.cx_network.specs.Agreement.{Script, Fits, Ends, Woven, Ended}
 use Rattle.cx_network.specs.Orders.{Order, Holds, EveryOrder}
 use Rattle.cx_network.proofs.Runs as Runs
 
-module _ {L M C K B : Type 0} (N : Net L M C K B) (S : Script M C) (Agrees Gives : ℕ → ℕ → L → Type 0) (Books : ℕ → B → Type 0) (fits : Fits N S Agrees Gives Books) (ends : Ends N S Agrees Books) where
-  state_holds : (w : World L M C B) → Woven N S Agrees Books w → Ended N S w → Holds N S Agrees Books w
+module _ {L M C K B : Type 0} (N : Net L M C K B) (S : Script M C)
+    (Agrees Gives : ℕ → ℕ → L → Type 0) (Books : ℕ → B → Type 0)
+    (fits : Fits N S Agrees Gives Books) (ends : Ends N S Agrees Books) where
+  state_holds : (w : World L M C B) → Woven N S Agrees Books w → Ended N S w
+      → Holds N S Agrees Books w
   state_holds w woven ended = record {
     woven = woven;
     ended = ended;
@@ -18,7 +21,8 @@ module _ {L M C K B : Type 0} (N : Net L M C K B) (S : Script M C) (Agrees Gives
     };
   }
 
-  pub order_holds : (events : List Event) (w v : World L M C B) → Woven N S Agrees Books w → Ended N S w
+  pub order_holds : (events : List Event) (w v : World L M C B) → Woven N S Agrees Books w
+      → Ended N S w
       → Order N Gives w events v → Holds N S Agrees Books v
   order_holds [] w v woven ended o = rw o (state_holds w woven ended)
   order_holds (e ∷ es) w v woven ended o =
@@ -28,4 +32,6 @@ module _ {L M C K B : Type 0} (N : Net L M C K B) (S : Script M C) (Agrees Gives
       o.4
 
   pub all_orders : EveryOrder N S Agrees Gives Books
-  all_orders events w = order_holds events (begun N) w (Runs.begun_woven N S Agrees Gives Books fits) (Runs.begun_ended N S Agrees Gives Books fits ends)
+  all_orders events w = order_holds events (begun N) w
+      (Runs.begun_woven N S Agrees Gives Books fits)
+      (Runs.begun_ended N S Agrees Gives Books fits ends)

@@ -1,3 +1,4 @@
 pub mod Machine
 pub mod Agreement
 pub mod Orders
+pub mod Together

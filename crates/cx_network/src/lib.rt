@@ -3,5 +3,7 @@
 #![tactic(auto)]
 
 mod network;
+mod together;
 
 pub use network::{Network, every_order};
+pub use together::parts_gather;

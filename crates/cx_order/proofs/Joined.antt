@@ -9,7 +9,8 @@ behind there (Ok xs) = Ok (there ++ xs)
 behind there (Err e) = Err e
 
 -- what all elements give, joined
-abbrev pub joined : {X Y : Type 0} → (X → Result (List Y) ScopeFault) → List X → Result (List Y) ScopeFault
+abbrev pub joined : {X Y : Type 0} → (X → Result (List Y) ScopeFault) → List X
+    → Result (List Y) ScopeFault
 joined f xs = all_joined (all_ok (map f xs))
 
 -- each once

@@ -34,35 +34,62 @@ pub memory-or : {A B : Type 0} (e : OrderFault) → (A → B) → (e ≡ Memory)
 memory-or e f (inl is) = inl is
 memory-or e f (inr a) = inr (f a)
 
-pub placed-fault : (thorns : List Thorn) (c : Counted) (e : PlaceFault) → ArePlaced c.entries (Err e) → (from_place e ≡ Memory) ⊎ IsFaultFrom thorns c (from_place e)
-placed-fault thorns c (GroupCycle names) h = inr (λ files values are. of_groups (record { c = c; are_entries = are; names = names; cycle = h; told = refl }))
-placed-fault thorns c (Cycle names) h = inr (λ files values are. of_entries (record { c = c; are_entries = are; groups = h.0; names = names; cycle = h.1; told = refl }))
+pub placed-fault : (thorns : List Thorn) (c : Counted) (e : PlaceFault)
+    → ArePlaced c.entries (Err e) → (from_place e ≡ Memory) ⊎ IsFaultFrom thorns c (from_place e)
+placed-fault thorns c (GroupCycle names) h =
+    inr (λ files values are.
+    of_groups (record { c = c; are_entries = are; names = names; cycle = h; told = refl }))
+placed-fault thorns c (Cycle names) h =
+    inr (λ files values are.
+    of_entries
+    (record { c = c; are_entries = are; groups = h.0; names = names; cycle = h.1; told = refl }))
 placed-fault thorns c places.Memory h = inl refl
 
 -- a fault of bins or names, or want of memory
 module _ (input : Input) (c : Counted) (is : all_counted input ≡ Ok c) where
-  first-fault : (e : EntryFault) → or_else (bin_fault c.entries) (names_fault c.entries) ≡ Some e → (from_entry e ≡ Memory) ⊎ IsFault input (from_entry e)
-  first-fault e first = inr (of_entry (record { c = c; counted = is; first = ap (option_map from_entry) first }))
+  first-fault : (e : EntryFault) → or_else (bin_fault c.entries) (names_fault c.entries) ≡ Some e
+      → (from_entry e ≡ Memory) ⊎ IsFault input (from_entry e)
+  first-fault e first = inr
+      (of_entry (record { c = c; counted = is; first = ap (option_map from_entry) first }))
 
-  pub bin-fault : (e : EntryFault) → (e ≡ entries.Memory) ⊎ (bin_fault c.entries ≡ Some e) → (from_entry e ≡ Memory) ⊎ IsFault input (from_entry e)
+  pub bin-fault : (e : EntryFault) → (e ≡ entries.Memory) ⊎ (bin_fault c.entries ≡ Some e)
+      → (from_entry e ≡ Memory) ⊎ IsFault input (from_entry e)
   bin-fault e (inl is) = inl (ap from_entry is)
   bin-fault e (inr told) = first-fault e (ap (λ o. or_else o (names_fault c.entries)) told)
 
-  pub name-fault : (e : EntryFault) → bin_fault c.entries ≡ None → (e ≡ entries.Memory) ⊎ (names_fault c.entries ≡ Some e) → (from_entry e ≡ Memory) ⊎ IsFault input (from_entry e)
+  pub name-fault : (e : EntryFault) → bin_fault c.entries ≡ None
+      → (e ≡ entries.Memory) ⊎ (names_fault c.entries ≡ Some e)
+      → (from_entry e ≡ Memory) ⊎ IsFault input (from_entry e)
   name-fault e none (inl is) = inl (ap from_entry is)
-  name-fault e none (inr told) = first-fault e (ap (λ o. or_else o (names_fault c.entries)) none ∙ told)
+  name-fault e none (inr told) =
+      first-fault e (ap (λ o. or_else o (names_fault c.entries)) none ∙ told)
 
-pub same-ordered : (a b : Ordered) → a.plan.bins ≡ b.plan.bins → a.items ≡ b.items → a.storage ≡ b.storage → a.text ≡ b.text → a ≡ b
+pub same-ordered : (a b : Ordered) → a.plan.bins ≡ b.plan.bins → a.items ≡ b.items
+    → a.storage ≡ b.storage → a.text ≡ b.text → a ≡ b
 same-ordered a b bins items stored text =
-    let F : List Tree → Ordered = λ x. record { plan = record { bins = x }; items = a.items; storage = a.storage; text = a.text } in
-    let G : List Item → Ordered = λ x. record { plan = b.plan; items = x; storage = a.storage; text = a.text } in
-    let H : List ℕ → Ordered = λ x. record { plan = b.plan; items = b.items; storage = x; text = a.text } in
-    let I : List ℕ → Ordered = λ x. record { plan = b.plan; items = b.items; storage = b.storage; text = x } in
+    let F : List Tree → Ordered =
+    λ x. record {
+      plan = record { bins = x };
+      items = a.items;
+      storage = a.storage;
+      text = a.text;
+    } in
+    let G : List Item → Ordered =
+    λ x. record { plan = b.plan; items = x; storage = a.storage; text = a.text } in
+    let H : List ℕ → Ordered =
+    λ x. record { plan = b.plan; items = b.items; storage = x; text = a.text } in
+    let I : List ℕ → Ordered =
+    λ x. record { plan = b.plan; items = b.items; storage = b.storage; text = x } in
     ap F bins ∙ ap G items ∙ ap H stored ∙ ap I text
 
-module _ (thorns : List Thorn) (c : Counted) (sight : Sight) (orders : Orders) (groups : NoGroupCycle c.entries) (least : AreLeast c.entries orders) (told : IsSightOf thorns sight) where
-  abbrev are : (files : List ScheduleFile) (values : Values) → AreEntries (input_of thorns files values) c → AreOrders (input_of thorns files values) c sight orders
-  are files values entries = record { are_entries = entries; groups = groups; least = least; told = told }
+module _ (thorns : List Thorn) (c : Counted) (sight : Sight) (orders : Orders)
+    (groups : NoGroupCycle c.entries) (least : AreLeast c.entries orders)
+    (told : IsSightOf thorns sight) where
+  abbrev are : (files : List ScheduleFile) (values : Values)
+      → AreEntries (input_of thorns files values) c
+      → AreOrders (input_of thorns files values) c sight orders
+  are files values entries =
+      record { are_entries = entries; groups = groups; least = least; told = told }
 
   abbrev fs : List Forest
   fs = forests c.entries orders
@@ -76,30 +103,64 @@ module _ (thorns : List Thorn) (c : Counted) (sight : Sight) (orders : Orders) (
   abbrev rest : Option OrderFault
   rest = entry_fault w fs
 
-  pub storage-fault : (e : OrderFault) → storage_fault thorns sight c.lines ≡ Some e → IsFaultFrom thorns c e
+  pub storage-fault : (e : OrderFault) → storage_fault thorns sight c.lines ≡ Some e
+      → IsFaultFrom thorns c e
   storage-fault e is files values entries =
-      of_scope (record { c = c; sight = sight; orders = orders; are_orders = are files values entries; scope = ap (λ o. or_else o rest) is })
+      of_scope
+      (record {
+        c = c;
+        sight = sight;
+        orders = orders;
+        are_orders = are files values entries;
+        scope = ap (λ o. or_else o rest) is;
+      })
 
-  module _ (stored : List ℕ) (levels : stored ≡ storage thorns sight c.lines) (no_storage : storage_fault thorns sight c.lines ≡ None) where
+  module _ (stored : List ℕ) (levels : stored ≡ storage thorns sight c.lines)
+      (no_storage : storage_fault thorns sight c.lines ≡ None) where
     names-fault : (e : OrderFault) → rest ≡ Some e → IsFaultFrom thorns c e
     names-fault e is files values entries =
-        of_scope (record { c = c; sight = sight; orders = orders; are_orders = are files values entries; scope = ap (λ o. or_else o rest) no_storage ∙ is })
+        of_scope
+        (record {
+          c = c;
+          sight = sight;
+          orders = orders;
+          are_orders = are files values entries;
+          scope = ap (λ o. or_else o rest) no_storage ∙ is;
+        })
 
-    size-fault : (e : OrderFault) → rest ≡ None → limit_fault (bin_trees w 0 fs) ≡ Some e → IsFaultFrom thorns c e
+    size-fault : (e : OrderFault) → rest ≡ None → limit_fault (bin_trees w 0 fs) ≡ Some e
+        → IsFaultFrom thorns c e
     size-fault e none is files values entries =
-        of_limit (record { c = c; sight = sight; orders = orders; are_orders = are files values entries; scope = ap (λ o. or_else o rest) no_storage ∙ none; limits = is })
+        of_limit
+        (record {
+          c = c;
+          sight = sight;
+          orders = orders;
+          are_orders = are files values entries;
+          scope = ap (λ o. or_else o rest) no_storage ∙ none;
+          limits = is;
+        })
 
-    either : (e : OrderFault) (o : Option OrderFault) → rest ≡ o → or_else o (limit_fault (bin_trees w 0 fs)) ≡ Some e → IsFaultFrom thorns c e
+    either : (e : OrderFault) (o : Option OrderFault) → rest ≡ o
+        → or_else o (limit_fault (bin_trees w 0 fs)) ≡ Some e → IsFaultFrom thorns c e
     either e None at is = size-fault e at is
     either e (Some f) at is = names-fault e (at ∙ is)
 
-    pub entry-fault : (e : OrderFault) → or_else (entry_fault (worlds stored) fs) (limit_fault (bin_trees (worlds stored) 0 fs)) ≡ Some e → IsFaultFrom thorns c e
+    pub entry-fault : (e : OrderFault)
+        → or_else (entry_fault (worlds stored) fs) (limit_fault (bin_trees (worlds stored) 0 fs))
+        ≡ Some e → IsFaultFrom thorns c e
     entry-fault e is =
-        let P : List ℕ → Type 0 = λ s. or_else (entry_fault (worlds s) fs) (limit_fault (bin_trees (worlds s) 0 fs)) ≡ Some e in
+        let P : List ℕ → Type 0 =
+        λ s. or_else (entry_fault (worlds s) fs) (limit_fault (bin_trees (worlds s) 0 fs))
+        ≡ Some e in
         either e rest refl (subst P levels is)
 
-    pub is-plan : (p : Planned) → entry_fault (worlds stored) fs ≡ None → limit_fault (bin_trees (worlds stored) 0 fs) ≡ None → IsPlanOf (worlds stored) fs p
-        → (files : List ScheduleFile) (values : Values) → AreEntries (input_of thorns files values) c → IsPlan (input_of thorns files values) (record { plan = p.plan; items = p.items; storage = stored; text = p.text })
+    pub is-plan : (p : Planned) → entry_fault (worlds stored) fs ≡ None
+        → limit_fault (bin_trees (worlds stored) 0 fs) ≡ None → IsPlanOf (worlds stored) fs p
+        → (files : List ScheduleFile) (values : Values)
+        → AreEntries (input_of thorns files values) c
+        → IsPlan (input_of thorns files values)
+        (record { plan = p.plan; items = p.items; storage = stored; text = p.text })
     is-plan p no_names no_sizes made files values entries =
         let N : List ℕ → Type 0 = λ s. entry_fault (worlds s) fs ≡ None in
         let L : List ℕ → Type 0 = λ s. limit_fault (bin_trees (worlds s) 0 fs) ≡ None in
@@ -112,5 +173,8 @@ module _ (thorns : List Thorn) (c : Counted) (sight : Sight) (orders : Orders) (
           are_orders = are files values entries;
           scope = ap (λ o. or_else o rest) no_storage ∙ subst N levels no_names;
           limits = subst L levels no_sizes;
-          is_planned = same-ordered (record { plan = p.plan; items = p.items; storage = stored; text = p.text }) (planned (input_of thorns files values) c sight orders) of.of_bins of.of_items levels of.of_text;
+          is_planned = same-ordered
+              (record { plan = p.plan; items = p.items; storage = stored; text = p.text })
+              (planned (input_of thorns files values) c sight orders)
+              of.of_bins of.of_items levels of.of_text;
         }

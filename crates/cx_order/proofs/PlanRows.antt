@@ -30,7 +30,22 @@ of owner name = record { owner = Some owner; name = name; copy = None }
 
 abbrev block : List ℕ → Spot → Block
 block name spot =
-    record { group = false; name = name; spot = spot; alias = None; test = None; turn = None; before = []; after = []; storage = []; sync = []; reads = []; writes = []; rest = []; text = [] }
+    record {
+      group = false;
+      name = name;
+      spot = spot;
+      alias = None;
+      test = None;
+      turn = None;
+      before = [];
+      after = [];
+      storage = [];
+      sync = [];
+      reads = [];
+      writes = [];
+      rest = [];
+      text = [];
+    }
 
 abbrev evol : List ℕ → Block
 evol name = block name (At (codes "EVOL"))
@@ -41,15 +56,30 @@ ca_schedule =
     record {
       items =
           Storage ((bare (codes "cells"), Some 1) ∷ (bare (codes "counts"), Some 1) ∷ [])
-          ∷ node.Block (record (block (codes "ca_init") (At (codes "INITIAL"))) { writes = (of (codes "ca") (codes "cell"), Everywhere) ∷ [] })
-          ∷ node.Block (record (evol (codes "ca_step")) { sync = bare (codes "cells") ∷ []; reads = (of (codes "ca") (codes "cell"), Everywhere) ∷ []; writes = (of (codes "ca") (codes "cell"), Interior) ∷ [] })
-          ∷ node.Block (record (evol (codes "ca_zero")) { after = codes "ca_step" ∷ []; writes = (of (codes "ca") (codes "cell"), Boundary) ∷ [] })
-          ∷ node.Block (record (block (codes "ca_count") (At (codes "CCTK_POSTSTEP"))) { reads = (of (codes "ca") (codes "cell"), Everywhere) ∷ []; writes = (of (codes "ca") (codes "live"), Everywhere) ∷ [] })
+          ∷ node.Block (record (block (codes "ca_init") (At (codes "INITIAL")))
+          { writes = (of (codes "ca") (codes "cell"), Everywhere) ∷ [] })
+          ∷ node.Block (record (evol (codes "ca_step")) {
+            sync = bare (codes "cells") ∷ [];
+            reads = (of (codes "ca") (codes "cell"), Everywhere) ∷ [];
+            writes = (of (codes "ca") (codes "cell"), Interior) ∷ [];
+          })
+          ∷ node.Block (record (evol (codes "ca_zero")) {
+            after = codes "ca_step" ∷ [];
+            writes = (of (codes "ca") (codes "cell"), Boundary) ∷ [];
+          })
+          ∷ node.Block (record (block (codes "ca_count") (At (codes "CCTK_POSTSTEP"))) {
+            reads = (of (codes "ca") (codes "cell"), Everywhere) ∷ [];
+            writes = (of (codes "ca") (codes "live"), Everywhere) ∷ [];
+          })
           ∷ [];
     }
 
 abbrev input : List Thorn → List ScheduleFile → Input
-input thorns files = record { thorns = thorns; files = files; values = record { slots = []; given = []; uses = []; globals = [] } }
+input thorns files = record {
+  thorns = thorns;
+  files = files;
+  values = record { slots = []; given = []; uses = []; globals = [] };
+}
 
 abbrev in_file : List Block → ScheduleFile
 in_file blocks = record { items = map (λ b. node.Block b) blocks }
@@ -80,7 +110,9 @@ ca = input (elem_ca ∷ []) (ca_schedule ∷ [])
 row_scope : scope_fault ca (what_counts ca) alone as_they_stand ≡ None
 row_scope = refl
 
-pub row_text : (planned ca (what_counts ca) alone as_they_stand).text ≡ codes "bin STARTUP\nbin WRAGH\nbin PARAMCHECK\nbin BASEGRID\nbin INITIAL\n  call ElemCA::ca_init writes ca::cell(everywhere)\nbin POSTINITIAL\nbin PRESTEP\nbin EVOL\n  call ElemCA::ca_step reads ca::cell(everywhere) writes ca::cell(interior) sync ca::cell\n  call ElemCA::ca_zero writes ca::cell(boundary)\nbin POSTSTEP\n  call ElemCA::ca_count reads ca::cell(everywhere) writes ca::live(everywhere)\nbin CHECKPOINT\nbin ANALYSIS\nbin TERMINATE\nbin SHUTDOWN\nbin CPINITIAL not run\nbin RECOVER_PARAMETERS not run\nbin RECOVER_VARIABLES not run\nbin POST_RECOVER_VARIABLES not run\n"
+pub row_text : (planned ca (what_counts ca) alone as_they_stand).text
+    ≡ codes
+    "bin STARTUP\nbin WRAGH\nbin PARAMCHECK\nbin BASEGRID\nbin INITIAL\n  call ElemCA::ca_init writes ca::cell(everywhere)\nbin POSTINITIAL\nbin PRESTEP\nbin EVOL\n  call ElemCA::ca_step reads ca::cell(everywhere) writes ca::cell(interior) sync ca::cell\n  call ElemCA::ca_zero writes ca::cell(boundary)\nbin POSTSTEP\n  call ElemCA::ca_count reads ca::cell(everywhere) writes ca::live(everywhere)\nbin CHECKPOINT\nbin ANALYSIS\nbin TERMINATE\nbin SHUTDOWN\nbin CPINITIAL not run\nbin RECOVER_PARAMETERS not run\nbin RECOVER_VARIABLES not run\nbin POST_RECOVER_VARIABLES not run\n"
 row_text = refl
 
 row_storage : (planned ca (what_counts ca) alone as_they_stand).storage ≡ 1 ∷ 1 ∷ []
@@ -98,7 +130,12 @@ nested =
     ∷ [])
 
 row_nested : IsGroupCycle (entries nested) (codes "P" ∷ codes "Q" ∷ [])
-row_nested = record { cycle = refl; differ = (refl, (refl, _)); begins = refl; spelled = (refl, (refl, _)) }
+row_nested = record {
+  cycle = refl;
+  differ = (refl, (refl, _));
+  begins = refl;
+  spelled = (refl, (refl, _));
+}
 
 -- two thorns, one entry each
 abbrev one : Thorn
@@ -108,20 +145,27 @@ abbrev two : Thorn
 two = thorn (codes "Two") (codes "two") [] [] []
 
 abbrev m_first : Input
-m_first = input (one ∷ two ∷ []) (in_file (evol (codes "M") ∷ []) ∷ in_file (evol (codes "N") ∷ []) ∷ [])
+m_first = input (one ∷ two ∷ [])
+    (in_file (evol (codes "M") ∷ []) ∷ in_file (evol (codes "N") ∷ []) ∷ [])
 
 row_m_first : map entry_name (entries_at (entries m_first) (Bin 7)) ≡ codes "M" ∷ codes "N" ∷ []
 row_m_first = refl
 
-row_names : names_fault (entries (input (one ∷ two ∷ []) (in_file (evol (codes "M") ∷ []) ∷ in_file (evol (codes "m") ∷ []) ∷ []))) ≡ Some (TwoNames (codes "EVOL/m"))
+row_names : names_fault (entries
+    (input (one ∷ two ∷ [])
+    (in_file (evol (codes "M") ∷ []) ∷ in_file (evol (codes "m") ∷ []) ∷ [])))
+    ≡ Some (TwoNames (codes "EVOL/m"))
 row_names = refl
 
-row_bin : bin_fault (entries (one_file (block (codes "A") (At (codes "NEVER")) ∷ []))) ≡ Some (UnknownBin (codes "NEVER"))
+row_bin : bin_fault (entries (one_file (block (codes "A") (At (codes "NEVER")) ∷ [])))
+    ≡ Some (UnknownBin (codes "NEVER"))
 row_bin = refl
 
 -- a STORAGE line with a group that nobody has
 abbrev lost : Input
-lost = input (elem_ca ∷ []) (record { items = Storage ((bare (codes "cellz"), None) ∷ []) ∷ [] } ∷ [])
+lost = input (elem_ca ∷ [])
+    (record { items = Storage ((bare (codes "cellz"), None) ∷ []) ∷ [] } ∷ [])
 
-row_lost : scope_fault lost (what_counts lost) alone as_they_stand ≡ Some (Scope (codes "ElemCA") (NotFound (codes "cellz")))
+row_lost : scope_fault lost (what_counts lost) alone as_they_stand
+    ≡ Some (Scope (codes "ElemCA") (NotFound (codes "cellz")))
 row_lost = refl

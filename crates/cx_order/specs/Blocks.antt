@@ -13,7 +13,8 @@ by_thorn name (Ok x) = Ok x
 by_thorn name (Err e) = Err (Expr name e)
 
 -- What is told is added behind what was there, or is the fault, or memory is wanting.
-abbrev pub AddsOr : Result Counted OrderFault → LentCounted → LentCounted → Result (Unit {0}) OrderFault → Type 0
+abbrev pub AddsOr : Result Counted OrderFault → LentCounted → LentCounted
+    → Result (Unit {0}) OrderFault → Type 0
 AddsOr told old new (Ok u) = joined (Ok (seen old)) told ≡ Ok (seen new)
 AddsOr told old new (Err e) = (e ≡ Memory) ⊎ (told ≡ Err e)
 

@@ -15,13 +15,17 @@ thorn_names values n name index = thorn_finds values n name index
 
 -- what counts of a thorn's file
 abbrev pub counted_in : Values → ℕ → Thorn → ScheduleFile → Result Counted OrderFault
-counted_in values n thorn file = by_thorn thorn.name (counted_of n (thorn_names values n) file.items)
+counted_in values n thorn file =
+    by_thorn thorn.name (counted_of n (thorn_names values n) file.items)
 
--- Of thorns that are numbered from one on, each with its file, by what names mean in a thorn's expressions.
-abbrev pub counted_from : (ℕ → Names) → ℕ → List Thorn → List ScheduleFile → Result Counted OrderFault
+-- Of thorns that are numbered from one on, each with its file, by what names mean in a thorn's
+-- expressions.
+abbrev pub counted_from : (ℕ → Names) → ℕ → List Thorn → List ScheduleFile
+    → Result Counted OrderFault
 counted_from names n [] files = Ok nothing
 counted_from names n (t ∷ ts) [] = Ok nothing
-counted_from names n (t ∷ ts) (f ∷ fs) = joined (by_thorn t.name (counted_of n (names n) f.items)) (counted_from names (n + 1) ts fs)
+counted_from names n (t ∷ ts) (f ∷ fs) =
+    joined (by_thorn t.name (counted_of n (names n) f.items)) (counted_from names (n + 1) ts fs)
 
 -- what is known before the run: the thorns, a schedule file for each, and the values of parameters
 pub record Input : Type 0 where

@@ -16,6 +16,7 @@ use Rattle.cx_scope.specs.Sight.{Sight}
 use Rattle.cx_scope.specs.Resolving.{resolve, ref_text}
 use Rattle.cx_order.specs.declared.meaning.Meaning.{Meaning}
 use Rattle.cx_entries.specs.Counted.{Entry}
+use Rattle.cx_plan.specs.Regions.{same_variable}
 
 -- the thorns, what they see, and the stored levels
 pub record World : Type 0 where
@@ -41,7 +42,8 @@ meant w thorn r = resolve w.thorns w.sight w.storage thorn r
 abbrev pub one_scalar : World → Ref → Result Levels ScopeFault → Result (Option VarId) ScopeFault
 one_scalar w r (Err e) = Err e
 one_scalar w r (Ok []) = Err (NotScalar (ref_text r))
-one_scalar w r (Ok (l ∷ [])) = if is_scalar w l.0 then Ok (Some l.0) else Err (NotScalar (ref_text r))
+one_scalar w r (Ok (l ∷ [])) = if is_scalar w l.0 then Ok (Some l.0)
+    else Err (NotScalar (ref_text r))
 one_scalar w r (Ok (l ∷ m ∷ rest)) = Err (NotScalar (ref_text r))
 
 abbrev pub tested : World → ℕ → Option Ref → Result (Option VarId) ScopeFault
@@ -51,14 +53,13 @@ tested w thorn (Some r) = one_scalar w r (meant w thorn r)
 -- the grid variables that a name of SYNC gives
 abbrev pub all_grid : World → Ref → Result Levels ScopeFault → Result (List VarId) ScopeFault
 all_grid w r (Err e) = Err e
-all_grid w r (Ok ls) = if list_any (λ l. is_scalar w l.0) ls then Err (NotGrid (ref_text r)) else Ok (map (λ l. l.0) ls)
+all_grid w r (Ok ls) = if list_any (λ l. is_scalar w l.0) ls then Err (NotGrid (ref_text r))
+    else Ok (map (λ l. l.0) ls)
 
-abbrev pub all_joined : {X : Type 0} → Result (List (List X)) ScopeFault → Result (List X) ScopeFault
+abbrev pub all_joined : {X : Type 0} → Result (List (List X)) ScopeFault
+    → Result (List X) ScopeFault
 all_joined (Ok xss) = Ok (flat_map (λ xs. xs) xss)
 all_joined (Err e) = Err e
-
-abbrev pub same_variable : VarId → VarId → Bool
-same_variable a b = a.0 == b.0
 
 abbrev pub once_each : Result (List VarId) ScopeFault → Result (List VarId) ScopeFault
 once_each (Ok vs) = Ok (once same_variable vs)
@@ -66,7 +67,8 @@ once_each (Err e) = Err e
 
 -- a variable that the names give more than once stands once, at its first place
 abbrev pub synced : World → ℕ → List Ref → Result (List VarId) ScopeFault
-synced w thorn refs = once_each (all_joined (all_ok (map (λ r. all_grid w r (meant w thorn r)) refs)))
+synced w thorn refs = once_each
+    (all_joined (all_ok (map (λ r. all_grid w r (meant w thorn r)) refs)))
 
 -- reads or writes: each level that a name gives, in its region
 abbrev pub touch : Region → VarId × ℕ → Touch
@@ -82,7 +84,8 @@ touches w thorn refs = all_joined (all_ok (map (λ r. touches_of r.1 (meant w th
 abbrev pub no_meaning : Meaning
 no_meaning = record { test = None; turn = None; sync = []; reads = []; writes = [] }
 
-abbrev pub and_then : {X Y : Type 0} → Result X ScopeFault → (X → Result Y ScopeFault) → Result Y ScopeFault
+abbrev pub and_then : {X Y : Type 0} → Result X ScopeFault → (X → Result Y ScopeFault)
+    → Result Y ScopeFault
 and_then (Ok x) f = f x
 and_then (Err e) f = Err e
 
@@ -98,7 +101,8 @@ meaning w e =
     (λ turn. and_then (synced w e.thorn e.block.sync)
     (λ sync. and_then (touches w e.thorn (unless_group e.block e.block.reads))
     (λ reads. and_then (touches w e.thorn (unless_group e.block e.block.writes))
-    (λ writes. Ok (record { test = test; turn = turn; sync = sync; reads = reads; writes = writes }))))))
+    (λ writes.
+    Ok (record { test = test; turn = turn; sync = sync; reads = reads; writes = writes }))))))
 
 abbrev pub meaning_or_none : Result Meaning ScopeFault → Meaning
 meaning_or_none (Ok m) = m

@@ -22,7 +22,11 @@ use Rattle.cx_order.specs.Texts.{schedule_text}
 
 -- what the thorns see, and what is stored
 abbrev pub world : Input → Counted → Sight → World
-world input c sight = record { thorns = input.thorns; sight = sight; storage = storage input.thorns sight c.lines }
+world input c sight = record {
+  thorns = input.thorns;
+  sight = sight;
+  storage = storage input.thorns sight c.lines;
+}
 
 -- the plan by these orders
 abbrev pub planned : Input → Counted → Sight → Orders → Ordered
@@ -36,7 +40,9 @@ planned input c sight orders =
 
 -- first the STORAGE lines, then the entries in the order of the trees
 abbrev pub scope_fault : Input → Counted → Sight → Orders → Option OrderFault
-scope_fault input c sight orders = or_else (storage_fault input.thorns sight c.lines) (entry_fault (world input c sight) (forests c.entries orders))
+scope_fault input c sight orders =
+    or_else (storage_fault input.thorns sight c.lines)
+    (entry_fault (world input c sight) (forests c.entries orders))
 
 -- what counts, without a fault of bins and names
 pub record AreEntries (input : Input) (c : Counted) : Type 0 where
@@ -122,10 +128,12 @@ without_cycle Memory = Memory
 
 -- a plan, and a fault, whatever the files and values are of which this counts
 abbrev pub IsPlanFrom : List Thorn → Counted → Ordered → Type 0
-IsPlanFrom thorns c ordered = (files : List ScheduleFile) (values : Values) → AreEntries (input_of thorns files values) c → IsPlan (input_of thorns files values) ordered
+IsPlanFrom thorns c ordered = (files : List ScheduleFile) (values : Values)
+    → AreEntries (input_of thorns files values) c → IsPlan (input_of thorns files values) ordered
 
 abbrev pub IsFaultFrom : List Thorn → Counted → OrderFault → Type 0
-IsFaultFrom thorns c e = (files : List ScheduleFile) (values : Values) → AreEntries (input_of thorns files values) c → IsFault (input_of thorns files values) e
+IsFaultFrom thorns c e = (files : List ScheduleFile) (values : Values)
+    → AreEntries (input_of thorns files values) c → IsFault (input_of thorns files values) e
 
 abbrev pub OrderAnswers : Input → Result Ordered OrderFault → Type 0
 OrderAnswers input (Ok ordered) = IsPlan input ordered

@@ -64,7 +64,8 @@ ordered es rows (Some k) = filter_map (λ j. slice_get (entries_at es (place es 
 
 -- what an entry contains
 abbrev pub inside_of : ℕ → List Entry → Orders → Entry → List ℕ → Forest
-inside_of n es orders e path = if e.block.group then contents n es orders path (Group e.block.name) else Done
+inside_of n es orders e path = if e.block.group then contents n es orders path (Group e.block.name)
+    else Done
 
 -- some entries with their contents
 abbrev pub row_with : ℕ → List Entry → Orders → List ℕ → List Entry → Forest
@@ -85,7 +86,8 @@ place_of s n path place = contents_at n (entries_in s) s.placed.now.orders path 
 
 -- entries by their numbers, with their contents
 abbrev pub numbers_of : Source → ℕ → List ℕ → List ℕ → Forest
-numbers_of s n path numbers = row_with n (entries_in s) (orders_in s) path (entries_of (entries_in s) numbers)
+numbers_of s n path numbers =
+    row_with n (entries_in s) (orders_in s) path (entries_of (entries_in s) numbers)
 
 -- an entry with its contents
 abbrev pub member_of : Source → ℕ → List ℕ → Entry → Forest
@@ -97,7 +99,8 @@ contents_of s n path e = inside_of n (entries_in s) (orders_in s) e path
 
 -- a bin's line
 abbrev pub bin_line : ℕ → List ℕ
-bin_line b = codes "bin " ++ bin_name b ++ (if nat_lt b run_bin_count then [] else codes " not run") ++ line_feed
+bin_line b = codes "bin " ++ bin_name b ++ (if nat_lt b run_bin_count then [] else codes " not run")
+    ++ line_feed
 
 -- an entry's line
 abbrev pub entry_line : World → ℕ → Entry → List ℕ
@@ -112,15 +115,19 @@ abbrev pub calls_of : Entry → Forest → ℕ
 calls_of e inside = if e.block.group then calls inside else 1
 
 -- Trees are made of some entries, and their items and text behind what was there.
-pub record Makes (w : World) (depth : ℕ) (f : Forest) (old new : Made) (made : List Tree) : Type 0 where
+pub record Makes (w : World) (depth : ℕ) (f : Forest) (old new : Made)
+    (made : List Tree) : Type 0 where
   pub of_trees : made ≡ trees w (length old.items) f
   pub of_items : new.items ≡ old.items ++ forest_items w f
   pub of_text : new.text ≡ old.text ++ forest_text w depth f
 
 -- A group's contents or a routine's call are made, without IF and WHILE.
-pub record Works (w : World) (depth : ℕ) (e : Entry) (path : List ℕ) (inside : Forest) (old new : Made) (work : Tree) : Type 0 where
-  pub of_work : work ≡ work_tree e.block.group path (names_of w e).sync (trees w (length old.items) inside) (length old.items)
-  pub of_items : new.items ≡ old.items ++ (if e.block.group then forest_items w inside else item_of w e path ∷ [])
+pub record Works (w : World) (depth : ℕ) (e : Entry) (path : List ℕ) (inside : Forest)
+    (old new : Made) (work : Tree) : Type 0 where
+  pub of_work : work ≡ work_tree e.block.group path (names_of w e).sync
+      (trees w (length old.items) inside) (length old.items)
+  pub of_items : new.items
+      ≡ old.items ++ (if e.block.group then forest_items w inside else item_of w e path ∷ [])
   pub of_text : new.text ≡ old.text ++ forest_text w depth inside
 
 -- a bin's tree, and its items and text behind what was there
@@ -130,7 +137,8 @@ pub record MakesBin (w : World) (b : ℕ) (f : Forest) (old new : Made) (made : 
   pub of_text : new.text ≡ old.text ++ bin_text w b f
 
 -- the trees of all bins, and their items and text behind what was there
-pub record MakesBins (w : World) (fs : List Forest) (old new : Made) (made : List Tree) : Type 0 where
+pub record MakesBins (w : World) (fs : List Forest) (old new : Made)
+    (made : List Tree) : Type 0 where
   pub of_trees : made ≡ bin_trees w (length old.items) fs
   pub of_items : new.items ≡ old.items ++ flat_map (forest_items w) fs
   pub of_text : new.text ≡ old.text ++ schedule_text w fs

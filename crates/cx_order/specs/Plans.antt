@@ -34,12 +34,16 @@ path_of path e = path ++ codes "/" ++ entry_name e
 -- each of some entries, with its contents
 abbrev pub row_of : (Entry → List ℕ → Forest) → List ℕ → List Entry → Forest
 row_of inside path [] = Done
-row_of inside path (e ∷ es) = Then e (path_of path e) (inside e (path_of path e)) (row_of inside path es)
+row_of inside path (e ∷ es) =
+    Then e (path_of path e) (inside e (path_of path e)) (row_of inside path es)
 
--- The entries of a place, nested at most so deep. Without a cycle of groups the number of places is deep enough.
+-- The entries of a place, nested at most so deep. Without a cycle of groups the number of places is
+-- deep enough.
 abbrev pub contents : ℕ → List Entry → Orders → List ℕ → Place → Forest
 contents zero es orders path p = Done
-contents (suc n) es orders path p = row_of (λ e inner. if e.block.group then contents n es orders inner (Group e.block.name) else Done) path (in_order es orders p)
+contents (suc n) es orders path p =
+    row_of (λ e inner. if e.block.group then contents n es orders inner (Group e.block.name)
+    else Done) path (in_order es orders p)
 
 abbrev pub bin_forest : List Entry → Orders → ℕ → Forest
 bin_forest es orders b = contents (place_count es) es orders (bin_name b) (Bin b)
@@ -53,7 +57,9 @@ forests es orders = map (bin_forest es orders) (range_with_len 0 bin_count)
 -- the first entry with one: an entry goes before its contents
 abbrev pub forest_fault : World → Forest → Option OrderFault
 forest_fault w Done = None
-forest_fault w (Then e path inside rest) = or_else (option_map (λ f. Scope path f) (error_of (meaning w e))) (or_else (forest_fault w inside) (forest_fault w rest))
+forest_fault w (Then e path inside rest) =
+    or_else (option_map (λ f. Scope path f) (error_of (meaning w e)))
+    (or_else (forest_fault w inside) (forest_fault w rest))
 
 abbrev pub entry_fault : World → List Forest → Option OrderFault
 entry_fault w fs = first_of_each (forest_fault w) fs
@@ -77,7 +83,8 @@ item_of w e path =
 -- the routines that are called, in the order of the trees, once for each place
 abbrev pub forest_items : World → Forest → List Item
 forest_items w Done = []
-forest_items w (Then e path inside rest) = (if e.block.group then forest_items w inside else item_of w e path ∷ []) ++ forest_items w rest
+forest_items w (Then e path inside rest) =
+    (if e.block.group then forest_items w inside else item_of w e path ∷ []) ++ forest_items w rest
 
 abbrev pub calls : Forest → ℕ
 calls Done = 0
@@ -99,7 +106,8 @@ group_tree path vars contents = Seq (contents ++ sync_tree path vars)
 
 -- a group with these contents, or a call of this number
 abbrev pub work_tree : Bool → List ℕ → List VarId → List Tree → ℕ → Tree
-work_tree group path vars contents k = if group then group_tree path vars contents else call_tree path vars k
+work_tree group path vars contents k = if group then group_tree path vars contents
+    else call_tree path vars k
 
 abbrev pub with_while : List ℕ → Option VarId → Tree → Tree
 with_while path None tree = tree
@@ -117,7 +125,8 @@ wrapped m path work = with_if path m.test (with_while path m.turn work)
 abbrev pub trees : World → ℕ → Forest → List Tree
 trees w k Done = []
 trees w k (Then e path inside rest) =
-    wrapped (names_of w e) path (work_tree e.block.group path (names_of w e).sync (trees w k inside) k)
+    wrapped (names_of w e) path
+    (work_tree e.block.group path (names_of w e).sync (trees w k inside) k)
     ∷ trees w (k + (if e.block.group then calls inside else 1)) rest
 
 abbrev pub bin_trees : World → ℕ → List Forest → List Tree
@@ -128,7 +137,8 @@ bin_trees w k (f ∷ fs) = Seq (trees w k f) ∷ bin_trees w (k + calls f) fs
 
 -- a number that 64 bits do not hold is told as their greatest
 abbrev pub over : List ℕ → ℕ → ℕ → Option OrderFault
-over what number limit = if nat_lt limit number then Some (Limit what (min number (2 ^ 64 - 1))) else None
+over what number limit = if nat_lt limit number then Some (Limit what (min number (2 ^ 64 - 1)))
+    else None
 
 -- a plan has at most so many nodes, and goes at most so deep
 abbrev pub most_nodes : ℕ
@@ -138,7 +148,8 @@ abbrev pub most_depth : ℕ
 most_depth = 32
 
 abbrev pub limit_fault : List Tree → Option OrderFault
-limit_fault ts = or_else (over (codes "depth") (greatest_depth ts) most_depth) (over (codes "nodes") (all_nodes ts) most_nodes)
+limit_fault ts = or_else (over (codes "depth") (greatest_depth ts) most_depth)
+    (over (codes "nodes") (all_nodes ts) most_nodes)
 
 -- first names that stand for nothing, then limits
 abbrev pub plan_fault : World → List Forest → Option OrderFault

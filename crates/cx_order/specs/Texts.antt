@@ -24,7 +24,8 @@ abbrev pub level_name : World → VarId → ℕ → List ℕ
 level_name w v level = level_in (slice_get (variable_infos w.thorns) v.0) level
 
 abbrev pub touch_text : World → Touch → List ℕ
-touch_text w t = codes " " ++ level_name w t.var t.level ++ codes "(" ++ region_text t.region ++ codes ")"
+touch_text w t = codes " " ++ level_name w t.var t.level ++ codes "(" ++ region_text t.region
+    ++ codes ")"
 
 abbrev pub touches_text : List ℕ → World → List Touch → List ℕ
 touches_text word w [] = []
@@ -43,13 +44,16 @@ sync_text w [] = []
 sync_text w (v ∷ vs) = codes " sync" ++ flat_map (λ u. codes " " ++ level_name w u 0) (v ∷ vs)
 
 abbrev pub head_text : World → Entry → List ℕ
-head_text w e = if e.block.group then codes "group " ++ e.block.name else codes "call " ++ full_name (thorn_name w.thorns e.thorn) e.block.name
+head_text w e = if e.block.group then codes "group " ++ e.block.name
+    else codes "call " ++ full_name (thorn_name w.thorns e.thorn) e.block.name
 
 -- by what its names stand for
 abbrev pub text_by : World → Entry → Meaning → List ℕ
 text_by w e m =
-    head_text w e ++ name_text (codes " as ") e.block.alias ++ test_text (codes " if ") w m.test ++ test_text (codes " while ") w m.turn
-    ++ touches_text (codes " reads") w m.reads ++ touches_text (codes " writes") w m.writes ++ sync_text w m.sync
+    head_text w e ++ name_text (codes " as ") e.block.alias ++ test_text (codes " if ") w m.test
+    ++ test_text (codes " while ") w m.turn
+    ++ touches_text (codes " reads") w m.reads ++ touches_text (codes " writes") w m.writes
+    ++ sync_text w m.sync
 
 abbrev pub entry_text : World → Entry → List ℕ
 entry_text w e = text_by w e (names_of w e)
@@ -61,10 +65,13 @@ blanks (suc n) = codes "  " ++ blanks n
 
 abbrev pub forest_text : World → ℕ → Forest → List ℕ
 forest_text w depth Done = []
-forest_text w depth (Then e path inside rest) = blanks depth ++ entry_text w e ++ line_feed ++ forest_text w (suc depth) inside ++ forest_text w depth rest
+forest_text w depth (Then e path inside rest) =
+    blanks depth ++ entry_text w e ++ line_feed ++ forest_text w (suc depth) inside
+    ++ forest_text w depth rest
 
 abbrev pub bin_text : World → ℕ → Forest → List ℕ
-bin_text w b f = codes "bin " ++ bin_name b ++ (if nat_lt b run_bin_count then [] else codes " not run") ++ line_feed ++ forest_text w 1 f
+bin_text w b f = codes "bin " ++ bin_name b
+    ++ (if nat_lt b run_bin_count then [] else codes " not run") ++ line_feed ++ forest_text w 1 f
 
 abbrev pub bins_text : World → ℕ → List Forest → List ℕ
 bins_text w b [] = []

@@ -38,6 +38,7 @@ fn fault_in_bin(alloc: Global, bin: usize, found: &Found<'_>) -> Result<OrderFau
     Ok(OrderFault::Scope(path, copy_scope_fault(alloc, found.fault)?))
 }
 
+/// Tests that the summary of a bin's entries has no fault.
 fn check_bin(alloc: Global, bin: usize, summary: &Summary<'_>) -> Result<(), OrderFault>
     ensures { Tells faults.Memory (option_map (told (bin_name bin)) summary.now.fault) result }
 {
@@ -70,12 +71,14 @@ fn plan_sizes(bins: &[Summary<'_>]) -> Sizes
     sizes
 }
 
+/// The fault of a number above its limit, with what it counts.
 fn limit_fault(alloc: Global, what: &[u8], number: u64) -> Result<OrderFault, Memory>
     ensures { IfOk result (λ fault. fault ≡ faults.Limit what.now number) }
 {
     Ok(OrderFault::Limit(Text::from_slice(alloc, what)?, number))
 }
 
+/// Tests that a count isn't above its limit. A count past 64 bits comes as the greatest number.
 fn check_limit(alloc: Global, what: &[u8], number: u64, limit: u64) -> Result<(), OrderFault>
     requires { limit < 2 ^ 64 - 1 }
     ensures { (count : ℕ) → number ≡ min count (2 ^ 64 - 1)

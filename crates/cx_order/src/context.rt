@@ -33,6 +33,7 @@ impl<'a> Context<'a> {
         self.bound.variables().as_slice().get(variable.0 as usize)
     }
 
+    /// Whether a variable is a scalar: one number, not one at each grid point.
     pub(crate) fn is_scalar(&self, variable: VarId) -> bool
         ensures { result ≡ is_scalar (world_of self.now) variable }
     {

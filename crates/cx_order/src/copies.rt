@@ -7,6 +7,7 @@ use cx_scope::ScopeFault;
 use cx_text::{Memory, Text};
 use std::alloc::Global;
 
+/// A copy of a fault of an expression.
 pub(crate) fn copy_fault(alloc: Global, fault: &ExprFault) -> Result<ExprFault, Memory>
     ensures { IfOk result (λ copy. copy ≡ fault.now) }
 {
@@ -18,6 +19,7 @@ pub(crate) fn copy_fault(alloc: Global, fault: &ExprFault) -> Result<ExprFault, 
     })
 }
 
+/// A copy of a fault of a name.
 pub(crate) fn copy_scope_fault(alloc: Global, fault: &ScopeFault) -> Result<ScopeFault, Memory>
     ensures { IfOk result (λ copy. copy ≡ fault.now) }
 {

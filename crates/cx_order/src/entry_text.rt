@@ -14,6 +14,7 @@ use cx_entries::Entry;
 use cx_plan::{Touch, VarId, level_text, region_text};
 use cx_text::{Memory, Text};
 
+/// Adds the full name of a variable with one `_p` for each past level.
 fn push_level_name(
     text: &mut Text,
     context: &Context<'_>,
@@ -32,6 +33,7 @@ fn push_level_name(
     }
 }
 
+/// Adds a blank and one access: the name of its level, and its region in parentheses.
 fn push_touch(text: &mut Text, context: &Context<'_>, touch: &Touch) -> Result<(), Memory>
     ensures { OnOk result (text.new ≡ text.old ++ touch_text (world_of context.now) touch.now) }
 {
@@ -42,6 +44,7 @@ fn push_touch(text: &mut Text, context: &Context<'_>, touch: &Touch) -> Result<(
     text.push_slice(b")")
 }
 
+/// Adds the accesses in order.
 fn push_each_touch(text: &mut Text, context: &Context<'_>, touches: &[Touch]) -> Result<(), Memory>
     ensures { let w = world_of context.now in
         OnOk result (text.new ≡ text.old ++ flat_map (touch_text w) touches.now) }
@@ -69,6 +72,7 @@ fn push_touches(
     push_each_touch(text, context, touches)
 }
 
+/// Adds a word and the name of a scalar, if the entry has one.
 fn push_name(text: &mut Text, word: &[u8], name: &Option<Text>) -> Result<(), Memory>
     ensures { OnOk result (text.new ≡ text.old ++ name_text word.now name.now) }
 {
@@ -100,6 +104,7 @@ fn push_test(
     }
 }
 
+/// Adds a blank and the full name of a variable.
 fn push_variable(text: &mut Text, context: &Context<'_>, variable: VarId) -> Result<(), Memory>
     ensures { let w = world_of context.now in
         OnOk result (text.new ≡ text.old ++ (codes " " ++ level_name w variable 0)) }
@@ -108,6 +113,7 @@ fn push_variable(text: &mut Text, context: &Context<'_>, variable: VarId) -> Res
     push_level_name(text, context, variable, 0)
 }
 
+/// Adds the full names of variables, with a blank before each.
 fn push_variables(text: &mut Text, context: &Context<'_>, variables: &[VarId]) -> Result<(), Memory>
     ensures { let w = world_of context.now in
         OnOk result (text.new
@@ -119,6 +125,7 @@ fn push_variables(text: &mut Text, context: &Context<'_>, variables: &[VarId]) -
     Ok(())
 }
 
+/// Adds the variables that the entry synchronises; nothing if there are none.
 fn push_sync(text: &mut Text, context: &Context<'_>, variables: &[VarId]) -> Result<(), Memory>
     ensures { OnOk result (text.new ≡ text.old ++ sync_text (world_of context.now) variables.now) }
 {
@@ -129,6 +136,7 @@ fn push_sync(text: &mut Text, context: &Context<'_>, variables: &[VarId]) -> Res
     push_variables(text, context, variables)
 }
 
+/// Adds the name of the thorn of this number.
 fn push_thorn_name(text: &mut Text, context: &Context<'_>, thorn: u32) -> Result<(), Memory>
     ensures { OnOk result (text.new ≡ text.old ++ thorn_name context.now.bound.now thorn) }
 {

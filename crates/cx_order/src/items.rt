@@ -15,6 +15,7 @@ use cx_plan::{Item, ItemKind, Touch};
 use cx_text::{List, Memory, Text};
 use std::alloc::Global;
 
+/// A copy of accesses in their order.
 fn copy_touches(alloc: Global, touches: &List<Touch>) -> Result<List<Touch>, Memory>
     ensures { IfOk result (λ copy. copy ≡ touches.now) }
 {

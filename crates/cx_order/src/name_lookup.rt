@@ -6,9 +6,10 @@ ghost use Rattle.cx_plan.specs.Lists.{once, all_ok};
 ghost use Rattle.cx_scope.specs.Resolving.{ref_text};
 ghost use Rattle.cx_text.specs.Telling.{Answers};
 ghost use Rattle.cx_scope.specs.declared.fault.ScopeFault.TheVariants as faults;
-ghost use Rattle.cx_order.specs.Meanings.{is_scalar, meant, one_scalar, tested, all_grid, all_joined, same_variable, synced, touch, touches, unless_group, meaning, meaning_or_none};
+ghost use Rattle.cx_order.specs.Meanings.{is_scalar, meant, one_scalar, tested, all_grid, all_joined, synced, touch, touches, unless_group, meaning, meaning_or_none};
 ghost use Rattle.cx_entries.specs.Seen.{seen_entry, seen_entries};
 ghost use Rattle.cx_order.specs.Worlds.{world_of, IsOfBound, HasThorn};
+ghost use Rattle.cx_plan.specs.Regions.{same_variable};
 
 use crate::context::Context;
 use crate::meaning::Meaning;
@@ -19,12 +20,14 @@ use cx_scope::{ScopeFault, ref_text};
 use cx_text::{List, Memory, Text};
 use std::alloc::Global;
 
+/// The fault of a test whose name means something other than one scalar.
 fn not_scalar(alloc: Global, name: &Ref) -> Result<ScopeFault, Memory>
     ensures { IfOk result (λ fault. fault ≡ faults.NotScalar (ref_text name.now)) }
 {
     Ok(ScopeFault::NotScalar(ref_text(alloc, name)?))
 }
 
+/// The fault of a scalar that is to be synchronised.
 fn not_grid(alloc: Global, name: &Ref) -> Result<ScopeFault, Memory>
     ensures { IfOk result (λ fault. fault ≡ faults.NotGrid (ref_text name.now)) }
 {
@@ -67,12 +70,14 @@ fn tested(
     }
 }
 
+/// Whether one of the levels is of a scalar.
 fn has_scalar(context: &Context<'_>, levels: &[(VarId, u8)]) -> bool
     ensures { result ≡ list_any (λ l. is_scalar (world_of context.now) l.0) levels.now }
 {
     levels.iter().any(|level| context.is_scalar(level.0))
 }
 
+/// The variables of levels, in their order.
 fn variables_of(alloc: Global, levels: &[(VarId, u8)]) -> Result<List<VarId>, Memory>
     ensures { IfOk result (λ variables. variables ≡ map (λ l. l.0) levels.now) }
 {
@@ -136,6 +141,7 @@ fn all_synced(
     Ok(List::new(variables))
 }
 
+/// Whether a variable is in the list.
 fn has_variable(variables: &[VarId], variable: VarId) -> bool
     ensures { result ≡ list_any (same_variable variable) variables.now }
 {
@@ -170,6 +176,7 @@ fn synced(
     Ok(each_once(alloc, variables.as_slice())?)
 }
 
+/// Adds accesses to these levels in a region, without neighbours.
 fn push_touches(
     touches: &mut Vec<Touch>,
     region: Region,
@@ -251,6 +258,7 @@ pub(crate) fn meaning(
     })
 }
 
+/// Whether a name couldn't be looked up because memory ran out.
 fn is_memory(fault: &ScopeFault) -> bool
     ensures { IsTrue result ↔ (fault.now ≡ faults.Memory) }
 {
@@ -298,6 +306,7 @@ pub(crate) fn meanings(
     Ok(meanings)
 }
 
+/// What the names of an entry mean; nothing at all if one of them has a fault.
 fn meaning_or_none(alloc: Global, told: Result<Meaning, ScopeFault>) -> Meaning
     ensures { result ≡ meaning_or_none told }
 {

@@ -203,6 +203,7 @@ fn plan_place(
     plan_members(source, made, nesting - 1, &members, path, around)
 }
 
+/// The trees of a bin's or group's members, in their order.
 #[cycle(plan)]
 fn plan_members(
     source: &Source<'_>,
@@ -229,6 +230,7 @@ fn plan_members(
     Ok(trees)
 }
 
+/// The tree of one member, and its line in the plan's text.
 #[cycle(plan)]
 fn plan_member(
     source: &Source<'_>,
@@ -317,6 +319,7 @@ fn plan_bin(source: &Source<'_>, made: &mut Made, bin: usize) -> Result<Tree, Me
     Ok(Tree::Seq(List::new(trees)))
 }
 
+/// The trees of all bins, in the order of their numbers, with the items that they call.
 fn plan_bins(source: &Source<'_>, made: &mut Made) -> Result<Vec<Tree>, Memory>
     requires source { IsSource source.now }
     requires few { HasRoom made.old (length (items_of source.now)) }

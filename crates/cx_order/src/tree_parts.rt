@@ -9,6 +9,7 @@ use cx_plan::{Tree, VarId};
 use cx_text::{Boxed, List, Memory, Text};
 use std::alloc::Global;
 
+/// A copy of variables in their order.
 fn copy_variables(alloc: Global, variables: &List<VarId>) -> Result<List<VarId>, Memory>
     ensures { IfOk result (λ copy. copy ≡ variables.now) }
 {
@@ -65,6 +66,7 @@ pub(crate) fn call_tree(
     Ok(Tree::Seq(List::new(parts)))
 }
 
+/// The work in a `WHILE` loop over the scalar; without a scalar the work alone.
 fn with_while(alloc: Global, path: &Text, turn: Option<VarId>, work: Tree) -> Result<Tree, Memory>
     ensures { IfOk result (λ tree. tree ≡ with_while path.now turn work) }
 {
@@ -78,6 +80,7 @@ fn with_while(alloc: Global, path: &Text, turn: Option<VarId>, work: Tree) -> Re
     }
 }
 
+/// The work in an `IF` on the scalar; without a scalar the work alone.
 fn with_if(alloc: Global, path: &Text, test: Option<VarId>, work: Tree) -> Result<Tree, Memory>
     ensures { IfOk result (λ tree. tree ≡ with_if path.now test work) }
 {

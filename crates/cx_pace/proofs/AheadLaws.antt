@@ -1,4 +1,5 @@
--- Which parts stand behind the writer's next checkpoint, and that an event which isn't of such a part can happen.
+-- Which parts stand behind the writer's next checkpoint, and that an event which isn't of such a
+-- part can happen.
 use Rattle.std.proofs.Common.{◌≡◌, ℕ, zero, suc, ◌+◌, ◌-◌, ◌<◌, ◌≤◌, ◌⊎◌, inl, inr, Bool, true, false, length, Option, Some, None, refl, sym, ap, ◌∙◌, arith}
 use Rattle.std.specs.List.{list_any}
 use Rattle.std.proofs.lemmas.Bool.{cases_eq, cases_Bool, both_ways, ltb-true}
@@ -40,14 +41,32 @@ record IsFirst (f : ℕ → Bool) (m n : ℕ) : Type 0 where
 
 first_true : (f : ℕ → Bool) (d m n : ℕ) → m + d ≡ n → f n ≡ true → IsFirst f m n
 first_true f zero m n e h =
-    record { place = n; from = omega (arith, e); upto = omega arith; is = h; none = λ j a b q. omega (arith, e, a, b) }
+    record {
+      place = n;
+      from = omega (arith, e);
+      upto = omega arith;
+      is = h;
+      none = λ j a b q. omega (arith, e, a, b);
+    }
 first_true f (suc d) m n e h = go (f m) refl (first_true f d (suc m) n (omega (arith, e)) h)
   where
     go : (b : Bool) → f m ≡ b → IsFirst f (suc m) n → IsFirst f m n
-    go true q later = record { place = m; from = omega arith; upto = omega (arith, e); is = q; none = λ j a b t. omega (arith, a, b) }
+    go true q later = record {
+      place = m;
+      from = omega arith;
+      upto = omega (arith, e);
+      is = q;
+      none = λ j a b t. omega (arith, a, b);
+    }
     go false q later =
         let from = later.from in
-        record { place = later.place; from = omega (arith, from); upto = later.upto; is = later.is; none = λ j a b t. by j a b t (cases_eq j m) }
+        record {
+          place = later.place;
+          from = omega (arith, from);
+          upto = later.upto;
+          is = later.is;
+          none = λ j a b t. by j a b t (cases_eq j m);
+        }
       where
         by : (j : ℕ) → m ≤ j → j < later.place → f j ≡ true → (j ≡ m) ⊎ (j ≡ m → ⊥) → ⊥
         by j a b t (inl s) = both_ways (f m) q (ap f (sym s) ∙ t)
@@ -79,7 +98,8 @@ save_only (op.Piece v) iteration e = absurd cc
 save_only op.Save iteration e = refl
 save_only op.Halt iteration e = absurd cc
 
-is_some_save : (o : Option Work) → is_save o ≡ true → (x : Work) × (o ≡ Some x) × (same_buffer x.var None ≡ true)
+is_some_save : (o : Option Work) → is_save o ≡ true
+    → (x : Work) × (o ≡ Some x) × (same_buffer x.var None ≡ true)
 is_some_save None e = absurd cc
 is_some_save (Some x) e = (x, refl, e)
 
@@ -100,12 +120,14 @@ none_write e = cc
 none_end : None ≡ Some next.End → ⊥
 none_end e = cc
 
-module _ (tells : Type 0) (r : Run) (run : IsRun r) (oracle : Oracle) (w : State tells) (p : Paces) (st : IsReachedState tells r oracle w) (sh : ShowsPace tells r oracle w p) where
+module _ (tells : Type 0) (r : Run) (run : IsRun r) (oracle : Oracle) (w : State tells) (p : Paces)
+    (st : IsReachedState tells r oracle w) (sh : ShowsPace tells r oracle w p) where
   abbrev saves_at : ℕ → Bool
   saves_at n = is_save (work_there r oracle n)
 
   save_there : (n : ℕ) → saves_at n ≡ true → next_op r (guided r oracle n).control ≡ op.Save
-  save_there n e = save_only (next_op r (guided r oracle n).control) (guided r oracle n).control.iteration e
+  save_there n e = save_only (next_op r (guided r oracle n).control)
+      (guided r oracle n).control.iteration e
 
   there_save : (n : ℕ) → next_op r (guided r oracle n).control ≡ op.Save → saves_at n ≡ true
   there_save n e = ap (λ o. is_save (work_of o (guided r oracle n).control.iteration)) e
@@ -113,19 +135,26 @@ module _ (tells : Type 0) (r : Run) (run : IsRun r) (oracle : Oracle) (w : State
   -- ---- which parts
 
   abbrev SavedBefore : ℕ → Type 0
-  SavedBefore k = HasPlace r oracle (λ (x : Work). same_buffer x.var None) w.wrote (w.wrote + (w.place k - w.wrote))
+  SavedBefore k = HasPlace r oracle (λ (x : Work). same_buffer x.var None) w.wrote
+      (w.wrote + (w.place k - w.wrote))
 
-  saved_is : (k : ℕ) → k < parts_in r → has_saved p k ≡ list_any (λ (x : Work). same_buffer x.var None) (works_from r oracle w.wrote (w.place k - w.wrote))
-  saved_is k l = ap (λ xs. list_any (λ (x : Work). same_buffer x.var None) xs) (taken_is tells r run oracle w p st sh k l)
+  saved_is : (k : ℕ) → k < parts_in r
+      → has_saved p k ≡ list_any (λ (x : Work). same_buffer x.var None)
+      (works_from r oracle w.wrote (w.place k - w.wrote))
+  saved_is k l = ap (λ xs. list_any (λ (x : Work). same_buffer x.var None) xs)
+      (taken_is tells r run oracle w p st sh k l)
 
   pub behind_true : (k : ℕ) → k < parts_in r → has_saved p k ≡ true → IsBehindSave r oracle w k
-  behind_true k l e = go (any_place r oracle (λ (x : Work). same_buffer x.var None) w.wrote (w.place k - w.wrote) (sym (saved_is k l) ∙ e))
+  behind_true k l e =
+      go (any_place r oracle (λ (x : Work). same_buffer x.var None) w.wrote (w.place k - w.wrote)
+      (sym (saved_is k l) ∙ e))
     where
       go : SavedBefore k → IsBehindSave r oracle w k
       go x =
           let from = x.from in
           let upto = x.upto in
-          let f = first_true saves_at (x.place - w.wrote) w.wrote x.place (omega (arith, from)) (ap is_save x.is ∙ x.passes) in
+          let f = first_true saves_at (x.place - w.wrote) w.wrote x.place (omega (arith, from))
+          (ap is_save x.is ∙ x.passes) in
           let before = f.upto in (
             f.place,
             record {
@@ -140,7 +169,8 @@ module _ (tells : Type 0) (r : Run) (run : IsRun r) (oracle : Oracle) (w : State
   true_behind k l h =
       let s = is_some_save (work_there r oracle h.0) (there_save h.0 h.1.save) in
       saved_is k l
-      ∙ place_any r oracle (λ (x : Work). same_buffer x.var None) w.wrote (w.place k - w.wrote) (record {
+      ∙ place_any r oracle (λ (x : Work). same_buffer x.var None) w.wrote (w.place k - w.wrote)
+      (record {
         place = h.0;
         from = h.1.from;
         upto = let a = h.1.from in let b = h.2 in omega (arith, a, b);
@@ -153,20 +183,28 @@ module _ (tells : Type 0) (r : Run) (run : IsRun r) (oracle : Oracle) (w : State
 
   module _ (going : w.over ≡ None) (waits : writer_going p ≡ None) where
     -- no work is left to the writer before the hindmost part
-    none_behind : (m : ℕ) → w.wrote ≤ m → m < w.place p.hind → IsWork (net tells within_lead r oracle) m → ⊥
+    none_behind : (m : ℕ) → w.wrote ≤ m → m < w.place p.hind
+        → IsWork (net tells within_lead r oracle) m → ⊥
     none_behind m a b is =
-        both_ways (all_in p) (still p.over (all_in p) (all_stand p) (over_is tells r run oracle w p st sh going) waits)
-        (in_true tells r run oracle w p st sh m is a (λ k l. let h = hind_least tells r run oracle w p st sh k l in omega (arith, b, h)))
+        both_ways (all_in p) (still p.over (all_in p) (all_stand p)
+        (over_is tells r run oracle w p st sh going) waits)
+        (in_true tells r run oracle w p st sh m is a
+        (λ k l. let h = hind_least tells r run oracle w p st sh k l in omega (arith, b, h)))
 
-    fits : Fits (net tells within_lead r oracle) (script tells r oracle) (Agrees tells r oracle) (GivesAt r oracle) (Books tells r)
+    fits : Fits (net tells within_lead r oracle) (script tells r oracle) (Agrees tells r oracle)
+        (GivesAt r oracle) (Books tells r)
     fits = lead_fits tells r run oracle st.oracle_is.told st.oracle_is.first
 
     some_part : (j : ℕ) × CanMove (net tells within_lead r oracle) w j
-    some_part = go (runs.some_event (net tells within_lead r oracle) (script tells r oracle) (Agrees tells r oracle) (GivesAt r oracle) (Books tells r) fits w st.woven going)
+    some_part =
+        go (runs.some_event (net tells within_lead r oracle) (script tells r oracle)
+        (Agrees tells r oracle) (GivesAt r oracle) (Books tells r) fits w st.woven going)
       where
-        go : (e : Event) × Can (net tells within_lead r oracle) w e → (j : ℕ) × CanMove (net tells within_lead r oracle) w j
+        go : (e : Event) × Can (net tells within_lead r oracle) w e
+            → (j : ℕ) × CanMove (net tells within_lead r oracle) w j
         go (Part j, can) = (j, can)
-        go (Write n, can) = absurd (none_write (sym waits ∙ true_write tells r run oracle w p st sh n can))
+        go (Write n, can) = absurd
+            (none_write (sym waits ∙ true_write tells r run oracle w p st sh n can))
         go (End, can) = absurd (none_end (sym waits ∙ true_end tells r run oracle w p st sh can))
 
     abbrev hind : ℕ
@@ -181,21 +219,33 @@ module _ (tells : Type 0) (r : Run) (run : IsRun r) (oracle : Oracle) (w : State
 
     near : within_lead r oracle w.place (λ j. (w.held j).control) w.wrote hind
     near = λ j m.
-        let b = rounds_rise tells within_lead r oracle (ends tells r run oracle w p st sh) (w.place hind) (w.place j) (hind_least tells r run oracle w p st sh j m) in
-        omega (arith, b, ap round (control_is tells r run oracle w p st sh hind (hind_part tells r run oracle w p st sh)), ap round (control_is tells r run oracle w p st sh j m))
+        let b = rounds_rise tells within_lead r oracle (ends tells r run oracle w p st sh)
+        (w.place hind) (w.place j) (hind_least tells r run oracle w p st sh j m) in
+        omega (
+          arith,
+          b,
+          ap round
+              (control_is tells r run oracle w p st sh hind
+              (hind_part tells r run oracle w p st sh)),
+          ap round (control_is tells r run oracle w p st sh j m),
+        )
 
     pub hind_can : CanMove (net tells within_lead r oracle) w hind
     hind_can = record {
       part = hind_part tells r run oracle w p st sh;
       going = going;
-      left_over = ap (halts r) (control_is tells r run oracle w p st sh hind (hind_part tells r run oracle w p st sh)) ∙ ways.goes_on r oracle (ends tells r run oracle w p st sh) (w.place hind) last;
+      left_over = ap (halts r)
+          (control_is tells r run oracle w p st sh hind (hind_part tells r run oracle w p st sh))
+          ∙ ways.goes_on r oracle (ends tells r run oracle w p st sh) (w.place hind) last;
       before =
           let can = some_part.1 in
           let a = can.before in
           let b = hind_least tells r run oracle w p st sh some_part.0 can.part in
           omega (arith, a, b);
       ready = λ c e some. hind_least tells r run oracle w p st sh (sender c)
-          (ltb-true (sender c) (parts_in r) (and_left _ _ (cond_some (is_there r c) (op_wants r (next_op r (w.held hind).control) c) some).0));
+          (ltb-true (sender c) (parts_in r)
+          (and_left _ _ (cond_some (is_there r c)
+          (op_wants r (next_op r (w.held hind).control) c) some).0));
       near = near;
       room = λ b m e a c q. none_behind m a c (b, q);
     }
@@ -209,10 +259,12 @@ module _ (tells : Type 0) (r : Run) (run : IsRun r) (oracle : Oracle) (w : State
             let h = behind_true hind (hind_part tells r run oracle w p st sh) e in
             absurd (none_behind h.0 h.1.from h.2 (length r.setup.vars, ap (buffer_of r) h.1.save))
 
-  pub some_before : w.over ≡ None → (e : Next) × CanHappen tells r oracle w e × (lies_ahead p (Some e) ≡ false)
+  pub some_before : w.over ≡ None
+      → (e : Next) × CanHappen tells r oracle w e × (lies_ahead p (Some e) ≡ false)
   some_before going = go (writer_going p) refl
     where
-      go : (o : Option Next) → writer_going p ≡ o → (e : Next) × CanHappen tells r oracle w e × (lies_ahead p (Some e) ≡ false)
+      go : (o : Option Next) → writer_going p ≡ o
+          → (e : Next) × CanHappen tells r oracle w e × (lies_ahead p (Some e) ≡ false)
       go (Some next.Write) e = (next.Write, write_true tells r run oracle w p st sh e, refl)
       go (Some next.End) e = (next.End, end_true tells r run oracle w p st sh e, refl)
       go (Some (next.Part k)) e = absurd (no_part p.over (all_in p) (all_stand p) k e)

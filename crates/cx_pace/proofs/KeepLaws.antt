@@ -23,7 +23,8 @@ use Rattle.cx_pace.specs.Shows.{State, ShowsPace, StandsAt, work_there, works_be
 use Rattle.cx_pace.proofs.WorkLaws.{works_from, before_upto}
 use Rattle.cx_pace.proofs.EventLaws.{front_work, none_of, there_work, passed_handed}
 
-pub one_less_at : (ss : List Standing) (k : ℕ) → k < length ss → get_or (map one_less ss) k no_part ≡ one_less (get_or ss k no_part)
+pub one_less_at : (ss : List Standing) (k : ℕ) → k < length ss
+    → get_or (map one_less ss) k no_part ≡ one_less (get_or ss k no_part)
 one_less_at [] k l = absurd (omega (arith, l))
 one_less_at (s ∷ ss) zero l = refl
 one_less_at (s ∷ ss) (suc k) l = one_less_at ss k (omega (arith, l))
@@ -35,36 +36,49 @@ first_of (y ∷ ys) x e = ap (λ z. z ∷ ys) (same y x e)
     same : {A : Type 0} (y x : A) → Some y ≡ Some x → y ≡ x
     same y x e = cc
 
-nothing_from : (r : Run) (oracle : Oracle) (m d : ℕ) → ((i : ℕ) → m ≤ i → i < m + d → work_there r oracle i ≡ None) → works_from r oracle m d ≡ []
+nothing_from : (r : Run) (oracle : Oracle) (m d : ℕ)
+    → ((i : ℕ) → m ≤ i → i < m + d → work_there r oracle i ≡ None) → works_from r oracle m d ≡ []
 nothing_from r oracle m zero h = refl
 nothing_from r oracle m (suc d) h =
-    ap (λ xs. xs ++ option_to_list (work_there r oracle (m + d))) (nothing_from r oracle m d (λ i a b. h i a (omega (arith, b))))
+    ap (λ xs. xs ++ option_to_list (work_there r oracle (m + d)))
+    (nothing_from r oracle m d (λ i a b. h i a (omega (arith, b))))
     ∙ ap option_to_list (h (m + d) (omega arith) (omega arith))
 
-module _ (tells : Type 0) (r : Run) (run : IsRun r) (oracle : Oracle) (w : State tells) (p : Paces) (st : IsReachedState tells r oracle w) (sh : ShowsPace tells r oracle w p) where
-  fits : Fits (net tells within_lead r oracle) (script tells r oracle) (Agrees tells r oracle) (GivesAt r oracle) (Books tells r)
+module _ (tells : Type 0) (r : Run) (run : IsRun r) (oracle : Oracle) (w : State tells) (p : Paces)
+    (st : IsReachedState tells r oracle w) (sh : ShowsPace tells r oracle w p) where
+  fits : Fits (net tells within_lead r oracle) (script tells r oracle) (Agrees tells r oracle)
+      (GivesAt r oracle) (Books tells r)
   fits = lead_fits tells r run oracle st.oracle_is.told st.oracle_is.first
 
-  ends : tells → Ends (net tells within_lead r oracle) (script tells r oracle) (Agrees tells r oracle) (Books tells r)
+  ends : tells → Ends (net tells within_lead r oracle) (script tells r oracle)
+      (Agrees tells r oracle) (Books tells r)
   ends t = told_ends tells r run oracle st.oracle_is.told t within_lead
 
   -- an event behind which the same numbers were foretold
-  same_oracle : (v : State tells) (e : Event) → Can (net tells within_lead r oracle) w e → After (net tells within_lead r oracle) w e v
-      → runs.Foretold (net tells within_lead r oracle) (script tells r oracle) (Agrees tells r oracle) (GivesAt r oracle) (Books tells r) fits w v e
+  same_oracle : (v : State tells) (e : Event) → Can (net tells within_lead r oracle) w e
+      → After (net tells within_lead r oracle) w e v
+      → runs.Foretold (net tells within_lead r oracle) (script tells r oracle)
+      (Agrees tells r oracle) (GivesAt r oracle) (Books tells r) fits w v e
       → IsReachedState tells r oracle v
   same_oracle v e can a f = record {
     oracle_is = st.oracle_is;
-    woven = runs.event_kept (net tells within_lead r oracle) (script tells r oracle) (Agrees tells r oracle) (GivesAt r oracle) (Books tells r) fits w v st.woven e can a f;
-    ended = λ t. runs.event_ended (net tells within_lead r oracle) (script tells r oracle) (Agrees tells r oracle) (GivesAt r oracle) (Books tells r) fits (ends t) w v st.woven (st.ended t) e can a;
+    woven = runs.event_kept (net tells within_lead r oracle) (script tells r oracle)
+        (Agrees tells r oracle) (GivesAt r oracle) (Books tells r) fits w v st.woven e can a f;
+    ended = λ t. runs.event_ended (net tells within_lead r oracle) (script tells r oracle)
+        (Agrees tells r oracle) (GivesAt r oracle) (Books tells r) fits (ends t) w v st.woven
+        (st.ended t) e can a;
   }
 
   -- ---- a part meets an end
 
   pub met_kept : (k : ℕ) (meter : ℕ → ℕ) → CanMove (net tells within_lead r oracle) w k
-      → Moves tells r k (w.held k) (taken_now (net tells within_lead r oracle) w k) (next_op r (w.held k).control) None
-      → IsReachedState tells r oracle (machine.met w k meter) × ShowsPace tells r oracle (machine.met w k meter) (met_by p k)
+      → Moves tells r k (w.held k) (taken_now (net tells within_lead r oracle) w k)
+      (next_op r (w.held k).control) None
+      → IsReachedState tells r oracle (machine.met w k meter)
+      × ShowsPace tells r oracle (machine.met w k meter) (met_by p k)
   met_kept k meter can move = (
-    same_oracle (machine.met w k meter) (Part k) can (inr (meter, move, refl)) (st.woven.agrees k can.part).gives,
+    same_oracle (machine.met w k meter) (Part k) can (inr (meter, move, refl))
+        (st.woven.agrees k can.part).gives,
     record {
       cut = sh.cut;
       ops = sh.ops;
@@ -104,13 +118,20 @@ module _ (tells : Type 0) (r : Run) (run : IsRun r) (oracle : Oracle) (w : State
   }
 
   pub full_kept : (n : ℕ) → IsNext (net tells within_lead r oracle) w n
-      → WritesAt tells r (next_op r (guided r oracle n).control) (guided r oracle n).control.iteration (fronts w) w.book None
-      → IsReachedState tells r oracle (machine.over_at w n) × ShowsPace tells r oracle (machine.over_at w n) (over_now p)
-  full_kept n is full = (same_oracle (machine.over_at w n) (Write n) is (inr (full, refl)) tt, over_shown n)
+      → WritesAt tells r (next_op r (guided r oracle n).control)
+      (guided r oracle n).control.iteration (fronts w) w.book None
+      → IsReachedState tells r oracle (machine.over_at w n)
+      × ShowsPace tells r oracle (machine.over_at w n) (over_now p)
+  full_kept n is full = (
+    same_oracle (machine.over_at w n) (Write n) is (inr (full, refl)) tt,
+    over_shown n,
+  )
 
   pub end_kept : CanEnd (net tells within_lead r oracle) w
-      → IsReachedState tells r oracle (machine.over_at w (end_of (net tells within_lead r oracle) w))
-      × ShowsPace tells r oracle (machine.over_at w (end_of (net tells within_lead r oracle) w)) (over_now p)
+      → IsReachedState tells r oracle
+      (machine.over_at w (end_of (net tells within_lead r oracle) w))
+      × ShowsPace tells r oracle (machine.over_at w (end_of (net tells within_lead r oracle) w))
+      (over_now p)
   end_kept can =
       let n = end_of (net tells within_lead r oracle) w in
       (same_oracle (machine.over_at w n) End can refl tt, over_shown n)
@@ -118,18 +139,27 @@ module _ (tells : Type 0) (r : Run) (run : IsRun r) (oracle : Oracle) (w : State
   -- ---- the writer's work
 
   -- the works before the next one
-  before_next : (n : ℕ) → IsNext (net tells within_lead r oracle) w n → works_before r oracle n ≡ works_before r oracle w.wrote
+  before_next : (n : ℕ) → IsNext (net tells within_lead r oracle) w n
+      → works_before r oracle n ≡ works_before r oracle w.wrote
   before_next n is =
       before_upto r oracle w.wrote n is.after_wrote
-      ∙ ap (λ xs. works_before r oracle w.wrote ++ xs) (nothing_from r oracle w.wrote (n - w.wrote) (λ i a b. none_of tells r run oracle w p st sh n i is a (let h = is.after_wrote in omega (arith, b, h))))
+      ∙ ap (λ xs. works_before r oracle w.wrote ++ xs)
+      (nothing_from r oracle w.wrote (n - w.wrote)
+      (λ i a b. none_of tells r run oracle w p st sh n i is a
+      (let h = is.after_wrote in omega (arith, b, h))))
       ∙ append-nil (works_before r oracle w.wrote)
 
-  behind_next : (n : ℕ) (x : Work) → IsNext (net tells within_lead r oracle) w n → work_there r oracle n ≡ Some x → works_before r oracle (suc n) ≡ works_before r oracle w.wrote ++ x ∷ []
-  behind_next n x is e = ap (λ xs. xs ++ option_to_list (work_there r oracle n)) (before_next n is) ∙ ap (λ o. works_before r oracle w.wrote ++ option_to_list o) e
+  behind_next : (n : ℕ) (x : Work) → IsNext (net tells within_lead r oracle) w n
+      → work_there r oracle n ≡ Some x
+      → works_before r oracle (suc n) ≡ works_before r oracle w.wrote ++ x ∷ []
+  behind_next n x is e = ap (λ xs. xs ++ option_to_list (work_there r oracle n)) (before_next n is)
+      ∙ ap (λ o. works_before r oracle w.wrote ++ option_to_list o) e
 
   pub wrote_kept : (n book : ℕ) → IsNext (net tells within_lead r oracle) w n
-      → WritesAt tells r (next_op r (guided r oracle n).control) (guided r oracle n).control.iteration (fronts w) w.book (Some book)
-      → IsReachedState tells r oracle (machine.wrote_at w n book) × ShowsPace tells r oracle (machine.wrote_at w n book) (wrote_one p)
+      → WritesAt tells r (next_op r (guided r oracle n).control)
+      (guided r oracle n).control.iteration (fronts w) w.book (Some book)
+      → IsReachedState tells r oracle (machine.wrote_at w n book)
+      × ShowsPace tells r oracle (machine.wrote_at w n book) (wrote_one p)
   wrote_kept n book is made =
       let x = there_work tells r run oracle w p st sh n is.work in
       let next = behind_next n x.0 is x.1 in
@@ -141,8 +171,10 @@ module _ (tells : Type 0) (r : Run) (run : IsRun r) (oracle : Oracle) (w : State
           lead = sh.lead;
           count = length-map p.parts one_less ∙ sh.count;
           parts = λ k l.
-              let e : part_of (wrote_one p) k ≡ one_less (part_of p k) = one_less_at p.parts k (omega (arith, l, sh.count)) in
-              subst (StandsAt (w.place k) (w.held k)) (sym e) (record { place = (sh.parts k l).place; count = (sh.parts k l).count });
+              let e : part_of (wrote_one p) k ≡ one_less (part_of p k) =
+              one_less_at p.parts k (omega (arith, l, sh.count)) in
+              subst (StandsAt (w.place k) (w.held k)) (sym e)
+              (record { place = (sh.parts k l).place; count = (sh.parts k l).count });
           over = sh.over;
           stopped = sh.stopped;
           hind_part = sh.hind_part;
@@ -151,12 +183,23 @@ module _ (tells : Type 0) (r : Run) (run : IsRun r) (oracle : Oracle) (w : State
           foremost_part = sh.foremost_part;
           behind = sh.behind;
           works = sh.works ∙ ap (λ xs. works_before r oracle w.wrote ++ xs) now
-              ∙ sym (append_assoc (works_before r oracle w.wrote) (x.0 ∷ []) (drop 1 p.works)) ∙ ap (λ xs. xs ++ drop 1 p.works) (sym next);
+              ∙ sym (append_assoc (works_before r oracle w.wrote) (x.0 ∷ []) (drop 1 p.works))
+              ∙ ap (λ xs. xs ++ drop 1 p.works) (sym next);
           handed = λ k l.
-              let e : part_of (wrote_one p) k ≡ one_less (part_of p k) = one_less_at p.parts k (omega (arith, l, sh.count)) in
-              omega (arith, sh.handed k l, ap (λ (s : Standing). s.handed) e, ap length next, length-append (works_before r oracle w.wrote) (x.0 ∷ []), some_handed k l x.0 x.1);
+              let e : part_of (wrote_one p) k ≡ one_less (part_of p k) =
+              one_less_at p.parts k (omega (arith, l, sh.count)) in
+              omega (
+                arith,
+                sh.handed k l,
+                ap (λ (s : Standing). s.handed) e,
+                ap length next,
+                length-append (works_before r oracle w.wrote) (x.0 ∷ []),
+                some_handed k l x.0 x.1,
+              );
         },
       )
     where
-      some_handed : (k : ℕ) → k < parts_in r → (x : Work) → work_there r oracle n ≡ Some x → 0 < (part_of p k).handed
-      some_handed k l x e = passed_handed tells r run oracle w p st sh n k x l is.after_wrote e (is.all_in k l)
+      some_handed : (k : ℕ) → k < parts_in r → (x : Work) → work_there r oracle n ≡ Some x
+          → 0 < (part_of p k).handed
+      some_handed k l x e = passed_handed tells r run oracle w p st sh n k x l is.after_wrote e
+          (is.all_in k l)

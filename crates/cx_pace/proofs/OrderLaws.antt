@@ -28,7 +28,8 @@ told_less (x ∷ xs) (y ∷ ys) e = go (told_less xs ys) (cases_lt x y)
     go : (is_less xs ys ≡ true → Less xs ys) → (x < y) ⊎ (y ≤ x) → Less (x ∷ xs) (y ∷ ys)
     go more (inl l) = inl l
     go more (inr l) =
-        let both = and_parts (eqb x y) (is_less xs ys) (rest (ltb x y) (eqb x y && is_less xs ys) (le-ltb x y l) e) in
+        let both = and_parts (eqb x y) (is_less xs ys)
+        (rest (ltb x y) (eqb x y && is_less xs ys) (le-ltb x y l) e) in
         inr (same (cases_eq x y) both.0, more both.1)
       where
         same : (x ≡ y) ⊎ (x ≡ y → ⊥) → eqb x y ≡ true → x ≡ y
@@ -50,10 +51,12 @@ less_is false xs ys h = go (is_less xs ys) refl
     go false e = sym e
 
 -- what a slice has at a place
-pub get_some : {A : Type 0} (xs : List A) (k : ℕ) (x : A) → true ≡ ltb k (length xs) → x ≡ get_or xs k x → slice_get xs k ≡ Some x
+pub get_some : {A : Type 0} (xs : List A) (k : ℕ) (x : A) → true ≡ ltb k (length xs)
+    → x ≡ get_or xs k x → slice_get xs k ≡ Some x
 get_some xs k x e f = inside xs k x (ltb-true k (length xs) (sym e)) f
   where
-    inside : {A : Type 0} (xs : List A) (k : ℕ) (x : A) → k < length xs → x ≡ get_or xs k x → slice_get xs k ≡ Some x
+    inside : {A : Type 0} (xs : List A) (k : ℕ) (x : A) → k < length xs → x ≡ get_or xs k x
+        → slice_get xs k ≡ Some x
     inside [] k x l f = absurd (omega (arith, l))
     inside (y ∷ ys) zero x l f = ap Some (sym f)
     inside (y ∷ ys) (suc k) x l f = inside ys k x (omega (arith, l)) f

@@ -26,23 +26,31 @@ module _ (tells : Type 0) (r : Run) (run : IsRun r) (oracle : Oracle) where
   abbrev buffer : ℕ → Option ℕ
   buffer n = buffer_of r (next_op r (guided r oracle n).control)
 
-  one_piece : (k n : ℕ) → length (piece_at tells r oracle k n) ≡ length (option_to_list (work_there r oracle n))
+  one_piece : (k n : ℕ) → length (piece_at tells r oracle k n)
+      ≡ length (option_to_list (work_there r oracle n))
   one_piece k n = go (buffer n) refl
     where
       none : buffer n ≡ None → (o : Option Work) → work_there r oracle n ≡ o → o ≡ None
       none e None f = refl
       none e (Some x) f =
-          absurd (none_some _ (sym e ∙ has_buffer r (next_op r (guided r oracle n).control) (guided r oracle n).control.iteration x f))
+          absurd
+          (none_some _ (sym e ∙ has_buffer r (next_op r (guided r oracle n).control)
+          (guided r oracle n).control.iteration x f))
 
-      go : (o : Option ℕ) → buffer n ≡ o → length (piece_at tells r oracle k n) ≡ length (option_to_list (work_there r oracle n))
+      go : (o : Option ℕ) → buffer n ≡ o
+          → length (piece_at tells r oracle k n) ≡ length (option_to_list (work_there r oracle n))
       go None e =
           ap length (fits_no_piece tells within_lead r oracle ways k n e)
           ∙ sym (ap (λ o. length (option_to_list o)) (none e (work_there r oracle n) refl))
       go (Some b) e =
           fits_piece tells within_lead r oracle ways k n b e
-          ∙ sym (ap (λ o. length (option_to_list o)) (has_work r (next_op r (guided r oracle n).control) (guided r oracle n).control.iteration b (names_at r run (guided r oracle n).control.pc) e).is)
+          ∙ sym (ap (λ o. length (option_to_list o))
+          (has_work r (next_op r (guided r oracle n).control)
+          (guided r oracle n).control.iteration b
+          (names_at r run (guided r oracle n).control.pc) e).is)
 
-  all_pieces : (k n : ℕ) → length (handed (script tells r oracle) k n) ≡ length (works_before r oracle n)
+  all_pieces : (k n : ℕ) → length (handed (script tells r oracle) k n)
+      ≡ length (works_before r oracle n)
   all_pieces k zero = refl
   all_pieces k (suc n) =
       omega (
@@ -53,7 +61,8 @@ module _ (tells : Type 0) (r : Run) (run : IsRun r) (oracle : Oracle) where
         length-append (works_before r oracle n) (option_to_list (work_there r oracle n)),
       )
 
-module _ (tells : Type 0) (r : Run) (run : IsRun r) (oracle : Oracle) (w : State tells) (p : Paces) (st : IsReachedState tells r oracle w) (sh : ShowsPace tells r oracle w p) where
+module _ (tells : Type 0) (r : Run) (run : IsRun r) (oracle : Oracle) (w : State tells) (p : Paces)
+    (st : IsReachedState tells r oracle w) (sh : ShowsPace tells r oracle w p) where
   pub pieces_are : (k : ℕ) → k < parts_in r → length (w.pieces k) ≡ (part_of p k).handed
   pieces_are k l =
       omega (

@@ -34,7 +34,8 @@ use Rattle.cx_pace.proofs.ListedLaws.{are_events}
 use Rattle.cx_pace.proofs.PieceLaws.{pieces_are}
 use Rattle.cx_pace.proofs.OracleLaws.{moved_kept}
 
-module _ (tells : Type 0) (r : Run) (run : IsRun r) (fit : PlacesFit r.setup) (first : IsReached r.setup r.first.control) where
+module _ (tells : Type 0) (r : Run) (run : IsRun r) (fit : PlacesFit r.setup)
+    (first : IsReached r.setup r.first.control) where
   first_part : (k : ℕ) → k < parts_in r → part_of (first_paces r) k ≡ standing_at r.first.control
   first_part k l = get_or-replicate (parts_in r) k (standing_at r.first.control) no_part l
 
@@ -59,19 +60,30 @@ module _ (tells : Type 0) (r : Run) (run : IsRun r) (fit : PlacesFit r.setup) (f
     handed = λ k l. omega (arith, ap (λ (s : Standing). s.handed) (first_part k l));
   }
 
-  module _ (oracle : Oracle) (w : State tells) (p : Paces) (st : IsReachedState tells r oracle w) (sh : ShowsPace tells r oracle w p) where
+  module _ (oracle : Oracle) (w : State tells) (p : Paces) (st : IsReachedState tells r oracle w)
+      (sh : ShowsPace tells r oracle w p) where
     events : TellsEvents tells r oracle w p
     events = record {
       events = are_events tells r run oracle w p st sh;
-      part = λ k l. (can_true tells r run oracle w p st sh k l, true_can tells r run oracle w p st sh k);
-      write = (write_true tells r run oracle w p st sh, λ n. true_write tells r run oracle w p st sh n.0 n.1);
+      part = λ k l. (
+        can_true tells r run oracle w p st sh k l,
+        true_can tells r run oracle w p st sh k,
+      );
+      write = (
+        write_true tells r run oracle w p st sh,
+        λ n. true_write tells r run oracle w p st sh n.0 n.1,
+      );
       end = (end_true tells r run oracle w p st sh, true_end tells r run oracle w p st sh);
       work = front_work tells r run oracle w p st sh;
       pieces = pieces_are tells r run oracle w p st sh;
       op = op_is tells r run oracle w p st sh;
-      reached = λ k l. subst (IsReached r.setup) (sym (place_is tells r run oracle w p st sh k l ∙ way_is r oracle (w.place k)))
+      reached = λ k l. subst (IsReached r.setup)
+          (sym (place_is tells r run oracle w p st sh k l ∙ way_is r oracle (w.place k)))
           (fit.reached (scalars_at r oracle) r.first.control (w.place k) first);
-      behind = λ k l. (behind_true tells r run oracle w p st sh k l, true_behind tells r run oracle w p st sh k l);
+      behind = λ k l. (
+        behind_true tells r run oracle w p st sh k l,
+        true_behind tells r run oracle w p st sh k l,
+      );
       some_before = some_before tells r run oracle w p st sh;
     }
 
@@ -89,11 +101,18 @@ module _ (tells : Type 0) (r : Run) (run : IsRun r) (fit : PlacesFit r.setup) (f
 
 -- ---- of a whole job
 
-module _ (job : Job) (whole : IsWhole job) (shapes : HasShapes (setup_of job)) (interior : HasInterior job.shape) (cut : IsCut (parts_of job.shape job.cut))
-    (flat : (rules : List Rule) → FlatIsRun (setup_of job) rules) (ways : WaysEnd (setup_of job)) (met : (rules : List Rule) → OperationsMet (setup_of job) rules)
+module _ (job : Job) (whole : IsWhole job) (shapes : HasShapes (setup_of job))
+    (interior : HasInterior job.shape) (cut : IsCut (parts_of job.shape job.cut))
+    (flat : (rules : List Rule) → FlatIsRun (setup_of job) rules) (ways : WaysEnd (setup_of job))
+    (met : (rules : List Rule) → OperationsMet (setup_of job) rules)
     (fit : PlacesFit (setup_of job)) (tells : Type 0) (rules : List Rule) where
-  pub job_tells : (b : Beginning) → IsBeginning (setup_of job) b → PaceTells tells (run_of job rules b)
+  pub job_tells : (b : Beginning) → IsBeginning (setup_of job) b
+      → PaceTells tells (run_of job rules b)
   job_tells Afresh begins =
-      all_told tells (run_of job rules Afresh) (job_run job rules Afresh whole shapes interior begins cut (flat rules) ways (met rules)) fit (starts refl)
+      all_told tells (run_of job rules Afresh)
+      (job_run job rules Afresh whole shapes interior begins cut (flat rules) ways (met rules))
+      fit (starts refl)
   job_tells (From c state so_far) begins =
-      all_told tells (run_of job rules (From c state so_far)) (job_run job rules (From c state so_far) whole shapes interior begins cut (flat rules) ways (met rules)) fit (continues c begins.0 refl)
+      all_told tells (run_of job rules (From c state so_far))
+      (job_run job rules (From c state so_far) whole shapes interior begins cut (flat rules)
+      ways (met rules)) fit (continues c begins.0 refl)

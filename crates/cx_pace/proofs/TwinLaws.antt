@@ -21,22 +21,28 @@ opened_is (a ∷ xs) (b ∷ ys) e =
 
 pub place_is : (a b : Control) → same_place a b ≡ true → a ≡ b
 place_is a b e =
-    let both = and_parts (eqb a.pc b.pc && eqb a.iteration b.iteration) (same_opened a.opened b.opened) e in
+    let both = and_parts (eqb a.pc b.pc && eqb a.iteration b.iteration)
+    (same_opened a.opened b.opened) e in
     let one = and_parts (eqb a.pc b.pc) (eqb a.iteration b.iteration) both.0 in
-    ap (λ n. record { pc = n; iteration = a.iteration; opened = a.opened }) (eqb-true a.pc b.pc one.0)
-    ∙ ap (λ n. record { pc = b.pc; iteration = n; opened = a.opened }) (eqb-true a.iteration b.iteration one.1)
-    ∙ ap (λ os. record { pc = b.pc; iteration = b.iteration; opened = os }) (opened_is a.opened b.opened both.1)
+    ap (λ n. record { pc = n; iteration = a.iteration; opened = a.opened })
+    (eqb-true a.pc b.pc one.0)
+    ∙ ap (λ n. record { pc = b.pc; iteration = n; opened = a.opened })
+    (eqb-true a.iteration b.iteration one.1)
+    ∙ ap (λ os. record { pc = b.pc; iteration = b.iteration; opened = os })
+    (opened_is a.opened b.opened both.1)
 
 opened_self : (xs : List Opened) → same_opened xs xs ≡ true
 opened_self [] = refl
 opened_self (a ∷ xs) =
     and_from (eqb a.place a.place && eqb a.turns a.turns) (same_opened xs xs)
-    (and_from (eqb a.place a.place) (eqb a.turns a.turns) (eq-eqb a.place a.place refl) (eq-eqb a.turns a.turns refl)) (opened_self xs)
+    (and_from (eqb a.place a.place) (eqb a.turns a.turns) (eq-eqb a.place a.place refl)
+    (eq-eqb a.turns a.turns refl)) (opened_self xs)
 
 place_self : (a : Control) → same_place a a ≡ true
 place_self a =
     and_from (eqb a.pc a.pc && eqb a.iteration a.iteration) (same_opened a.opened a.opened)
-    (and_from (eqb a.pc a.pc) (eqb a.iteration a.iteration) (eq-eqb a.pc a.pc refl) (eq-eqb a.iteration a.iteration refl)) (opened_self a.opened)
+    (and_from (eqb a.pc a.pc) (eqb a.iteration a.iteration) (eq-eqb a.pc a.pc refl)
+    (eq-eqb a.iteration a.iteration refl)) (opened_self a.opened)
 
 -- what a test of it says
 pub told_place : (t : Bool) (a b : Control) → IsTrue t ↔ (a ≡ b) → t ≡ same_place a b
@@ -64,15 +70,19 @@ same_some x y e = cc
 some_none : (x : ℕ) → None ≡ Some x → ⊥
 some_none x e = cc
 
-pub twin_is : (ss : List Standing) (n k : ℕ) (here : Control) (j : ℕ) → twin_from n k here ss ≡ Some j → IsTwin n k here ss j
+pub twin_is : (ss : List Standing) (n k : ℕ) (here : Control) (j : ℕ)
+    → twin_from n k here ss ≡ Some j → IsTwin n k here ss j
 twin_is [] n k here j e = absurd (some_none j e)
-twin_is (s ∷ ss) n k here j e = go (twin_is ss (suc n) k here j) (cases_Bool (not (eqb n k) && same_place s.place here))
+twin_is (s ∷ ss) n k here j e =
+    go (twin_is ss (suc n) k here j) (cases_Bool (not (eqb n k) && same_place s.place here))
   where
     go : (twin_from (suc n) k here ss ≡ Some j → IsTwin (suc n) k here ss j)
-        → ((not (eqb n k) && same_place s.place here) ≡ true) ⊎ ((not (eqb n k) && same_place s.place here) ≡ false) → IsTwin n k here (s ∷ ss) j
+        → ((not (eqb n k) && same_place s.place here) ≡ true)
+        ⊎ ((not (eqb n k) && same_place s.place here) ≡ false) → IsTwin n k here (s ∷ ss) j
     go more (inl h) =
         let both = and_parts (not (eqb n k)) (same_place s.place here) h in
-        let is : n ≡ j = same_some n j (sym (ap (λ b. cond b (Some n) (twin_from (suc n) k here ss)) h) ∙ e) in
+        let is : n ≡ j = same_some n j
+        (sym (ap (λ b. cond b (Some n) (twin_from (suc n) k here ss)) h) ∙ e) in
         let z : j - n ≡ 0 = omega (arith, is) in
         record {
           from = omega (arith, is);

@@ -13,19 +13,29 @@ module _ (r : Run) (oracle : Oracle) where
   works_from m zero = []
   works_from m (suc d) = works_from m d ++ option_to_list (work_there r oracle (m + d))
 
-  pub before_from : (m d : ℕ) → works_before r oracle (m + d) ≡ works_before r oracle m ++ works_from m d
-  before_from m zero = let e : m + 0 ≡ m = omega arith in ap (works_before r oracle) e ∙ sym (append-nil (works_before r oracle m))
+  pub before_from : (m d : ℕ)
+      → works_before r oracle (m + d) ≡ works_before r oracle m ++ works_from m d
+  before_from m zero = let e : m + 0 ≡ m = omega arith in
+      ap (works_before r oracle) e ∙ sym (append-nil (works_before r oracle m))
   before_from m (suc d) =
       let e : m + suc d ≡ suc (m + d) = omega arith in
       ap (works_before r oracle) e
       ∙ ap (λ xs. xs ++ option_to_list (work_there r oracle (m + d))) (before_from m d)
-      ∙ append_assoc (works_before r oracle m) (works_from m d) (option_to_list (work_there r oracle (m + d)))
+      ∙ append_assoc (works_before r oracle m) (works_from m d)
+      (option_to_list (work_there r oracle (m + d)))
 
-  pub before_upto : (m n : ℕ) → m ≤ n → works_before r oracle n ≡ works_before r oracle m ++ works_from m (n - m)
-  before_upto m n l = let e : n ≡ m + (n - m) = omega arith in ap (works_before r oracle) e ∙ before_from m (n - m)
+  pub before_upto : (m n : ℕ) → m ≤ n
+      → works_before r oracle n ≡ works_before r oracle m ++ works_from m (n - m)
+  before_upto m n l = let e : n ≡ m + (n - m) = omega arith in
+      ap (works_before r oracle) e ∙ before_from m (n - m)
 
-  pub length_upto : (m n : ℕ) → m ≤ n → length (works_before r oracle m) ≤ length (works_before r oracle n)
-  length_upto m n l = omega (arith, ap length (before_upto m n l), length-append (works_before r oracle m) (works_from m (n - m)))
+  pub length_upto : (m n : ℕ) → m ≤ n
+      → length (works_before r oracle m) ≤ length (works_before r oracle n)
+  length_upto m n l = omega (
+    arith,
+    ap length (before_upto m n l),
+    length-append (works_before r oracle m) (works_from m (n - m)),
+  )
 
 -- ---- lists
 
@@ -46,9 +56,11 @@ or_assoc : (a b c : Bool) → (a || (b || c)) ≡ ((a || b) || c)
 or_assoc true b c = refl
 or_assoc false b c = refl
 
-any_append : {A : Type 0} (f : A → Bool) (xs ys : List A) → list_any f (xs ++ ys) ≡ (list_any f xs || list_any f ys)
+any_append : {A : Type 0} (f : A → Bool) (xs ys : List A)
+    → list_any f (xs ++ ys) ≡ (list_any f xs || list_any f ys)
 any_append f [] ys = refl
-any_append f (x ∷ xs) ys = ap (λ c. f x || c) (any_append f xs ys) ∙ or_assoc (f x) (list_any f xs) (list_any f ys)
+any_append f (x ∷ xs) ys =
+    ap (λ c. f x || c) (any_append f xs ys) ∙ or_assoc (f x) (list_any f xs) (list_any f ys)
 
 or_parts : (a b : Bool) → (a || b) ≡ true → (a ≡ true) ⊎ (b ≡ true)
 or_parts true b e = inl refl
@@ -74,7 +86,8 @@ module _ (r : Run) (oracle : Oracle) (f : Work → Bool) where
     pub is : work_there r oracle place ≡ Some work
     pub passes : f work ≡ true
 
-  any_one : (o : Option Work) → list_any f (option_to_list o) ≡ true → (work : Work) × (o ≡ Some work) × (f work ≡ true)
+  any_one : (o : Option Work) → list_any f (option_to_list o) ≡ true
+      → (work : Work) × (o ≡ Some work) × (f work ≡ true)
   any_one None e = absurd cc
   any_one (Some x) e = (x, refl, one (f x) e)
     where
@@ -84,17 +97,40 @@ module _ (r : Run) (oracle : Oracle) (f : Work → Bool) where
 
   pub any_place : (m d : ℕ) → list_any f (works_from r oracle m d) ≡ true → HasPlace m (m + d)
   any_place m zero e = absurd cc
-  any_place m (suc d) e = go (or_parts (list_any f (works_from r oracle m d)) (list_any f (option_to_list (work_there r oracle (m + d)))) (sym (any_append f (works_from r oracle m d) (option_to_list (work_there r oracle (m + d)))) ∙ e)) (any_place m d)
+  any_place m (suc d) e = go
+      (or_parts (list_any f (works_from r oracle m d))
+      (list_any f (option_to_list (work_there r oracle (m + d))))
+      (sym (any_append f (works_from r oracle m d) (option_to_list (work_there r oracle (m + d))))
+      ∙ e)) (any_place m d)
     where
-      go : (list_any f (works_from r oracle m d) ≡ true) ⊎ (list_any f (option_to_list (work_there r oracle (m + d))) ≡ true) → (list_any f (works_from r oracle m d) ≡ true → HasPlace m (m + d)) → HasPlace m (m + suc d)
+      go : (list_any f (works_from r oracle m d) ≡ true)
+          ⊎ (list_any f (option_to_list (work_there r oracle (m + d))) ≡ true)
+          → (list_any f (works_from r oracle m d) ≡ true → HasPlace m (m + d))
+          → HasPlace m (m + suc d)
       go (inl a) more =
           let x = more a in
-          record { place = x.place; from = x.from; upto = let u = x.upto in omega (arith, u); work = x.work; is = x.is; passes = x.passes }
+          record {
+            place = x.place;
+            from = x.from;
+            upto = let u = x.upto in
+                omega (arith, u);
+            work = x.work;
+            is = x.is;
+            passes = x.passes;
+          }
       go (inr a) more =
           let x = any_one (work_there r oracle (m + d)) a in
-          record { place = m + d; from = omega arith; upto = omega arith; work = x.0; is = x.1; passes = x.2 }
+          record {
+            place = m + d;
+            from = omega arith;
+            upto = omega arith;
+            work = x.0;
+            is = x.1;
+            passes = x.2;
+          }
 
-  one_any : (o : Option Work) (work : Work) → o ≡ Some work → f work ≡ true → list_any f (option_to_list o) ≡ true
+  one_any : (o : Option Work) (work : Work) → o ≡ Some work → f work ≡ true
+      → list_any f (option_to_list o) ≡ true
   one_any o work e h = ap (λ x. list_any f (option_to_list x)) e ∙ ap (λ b. b || false) h
 
   pub place_any : (m d : ℕ) → HasPlace m (m + d) → list_any f (works_from r oracle m d) ≡ true
@@ -103,36 +139,65 @@ module _ (r : Run) (oracle : Oracle) (f : Work → Bool) where
       any_append f (works_from r oracle m d) (option_to_list (work_there r oracle (m + d)))
       ∙ go (cases_eq x.place (m + d)) (place_any m d)
     where
-      go : (x.place ≡ m + d) ⊎ (x.place ≡ m + d → ⊥) → (HasPlace m (m + d) → list_any f (works_from r oracle m d) ≡ true) → (list_any f (works_from r oracle m d) || list_any f (option_to_list (work_there r oracle (m + d)))) ≡ true
-      go (inl e) more = or_right (list_any f (works_from r oracle m d)) (list_any f (option_to_list (work_there r oracle (m + d)))) (one_any (work_there r oracle (m + d)) x.work (ap (work_there r oracle) (sym e) ∙ x.is) x.passes)
+      go : (x.place ≡ m + d) ⊎ (x.place ≡ m + d → ⊥)
+          → (HasPlace m (m + d) → list_any f (works_from r oracle m d) ≡ true)
+          → (list_any f (works_from r oracle m d)
+          || list_any f (option_to_list (work_there r oracle (m + d)))) ≡ true
+      go (inl e) more = or_right (list_any f (works_from r oracle m d))
+          (list_any f (option_to_list (work_there r oracle (m + d))))
+          (one_any (work_there r oracle (m + d)) x.work (ap (work_there r oracle) (sym e) ∙ x.is)
+          x.passes)
       go (inr e) more =
-          or_left (list_any f (works_from r oracle m d)) (list_any f (option_to_list (work_there r oracle (m + d))))
-          (more (record { place = x.place; from = x.from; upto = let u = x.upto in omega (arith, u, e); work = x.work; is = x.is; passes = x.passes }))
+          or_left (list_any f (works_from r oracle m d))
+          (list_any f (option_to_list (work_there r oracle (m + d))))
+          (more
+          (record {
+            place = x.place;
+            from = x.from;
+            upto = let u = x.upto in
+                omega (arith, u, e);
+            work = x.work;
+            is = x.is;
+            passes = x.passes;
+          }))
 
 -- ---- the first work of some places
 
 module _ (r : Run) (oracle : Oracle) where
-  pub some_work : (m d i : ℕ) (work : Work) → i < d → work_there r oracle (m + i) ≡ Some work → 0 < length (works_from r oracle m d)
+  pub some_work : (m d i : ℕ) (work : Work) → i < d → work_there r oracle (m + i) ≡ Some work
+      → 0 < length (works_from r oracle m d)
   some_work m zero i work l e = absurd (omega (arith, l))
   some_work m (suc d) i work l e = go (cases_eq i d) (some_work m d i work)
     where
-      added : length (works_from r oracle m d ++ option_to_list (work_there r oracle (m + d))) ≡ length (works_from r oracle m d) + length (option_to_list (work_there r oracle (m + d)))
+      added : length (works_from r oracle m d ++ option_to_list (work_there r oracle (m + d)))
+          ≡ length (works_from r oracle m d) + length (option_to_list (work_there r oracle (m + d)))
       added = length-append (works_from r oracle m d) (option_to_list (work_there r oracle (m + d)))
 
-      go : (i ≡ d) ⊎ (i ≡ d → ⊥) → (i < d → work_there r oracle (m + i) ≡ Some work → 0 < length (works_from r oracle m d)) → 0 < length (works_from r oracle m d ++ option_to_list (work_there r oracle (m + d)))
+      go : (i ≡ d) ⊎ (i ≡ d → ⊥)
+          → (i < d → work_there r oracle (m + i) ≡ Some work → 0 < length (works_from r oracle m d))
+          → 0 < length (works_from r oracle m d ++ option_to_list (work_there r oracle (m + d)))
       go (inl s) more =
-          let one : length (option_to_list (work_there r oracle (m + d))) ≡ 1 = ap (λ j. length (option_to_list (work_there r oracle (m + j)))) (sym s) ∙ ap (λ o. length (option_to_list o)) e in
+          let one : length (option_to_list (work_there r oracle (m + d))) ≡ 1 =
+          ap (λ j. length (option_to_list (work_there r oracle (m + j)))) (sym s)
+          ∙ ap (λ o. length (option_to_list o)) e in
           omega (arith, one, added)
       go (inr s) more = omega (arith, more (omega (arith, l, s)) e, added)
 
-  none_there : (m d : ℕ) → works_from r oracle m d ≡ [] → (n : ℕ) → m ≤ n → n < m + d → work_there r oracle n ≡ None
+  none_there : (m d : ℕ) → works_from r oracle m d ≡ [] → (n : ℕ) → m ≤ n → n < m + d
+      → work_there r oracle n ≡ None
   none_there m d e n a b = go (work_there r oracle n) refl
     where
       go : (o : Option Work) → work_there r oracle n ≡ o → o ≡ None
       go None f = refl
       go (Some work) f =
           let at : m + (n - m) ≡ n = omega (arith, a) in
-          absurd (omega (arith, some_work m d (n - m) work (omega (arith, a, b)) (ap (work_there r oracle) at ∙ f), ap length e))
+          absurd
+          (omega (
+            arith,
+            some_work m d (n - m) work (omega (arith, a, b))
+                (ap (work_there r oracle) at ∙ f),
+            ap length e,
+          ))
 
   -- a place with this work, and none before it
   pub record IsFirst (m n : ℕ) (work : Work) : Type 0 where
@@ -140,7 +205,8 @@ module _ (r : Run) (oracle : Oracle) where
     pub is : work_there r oracle n ≡ Some work
     pub none : (i : ℕ) → m ≤ i → i < n → work_there r oracle i ≡ None
 
-  pub first_there : (m d : ℕ) (work : Work) (works : List Work) → works_from r oracle m d ≡ work ∷ works → (n : ℕ) × (n < m + d) × IsFirst m n work
+  pub first_there : (m d : ℕ) (work : Work) (works : List Work)
+      → works_from r oracle m d ≡ work ∷ works → (n : ℕ) × (n < m + d) × IsFirst m n work
   first_there m zero work works e = absurd cc
   first_there m (suc d) work works e = go (works_from r oracle m d) refl (first_there m d)
     where
@@ -151,19 +217,24 @@ module _ (r : Run) (oracle : Oracle) where
           heads : (x y : Work) (xs ys : List Work) → x ∷ xs ≡ y ∷ ys → x ≡ y
           heads x y xs ys f = cc
 
-      go : (xs : List Work) → works_from r oracle m d ≡ xs → ((w : Work) (ws : List Work) → works_from r oracle m d ≡ w ∷ ws → (n : ℕ) × (n < m + d) × IsFirst m n w) → (n : ℕ) × (n < m + suc d) × IsFirst m n work
+      go : (xs : List Work) → works_from r oracle m d ≡ xs
+          → ((w : Work) (ws : List Work) → works_from r oracle m d ≡ w ∷ ws
+          → (n : ℕ) × (n < m + d) × IsFirst m n w) → (n : ℕ) × (n < m + suc d) × IsFirst m n work
       go [] f more = (
         m + d,
         omega arith,
         record {
           from = omega arith;
-          is = one (work_there r oracle (m + d)) (ap (λ xs. xs ++ option_to_list (work_there r oracle (m + d))) (sym f) ∙ e);
+          is = one (work_there r oracle (m + d))
+              (ap (λ xs. xs ++ option_to_list (work_there r oracle (m + d))) (sym f) ∙ e);
           none = λ i a b. none_there m d f i a b;
         },
       )
       go (x ∷ xs) f more =
-          let h : x ≡ work = heads x work (xs ++ option_to_list (work_there r oracle (m + d))) works (ap (λ ys. ys ++ option_to_list (work_there r oracle (m + d))) (sym f) ∙ e) in
-          let u = more x xs f in (u.0, (let b = u.1 in omega (arith, b)), subst (IsFirst m u.0) h u.2)
+          let h : x ≡ work = heads x work (xs ++ option_to_list (work_there r oracle (m + d))) works
+          (ap (λ ys. ys ++ option_to_list (work_there r oracle (m + d))) (sym f) ∙ e) in
+          let u = more x xs f in
+          (u.0, (let b = u.1 in omega (arith, b)), subst (IsFirst m u.0) h u.2)
         where
           heads : (x y : Work) (xs ys : List Work) → x ∷ xs ≡ y ∷ ys → x ≡ y
           heads x y xs ys f = cc

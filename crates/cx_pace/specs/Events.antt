@@ -42,7 +42,8 @@ waits_for parts (Some j) k = is_before parts j k
 -- what it takes was sent: a face by its partners, the numbers of a reduction by all parts
 abbrev pub is_ready : Paces → ℕ → Op → Bool
 is_ready p k (Take d vars path) =
-    not (waits_for p.parts (partner_at p.cut k d Low) k) && not (waits_for p.parts (partner_at p.cut k d High) k)
+    not (waits_for p.parts (partner_at p.cut k d Low) k)
+    && not (waits_for p.parts (partner_at p.cut k d High) k)
 is_ready p k (Join i) = not (is_before p.parts p.hind k)
 is_ready p k _ = true
 

@@ -1,4 +1,5 @@
--- Which parts can go, as the code keeps it, and for which parts an operation of one of them may change that.
+-- Which parts can go, as the code keeps it, and for which parts an operation of one of them may
+-- change that.
 use Rattle.std.specs.Prelude.{ℕ, ◌≡◌, ◌<◌, ◌≤◌, Bool, false, List, length, map, Option, Some, slice_get, slice_index_or}
 use Rattle.std.specs.List.{range_with_len}
 use Rattle.cx_grid.specs.declared.shapes.Shape.{Shape}
@@ -22,7 +23,8 @@ pub record HasFlags (p : Paces) (f : Flags) : Type 0 where
   pub going_few : f.going ≤ 512
   pub writer : f.writer ≡ writer_going p
 
--- only part k stands elsewhere, and neither the hindmost place nor the least end nor the works are others
+-- only part k stands elsewhere, and neither the hindmost place nor the least end nor the works are
+-- others
 pub record IsAlone (p q : Paces) (k : ℕ) : Type 0 where
   pub cut : q.cut ≡ p.cut
   pub ops : q.ops ≡ p.ops
@@ -33,7 +35,8 @@ pub record IsAlone (p q : Paces) (k : ℕ) : Type 0 where
   pub not_stop : p.stopped ≡ Some k → ⊥
   pub count : length q.parts ≡ length p.parts
   pub others : (j : ℕ) → (j ≡ k → ⊥) → slice_get q.parts j ≡ slice_get p.parts j
-  pub hind : (s : Option Standing) → are_in_order (slice_get q.parts q.hind) s ≡ are_in_order (slice_get p.parts p.hind) s
+  pub hind : (s : Option Standing)
+      → are_in_order (slice_get q.parts q.hind) s ≡ are_in_order (slice_get p.parts p.hind) s
   pub round : iteration_of q q.hind ≡ iteration_of p p.hind
 
 -- a flag is right
@@ -48,4 +51,5 @@ pub record IsKept (p : Paces) (old new : List Bool) : Type 0 where
 -- and those of the parts that exchange faces with a part are right
 pub record IsAround (p : Paces) (k : ℕ) (old new : List Bool) : Type 0 where
   pub keeps : IsKept p old new
-  pub around : (d : ℕ) (side : Side) (j : ℕ) → partner_at p.cut k d side ≡ Some j → j < length old → IsRight p new j
+  pub around : (d : ℕ) (side : Side) (j : ℕ) → partner_at p.cut k d side ≡ Some j → j < length old
+      → IsRight p new j

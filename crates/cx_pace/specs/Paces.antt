@@ -8,9 +8,9 @@ use Rattle.cx_flat.specs.Ways.{key, at_place}
 use Rattle.cx_pace.specs.declared.standing.Standing.{Standing}
 use Rattle.cx_pace.specs.declared.standing.Work.{Work}
 
--- the parts, the operations, how many iterations a part may be ahead of another one, where each part stands, the works that
--- were handed in and aren't done, the part that met the least end, whether the run is over, and a part before which no other
--- stands
+-- the parts, the operations, how many iterations a part may be ahead of another one, where each
+-- part stands, the works that were handed in and aren't done, the part that met the least end,
+-- whether the run is over, and a part before which no other stands
 pub record Paces : Type 0 where
   pub cut : Parts
   pub ops : List Op
@@ -55,7 +55,8 @@ is_before parts j k = are_in_order (slice_get parts j) (slice_get parts k)
 -- of so many parts the first one before which no other stands
 abbrev pub hindmost_of : List Standing → ℕ → ℕ
 hindmost_of parts zero = 0
-hindmost_of parts (suc n) = if is_before parts n (hindmost_of parts n) then n else hindmost_of parts n
+hindmost_of parts (suc n) = if is_before parts n (hindmost_of parts n) then n
+    else hindmost_of parts n
 
 -- ---- parts at one place
 
@@ -71,7 +72,8 @@ same_place a b = (a.pc == b.pc) && (a.iteration == b.iteration) && same_opened a
 -- of the parts from this number on the first one that stands there, but for part k
 abbrev pub twin_from : ℕ → ℕ → Control → List Standing → Option ℕ
 twin_from n k here [] = None
-twin_from n k here (s ∷ ss) = if not (n == k) && same_place s.place here then Some n else twin_from (suc n) k here ss
+twin_from n k here (s ∷ ss) = if not (n == k) && same_place s.place here then Some n
+    else twin_from (suc n) k here ss
 
 -- a part at the hindmost place once part k has left its own, if one is known
 abbrev pub other_hind : Paces → ℕ → Option ℕ

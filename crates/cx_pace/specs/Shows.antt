@@ -1,4 +1,5 @@
--- Where the parts stand in a state of a run in parts, and that this alone tells which events can happen.
+-- Where the parts stand in a state of a run in parts, and that this alone tells which events can
+-- happen.
 use Rattle.std.specs.Prelude.{ℕ, zero, suc, ◌+◌, ◌%◌, ◌^◌, ◌<◌, ◌≤◌, ◌≡◌, ◌↔◌, true, false, List, [], ◌++◌, length, Option, Some, None, is_some, slice_get}
 use Rattle.std.specs.Option.{option_to_list}
 use Rattle.cx_flat.specs.declared.op.Op.TheVariants.{Save}
@@ -27,7 +28,8 @@ State tells = World Held (Message tells) Channel ℕ
 
 -- the work of the operation at a place, and the works of all places before one, in the run's order
 abbrev pub work_there : Run → Oracle → ℕ → Option Work
-work_there r oracle n = work_of (next_op r (guided r oracle n).control) (guided r oracle n).control.iteration
+work_there r oracle n = work_of (next_op r (guided r oracle n).control)
+    (guided r oracle n).control.iteration
 
 abbrev pub works_before : Run → Oracle → ℕ → List Work
 works_before r oracle zero = []
@@ -45,7 +47,8 @@ abbrev pub StopsAt : {tells : Type 0} → Run → State tells → Option ℕ →
 StopsAt r w None = w.stop ≡ r.most
 StopsAt r w (Some j) = (j < parts_in r) × (w.stop ≡ w.place j)
 
-pub record ShowsPace (tells : Type 0) (r : Run) (oracle : Oracle) (w : State tells) (p : Paces) : Type 0 where
+pub record ShowsPace (tells : Type 0) (r : Run) (oracle : Oracle) (w : State tells)
+    (p : Paces) : Type 0 where
   pub cut : p.cut ≡ cut_of r
   pub ops : p.ops ≡ code r.setup
   pub lead : p.lead ≡ r.lead
@@ -56,18 +59,20 @@ pub record ShowsPace (tells : Type 0) (r : Run) (oracle : Oracle) (w : State tel
   -- no part stands before this one
   pub hind_part : p.hind < parts_in r
   pub hind_least : (k : ℕ) → k < parts_in r → w.place p.hind ≤ w.place k
-  -- the foremost part has handed in all works that aren't done, and each part the first ones of them
+  -- the foremost part has handed in all works that aren't done, and each part the first ones of
+  -- them
   pub foremost : ℕ
   pub foremost_part : foremost < parts_in r
   pub behind : (k : ℕ) → k < parts_in r → w.place k ≤ w.place foremost
   pub works : works_before r oracle (w.place foremost) ≡ works_before r oracle w.wrote ++ p.works
   pub handed : (k : ℕ) → k < parts_in r
-      → length (works_before r oracle (w.place k)) ≡ length (works_before r oracle w.wrote) + (part_of p k).handed
+      → length (works_before r oracle (w.place k))
+      ≡ length (works_before r oracle w.wrote) + (part_of p k).handed
 
 -- ---- the writer's next checkpoint
 
--- It is that of the first place, from the writer's place on, at which the parts hand in a checkpoint. That they come to this place isn't
--- said: a part may meet an end before it.
+-- It is that of the first place, from the writer's place on, at which the parts hand in a
+-- checkpoint. That they come to this place isn't said: a part may meet an end before it.
 pub record IsNextSave (r : Run) (oracle : Oracle) (wrote n : ℕ) : Type 0 where
   pub from : wrote ≤ n
   pub save : next_op r (guided r oracle n).control ≡ Save
@@ -86,54 +91,72 @@ CanHappen tells r oracle w Write = (n : ℕ) × IsNext (net tells within_lead r 
 CanHappen tells r oracle w End = CanEnd (net tells within_lead r oracle) w
 
 -- a list has exactly the events that can happen, each once
-pub record AreEvents (tells : Type 0) (r : Run) (oracle : Oracle) (w : State tells) (es : List Next) : Type 0 where
+pub record AreEvents (tells : Type 0) (r : Run) (oracle : Oracle) (w : State tells)
+    (es : List Next) : Type 0 where
   pub each : (k : ℕ) (e : Next) → slice_get es k ≡ Some e → CanHappen tells r oracle w e
   pub all : (e : Next) → CanHappen tells r oracle w e → (k : ℕ) × (slice_get es k ≡ Some e)
   pub once : (i k : ℕ) (e : Next) → slice_get es i ≡ Some e → slice_get es k ≡ Some e → i ≡ k
 
-pub record TellsEvents (tells : Type 0) (r : Run) (oracle : Oracle) (w : State tells) (p : Paces) : Type 0 where
+pub record TellsEvents (tells : Type 0) (r : Run) (oracle : Oracle) (w : State tells)
+    (p : Paces) : Type 0 where
   pub events : AreEvents tells r oracle w (events p)
-  pub part : (k : ℕ) → k < parts_in r → can_go p k ≡ true ↔ CanMove (net tells within_lead r oracle) w k
+  pub part : (k : ℕ) → k < parts_in r
+      → can_go p k ≡ true ↔ CanMove (net tells within_lead r oracle) w k
   pub write : writer_going p ≡ Some Write ↔ ((n : ℕ) × IsNext (net tells within_lead r oracle) w n)
   pub end : writer_going p ≡ Some End ↔ CanEnd (net tells within_lead r oracle) w
   -- the writer's next work is the first one
-  pub work : (n : ℕ) → IsNext (net tells within_lead r oracle) w n → slice_get p.works 0 ≡ work_there r oracle n
+  pub work : (n : ℕ) → IsNext (net tells within_lead r oracle) w n
+      → slice_get p.works 0 ≡ work_there r oracle n
   -- how many pieces of a part the writer hasn't taken
   pub pieces : (k : ℕ) → k < parts_in r → length (w.pieces k) ≡ (part_of p k).handed
   -- the operation of a part, and its place
   pub op : (k : ℕ) → k < parts_in r → op_of p k ≡ next_op r (w.held k).control
   pub reached : (k : ℕ) → k < parts_in r → IsReached r.setup (part_of p k).place
-  -- which parts stand behind the writer's next checkpoint, and that not only operations of such parts can happen
+  -- which parts stand behind the writer's next checkpoint, and that not only operations of such
+  -- parts can happen
   pub behind : (k : ℕ) → k < parts_in r → has_saved p k ≡ true ↔ IsBehindSave r oracle w k
-  pub some_before : w.over ≡ None → (e : Next) × CanHappen tells r oracle w e × (lies_ahead p (Some e) ≡ false)
+  pub some_before : w.over ≡ None
+      → (e : Next) × CanHappen tells r oracle w e × (lies_ahead p (Some e) ≡ false)
 
 -- ---- what each event leaves
 
 -- up to where each part stands the way of all parts is one, by two oracles
 abbrev pub SameWay : {tells : Type 0} → Run → (oracle other : Oracle) → State tells → Type 0
-SameWay r oracle other w = (j m : ℕ) → j < parts_in r → m ≤ w.place j → guided r other m ≡ guided r oracle m
+SameWay r oracle other w = (j m : ℕ) → j < parts_in r → m ≤ w.place j
+    → guided r other m ≡ guided r oracle m
 
--- The state that an event leads to is a reached one, and is shown by what the event leaves. The oracle behind it may differ in what
--- the part is to give next.
-pub record KeepsPace (tells : Type 0) (r : Run) (oracle : Oracle) (w : State tells) (p : Paces) : Type 0 where
+-- The state that an event leads to is a reached one, and is shown by what the event leaves. The
+-- oracle behind it may differ in what the part is to give next.
+pub record KeepsPace (tells : Type 0) (r : Run) (oracle : Oracle) (w : State tells)
+    (p : Paces) : Type 0 where
   pub moved : (k : ℕ) (y : Held) → CanMove (net tells within_lead r oracle) w k
-      → Moves tells r k (w.held k) (taken_now (net tells within_lead r oracle) w k) (next_op r (w.held k).control) (Some y)
-      → (other : Oracle) × IsReachedState tells r other (machine.moved (net tells within_lead r oracle) w k y)
+      → Moves tells r k (w.held k) (taken_now (net tells within_lead r oracle) w k)
+      (next_op r (w.held k).control) (Some y)
+      → (other : Oracle) × IsReachedState tells r other
+      (machine.moved (net tells within_lead r oracle) w k y)
       × ShowsPace tells r other (machine.moved (net tells within_lead r oracle) w k y)
       (moved_on r.setup p k (scalar_of (w.held k).numbers))
       × SameWay r oracle other (machine.moved (net tells within_lead r oracle) w k y)
   pub met : (k : ℕ) (meter : ℕ → ℕ) → CanMove (net tells within_lead r oracle) w k
-      → Moves tells r k (w.held k) (taken_now (net tells within_lead r oracle) w k) (next_op r (w.held k).control) None
-      → IsReachedState tells r oracle (machine.met w k meter) × ShowsPace tells r oracle (machine.met w k meter) (met_by p k)
+      → Moves tells r k (w.held k) (taken_now (net tells within_lead r oracle) w k)
+      (next_op r (w.held k).control) None
+      → IsReachedState tells r oracle (machine.met w k meter)
+      × ShowsPace tells r oracle (machine.met w k meter) (met_by p k)
   pub wrote : (n book : ℕ) → IsNext (net tells within_lead r oracle) w n
-      → WritesAt tells r (next_op r (guided r oracle n).control) (guided r oracle n).control.iteration (fronts w) w.book (Some book)
-      → IsReachedState tells r oracle (machine.wrote_at w n book) × ShowsPace tells r oracle (machine.wrote_at w n book) (wrote_one p)
+      → WritesAt tells r (next_op r (guided r oracle n).control)
+      (guided r oracle n).control.iteration (fronts w) w.book (Some book)
+      → IsReachedState tells r oracle (machine.wrote_at w n book)
+      × ShowsPace tells r oracle (machine.wrote_at w n book) (wrote_one p)
   pub full : (n : ℕ) → IsNext (net tells within_lead r oracle) w n
-      → WritesAt tells r (next_op r (guided r oracle n).control) (guided r oracle n).control.iteration (fronts w) w.book None
-      → IsReachedState tells r oracle (machine.over_at w n) × ShowsPace tells r oracle (machine.over_at w n) (over_now p)
+      → WritesAt tells r (next_op r (guided r oracle n).control)
+      (guided r oracle n).control.iteration (fronts w) w.book None
+      → IsReachedState tells r oracle (machine.over_at w n)
+      × ShowsPace tells r oracle (machine.over_at w n) (over_now p)
   pub ended : CanEnd (net tells within_lead r oracle) w
-      → IsReachedState tells r oracle (machine.over_at w (end_of (net tells within_lead r oracle) w))
-      × ShowsPace tells r oracle (machine.over_at w (end_of (net tells within_lead r oracle) w)) (over_now p)
+      → IsReachedState tells r oracle
+      (machine.over_at w (end_of (net tells within_lead r oracle) w))
+      × ShowsPace tells r oracle (machine.over_at w (end_of (net tells within_lead r oracle) w))
+      (over_now p)
 
 -- ---- the law
 
@@ -141,10 +164,14 @@ pub record KeepsPace (tells : Type 0) (r : Run) (oracle : Oracle) (w : State tel
 abbrev pub first_paces : Run → Paces
 first_paces r = all_at (cut_of r) (code r.setup) r.lead r.first.control
 
--- In each state that is reached, where the parts stand tells which events can happen, and each event that happens is shown.
+-- In each state that is reached, where the parts stand tells which events can happen, and each
+-- event that happens is shown.
 pub record PaceTells (tells : Type 0) (r : Run) : Type 0 where
-  pub begins : ShowsPace tells r (truth r) (begun (net tells within_lead r (truth r))) (first_paces r)
-  pub events : (oracle : Oracle) (w : State tells) (p : Paces) → IsReachedState tells r oracle w → ShowsPace tells r oracle w p
+  pub begins : ShowsPace tells r (truth r) (begun (net tells within_lead r (truth r)))
+      (first_paces r)
+  pub events : (oracle : Oracle) (w : State tells) (p : Paces) → IsReachedState tells r oracle w
+      → ShowsPace tells r oracle w p
       → TellsEvents tells r oracle w p
-  pub keeps : (oracle : Oracle) (w : State tells) (p : Paces) → IsReachedState tells r oracle w → ShowsPace tells r oracle w p
+  pub keeps : (oracle : Oracle) (w : State tells) (p : Paces) → IsReachedState tells r oracle w
+      → ShowsPace tells r oracle w p
       → KeepsPace tells r oracle w p

@@ -41,18 +41,24 @@ handed_after (Some work) known handed = if nat_lt handed known then suc handed e
 
 abbrev pub works_after : Option Work → List Work → ℕ → List Work
 works_after None works handed = works
-works_after (Some work) works handed = if nat_lt handed (length works) then works else works ++ work ∷ []
+works_after (Some work) works handed = if nat_lt handed (length works) then works
+    else works ++ work ∷ []
 
 -- a part behind an operation, by the scalars
 abbrev pub advanced : Setup → Op → (VarId → ℤ) → (handed : ℕ) → Standing → Standing
 advanced setup o scalars handed s =
-    record { place = control_after setup o scalars s.place; count = (s.count + 1) % 2 ^ 64; handed = handed }
+    record {
+      place = control_after setup o scalars s.place;
+      count = (s.count + 1) % 2 ^ 64;
+      handed = handed;
+    }
 
 -- a part's operation is done
 abbrev pub gone_on : Setup → Paces → ℕ → (VarId → ℤ) → Paces
 gone_on setup p k scalars = record p {
   parts = slice_set p.parts k (advanced setup (op_of p k) scalars
-      (handed_after (work_of (op_of p k) (iteration_of p k)) (length p.works) (part_of p k).handed) (part_of p k));
+      (handed_after (work_of (op_of p k) (iteration_of p k)) (length p.works) (part_of p k).handed)
+      (part_of p k));
   works = works_after (work_of (op_of p k) (iteration_of p k)) p.works (part_of p k).handed;
 }
 

@@ -45,8 +45,8 @@ impl Flags {
         self.writer = standings.writer();
     }
 
-    /// The same once part k has done an operation. Where it is told that nothing else has changed, only its flag and those of the parts
-    /// that exchange faces with it are looked at.
+    /// The flags once part k has done an operation. Where nothing else is said to have changed, only its flag
+    /// and those of the parts that exchange faces with it are looked at.
     pub(crate) fn follow(&mut self, standings: &Standings, k: u32, alone: bool)
         requires count { length self.old.parts.items ≡ length standings.now.parts }
         requires part { k < length standings.now.parts }

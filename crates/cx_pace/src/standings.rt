@@ -359,7 +359,7 @@ impl Standings {
         Ok(is_alone(other, known, self.work_count(), stop))
     }
 
-    /// The same, but for the hindmost part.
+    /// A part's operation is done: it goes on, and hands in its piece. The hindmost part isn't searched for.
     fn go_on(&mut self, job: &Job, k: u32, scalar: i64) -> Result<(), Memory>
         requires whole { IsWhole job.now }
         requires ops { self.old.ops ≡ code (setup_of job.now) }
@@ -405,13 +405,13 @@ impl Standings {
 }
 
 /// The first place of a run, or of one that is continued from a checkpoint of an iteration.
-fn first_place(ops: &[Op], from: Option<u64>) -> Place
+fn first_place(alloc: Global, ops: &[Op], from: Option<u64>) -> Place
     ensures { (job : Job) → IsWhole job → ops.now ≡ code (setup_of job)
         → result ≡ first_place (setup_of job) from }
 {
     match from {
-        None => Place::start(),
-        Some(iteration) => Place::at_analysis(ops, iteration),
+        None => Place::start(alloc),
+        Some(iteration) => Place::at_analysis(alloc, ops, iteration),
     }
 }
 
@@ -429,7 +429,7 @@ fn first_parts(
     let mut parts = Vec::new(alloc);
     'parts: for _ in 0..count {
         parts.push(Standing {
-            place: first_place(ops, from),
+            place: first_place(alloc, ops, from),
             count: 0,
             handed: 0,
         })?;

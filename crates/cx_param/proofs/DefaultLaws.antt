@@ -24,7 +24,9 @@ record FirstDigits (n : Option Token) : Type 0 where
 plain_part : Part plain_default Ended Ended
 plain_part =
     weaker_part {F = FirstDigits} (part_choice (lexeme_alone {F = Any} a_quoted tt)
-    (part_choice (lexeme_alone {F = Any} a_name tt) (number_text_part (record { quoted = refl; word = refl; minus = refl; ended = refl }) (λ n h. h.minus)) (λ n h. h.word))
+    (part_choice (lexeme_alone {F = Any} a_name tt)
+    (number_text_part (record { quoted = refl; word = refl; minus = refl; ended = refl })
+    (λ n h. h.minus)) (λ n h. h.word))
     (λ n h. h.quoted))
     (λ n h. h.ended)
 
@@ -32,7 +34,8 @@ abbrev a_printed : Means printed_of
 a_printed = record { tok = a_word (97 ∷ []); x = 97 ∷ []; is = refl }
 
 more_printed_good : (text : List ℕ) → Good (more_printed text) Any
-more_printed_good text = also_good (token_good a_printed) (λ t. nothing_good) (fits_any (λ x next h. nothing_ends tt))
+more_printed_good text =
+    also_good (token_good a_printed) (λ t. nothing_good) (fits_any (λ x next h. nothing_ends tt))
 
 more_printed_full : (text : List ℕ) → Full (more_printed text)
 more_printed_full text = also_is_full _ token_is_full
@@ -55,8 +58,12 @@ default_part Int = plain_part
 default_part Keyword = plain_part
 default_part String = plain_part
 
-pub unused_tail : {H : Option Token → Type 0} (one : Option Token) → H one → ((n : Option Token) → H n → Not is_quoted n) → ((n : Option Token) → H n → Not begins_number n) → ((n : Option Token) → H n → Ended n) → Tail unused_default H
+pub unused_tail : {H : Option Token → Type 0} (one : Option Token) → H one
+    → ((n : Option Token) → H n → Not is_quoted n)
+    → ((n : Option Token) → H n → Not begins_number n) → ((n : Option Token) → H n → Ended n)
+    → Tail unused_default H
 unused_tail one h quoted number ended =
     tail_choice (before_part (lexeme_last {F = Any} a_quoted tt) ended)
-    (tail_option one h (part_end None refl (number_part {F = Not (is_sign 45)} refl (λ n k. k))) ended number)
+    (tail_option one h (part_end None refl (number_part {F = Not (is_sign 45)} refl (λ n k. k)))
+    ended number)
     quoted

@@ -28,22 +28,28 @@ pub nothing_follows : AfterHeading None
 nothing_follows = record { length = refl; quoted = refl; alias = refl; steer = refl; ended = refl }
 
 in_brackets_part : Part in_brackets Any Ended
-in_brackets_part = lexeme_then (sign_is 91 refl) tt (λ u. lexeme_then a_number refl (λ n. lexeme_last (sign_is 93 refl) refl))
+in_brackets_part = lexeme_then (sign_is 91 refl) tt
+    (λ u. lexeme_then a_number refl (λ n. lexeme_last (sign_is 93 refl) refl))
 
 other_name_part : Part other_name Any Ended
 other_name_part = lexeme_then (keyword_is (codes "AS") refl) tt (λ u. lexeme_last a_name refl)
 
 steered_part : Part steered Any Ended
-steered_part = lexeme_then (keyword_is (codes "STEERABLE") refl) tt (λ u. lexeme_then (sign_is 61 refl) refl (λ v. lexeme_alone a_steer refl))
+steered_part = lexeme_then (keyword_is (codes "STEERABLE") refl) tt
+    (λ u. lexeme_then (sign_is 61 refl) refl (λ v. lexeme_alone a_steer refl))
 
 comment_part : Tail comment AfterHeading
-comment_part = tail_option {F = Any} None nothing_follows (lexeme_last a_quoted tt) (λ n h. h.ended) (λ n h. h.quoted)
+comment_part = tail_option {F = Any} None nothing_follows (lexeme_last a_quoted tt) (λ n h. h.ended)
+    (λ n h. h.quoted)
 
 pub heading_part : {F : Option Token → Type 0} → F (Some a_name.tok) → Part heading F AfterHeading
 heading_part f =
     part_then_tail (lexeme_alone a_name f) (λ n h. h.ended) None nothing_follows (λ n.
-    tail_then (tail_option None nothing_follows in_brackets_part (λ n h. h.ended) (λ n h. h.length)) (λ l.
+    tail_then (tail_option None nothing_follows in_brackets_part (λ n h. h.ended) (λ n h. h.length))
+    (λ l.
     tail_then comment_part (λ u.
-    tail_then (tail_option None nothing_follows other_name_part (λ n h. h.ended) (λ n h. h.alias)) (λ a.
-    tail_then (tail_option None nothing_follows steered_part (λ n h. h.ended) (λ n h. h.steer)) (λ s.
+    tail_then (tail_option None nothing_follows other_name_part (λ n h. h.ended) (λ n h. h.alias))
+    (λ a.
+    tail_then (tail_option None nothing_follows steered_part (λ n h. h.ended) (λ n h. h.steer))
+    (λ s.
     tail_end None nothing_follows)))))

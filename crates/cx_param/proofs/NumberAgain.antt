@@ -23,12 +23,14 @@ pub record Skips (more rest : List Token) : Type 0 where
 pub none_skipped : (ts : List Token) → passes is_line_end (head ts) ≡ false → Skips ts ts
 none_skipped ts h = record { us = []; reads = no_skip ts h }
 
-pub one_skipped : (ts : List Token) → passes is_line_end (head ts) ≡ false → Skips (line_end ∷ ts) ts
+pub one_skipped : (ts : List Token) → passes is_line_end (head ts) ≡ false
+    → Skips (line_end ∷ ts) ts
 one_skipped ts h = record { us = tt ∷ []; reads = one_skip ts h }
 
 -- ---- numbers
 
-pub number_again : (low high n : ℕ) (more rest : List Token) → low ≤ n → n ≤ high → n < 2 ^ 64 → Skips more rest → (number_in low high).reads (number n ∷ more) ≡ Ok (n, rest)
+pub number_again : (low high n : ℕ) (more rest : List Token) → low ≤ n → n ≤ high → n < 2 ^ 64
+    → Skips more rest → (number_in low high).reads (number n ∷ more) ≡ Ok (n, rest)
 number_again low high n more rest l h b s =
     let value = decimal_again n b in
     let above : ltb n low ≡ false = le-ltb _ _ l in
@@ -49,12 +51,14 @@ negative_fits (suc k) h = h
 pub signed_plain : (k : ℕ) → signed (pos k) ≡ number k ∷ []
 signed_plain k = let never : ltb k 0 ≡ false = le-ltb _ _ (omega arith) in rw never refl
 
-pub signed_again : (z : ℤ) (more rest : List Token) → IntFits z → Skips more rest → read.number.reads (signed z ++ more) ≡ Ok (z, rest)
+pub signed_again : (z : ℤ) (more rest : List Token) → IntFits z → Skips more rest
+    → read.number.reads (signed z ++ more) ≡ Ok (z, rest)
 signed_again (pos k) more rest f s =
     let value = decimal_again k (omega (arith, f)) in
     let below : ltb (2 ^ 63 - 1) k ≡ false = le-ltb _ _ f in
     let skip = s.reads in
-    ap (λ (ts : List Token). read.number.reads (ts ++ more)) (signed_plain k) ∙ rw (value, below, skip) refl
+    ap (λ (ts : List Token). read.number.reads (ts ++ more)) (signed_plain k)
+    ∙ rw (value, below, skip) refl
 signed_again (negsuc k) more rest f s =
     let value = decimal_again (suc k) (omega (arith, f)) in
     let below : ltb (2 ^ 63) (suc k) ≡ false = le-ltb _ _ f in
@@ -62,7 +66,8 @@ signed_again (negsuc k) more rest f s =
     rw (no_skip (number (suc k) ∷ more) refl, value, below, skip) refl
 
 -- a step of 64 bits, which counts from a low end
-pub step_again : (low : Option ℤ) (n : ℕ) (more rest : List Token) → is_some low ≡ true → 1 ≤ n → n ≤ 2 ^ 64 - 1 → Skips more rest → (read.step low).reads (number n ∷ more) ≡ Ok (n, rest)
+pub step_again : (low : Option ℤ) (n : ℕ) (more rest : List Token) → is_some low ≡ true → 1 ≤ n
+    → n ≤ 2 ^ 64 - 1 → Skips more rest → (read.step low).reads (number n ∷ more) ≡ Ok (n, rest)
 step_again low n more rest o l h s =
     let value = decimal_again n (omega (arith, h)) in
     let above : ltb n 1 ≡ false = le-ltb _ _ l in

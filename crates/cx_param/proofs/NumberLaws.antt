@@ -21,14 +21,19 @@ abbrev some_digits : Means digits_of
 some_digits = record { tok = a_one; x = 49 ∷ []; is = refl }
 
 -- what begins a number may be asked for by any test that a number passes
-pub number_part : {F : Option Token → Type 0} → F (Some a_one) → ((n : Option Token) → F n → Not (is_sign 45) n) → Part number F Ended
-number_part f other = part_choice (lexeme_then {F = Any} (sign_is 45 refl) tt (λ u. lexeme_alone a_negative refl)) (lexeme_alone a_positive f) other
+pub number_part : {F : Option Token → Type 0} → F (Some a_one)
+    → ((n : Option Token) → F n → Not (is_sign 45) n) → Part number F Ended
+number_part f other = part_choice
+    (lexeme_then {F = Any} (sign_is 45 refl) tt (λ u. lexeme_alone a_negative refl))
+    (lexeme_alone a_positive f) other
 
 pub below_zero_part : {F : Option Token → Type 0} → F (Some (a_sign 45)) → Part below_zero F Ended
 below_zero_part f = lexeme_then (sign_is 45 refl) f (λ u. lexeme_last some_digits refl)
 
-pub number_text_part : {F : Option Token → Type 0} → F (Some a_one) → ((n : Option Token) → F n → Not (is_sign 45) n) → Part number_text F Ended
-number_text_part f other = part_choice (below_zero_part {F = Any} tt) (lexeme_alone some_digits f) other
+pub number_text_part : {F : Option Token → Type 0} → F (Some a_one)
+    → ((n : Option Token) → F n → Not (is_sign 45) n) → Part number_text F Ended
+number_text_part f other =
+    part_choice (below_zero_part {F = Any} tt) (lexeme_alone some_digits f) other
 
 pub step_part : (low : Option ℤ) → Part (step low) Any Ended
 step_part low = lexeme_alone a_number tt

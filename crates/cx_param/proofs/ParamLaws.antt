@@ -37,16 +37,24 @@ decl_part : (s : Scope) (full : Bool) → Part (decl s full) FirstDecl AfterDecl
 decl_part s full =
     before_part
     (lexeme_then a_ptype (record { access = refl; uses = refl; ended = refl }) (λ p.
-    part_then {G = AfterHeading} (Some (a_sign 123)) (record { length = refl; quoted = refl; alias = refl; steer = refl; ended = refl }) (heading_part refl) (λ h.
-    part_then None refl (block_part p (record { length = refl; quoted = refl; alias = refl; steer = refl; ended = refl })) (λ rs.
+    part_then {G = AfterHeading} (Some (a_sign 123))
+    (record { length = refl; quoted = refl; alias = refl; steer = refl; ended = refl })
+    (heading_part refl) (λ h.
+    part_then None refl (block_part p
+    (record { length = refl; quoted = refl; alias = refl; steer = refl; ended = refl })) (λ rs.
     part_end None refl (default_part p)))))
     (λ n h. h.heading.ended)
 
 shared_scope_part : (name : List ℕ) (full : Bool) → Part (shared_scope name full) FirstDecl Ended
-shared_scope_part name full = part_choice (lexeme_last {F = Any} (keyword_is (codes "USES") refl) tt) (lexeme_last (keyword_is (codes "EXTENDS") refl) (record { access = refl; uses = refl; ended = refl })) (λ n h. h.uses)
+shared_scope_part name full =
+    part_choice (lexeme_last {F = Any} (keyword_is (codes "USES") refl) tt)
+    (lexeme_last (keyword_is (codes "EXTENDS") refl)
+    (record { access = refl; uses = refl; ended = refl })) (λ n h. h.uses)
 
 shared_block_part : (p : PType) → Part (shared_block p) Any AfterDecl
-shared_block_part p = part_then_tail (block_part p tt) (λ n h. h.heading.ended) None at_end (λ rs. tail_then (unused_tail None at_end (λ n h. h.heading.quoted) (λ n h. h.number) (λ n h. h.heading.ended)) (λ u. tail_end None at_end))
+shared_block_part p = part_then_tail (block_part p tt) (λ n h. h.heading.ended) None at_end
+    (λ rs. tail_then (unused_tail None at_end (λ n h. h.heading.quoted) (λ n h. h.number)
+    (λ n h. h.heading.ended)) (λ u. tail_end None at_end))
 
 shared_ranges_tail : (p : PType) → Tail (shared_ranges p) AfterDecl
 shared_ranges_tail p = tail_option None at_end (shared_block_part p) (λ n h. h) (λ n h. h.brace)
@@ -67,7 +75,8 @@ declared_part Global full = decl_part scopes.Global full
 -- ---- access lines
 
 shares_part : {F : Option Token → Type 0} → F (Some (a_word (codes "SHARES"))) → Part shares F Ended
-shares_part f = lexeme_then (keyword_is (codes "SHARES") refl) f (λ u. lexeme_then (sign_is 58 refl) refl (λ v. lexeme_last a_name refl))
+shares_part f = lexeme_then (keyword_is (codes "SHARES") refl) f
+    (λ u. lexeme_then (sign_is 58 refl) refl (λ v. lexeme_last a_name refl))
 
 -- what begins the last of these lines, and none of the others
 record FirstShares (n : Option Token) : Type 0 where
@@ -77,9 +86,14 @@ record FirstShares (n : Option Token) : Type 0 where
 
 access_part : Part access_line FirstShares Ended
 access_part =
-    part_choice (lexeme_then {F = Any} (keyword_is (codes "PRIVATE") refl) tt (λ u. lexeme_last (sign_is 58 refl) refl))
-    (part_choice (lexeme_then {F = Any} (keyword_is (codes "RESTRICTED") refl) tt (λ u. lexeme_last (sign_is 58 refl) refl))
-    (part_choice (lexeme_then {F = Any} (keyword_is (codes "GLOBAL") refl) tt (λ u. lexeme_last (sign_is 58 refl) refl)) (shares_part (record { is_private = refl; is_restricted = refl; is_global = refl })) (λ n h. h.is_global))
+    part_choice (lexeme_then {F = Any} (keyword_is (codes "PRIVATE") refl) tt
+    (λ u. lexeme_last (sign_is 58 refl) refl))
+    (part_choice (lexeme_then {F = Any} (keyword_is (codes "RESTRICTED") refl) tt
+    (λ u. lexeme_last (sign_is 58 refl) refl))
+    (part_choice (lexeme_then {F = Any} (keyword_is (codes "GLOBAL") refl) tt
+    (λ u. lexeme_last (sign_is 58 refl) refl))
+    (shares_part (record { is_private = refl; is_restricted = refl; is_global = refl }))
+    (λ n h. h.is_global))
     (λ n h. h.is_restricted))
     (λ n h. h.is_private)
 
@@ -92,7 +106,8 @@ declaring_part : (s : Read) → Part (declaring s) FirstDecl AfterDecl
 declaring_part s = part_end None at_end (declared_part s.access _)
 
 entry_part : (s : Read) → Part (entry s) Ended AfterDecl
-entry_part s = weaker_part (part_choice (opening_part s) (declaring_part s) (λ n h. h.access)) (λ n h. h.ended)
+entry_part s = weaker_part (part_choice (opening_part s) (declaring_part s) (λ n h. h.access))
+    (λ n h. h.ended)
 
 pub entry_short : (s : Read) → Short (entry s)
 entry_short s = short_part (entry_part s).good (entry_part s).full
@@ -105,7 +120,9 @@ pub file_ends : AfterEntries None
 file_ends = record { entry = refl; decl = at_end }
 
 file_tail : Tail params AfterEntries
-file_tail = tail_then (line_ends_tail None file_ends (λ n h. h.decl.heading.ended)) (λ u. tail_then (tail_loop None file_ends entry_part (λ n h. h.decl) (λ n h. h.entry)) (λ s. tail_end None file_ends))
+file_tail = tail_then (line_ends_tail None file_ends (λ n h. h.decl.heading.ended))
+    (λ u. tail_then (tail_loop None file_ends entry_part (λ n h. h.decl) (λ n h. h.entry))
+    (λ s. tail_end None file_ends))
 
 pub params_good : Good params AfterEntries
 params_good = file_tail.good

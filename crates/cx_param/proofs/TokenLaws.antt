@@ -24,13 +24,16 @@ pub all_printable : (ts : List Token) → AllByRecursion InLine ts → AllPrinta
 all_printable [] h = tt
 all_printable (t ∷ ts) h = (h.0.printable, all_printable ts h.1)
 
-pub all_end : (ts rest : List Token) → AllByRecursion InLine ts → WellEnded false rest → WellEnded false (ts ++ rest)
+pub all_end : (ts rest : List Token) → AllByRecursion InLine ts → WellEnded false rest
+    → WellEnded false (ts ++ rest)
 all_end [] rest h e = e
-all_end (t ∷ ts) rest h e = let stays = h.0.stays in (rw stays refl, rw stays (all_end ts rest h.1 e))
+all_end (t ∷ ts) rest h e = let stays = h.0.stays in
+    (rw stays refl, rw stays (all_end ts rest h.1 e))
 
 pub all_same : (ts : List Token) → AllByRecursion InLine ts → unlined ts ≡ ts
 all_same [] h = refl
-all_same (t ∷ ts) h = ap (λ (us : List Token). kept t ∷ us) (all_same ts h.1) ∙ ap (λ (u : Token). u ∷ ts) h.0.same
+all_same (t ∷ ts) h = ap (λ (us : List Token). kept t ∷ us) (all_same ts h.1)
+    ∙ ap (λ (u : Token). u ∷ ts) h.0.same
 
 -- ---- where no LineEnd follows another
 
@@ -38,7 +41,8 @@ abbrev pub Calm : Bool → List Token → Type 0
 Calm before [] = Unit {0}
 Calm before (t ∷ ts) = (is_line_end t && before ≡ false) × Calm (is_line_end t) ts
 
-pub calm_end : (ts rest : List Token) (before : Bool) → Calm before ts → ((b : Bool) → WellEnded b rest) → WellEnded before (ts ++ rest)
+pub calm_end : (ts rest : List Token) (before : Bool) → Calm before ts
+    → ((b : Bool) → WellEnded b rest) → WellEnded before (ts ++ rest)
 calm_end [] rest before h e = e before
 calm_end (t ∷ ts) rest before h e = (h.0, calm_end ts rest (is_line_end t) h.1 e)
 
@@ -47,7 +51,8 @@ calm_end (t ∷ ts) rest before h e = (h.0, calm_end ts rest (is_line_end t) h.1
 pub a_name : (n : List ℕ) → Printable Ccl (word n) → InLine (word n)
 a_name n p = record { stays = refl; same = refl; printable = p }
 
-pub a_word : (b : ℕ) (w : List ℕ) → ((f : Bool) → role_of Ccl f b ≡ roles.Word) → list_all (has (classes.Word Ccl)) w ≡ true → InLine (word (b ∷ w))
+pub a_word : (b : ℕ) (w : List ℕ) → ((f : Bool) → role_of Ccl f b ≡ roles.Word)
+    → list_all (has (classes.Word Ccl)) w ≡ true → InLine (word (b ∷ w))
 a_word b w role all = a_name (b ∷ w) (printable_word Ccl b w 0 role all)
 
 pub a_sign : (b : ℕ) → ((f : Bool) → role_of Ccl f b ≡ roles.Sign) → InLine (sign b)

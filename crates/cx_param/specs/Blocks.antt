@@ -13,7 +13,8 @@ use Rattle.cx_param.specs.Numbers.{number, begins_number, step}
 
 -- [ "::" Quoted ]
 abbrev pub description : Rule (Unit {0})
-description = choice (is_sign_pair 58 58) (do u ← sign_pair 58 58; t ← quoted; nothing tt) (nothing tt)
+description = choice (is_sign_pair 58 58) (do u ← sign_pair 58 58; t ← quoted; nothing tt)
+    (nothing tt)
 
 -- ---- ranges of numbers
 
@@ -25,7 +26,8 @@ pub record Open : Type 0 where
 abbrev pub opened : List Range → Span → Open
 opened rs s = record { ranges = rs; span = s }
 
--- a low end that is in the range or not, behind which nothing is read yet: one number, or all of them
+-- a low end that is in the range or not, behind which nothing is read yet: one number, or all of
+-- them
 abbrev pub begun : Option ℤ → Bool → Span
 begun low low_in = record { low = low; low_in = low_in; high = low; high_in = true; step = None }
 
@@ -97,10 +99,11 @@ stepped o = do
 abbrev pub next_span : Open → Rule Open
 next_span o = do
   high ← bound
-  nothing (opened (ended o o.span.high_in) (record { low = None; low_in = true; high = high; high_in = true; step = None }))
+  nothing (opened (ended o o.span.high_in)
+      (record { low = None; low_in = true; high = high; high_in = true; step = None }))
 
--- Behind a further colon the next token decides: a number is the step, if there is none yet. Else the colon begins a
--- range of its own, as in 0:5:-3.
+-- Behind a further colon the next token decides: a number is the step, if there is none yet. Else
+-- the colon begins a range of its own, as in 0:5:-3.
 abbrev pub further : Open → Rule Open
 further o = do
   u ← sign 58
@@ -139,9 +142,11 @@ from_close rs = do
   high_in ← close_bracket
   nothing (ended (opened rs (begun None true)) high_in)
 
--- ints = [ "(" | "[" ] [ end ] [ ":" [ end ] [ ":" Number ] ] [ ")" | "]" ], by its first token, so that it isn't empty
+-- ints = [ "(" | "[" ] [ end ] [ ":" [ end ] [ ":" Number ] ] [ ")" | "]" ], by its first token, so
+-- that it isn't empty
 abbrev pub ints : List Range → Rule (List Range)
-ints rs = choice is_bracket (bracketed rs) (choice is_colon (from_colon rs) (choice is_close (from_close rs) (from_low rs)))
+ints rs = choice is_bracket (bracketed rs)
+    (choice is_colon (from_colon rs) (choice is_close (from_close rs) (from_low rs)))
 
 abbrev pub is_ints : Token → Bool
 is_ints t = is_bracket t || is_colon t || is_close t || is_end t
@@ -157,7 +162,8 @@ number_range rs = do
 
 -- in a STRING block "" and ".*" stand for every text, and ".+" for every one but the empty one
 abbrev pub string_range : List ℕ → Range
-string_range t = cond (bytes_eq t [] || bytes_eq t (codes ".*")) AnyText (cond (bytes_eq t (codes ".+")) SomeText (Word t))
+string_range t = cond (bytes_eq t [] || bytes_eq t (codes ".*")) AnyText
+    (cond (bytes_eq t (codes ".+")) SomeText (Word t))
 
 abbrev pub text_range : PType → List ℕ → Range
 text_range String t = string_range t

@@ -43,4 +43,5 @@ default_of String = plain_default
 
 -- [ Quoted | number ], without effect
 abbrev pub unused_default : Rule (Unit {0})
-unused_default = choice is_quoted (quoted >>= λ t. nothing tt) (choice begins_number (number >>= λ n. nothing tt) (nothing tt))
+unused_default = choice is_quoted (quoted >>= λ t. nothing tt)
+    (choice begins_number (number >>= λ n. nothing tt) (nothing tt))

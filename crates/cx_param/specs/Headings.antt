@@ -14,7 +14,8 @@ use Rattle.cx_param.specs.declared.headings.Heading.{Heading}
 
 -- ptype = BOOLEAN | BOOL | INT | KEYWORD | STRING | REAL, with or without CCTK_
 abbrev pub is_boolean : Token → Bool
-is_boolean t = is_named (codes "BOOLEAN") t || is_named (codes "BOOL") t || is_named (codes "CCTK_BOOLEAN") t || is_named (codes "CCTK_BOOL") t
+is_boolean t = is_named (codes "BOOLEAN") t || is_named (codes "BOOL") t
+    || is_named (codes "CCTK_BOOLEAN") t || is_named (codes "CCTK_BOOL") t
 
 abbrev pub is_int : Token → Bool
 is_int t = is_named (codes "INT") t || is_named (codes "CCTK_INT") t
@@ -29,7 +30,10 @@ abbrev pub is_real : Token → Bool
 is_real t = is_named (codes "REAL") t || is_named (codes "CCTK_REAL") t
 
 abbrev pub ptype_of : Token → Option PType
-ptype_of t = cond (is_boolean t) (Some Boolean) (cond (is_int t) (Some Int) (cond (is_keyword t) (Some Keyword) (cond (is_string t) (Some String) (cond (is_real t) (Some Real) None))))
+ptype_of t = cond (is_boolean t) (Some Boolean)
+    (cond (is_int t) (Some Int)
+    (cond (is_keyword t) (Some Keyword)
+    (cond (is_string t) (Some String) (cond (is_real t) (Some Real) None))))
 
 abbrev pub is_ptype : Token → Bool
 is_ptype t = is_boolean t || is_int t || is_keyword t || is_string t || is_real t
@@ -42,7 +46,9 @@ abbrev pub ptype : Rule PType
 ptype = counted_ptype false
 
 abbrev pub steer_of : Token → Option Steer
-steer_of t = cond (is_named (codes "NEVER") t) (Some Never) (cond (is_named (codes "ALWAYS") t) (Some Always) (cond (is_named (codes "RECOVER") t) (Some Recover) None))
+steer_of t = cond (is_named (codes "NEVER") t) (Some Never)
+    (cond (is_named (codes "ALWAYS") t) (Some Always)
+    (cond (is_named (codes "RECOVER") t) (Some Recover) None))
 
 -- ---- the head of a declaration
 

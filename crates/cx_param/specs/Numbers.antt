@@ -30,7 +30,8 @@ begins_number t = is_sign 45 t || is_number t
 
 -- number = [ "-" ] Number, of 64 signed bits
 abbrev pub number : Rule ℤ
-number = choice (is_sign 45) (sign 45 >>= λ u. lexeme negative_of (too_high lowest)) (lexeme positive_of (too_high highest))
+number = choice (is_sign 45) (sign 45 >>= λ u. lexeme negative_of (too_high lowest))
+    (lexeme positive_of (too_high highest))
 
 -- a number as it is written
 abbrev pub below_zero : Rule (List ℕ)

@@ -17,18 +17,31 @@ use Rattle.cx_param.specs.Defaults.{default_of, unused_default}
 
 -- ---- declarations
 
--- decl = ptype Word [ "[" Number "]" ] [ Quoted ] [ AS Word ] [ STEERABLE "=" Word ] "{" { range } "}" default
+-- decl = ptype Word [ "[" Number "]" ] [ Quoted ] [ AS Word ] [ STEERABLE "=" Word ] "{" { range }
+-- "}" default
 abbrev pub decl : Scope → Bool → Rule ParamDecl
 decl s full = do
   p ← counted_ptype full
   h ← heading
   rs ← block p
   d ← default_of p
-  nothing (record { scope = s; ptype = p; name = h.name; length = h.length; alias = h.alias; steer = h.steer; ranges = rs; default = Some d })
+  nothing
+      (record {
+        scope = s;
+        ptype = p;
+        name = h.name;
+        length = h.length;
+        alias = h.alias;
+        steer = h.steer;
+        ranges = rs;
+        default = Some d;
+      })
 
 -- USES | EXTENDS
 abbrev pub shared_scope : List ℕ → Bool → Rule Scope
-shared_scope n full = choice (is_named (codes "USES")) (counted_keyword (codes "USES") full >>= λ u. nothing (scopes.Uses n)) (counted_keyword (codes "EXTENDS") full >>= λ u. nothing (scopes.Extends n))
+shared_scope n full = choice (is_named (codes "USES"))
+    (counted_keyword (codes "USES") full >>= λ u. nothing (scopes.Uses n))
+    (counted_keyword (codes "EXTENDS") full >>= λ u. nothing (scopes.Extends n))
 
 -- "{" { range } "}" [ Quoted | number ]
 abbrev pub shared_block : PType → Rule (List Range)
@@ -40,15 +53,25 @@ shared_block p = do
 abbrev pub shared_ranges : PType → Rule (List Range)
 shared_ranges p = choice (is_sign 123) (shared_block p) (nothing [])
 
--- shared = (USES | EXTENDS) ptype Word [ "[" Number "]" ] [ Quoted ] [ AS Word ] [ STEERABLE "=" Word ]
---          [ "{" { range } "}" [ Quoted | number ] ]
+-- shared = (USES | EXTENDS) ptype Word [ "[" Number "]" ] [ Quoted ] [ AS Word ] [ STEERABLE "="
+-- Word ]          [ "{" { range } "}" [ Quoted | number ] ]
 abbrev pub shared : List ℕ → Bool → Rule ParamDecl
 shared n full = do
   s ← shared_scope n full
   p ← ptype
   h ← heading
   rs ← shared_ranges p
-  nothing (record { scope = s; ptype = p; name = h.name; length = h.length; alias = h.alias; steer = h.steer; ranges = rs; default = None })
+  nothing
+      (record {
+        scope = s;
+        ptype = p;
+        name = h.name;
+        length = h.length;
+        alias = h.alias;
+        steer = h.steer;
+        ranges = rs;
+        default = None;
+      })
 
 -- behind shares a use or an extension, elsewhere a declaration
 abbrev pub declared : Access → Bool → Rule ParamDecl
@@ -60,7 +83,8 @@ declared Global full = decl scopes.Global full
 -- ---- the file
 
 abbrev pub is_access : Token → Bool
-is_access t = is_named (codes "PRIVATE") t || is_named (codes "RESTRICTED") t || is_named (codes "GLOBAL") t || is_named (codes "SHARES") t
+is_access t = is_named (codes "PRIVATE") t || is_named (codes "RESTRICTED") t
+    || is_named (codes "GLOBAL") t || is_named (codes "SHARES") t
 
 -- NAME ":"
 abbrev pub section : List ℕ → Access → Rule Access

@@ -20,7 +20,8 @@ number n = written.number (decimal n)
 -- ---- blocks
 
 abbrev pub signed : ℤ → List Token
-signed n = if int_lt n (pos 0) then (sign 45 ∷ number (unsigned_abs n) ∷ []) else (number (unsigned_abs n) ∷ [])
+signed n = if int_lt n (pos 0) then (sign 45 ∷ number (unsigned_abs n) ∷ [])
+    else (number (unsigned_abs n) ∷ [])
 
 abbrev pub bound : Option ℤ → List Token
 bound None = sign 42 ∷ []
@@ -38,7 +39,8 @@ closing is_in = sign (if is_in then 93 else 41)
 
 -- both ends and their brackets, so that no range reaches into the next
 abbrev pub range : Range → List Token
-range (ranges.Ints low low_in high high_in n) = opening low_in ∷ bound low ++ sign 58 ∷ bound high ++ step n ++ closing high_in ∷ []
+range (ranges.Ints low low_in high high_in n) =
+    opening low_in ∷ bound low ++ sign 58 ∷ bound high ++ step n ++ closing high_in ∷ []
 range (ranges.Word text) = quoted text ∷ []
 range ranges.AnyText = quoted (codes ".*") ∷ []
 range ranges.SomeText = quoted (codes ".+") ∷ []
@@ -82,15 +84,18 @@ abbrev pub steering : Steer → List Token
 steering s = word (codes "STEERABLE") ∷ sign 61 ∷ word (steer_name s) ∷ []
 
 abbrev pub heading : ParamDecl → List Token
-heading d = word (type_name d.ptype) ∷ word d.name ∷ length d.length ++ alias d.alias ++ steering d.steer
+heading d = word (type_name d.ptype) ∷ word d.name ∷ length d.length ++ alias d.alias
+    ++ steering d.steer
 
 -- the line behind which it stands
 abbrev pub access : Scope → List Token
 access scopes.Private = word (codes "private") ∷ sign 58 ∷ line_end ∷ []
 access scopes.Restricted = word (codes "restricted") ∷ sign 58 ∷ line_end ∷ []
 access scopes.Global = word (codes "global") ∷ sign 58 ∷ line_end ∷ []
-access (scopes.Uses name) = word (codes "shares") ∷ sign 58 ∷ word name ∷ line_end ∷ word (codes "USES") ∷ []
-access (scopes.Extends name) = word (codes "shares") ∷ sign 58 ∷ word name ∷ line_end ∷ word (codes "EXTENDS") ∷ []
+access (scopes.Uses name) =
+    word (codes "shares") ∷ sign 58 ∷ word name ∷ line_end ∷ word (codes "USES") ∷ []
+access (scopes.Extends name) =
+    word (codes "shares") ∷ sign 58 ∷ word name ∷ line_end ∷ word (codes "EXTENDS") ∷ []
 
 -- The text of a REAL default stands as it is, in one piece.
 abbrev pub default : PType → List ℕ → Token

@@ -17,12 +17,15 @@ abbrev pub is_below : Option ℤ → Bool → ℤ → Bool
 is_below None is_in n = true
 is_below (Some high) is_in n = int_lt n high || (is_in && int_eq high n)
 
--- A step counts from the low end: the number lies so many steps above it. With no low end there is no step.
+-- A step counts from the low end: the number lies so many steps above it. With no low end there is
+-- no step.
 abbrev pub is_on_step : Option ℤ → ℕ → ℤ → Bool
 is_on_step None step n = true
-is_on_step (Some low) step n = if step == 0 then int_eq n low else unsigned_abs (n -ℤ low) % step == 0
+is_on_step (Some low) step n = if step == 0 then int_eq n low
+    else unsigned_abs (n -ℤ low) % step == 0
 
--- Whether a range holds a value. Texts name one word without regard to case, any text, or any text that is not empty.
+-- Whether a range holds a value. Texts name one word without regard to case, any text, or any text
+-- that is not empty.
 abbrev pub holds : Range → Value → Bool
 holds (Ints low low_in high high_in step) (Number n) =
     is_above low low_in n && (is_below high high_in n && is_on_step low step n)

@@ -21,7 +21,7 @@ struct Span {
     step: Option<u64>,
 }
 
-/// A range behind whose low end nothing is read yet.
+/// A range of which only the low end is read: one number, or all of them.
 fn begun(low: Option<i64>, low_in: bool) -> Span
     ensures { result ≡ begun low low_in }
 {
@@ -34,6 +34,7 @@ fn begun(low: Option<i64>, low_in: bool) -> Span
     }
 }
 
+/// The range as the param file declares it; its step is 1 where none is written.
 fn range_of(span: Span) -> Range
     ensures { result ≡ range_of span }
 {
@@ -46,6 +47,7 @@ fn range_of(span: Span) -> Range
     }
 }
 
+/// Skips an optional `::` and quoted text after a range.
 fn description(reader: &mut Reader, alloc: Global) -> Result<(), Stop>
     ensures { Obeys description result reader.old reader.new }
 {
@@ -58,12 +60,14 @@ fn description(reader: &mut Reader, alloc: Global) -> Result<(), Stop>
     }
 }
 
+/// Whether a token opens a range of numbers: `(` or `[`.
 fn is_bracket(token: &Token) -> bool
     ensures { result ≡ is_bracket token.now }
 {
     token.is_sign(b'(') || token.is_sign(b'[')
 }
 
+/// Whether the next token is `(` or `[`.
 fn at_bracket(reader: &Reader) -> bool
     ensures { result ≡ passes is_bracket (head reader.now.rest.now) }
 {
@@ -73,12 +77,14 @@ fn at_bracket(reader: &Reader) -> bool
     }
 }
 
+/// Whether a token closes a range of numbers: `)` or `]`.
 fn is_close(token: &Token) -> bool
     ensures { result ≡ is_close token.now }
 {
     token.is_sign(b')') || token.is_sign(b']')
 }
 
+/// Whether the next token is `)` or `]`.
 fn at_close(reader: &Reader) -> bool
     ensures { result ≡ passes is_close (head reader.now.rest.now) }
 {
@@ -88,12 +94,14 @@ fn at_close(reader: &Reader) -> bool
     }
 }
 
+/// Whether an end of a range begins with this token: `*`, `-` or a number.
 fn is_end(token: &Token) -> bool
     ensures { result ≡ is_end token.now }
 {
     token.is_sign(b'*') || token.is_sign(b'-') || matches!(token.kind, Kind::Number)
 }
 
+/// Whether an end of a range begins at the next token.
 fn at_end(reader: &Reader) -> bool
     ensures { result ≡ passes is_end (head reader.now.rest.now) }
 {
@@ -103,6 +111,7 @@ fn at_end(reader: &Reader) -> bool
     }
 }
 
+/// Whether the next token is the step of the range: a number, where the range has no step yet.
 fn at_step(reader: &Reader, span: &Span) -> bool
     ensures { result ≡ passes (is_step span.now) (head reader.now.rest.now) }
 {
@@ -112,6 +121,7 @@ fn at_step(reader: &Reader, span: &Span) -> bool
     }
 }
 
+/// Whether a range of numbers begins at the next token.
 fn at_ints(reader: &Reader) -> bool
     ensures { result ≡ passes is_ints (head reader.now.rest.now) }
 {
@@ -123,7 +133,7 @@ fn at_ints(reader: &Reader) -> bool
     }
 }
 
-/// An opening bracket: whether the end behind it is in the range.
+/// Reads an opening bracket: whether the low end that follows is in the range.
 fn bracket(reader: &mut Reader) -> Result<bool, Stop>
     ensures { Obeys bracket result reader.old reader.new }
 {
@@ -136,7 +146,7 @@ fn bracket(reader: &mut Reader) -> Result<bool, Stop>
     }
 }
 
-/// A closing bracket: whether the end before it is in the range.
+/// Reads a closing bracket: whether the high end before it is in the range.
 fn close_bracket(reader: &mut Reader) -> Result<bool, Stop>
     ensures { Obeys close_bracket result reader.old reader.new }
 {
@@ -149,7 +159,7 @@ fn close_bracket(reader: &mut Reader) -> Result<bool, Stop>
     }
 }
 
-/// An end of a range: a number, or `*` for none.
+/// Reads an end of a range: a number, or `*` for no bound.
 fn end(reader: &mut Reader) -> Result<Option<i64>, Stop>
     ensures { Obeys end result reader.old reader.new }
 {
@@ -161,6 +171,7 @@ fn end(reader: &mut Reader) -> Result<Option<i64>, Stop>
     }
 }
 
+/// Reads an optional end of a range; without one there is no bound.
 fn bound(reader: &mut Reader) -> Result<Option<i64>, Stop>
     ensures { Obeys bound result reader.old reader.new }
 {
@@ -171,6 +182,7 @@ fn bound(reader: &mut Reader) -> Result<Option<i64>, Stop>
     }
 }
 
+/// Reads an optional closing bracket: without one the high end is in the range.
 fn closing(reader: &mut Reader) -> Result<bool, Stop>
     ensures { Obeys closing result reader.old reader.new }
 {
@@ -181,6 +193,7 @@ fn closing(reader: &mut Reader) -> Result<bool, Stop>
     }
 }
 
+/// Reads an optional closing bracket, and adds the range that it ends.
 fn closed(reader: &mut Reader, ranges: &mut List<Range>, span: Span) -> Result<(), Stop>
     ensures { Builds (closed (opened ranges.old span)) ranges.new result reader.old reader.new }
 {
@@ -189,6 +202,7 @@ fn closed(reader: &mut Reader, ranges: &mut List<Range>, span: Span) -> Result<(
     Ok(())
 }
 
+/// Reads a colon and an optional high end.
 fn upper(reader: &mut Reader, span: &mut Span) -> Result<(), Stop>
     ensures { (rs : _) → Builds (upper (opened rs span.old)) (opened rs span.new)
         result reader.old reader.new }
@@ -198,7 +212,7 @@ fn upper(reader: &mut Reader, span: &mut Span) -> Result<(), Stop>
     Ok(())
 }
 
-/// The range ends before the colon that was read, and another begins with it.
+/// Ends the range before the colon just read, and begins another one with that colon.
 fn next_span(reader: &mut Reader, ranges: &mut List<Range>, span: &mut Span) -> Result<(), Stop>
     ensures { Builds (next_span (opened ranges.old span.old)) (opened ranges.new span.new)
         result reader.old reader.new }
@@ -215,6 +229,7 @@ fn next_span(reader: &mut Reader, ranges: &mut List<Range>, span: &mut Span) -> 
     Ok(())
 }
 
+/// Reads the step of a range.
 fn stepped(reader: &mut Reader, span: &mut Span) -> Result<(), Stop>
     ensures { (rs : _) → Builds (stepped (opened rs span.old)) (opened rs span.new)
         result reader.old reader.new }
@@ -224,6 +239,7 @@ fn stepped(reader: &mut Reader, span: &mut Span) -> Result<(), Stop>
     Ok(())
 }
 
+/// Reads a further colon and what it begins: the step of the range, or another range, as in `0:5:-3`.
 fn further(reader: &mut Reader, ranges: &mut List<Range>, span: &mut Span) -> Result<(), Stop>
     ensures { Builds (further (opened ranges.old span.old)) (opened ranges.new span.new)
         result reader.old reader.new }
@@ -236,6 +252,7 @@ fn further(reader: &mut Reader, ranges: &mut List<Range>, span: &mut Span) -> Re
     }
 }
 
+/// Reads all further colons, each with a step or with another range.
 fn furthers(reader: &mut Reader, ranges: &mut List<Range>, span: &mut Span) -> Result<(), Stop>
     ensures { Builds (loop is_colon further (opened ranges.old span.old))
         (opened ranges.new span.new) result reader.old reader.new }
@@ -246,6 +263,7 @@ fn furthers(reader: &mut Reader, ranges: &mut List<Range>, span: &mut Span) -> R
     Ok(())
 }
 
+/// Reads a colon with the high end, then an optional step and the ranges that begin with a colon.
 fn uppers(reader: &mut Reader, ranges: &mut List<Range>, span: &mut Span) -> Result<(), Stop>
     ensures { Builds (uppers (opened ranges.old span.old)) (opened ranges.new span.new)
         result reader.old reader.new }
@@ -254,6 +272,7 @@ fn uppers(reader: &mut Reader, ranges: &mut List<Range>, span: &mut Span) -> Res
     furthers(reader, ranges, span)
 }
 
+/// Reads the rest of a range after its low end.
 fn behind_low(reader: &mut Reader, ranges: &mut List<Range>, span: Span) -> Result<(), Stop>
     ensures { Builds (behind_low (opened ranges.old span)) ranges.new result reader.old reader.new }
 {
@@ -266,6 +285,7 @@ fn behind_low(reader: &mut Reader, ranges: &mut List<Range>, span: Span) -> Resu
     }
 }
 
+/// Reads a range that begins with a bracket.
 fn bracketed(reader: &mut Reader, ranges: &mut List<Range>) -> Result<(), Stop>
     ensures { Builds (bracketed ranges.old) ranges.new result reader.old reader.new }
 {
@@ -274,6 +294,7 @@ fn bracketed(reader: &mut Reader, ranges: &mut List<Range>) -> Result<(), Stop>
     behind_low(reader, ranges, begun(low, low_in))
 }
 
+/// Reads a range that begins with its low end.
 fn from_low(reader: &mut Reader, ranges: &mut List<Range>) -> Result<(), Stop>
     ensures { Builds (from_low ranges.old) ranges.new result reader.old reader.new }
 {
@@ -281,6 +302,7 @@ fn from_low(reader: &mut Reader, ranges: &mut List<Range>) -> Result<(), Stop>
     behind_low(reader, ranges, begun(low, true))
 }
 
+/// Reads a range that begins with a colon, so it has no low end.
 fn from_colon(reader: &mut Reader, ranges: &mut List<Range>) -> Result<(), Stop>
     ensures { Builds (from_colon ranges.old) ranges.new result reader.old reader.new }
 {
@@ -289,6 +311,7 @@ fn from_colon(reader: &mut Reader, ranges: &mut List<Range>) -> Result<(), Stop>
     closed(reader, ranges, span)
 }
 
+/// Reads a range that is a closing bracket alone, so it has no bound.
 fn from_close(reader: &mut Reader, ranges: &mut List<Range>) -> Result<(), Stop>
     ensures { Builds (from_close ranges.old) ranges.new result reader.old reader.new }
 {
@@ -300,6 +323,7 @@ fn from_close(reader: &mut Reader, ranges: &mut List<Range>) -> Result<(), Stop>
     Ok(())
 }
 
+/// Reads a range of numbers in any of its forms. It can be several ranges, as in `0:5:-3`.
 fn ints(reader: &mut Reader, ranges: &mut List<Range>) -> Result<(), Stop>
     ensures { Builds (ints ranges.old) ranges.new result reader.old reader.new }
 {
@@ -314,6 +338,7 @@ fn ints(reader: &mut Reader, ranges: &mut List<Range>) -> Result<(), Stop>
     }
 }
 
+/// Reads a range of numbers and its optional description.
 fn number_range(reader: &mut Reader, alloc: Global, ranges: &mut List<Range>) -> Result<(), Stop>
     ensures { Builds (number_range ranges.old) ranges.new result reader.old reader.new }
 {
@@ -321,6 +346,7 @@ fn number_range(reader: &mut Reader, alloc: Global, ranges: &mut List<Range>) ->
     description(reader, alloc)
 }
 
+/// Reads ranges of numbers for as long as one begins at the next token.
 fn number_ranges(reader: &mut Reader, alloc: Global, ranges: &mut List<Range>) -> Result<(), Stop>
     ensures { Builds (loop is_ints number_range ranges.old) ranges.new
         result reader.old reader.new }
@@ -331,6 +357,7 @@ fn number_ranges(reader: &mut Reader, alloc: Global, ranges: &mut List<Range>) -
     Ok(())
 }
 
+/// Reads a block of number ranges with its braces.
 fn number_block(reader: &mut Reader, alloc: Global) -> Result<List<Range>, Stop>
     ensures { Obeys number_block result reader.old reader.new }
 {
@@ -341,6 +368,7 @@ fn number_block(reader: &mut Reader, alloc: Global) -> Result<List<Range>, Stop>
     Ok(ranges)
 }
 
+/// The range that a text in a `STRING` block declares: every text, every one but the empty, or a word.
 fn string_range(text: Text) -> Range
     ensures { result ≡ string_range text }
 {
@@ -354,6 +382,7 @@ fn string_range(text: Text) -> Range
     }
 }
 
+/// The range that a quoted text in a block of this type declares.
 fn text_range(ptype: PType, text: Text) -> Range
     ensures { result ≡ text_range ptype text }
 {
@@ -363,6 +392,7 @@ fn text_range(ptype: PType, text: Text) -> Range
     }
 }
 
+/// Reads a quoted text and adds the range that it declares.
 fn one_text(
     reader: &mut Reader,
     alloc: Global,
@@ -376,6 +406,7 @@ fn one_text(
     Ok(())
 }
 
+/// Reads a comma and the quoted text after it.
 fn more_text(
     reader: &mut Reader,
     alloc: Global,
@@ -388,6 +419,7 @@ fn more_text(
     one_text(reader, alloc, ptype, ranges)
 }
 
+/// Reads the quoted texts that follow after commas.
 fn more_texts(
     reader: &mut Reader,
     alloc: Global,
@@ -403,6 +435,7 @@ fn more_texts(
     Ok(())
 }
 
+/// Reads quoted texts with commas between them, and their optional description.
 fn texts(
     reader: &mut Reader,
     alloc: Global,
@@ -416,6 +449,7 @@ fn texts(
     description(reader, alloc)
 }
 
+/// Reads lists of quoted texts for as long as one begins at the next token.
 fn text_ranges(
     reader: &mut Reader,
     alloc: Global,
@@ -431,6 +465,7 @@ fn text_ranges(
     Ok(())
 }
 
+/// The ranges read; a `STRING` block without any holds every text.
 fn or_any(ptype: PType, ranges: List<Range>) -> Result<List<Range>, Memory>
     ensures { IfOk result (λ all. all ≡ or_any ptype ranges) }
 {
@@ -444,6 +479,7 @@ fn or_any(ptype: PType, ranges: List<Range>) -> Result<List<Range>, Memory>
     }
 }
 
+/// Reads a block of quoted texts with its braces.
 fn text_block(reader: &mut Reader, alloc: Global, ptype: PType) -> Result<List<Range>, Stop>
     ensures { Obeys (text_block ptype) result reader.old reader.new }
 {
@@ -454,6 +490,7 @@ fn text_block(reader: &mut Reader, alloc: Global, ptype: PType) -> Result<List<R
     Ok(or_any(ptype, ranges)?)
 }
 
+/// Keeps a copy of the next token, which is not `}`.
 fn keep(reader: &mut Reader, alloc: Global, tokens: &mut List<Token>) -> Result<(), Stop>
     ensures { Builds (more_kept is_inside tokens.old) tokens.new result reader.old reader.new }
 {
@@ -468,6 +505,7 @@ fn keep(reader: &mut Reader, alloc: Global, tokens: &mut List<Token>) -> Result<
     }
 }
 
+/// Keeps copies of all tokens before the next `}`.
 fn keep_all(reader: &mut Reader, alloc: Global, tokens: &mut List<Token>) -> Result<(), Stop>
     ensures { Builds (loop is_inside (more_kept is_inside) tokens.old) tokens.new
         result reader.old reader.new }
@@ -478,6 +516,7 @@ fn keep_all(reader: &mut Reader, alloc: Global, tokens: &mut List<Token>) -> Res
     Ok(())
 }
 
+/// Reads the block of a `REAL` parameter: its tokens are kept as they are and restrict nothing.
 fn kept_block(reader: &mut Reader, alloc: Global) -> Result<List<Range>, Stop>
     ensures { Obeys kept_block result reader.old reader.new }
 {

@@ -11,6 +11,7 @@ use crate::numbers::{at_number, number, number_text};
 use cx_text::{List, Memory, Reader, Stop, Text, Token, Why, write_tokens};
 use std::alloc::Global;
 
+/// Reads a default that is a quoted text, a word or a number, as its text.
 fn plain_default(reader: &mut Reader, alloc: Global) -> Result<Text, Stop>
     ensures { Obeys plain_default result reader.old reader.new }
 {
@@ -32,6 +33,7 @@ fn spelled(alloc: Global, token: &Token) -> Result<Text, Memory>
     write_tokens(alloc, &tokens)
 }
 
+/// Reads the next token of the line as its text.
 fn printed(reader: &mut Reader, alloc: Global) -> Result<Text, Stop>
     ensures { Obeys printed result reader.old reader.new }
 {
@@ -45,6 +47,7 @@ fn printed(reader: &mut Reader, alloc: Global) -> Result<Text, Stop>
     }
 }
 
+/// Adds a blank and the text of the next token of the line.
 fn more_printed(reader: &mut Reader, alloc: Global, text: &mut Text) -> Result<(), Stop>
     ensures { Builds (more_printed text.old) text.new result reader.old reader.new }
 {
@@ -54,6 +57,7 @@ fn more_printed(reader: &mut Reader, alloc: Global, text: &mut Text) -> Result<(
     Ok(())
 }
 
+/// Adds the texts of the remaining tokens of the line, with one blank before each.
 fn printed_after(reader: &mut Reader, alloc: Global, text: &mut Text) -> Result<(), Stop>
     ensures { Builds (loop in_line more_printed text.old) text.new result reader.old reader.new }
 {
@@ -63,6 +67,7 @@ fn printed_after(reader: &mut Reader, alloc: Global, text: &mut Text) -> Result<
     Ok(())
 }
 
+/// Reads the default of a `REAL` parameter: the rest of the line, with one blank between tokens.
 fn real_default(reader: &mut Reader, alloc: Global) -> Result<Text, Stop>
     ensures { Obeys real_default result reader.old reader.new }
 {

@@ -22,6 +22,7 @@ pub struct Heading {
 /// The most elements of an array.
 const MAX_LENGTH: u64 = 1024;
 
+/// Whether a token names the type `BOOLEAN` by any of its four names.
 fn is_boolean(token: &Token) -> bool
     ensures { result ≡ is_boolean token.now }
 {
@@ -31,24 +32,28 @@ fn is_boolean(token: &Token) -> bool
         || token.is_named(b"CCTK_BOOL")
 }
 
+/// Whether a token names the type `INT`.
 fn is_int(token: &Token) -> bool
     ensures { result ≡ is_int token.now }
 {
     token.is_named(b"INT") || token.is_named(b"CCTK_INT")
 }
 
+/// Whether a token names the type `KEYWORD`, which has words for values.
 fn is_keyword(token: &Token) -> bool
     ensures { result ≡ is_keyword token.now }
 {
     token.is_named(b"KEYWORD") || token.is_named(b"CCTK_KEYWORD")
 }
 
+/// Whether a token names the type `STRING`.
 fn is_string(token: &Token) -> bool
     ensures { result ≡ is_string token.now }
 {
     token.is_named(b"STRING") || token.is_named(b"CCTK_STRING")
 }
 
+/// Whether a token names the type `REAL`.
 fn is_real(token: &Token) -> bool
     ensures { result ≡ is_real token.now }
 {
@@ -81,6 +86,7 @@ pub fn is_ptype(token: &Token) -> bool
     is_boolean(token) || is_int(token) || is_keyword(token) || is_string(token) || is_real(token)
 }
 
+/// Reads the name of a type but no line end after it. A `full` file has room for no more declarations.
 fn ptype_here(reader: &mut Reader, full: bool) -> Result<PType, Stop>
     ensures { Obeys (token ptype_of (λ t. first_mark full marks.Limit None))
         result reader.old reader.new }
@@ -116,6 +122,7 @@ pub fn ptype(reader: &mut Reader) -> Result<PType, Stop>
     counted_ptype(reader, false)
 }
 
+/// Reads an array length from 1 to 1,024, but no line end after it.
 fn length_here(reader: &mut Reader) -> Result<u32, Stop>
     ensures { Obeys (token number_of (number_mark 1 1024)) result reader.old reader.new }
 {
@@ -133,6 +140,7 @@ fn length_here(reader: &mut Reader) -> Result<u32, Stop>
     }
 }
 
+/// Reads an array length in square brackets.
 fn in_brackets(reader: &mut Reader) -> Result<Option<u32>, Stop>
     ensures { Obeys in_brackets result reader.old reader.new }
 {
@@ -143,6 +151,7 @@ fn in_brackets(reader: &mut Reader) -> Result<Option<u32>, Stop>
     Ok(Some(length))
 }
 
+/// Reads an optional array length after the name; without one the parameter is no array.
 fn length(reader: &mut Reader) -> Result<Option<u32>, Stop>
     ensures { Obeys length_of result reader.old reader.new }
 {
@@ -153,6 +162,7 @@ fn length(reader: &mut Reader) -> Result<Option<u32>, Stop>
     }
 }
 
+/// Skips an optional quoted description.
 fn comment(reader: &mut Reader, alloc: Global) -> Result<(), Stop>
     ensures { Obeys comment result reader.old reader.new }
 {
@@ -164,6 +174,7 @@ fn comment(reader: &mut Reader, alloc: Global) -> Result<(), Stop>
     }
 }
 
+/// Reads `AS` and the alias after it.
 fn other_name(reader: &mut Reader, alloc: Global) -> Result<Option<Text>, Stop>
     ensures { Obeys other_name result reader.old reader.new }
 {
@@ -172,6 +183,7 @@ fn other_name(reader: &mut Reader, alloc: Global) -> Result<Option<Text>, Stop>
     Ok(Some(name))
 }
 
+/// Reads an optional alias of the parameter.
 fn alias(reader: &mut Reader, alloc: Global) -> Result<Option<Text>, Stop>
     ensures { Obeys alias_of result reader.old reader.new }
 {
@@ -182,6 +194,7 @@ fn alias(reader: &mut Reader, alloc: Global) -> Result<Option<Text>, Stop>
     }
 }
 
+/// The time of steering that a token names: `NEVER`, `ALWAYS` or `RECOVER`.
 fn steer_of(token: &Token) -> Option<Steer>
     ensures { result ≡ steer_of token.now }
 {
@@ -196,6 +209,7 @@ fn steer_of(token: &Token) -> Option<Steer>
     }
 }
 
+/// Reads when the parameter may be steered, but no line end after it.
 fn steer_here(reader: &mut Reader) -> Result<Steer, Stop>
     ensures { Obeys (token steer_of unmarked) result reader.old reader.new }
 {
@@ -211,6 +225,7 @@ fn steer_here(reader: &mut Reader) -> Result<Steer, Stop>
     }
 }
 
+/// Reads `STEERABLE =` and when the parameter may be steered.
 fn steered(reader: &mut Reader) -> Result<Steer, Stop>
     ensures { Obeys steered result reader.old reader.new }
 {
@@ -221,6 +236,7 @@ fn steered(reader: &mut Reader) -> Result<Steer, Stop>
     Ok(steer)
 }
 
+/// Reads an optional `STEERABLE` clause; without one the parameter is never steered.
 fn steering(reader: &mut Reader) -> Result<Steer, Stop>
     ensures { Obeys steering result reader.old reader.new }
 {

@@ -26,6 +26,7 @@ pub fn at_number(reader: &Reader) -> bool
     }
 }
 
+/// Reads a number of at most 2^63 - 1 that has no sign, but no line end after it.
 fn positive_here(reader: &mut Reader) -> Result<i64, Stop>
     ensures { Obeys (token positive_of (too_high highest)) result reader.old reader.new }
 {
@@ -43,6 +44,7 @@ fn positive_here(reader: &mut Reader) -> Result<i64, Stop>
     }
 }
 
+/// Reads the digits after a minus sign, at most 2^63, as a number below 0.
 fn negative_here(reader: &mut Reader) -> Result<i64, Stop>
     ensures { Obeys (token negative_of (too_high lowest)) result reader.old reader.new }
 {
@@ -76,6 +78,7 @@ pub fn number(reader: &mut Reader) -> Result<i64, Stop>
     }
 }
 
+/// Reads a number of at most `high` as the digits that are written.
 fn digits_here(reader: &mut Reader, alloc: Global, high: u64) -> Result<Text, Stop>
     ensures { Obeys (token digits_of (too_high high)) result reader.old reader.new }
 {
@@ -94,6 +97,7 @@ fn digits_here(reader: &mut Reader, alloc: Global, high: u64) -> Result<Text, St
     }
 }
 
+/// Reads a minus sign and digits as they are written.
 fn below_zero(reader: &mut Reader, alloc: Global) -> Result<Text, Stop>
     ensures { Obeys below_zero result reader.old reader.new }
 {
@@ -118,6 +122,7 @@ pub fn number_text(reader: &mut Reader, alloc: Global) -> Result<Text, Stop>
     }
 }
 
+/// Reads a step from 1 to 2^64 - 1, but no line end after it. It is a fault where there is no low end.
 fn step_here(reader: &mut Reader, low: Option<i64>) -> Result<u64, Stop>
     ensures { Obeys (token number_of (step_mark low)) result reader.old reader.new }
 {

@@ -32,6 +32,7 @@ struct Read {
     decls: List<ParamDecl>,
 }
 
+/// Reads the declaration of a parameter of this scope: type, heading, block and default.
 fn decl(reader: &mut Reader, alloc: Global, scope: Scope, full: bool) -> Result<ParamDecl, Stop>
     ensures { Obeys (decl scope full) result reader.old reader.new }
 {
@@ -51,6 +52,7 @@ fn decl(reader: &mut Reader, alloc: Global, scope: Scope, full: bool) -> Result<
     })
 }
 
+/// Reads `USES` or `EXTENDS`, which says how the thorn shares the implementation's parameter.
 fn shared_scope(
     reader: &mut Reader,
     alloc: Global,
@@ -70,6 +72,7 @@ fn shared_scope(
     }
 }
 
+/// Reads the block of a use or an extension, and skips an optional default after it.
 fn shared_block(reader: &mut Reader, alloc: Global, ptype: PType) -> Result<List<Range>, Stop>
     ensures { Obeys (shared_block ptype) result reader.old reader.new }
 {
@@ -78,6 +81,7 @@ fn shared_block(reader: &mut Reader, alloc: Global, ptype: PType) -> Result<List
     Ok(ranges)
 }
 
+/// Reads an optional block of a use or an extension; without one there are no ranges.
 fn shared_ranges(reader: &mut Reader, alloc: Global, ptype: PType) -> Result<List<Range>, Stop>
     ensures { Obeys (shared_ranges ptype) result reader.old reader.new }
 {
@@ -88,6 +92,7 @@ fn shared_ranges(reader: &mut Reader, alloc: Global, ptype: PType) -> Result<Lis
     }
 }
 
+/// Reads a use or an extension of a parameter that the implementation shares.
 fn shared(
     reader: &mut Reader,
     alloc: Global,
@@ -112,6 +117,7 @@ fn shared(
     })
 }
 
+/// Reads a use or an extension after `shares:`, and a declaration after another access line.
 fn declared(
     reader: &mut Reader,
     alloc: Global,
@@ -128,6 +134,7 @@ fn declared(
     }
 }
 
+/// Whether an access line begins with this token.
 fn is_access(token: &Token) -> bool
     ensures { result ≡ is_access token.now }
 {
@@ -137,6 +144,7 @@ fn is_access(token: &Token) -> bool
         || token.is_named(b"SHARES")
 }
 
+/// Whether an access line begins at the next token.
 fn at_access(reader: &Reader) -> bool
     ensures { result ≡ passes is_access (head reader.now.rest.now) }
 {
@@ -146,6 +154,7 @@ fn at_access(reader: &Reader) -> bool
     }
 }
 
+/// Whether an access line, a declaration, a use or an extension begins at the next token.
 fn at_entry(reader: &Reader) -> bool
     ensures { result ≡ passes is_entry (head reader.now.rest.now) }
 {
@@ -160,6 +169,7 @@ fn at_entry(reader: &Reader) -> bool
     }
 }
 
+/// Reads an access line: its word and a colon.
 fn section(reader: &mut Reader, name: &[u8], access: Access) -> Result<Access, Stop>
     ensures { Obeys (section name.now access) result reader.old reader.new }
 {
@@ -168,6 +178,7 @@ fn section(reader: &mut Reader, name: &[u8], access: Access) -> Result<Access, S
     Ok(access)
 }
 
+/// Reads `shares:` and the name of the implementation.
 fn shares(reader: &mut Reader, alloc: Global) -> Result<Access, Stop>
     ensures { Obeys shares result reader.old reader.new }
 {
@@ -177,6 +188,7 @@ fn shares(reader: &mut Reader, alloc: Global) -> Result<Access, Stop>
     Ok(Access::Shares(name))
 }
 
+/// Reads any of the four access lines.
 fn access_line(reader: &mut Reader, alloc: Global) -> Result<Access, Stop>
     ensures { Obeys access_line result reader.old reader.new }
 {
@@ -191,6 +203,7 @@ fn access_line(reader: &mut Reader, alloc: Global) -> Result<Access, Stop>
     }
 }
 
+/// Reads an access line, which holds for the declarations after it.
 fn opening(reader: &mut Reader, alloc: Global, read: &mut Read) -> Result<(), Stop>
     ensures { Builds (opening read.old) read.new result reader.old reader.new }
 {
@@ -198,6 +211,7 @@ fn opening(reader: &mut Reader, alloc: Global, read: &mut Read) -> Result<(), St
     Ok(())
 }
 
+/// Reads one declaration, use or extension, and adds it to the list.
 fn declaring(reader: &mut Reader, alloc: Global, read: &mut Read) -> Result<(), Stop>
     ensures { Builds (declaring read.old) read.new result reader.old reader.new }
 {
@@ -207,6 +221,7 @@ fn declaring(reader: &mut Reader, alloc: Global, read: &mut Read) -> Result<(), 
     Ok(())
 }
 
+/// Reads one access line, declaration, use or extension.
 fn entry(reader: &mut Reader, alloc: Global, read: &mut Read) -> Result<(), Stop>
     ensures { Builds (entry read.old) read.new result reader.old reader.new }
 {
@@ -217,6 +232,7 @@ fn entry(reader: &mut Reader, alloc: Global, read: &mut Read) -> Result<(), Stop
     }
 }
 
+/// Reads the lines and declarations of a file up to the first token that begins none.
 fn entries(reader: &mut Reader, alloc: Global, read: &mut Read) -> Result<(), Stop>
     ensures { Builds (loop is_entry entry read.old) read.new result reader.old reader.new }
 {
@@ -226,6 +242,7 @@ fn entries(reader: &mut Reader, alloc: Global, read: &mut Read) -> Result<(), St
     Ok(())
 }
 
+/// Reads a param file; its declarations are private until an access line says otherwise.
 fn whole(reader: &mut Reader, alloc: Global) -> Result<List<ParamDecl>, Stop>
     ensures { Obeys params result reader.old reader.new }
 {

@@ -12,6 +12,7 @@ use crate::{PType, ParamDecl, Range, Scope, Steer};
 use cx_text::{List, Memory, Text, Token, write_tokens};
 use std::alloc::Global;
 
+/// Appends a number with its sign.
 fn push_signed(tokens: &mut List<Token>, alloc: Global, n: i64) -> Result<(), Memory>
     ensures { IfOk result (λ x. tokens.new ≡ tokens.old ++ signed n) }
 {
@@ -23,6 +24,7 @@ fn push_signed(tokens: &mut List<Token>, alloc: Global, n: i64) -> Result<(), Me
     }
 }
 
+/// Appends an end of a range; `*` where there is no bound.
 fn push_bound(tokens: &mut List<Token>, alloc: Global, end: Option<i64>) -> Result<(), Memory>
     ensures { IfOk result (λ x. tokens.new ≡ tokens.old ++ bound end) }
 {
@@ -32,6 +34,7 @@ fn push_bound(tokens: &mut List<Token>, alloc: Global, end: Option<i64>) -> Resu
     }
 }
 
+/// Appends a colon and the step of a range; nothing for a step of 1.
 fn push_step(tokens: &mut List<Token>, alloc: Global, n: u64) -> Result<(), Memory>
     ensures { IfOk result (λ x. tokens.new ≡ tokens.old ++ step n) }
 {
@@ -42,6 +45,7 @@ fn push_step(tokens: &mut List<Token>, alloc: Global, n: u64) -> Result<(), Memo
     tokens.push_number(alloc, n)
 }
 
+/// Appends `[` before a low end that is in the range, else `(`.
 fn push_opening(tokens: &mut List<Token>, alloc: Global, is_in: bool) -> Result<(), Memory>
     ensures { IfOk result (λ x. tokens.new ≡ tokens.old ++ opening is_in ∷ []) }
 {
@@ -52,6 +56,7 @@ fn push_opening(tokens: &mut List<Token>, alloc: Global, is_in: bool) -> Result<
     }
 }
 
+/// Appends `]` after a high end that is in the range, else `)`.
 fn push_closing(tokens: &mut List<Token>, alloc: Global, is_in: bool) -> Result<(), Memory>
     ensures { IfOk result (λ x. tokens.new ≡ tokens.old ++ closing is_in ∷ []) }
 {
@@ -62,6 +67,7 @@ fn push_closing(tokens: &mut List<Token>, alloc: Global, is_in: bool) -> Result<
     }
 }
 
+/// Appends a range: both ends in brackets, a quoted text, or tokens that were kept.
 fn push_range(tokens: &mut List<Token>, alloc: Global, item: &Range) -> Result<(), Memory>
     ensures { IfOk result (λ x. tokens.new ≡ tokens.old ++ range item.now) }
 {
@@ -87,6 +93,7 @@ fn push_range(tokens: &mut List<Token>, alloc: Global, item: &Range) -> Result<(
     }
 }
 
+/// Appends the ranges in order, with nothing between them.
 fn push_ranges(tokens: &mut List<Token>, alloc: Global, items: &[Range]) -> Result<(), Memory>
     ensures { IfOk result (λ x. tokens.new ≡ tokens.old ++ each_range items.now) }
 {
@@ -96,6 +103,7 @@ fn push_ranges(tokens: &mut List<Token>, alloc: Global, items: &[Range]) -> Resu
     Ok(())
 }
 
+/// Appends the ranges in braces.
 fn push_block(tokens: &mut List<Token>, alloc: Global, items: &[Range]) -> Result<(), Memory>
     ensures { IfOk result (λ x. tokens.new ≡ tokens.old ++ block items.now) }
 {
@@ -104,6 +112,7 @@ fn push_block(tokens: &mut List<Token>, alloc: Global, items: &[Range]) -> Resul
     tokens.push_sign(alloc, b'}')
 }
 
+/// Appends the block of a use or an extension; nothing if it has no ranges.
 fn push_shared_block(tokens: &mut List<Token>, alloc: Global, items: &[Range]) -> Result<(), Memory>
     ensures { IfOk result (λ x. tokens.new ≡ tokens.old ++ shared_block items.now) }
 {
@@ -113,6 +122,7 @@ fn push_shared_block(tokens: &mut List<Token>, alloc: Global, items: &[Range]) -
     }
 }
 
+/// The word that names the type in a param file.
 fn type_name(ptype: PType) -> &'static [u8]
     ensures { result.now ≡ type_name ptype }
 {
@@ -125,6 +135,7 @@ fn type_name(ptype: PType) -> &'static [u8]
     }
 }
 
+/// Appends an array length in square brackets; nothing if the parameter is no array.
 fn push_length(tokens: &mut List<Token>, alloc: Global, count: Option<u32>) -> Result<(), Memory>
     ensures { IfOk result (λ x. tokens.new ≡ tokens.old ++ length count) }
 {
@@ -138,6 +149,7 @@ fn push_length(tokens: &mut List<Token>, alloc: Global, count: Option<u32>) -> R
     }
 }
 
+/// Appends `AS` and the alias, if there is one.
 fn push_alias(tokens: &mut List<Token>, alloc: Global, name: &Option<Text>) -> Result<(), Memory>
     ensures { IfOk result (λ x. tokens.new ≡ tokens.old ++ alias name.now) }
 {
@@ -150,6 +162,7 @@ fn push_alias(tokens: &mut List<Token>, alloc: Global, name: &Option<Text>) -> R
     }
 }
 
+/// The word for when a parameter may be steered.
 fn steer_name(steer: Steer) -> &'static [u8]
     ensures { result.now ≡ steer_name steer }
 {
@@ -175,12 +188,14 @@ fn push_setting(
     tokens.push_word(alloc, value)
 }
 
+/// Appends the `STEERABLE` clause, with `NEVER` too.
 fn push_steering(tokens: &mut List<Token>, alloc: Global, steer: Steer) -> Result<(), Memory>
     ensures { IfOk result (λ x. tokens.new ≡ tokens.old ++ steering steer) }
 {
     push_setting(tokens, alloc, b"STEERABLE", steer_name(steer))
 }
 
+/// Appends type, name, array length, alias and steering, all that comes before the block.
 fn push_heading(tokens: &mut List<Token>, alloc: Global, item: &ParamDecl) -> Result<(), Memory>
     ensures { IfOk result (λ x. tokens.new ≡ tokens.old ++ heading item.now) }
 {
@@ -219,18 +234,21 @@ fn push_shared(
     tokens.push_word(alloc, kind)
 }
 
+/// Appends `shares:`, the implementation, a line end and `EXTENDS`.
 fn push_extends(tokens: &mut List<Token>, alloc: Global, name: &Text) -> Result<(), Memory>
     ensures { IfOk result (λ x. tokens.new ≡ tokens.old ++ access (Extends name.now)) }
 {
     push_shared(tokens, alloc, b"shares", name.as_slice(), b"EXTENDS")
 }
 
+/// Appends `shares:`, the implementation, a line end and `USES`.
 fn push_uses(tokens: &mut List<Token>, alloc: Global, name: &Text) -> Result<(), Memory>
     ensures { IfOk result (λ x. tokens.new ≡ tokens.old ++ access (Uses name.now)) }
 {
     push_shared(tokens, alloc, b"shares", name.as_slice(), b"USES")
 }
 
+/// Appends the access line of one declaration.
 fn push_access(tokens: &mut List<Token>, alloc: Global, scope: &Scope) -> Result<(), Memory>
     ensures { IfOk result (λ x. tokens.new ≡ tokens.old ++ access scope.now) }
 {
@@ -243,6 +261,7 @@ fn push_access(tokens: &mut List<Token>, alloc: Global, scope: &Scope) -> Result
     }
 }
 
+/// Appends a default in quotes, but that of a `REAL` parameter as it is.
 fn push_default(
     tokens: &mut List<Token>,
     alloc: Global,
@@ -259,6 +278,7 @@ fn push_default(
     }
 }
 
+/// Appends block and default. A use or an extension has no default and may have no block.
 fn push_body(tokens: &mut List<Token>, alloc: Global, item: &ParamDecl) -> Result<(), Memory>
     ensures { IfOk result (λ x. tokens.new ≡
         tokens.old ++ body item.now.ptype item.now.ranges item.now.default) }
@@ -272,6 +292,7 @@ fn push_body(tokens: &mut List<Token>, alloc: Global, item: &ParamDecl) -> Resul
     }
 }
 
+/// Appends a declaration with its access line.
 fn push_decl(tokens: &mut List<Token>, alloc: Global, item: &ParamDecl) -> Result<(), Memory>
     ensures { IfOk result (λ x. tokens.new ≡ tokens.old ++ decl item.now) }
 {
@@ -281,6 +302,7 @@ fn push_decl(tokens: &mut List<Token>, alloc: Global, item: &ParamDecl) -> Resul
     tokens.push_line_end(alloc)
 }
 
+/// Appends the declarations in order, each with an access line of its own.
 fn push_decls(tokens: &mut List<Token>, alloc: Global, items: &[ParamDecl]) -> Result<(), Memory>
     ensures { IfOk result (λ x. tokens.new ≡ tokens.old ++ decl_tokens items.now) }
 {
@@ -290,6 +312,7 @@ fn push_decls(tokens: &mut List<Token>, alloc: Global, items: &[ParamDecl]) -> R
     Ok(())
 }
 
+/// The tokens of a param file that has these declarations.
 fn tokens_of(alloc: Global, items: &[ParamDecl]) -> Result<List<Token>, Memory>
     ensures { IfOk result (λ tokens. tokens ≡ decl_tokens items.now) }
 {

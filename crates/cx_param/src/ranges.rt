@@ -35,6 +35,7 @@ pub enum Value {
     Text(Text),
 }
 
+/// Whether a number is above the low end, or equal to one that is in the range. No low end bounds nothing.
 fn is_above(low: Option<i64>, low_in: bool, n: i64) -> bool
     ensures { result ≡ is_above low low_in n }
 {
@@ -44,6 +45,7 @@ fn is_above(low: Option<i64>, low_in: bool, n: i64) -> bool
     }
 }
 
+/// Whether a number is below the high end, or equal to one that is in the range. No high end bounds nothing.
 fn is_below(high: Option<i64>, high_in: bool, n: i64) -> bool
     ensures { result ≡ is_below high high_in n }
 {
@@ -53,6 +55,7 @@ fn is_below(high: Option<i64>, high_in: bool, n: i64) -> bool
     }
 }
 
+/// Whether a number lies a whole number of steps from the low end. Without a low end each number does.
 fn is_on_step(low: Option<i64>, step: u64, n: i64) -> bool
     ensures { result ≡ is_on_step low step n }
 {
@@ -97,6 +100,7 @@ impl Range {
     }
 }
 
+/// Whether one of the ranges holds the value.
 fn any_holds(ranges: &[Range], v: &Value) -> bool
     ensures { result ≡ any_holds ranges.now v.now }
 {

@@ -68,17 +68,22 @@ no_mark false m e = refl
 
 -- ---- tokens
 
-with_fits : (line : ℕ) (text : List ℕ) (o : Option Named) (n : Name) → named_in text ≡ o → name_with line o ≡ Some n → OwnerIs n.owner × (is_name n.name ≡ true)
+with_fits : (line : ℕ) (text : List ℕ) (o : Option Named) (n : Name) → named_in text ≡ o
+    → name_with line o ≡ Some n → OwnerIs n.owner × (is_name n.name ≡ true)
 with_fits line text None n e h = absurd cc
 with_fits line text (Some p) n e h =
     let same : record { owner = p.0; name = p.1; line = line } ≡ n = cc in
     subst (λ (m : Name). OwnerIs m.owner × (is_name m.name ≡ true)) same (named_is text p e)
 
-word_fits : (b : Bool) (t : Token) (n : Name) → cond b (name_with t.line (named_in t.text)) None ≡ Some n → OwnerIs n.owner × (is_name n.name ≡ true)
+word_fits : (b : Bool) (t : Token) (n : Name)
+    → cond b (name_with t.line (named_in t.text)) None ≡ Some n
+    → OwnerIs n.owner × (is_name n.name ≡ true)
 word_fits true t n h = with_fits t.line t.text (named_in t.text) n refl h
 word_fits false t n h = absurd cc
 
-name_fits : (left : ℕ) (t : Token) (n : Name) → name_of t ≡ Some n → first_mark (nat_eq left 0 || is_long_name (name_of t)) Limit None ≡ None → NameFits n × (0 < left)
+name_fits : (left : ℕ) (t : Token) (n : Name) → name_of t ≡ Some n
+    → first_mark (nat_eq left 0 || is_long_name (name_of t)) Limit None ≡ None
+    → NameFits n × (0 < left)
 name_fits left t n v m =
     let is = word_fits (is_word t) t n v in
     let k = or_false (nat_eq left 0) (is_long_name (name_of t)) (no_mark _ Limit m) in
@@ -86,14 +91,17 @@ name_fits left t n v m =
     (record { owner = is.0; name = is.1; short = short }, open_left left k.0)
 
 index_if : (b : Bool) (n i : ℕ) → cond b (Some n) None ≡ Some i → ltb 1023 n ≡ false → i ≤ 1023
-index_if true n i v m = let same : n ≡ i = cc in subst (λ (k : ℕ). k ≤ 1023) same (ltb-false 1023 n m)
+index_if true n i v m = let same : n ≡ i = cc in
+    subst (λ (k : ℕ). k ≤ 1023) same (ltb-false 1023 n m)
 index_if false n i v m = absurd cc
 
-value_if : (b : Bool) (base text v : List ℕ) → cond b (Some (value_in base text)) None ≡ Some v → value_in base text ≡ v
+value_if : (b : Bool) (base text v : List ℕ) → cond b (Some (value_in base text)) None ≡ Some v
+    → value_in base text ≡ v
 value_if true base text v e = cc
 value_if false base text v e = absurd cc
 
-value_is : (base : List ℕ) (t : Token) (v : List ℕ) → value_of base t ≡ Some v → value_in base t.text ≡ v
+value_is : (base : List ℕ) (t : Token) (v : List ℕ) → value_of base t ≡ Some v
+    → value_in base t.text ≡ v
 value_is base t v e = value_if (is_quoted t || is_word t) base t.text v e
 
 -- ---- rules
@@ -101,7 +109,9 @@ value_is base t v e = value_if (is_quoted t || is_word t) base t.text v e
 bracketed_holds : {T : Token → Type 0} → Holds T bracketed (λ n i. IndexFits i × Indexed i)
 bracketed_holds =
     holds_also (holds_any (sign_here 91)) (λ n u p.
-    holds_also (holds_token {P = λ m i. i ≤ 1023} (λ t i h v m. index_if (is_index t) (decimal_from 0 t.text) i v (no_mark _ BadNumber m))) (λ m i w.
+    holds_also (holds_token {P = λ m i. i ≤ 1023}
+    (λ t i h v m. index_if (is_index t) (decimal_from 0 t.text) i v (no_mark _ BadNumber m)))
+    (λ m i w.
     holds_also (holds_any (sign_here 93)) (λ k x q.
     holds_nothing (λ j. (w, tt)))))
 
@@ -109,48 +119,77 @@ clash : (b : Bool) → b ≡ false → b ≡ true → ⊥
 clash true e f = absurd cc
 clash false e f = absurd cc
 
-index_holds : {T : Token → Type 0} → Holds T index (λ n i. IndexFits i × (passes (is_sign 91) n ≡ true → Indexed i))
-index_holds = holds_choice (weaker_holds bracketed_holds (λ n i q e. (q.0, λ f. q.1))) (holds_nothing (λ n e. (tt, λ f. absurd (clash (passes (is_sign 91) n) e f))))
+index_holds : {T : Token → Type 0}
+    → Holds T index (λ n i. IndexFits i × (passes (is_sign 91) n ≡ true → Indexed i))
+index_holds = holds_choice (weaker_holds bracketed_holds (λ n i q e. (q.0, λ f. q.1)))
+    (holds_nothing (λ n e. (tt, λ f. absurd (clash (passes (is_sign 91) n) e f))))
 
-setting_holds : {T : Token → Type 0} (base : List ℕ) (left : ℕ) (n : Name) (v : Settings) → Kept base left v → NameFits n → 0 < left → Holds T (setting base n v) (λ m w. (is_active n ≡ true → passes (is_sign 91) m ≡ true) → Kept base (left - 1) w)
+setting_holds : {T : Token → Type 0} (base : List ℕ) (left : ℕ) (n : Name) (v : Settings)
+    → Kept base left v → NameFits n → 0 < left
+    → Holds T (setting base n v)
+    (λ m w. (is_active n ≡ true → passes (is_sign 91) m ≡ true) → Kept base (left - 1) w)
 setting_holds base left n v k f o =
     holds_also index_holds (λ m i w.
     holds_also (holds_any (sign_here 61)) (λ j u q.
-    holds_also (holds_token {P = λ p x. value_in base x ≡ x} (λ t x h e g. subst (λ (y : List ℕ). value_in base y ≡ y) (value_is base t x e) (value_again base t.text))) (λ p x same.
+    holds_also (holds_token {P = λ p x. value_in base x ≡ x}
+    (λ t x h e g. subst (λ (y : List ℕ). value_in base y ≡ y) (value_is base t x e)
+    (value_again base t.text))) (λ p x same.
     holds_nothing (λ r opens.
-    let added : Setting = record { owner = n.owner; name = n.name; index = i; value = x; line = n.line } in
+    let added : Setting = record {
+      owner = n.owner;
+      name = n.name;
+      index = i;
+      value = x;
+      line = n.line;
+    } in
     record {
       thorns = k.thorns;
       once = k.once;
-      settings = each-append (SettingFits base) v.list (added ∷ []) k.settings (record { name = f; index = w.0; open_ = λ e. w.1 (opens e); value = same }, tt);
-      lines = let l = k.lines in let e = length-append v.list (added ∷ []) in omega (arith, l, o, e);
+      settings = each-append (SettingFits base) v.list (added ∷ []) k.settings
+          (record { name = f; index = w.0; open_ = λ e. w.1 (opens e); value = same }, tt);
+      lines = let l = k.lines in let e = length-append v.list (added ∷ []) in
+          omega (arith, l, o, e);
     }))))
 
-active_holds : {T : Token → Type 0} (base : List ℕ) (left : ℕ) (v : Settings) → Kept base left v → 0 < left → Holds T (active base v) (λ m w. Kept base (left - 1) w)
+active_holds : {T : Token → Type 0} (base : List ℕ) (left : ℕ) (v : Settings) → Kept base left v
+    → 0 < left → Holds T (active base v) (λ m w. Kept base (left - 1) w)
 active_holds base left v k o =
     holds_also (holds_any (sign_here 61)) (λ n u q.
-    holds_also (holds_token {P = λ p x. AllByRecursion IsThorn (thorns_in x)} (λ t x h e g. subst (λ (y : List ℕ). AllByRecursion IsThorn (thorns_in y)) (value_is base t x e) (thorns_are (value_in base t.text) (no_mark _ Limit g)))) (λ p x w.
+    holds_also (holds_token {P = λ p x. AllByRecursion IsThorn (thorns_in x)}
+    (λ t x h e g. subst (λ (y : List ℕ). AllByRecursion IsThorn (thorns_in y))
+    (value_is base t x e) (thorns_are (value_in base t.text) (no_mark _ Limit g)))) (λ p x w.
     holds_nothing (λ r. record {
       thorns = active_are v.active (thorns_in x) k.thorns w;
       once = once_still v.active (thorns_in x) k.once;
       settings = k.settings;
-      lines = let l = k.lines in let e = lines_le (activate_all v.active (thorns_in x)) in omega (arith, l, o, e);
+      lines = let l = k.lines in let e = lines_le (activate_all v.active (thorns_in x)) in
+          omega (arith, l, o, e);
     })))
 
-behind_holds : {T : Token → Type 0} (base : List ℕ) (b : Bool) (left : ℕ) (n : Name) (v : Settings) → is_active n ≡ b → Kept base left v → NameFits n → 0 < left → Holds T (behind_word base b n v) (λ m w. Kept base (left - 1) w)
-behind_holds base true left n v e k f o = holds_choice (weaker_holds (setting_holds base left n v k f o) (λ m w q g. q (λ h. g))) (weaker_holds (active_holds base left v k o) (λ m w q g. q))
-behind_holds base false left n v e k f o = weaker_holds (setting_holds base left n v k f o) (λ m w q. q (λ h. absurd (clash (is_active n) e h)))
+behind_holds : {T : Token → Type 0} (base : List ℕ) (b : Bool) (left : ℕ) (n : Name) (v : Settings)
+    → is_active n ≡ b → Kept base left v → NameFits n → 0 < left
+    → Holds T (behind_word base b n v) (λ m w. Kept base (left - 1) w)
+behind_holds base true left n v e k f o =
+    holds_choice (weaker_holds (setting_holds base left n v k f o) (λ m w q g. q (λ h. g)))
+    (weaker_holds (active_holds base left v k o) (λ m w q g. q))
+behind_holds base false left n v e k f o =
+    weaker_holds (setting_holds base left n v k f o)
+    (λ m w q. q (λ h. absurd (clash (is_active n) e h)))
 
-line_holds : {T : Token → Type 0} (base : List ℕ) (r : Read) → Kept base r.left r.settings → Holds T (line base r) (λ n w. Kept base w.left w.settings)
+line_holds : {T : Token → Type 0} (base : List ℕ) (r : Read) → Kept base r.left r.settings
+    → Holds T (line base r) (λ n w. Kept base w.left w.settings)
 line_holds base r k =
-    holds_also (holds_token {P = λ p n. NameFits n × (0 < r.left)} (λ t n h v m. name_fits r.left t n v m)) (λ p n w.
+    holds_also (holds_token {P = λ p n. NameFits n × (0 < r.left)}
+    (λ t n h v m. name_fits r.left t n v m)) (λ p n w.
     holds_also (behind_holds base (is_active n) r.left n r.settings refl k w.0 w.1) (λ q v g.
     holds_also (holds_any (one_line_end tt)) (λ j u x.
     holds_nothing (λ i. g))))
 
-file_holds : {T : Token → Type 0} (base : List ℕ) → Holds T (parameter_file base) (λ n v. (left : ℕ) × Kept base left v)
+file_holds : {T : Token → Type 0} (base : List ℕ)
+    → Holds T (parameter_file base) (λ n v. (left : ℕ) × Kept base left v)
 file_holds base =
-    holds_also (holds_loop (λ (r : Read). Kept base r.left r.settings) (line_holds base) (record { thorns = tt; once = refl; settings = tt; lines = omega arith })) (λ n r k.
+    holds_also (holds_loop (λ (r : Read). Kept base r.left r.settings) (line_holds base)
+    (record { thorns = tt; once = refl; settings = tt; lines = omega arith })) (λ n r k.
     holds_nothing (λ i. (r.left, k)))
 
 pub record Fits (base : List ℕ) (v : Settings) : Type 0 where
@@ -159,7 +198,14 @@ pub record Fits (base : List ℕ) (v : Settings) : Type 0 where
   pub settings : AllByRecursion (SettingFits base) v.list
   pub lines : lines_of v.active + length v.list ≤ 4096
 
-pub fits : (base : List ℕ) (ts : List Token) (v : Settings) → Spells (parameter_file base).derives ts v → Fits base v
+pub fits : (base : List ℕ) (ts : List Token) (v : Settings)
+    → Spells (parameter_file base).derives ts v → Fits base v
 fits base ts v s =
-    let k = spelled_holds (file_holds {T = λ t. Unit {0}} base) ts v s (unmarked_clean (λ t. Unit {0}) ts (λ t. tt)) in
-    record { thorns = k.1.thorns; once = k.1.once; settings = k.1.settings; lines = let l = k.1.lines in omega (arith, l) }
+    let k = spelled_holds (file_holds {T = λ t. Unit {0}} base) ts v s
+    (unmarked_clean (λ t. Unit {0}) ts (λ t. tt)) in
+    record {
+      thorns = k.1.thorns;
+      once = k.1.once;
+      settings = k.1.settings;
+      lines = let l = k.1.lines in omega (arith, l);
+    }

@@ -86,7 +86,11 @@ setting base n s = do
   i ← index
   u ← sign_here 61
   v ← token (value_of base) unmarked
-  nothing (record s { list = s.list ++ record { owner = n.owner; name = n.name; index = i; value = v; line = n.line } ∷ [] })
+  nothing
+      (record s {
+        list = s.list
+            ++ record { owner = n.owner; name = n.name; index = i; value = v; line = n.line } ∷ [];
+      })
 
 abbrev pub is_alone : Option (List ℕ) → Bool
 is_alone None = true
@@ -100,7 +104,8 @@ abbrev pub behind_word : List ℕ → Bool → Name → Settings → Rule Settin
 behind_word base true n s = choice (is_sign 91) (setting base n s) (active base s)
 behind_word base false n s = setting base n s
 
--- setting = ActiveThorns "=" (Quoted | Word) | Word [ "[" Word "]" ] "=" (Quoted | Word), behind its first Word
+-- setting = ActiveThorns "=" (Quoted | Word) | Word [ "[" Word "]" ] "=" (Quoted | Word), behind
+-- its first Word
 abbrev pub behind : List ℕ → Name → Settings → Rule Settings
 behind base n s = behind_word base (is_active n) n s
 
@@ -115,5 +120,6 @@ line base r = do
 -- file = { setting LineEnd }
 abbrev pub parameter_file : List ℕ → Rule Settings
 parameter_file base = do
-  r ← loop is_word (line base) (record { left = 4096; settings = record { active = []; list = [] } })
+  r ← loop is_word (line base)
+      (record { left = 4096; settings = record { active = []; list = [] } })
   nothing r.settings

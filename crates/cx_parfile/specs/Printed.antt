@@ -1,4 +1,5 @@
--- The parameter file, as tokens: one line for all active thorns, and a line for each setting, with its value quoted.
+-- The parameter file, as tokens: one line for all active thorns, and a line for each setting, with
+-- its value quoted.
 use Rattle.std.specs.Prelude.{◌≡◌, ℕ, List, [], ◌∷◌, ◌++◌, map, Option, Some, None}
 use Rattle.std.specs.List.{flat_map}
 use Rattle.std.specs.Fmt.{decimal}
@@ -49,17 +50,19 @@ settings_tokens v = active_line v.active ++ flat_map setting_line v.list
 
 -- ---- read again
 
-abbrev pub unlined_setting : Setting → Setting
-unlined_setting s = record s { line = 0 }
+abbrev pub without_line : Setting → Setting
+without_line s = record s { line = 0 }
 
 -- without the lines of its settings
 abbrev pub unlined : Settings → Settings
-unlined v = record v { list = map unlined_setting v.list }
+unlined v = record v { list = map without_line v.list }
 
 -- some text spells these settings, in a file of this base name
 abbrev pub SpelledUnder : List ℕ → Settings → Type 0
 SpelledUnder base v = HasSpelling Par (parameter_file base).derives v
 
--- under each base name under which some text spells these settings, this text spells them too, but for their lines
+-- under each base name under which some text spells these settings, this text spells them too, but
+-- for their lines
 abbrev pub SpellsAgain : List ℕ → Settings → Type 0
-SpellsAgain text v = (base : List ℕ) → SpelledUnder base v → (w : Settings) × TextSpells Par (parameter_file base).derives text w × (unlined w ≡ unlined v)
+SpellsAgain text v = (base : List ℕ) → SpelledUnder base v
+    → (w : Settings) × TextSpells Par (parameter_file base).derives text w × (unlined w ≡ unlined v)

@@ -4,6 +4,7 @@ use Rattle.std.specs.List.{list_all, slice_split, ends_with, after_last}
 use Rattle.std.specs.Char.{is_ascii_alphanumeric}
 use Rattle.std.specs.Str.{bytes_eq}
 use Rattle.cx_text.specs.Lexemes.{among}
+use Rattle.cx_text.specs.Bytes.{is_slash}
 
 -- ---- names
 
@@ -30,7 +31,8 @@ alone text = cond (is_name text) (Some (None, text)) None
 -- what stands before the first colon, and behind it: an owner, another colon and a name
 abbrev pub owned : List ℕ → List ℕ → Option Named
 owned owner [] = None
-owned owner (b ∷ name) = cond (is_colon b && (is_name owner && is_name name)) (Some (Some owner, name)) None
+owned owner (b ∷ name) =
+    cond (is_colon b && (is_name owner && is_name name)) (Some (Some owner, name)) None
 
 abbrev pub named_at : List ℕ → Option ℕ → Option Named
 named_at text None = alone text
@@ -66,9 +68,6 @@ activate_all active [] = active
 activate_all active (n ∷ ns) = activate_all (activate active n) ns
 
 -- ---- the base name of a file
-
-abbrev pub is_slash : ℕ → Bool
-is_slash b = nat_eq b 47
 
 abbrev pub PAR : List ℕ
 PAR = codes ".par"

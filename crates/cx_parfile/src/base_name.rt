@@ -2,11 +2,13 @@
 
 ghost use Rattle.std.specs.Prelude.{◌≡◌, IfOk};
 ghost use Rattle.std.specs.List.{after_last};
-ghost use Rattle.cx_parfile.specs.Values.{is_slash, without_par, base_of};
+ghost use Rattle.cx_parfile.specs.Values.{without_par, base_of};
+ghost use Rattle.cx_text.specs.Bytes.{is_slash};
 
 use cx_text::{Memory, Text};
 use std::alloc::Global;
 
+/// What follows the last slash; without a slash the whole name.
 fn behind_slash(file: &[u8]) -> &[u8]
     ensures { result.now ≡ after_last is_slash file.now }
 {
@@ -17,6 +19,7 @@ fn behind_slash(file: &[u8]) -> &[u8]
     file.split_at(start).1
 }
 
+/// The name without `.par` at its end.
 fn without_par(name: &[u8]) -> &[u8]
     ensures { result.now ≡ without_par name.now }
 {

@@ -31,6 +31,7 @@ fn value_tokens(alloc: Global, tokens: &mut List<Token>, value: &[u8]) -> Result
     tokens.push_line_end(alloc)
 }
 
+/// Appends `ActiveThorns` and the thorns as one value.
 fn thorns_line(alloc: Global, tokens: &mut List<Token>, thorns: &[Text]) -> Result<(), Memory>
     ensures { OnOk result (tokens.new ≡ tokens.old ++ thorns_line thorns.now) }
 {
@@ -40,6 +41,7 @@ fn thorns_line(alloc: Global, tokens: &mut List<Token>, thorns: &[Text]) -> Resu
     Ok(())
 }
 
+/// Appends the line of the active thorns; nothing if there are none.
 fn active_line(alloc: Global, tokens: &mut List<Token>, thorns: &[Text]) -> Result<(), Memory>
     ensures { OnOk result (tokens.new ≡ tokens.old ++ active_line thorns.now) }
 {
@@ -49,6 +51,7 @@ fn active_line(alloc: Global, tokens: &mut List<Token>, thorns: &[Text]) -> Resu
     thorns_line(alloc, tokens, thorns)
 }
 
+/// The name of a parameter with its owner and `::`, if it has an owner.
 fn full_name(alloc: Global, owner: &Option<Text>, name: &[u8]) -> Result<Text, Memory>
     ensures { IfOk result (λ full. full ≡ full_name owner.now name.now) }
 {
@@ -63,6 +66,7 @@ fn full_name(alloc: Global, owner: &Option<Text>, name: &[u8]) -> Result<Text, M
     }
 }
 
+/// Appends the index of an array's element in brackets, if there is one.
 fn index_tokens(alloc: Global, tokens: &mut List<Token>, index: Option<u32>) -> Result<(), Memory>
     ensures { OnOk result (tokens.new ≡ tokens.old ++ index_tokens index) }
 {
@@ -75,6 +79,7 @@ fn index_tokens(alloc: Global, tokens: &mut List<Token>, index: Option<u32>) -> 
     tokens.push_sign(alloc, b']')
 }
 
+/// Appends a setting: parameter, index, value and line end.
 fn setting_line(alloc: Global, tokens: &mut List<Token>, setting: &Setting) -> Result<(), Memory>
     ensures { OnOk result (tokens.new ≡ tokens.old ++ setting_line setting.now) }
 {
@@ -84,6 +89,7 @@ fn setting_line(alloc: Global, tokens: &mut List<Token>, setting: &Setting) -> R
     value_tokens(alloc, tokens, setting.value.as_slice())
 }
 
+/// Appends the settings in their order.
 fn setting_lines(
     alloc: Global,
     tokens: &mut List<Token>,
@@ -97,6 +103,7 @@ fn setting_lines(
     Ok(())
 }
 
+/// The tokens of this parameter file.
 fn tokens_of(alloc: Global, settings: &Settings) -> Result<List<Token>, Memory>
     ensures { IfOk result (λ tokens. tokens ≡ settings_tokens settings.now) }
 {

@@ -36,6 +36,7 @@ pub struct Read {
     pub settings: Gathered,
 }
 
+/// Whether a name has an owner of more than 64 bytes.
 fn is_long_owner(owner: &Option<Text>) -> bool
     ensures { result ≡ is_long_owner owner.now }
 {
@@ -45,6 +46,7 @@ fn is_long_owner(owner: &Option<Text>) -> bool
     }
 }
 
+/// Reads the name of a parameter, with its owner if it has one. It is a fault if no more settings may come.
 fn name_here(reader: &mut Reader, alloc: Global, left: usize) -> Result<Name, Stop>
     ensures { Obeys (token name_of (name_mark left)) result reader.old reader.new }
 {
@@ -63,12 +65,14 @@ fn name_here(reader: &mut Reader, alloc: Global, left: usize) -> Result<Name, St
     }
 }
 
+/// Whether a token can be an index: digits only.
 fn is_index(token: &Token) -> bool
     ensures { result ≡ is_index token.now }
 {
     token.is_word() && !token.text.is_empty() && has_digits(token.text.as_slice())
 }
 
+/// Reads the index of an array's element.
 fn index_here(reader: &mut Reader) -> Result<u32, Stop>
     ensures { Obeys (token index_of index_mark) result reader.old reader.new }
 {
@@ -86,6 +90,7 @@ fn index_here(reader: &mut Reader) -> Result<u32, Stop>
     }
 }
 
+/// Reads a value; for `$parfile` it is the base name.
 fn value_here(reader: &mut Reader, alloc: Global, base: &[u8]) -> Result<Text, Stop>
     ensures { Obeys (token (value_of base.now) unmarked) result reader.old reader.new }
 {
@@ -99,6 +104,7 @@ fn value_here(reader: &mut Reader, alloc: Global, base: &[u8]) -> Result<Text, S
     }
 }
 
+/// Reads the value of `ActiveThorns`. It is a fault if one of its names is too long.
 fn thorns_here(reader: &mut Reader, alloc: Global, base: &[u8]) -> Result<Text, Stop>
     ensures { Obeys (token (value_of base.now) (thorns_mark base.now))
         result reader.old reader.new }
@@ -116,6 +122,7 @@ fn thorns_here(reader: &mut Reader, alloc: Global, base: &[u8]) -> Result<Text, 
     }
 }
 
+/// Reads an index in brackets.
 fn bracketed(reader: &mut Reader) -> Result<Option<u32>, Stop>
     ensures { Obeys bracketed result reader.old reader.new }
 {
@@ -125,6 +132,7 @@ fn bracketed(reader: &mut Reader) -> Result<Option<u32>, Stop>
     Ok(Some(index))
 }
 
+/// Reads an optional index in brackets.
 fn index(reader: &mut Reader) -> Result<Option<u32>, Stop>
     ensures { Obeys index result reader.old reader.new }
 {
@@ -142,6 +150,7 @@ fn equals(reader: &mut Reader) -> Result<(), Stop>
     reader.sign_here(b'=')
 }
 
+/// Reads an equals sign and thorns, and activates them.
 fn active(
     reader: &mut Reader,
     alloc: Global,
@@ -156,6 +165,7 @@ fn active(
     Ok(())
 }
 
+/// Reads an index, an equals sign and a value, and adds the setting of the parameter.
 fn setting(
     reader: &mut Reader,
     alloc: Global,
@@ -179,12 +189,14 @@ fn setting(
     Ok(())
 }
 
+/// Whether a name is `ActiveThorns`, without an owner.
 fn is_active(name: &Name) -> bool
     ensures { result ≡ is_active name.now }
 {
     name.owner.is_none() && same_name(name.name.as_slice(), b"ActiveThorns")
 }
 
+/// Reads what follows the first name of a line: thorns to activate, or a value to set.
 fn behind(
     reader: &mut Reader,
     alloc: Global,
@@ -201,6 +213,7 @@ fn behind(
     }
 }
 
+/// Reads one line of a parameter file.
 fn line(reader: &mut Reader, alloc: Global, base: &[u8], read: &mut Read) -> Result<(), Stop>
     ensures { Builds (line base.now read.old) read.new result reader.old reader.new }
 {
@@ -211,6 +224,7 @@ fn line(reader: &mut Reader, alloc: Global, base: &[u8], read: &mut Read) -> Res
     Ok(())
 }
 
+/// Reads lines for as long as a word comes next.
 fn lines(reader: &mut Reader, alloc: Global, base: &[u8], read: &mut Read) -> Result<(), Stop>
     ensures { Builds (loop is_word (line base.now) read.old) read.new result reader.old reader.new }
 {
@@ -220,6 +234,7 @@ fn lines(reader: &mut Reader, alloc: Global, base: &[u8], read: &mut Read) -> Re
     Ok(())
 }
 
+/// Reads a parameter file; `base` is its base name.
 fn whole(reader: &mut Reader, alloc: Global, base: &[u8]) -> Result<Settings, Stop>
     ensures { Obeys (parameter_file base.now) result reader.old reader.new }
 {

@@ -10,6 +10,7 @@ use cx_names::NameList;
 use cx_text::{MAX_NAME, Memory, Text};
 use std::alloc::{AllocError, Global};
 
+/// Whether all bytes are letters, digits or underscores.
 fn has_name_bytes(text: &[u8]) -> bool
     ensures { result ≡ list_all is_name_byte text.now }
 {
@@ -17,18 +18,21 @@ fn has_name_bytes(text: &[u8]) -> bool
         .all(|byte| byte.is_ascii_alphanumeric() || *byte == b'_')
 }
 
+/// Whether a text can be a name: not empty, of letters, digits and underscores.
 fn is_name(text: &[u8]) -> bool
     ensures { result ≡ is_name text.now }
 {
     !text.is_empty() && has_name_bytes(text)
 }
 
+/// The place of the first colon, where the owner ends.
 fn colon_at(text: &[u8]) -> Option<usize>
     ensures { result ≡ position is_colon text.now }
 {
     text.iter().position(|byte| *byte == b':')
 }
 
+/// A name without an owner, if the text is a name.
 fn alone(alloc: Global, text: &[u8], line: u32) -> Result<Option<Name>, Memory>
     ensures { IfOk result (λ name. name ≡ name_with line (alone text.now)) }
 {
@@ -42,6 +46,7 @@ fn alone(alloc: Global, text: &[u8], line: u32) -> Result<Option<Name>, Memory>
     }))
 }
 
+/// A name with its owner; `rest` is what follows the first colon.
 fn owned(alloc: Global, owner: &[u8], rest: &[u8], line: u32) -> Result<Option<Name>, Memory>
     ensures { IfOk result (λ name. name ≡ name_with line (owned owner.now rest.now)) }
 {
@@ -81,12 +86,14 @@ pub fn value_in<'a>(base: &'a [u8], text: &'a [u8]) -> &'a [u8]
     }
 }
 
+/// Whether a byte separates thorns: a blank, a tab, a line end or a comma.
 fn is_separator(byte: u8) -> bool
     ensures { result ≡ is_separator byte }
 {
     matches!(byte, b' ' | b'\t' | b'\r' | b'\n' | b',')
 }
 
+/// The parts of a value between separators, empty ones too.
 fn parts_of(alloc: Global, text: &[u8]) -> Result<Vec<&[u8]>, AllocError>
     ensures { IfOk result (λ parts. map (λ x. x.now) parts.items
         ≡ slice_split is_separator text.now) }
@@ -94,6 +101,7 @@ fn parts_of(alloc: Global, text: &[u8]) -> Result<Vec<&[u8]>, AllocError>
     text.split(|byte| is_separator(*byte)).collect(alloc)
 }
 
+/// Whether one of the parts has more than 64 bytes.
 fn any_long(parts: &[&[u8]]) -> bool
     ensures { result ≡ list_any is_long (map (λ x. x.now) parts.now) }
 {
@@ -113,6 +121,7 @@ pub fn has_long_thorn(alloc: Global, text: &[u8]) -> Result<bool, Memory>
     Ok(any_long(&parts))
 }
 
+/// Adds a thorn to the active ones, unless it is one of them.
 fn activate(alloc: Global, active: &mut NameList, thorn: &[u8]) -> Result<(), Memory>
     ensures { OnOk result (active.new ≡ activate active.old thorn.now) }
 {
@@ -122,6 +131,7 @@ fn activate(alloc: Global, active: &mut NameList, thorn: &[u8]) -> Result<(), Me
     active.push(alloc, Text::from_slice(alloc, thorn)?)
 }
 
+/// Activates the thorns that the parts name, empty parts left out.
 fn activate_all(alloc: Global, active: &mut NameList, parts: &[&[u8]]) -> Result<(), Memory>
     ensures { let names = filter (λ n. not (is_empty n)) (map (λ x. x.now) parts.now) in
         OnOk result (active.new ≡ activate_all active.old names) }

@@ -15,7 +15,7 @@ use Rattle.cx_field.specs.Patches.{PatchValue, IsScalar, IsGridLevel}
 use Rattle.cx_ghost.specs.Posts.{CanExchange}
 use Rattle.cx_flat.specs.declared.op.Op.{Op}
 use Rattle.cx_flat.specs.declared.op.Op.TheVariants.{Sweep, Apply, Give, Join, Post, Take, Test, Open, Turn, Again, Rotate, Due, Written, Skip, Next, Piece, Save, Halt}
-use Rattle.cx_parts.specs.Operations.{NamesWell, IsExchange, at_var}
+use Rattle.cx_parts.specs.Operations.{NamesWell, IsExchange}
 use Rattle.cx_part.specs.Jobs.{IsChecked, IsCutOf, IsOperation}
 use Rattle.cx_part.proofs.Known.{AreDifferent, IsKnown}
 use Rattle.cx_part.specs.Frames.{IsPatchFor, IsPatchOf}
@@ -23,6 +23,7 @@ use Rattle.cx_part.specs.Tests.{CanTest}
 use Rattle.cx_part.proofs.FrameLaws.{same_patch, names_well, is_known}
 use Rattle.cx_part.proofs.FewLaws.{face_few, vars_few, values_few}
 use Rattle.cx_rule.proofs.CutParts.{part_is}
+use Rattle.cx_rule.specs.Faces.{variable_at}
 
 module _ (job : Job) (checked : IsChecked job) where
   abbrev S : Setup
@@ -30,11 +31,13 @@ module _ (job : Job) (checked : IsChecked job) where
 
   -- ---- exchanges
 
-  module _ (cut : Parts) (is : IsCutOf job cut) (k : ℕ) (part : k < part_count cut) (p : PatchValue) (patch : IsPatchOf S cut k p) where
+  module _ (cut : Parts) (is : IsCutOf job cut) (k : ℕ) (part : k < part_count cut) (p : PatchValue)
+      (patch : IsPatchOf S cut k p) where
     shape_is : cut.shape ≡ job.shape
     shape_is = ap (λ (c : Parts). c.shape) is.parts
 
-    can_exchange : (d : ℕ) (vars : List VarId) → IsExchange S d vars → AreDifferent vars → CanExchange cut k d vars p
+    can_exchange : (d : ℕ) (vars : List VarId) → IsExchange S d vars → AreDifferent vars
+        → CanExchange cut k d vars p
     can_exchange d vars names differ = record {
       whole = is.whole;
       part = part;
@@ -43,32 +46,45 @@ module _ (job : Job) (checked : IsChecked job) where
       local_is = patch.local_is;
       direction = subst (λ (s : Shape). d < s.dims) (sym shape_is) names.direction;
       stored = record {
-        levels = All-from_get_or (λ v. IsGridLevel p v 0) vars (record { 0 = 0 }) (λ i l. subst (λ q. IsGridLevel q (at_var vars i) 0) (same_patch S p patch.patch.shape patch.patch.vars) (record {
-          var = (names.current i l).0;
-          stored = (names.current i l).1;
-          grid = names.grid i l;
-        }));
+        levels = All-from_get_or (λ v. IsGridLevel p v 0) vars (record { 0 = 0 })
+            (λ i l. subst (λ q. IsGridLevel q (variable_at vars i) 0)
+            (same_patch S p patch.patch.shape patch.patch.vars) (record {
+              var = (names.current i l).0;
+              stored = (names.current i l).1;
+              grid = names.grid i l;
+            }));
         differ = differ;
       };
       few = λ side.
           let direction = names.direction in
           let most = checked.whole.shape.most in
-          values_few (length vars) _ (point_count (whole cut.shape)) (grid_levels job.vars) (face_few cut.shape (owned cut k) (local cut k) (part_is cut is.whole k part) d (omega (arith, direction, most)) side)
-          (vars_few job.vars vars differ (λ i l. (names.current i l).0) (λ i l. subst (λ b. 1 ≤ cond b 0 (levels_of S (at_var vars i))) (sym (names.grid i l)) (let some = (names.current i l).1 in omega (arith, some))))
-          (subst (λ s. grid_levels job.vars * point_count (whole s) ≤ 2 ^ 26) (sym shape_is) checked.whole.cells_limit);
+          values_few (length vars) _ (point_count (whole cut.shape)) (grid_levels job.vars)
+          (face_few cut.shape (owned cut k) (local cut k) (part_is cut is.whole k part) d
+          (omega (arith, direction, most)) side)
+          (vars_few job.vars vars differ (λ i l. (names.current i l).0)
+          (λ i l. subst (λ b. 1 ≤ cond b 0 (levels_of S (variable_at vars i)))
+          (sym (names.grid i l)) (let some = (names.current i l).1 in omega (arith, some))))
+          (subst (λ s. grid_levels job.vars * point_count (whole s) ≤ 2 ^ 26) (sym shape_is)
+          checked.whole.cells_limit);
     }
 
-    pub can_post : (d : ℕ) (vars : List VarId) → IsOperation S (Post d vars) → CanExchange cut k d vars p
-    can_post d vars here = can_exchange d vars (names_well job checked (Post d vars) here) (is_known job checked (Post d vars) here)
+    pub can_post : (d : ℕ) (vars : List VarId) → IsOperation S (Post d vars)
+        → CanExchange cut k d vars p
+    can_post d vars here = can_exchange d vars (names_well job checked (Post d vars) here)
+        (is_known job checked (Post d vars) here)
 
-    pub can_take : (d : ℕ) (vars : List VarId) (path : List ℕ) → IsOperation S (Take d vars path) → CanExchange cut k d vars p
-    can_take d vars path here = can_exchange d vars (names_well job checked (Take d vars path) here) (is_known job checked (Take d vars path) here)
+    pub can_take : (d : ℕ) (vars : List VarId) (path : List ℕ) → IsOperation S (Take d vars path)
+        → CanExchange cut k d vars p
+    can_take d vars path here =
+        can_exchange d vars (names_well job checked (Take d vars path) here)
+        (is_known job checked (Take d vars path) here)
 
   -- ---- tests
 
   module _ (p : PatchValue) (patch : IsPatchFor S p) where
     scalar_in : (v : VarId) → is_scalar S v ≡ true → IsStored job v 0 → IsScalar p v
-    scalar_in v e stored = subst (λ q. IsScalar q v) (same_patch S p patch.shape patch.vars) (record { var = stored.0; stored = stored.1; scalar = e })
+    scalar_in v e stored = subst (λ q. IsScalar q v) (same_patch S p patch.shape patch.vars)
+        (record { var = stored.0; stored = stored.1; scalar = e })
 
     can_by : (o : Op) → NamesWell S o → IsKnown job o → CanTest o p
     can_by (Sweep i) names known = tt

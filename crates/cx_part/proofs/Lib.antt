@@ -1,3 +1,4 @@
+pub mod CopyLaws
 pub mod Known
 pub mod KnownLaws
 pub mod FrameLaws

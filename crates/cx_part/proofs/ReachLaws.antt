@@ -20,7 +20,8 @@ pub none_before : {X : Type 0} (P : X → Type 0) (xs : List X) → AllBefore P 
 none_before P xs k d l m = absurd (omega (arith, l))
 
 -- one place more, where all that held holds still
-pub one_more : {X : Type 0} (P Q : X → Type 0) (xs : List X) (i : ℕ) → AllBefore P xs i → ((x : X) → P x → Q x)
+pub one_more : {X : Type 0} (P Q : X → Type 0) (xs : List X) (i : ℕ) → AllBefore P xs i
+    → ((x : X) → P x → Q x)
     → ((d : X) → i < length xs → Q (get_or xs i d)) → AllBefore Q xs (i + 1)
 one_more P Q xs i h still here k d l m = go (cases k i l)
   where
@@ -29,5 +30,6 @@ one_more P Q xs i h still here k d l m = go (cases k i l)
     go (inr e) = subst (λ j. Q (get_or xs j d)) (sym e) (here d (subst (λ j. j < length xs) e m))
 
 -- at the end it holds of all
-pub all_before : {X : Type 0} (P : X → Type 0) (xs : List X) (i : ℕ) → AllBefore P xs i → length xs ≤ i → All P xs
+pub all_before : {X : Type 0} (P : X → Type 0) (xs : List X) (i : ℕ) → AllBefore P xs i
+    → length xs ≤ i → All P xs
 all_before P xs i h l k d m = h k d (omega (arith, l, m)) m

@@ -39,7 +39,8 @@ posted_of (Take d vars path) = Post d vars
 posted_of _ = Halt
 
 -- behind a Post alone stands a Take, of the same direction and variables
-behind_post : (o : Op) (d : ℕ) (vars : List VarId) (path : List ℕ) → Paired o (Take d vars path) → o ≡ Post d vars
+behind_post : (o : Op) (d : ℕ) (vars : List VarId) (path : List ℕ) → Paired o (Take d vars path)
+    → o ≡ Post d vars
 behind_post (Post e us) d vars path h = sym (ap posted_of h.1)
 behind_post (Give i) d vars path h = absurd cc
 behind_post (Sweep i) d vars path h = absurd cc
@@ -59,35 +60,52 @@ behind_post (Piece v) d vars path h = absurd cc
 behind_post Save d vars path h = absurd cc
 behind_post Halt d vars path h = absurd cc
 
-module _ (tells : Type 0) (r : Run) (run : IsRun r) (oracle : Oracle) (w : World Held (Message tells) Channel ℕ) (is : IsReachedState tells r oracle w)
-    (k : ℕ) (can : CanMove (net tells within_lead r oracle) w k) (d : ℕ) (vars : List VarId) (path : List ℕ) (here : next_op r (w.held k).control ≡ Take d vars path) where
-  found_there : (a : ℕ) → taken_now (net tells within_lead r oracle) w k (Wire a k) ≡ takes (script tells r oracle) (Wire a k) (w.place k)
+module _ (tells : Type 0) (r : Run) (run : IsRun r) (oracle : Oracle)
+    (w : World Held (Message tells) Channel ℕ) (is : IsReachedState tells r oracle w)
+    (k : ℕ) (can : CanMove (net tells within_lead r oracle) w k) (d : ℕ) (vars : List VarId)
+    (path : List ℕ) (here : next_op r (w.held k).control ≡ Take d vars path) where
+  found_there : (a : ℕ) → taken_now (net tells within_lead r oracle) w k (Wire a k)
+      ≡ takes (script tells r oracle) (Wire a k) (w.place k)
   found_there a =
-      (found (net tells within_lead r oracle) (script tells r oracle) (Agrees tells r oracle) (GivesAt r oracle) (Books tells r)
-      (lead_fits tells r run oracle is.oracle_is.told is.oracle_is.first) w is.woven k can (Wire a k) refl).0
+      (found (net tells within_lead r oracle) (script tells r oracle) (Agrees tells r oracle)
+      (GivesAt r oracle) (Books tells r)
+      (lead_fits tells r run oracle is.oracle_is.told is.oracle_is.first) w is.woven k can
+      (Wire a k) refl).0
 
   on_way : op_there r oracle (w.place k) ≡ Take d vars path
   on_way = ap (next_op r) (sym (is.woven.agrees k can.part).stands.control) ∙ here
 
   -- what a part posted is what is taken of it
-  faces_taken : (a : ℕ) → a < parts_in r → (n : ℕ) × (values : Side → tells → List ℤ) × (taken_now (net tells within_lead r oracle) w k (Wire a k) ≡ posted_faces r n a values d vars k)
+  faces_taken : (a : ℕ) → a < parts_in r
+      → (n : ℕ) × (values : Side → tells → List ℤ)
+      × (taken_now (net tells within_lead r oracle) w k (Wire a k)
+      ≡ posted_faces r n a values d vars k)
   faces_taken a la = go (w.place k) refl
     where
-      go : (p : ℕ) → w.place k ≡ p → (n : ℕ) × (values : Side → tells → List ℤ) × (taken_now (net tells within_lead r oracle) w k (Wire a k) ≡ posted_faces r n a values d vars k)
+      go : (p : ℕ) → w.place k ≡ p
+          → (n : ℕ) × (values : Side → tells → List ℤ)
+          × (taken_now (net tells within_lead r oracle) w k (Wire a k)
+          ≡ posted_faces r n a values d vars k)
       go zero e =
-          let quiet : is_receiving (op_there r oracle 0) ≡ false = first_quiet r oracle (run.ways (scalars_at r oracle)) in
-          let takes_first : is_receiving (op_there r oracle 0) ≡ true = ap (λ p. is_receiving (op_there r oracle p)) (sym e) ∙ ap is_receiving on_way in
+          let quiet : is_receiving (op_there r oracle 0) ≡ false =
+          first_quiet r oracle (run.ways (scalars_at r oracle)) in
+          let takes_first : is_receiving (op_there r oracle 0) ≡ true =
+          ap (λ p. is_receiving (op_there r oracle p)) (sym e) ∙ ap is_receiving on_way in
           absurd cc
       go (suc m) e =
-          let next : op_there r oracle (suc m) ≡ Take d vars path = ap (op_there r oracle) (sym e) ∙ on_way in
-          let pair : Paired (op_there r oracle m) (Take d vars path) = subst (Paired (op_there r oracle m)) next (pair_there r oracle (run.ways (scalars_at r oracle)) m) in
+          let next : op_there r oracle (suc m) ≡ Take d vars path =
+          ap (op_there r oracle) (sym e) ∙ on_way in
+          let pair : Paired (op_there r oracle m) (Take d vars path) =
+          subst (Paired (op_there r oracle m)) next
+          (pair_there r oracle (run.ways (scalars_at r oracle)) m) in
           let before = behind_post (op_there r oracle m) d vars path pair in
           let faces = faces_by {tells = tells} r a (values_of r.setup (undivided r m).state) in (
             m,
             faces d vars,
             found_there a
                 ∙ ap (takes (script tells r oracle) (Wire a k)) e
-                ∙ ap (λ t. cond t (op_posts r (op_there r oracle m) m faces (λ i. oracle a m) (Wire a k)) []) (are_there r (Wire a k) la can.part)
+                ∙ ap (λ t. cond t (op_posts r (op_there r oracle m) m faces (λ i. oracle a m)
+                (Wire a k)) []) (are_there r (Wire a k) la can.part)
                 ∙ ap (λ o. op_posts r o m faces (λ i. oracle a m) (Wire a k)) before,
           )
 
@@ -100,16 +118,20 @@ module _ (tells : Type 0) (r : Run) (run : IsRun r) (oracle : Oracle) (w : World
 pub takes_begin : (tells : Type 0) (r : Run) → IsRun r → TakesAreThere tells r
 takes_begin tells r run oracle w k d vars path is can here q shown a la =
     let faces = faces_taken tells r run oracle w is k can d vars path here a la in
-    begins_taken tells within_lead r oracle k (w.held k) w.queue q shown (law r run) d vars path here (few tells r run oracle w is k can d vars path here) can.part a la
+    begins_taken tells within_lead r oracle k (w.held k) w.queue q shown (law r run)
+    d vars path here (few tells r run oracle w is k can d vars path here) can.part a la
     faces.0 faces.1 faces.2
 
 -- of a job
-module _ (job : Job) (whole : IsWhole job) (shapes : HasShapes (setup_of job)) (interior : HasInterior job.shape) (cut : IsCut (parts_of job.shape job.cut))
-    (flat : (rules : List Rule) → FlatIsRun (setup_of job) rules) (ways : WaysEnd (setup_of job)) (met : (rules : List Rule) → OperationsMet (setup_of job) rules)
+module _ (job : Job) (whole : IsWhole job) (shapes : HasShapes (setup_of job))
+    (interior : HasInterior job.shape) (cut : IsCut (parts_of job.shape job.cut))
+    (flat : (rules : List Rule) → FlatIsRun (setup_of job) rules) (ways : WaysEnd (setup_of job))
+    (met : (rules : List Rule) → OperationsMet (setup_of job) rules)
     (rules : List Rule) (b : Beginning) (begins : IsBeginning (setup_of job) b) where
   cut_is : (b : Beginning) → IsCut (cut_of (run_of job rules b))
   cut_is Afresh = cut
   cut_is (From c state so_far) = cut
 
   pub job_takes : (tells : Type 0) → TakesAreThere tells (run_of job rules b)
-  job_takes tells = takes_begin tells (run_of job rules b) (job_run job rules b whole shapes interior begins (cut_is b) (flat rules) ways (met rules))
+  job_takes tells = takes_begin tells (run_of job rules b)
+      (job_run job rules b whole shapes interior begins (cut_is b) (flat rules) ways (met rules))

@@ -37,22 +37,28 @@ zero_at zero i = refl
 zero_at (suc n) zero = refl
 zero_at (suc n) (suc i) = zero_at n i
 
-zero_level : (m n l i : ℕ) → get_or (get_or (replicate m (replicate n (pos 0))) l []) i (pos 0) ≡ pos 0
+zero_level : (m n l i : ℕ)
+    → get_or (get_or (replicate m (replicate n (pos 0))) l []) i (pos 0) ≡ pos 0
 zero_level zero n l i = refl
 zero_level (suc m) n zero i = zero_at n i
 zero_level (suc m) n (suc l) i = zero_level m n l i
 
-zero_state : (setup : Setup) (vs : List VarInfo) (v l i : ℕ) → get_or (get_or (get_or (map (whole_zeros setup) vs) v []) l []) i (pos 0) ≡ pos 0
+zero_state : (setup : Setup) (vs : List VarInfo) (v l i : ℕ)
+    → get_or (get_or (get_or (map (whole_zeros setup) vs) v []) l []) i (pos 0) ≡ pos 0
 zero_state setup [] v l i = refl
 zero_state setup (x ∷ xs) zero l i = zero_level x.levels (whole_count setup x) l i
 zero_state setup (x ∷ xs) (suc v) l i = zero_state setup xs v l i
 
-zero_values : (setup : Setup) (v : VarId) (level : ℕ) (p : Point) → values_of setup (start setup) v level p ≡ pos 0
+zero_values : (setup : Setup) (v : VarId) (level : ℕ) (p : Point)
+    → values_of setup (start setup) v level p ≡ pos 0
 zero_values setup v level p = go (is_scalar setup v)
   where
-    go : (b : Bool) → cond b (scalar_of (start setup) v) (get_or (level_of (start setup) v level) (index_in (whole setup.shape) (wrap setup.shape p)) (pos 0)) ≡ pos 0
+    go : (b : Bool) → cond b (scalar_of (start setup) v)
+        (get_or (level_of (start setup) v level) (index_in (whole setup.shape) (wrap setup.shape p))
+        (pos 0)) ≡ pos 0
     go true = zero_state setup setup.vars v.0 0 0
-    go false = zero_state setup setup.vars v.0 level (index_in (whole setup.shape) (wrap setup.shape p))
+    go false = zero_state setup setup.vars v.0 level
+        (index_in (whole setup.shape) (wrap setup.shape p))
 
 -- ---- levels
 
@@ -64,72 +70,112 @@ map_alike : {A : Type 0} (f g : ℕ → A) → ((i : ℕ) → f i ≡ g i) → (
 map_alike f g h [] = refl
 map_alike f g h (n ∷ ns) = ap (λ x. x ∷ map f ns) (h n) ∙ ap (λ xs. g n ∷ xs) (map_alike f g h ns)
 
-module _ (setup : Setup) (values : Values) (none : (v : VarId) (level : ℕ) (p : Point) → values v level p ≡ pos 0) (b : Box3) where
-  zero_box : (v : VarId) (level : ℕ) → numbers_in b (values v level) ≡ replicate (point_count b) (pos 0)
-  zero_box v level = numbers_same b (values v level) (λ p. pos 0) (λ p h. none v level p) ∙ same_each (pos 0) 0 (point_count b)
+module _ (setup : Setup) (values : Values)
+    (none : (v : VarId) (level : ℕ) (p : Point) → values v level p ≡ pos 0) (b : Box3) where
+  zero_box : (v : VarId) (level : ℕ)
+      → numbers_in b (values v level) ≡ replicate (point_count b) (pos 0)
+  zero_box v level = numbers_same b (values v level) (λ p. pos 0) (λ p h. none v level p)
+      ∙ same_each (pos 0) 0 (point_count b)
 
   zero_levels : (v : ℕ) (x : VarInfo) → is_scalar setup (record { 0 = v }) ≡ x.scalar
-      → cond (is_scalar setup (record { 0 = v })) (whole_zeros setup x) (map (λ level. numbers_in b (values (record { 0 = v }) level)) (range_with_len 0 (length (whole_zeros setup x)))) ≡ zeros b x
+      → cond (is_scalar setup (record { 0 = v })) (whole_zeros setup x)
+      (map (λ level. numbers_in b (values (record { 0 = v }) level))
+      (range_with_len 0 (length (whole_zeros setup x)))) ≡ zeros b x
   zero_levels v x e =
-      ap (λ s. cond s (whole_zeros setup x) (map (λ level. numbers_in b (values (record { 0 = v }) level)) (range_with_len 0 (length (whole_zeros setup x))))) e
+      ap (λ s. cond s (whole_zeros setup x)
+      (map (λ level. numbers_in b (values (record { 0 = v }) level))
+      (range_with_len 0 (length (whole_zeros setup x))))) e
       ∙ go x.scalar refl
     where
-      go : (s : Bool) → x.scalar ≡ s → cond x.scalar (whole_zeros setup x) (map (λ level. numbers_in b (values (record { 0 = v }) level)) (range_with_len 0 (length (whole_zeros setup x)))) ≡ zeros b x
+      go : (s : Bool) → x.scalar ≡ s
+          → cond x.scalar (whole_zeros setup x)
+          (map (λ level. numbers_in b (values (record { 0 = v }) level))
+          (range_with_len 0 (length (whole_zeros setup x)))) ≡ zeros b x
       go true e = rw e refl
       go false e =
-          ap (λ s. cond s (whole_zeros setup x) (map (λ level. numbers_in b (values (record { 0 = v }) level)) (range_with_len 0 (length (whole_zeros setup x))))) e
-          ∙ map_alike (λ level. numbers_in b (values (record { 0 = v }) level)) (λ level. replicate (point_count b) (pos 0)) (λ level. zero_box (record { 0 = v }) level) (range_with_len 0 (length (whole_zeros setup x)))
+          ap (λ s. cond s (whole_zeros setup x)
+          (map (λ level. numbers_in b (values (record { 0 = v }) level))
+          (range_with_len 0 (length (whole_zeros setup x))))) e
+          ∙ map_alike (λ level. numbers_in b (values (record { 0 = v }) level))
+          (λ level. replicate (point_count b) (pos 0))
+          (λ level. zero_box (record { 0 = v }) level)
+          (range_with_len 0 (length (whole_zeros setup x)))
           ∙ same_each (replicate (point_count b) (pos 0)) 0 (length (whole_zeros setup x))
-          ∙ ap (λ n. replicate n (replicate (point_count b) (pos 0))) (length-replicate x.levels (replicate (whole_count setup x) (pos 0)))
+          ∙ ap (λ n. replicate n (replicate (point_count b) (pos 0)))
+          (length-replicate x.levels (replicate (whole_count setup x) (pos 0)))
           ∙ sym (ap (λ s. replicate x.levels (replicate (cond s 1 (point_count b)) (pos 0))) e)
 
-  zero_in : (v : ℕ) (vs : List VarInfo) → ((i : ℕ) → get_or setup.vars (v + i) no_variable ≡ get_or vs i no_variable)
+  zero_in : (v : ℕ) (vs : List VarInfo)
+      → ((i : ℕ) → get_or setup.vars (v + i) no_variable ≡ get_or vs i no_variable)
       → state_in setup values b v (map (whole_zeros setup) vs) ≡ map (zeros b) vs
   zero_in v [] h = refl
   zero_in v (x ∷ xs) h =
       let z : v + 0 ≡ v = omega arith in
-      let here : get_or setup.vars v no_variable ≡ x = subst (λ n. get_or setup.vars n no_variable ≡ x) z (h 0) in
-      ap (λ ls. ls ∷ state_in setup values b (suc v) (map (whole_zeros setup) xs)) (zero_levels v x (ap (λ (i : VarInfo). i.scalar) here))
-      ∙ ap (λ ls. zeros b x ∷ ls) (zero_in (suc v) xs (λ i. let n : suc v + i ≡ v + suc i = omega arith in ap (λ m. get_or setup.vars m no_variable) n ∙ h (suc i)))
+      let here : get_or setup.vars v no_variable ≡ x =
+      subst (λ n. get_or setup.vars n no_variable ≡ x) z (h 0) in
+      ap (λ ls. ls ∷ state_in setup values b (suc v) (map (whole_zeros setup) xs))
+      (zero_levels v x (ap (λ (i : VarInfo). i.scalar) here))
+      ∙ ap (λ ls. zeros b x ∷ ls)
+      (zero_in (suc v) xs (λ i. let n : suc v + i ≡ v + suc i = omega arith in
+      ap (λ m. get_or setup.vars m no_variable) n ∙ h (suc i)))
 
 -- the state at the start, over any box
-pub start_numbers : (setup : Setup) (b : Box3) → map (zeros b) setup.vars ≡ state_in setup (values_of setup (start setup)) b 0 (start setup)
+pub start_numbers : (setup : Setup) (b : Box3)
+    → map (zeros b) setup.vars ≡ state_in setup (values_of setup (start setup)) b 0 (start setup)
 start_numbers setup b =
-    sym (zero_in setup (values_of setup (start setup)) (zero_values setup) b 0 setup.vars (λ i. let n : 0 + i ≡ i = omega arith in ap (λ m. get_or setup.vars m no_variable) n))
+    sym (zero_in setup (values_of setup (start setup)) (zero_values setup) b 0 setup.vars
+    (λ i. let n : 0 + i ≡ i = omega arith in ap (λ m. get_or setup.vars m no_variable) n))
 
 -- a new patch of part k is that of the start
-pub starts_for : (job : Job) → IsChecked job → (cut : Parts) (k : ℕ) → (most : ℕ) → most < 256 → AreNear job.items most
-    → IsPatchOf (setup_of job) cut k (new_patch job.shape (owned cut k) (local cut k) job.vars job.items)
+pub starts_for : (job : Job) → IsChecked job → (cut : Parts) (k : ℕ) → (most : ℕ) → most < 256
+    → AreNear job.items most
+    → IsPatchOf (setup_of job) cut k
+    (new_patch job.shape (owned cut k) (local cut k) job.vars job.items)
 starts_for job checked cut k most below near =
-    record { patch = new_rooms job checked most below near (owned cut k) (local cut k); owned_is = refl; local_is = refl }
+    record {
+      patch = new_rooms job checked most below near (owned cut k) (local cut k);
+      owned_is = refl;
+      local_is = refl;
+    }
 
-pub starts_with : (job : Job) (rules : List Rule) (cut : Parts) (k : ℕ) → cut ≡ parts_of job.shape job.cut
-    → (new_patch job.shape (owned cut k) (local cut k) job.vars job.items).numbers ≡ (held_first (run_of job rules Afresh) k).numbers
+pub starts_with : (job : Job) (rules : List Rule) (cut : Parts) (k : ℕ)
+    → cut ≡ parts_of job.shape job.cut
+    → (new_patch job.shape (owned cut k) (local cut k) job.vars job.items).numbers
+    ≡ (held_first (run_of job rules Afresh) k).numbers
 starts_with job rules cut k is =
     start_numbers (setup_of job) (local cut k)
-    ∙ ap (λ c. state_in (setup_of job) (values_of (setup_of job) (start (setup_of job))) (local c k) 0 (start (setup_of job))) is
+    ∙ ap (λ c. state_in (setup_of job) (values_of (setup_of job) (start (setup_of job))) (local c k)
+    0 (start (setup_of job))) is
 
 -- ---- in the code's terms
 
-pub start_part : (job : Job) (cut : Parts) (k : ℕ) → IsCutOf job cut → k < part_count cut → (own near : Box3) → own ≡ owned cut k → near ≡ local cut k
+pub start_part : (job : Job) (cut : Parts) (k : ℕ) → IsCutOf job cut → k < part_count cut
+    → (own near : Box3) → own ≡ owned cut k → near ≡ local cut k
     → IsPart job.shape own near
 start_part job cut k is l own near o n =
     subst (λ s. IsPart s own near) (ap (λ (c : Parts). c.shape) is.parts)
-    (subst (λ b. IsPart cut.shape b near) (sym o) (subst (λ b. IsPart cut.shape (owned cut k) b) (sym n) (part_is cut is.whole k l)))
+    (subst (λ b. IsPart cut.shape b near) (sym o)
+    (subst (λ b. IsPart cut.shape (owned cut k) b) (sym n) (part_is cut is.whole k l)))
 
 abbrev Made : Job → Box3 → Box3 → Result PatchValue Memory → Type 0
-Made job own near result = IfOk result (λ patch. patch ≡ new_patch job.shape own near job.vars job.items)
+Made job own near result =
+    IfOk result (λ patch. patch ≡ new_patch job.shape own near job.vars job.items)
 
-pub start_for : (job : Job) → IsChecked job → (cut : Parts) (k : ℕ) → (own near : Box3) → own ≡ owned cut k → near ≡ local cut k
-    → (most : ℕ) → most < 256 → AreNear job.items most → (result : Result PatchValue Memory) → Made job own near result → IfOk result (IsPatchOf (setup_of job) cut k)
+pub start_for : (job : Job) → IsChecked job → (cut : Parts) (k : ℕ) → (own near : Box3)
+    → own ≡ owned cut k → near ≡ local cut k
+    → (most : ℕ) → most < 256 → AreNear job.items most → (result : Result PatchValue Memory)
+    → Made job own near result → IfOk result (IsPatchOf (setup_of job) cut k)
 start_for job checked cut k own near o n most below far (Ok p) made =
     subst (IsPatchOf (setup_of job) cut k)
-    (ap (λ b. new_patch job.shape b (local cut k) job.vars job.items) (sym o) ∙ ap (λ b. new_patch job.shape own b job.vars job.items) (sym n) ∙ sym made)
+    (ap (λ b. new_patch job.shape b (local cut k) job.vars job.items) (sym o)
+    ∙ ap (λ b. new_patch job.shape own b job.vars job.items) (sym n) ∙ sym made)
     (starts_for job checked cut k most below far)
 start_for job checked cut k own near o n most below far (Err e) made = tt
 
-pub start_with : (job : Job) (rules : List Rule) (cut : Parts) (k : ℕ) → cut ≡ parts_of job.shape job.cut → (own near : Box3) → own ≡ owned cut k → near ≡ local cut k
-    → (result : Result PatchValue Memory) → Made job own near result → IfOk result (λ patch. patch.numbers ≡ (held_first (run_of job rules Afresh) k).numbers)
+pub start_with : (job : Job) (rules : List Rule) (cut : Parts) (k : ℕ)
+    → cut ≡ parts_of job.shape job.cut → (own near : Box3) → own ≡ owned cut k → near ≡ local cut k
+    → (result : Result PatchValue Memory) → Made job own near result
+    → IfOk result (λ patch. patch.numbers ≡ (held_first (run_of job rules Afresh) k).numbers)
 start_with job rules cut k is own near o n (Ok p) made =
     ap (λ (q : PatchValue). q.numbers) made
     ∙ ap (λ b. (new_patch job.shape b near job.vars job.items).numbers) o

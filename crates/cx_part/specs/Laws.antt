@@ -12,10 +12,13 @@ use Rattle.cx_parts.specs.Nets.{net, within_lead}
 use Rattle.cx_parts.specs.Laws.{IsReachedState}
 use Rattle.cx_part.specs.Exchanges.{ShowsWire}
 
--- in each state that is reached: where a part can go on with a Take, each queue to it begins with all that it takes of it
+-- in each state that is reached: where a part can go on with a Take, each queue to it begins with
+-- all that it takes of it
 abbrev pub TakesAreThere : (tells : Type 0) → Run → Type 0
 TakesAreThere tells r =
-    (oracle : Oracle) (w : World Held (Message tells) Channel ℕ) (k d : ℕ) (vars : List VarId) (path : List ℕ)
-    → IsReachedState tells r oracle w → CanMove (net tells within_lead r oracle) w k → next_op r (w.held k).control ≡ Take d vars path
+    (oracle : Oracle) (w : World Held (Message tells) Channel ℕ) (k d : ℕ) (vars : List VarId)
+    (path : List ℕ)
+    → IsReachedState tells r oracle w → CanMove (net tells within_lead r oracle) w k
+    → next_op r (w.held k).control ≡ Take d vars path
     → (q : ℕ → ℕ → List (SentMail tells)) → ShowsWire r q w.queue
     → (a : ℕ) → a < parts_in r → BeginsWith (cut_of r) a d vars (needed (cut_of r) k d a) (q a k)

@@ -1,5 +1,6 @@
 pub mod Jobs
 pub mod Frames
+pub mod Copies
 pub mod Items
 pub mod Reductions
 pub mod Exchanges

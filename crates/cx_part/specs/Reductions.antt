@@ -6,7 +6,8 @@ use Rattle.cx_rule.specs.States.{State}
 use Rattle.cx_rule.specs.declared.routine.Overflow.{Overflow}
 use Rattle.cx_parts.specs.Holding.{join_turn}
 
--- At Ok the item's scalar has the number. Overflow comes exactly where it leaves the scalar's type; then nothing has changed.
+-- At Ok the item's scalar has the number. Overflow comes exactly where it leaves the scalar's type;
+-- then nothing has changed.
 abbrev pub Joins : Setup → Item → ℤ → (old new : State) → Result (Unit {0}) Overflow → Type 0
 Joins setup x number old new (Ok _) = join_turn setup x old number ≡ Some new
 Joins setup x number old new (Err _) = (join_turn setup x old number ≡ None) × (new ≡ old)

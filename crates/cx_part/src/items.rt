@@ -4,6 +4,7 @@ ghost use Rattle.cx_plan.specs.Lookups.{item as item_of};
 ghost use Rattle.cx_plan.specs.Regions.{region_of};
 ghost use Rattle.cx_plan.specs.declared.item.Region.TheVariants as regions;
 ghost use Rattle.cx_plan.specs.Setups.{setup_of};
+ghost use Rattle.cx_plan.specs.Steering.{item_at};
 ghost use Rattle.cx_cut.specs.Faults.{parts_of};
 ghost use Rattle.cx_rule.specs.Jobs.{FitJob};
 ghost use Rattle.cx_rule.specs.Routine.{rule_at};
@@ -11,16 +12,19 @@ ghost use Rattle.cx_field.specs.Patches.{IsPart};
 ghost use Rattle.cx_field.specs.Sweeps.{Sweeps, IsBoundaryWriter};
 ghost use Rattle.cx_flat.specs.declared.op.Op.TheVariants as ops;
 ghost use Rattle.cx_parts.specs.Runs.{Run, cut_of};
+ghost use Rattle.cx_part.specs.Copies.{copies_at};
 ghost use Rattle.cx_part.specs.Jobs.{IsChecked, IsOperation, IsRunOf};
 ghost use Rattle.cx_part.specs.Frames.{IsPatchFor, IsPatchOf, IsInCut, KeepsFrame};
 ghost use Rattle.cx_part.specs.Items.{CanTurn, Computes};
 
+use crate::copies::Items;
 use cx_field::{Patch, apply_boundary, sweep_item};
 use cx_plan::{Item, ItemKind, Job, Region};
 use cx_rule::{Meter, Overflow, Routine, object};
 
 /// The operation `Sweep`: the turn of a Cell item at the points that a part computes, of the interior those that it owns, else all
-/// that it holds. The patch is that of a part of the job's cut, since no such part has more points than the routine's cap.
+/// that it holds. The part's items are those of its iteration. The patch is that of a part of the job's cut, since no such part has
+/// more points than the routine's cap.
 ///
 /// # Errors
 ///
@@ -28,6 +32,7 @@ use cx_rule::{Meter, Overflow, Routine, object};
 /// the part has changed then, and the meter rose by at most the number of the points.
 pub fn sweep(
     job: &Job,
+    items: &Items,
     routines: &[Box<dyn Routine>],
     item: u32,
     patch: &mut Patch,
@@ -36,6 +41,7 @@ pub fn sweep(
 ) -> Result<(), Overflow>
     requires job { IsChecked job.now }
     requires routines { FitJob (map spec_of routines.now) job.now }
+    requires items { items.now ≡ copies_at (setup_of job.now) iteration }
     requires operation { IsOperation (setup_of job.now) (ops.Sweep item) }
     requires patch { IsPatchFor (setup_of job.now) patch.old }
     requires cut { IsInCut (parts_of job.now.shape job.now.cut) patch.old }
@@ -47,7 +53,7 @@ pub fn sweep(
         meter.old meter.new result }
 {
     has_boxes(patch);
-    turn(job, routines, item, patch, iteration, meter)
+    turn(job, items, routines, item, patch, iteration, meter)
 }
 
 /// The operation `Apply`: the turn of a Scalar item, which counts one point. The patch is that of a part of the job's cut.
@@ -57,6 +63,7 @@ pub fn sweep(
 /// `Overflow` as for `sweep`.
 pub fn apply(
     job: &Job,
+    items: &Items,
     routines: &[Box<dyn Routine>],
     item: u32,
     patch: &mut Patch,
@@ -65,6 +72,7 @@ pub fn apply(
 ) -> Result<(), Overflow>
     requires job { IsChecked job.now }
     requires routines { FitJob (map spec_of routines.now) job.now }
+    requires items { items.now ≡ copies_at (setup_of job.now) iteration }
     requires operation { IsOperation (setup_of job.now) (ops.Apply item) }
     requires patch { IsPatchFor (setup_of job.now) patch.old }
     requires cut { IsInCut (parts_of job.now.shape job.now.cut) patch.old }
@@ -75,12 +83,13 @@ pub fn apply(
         → Computes r k (ops.Apply item) iteration patch.old.numbers patch.new.numbers
         meter.old meter.new result }
 {
-    turn(job, routines, item, patch, iteration, meter)
+    turn(job, items, routines, item, patch, iteration, meter)
 }
 
 /// The turn of an item with its routine.
 fn turn(
     job: &Job,
+    items: &Items,
     routines: &[Box<dyn Routine>],
     item: u32,
     patch: &mut Patch,
@@ -88,12 +97,15 @@ fn turn(
     meter: &mut Meter,
 ) -> Result<(), Overflow>
     requires item { item < length job.now.items }
-    requires can { CanTurn (map spec_of routines.now) (item_of (setup_of job.now) item) patch.old }
+    requires items { items.now ≡ copies_at (setup_of job.now) iteration }
+    requires can { CanTurn (map spec_of routines.now)
+        (item_at (setup_of job.now) item iteration) patch.old }
     ensures { Sweeps patch.old
         (rule_at (map rule routines.now) (item_of (setup_of job.now) item).routine)
-        (item_of (setup_of job.now) item) iteration patch.new meter.old meter.new result }
+        (item_at (setup_of job.now) item iteration) iteration
+        patch.new meter.old meter.new result }
 {
-    let item = item_at(job, item);
+    let item = items.item(job, item);
     let routine = object(routines, item.routine as usize);
     if is_boundary_writer(item) {
         apply_boundary(routine, item, patch, iteration, meter)

@@ -1,4 +1,5 @@
--- Whatever the order of events, a run in parts ends as the undivided run, and when it is done its meters show what the entries say.
+-- Whatever the order of events, a run in parts ends as the undivided run, and when it is done its
+-- meters show what the entries say.
 use Rattle.std.proofs.Common.{◌≡◌, ℕ, ◌+◌, ◌≤◌, ◌⊎◌, inl, inr, true, Option, Some, None, arith, refl, sym, ap, ◌∙◌, subst}
 use Rattle.std.specs.Prelude.{if◌then◌else◌}
 use Rattle.cx_rule.specs.States.{State}
@@ -33,7 +34,8 @@ at_end : (P : Type 0) (e l c : ℕ) → l ≡ c → (e ≡ 0 + l) ⊎ P → (e �
 at_end P e l c same (inl h) = inl (omega (arith, h, same))
 at_end P e l c same (inr p) = inr p
 
-module _ (r : Run) (run : IsRun r) (trace : Trace) (runs : RunsAs r.setup r.rules r.first r.so_far trace) where
+module _ (r : Run) (run : IsRun r) (trace : Trace)
+    (runs : RunsAs r.setup r.rules r.first r.so_far trace) where
   abbrev last_place : ℕ
   last_place = last_of r (truth r)
 
@@ -51,11 +53,13 @@ module _ (r : Run) (run : IsRun r) (trace : Trace) (runs : RunsAs r.setup r.rule
 
   ends_by : EndsBy (end_at r end_place) trace.outcome
   ends_by =
-      subst (EndsBy (end_at r end_place)) (sym (trace_outcome r run (some_part r run) last_state trace runs refl))
+      subst (EndsBy (end_at r end_place))
+      (sym (trace_outcome r run (some_part r run) last_state trace runs refl))
       (end_is r run (some_part r run) last_state end_place runs.count
       (up_to end_place last_place runs.count (first_within last_place 0 (ends_at r)) count_is)
       (λ j l. first_before last_place 0 j (ends_at r) (from_zero j) l)
-      (at_end (ends_at r end_place ≡ true) end_place last_place runs.count count_is (first_at last_place 0 (ends_at r)))
+      (at_end (ends_at r end_place ≡ true) end_place last_place runs.count count_is
+      (first_at last_place 0 (ends_at r)))
       stands)
 
   ends_here : EndsAt r trace end_place
@@ -67,13 +71,18 @@ module _ (r : Run) (run : IsRun r) (trace : Trace) (runs : RunsAs r.setup r.rule
   }
 
   pub one_end : (Near : Nearness) → EachOrder Near r → OneEnd Near r trace
-  one_end Near orders = λ events w order n over. subst (EndsAt r trace) (sym ((orders events w order).ended.ended n over).0) ends_here
+  one_end Near orders = λ events w order n over.
+      subst (EndsAt r trace) (sym ((orders events w order).ended.ended n over).0) ends_here
 
   -- at the last place no end is met
   none_last : end_at r last_place ≡ None
-  none_last = ap (λ (o : Op). if passes_limit r last_place o then Some (OutputLimit (undivided r last_place).control.iteration) else met_of (notes_at r.setup r.rules o (undivided r last_place).control (undivided r last_place).state)) (ap (op_of r) count_is ∙ stands)
+  none_last = ap (λ (o : Op). if passes_limit r last_place o
+      then Some (OutputLimit (undivided r last_place).control.iteration)
+      else met_of (notes_at r.setup r.rules o (undivided r last_place).control
+      (undivided r last_place).state)) (ap (op_of r) count_is ∙ stands)
 
   pub done_counts : (Near : Nearness) → EachOrder Near r → DoneCounts Near r trace
   done_counts Near orders = λ events w order over.
-      let goes = subst (λ (o : Option End). EndsBy o trace.outcome) none_last (one_end Near orders events w order last_place over).ends in
+      let goes = subst (λ (o : Option End). EndsBy o trace.outcome) none_last
+      (one_end Near orders events w order last_place over).ends in
       counts_all r run trace runs w.meter ((orders events w order).done over).meter goes.0 goes.1

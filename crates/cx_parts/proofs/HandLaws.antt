@@ -1,4 +1,5 @@
--- What a part that agrees hands in is what the script says, and what it gives next is the truth where wires tell.
+-- What a part that agrees hands in is what the script says, and what it gives next is the truth
+-- where wires tell.
 use Rattle.std.proofs.Common.{◌≡◌, ℕ, ◌<◌, [], ◌∷◌, refl, ap, ◌∙◌}
 use Rattle.std.proofs.Math.Path.{fun_ext}
 use Rattle.cx_rule.specs.States.{State, scalar_of}
@@ -16,21 +17,32 @@ use Rattle.cx_parts.proofs.Places.{guided_op}
 use Rattle.cx_parts.proofs.WholeRun.{IsRun, lies, names, true_states}
 use Rattle.cx_parts.proofs.ZoneLaws.{own_reached}
 
-module _ (tells : Type 0) (r : Run) (run : IsRun r) (oracle : Oracle) (is_true : IsTrueOracle tells r oracle) (k n : ℕ) (x : Held) (part : k < parts_in r) (a : Stands tells r oracle k n x) where
+module _ (tells : Type 0) (r : Run) (run : IsRun r) (oracle : Oracle)
+    (is_true : IsTrueOracle tells r oracle) (k n : ℕ) (x : Held) (part : k < parts_in r)
+    (a : Stands tells r oracle k n x) where
   -- at its own place a part's owned numbers and its scalars are the undivided run's
   pub owns_true : tells → OwnsTrue r k x.numbers (undivided r n).state
-  owns_true t v level p grid there stored inside = a.numbers t v level p grid there stored (own_reached r.setup (cut_of r) k (lies r run k part) (synced r n v level) p inside)
+  owns_true t v level p grid there stored inside =
+      a.numbers t v level p grid there stored
+      (own_reached r.setup (cut_of r) k (lies r run k part) (synced r n v level) p inside)
 
   pub scalars_true : tells → SameScalars r x.numbers (undivided r n).state
-  scalars_true t v s = a.scalars v s ∙ ap (λ g. scalar_of g.state v) (same tells r run oracle is_true t n)
+  scalars_true t v s = a.scalars v s
+      ∙ ap (λ g. scalar_of g.state v) (same tells r run oracle is_true t n)
 
   by_op : (o : Op) → guided_op r oracle n ≡ o
-      → op_hands {tells = tells} r o n (piece_by r k (held_values r k x.numbers)) (state_by r k (held_values r k x.numbers) x.numbers)
-      ≡ op_hands r o n (piece_by r k (values_of r.setup (undivided r n).state)) (state_by r k (values_of r.setup (undivided r n).state) (undivided r n).state)
+      → op_hands {tells = tells} r o n (piece_by r k (held_values r k x.numbers))
+      (state_by r k (held_values r k x.numbers) x.numbers)
+      ≡ op_hands r o n (piece_by r k (values_of r.setup (undivided r n).state))
+      (state_by r k (values_of r.setup (undivided r n).state) (undivided r n).state)
   by_op (Piece v) e =
       ap (λ (s : tells → State). Handed n s ∷ [])
-      (fun_ext (λ t. ap (λ ns. (ns ∷ []) ∷ []) (piece_same r run k x.numbers (undivided r n).state (true_states r run n) (owns_true t) (scalars_true t) v (names r run (Piece v) (guided r oracle n).control.pc e) t)))
-  by_op Save e = ap (λ (s : tells → State). Handed n s ∷ []) (fun_ext (λ t. state_same r run k x.numbers (undivided r n).state (true_states r run n) (owns_true t) (scalars_true t) a.sized t))
+      (fun_ext (λ t. ap (λ ns. (ns ∷ []) ∷ [])
+      (piece_same r run k x.numbers (undivided r n).state (true_states r run n) (owns_true t)
+      (scalars_true t) v (names r run (Piece v) (guided r oracle n).control.pc e) t)))
+  by_op Save e = ap (λ (s : tells → State). Handed n s ∷ [])
+      (fun_ext (λ t. state_same r run k x.numbers (undivided r n).state (true_states r run n)
+      (owns_true t) (scalars_true t) a.sized t))
   by_op (Sweep i) e = refl
   by_op (Apply i) e = refl
   by_op (Give i) e = refl
@@ -48,8 +60,13 @@ module _ (tells : Type 0) (r : Run) (run : IsRun r) (oracle : Oracle) (is_true :
   by_op (Next back) e = refl
   by_op Halt e = refl
 
-  pub hands_on : (Near : Nearness) → (net tells Near r oracle).hands k x ≡ piece_at tells r oracle k n
+  pub hands_on : (Near : Nearness)
+      → (net tells Near r oracle).hands k x ≡ piece_at tells r oracle k n
   hands_on Near =
-      ap (λ c. op_hands {tells = tells} r (next_op r c) x.count (piece_by r k (held_values r k x.numbers)) (state_by r k (held_values r k x.numbers) x.numbers)) a.control
-      ∙ ap (λ m. op_hands {tells = tells} r (guided_op r oracle n) m (piece_by r k (held_values r k x.numbers)) (state_by r k (held_values r k x.numbers) x.numbers)) a.count
+      ap (λ c. op_hands {tells = tells} r (next_op r c) x.count
+      (piece_by r k (held_values r k x.numbers))
+      (state_by r k (held_values r k x.numbers) x.numbers)) a.control
+      ∙ ap (λ m. op_hands {tells = tells} r (guided_op r oracle n) m
+      (piece_by r k (held_values r k x.numbers))
+      (state_by r k (held_values r k x.numbers) x.numbers)) a.count
       ∙ by_op (guided_op r oracle n) refl

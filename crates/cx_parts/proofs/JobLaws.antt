@@ -24,8 +24,10 @@ use Rattle.cx_parts.specs.Works.{OneWork}
 use Rattle.cx_parts.proofs.WholeRun.{IsRun, job_run}
 use Rattle.cx_parts.proofs.WorkLaws.{lead_works, lockstep_works}
 
-module _ (job : Job) (whole : IsWhole job) (shapes : HasShapes (setup_of job)) (interior : HasInterior job.shape) (cut : IsCut (parts_of job.shape job.cut))
-    (flat : (rules : List Rule) → FlatIsRun (setup_of job) rules) (ways : WaysEnd (setup_of job)) (met : (rules : List Rule) → OperationsMet (setup_of job) rules)
+module _ (job : Job) (whole : IsWhole job) (shapes : HasShapes (setup_of job))
+    (interior : HasInterior job.shape) (cut : IsCut (parts_of job.shape job.cut))
+    (flat : (rules : List Rule) → FlatIsRun (setup_of job) rules) (ways : WaysEnd (setup_of job))
+    (met : (rules : List Rule) → OperationsMet (setup_of job) rules)
     (rules : List Rule) (b : Beginning) (begins : IsBeginning (setup_of job) b) where
   -- both kinds of runs have the job's cut
   cut_is : (b : Beginning) → IsCut (cut_of (run_of job rules b))
@@ -46,21 +48,28 @@ module _ (job : Job) (whole : IsWhole job) (shapes : HasShapes (setup_of job)) (
 
   -- what is noted from each beginning is the undivided run from there
   runs_from : (b : Beginning) → IsBeginning (setup_of job) b
-      → RunsAs (run_of job rules b).setup (run_of job rules b).rules (run_of job rules b).first (run_of job rules b).so_far (undivided_from (setup_of job) rules b)
+      → RunsAs (run_of job rules b).setup (run_of job rules b).rules (run_of job rules b).first
+      (run_of job rules b).so_far (undivided_from (setup_of job) rules b)
   runs_from Afresh h = (flat rules).undivided
   runs_from (From c state so_far) h = (flat rules).continued c state so_far h.0
 
-  pub lead_counts : DoneCounts within_lead (run_of job rules b) (undivided_from (setup_of job) rules b)
-  lead_counts = done_counts (run_of job rules b) run (undivided_from (setup_of job) rules b) (runs_from b begins) within_lead by_lead
+  pub lead_counts : DoneCounts within_lead (run_of job rules b)
+      (undivided_from (setup_of job) rules b)
+  lead_counts = done_counts (run_of job rules b) run (undivided_from (setup_of job) rules b)
+      (runs_from b begins) within_lead by_lead
 
-  pub step_counts : DoneCounts in_lockstep (run_of job rules b) (undivided_from (setup_of job) rules b)
-  step_counts = done_counts (run_of job rules b) run (undivided_from (setup_of job) rules b) (runs_from b begins) in_lockstep in_step
+  pub step_counts : DoneCounts in_lockstep (run_of job rules b)
+      (undivided_from (setup_of job) rules b)
+  step_counts = done_counts (run_of job rules b) run (undivided_from (setup_of job) rules b)
+      (runs_from b begins) in_lockstep in_step
 
   pub lead_end : OneEnd within_lead (run_of job rules b) (undivided_from (setup_of job) rules b)
-  lead_end = one_end (run_of job rules b) run (undivided_from (setup_of job) rules b) (runs_from b begins) within_lead by_lead
+  lead_end = one_end (run_of job rules b) run (undivided_from (setup_of job) rules b)
+      (runs_from b begins) within_lead by_lead
 
   pub step_end : OneEnd in_lockstep (run_of job rules b) (undivided_from (setup_of job) rules b)
-  step_end = one_end (run_of job rules b) run (undivided_from (setup_of job) rules b) (runs_from b begins) in_lockstep in_step
+  step_end = one_end (run_of job rules b) run (undivided_from (setup_of job) rules b)
+      (runs_from b begins) in_lockstep in_step
 
   pub lead_work : OneWork within_lead (run_of job rules b)
   lead_work = lead_works (run_of job rules b) run by_lead

@@ -5,6 +5,7 @@ pub mod PointTotals
 pub mod TraceTotals
 pub mod FirstLaws
 pub mod FlatPlaces
+pub mod FilledLaws
 pub mod FoldLaws
 pub mod GuideLaws
 pub mod JoinMoves
@@ -33,7 +34,6 @@ pub mod UndividedPairs
 pub mod WayLaws
 pub mod Ways
 pub mod WholeReductions
-pub mod WrapLaws
 pub mod ZoneLaws
 pub mod WholeRun
 pub mod PlaceTotals

@@ -25,46 +25,64 @@ abbrev foretold : Oracle → ℕ → ℕ → ℤ → Oracle
 foretold o k p number j n = cond (eqb j k) (cond (eqb n p) number (o j n)) (o j n)
 
 foretold_here : (o : Oracle) (k p : ℕ) (number : ℤ) → foretold o k p number k p ≡ number
-foretold_here o k p number = ap (λ b. cond b (cond (eqb p p) number (o k p)) (o k p)) (eq-eqb k k refl) ∙ ap (λ b. cond b number (o k p)) (eq-eqb p p refl)
+foretold_here o k p number =
+    ap (λ b. cond b (cond (eqb p p) number (o k p)) (o k p)) (eq-eqb k k refl)
+    ∙ ap (λ b. cond b number (o k p)) (eq-eqb p p refl)
 
-foretold_else : (o : Oracle) (k p : ℕ) (number : ℤ) (j n : ℕ) → (j ≡ k → n ≡ p → ⊥) → foretold o k p number j n ≡ o j n
+foretold_else : (o : Oracle) (k p : ℕ) (number : ℤ) (j n : ℕ) → (j ≡ k → n ≡ p → ⊥)
+    → foretold o k p number j n ≡ o j n
 foretold_else o k p number j n out = go (cases_eq j k) (cases_eq n p)
   where
     go : (j ≡ k) ⊎ (j ≡ k → ⊥) → (n ≡ p) ⊎ (n ≡ p → ⊥) → foretold o k p number j n ≡ o j n
     go (inl e) (inl f) = absurd (out e f)
-    go (inl e) (inr f) = ap (λ b. cond b (cond (eqb n p) number (o j n)) (o j n)) (eq-eqb j k e) ∙ ap (λ b. cond b number (o j n)) (ne_eqb n p f)
+    go (inl e) (inr f) = ap (λ b. cond b (cond (eqb n p) number (o j n)) (o j n)) (eq-eqb j k e)
+        ∙ ap (λ b. cond b number (o j n)) (ne_eqb n p f)
     go (inr e) f = ap (λ b. cond b (cond (eqb n p) number (o j n)) (o j n)) (ne_eqb j k e)
 
-module _ (tells : Type 0) (r : Run) (run : IsRun r) (o : Oracle) (is : IsOracle tells r o) (w : World Held (Message tells) Channel ℕ)
-    (inv : Woven (net tells within_lead r o) (script tells r o) (Agrees tells r o) (Books tells r) w) (k : ℕ) (can : CanMove (net tells within_lead r o) w k)
-    (y : Held) (move : Moves tells r k (w.held k) (taken_now (net tells within_lead r o) w k) (next_op r (w.held k).control) (Some y)) where
+module _ (tells : Type 0) (r : Run) (run : IsRun r) (o : Oracle) (is : IsOracle tells r o)
+    (w : World Held (Message tells) Channel ℕ)
+    (inv : Woven (net tells within_lead r o) (script tells r o) (Agrees tells r o) (Books tells r)
+    w) (k : ℕ) (can : CanMove (net tells within_lead r o) w k)
+    (y : Held) (move : Moves tells r k (w.held k) (taken_now (net tells within_lead r o) w k)
+    (next_op r (w.held k).control) (Some y)) where
   abbrev Kept : Type 0
-  Kept = (other : Oracle) × IsOracle tells r other × Woven (net tells within_lead r other) (script tells r other) (Agrees tells r other) (Books tells r) (moved (net tells within_lead r o) w k y)
+  Kept = (other : Oracle) × IsOracle tells r other
+      × Woven (net tells within_lead r other) (script tells r other) (Agrees tells r other)
+      (Books tells r) (moved (net tells within_lead r o) w k y)
 
   abbrev p : ℕ
   p = suc (w.place k)
 
-  fits : (other : Oracle) → IsOracle tells r other → Fits (net tells within_lead r other) (script tells r other) (Agrees tells r other) (GivesAt r other) (Books tells r)
+  fits : (other : Oracle) → IsOracle tells r other
+      → Fits (net tells within_lead r other) (script tells r other) (Agrees tells r other)
+      (GivesAt r other) (Books tells r)
   fits other h = lead_fits tells r run other h.told h.first
 
   ways : (other : Oracle) → WayEnds r.setup r.first.control r.most (scalars_at r other)
   ways other = run.ways (scalars_at r other)
 
   before_last : w.place k < last_of r o
-  before_last = inside (net tells within_lead r o) (script tells r o) (Agrees tells r o) (GivesAt r o) (Books tells r) (fits o is) w inv k can
+  before_last = inside (net tells within_lead r o) (script tells r o) (Agrees tells r o)
+      (GivesAt r o) (Books tells r) (fits o is) w inv k can
 
-  mails : (c : Channel) → receiver c ≡ k → taken_now (net tells within_lead r o) w k c ≡ takes (script tells r o) c (w.place k)
-  mails c e = (found (net tells within_lead r o) (script tells r o) (Agrees tells r o) (GivesAt r o) (Books tells r) (fits o is) w inv k can c e).0
+  mails : (c : Channel) → receiver c ≡ k
+      → taken_now (net tells within_lead r o) w k c ≡ takes (script tells r o) c (w.place k)
+  mails c e =
+      (found (net tells within_lead r o) (script tells r o) (Agrees tells r o) (GivesAt r o)
+      (Books tells r) (fits o is) w inv k can c e).0
 
   stands : Stands tells r o k p y
-  stands = moves_on tells r run o is.told within_lead k (w.place k) (w.held k) (taken_now (net tells within_lead r o) w k) can.part before_last (inv.agrees k can.part).stands mails y move
+  stands = moves_on tells r run o is.told within_lead k (w.place k) (w.held k)
+      (taken_now (net tells within_lead r o) w k) can.part before_last
+      (inv.agrees k can.part).stands mails y move
 
   -- nothing is given next
   no_gift : gives_by r k y (op_there r o p) (o k p) → Kept
   no_gift g = (
     o,
     is,
-    move_kept (net tells within_lead r o) (script tells r o) (Agrees tells r o) (GivesAt r o) (Books tells r) (fits o is) w inv k can y move
+    move_kept (net tells within_lead r o) (script tells r o) (Agrees tells r o) (GivesAt r o)
+        (Books tells r) (fits o is) w inv k can y move
         (subst (λ c. gives_by r k y (next_op r c) (o k p)) (sym stands.control) g),
   )
 
@@ -79,7 +97,8 @@ module _ (tells : Type 0) (r : Run) (run : IsRun r) (o : Oracle) (is : IsOracle 
     -- where wires tell it is the one that was known already
     number_true : tells → number ≡ truth r k p
     number_true t =
-        subst (λ q. gives_by r k y q (o k p)) (ap (next_op r) stands.control ∙ there) (true_gift tells r run o is.told t k p y can.part stands)
+        subst (λ q. gives_by r k y q (o k p)) (ap (next_op r) stands.control ∙ there)
+        (true_gift tells r run o is.told t k p y can.part stands)
         ∙ is.told t k p can.part
 
     other_told : tells → (j n : ℕ) → j < parts_in r → other j n ≡ truth r j n
@@ -87,7 +106,9 @@ module _ (tells : Type 0) (r : Run) (run : IsRun r) (o : Oracle) (is : IsOracle 
       where
         go : (j ≡ k) ⊎ (j ≡ k → ⊥) → (n ≡ p) ⊎ (n ≡ p → ⊥) → other j n ≡ truth r j n
         go (inl a) (inl b) =
-            subst (λ m. other m n ≡ truth r m n) (sym a) (subst (λ m. other k m ≡ truth r k m) (sym b) (foretold_here o k p number ∙ number_true t))
+            subst (λ m. other m n ≡ truth r m n) (sym a)
+            (subst (λ m. other k m ≡ truth r k m) (sym b)
+            (foretold_here o k p number ∙ number_true t))
         go (inl a) (inr b) = foretold_else o k p number j n (λ c d. b d) ∙ is.told t j n l
         go (inr a) b = foretold_else o k p number j n (λ c d. a c) ∙ is.told t j n l
 
@@ -112,13 +133,19 @@ module _ (tells : Type 0) (r : Run) (run : IsRun r) (o : Oracle) (is : IsOracle 
           before = can.before;
           ready = can.ready;
           near = can.near;
-          room = λ b m q a l f. can.room b m q a l (ap (λ c. buffer_of r (next_op r c)) (sym (same_control m (let s = l in omega (arith, s)))) ∙ f);
+          room = λ b m q a l f. can.room b m q a l
+              (ap (λ c. buffer_of r (next_op r c))
+              (sym (same_control m (let s = l in omega (arith, s)))) ∙ f);
         } in (
           other,
           other_is,
-          move_kept (net tells within_lead r other) (script tells r other) (Agrees tells r other) (GivesAt r other) (Books tells r) (fits other other_is) w
-              (woven_other r o other k p same (ways o) (ways other) tells within_lead i can.part there w inv before) k can_other y move
-              (subst (λ c. gives_by r k y (next_op r c) (other k p)) (sym stands.control) (subst (λ q. gives_by r k y q (other k p)) (sym there) (sym (foretold_here o k p number)))),
+          move_kept (net tells within_lead r other) (script tells r other) (Agrees tells r other)
+              (GivesAt r other) (Books tells r) (fits other other_is) w
+              (woven_other r o other k p same (ways o) (ways other)
+              tells within_lead i can.part there w inv before) k can_other y move
+              (subst (λ c. gives_by r k y (next_op r c) (other k p)) (sym stands.control)
+              (subst (λ q. gives_by r k y q (other k p)) (sym there)
+              (sym (foretold_here o k p number)))),
         )
 
   by_op : (q : Op) → op_there r o p ≡ q → Kept

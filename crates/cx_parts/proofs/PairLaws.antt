@@ -10,13 +10,15 @@ use Rattle.cx_flat.specs.Flats.{Exchange, Onward, begins_pair, ends_pair}
 use Rattle.cx_grid.specs.declared.shapes.Side.{Side}
 use Rattle.cx_grid.specs.declared.shapes.Side.TheVariants.{Low, High}
 use Rattle.cx_cut.specs.Neighbours.{partner, Neighbours}
-use Rattle.cx_parts.specs.Moves.{is_at, Channel, sender, receiver, only, is_there}
+use Rattle.cx_parts.specs.Moves.{Channel, sender, receiver, is_there}
 use Rattle.cx_parts.specs.Runs.{Run, parts_in, cut_of}
 use Rattle.cx_cut.specs.Exchange.{other}
+use Rattle.cx_plan.specs.Lists.{only, is_at}
 
 -- ---- what a pair tells of operations
 
-pub ends_onward : (o : Op) (d : ℕ) (vars : List VarId) → ends_pair o ≡ Some (Onward d vars) → o ≡ Post d vars
+pub ends_onward : (o : Op) (d : ℕ) (vars : List VarId) → ends_pair o ≡ Some (Onward d vars)
+    → o ≡ Post d vars
 ends_onward (Sweep k) d vars h = absurd cc
 ends_onward (Apply k) d vars h = absurd cc
 ends_onward (Give k) d vars h = absurd cc
@@ -37,7 +39,8 @@ ends_onward (Piece v) d vars h = absurd cc
 ends_onward Save d vars h = absurd cc
 ends_onward Halt d vars h = absurd cc
 
-pub begins_exchange : (setup : Setup) (o : Op) (d : ℕ) (vars : List VarId) → begins_pair setup o ≡ Some (Exchange d vars) → o ≡ Post d vars
+pub begins_exchange : (setup : Setup) (o : Op) (d : ℕ) (vars : List VarId)
+    → begins_pair setup o ≡ Some (Exchange d vars) → o ≡ Post d vars
 begins_exchange setup (Sweep k) d vars h = absurd cc
 begins_exchange setup (Apply k) d vars h = absurd cc
 begins_exchange setup (Give k) d vars h = absurd cc
@@ -45,7 +48,8 @@ begins_exchange setup (Join k) d vars h = absurd cc
 begins_exchange setup (Post e us) d vars h = cc
 begins_exchange setup (Take e us q) d vars h = go (suc e == setup.shape.dims) h
   where
-    go : (b : Bool) → (if b then None else Some (Onward (suc e) us)) ≡ Some (Exchange d vars) → Take e us q ≡ Post d vars
+    go : (b : Bool) → (if b then None else Some (Onward (suc e) us)) ≡ Some (Exchange d vars)
+        → Take e us q ≡ Post d vars
     go true h = absurd cc
     go false h = absurd cc
 begins_exchange setup (Test v q s) d vars h = absurd cc
@@ -85,15 +89,18 @@ other_again High = refl
 
 module _ (r : Run) (law : Neighbours (cut_of r)) (d : ℕ) (hd : d < 3) where
   -- a part takes at a side exactly where the other one sends from its other side
-  pub both_ways : (a b : ℕ) → a < parts_in r → b < parts_in r → (side : Side) → is_at (partner (cut_of r) b d side) a ≡ is_at (partner (cut_of r) a d (other side)) b
+  pub both_ways : (a b : ℕ) → a < parts_in r → b < parts_in r → (side : Side)
+      → is_at (partner (cut_of r) b d side) a ≡ is_at (partner (cut_of r) a d (other side)) b
   both_ways a b ha hb side = bool_same _ _
       (λ t. some_at _ b (law.back b d side a hb hd (at_some _ a t)))
       (λ t. some_at _ a (again (law.back a d (other side) b ha hd (at_some _ b t))))
     where
-      again : partner (cut_of r) b d (other (other side)) ≡ Some a → partner (cut_of r) b d side ≡ Some a
+      again : partner (cut_of r) b d (other (other side)) ≡ Some a
+          → partner (cut_of r) b d side ≡ Some a
       again e = let o = other_again side in rw o at e
 
-  counted : {M : Type 0} (x y : Bool) (m n : M) → (cond x 1 0 + cond y 1 0) ≡ length (only x (m ∷ []) ++ only y (n ∷ []))
+  counted : {M : Type 0} (x y : Bool) (m n : M)
+      → (cond x 1 0 + cond y 1 0) ≡ length (only x (m ∷ []) ++ only y (n ∷ []))
   counted true true m n = refl
   counted true false m n = refl
   counted false true m n = refl
@@ -109,5 +116,7 @@ pub and_right : (x y : Bool) → (x && y) ≡ true → y ≡ true
 and_right true y e = e
 and_right false y e = absurd cc
 
-pub are_there : (r : Run) (c : Channel) → sender c < parts_in r → receiver c < parts_in r → is_there r c ≡ true
-are_there r c a b = let x = lt-ltb (sender c) (parts_in r) a in let y = lt-ltb (receiver c) (parts_in r) b in rw (x, y) refl
+pub are_there : (r : Run) (c : Channel) → sender c < parts_in r → receiver c < parts_in r
+    → is_there r c ≡ true
+are_there r c a b = let x = lt-ltb (sender c) (parts_in r) a in
+    let y = lt-ltb (receiver c) (parts_in r) b in rw (x, y) refl

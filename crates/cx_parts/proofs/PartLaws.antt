@@ -10,13 +10,16 @@ use Rattle.cx_cut.proofs.Boxed.{place_below}
 use Rattle.cx_parts.proofs.ZoneLaws.{Lies}
 use Rattle.cx_parts.proofs.LiesLaws.{IsPart, IsPartAxis, part_lies}
 
-inner_of : (ring : Bool) (n g : ℤ) → IsTrue ring ⊎ ((pos 2 *ℤ g +ℤ pos 1) ≤ℤ n) → ring ≡ false → (pos 2 *ℤ g +ℤ pos 1) ≤ℤ n
+inner_of : (ring : Bool) (n g : ℤ) → IsTrue ring ⊎ ((pos 2 *ℤ g +ℤ pos 1) ≤ℤ n) → ring ≡ false
+    → (pos 2 *ℤ g +ℤ pos 1) ≤ℤ n
 inner_of true n g h e = absurd cc
 inner_of false n g (inl h) e = absurd cc
 inner_of false n g (inr h) e = h
 
-part_axis : (ring : Bool) (n g : ℤ) (ws : List ℕ) (a : ℕ) → IsAxisCut n g ws → a < length ws → IsTrue ring ⊎ ((pos 2 *ℤ g +ℤ pos 1) ≤ℤ n)
-    → IsPartAxis ring n g (own_low ws a) (own_high ws a) (local_low ring g ws a) (local_high ring n g ws a)
+part_axis : (ring : Bool) (n g : ℤ) (ws : List ℕ) (a : ℕ) → IsAxisCut n g ws → a < length ws
+    → IsTrue ring ⊎ ((pos 2 *ℤ g +ℤ pos 1) ≤ℤ n)
+    → IsPartAxis ring n g (own_low ws a) (own_high ws a) (local_low ring g ws a)
+    (local_high ring n g ws a)
 part_axis ring n g ws a w l inner =
     let m = start_more ws a l in
     let s = w.some a l in
@@ -32,13 +35,18 @@ part_axis ring n g ws a w l inner =
       high = refl;
     }
 
-pub part_is : (c : Parts) → IsCut c → HasInterior c.shape → (k : ℕ) → k < part_count c → IsPart c.shape (owned c k) (local c k)
+pub part_is : (c : Parts) → IsCut c → HasInterior c.shape → (k : ℕ) → k < part_count c
+    → IsPart c.shape (owned c k) (local c k)
 part_is c w interior k l =
     record {
-      x = part_axis (is_periodic c.shape 0) c.shape.n.x c.shape.ghost_.x c.x (place_along c k 0) w.x (place_below c k l 0 (omega arith)) interior.x;
-      y = part_axis (is_periodic c.shape 1) c.shape.n.y c.shape.ghost_.y c.y (place_along c k 1) w.y (place_below c k l 1 (omega arith)) interior.y;
-      z = part_axis (is_periodic c.shape 2) c.shape.n.z c.shape.ghost_.z c.z (place_along c k 2) w.z (place_below c k l 2 (omega arith)) interior.z;
+      x = part_axis (is_periodic c.shape 0) c.shape.n.x c.shape.ghost_.x c.x (place_along c k 0) w.x
+          (place_below c k l 0 (omega arith)) interior.x;
+      y = part_axis (is_periodic c.shape 1) c.shape.n.y c.shape.ghost_.y c.y (place_along c k 1) w.y
+          (place_below c k l 1 (omega arith)) interior.y;
+      z = part_axis (is_periodic c.shape 2) c.shape.n.z c.shape.ghost_.z c.z (place_along c k 2) w.z
+          (place_below c k l 2 (omega arith)) interior.z;
     }
 
-pub cut_lies : (c : Parts) → IsCut c → IsShape c.shape → HasInterior c.shape → (k : ℕ) → k < part_count c → Lies c.shape c k
+pub cut_lies : (c : Parts) → IsCut c → IsShape c.shape → HasInterior c.shape → (k : ℕ)
+    → k < part_count c → Lies c.shape c k
 cut_lies c w shape interior k l = part_lies c.shape c k shape (part_is c w interior k l)

@@ -18,7 +18,8 @@ pub record ReadsGrid (setup : Setup) (reads : List Touch) : Type 0 where
   pub there : touch.var.0 < length setup.vars
   pub stored : touch.level < levels_of setup touch.var
 
--- the undivided run goes in pairs, its states are whole, and its results are those of reductions that read the grid
+-- the undivided run goes in pairs, its states are whole, and its results are those of reductions
+-- that read the grid
 pub record Reduces (r : Run) : Type 0 where
   pub first : ends_pair (op_of r 0) ≡ None
   pub pairs : (n : ℕ) → ends_pair (op_of r (suc n)) ≡ begins_pair r.setup (op_of r n)

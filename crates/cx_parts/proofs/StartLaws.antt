@@ -1,4 +1,5 @@
--- The beginning: each local point has the number of the point of the grid that it names, and so the part agrees.
+-- The beginning: each local point has the number of the point of the grid that it names, and so the
+-- part agrees.
 use Rattle.std.proofs.Common.{◌≡◌, ℕ, ◌<◌, Bool, true, false, [], length, get_or, arith, refl, sym, ap, ◌∙◌, subst, pos}
 use Rattle.std.specs.Prelude.{if◌then◌else◌}
 use Rattle.cx_grid.specs.declared.boxes.Point.{Point}
@@ -23,7 +24,9 @@ use Rattle.cx_parts.proofs.StateIn.{vars_in, scalar_in, level_in, levels_in}
 use Rattle.cx_parts.proofs.WholeRun.{IsRun, lies, names}
 
 -- a part that gives a number gives the truth, where its number is
-pub gives_truth : (r : Run) (k : ℕ) (x : Held) (o : Op) (state : State) → ((i : ℕ) → o ≡ Give i → number_by r k (held_values r k x.numbers) i ≡ number_by r k (values_of r.setup state) i)
+pub gives_truth : (r : Run) (k : ℕ) (x : Held) (o : Op) (state : State)
+    → ((i : ℕ) → o ≡ Give i
+    → number_by r k (held_values r k x.numbers) i ≡ number_by r k (values_of r.setup state) i)
     → gives_by r k x o (given_by r k state o)
 gives_truth r k x (Give i) state h = h i refl
 gives_truth r k x (Sweep i) state h = tt
@@ -44,7 +47,8 @@ gives_truth r k x (Piece v) state h = tt
 gives_truth r k x Save state h = tt
 gives_truth r k x Halt state h = tt
 
-module _ (tells : Type 0) (Near : Nearness) (r : Run) (run : IsRun r) (oracle : Oracle) (k : ℕ) (part : k < parts_in r) where
+module _ (tells : Type 0) (Near : Nearness) (r : Run) (run : IsRun r) (oracle : Oracle) (k : ℕ)
+    (part : k < parts_in r) where
   abbrev first : State
   first = r.first.state
 
@@ -54,43 +58,58 @@ module _ (tells : Type 0) (Near : Nearness) (r : Run) (run : IsRun r) (oracle : 
   there_of : (v : VarId) → v.0 < length r.setup.vars → v.0 < length first
   there_of v l = let e = run.first.vars in omega (arith, e, l)
 
-  stored_of : (v : VarId) (level : ℕ) → v.0 < length r.setup.vars → level < levels_of r.setup v → level < length (get_or first v.0 [])
+  stored_of : (v : VarId) (level : ℕ) → v.0 < length r.setup.vars → level < levels_of r.setup v
+      → level < length (get_or first v.0 [])
   stored_of v level l m = let e = run.first.levels v l in omega (arith, e, m)
 
-  level_is : (v : VarId) (level : ℕ) → is_scalar r.setup v ≡ false → v.0 < length r.setup.vars → level < levels_of r.setup v
+  level_is : (v : VarId) (level : ℕ) → is_scalar r.setup v ≡ false → v.0 < length r.setup.vars
+      → level < levels_of r.setup v
       → level_of begun v level ≡ numbers_in (local (cut_of r) k) (values_of r.setup first v level)
-  level_is v level e l m = level_in r.setup (values_of r.setup first) (local (cut_of r) k) v level first e (there_of v l) (stored_of v level l m)
+  level_is v level e l m =
+      level_in r.setup (values_of r.setup first) (local (cut_of r) k) v level first e (there_of v l)
+      (stored_of v level l m)
 
-  scalar_level : (v : VarId) → is_scalar r.setup v ≡ true → get_or begun v.0 [] ≡ get_or first v.0 []
-  scalar_level v e = scalar_in r.setup (values_of r.setup first) (local (cut_of r) k) 0 v.0 v.0 first (omega arith) e
+  scalar_level : (v : VarId) → is_scalar r.setup v ≡ true
+      → get_or begun v.0 [] ≡ get_or first v.0 []
+  scalar_level v e = scalar_in r.setup (values_of r.setup first) (local (cut_of r) k)
+      0 v.0 v.0 first (omega arith) e
 
   begun_held : IsHeld r.setup (local (cut_of r) k) begun
   begun_held = record {
     vars = vars_in r.setup (values_of r.setup first) (local (cut_of r) k) 0 first ∙ run.first.vars;
-    levels = λ v l. levels_in r.setup (values_of r.setup first) (local (cut_of r) k) v first (there_of v l) ∙ run.first.levels v l;
+    levels = λ v l. levels_in r.setup (values_of r.setup first) (local (cut_of r) k) v first
+        (there_of v l) ∙ run.first.levels v l;
     sizes = λ v level l m. go v level l m (is_scalar r.setup v) refl;
   }
     where
-      go : (v : VarId) (level : ℕ) → v.0 < length r.setup.vars → level < levels_of r.setup v → (b : Bool) → is_scalar r.setup v ≡ b
-          → length (level_of begun v level) ≡ (if is_scalar r.setup v then 1 else point_count (local (cut_of r) k))
+      go : (v : VarId) (level : ℕ) → v.0 < length r.setup.vars → level < levels_of r.setup v
+          → (b : Bool) → is_scalar r.setup v ≡ b
+          → length (level_of begun v level)
+          ≡ (if is_scalar r.setup v then 1 else point_count (local (cut_of r) k))
       go v level l m true e =
           ap (λ ls. length (get_or ls level [])) (scalar_level v e) ∙ run.first.numbers v level l m
           ∙ (rw e refl)
       go v level l m false e =
-          ap length (level_is v level e l m) ∙ numbers_length (local (cut_of r) k) (values_of r.setup first v level)
+          ap length (level_is v level e l m)
+          ∙ numbers_length (local (cut_of r) k) (values_of r.setup first v level)
           ∙ sym (ap (λ (b : Bool). if b then 1 else point_count (local (cut_of r) k)) e)
 
   -- each local point has the number that it names
-  begun_true : (v : VarId) (level : ℕ) (p : Point) → is_scalar r.setup v ≡ false → v.0 < length r.setup.vars → level < levels_of r.setup v → IsIn (local (cut_of r) k) p
+  begun_true : (v : VarId) (level : ℕ) (p : Point) → is_scalar r.setup v ≡ false
+      → v.0 < length r.setup.vars → level < levels_of r.setup v → IsIn (local (cut_of r) k) p
       → held_values r k begun v level p ≡ at r.setup.shape (level_of first v level) p
   begun_true v level p e l m inside =
-      ap (λ (b : Bool). if b then scalar_of begun v else number_at (local (cut_of r) k) (level_of begun v level) p) e
+      ap (λ (b : Bool). if b then scalar_of begun v
+      else number_at (local (cut_of r) k) (level_of begun v level) p) e
       ∙ ap (λ ns. number_at (local (cut_of r) k) ns p) (level_is v level e l m)
-      ∙ number_in (local (cut_of r) k) (values_of r.setup first v level) (index_in (local (cut_of r) k) p) (index_below (local (cut_of r) k) p inside)
+      ∙ number_in (local (cut_of r) k) (values_of r.setup first v level)
+      (index_in (local (cut_of r) k) p) (index_below (local (cut_of r) k) p inside)
       ∙ ap (values_of r.setup first v level) (point_at_index (local (cut_of r) k) p inside)
-      ∙ ap (λ (b : Bool). if b then scalar_of first v else at r.setup.shape (level_of first v level) p) e
+      ∙ ap (λ (b : Bool). if b then scalar_of first v
+      else at r.setup.shape (level_of first v level) p) e
 
-  begun_gives : oracle k 0 ≡ truth r k 0 → gives_by r k ((net tells Near r oracle).start k) (op_of r 0) (oracle k 0)
+  begun_gives : oracle k 0 ≡ truth r k 0
+      → gives_by r k ((net tells Near r oracle).start k) (op_of r 0) (oracle k 0)
   begun_gives e =
       subst (λ z. gives_by r k ((net tells Near r oracle).start k) (op_of r 0) z) (sym e)
       (gives_truth r k ((net tells Near r oracle).start k) (op_of r 0) first
@@ -98,7 +117,8 @@ module _ (tells : Type 0) (Near : Nearness) (r : Run) (run : IsRun r) (oracle : 
       (λ v level p g l m inside. begun_true v level p g l m ((lies r run k part).own p inside))
       i (names r run (Give i) r.first.control.pc h)))
 
-  pub starts_on : oracle k 0 ≡ truth r k 0 → Agrees tells r oracle k 0 ((net tells Near r oracle).start k)
+  pub starts_on : oracle k 0 ≡ truth r k 0
+      → Agrees tells r oracle k 0 ((net tells Near r oracle).start k)
   starts_on e = record {
     stands = record {
       count = refl;

@@ -5,6 +5,7 @@ use Rattle.cx_plan.specs.declared.item.ItemKind.{ItemKind}
 use Rattle.cx_plan.specs.declared.item.ItemKind.TheVariants.{Cell, Scalar, Sum, Least, Greatest, Count}
 use Rattle.cx_plan.specs.Setups.{Setup}
 use Rattle.cx_plan.specs.Lookups.{item}
+use Rattle.cx_plan.specs.Steering.{item_at}
 use Rattle.cx_rule.specs.Routine.{Rule}
 use Rattle.cx_model.specs.States.{State, scalar_of}
 use Rattle.cx_model.specs.Turns.{reduced, first_read, reduce_turn}
@@ -18,13 +19,16 @@ use Rattle.cx_parts.specs.Truths.{truth}
 use Rattle.cx_parts.specs.Operations.{is_reduction}
 use Rattle.cx_parts.proofs.GuideLaws.{guided_same}
 
--- what reductions over parts owe: a result stands for a reduction, and what the parts gave for it makes the number of the whole list
+-- what reductions over parts owe: a result stands for a reduction, and what the parts gave for it
+-- makes the number of the whole list
 pub record Folds (r : Run) : Type 0 where
   pub kind : (n k : ℕ) → op_of r n ≡ Join k → is_reduction (item r.setup k).kind ≡ true
   pub number : (n k : ℕ) → op_of r n ≡ Join k
-      → joined_at r (truth r) k n ≡ reduced (item r.setup k).kind (first_read (undivided r n).state (item r.setup k).reads)
+      → joined_at r (truth r) k n
+      ≡ reduced (item r.setup k).kind (first_read (undivided r n).state (item r.setup k).reads)
 
-pub turned_is : (kind : ItemKind) (setup : Setup) (rules : List Rule) (x : Item) (state : State) (iteration : ℕ) → is_reduction kind ≡ true
+pub turned_is : (kind : ItemKind) (setup : Setup) (rules : List Rule) (x : Item) (state : State)
+    (iteration : ℕ) → is_reduction kind ≡ true
     → turned_by kind setup rules x state iteration ≡ state_or (reduce_turn setup x state) state
 turned_is Cell setup rules x state iteration h = absurd cc
 turned_is Scalar setup rules x state iteration h = absurd cc
@@ -34,10 +38,14 @@ turned_is Greatest setup rules x state iteration h = refl
 turned_is Count setup rules x state iteration h = refl
 
 state_is : (r : Run) (folds : Folds r) (n : ℕ) (o : Op) → op_of r n ≡ o
-    → guided_state r (truth r) n o (undivided r n).control.iteration (undivided r n).state ≡ state_after r.setup r.rules o (undivided r n).control.iteration (undivided r n).state
+    → guided_state r (truth r) n o (undivided r n).control.iteration (undivided r n).state
+    ≡ state_after r.setup r.rules o (undivided r n).control.iteration (undivided r n).state
 state_is r folds n (Join k) e =
-    ap (λ z. state_or (join_turn r.setup (item r.setup k) (undivided r n).state z) (undivided r n).state) (folds.number n k e)
-    ∙ sym (turned_is (item r.setup k).kind r.setup r.rules (item r.setup k) (undivided r n).state (undivided r n).control.iteration (folds.kind n k e))
+    ap (λ z. state_or (join_turn r.setup (item r.setup k) (undivided r n).state z)
+    (undivided r n).state) (folds.number n k e)
+    ∙ sym (turned_is (item r.setup k).kind r.setup r.rules
+    (item_at r.setup k (undivided r n).control.iteration) (undivided r n).state
+    (undivided r n).control.iteration (folds.kind n k e))
 state_is r folds n (Sweep k) e = refl
 state_is r folds n (Apply k) e = refl
 state_is r folds n (Give k) e = refl
@@ -60,8 +68,15 @@ pub guided_truth : (r : Run) → Folds r → (n : ℕ) → guided r (truth r) n 
 guided_truth r folds zero = refl
 guided_truth r folds (suc n) =
     ap (λ g. guided_step r (truth r) n (next_op r g.control) g) (guided_truth r folds n)
-    ∙ ap (λ s. record { control = control_after r.setup (op_of r n) (scalar_of (undivided r n).state) (undivided r n).control; state = s }) (state_is r folds n (op_of r n) refl)
+    ∙ ap (λ s. record {
+      control =
+          control_after r.setup (op_of r n) (scalar_of (undivided r n).state)
+          (undivided r n).control;
+      state = s;
+    }) (state_is r folds n (op_of r n) refl)
 
 -- an oracle that tells the truth of the parts that there are
-pub guided_true : (r : Run) → Folds r → (o : Oracle) → ((k n : ℕ) → k < parts_in r → o k n ≡ truth r k n) → (n : ℕ) → guided r o n ≡ undivided r n
-guided_true r folds o h n = guided_same r (truth r) o n (λ a i l m. h a i l) ∙ guided_truth r folds n
+pub guided_true : (r : Run) → Folds r → (o : Oracle)
+    → ((k n : ℕ) → k < parts_in r → o k n ≡ truth r k n) → (n : ℕ) → guided r o n ≡ undivided r n
+guided_true r folds o h n =
+    guided_same r (truth r) o n (λ a i l m. h a i l) ∙ guided_truth r folds n

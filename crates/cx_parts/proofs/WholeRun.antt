@@ -49,12 +49,15 @@ pub record IsRun (r : Run) : Type 0 where
   -- the undivided run goes in pairs, and meets its needs
   pub count : ℕ
   pub paired : InPairs r.setup r.rules (code r.setup) None None count r.first
-  pub halted : is_halt (op_at (code r.setup) (flat_from r.setup r.rules (code r.setup) count r.first).control.pc) ≡ true
+  pub halted : is_halt (op_at (code r.setup)
+      (flat_from r.setup r.rules (code r.setup) count r.first).control.pc) ≡ true
   pub met : (n : ℕ) → NotesMet r.setup (flags_at r n) (notes_of r n)
 
 -- the runs of a whole job
-pub job_run : (job : Job) (rules : List Rule) (b : Beginning) → IsWhole job → HasShapes (setup_of job) → HasInterior job.shape → IsBeginning (setup_of job) b
-    → IsCut (cut_of (run_of job rules b)) → FlatIsRun (setup_of job) rules → WaysEnd (setup_of job) → OperationsMet (setup_of job) rules → IsRun (run_of job rules b)
+pub job_run : (job : Job) (rules : List Rule) (b : Beginning) → IsWhole job
+    → HasShapes (setup_of job) → HasInterior job.shape → IsBeginning (setup_of job) b
+    → IsCut (cut_of (run_of job rules b)) → FlatIsRun (setup_of job) rules → WaysEnd (setup_of job)
+    → OperationsMet (setup_of job) rules → IsRun (run_of job rules b)
 job_run job rules Afresh whole shapes interior begins cut flat ways met = record {
   job = job;
   whole = whole;
@@ -100,7 +103,8 @@ module _ (r : Run) (run : IsRun r) where
 
   -- each operation names what is there
   pub names_at : (pc : ℕ) → NamesWell r.setup (op_at (code r.setup) pc)
-  names_at pc = subst (λ s. NamesWell s (op_at (code s) pc)) (sym run.is) (op_well run.job run.whole run.shapes pc)
+  names_at pc = subst (λ s. NamesWell s (op_at (code s) pc)) (sym run.is)
+      (op_well run.job run.whole run.shapes pc)
 
   pub names : (o : Op) (pc : ℕ) → op_at (code r.setup) pc ≡ o → NamesWell r.setup o
   names o pc e = subst (NamesWell r.setup) e (names_at pc)
@@ -118,15 +122,26 @@ module _ (r : Run) (run : IsRun r) where
   way_states = guided_states run.job run.whole run.shapes r run.is run.first
 
   pub all_folds : Folds r
-  all_folds = folds r run.cut (job_reduces run.job run.whole run.shapes r run.is run.count run.paired run.halted true_states)
+  all_folds = folds r run.cut
+      (job_reduces run.job run.whole run.shapes r run.is run.count run.paired run.halted
+      true_states)
 
   -- a scalar has at most one level
-  one_of : (job : Job) → IsWhole job → (v : VarId) → is_scalar (setup_of job) v ≡ true → (v.0 < length job.vars) × (levels_of (setup_of job) v ≤ 1)
+  one_of : (job : Job) → IsWhole job → (v : VarId) → is_scalar (setup_of job) v ≡ true
+      → (v.0 < length job.vars) × (levels_of (setup_of job) v ≤ 1)
   one_of job whole v e = go (cases_lt v.0 (length job.vars))
     where
-      go : (v.0 < length job.vars) ⊎ (length job.vars ≤ v.0) → (v.0 < length job.vars) × (levels_of (setup_of job) v ≤ 1)
-      go (inl l) = (l, All-get_or (λ (i : VarInfo). i.scalar ≡ true → i.levels ≤ 1) job.vars v.0 no_variable l whole.one_level e)
-      go (inr l) = let z = get_or_past job.vars v.0 no_variable l in absurd (both_ways (is_scalar (setup_of job) v) (ap (λ (i : VarInfo). i.scalar) z) e)
+      go : (v.0 < length job.vars) ⊎ (length job.vars ≤ v.0)
+          → (v.0 < length job.vars) × (levels_of (setup_of job) v ≤ 1)
+      go (inl l) = (
+        l,
+        All-get_or (λ (i : VarInfo). i.scalar ≡ true → i.levels ≤ 1)
+            job.vars v.0 no_variable l whole.one_level e,
+      )
+      go (inr l) = let z = get_or_past job.vars v.0 no_variable l in
+          absurd (both_ways (is_scalar (setup_of job) v) (ap (λ (i : VarInfo). i.scalar) z) e)
 
-  pub one_level : (v : VarId) → is_scalar r.setup v ≡ true → (v.0 < length r.setup.vars) × (levels_of r.setup v ≤ 1)
-  one_level v = subst (λ s. is_scalar s v ≡ true → (v.0 < length s.vars) × (levels_of s v ≤ 1)) (sym run.is) (one_of run.job run.whole v)
+  pub one_level : (v : VarId) → is_scalar r.setup v ≡ true
+      → (v.0 < length r.setup.vars) × (levels_of r.setup v ≤ 1)
+  one_level v = subst (λ s. is_scalar s v ≡ true → (v.0 < length s.vars) × (levels_of s v ≤ 1))
+      (sym run.is) (one_of run.job run.whole v)

@@ -7,7 +7,8 @@ use Rattle.cx_rule.specs.States.{State}
 use Rattle.cx_model.specs.States.{IsState}
 use Rattle.cx_parts.specs.Runs.{Run, from_start, from_state}
 
--- where a run begins: at its start, or in a state of the checkpoint place of an iteration, with an output of this length
+-- where a run begins: at its start, or in a state of the checkpoint place of an iteration, with an
+-- output of this length
 pub data Beginning : Type 0 where
   Afresh : Beginning
   From : (c : ℕ) → State → (so_far : ℕ) → Beginning
@@ -20,4 +21,5 @@ IsBeginning setup (From c state so_far) = (c ≤ setup.itlast) × IsState setup 
 -- the run of a job by these rules, over the parts that the job says
 abbrev pub run_of : Job → List Rule → Beginning → Run
 run_of job rules Afresh = from_start (setup_of job) rules job.cut job.lead
-run_of job rules (From c state so_far) = from_state (setup_of job) rules job.cut job.lead c state so_far
+run_of job rules (From c state so_far) =
+    from_state (setup_of job) rules job.cut job.lead c state so_far

@@ -25,7 +25,8 @@ met_of (n ∷ ns) = or_end n.met (met_of ns)
 
 -- the end that is met at a place, by the limit of the output or by what is noted there
 abbrev pub end_at : Run → ℕ → Option End
-end_at r n = if is_full r n then Some (OutputLimit (undivided r n).control.iteration) else met_of (notes_of r n)
+end_at r n = if is_full r n then Some (OutputLimit (undivided r n).control.iteration)
+    else met_of (notes_of r n)
 
 -- what is noted before a place
 abbrev pub noted : Run → ℕ → List Note
@@ -37,14 +38,17 @@ abbrev pub EndsBy : Option End → Outcome → Type 0
 EndsBy None outcome = (state : State) × (outcome ≡ Goes state)
 EndsBy (Some end) outcome = outcome ≡ Ends end
 
--- a run that is over at this place: it ends by what is met there, behind all entries that are noted before it
+-- a run that is over at this place: it ends by what is met there, behind all entries that are noted
+-- before it
 pub record EndsAt (r : Run) (trace : Trace) (n : ℕ) : Type 0 where
   pub ends : EndsBy (end_at r n) trace.outcome
   pub earlier : (later : List Entry) × (trace.entries ≡ entries_of (noted r n) ++ later)
 
--- In every order of events: where the run in parts is over at a place, the undivided run ends there.
+-- In every order of events: where the run in parts is over at a place, the undivided run ends
+-- there.
 abbrev pub OneEnd : Nearness → Run → Trace → Type 0
 OneEnd Near r trace =
     (events : List Event) (w : World Held (Message (Unit {0})) Channel ℕ)
-    → Order (net (Unit {0}) Near r (truth r)) (λ k n x. Unit {0}) (begun (net (Unit {0}) Near r (truth r))) events w
+    → Order (net (Unit {0}) Near r (truth r)) (λ k n x. Unit {0})
+    (begun (net (Unit {0}) Near r (truth r))) events w
     → (n : ℕ) → w.over ≡ Some n → EndsAt r trace n

@@ -1,4 +1,5 @@
--- Ghost points along a run: each level that is read beyond the owned points has them, beyond ends too.
+-- Ghost points along a run: each level that is read beyond the owned points has them, beyond ends
+-- too.
 use Rattle.std.specs.Prelude.{ℕ, ◌≡◌, Bool, true, All}
 use Rattle.std.specs.List.{list_any}
 use Rattle.cx_plan.specs.declared.flag.Flag.TheVariants.{G}
@@ -15,7 +16,8 @@ abbrev pub reads_ghosts : Setup → Item → Touch → Bool
 reads_ghosts setup x r = list_any is_G (flags_or_none (read_needs setup x r))
 
 abbrev pub GhostsAt : Setup → Item → Flags → Type 0
-GhostsAt setup x flags = All (λ (r : Touch). reads_ghosts setup x r ≡ true → flags r.var r.level G ≡ true) x.reads
+GhostsAt setup x flags =
+    All (λ (r : Touch). reads_ghosts setup x r ≡ true → flags r.var r.level G ≡ true) x.reads
 
 abbrev pub HasGhosts : Run → Type 0
 HasGhosts r = (n k : ℕ) → op_of r n ≡ Sweep k → GhostsAt r.setup (item r.setup k) (flags_at r n)

@@ -21,17 +21,19 @@ use Rattle.cx_model.specs.Turns.{numbers_at, swept_at, reduced}
 use Rattle.cx_cut.specs.Cuts.{Parts, owned, local}
 use Rattle.cx_flat.specs.Flats.{Control}
 
--- how many operations it has done, what decides the way, and per variable its levels, each with one number for each local point;
--- a scalar has one level of one number
+-- how many operations it has done, what decides the way, and per variable its levels, each with one
+-- number for each local point; a scalar has one level of one number
 pub record Held : Type 0 where
   pub count : ℕ
   pub control : Control
   pub numbers : State
 
--- each variable has its levels, a grid level one number for each local point and a scalar's one number
+-- each variable has its levels, a grid level one number for each local point and a scalar's one
+-- number
 pub record IsHeld (setup : Setup) (local : Box3) (numbers : State) : Type 0 where
   pub vars : length numbers ≡ length setup.vars
-  pub levels : (v : VarId) → v.0 < length setup.vars → length (slice_index_or numbers v.0 []) ≡ levels_of setup v
+  pub levels : (v : VarId) → v.0 < length setup.vars
+      → length (slice_index_or numbers v.0 []) ≡ levels_of setup v
   pub sizes : (v : VarId) (level : ℕ) → v.0 < length setup.vars → level < levels_of setup v
       → length (level_of numbers v level) ≡ (if is_scalar setup v then 1 else point_count local)
 
@@ -61,7 +63,8 @@ state_in setup values b v [] = []
 state_in setup values b v (levels ∷ more) =
     (if is_scalar setup (record { 0 = v })
     then levels
-    else map (λ level. numbers_in b (values (record { 0 = v }) level)) (range_with_len 0 (length levels)))
+    else map (λ level. numbers_in b (values (record { 0 = v }) level))
+    (range_with_len 0 (length levels)))
     ∷ state_in setup values b (suc v) more
 
 -- ---- sweeps
@@ -74,7 +77,8 @@ in_zone setup owned Everywhere p = true
 
 abbrev pub part_sweep : Setup → List Rule → Parts → ℕ → Item → State → ℕ → Option State
 part_sweep setup rules cut k x numbers iteration =
-    sweep (local cut k) (local_values setup (local cut k) numbers) (in_zone setup (owned cut k) (region_of x.writes))
+    sweep (local cut k) (local_values setup (local cut k) numbers)
+    (in_zone setup (owned cut k) (region_of x.writes))
     (swept_at setup rules x (local_values setup (local cut k) numbers) iteration) x.writes numbers
 
 -- the box of the first point alone
@@ -85,7 +89,8 @@ first_box = record { low = first_point; high = first_point }
 abbrev pub part_rule : Setup → List Rule → Item → State → ℕ → Option State
 part_rule setup rules x numbers iteration =
     scalar_turn x numbers
-    (numbers_at setup rules x (local_values setup first_box numbers) iteration first_point first_point)
+    (numbers_at setup rules x (local_values setup first_box numbers)
+    iteration first_point first_point)
 
 -- ---- reductions
 

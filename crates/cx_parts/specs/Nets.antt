@@ -18,19 +18,20 @@ use Rattle.cx_cut.specs.Neighbours.{partner}
 use Rattle.cx_flat.specs.declared.op.Op.{Op}
 use Rattle.cx_flat.specs.declared.op.Op.TheVariants.{Sweep, Apply, Take, Piece}
 use Rattle.cx_flat.specs.Flats.{Control}
-use Rattle.cx_network.specs.Machine.{Net, World, ByLead, InLockstep}
+use Rattle.cx_network.specs.Machine.{Net, World, ByLead, InLockstep, sum_below}
 use Rattle.cx_network.specs.Agreement.{taken}
 use Rattle.cx_parts.specs.Holding.{Held, number_at, in_zone, state_in}
 use Rattle.cx_parts.specs.Runs.{Run, Oracle, cut_of, parts_in, next_op, guided, halts, last_of}
-use Rattle.cx_parts.specs.Work.{sum_over, sum_of}
 use Rattle.cx_parts.specs.Moves.{Wire, Message, Sent, Given, Handed, Channel, sender, receiver, is_there, held_values, op_wants, op_posts, op_hands, faces_by, number_by, piece_by, state_by, buffer_of, Moves}
 use Rattle.cx_parts.specs.Truths.{script}
+use Rattle.cx_text.specs.Numbers.{word_sum}
 
 -- ---- counts
 
 -- how many points a part computes in an item's turn; a reduction's count nothing
 abbrev pub zone_points : Run → ℕ → Region → ℕ
-zone_points r k region = length (filter (in_zone r.setup (owned (cut_of r) k) region) (points_in (local (cut_of r) k)))
+zone_points r k region =
+    length (filter (in_zone r.setup (owned (cut_of r) k) region) (points_in (local (cut_of r) k)))
 
 abbrev pub points_of : Run → ℕ → Op → ℕ
 points_of r k (Sweep i) = zone_points r k (region_of (item r.setup i).writes)
@@ -40,7 +41,8 @@ points_of r k _ = 0
 -- how many values a part receives
 abbrev pub side_values : Run → ℕ → ℕ → Side → List VarId → ℕ
 side_values r k d side vars =
-    cond (is_some (partner (cut_of r) k d side)) (length vars * point_count (halo_of (cut_of r) k d side)) 0
+    cond (is_some (partner (cut_of r) k d side))
+    (length vars * point_count (halo_of (cut_of r) k d side)) 0
 
 abbrev pub values_of_op : Run → ℕ → Op → ℕ
 values_of_op r k (Take d vars path) = side_values r k d Low vars + side_values r k d High vars
@@ -63,26 +65,35 @@ abbrev pub only_level : {tells : Type 0} → tells → List (Message tells) → 
 only_level t piece = level_of (piece_levels t piece) (record { 0 = 0 }) 0
 
 -- a whole level that has at each point the number of the part that owns it
-pub record IsGathered {tells : Type 0} (t : tells) (r : Run) (pieces : ℕ → List (Message tells)) (level : List ℤ) : Type 0 where
+pub record IsGathered {tells : Type 0} (t : tells) (r : Run) (pieces : ℕ → List (Message tells))
+    (level : List ℤ) : Type 0 where
   pub count : length level ≡ point_count (whole r.setup.shape)
   pub each : (k : ℕ) (p : Point) → k < parts_in r → IsIn (owned (cut_of r) k) p
-      → number_at (whole r.setup.shape) level p ≡ number_at (owned (cut_of r) k) (only_level t (pieces k)) p
+      → number_at (whole r.setup.shape) level p
+      ≡ number_at (owned (cut_of r) k) (only_level t (pieces k)) p
 
--- a text by the pieces of all parts, of a scalar and of a grid variable; a scalar's number is that of part 0
-abbrev pub IsTextOf : {tells : Type 0} → Bool → tells → Run → VarId → ℕ → (ℕ → List (Message tells)) → List ℕ → Type 0
+-- a text by the pieces of all parts, of a scalar and of a grid variable; a scalar's number is that
+-- of part 0
+abbrev pub IsTextOf : {tells : Type 0} → Bool → tells → Run → VarId → ℕ → (ℕ → List (Message tells))
+    → List ℕ → Type 0
 IsTextOf true t r v iteration pieces text =
-    text ≡ line (variable r.setup v).full iteration (slice_index_or (only_level t (pieces 0)) 0 (pos 0))
+    text ≡ line (variable r.setup v).full iteration
+    (slice_index_or (only_level t (pieces 0)) 0 (pos 0))
 IsTextOf false t r v iteration pieces text =
-    (level : List ℤ) × IsGathered t r pieces level × (text ≡ section (variable r.setup v).full iteration r.setup.shape level)
+    (level : List ℤ) × IsGathered t r pieces level
+    × (text ≡ section (variable r.setup v).full iteration r.setup.shape level)
 
 abbrev pub OneOutcome : ℕ → List ℕ → Option ℕ → Type 0
 OneOutcome length_so_far text None = greatest_output < length_so_far + length text
-OneOutcome length_so_far text (Some n) = (length_so_far + length text ≤ greatest_output) × (n ≡ length_so_far + length text)
+OneOutcome length_so_far text (Some n) =
+    (length_so_far + length text ≤ greatest_output) × (n ≡ length_so_far + length text)
 
 -- the length of the output after a work; none where it would pass its limit
-abbrev pub WritesAt : (tells : Type 0) → Run → Op → ℕ → (ℕ → List (Message tells)) → ℕ → Option ℕ → Type 0
+abbrev pub WritesAt : (tells : Type 0) → Run → Op → ℕ → (ℕ → List (Message tells)) → ℕ → Option ℕ
+    → Type 0
 WritesAt tells r (Piece v) iteration pieces so_far o =
-    (t : tells) (text : List ℕ) → IsTextOf (is_scalar r.setup v) t r v iteration pieces text → OneOutcome so_far text o
+    (t : tells) (text : List ℕ) → IsTextOf (is_scalar r.setup v) t r v iteration pieces text
+    → OneOutcome so_far text o
 WritesAt tells r _ iteration pieces so_far o = o ≡ Some so_far
 
 -- ---- the network
@@ -92,7 +103,8 @@ abbrev pub posts_of : {tells : Type 0} → Run → Channel → Held → List (Me
 posts_of r c x =
     cond (is_there r c)
     (op_posts r (next_op r x.control) x.count
-    (faces_by r (sender c) (held_values r (sender c) x.numbers)) (number_by r (sender c) (held_values r (sender c) x.numbers)) c)
+    (faces_by r (sender c) (held_values r (sender c) x.numbers))
+    (number_by r (sender c) (held_values r (sender c) x.numbers)) c)
     []
 
 abbrev pub hands_of : {tells : Type 0} → Run → ℕ → Held → List (Message tells)
@@ -100,13 +112,15 @@ hands_of r k x =
     op_hands r (next_op r x.control) x.count
     (piece_by r k (held_values r k x.numbers)) (state_by r k (held_values r k x.numbers) x.numbers)
 
--- what a part holds at the beginning: each local point, a ghost too, has the number of the point of the grid that it names
+-- what a part holds at the beginning: each local point, a ghost too, has the number of the point of
+-- the grid that it names
 abbrev pub held_first : Run → ℕ → Held
 held_first r k =
     record {
       count = 0;
       control = r.first.control;
-      numbers = state_in r.setup (values_of r.setup r.first.state) (local (cut_of r) k) 0 r.first.state;
+      numbers = state_in r.setup (values_of r.setup r.first.state) (local (cut_of r) k)
+          0 r.first.state;
     }
 
 -- how far a part may stand before others; one of the two is put in
@@ -120,9 +134,11 @@ abbrev pub within_lead : Nearness
 within_lead r oracle = ByLead (parts_in r) r.lead round
 
 abbrev pub in_lockstep : Nearness
-in_lockstep r oracle = InLockstep (parts_in r) (λ m. is_some (buffer_of r (next_op r (guided r oracle m).control)) ≡ true)
+in_lockstep r oracle = InLockstep (parts_in r)
+    (λ m. is_some (buffer_of r (next_op r (guided r oracle m).control)) ≡ true)
 
-abbrev pub net : (tells : Type 0) → Nearness → Run → Oracle → Net Held (Message tells) Channel Control ℕ
+abbrev pub net : (tells : Type 0) → Nearness → Run → Oracle
+    → Net Held (Message tells) Channel Control ℕ
 net tells Near r oracle =
     record {
       parts = (parts_in r);
@@ -142,7 +158,8 @@ net tells Near r oracle =
       Move = λ k x mails o. Moves tells r k x mails (next_op r x.control) o;
       start = held_first r;
       Writes = λ n pieces b o.
-          WritesAt tells r (next_op r (guided r oracle n).control) (guided r oracle n).control.iteration pieces b o;
+          WritesAt tells r (next_op r (guided r oracle n).control)
+          (guided r oracle n).control.iteration pieces b o;
       first_book = r.so_far;
     }
 
@@ -150,11 +167,14 @@ net tells Near r oracle =
 
 abbrev pub values_sum : {tells : Type 0} → tells → List (Message tells) → ℕ
 values_sum t [] = 0
-values_sum t (Sent h values ∷ ms) = sum_of (values t) + values_sum t ms
+values_sum t (Sent h values ∷ ms) = word_sum (values t) + values_sum t ms
 values_sum t (Given number ∷ ms) = values_sum t ms
 values_sum t (Handed n state ∷ ms) = values_sum t ms
 
 -- of all messages that were taken of wires
-abbrev pub taken_sum : {tells : Type 0} → tells → Run → Oracle → World Held (Message tells) Channel ℕ → ℕ
+abbrev pub taken_sum : {tells : Type 0} → tells → Run → Oracle
+    → World Held (Message tells) Channel ℕ → ℕ
 taken_sum {tells} t r oracle w =
-    sum_over (parts_in r) (λ a. sum_over (parts_in r) (λ b. values_sum t (taken (script tells r oracle) (Wire a b) (w.place b))))
+    sum_below (parts_in r) (λ a.
+    sum_below (parts_in r) (λ b.
+    values_sum t (taken (script tells r oracle) (Wire a b) (w.place b))))

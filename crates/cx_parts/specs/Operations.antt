@@ -8,6 +8,7 @@ use Rattle.cx_plan.specs.Lookups.{item, is_scalar, levels_of}
 use Rattle.cx_plan.specs.Regions.{has_shape}
 use Rattle.cx_flat.specs.declared.op.Op.{Op}
 use Rattle.cx_flat.specs.declared.op.Op.TheVariants.{Sweep, Apply, Give, Join, Post, Take, Test, Open, Turn, Again, Rotate, Due, Written, Skip, Next, Piece, Save, Halt}
+use Rattle.cx_rule.specs.Faces.{variable_at}
 
 abbrev pub is_reduction : ItemKind → Bool
 is_reduction Cell = false
@@ -25,14 +26,11 @@ IsRunItem setup k = (k < length setup.items) × (has_shape setup (item setup k) 
 abbrev pub IsCurrent : Setup → VarId → Type 0
 IsCurrent setup v = (v.0 < length setup.vars) × (0 < levels_of setup v)
 
-abbrev pub at_var : List VarId → ℕ → VarId
-at_var vars i = slice_index_or vars i (record { 0 = 0 })
-
 -- a direction of the grid, and grid variables with a current level
 pub record IsExchange (setup : Setup) (d : ℕ) (vars : List VarId) : Type 0 where
   pub direction : d < setup.shape.dims
-  pub current : (i : ℕ) → i < length vars → IsCurrent setup (at_var vars i)
-  pub grid : (i : ℕ) → i < length vars → is_scalar setup (at_var vars i) ≡ false
+  pub current : (i : ℕ) → i < length vars → IsCurrent setup (variable_at vars i)
+  pub grid : (i : ℕ) → i < length vars → is_scalar setup (variable_at vars i) ≡ false
 
 abbrev pub NamesWell : Setup → Op → Type 0
 NamesWell setup (Sweep k) = IsRunItem setup k × ((item setup k).kind ≡ Cell)

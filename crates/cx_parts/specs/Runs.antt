@@ -1,4 +1,5 @@
--- A run in parts: what it is of, how its places are numbered, and the way that its parts go by what they give for reductions.
+-- A run in parts: what it is of, how its places are numbered, and the way that its parts go by what
+-- they give for reductions.
 use Rattle.std.specs.Prelude.{ℕ, zero, suc, Bool, ◌&&◌, ◌==◌, ℤ, pos, List, map, cond}
 use Rattle.std.specs.List.{range_with_len}
 use Rattle.cx_plan.specs.declared.job.Cuts.{Cuts}
@@ -88,8 +89,8 @@ notes_of r n = places.notes_of r.setup r.rules (undivided r n)
 abbrev pub flags_at : Run → ℕ → Flags
 flags_at r n = places.flags_at r.setup r.rules r.first r.flags n
 
--- in how many directions the local points of a variable's level are those of the undivided run: in all where G is set, and within
--- a SYNC of it in those that are done
+-- in how many directions the local points of a variable's level are those of the undivided run: in
+-- all where G is set, and within a SYNC of it in those that are done
 abbrev pub done_directions : Op → VarId → ℕ → ℕ
 done_directions (Post d vars) v level = cond (is_among v vars && level == 0) d 0
 done_directions (Take d vars path) v level = cond (is_among v vars && level == 0) d 0
@@ -126,13 +127,16 @@ given_before oracle (suc n) a = oracle a n
 
 -- the number of a reduction whose result stands at place n
 abbrev pub joined_at : Run → Oracle → ℕ → ℕ → ℤ
-joined_at r oracle k n = joined (item r.setup k).kind (map (given_before oracle n) (range_with_len 0 (parts_in r)))
+joined_at r oracle k n =
+    joined (item r.setup k).kind (map (given_before oracle n) (range_with_len 0 (parts_in r)))
 
 abbrev pub guided_state : Run → Oracle → ℕ → Op → ℕ → State → State
 guided_state r oracle n (Join k) iteration state =
     state_or (join_turn r.setup (item r.setup k) state (joined_at r oracle k n)) state
-guided_state r oracle n (Sweep k) iteration state = state_after r.setup r.rules (Sweep k) iteration state
-guided_state r oracle n (Apply k) iteration state = state_after r.setup r.rules (Apply k) iteration state
+guided_state r oracle n (Sweep k) iteration state =
+    state_after r.setup r.rules (Sweep k) iteration state
+guided_state r oracle n (Apply k) iteration state =
+    state_after r.setup r.rules (Apply k) iteration state
 guided_state r oracle n (Give k) iteration state = state
 guided_state r oracle n (Post d vars) iteration state = state
 guided_state r oracle n (Take d vars path) iteration state = state
@@ -159,7 +163,8 @@ guided_step r oracle n o g =
 -- its control and its scalars are those of all parts; its grid variables count for nothing
 abbrev pub guided : Run → Oracle → ℕ → Flat
 guided r oracle zero = r.first
-guided r oracle (suc n) = guided_step r oracle n (next_op r (guided r oracle n).control) (guided r oracle n)
+guided r oracle (suc n) =
+    guided_step r oracle n (next_op r (guided r oracle n).control) (guided r oracle n)
 
 -- ---- where a run ends
 

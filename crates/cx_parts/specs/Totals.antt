@@ -21,14 +21,17 @@ undivided_from setup rules Afresh = undivided_run setup rules
 undivided_from setup rules (From c state so_far) = continued_run setup rules c state so_far
 
 -- meter 0 shows the points that these entries compute, meter 1 the values that they exchange
-pub record CountsAll (setup : Setup) (cut : Parts) (entries : List Entry) (meter : ℕ → ℕ) : Type 0 where
+pub record CountsAll (setup : Setup) (cut : Parts) (entries : List Entry)
+    (meter : ℕ → ℕ) : Type 0 where
   pub points : meter 0 ≡ work setup cut entries
   pub received : meter 1 ≡ carried_count setup cut entries
 
--- In every order of events: where the run in parts is over at its last place, its meters show what the undivided run's entries say.
+-- In every order of events: where the run in parts is over at its last place, its meters show what
+-- the undivided run's entries say.
 abbrev pub DoneCounts : Nearness → Run → Trace → Type 0
 DoneCounts Near r trace =
     (events : List Event) (w : World Held (Message (Unit {0})) Channel ℕ)
-    → Order (net (Unit {0}) Near r (truth r)) (λ k n x. Unit {0}) (begun (net (Unit {0}) Near r (truth r))) events w
+    → Order (net (Unit {0}) Near r (truth r)) (λ k n x. Unit {0})
+    (begun (net (Unit {0}) Near r (truth r))) events w
     → w.over ≡ Some (last_of r (truth r))
     → CountsAll r.setup (cut_of r) trace.entries w.meter

@@ -1,5 +1,5 @@
--- What the undivided run has for parts: what each posts, hands in and gives at each place, where a part meets an end, which work
--- passes the limit of the output, and when a part agrees with it.
+-- What the undivided run has for parts: what each posts, hands in and gives at each place, where a
+-- part meets an end, which work passes the limit of the output, and when a part agrees with it.
 use Rattle.std.specs.Prelude.{ℕ, zero, suc, ◌+◌, ◌<◌, ◌≡◌, Bool, true, false, ◌&&◌, ◌||◌, ◌==◌, nat_lt, ℤ, pos, List, [], ◌∷◌, length, is_none, cond}
 use Rattle.std.specs.List.{list_any, range_with_len}
 use Rattle.cx_grid.specs.declared.boxes.Point.{Point}
@@ -7,6 +7,7 @@ use Rattle.cx_grid.specs.Boxes.{points_in}
 use Rattle.cx_grid.specs.Grid.{at}
 use Rattle.cx_plan.specs.declared.variable.VarId.{VarId}
 use Rattle.cx_plan.specs.Lookups.{item, is_scalar, levels_of}
+use Rattle.cx_plan.specs.Steering.{item_at}
 use Rattle.cx_plan.specs.Regions.{region_of}
 use Rattle.cx_rule.specs.States.{State, level_of, scalar_of}
 use Rattle.cx_model.specs.Courses.{Note, by_zero}
@@ -39,10 +40,15 @@ abbrev pub is_faulty : Run → ℕ → Op → Flat → Bool
 is_faulty r k (Sweep i) g =
     list_any
     (λ p. in_zone r.setup (owned (cut_of r) k) (region_of (item r.setup i).writes) p
-    && is_none (swept_at r.setup r.rules (item r.setup i) (values_of r.setup g.state) g.control.iteration p))
+    && is_none (swept_at r.setup r.rules (item_at r.setup i g.control.iteration)
+    (values_of r.setup g.state) g.control.iteration p))
     (points_in (local (cut_of r) k))
-is_faulty r k (Apply i) g = is_none (turn r.setup r.rules (item r.setup i) g.state g.control.iteration)
-is_faulty r k (Join i) g = is_none (turn r.setup r.rules (item r.setup i) g.state g.control.iteration)
+is_faulty r k (Apply i) g =
+    is_none (turn r.setup r.rules (item_at r.setup i g.control.iteration)
+    g.state g.control.iteration)
+is_faulty r k (Join i) g =
+    is_none (turn r.setup r.rules (item_at r.setup i g.control.iteration)
+    g.state g.control.iteration)
 is_faulty r k (Turn v path skip) g =
     last_turns g.control.opened == r.setup.while_limit && by_zero (scalar_of g.state v) false true
 is_faulty r k _ g = false
@@ -66,7 +72,8 @@ abbrev pub is_full : Run → ℕ → Bool
 is_full r n = passes_limit r n (op_of r n)
 
 abbrev pub ends_at : Run → ℕ → Bool
-ends_at r n = list_any (λ k. is_faulty r k (op_of r n) (undivided r n)) (range_with_len 0 (parts_in r)) || is_full r n
+ends_at r n = list_any (λ k. is_faulty r k (op_of r n) (undivided r n))
+    (range_with_len 0 (parts_in r)) || is_full r n
 
 -- ---- the script
 
@@ -79,7 +86,8 @@ mail_at tells r oracle c n =
 
 abbrev pub piece_at : (tells : Type 0) → Run → Oracle → ℕ → ℕ → List (Message tells)
 piece_at tells r oracle k n =
-    op_hands r (next_op r (guided r oracle n).control) n (piece_by r k (values_of r.setup (undivided r n).state))
+    op_hands r (next_op r (guided r oracle n).control) n
+    (piece_by r k (values_of r.setup (undivided r n).state))
     (state_by r k (values_of r.setup (undivided r n).state) (undivided r n).state)
 
 abbrev pub script : (tells : Type 0) → Run → Oracle → Script (Message tells) Channel
@@ -102,17 +110,20 @@ gives_by r k x _ number = Unit {0}
 abbrev pub GivesAt : Run → Oracle → ℕ → ℕ → Held → Type 0
 GivesAt r oracle k n x = gives_by r k x (next_op r x.control) (oracle k n)
 
--- Part k at place n: its control and its scalars are those of all parts, whatever wires tell. And where they tell, each owned
--- number is the undivided run's, and each ghost point's in the directions that are done.
+-- Part k at place n: its control and its scalars are those of all parts, whatever wires tell. And
+-- where they tell, each owned number is the undivided run's, and each ghost point's in the
+-- directions that are done.
 pub record Stands (tells : Type 0) (r : Run) (oracle : Oracle) (k n : ℕ) (x : Held) : Type 0 where
   pub count : x.count ≡ n
   pub control : x.control ≡ (guided r oracle n).control
-  pub scalars : (v : VarId) → is_scalar r.setup v ≡ true → scalar_of x.numbers v ≡ scalar_of (guided r oracle n).state v
+  pub scalars : (v : VarId) → is_scalar r.setup v ≡ true
+      → scalar_of x.numbers v ≡ scalar_of (guided r oracle n).state v
   pub sized : IsHeld r.setup (local (cut_of r) k) x.numbers
   pub numbers : tells → (v : VarId) (level : ℕ) (p : Point)
       → is_scalar r.setup v ≡ false → v.0 < length r.setup.vars → level < levels_of r.setup v
       → IsReached (cut_of r) k (synced r n v level) p
-      → held_values r k x.numbers v level p ≡ at r.setup.shape (level_of (undivided r n).state v level) p
+      → held_values r k x.numbers v level p
+      ≡ at r.setup.shape (level_of (undivided r n).state v level) p
 
 -- and what it is to give for a reduction there is what the oracle says
 pub record Agrees (tells : Type 0) (r : Run) (oracle : Oracle) (k n : ℕ) (x : Held) : Type 0 where

@@ -42,9 +42,10 @@ pub fn each_order_agrees(job: &Job)
     operation_needs_met(job);
 }
 
-/// The same for wires that tell what they carry and for those that don't, event by event: the run begins in a state in which
-/// each part agrees at its own place by what the parts give for reductions, and each event that can happen leads to such a
-/// state. Where wires tell, that is the undivided run, and so are its ends. It does nothing that shows; its clause is the law.
+/// Event by event the parts agree with the undivided run, for wires that report what they carry and for
+/// those that don't: the run begins in a state in which each part agrees at its own place by what the parts
+/// give for reductions, and each event that can happen leads to such a state. Where wires report, that is the
+/// undivided run, and so are its ends. It does nothing that shows; its clause is the law.
 pub fn each_event_keeps(job: &Job)
     requires whole { IsWhole job.now }
     requires shapes { HasShapes (setup_of job.now) }

@@ -11,7 +11,8 @@ runs : run_bins ≡ range_with_len 0 run_bin_count
 runs = refl
 
 starts : map bin_name start_bins
-    ≡ codes "STARTUP" ∷ codes "WRAGH" ∷ codes "PARAMCHECK" ∷ codes "BASEGRID" ∷ codes "INITIAL" ∷ codes "POSTINITIAL" ∷ codes "POSTSTEP" ∷ []
+    ≡ codes "STARTUP" ∷ codes "WRAGH" ∷ codes "PARAMCHECK" ∷ codes "BASEGRID" ∷ codes "INITIAL"
+    ∷ codes "POSTINITIAL" ∷ codes "POSTSTEP" ∷ []
 starts = refl
 
 steps : map bin_name step_bins ≡ codes "PRESTEP" ∷ codes "EVOL" ∷ codes "POSTSTEP" ∷ []
@@ -22,7 +23,8 @@ ends = refl
 
 -- the last bins are those that are not run
 not_run : map bin_name (range_with_len run_bin_count 4)
-    ≡ codes "CPINITIAL" ∷ codes "RECOVER_PARAMETERS" ∷ codes "RECOVER_VARIABLES" ∷ codes "POST_RECOVER_VARIABLES" ∷ []
+    ≡ codes "CPINITIAL" ∷ codes "RECOVER_PARAMETERS" ∷ codes "RECOVER_VARIABLES"
+    ∷ codes "POST_RECOVER_VARIABLES" ∷ []
 not_run = refl
 
 -- the numbers of the bins that are run are among all

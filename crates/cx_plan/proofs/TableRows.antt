@@ -14,7 +14,8 @@ use Rattle.cx_plan.specs.declared.flag.Flag.TheVariants.{I, B, G, S}
 use Rattle.cx_plan.specs.Setups.{Setup}
 use Rattle.cx_plan.specs.Regions.{cell_needs, grid_needs, region_of, same_region, read_needs, same_level, are_distinct, kinds_agree, has_shape, Flags, cleared, after_write, after_scalar, written, all_written, exchanged, rotated, Turns, Syncs, Tests, Rotates, Outputs, Need, needs, leaves, is_met}
 
--- ---- a job: a scalar, a variable of three levels and one of one level, on a line with ghost zones of one point
+-- ---- a job: a scalar, a variable of three levels and one of one level, on a line with ghost zones
+-- of one point
 
 abbrev scalar : VarId
 scalar = record { 0 = 0 }
@@ -67,6 +68,7 @@ setup_with periodic items =
       out_vars = scalar ∷ phi ∷ [];
       chk_every = negsuc 0;
       on_end = false;
+      steers = [];
     }
 
 abbrev setup : Setup
@@ -110,10 +112,12 @@ by_kind region reach =
     (Cell ∷ Scalar ∷ Sum ∷ Least ∷ Greatest ∷ Count ∷ [])
 
 reduced : by_kind Everywhere 0
-    ≡ Some (I ∷ B ∷ G ∷ []) ∷ None ∷ Some (I ∷ B ∷ []) ∷ Some (I ∷ B ∷ []) ∷ Some (I ∷ B ∷ []) ∷ Some (I ∷ B ∷ []) ∷ []
+    ≡ Some (I ∷ B ∷ G ∷ []) ∷ None ∷ Some (I ∷ B ∷ []) ∷ Some (I ∷ B ∷ []) ∷ Some (I ∷ B ∷ [])
+    ∷ Some (I ∷ B ∷ []) ∷ []
 reduced = refl
 
-reduced_around : by_kind Everywhere 1 ≡ Some (I ∷ B ∷ G ∷ []) ∷ None ∷ None ∷ None ∷ None ∷ None ∷ []
+reduced_around : by_kind Everywhere 1
+    ≡ Some (I ∷ B ∷ G ∷ []) ∷ None ∷ None ∷ None ∷ None ∷ None ∷ []
 reduced_around = refl
 
 reduced_inside : by_kind Interior 0 ≡ Some (I ∷ []) ∷ None ∷ None ∷ None ∷ None ∷ None ∷ []
@@ -123,18 +127,24 @@ reduced_outside : by_kind Boundary 0 ≡ None ∷ None ∷ None ∷ None ∷ Non
 reduced_outside = refl
 
 -- a scalar is needed by any item
-scalar_read : map (λ (kind : ItemKind). read_needs setup (item_of kind [] (touch phi 0 Interior 0 ∷ [])) (touch scalar 0 Everywhere 0)) (Cell ∷ Scalar ∷ Sum ∷ [])
+scalar_read : map (λ (kind : ItemKind).
+    read_needs setup (item_of kind [] (touch phi 0 Interior 0 ∷ [])) (touch scalar 0 Everywhere 0))
+    (Cell ∷ Scalar ∷ Sum ∷ [])
     ≡ Some (S ∷ []) ∷ Some (S ∷ []) ∷ Some (S ∷ []) ∷ []
 scalar_read = refl
 
-grid_read : map (λ (w : Touch). read_needs setup (item_of Cell [] (w ∷ [])) (touch phi 1 Interior 0)) (touch phi 0 Interior 0 ∷ touch phi 0 Boundary 0 ∷ touch phi 0 Everywhere 0 ∷ [])
+grid_read : map (λ (w : Touch).
+    read_needs setup (item_of Cell [] (w ∷ [])) (touch phi 1 Interior 0))
+    (touch phi 0 Interior 0 ∷ touch phi 0 Boundary 0 ∷ touch phi 0 Everywhere 0 ∷ [])
     ≡ Some (I ∷ []) ∷ Some (I ∷ G ∷ []) ∷ None ∷ []
 grid_read = refl
 
-first_region : map region_of ([] ∷ (touch phi 0 Boundary 0 ∷ touch psi 0 Interior 0 ∷ []) ∷ []) ≡ Everywhere ∷ Boundary ∷ []
+first_region : map region_of ([] ∷ (touch phi 0 Boundary 0 ∷ touch psi 0 Interior 0 ∷ []) ∷ [])
+    ≡ Everywhere ∷ Boundary ∷ []
 first_region = refl
 
-regions : map (λ (a : Region). map (same_region a) (Interior ∷ Boundary ∷ Everywhere ∷ [])) (Interior ∷ Boundary ∷ Everywhere ∷ [])
+regions : map (λ (a : Region). map (same_region a) (Interior ∷ Boundary ∷ Everywhere ∷ []))
+    (Interior ∷ Boundary ∷ Everywhere ∷ [])
     ≡ (true ∷ false ∷ false ∷ []) ∷ (false ∷ true ∷ false ∷ []) ∷ (false ∷ false ∷ true ∷ []) ∷ []
 regions = refl
 
@@ -147,7 +157,9 @@ levels_told : same_level (touch phi 0 Interior 0) (touch phi 0 Boundary 0)
     ≡ true ∷ false ∷ false ∷ []
 levels_told = refl
 
-twice : map are_distinct ((touch phi 0 Interior 0 ∷ touch phi 1 Interior 0 ∷ []) ∷ (touch phi 0 Interior 0 ∷ touch psi 0 Interior 0 ∷ touch phi 0 Interior 0 ∷ []) ∷ [])
+twice : map are_distinct
+    ((touch phi 0 Interior 0 ∷ touch phi 1 Interior 0 ∷ [])
+    ∷ (touch phi 0 Interior 0 ∷ touch psi 0 Interior 0 ∷ touch phi 0 Interior 0 ∷ []) ∷ [])
     ≡ true ∷ false ∷ []
 twice = refl
 
@@ -172,24 +184,29 @@ scalars = refl
 
 -- a reduction has one read, of a grid variable, and one write, of a scalar
 abbrev four : List Touch → List Touch → List Bool
-four reads writes = map (λ (kind : ItemKind). agrees kind reads writes) (Sum ∷ Least ∷ Greatest ∷ Count ∷ [])
+four reads writes = map (λ (kind : ItemKind). agrees kind reads writes)
+    (Sum ∷ Least ∷ Greatest ∷ Count ∷ [])
 
-reductions : four (touch phi 0 Everywhere 0 ∷ []) (touch scalar 0 Everywhere 0 ∷ []) ≡ true ∷ true ∷ true ∷ true ∷ []
+reductions : four (touch phi 0 Everywhere 0 ∷ []) (touch scalar 0 Everywhere 0 ∷ [])
+    ≡ true ∷ true ∷ true ∷ true ∷ []
 reductions = refl
 
 of_none : four [] (touch scalar 0 Everywhere 0 ∷ []) ≡ false ∷ false ∷ false ∷ false ∷ []
 of_none = refl
 
-of_two : four (touch phi 0 Everywhere 0 ∷ touch psi 0 Everywhere 0 ∷ []) (touch scalar 0 Everywhere 0 ∷ []) ≡ false ∷ false ∷ false ∷ false ∷ []
+of_two : four (touch phi 0 Everywhere 0 ∷ touch psi 0 Everywhere 0 ∷ [])
+    (touch scalar 0 Everywhere 0 ∷ []) ≡ false ∷ false ∷ false ∷ false ∷ []
 of_two = refl
 
-of_a_scalar : four (touch scalar 0 Everywhere 0 ∷ []) (touch scalar 0 Everywhere 0 ∷ []) ≡ false ∷ false ∷ false ∷ false ∷ []
+of_a_scalar : four (touch scalar 0 Everywhere 0 ∷ []) (touch scalar 0 Everywhere 0 ∷ [])
+    ≡ false ∷ false ∷ false ∷ false ∷ []
 of_a_scalar = refl
 
 into_none : four (touch phi 0 Everywhere 0 ∷ []) [] ≡ false ∷ false ∷ false ∷ false ∷ []
 into_none = refl
 
-into_a_grid : four (touch phi 0 Everywhere 0 ∷ []) (touch psi 0 Everywhere 0 ∷ []) ≡ false ∷ false ∷ false ∷ false ∷ []
+into_a_grid : four (touch phi 0 Everywhere 0 ∷ []) (touch psi 0 Everywhere 0 ∷ [])
+    ≡ false ∷ false ∷ false ∷ false ∷ []
 into_a_grid = refl
 
 abbrev shaped : List Touch → List Touch → Bool
@@ -199,23 +216,31 @@ shaped reads writes = has_shape setup (item_of Cell reads writes)
 shapes : shaped (touch phi 1 Everywhere 1 ∷ []) (touch phi 0 Interior 0 ∷ [])
     ∷ shaped [] []
     ∷ shaped [] (touch phi 0 Interior 0 ∷ touch phi 0 Interior 0 ∷ [])
-    ∷ shaped (touch phi 1 Everywhere 1 ∷ touch phi 1 Everywhere 2 ∷ []) (touch phi 0 Interior 0 ∷ [])
+    ∷ shaped (touch phi 1 Everywhere 1 ∷ touch phi 1 Everywhere 2 ∷ [])
+    (touch phi 0 Interior 0 ∷ [])
     ∷ []
     ≡ true ∷ false ∷ false ∷ false ∷ []
 shapes = refl
 
 -- ---- what is left of a written level
 
-after_interior : (was : Bool) → map (λ (f : Flag). after_write Interior f was) (I ∷ B ∷ G ∷ S ∷ []) ≡ true ∷ false ∷ false ∷ was ∷ []
+after_interior : (was : Bool)
+    → map (λ (f : Flag). after_write Interior f was) (I ∷ B ∷ G ∷ S ∷ [])
+    ≡ true ∷ false ∷ false ∷ was ∷ []
 after_interior was = refl
 
-after_boundary : (was : Bool) → map (λ (f : Flag). after_write Boundary f was) (I ∷ B ∷ G ∷ S ∷ []) ≡ was ∷ true ∷ was ∷ was ∷ []
+after_boundary : (was : Bool)
+    → map (λ (f : Flag). after_write Boundary f was) (I ∷ B ∷ G ∷ S ∷ [])
+    ≡ was ∷ true ∷ was ∷ was ∷ []
 after_boundary was = refl
 
-after_everywhere : (was : Bool) → map (λ (f : Flag). after_write Everywhere f was) (I ∷ B ∷ G ∷ S ∷ []) ≡ true ∷ true ∷ true ∷ was ∷ []
+after_everywhere : (was : Bool)
+    → map (λ (f : Flag). after_write Everywhere f was) (I ∷ B ∷ G ∷ S ∷ [])
+    ≡ true ∷ true ∷ true ∷ was ∷ []
 after_everywhere was = refl
 
-after_a_scalar : (was : Bool) → map (λ (f : Flag). after_scalar f was) (I ∷ B ∷ G ∷ S ∷ []) ≡ was ∷ was ∷ was ∷ true ∷ []
+after_a_scalar : (was : Bool)
+    → map (λ (f : Flag). after_scalar f was) (I ∷ B ∷ G ∷ S ∷ []) ≡ was ∷ was ∷ was ∷ true ∷ []
 after_a_scalar was = refl
 
 -- I, B, G and S of a level
@@ -227,16 +252,21 @@ all_set v level f = true
 
 -- only the written level of the written variable changes
 one_level : map (four_flags (written setup all_set (touch phi 1 Interior 0)) phi) (0 ∷ 1 ∷ 2 ∷ [])
-    ≡ (true ∷ true ∷ true ∷ true ∷ []) ∷ (true ∷ false ∷ false ∷ true ∷ []) ∷ (true ∷ true ∷ true ∷ true ∷ []) ∷ []
+    ≡ (true ∷ true ∷ true ∷ true ∷ []) ∷ (true ∷ false ∷ false ∷ true ∷ [])
+    ∷ (true ∷ true ∷ true ∷ true ∷ []) ∷ []
 one_level = refl
 
-one_variable : four_flags (written setup all_set (touch phi 0 Interior 0)) psi 0 ≡ true ∷ true ∷ true ∷ true ∷ []
+one_variable : four_flags (written setup all_set (touch phi 0 Interior 0)) psi 0
+    ≡ true ∷ true ∷ true ∷ true ∷ []
 one_variable = refl
 
-one_scalar : four_flags (written setup cleared (touch scalar 0 Everywhere 0)) scalar 0 ≡ false ∷ false ∷ false ∷ true ∷ []
+one_scalar : four_flags (written setup cleared (touch scalar 0 Everywhere 0)) scalar 0
+    ≡ false ∷ false ∷ false ∷ true ∷ []
 one_scalar = refl
 
-both_written : map (λ (v : VarId). four_flags (all_written setup (touch phi 0 Interior 0 ∷ touch psi 0 Everywhere 0 ∷ []) cleared) v 0) (phi ∷ psi ∷ [])
+both_written : map (λ (v : VarId).
+    four_flags (all_written setup (touch phi 0 Interior 0 ∷ touch psi 0 Everywhere 0 ∷ []) cleared)
+    v 0) (phi ∷ psi ∷ [])
     ≡ (true ∷ false ∷ false ∷ false ∷ []) ∷ (true ∷ true ∷ true ∷ false ∷ []) ∷ []
 both_written = refl
 
@@ -260,10 +290,12 @@ current_set v level f = true && is_current level
     is_current (suc k) = false
 
 -- the current level becomes the next older one and is cleared; one level alone stays
-turned : map (λ (level : ℕ). rotated setup current_set phi level I) (0 ∷ 1 ∷ 2 ∷ []) ≡ false ∷ true ∷ false ∷ []
+turned : map (λ (level : ℕ). rotated setup current_set phi level I) (0 ∷ 1 ∷ 2 ∷ [])
+    ≡ false ∷ true ∷ false ∷ []
 turned = refl
 
-turned_alone : map (λ (v : VarId). rotated setup current_set v 0 I) (scalar ∷ psi ∷ []) ≡ true ∷ true ∷ []
+turned_alone : map (λ (v : VarId). rotated setup current_set v 0 I) (scalar ∷ psi ∷ [])
+    ≡ true ∷ true ∷ []
 turned_alone = refl
 
 -- ---- what a step needs
@@ -272,7 +304,9 @@ abbrev need : List ℕ → VarId → ℕ → Flag → Need
 need place v level flag = record { place = place; var = v; level = level; flag = flag }
 
 abbrev reader : Setup
-reader = setup_with false (item_of Cell (touch phi 1 Everywhere 1 ∷ touch scalar 0 Everywhere 0 ∷ touch psi 0 Interior 0 ∷ []) (touch phi 0 Interior 0 ∷ []) ∷ [])
+reader = setup_with false
+    (item_of Cell (touch phi 1 Everywhere 1 ∷ touch scalar 0 Everywhere 0 ∷ touch psi 0 Interior 0
+    ∷ []) (touch phi 0 Interior 0 ∷ []) ∷ [])
 
 turn_needs : needs reader (Turns 0)
     ≡ need (codes "EVOL/t") phi 1 I
@@ -283,7 +317,8 @@ turn_needs : needs reader (Turns 0)
     ∷ []
 turn_needs = refl
 
-sync_needs : needs setup (Syncs (phi ∷ psi ∷ []) (codes "EVOL/t")) ≡ need (codes "EVOL/t") phi 0 I ∷ need (codes "EVOL/t") psi 0 I ∷ []
+sync_needs : needs setup (Syncs (phi ∷ psi ∷ []) (codes "EVOL/t"))
+    ≡ need (codes "EVOL/t") phi 0 I ∷ need (codes "EVOL/t") psi 0 I ∷ []
 sync_needs = refl
 
 test_needs : needs setup (Tests scalar (codes "EVOL/t")) ≡ need (codes "EVOL/t") scalar 0 S ∷ []
@@ -292,7 +327,9 @@ test_needs = refl
 rotation_needs : needs setup Rotates ≡ []
 rotation_needs = refl
 
-output_needs_all : needs setup Outputs ≡ need (codes "output") scalar 0 S ∷ need (codes "output") phi 0 I ∷ need (codes "output") phi 0 B ∷ []
+output_needs_all : needs setup Outputs
+    ≡ need (codes "output") scalar 0 S ∷ need (codes "output") phi 0 I
+    ∷ need (codes "output") phi 0 B ∷ []
 output_needs_all = refl
 
 -- ---- what a step leaves
@@ -300,10 +337,12 @@ output_needs_all = refl
 turn_leaves : four_flags (leaves reader (Turns 0) cleared) phi 0 ≡ true ∷ false ∷ false ∷ false ∷ []
 turn_leaves = refl
 
-sync_leaves : four_flags (leaves setup (Syncs (phi ∷ []) []) cleared) phi 0 ≡ false ∷ false ∷ true ∷ false ∷ []
+sync_leaves : four_flags (leaves setup (Syncs (phi ∷ []) []) cleared) phi 0
+    ≡ false ∷ false ∷ true ∷ false ∷ []
 sync_leaves = refl
 
-rotation_leaves : map (λ (level : ℕ). leaves setup Rotates current_set phi level G) (0 ∷ 1 ∷ []) ≡ false ∷ true ∷ []
+rotation_leaves : map (λ (level : ℕ). leaves setup Rotates current_set phi level G) (0 ∷ 1 ∷ [])
+    ≡ false ∷ true ∷ []
 rotation_leaves = refl
 
 test_leaves : (flags : Flags) → leaves setup (Tests scalar []) flags ≡ flags
@@ -315,7 +354,8 @@ output_leaves flags = refl
 -- ---- when a need is met
 
 abbrev met : Bool → Flags → List Bool
-met periodic flags = map (λ (f : Flag). is_met (setup_with periodic []) flags (need [] phi 0 f)) (I ∷ B ∷ G ∷ S ∷ [])
+met periodic flags = map (λ (f : Flag). is_met (setup_with periodic []) flags (need [] phi 0 f))
+    (I ∷ B ∷ G ∷ S ∷ [])
 
 met_where_set : met false all_set ≡ true ∷ true ∷ true ∷ true ∷ []
 met_where_set = refl

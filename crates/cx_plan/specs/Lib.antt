@@ -4,6 +4,7 @@ pub mod Lists
 pub mod Setups
 pub mod Dues
 pub mod Lookups
+pub mod Steering
 pub mod Bins
 pub mod Regions
 pub mod Paths

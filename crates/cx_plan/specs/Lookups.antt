@@ -13,7 +13,16 @@ abbrev pub no_variable : VarInfo
 no_variable = record { full = []; ctype = Int8; scalar = false; levels = 0 }
 
 abbrev pub no_item : Item
-no_item = record { thorn = []; name = []; path = []; kind = Cell; routine = 0; reads = []; writes = []; params = [] }
+no_item = record {
+  thorn = [];
+  name = [];
+  path = [];
+  kind = Cell;
+  routine = 0;
+  reads = [];
+  writes = [];
+  params = [];
+}
 
 abbrev pub variable : Setup → VarId → VarInfo
 variable setup v = slice_index_or setup.vars v.0 no_variable
@@ -86,8 +95,8 @@ RECOVER_VARIABLES = 15
 abbrev pub POST_RECOVER_VARIABLES : ℕ
 POST_RECOVER_VARIABLES = 16
 
--- the order of a run: at iteration 0, in each later iteration, and at the end. ANALYSIS stands behind the first two, and
--- CHECKPOINT between the second and ANALYSIS
+-- the order of a run: at iteration 0, in each later iteration, and at the end. ANALYSIS stands
+-- behind the first two, and CHECKPOINT between the second and ANALYSIS
 abbrev pub start_bins : List ℕ
 start_bins = STARTUP ∷ WRAGH ∷ PARAMCHECK ∷ BASEGRID ∷ INITIAL ∷ POSTINITIAL ∷ POSTSTEP ∷ []
 
@@ -100,7 +109,8 @@ end_bins = TERMINATE ∷ SHUTDOWN ∷ []
 -- the bins that are run, by their numbers
 abbrev pub run_bins : List ℕ
 run_bins =
-    STARTUP ∷ WRAGH ∷ PARAMCHECK ∷ BASEGRID ∷ INITIAL ∷ POSTINITIAL ∷ PRESTEP ∷ EVOL ∷ POSTSTEP ∷ CHECKPOINT ∷ ANALYSIS
+    STARTUP ∷ WRAGH ∷ PARAMCHECK ∷ BASEGRID ∷ INITIAL ∷ POSTINITIAL ∷ PRESTEP ∷ EVOL ∷ POSTSTEP
+    ∷ CHECKPOINT ∷ ANALYSIS
     ∷ TERMINATE ∷ SHUTDOWN ∷ []
 
 -- how many bins there are; the first so many are run

@@ -10,7 +10,8 @@ pub data Mark : Type 0 where
   Letter : ℕ → Mark
   Meets : Act → Mark
 
--- i: an iteration begins. y, n: an IF or the CHECKPOINT bin is taken or not. w, x: a WHILE turn is entered, a WHILE is left
+-- i: an iteration begins. y, n: an IF or the CHECKPOINT bin is taken or not. w, x: a WHILE turn is
+-- entered, a WHILE is left
 abbrev pub letter_i : Mark
 letter_i = Letter 105
 
@@ -37,7 +38,8 @@ Just these marks = marks ≡ these
 -- so many turns, each with its test, and then the test that leaves
 abbrev pub Loop : Act → (List Mark → Type 0) → ℕ → List Mark → Type 0
 Loop test Body zero = Just (Meets test ∷ letter_x ∷ [])
-Loop test Body (suc turns) = Then (Just (Meets test ∷ letter_w ∷ [])) (Then Body (Loop test Body turns))
+Loop test Body (suc turns) =
+    Then (Just (Meets test ∷ letter_w ∷ [])) (Then Body (Loop test Body turns))
 
 -- the paths through a tree; the row of an IF or a WHILE has one tree
 abbrev mutual
@@ -46,7 +48,8 @@ abbrev mutual
   Path (Call k) marks = Just (Meets (Turns k) ∷ []) marks
   Path (Sync vars path) marks = Just (Meets (Syncs vars path) ∷ []) marks
   Path (If' v path shape one) marks =
-      Then (Just (Meets (Tests v path) ∷ letter_y ∷ [])) (PathIn one) marks ⊎ Just (Meets (Tests v path) ∷ letter_n ∷ []) marks
+      Then (Just (Meets (Tests v path) ∷ letter_y ∷ [])) (PathIn one) marks
+      ⊎ Just (Meets (Tests v path) ∷ letter_n ∷ []) marks
   Path (While' v path shape one) marks = (turns : ℕ) × Loop (Tests v path) (PathIn one) turns marks
 
   pub PathIn : {m : _} → Row_of-Tree m → List Mark → Type 0
@@ -98,15 +101,19 @@ or_go_on letters (Some need) rest = Some (letters, need)
 
 abbrev pub first_unmet : Setup → List ℕ → Flags → List Mark → Option (List ℕ × Need)
 first_unmet setup letters flags [] = None
-first_unmet setup letters flags (Letter c ∷ marks) = first_unmet setup (letters ++ c ∷ []) flags marks
+first_unmet setup letters flags (Letter c ∷ marks) =
+    first_unmet setup (letters ++ c ∷ []) flags marks
 first_unmet setup letters flags (Meets act ∷ marks) =
     let rest = first_unmet setup letters (leaves setup act flags) marks
     in or_go_on letters (find (λ n. not (is_met setup flags n)) (needs setup act)) rest
 
 -- on no path a need meets a cleared flag
 abbrev pub Sound : Setup → Type 0
-Sound setup = (marks : List Mark) → PathOfJob setup marks → first_unmet setup [] cleared marks ≡ None
+Sound setup = (marks : List Mark) → PathOfJob setup marks
+    → first_unmet setup [] cleared marks ≡ None
 
 -- on some path with these letters this need is the first that is not met
 abbrev pub IsUnset : Setup → List ℕ → Need → Type 0
-IsUnset setup letters need = (marks : List Mark) × PathOfJob setup marks × (first_unmet setup [] cleared marks ≡ Some (letters, need))
+IsUnset setup letters need =
+    (marks : List Mark) × PathOfJob setup marks
+    × (first_unmet setup [] cleared marks ≡ Some (letters, need))

@@ -24,7 +24,8 @@ has_boundary s = list_any (is_boundary s) (points_in (whole s))
 
 -- whether a reach is at most the ghost width of each direction
 abbrev pub within_ghosts : Shape → ℕ → Bool
-within_ghosts s reach = list_all (λ d. int_le (pos reach) (along s.ghost_ d)) (range_with_len 0 s.dims)
+within_ghosts s reach = list_all (λ d. int_le (pos reach) (along s.ghost_ d))
+    (range_with_len 0 s.dims)
 
 abbrev pub same_region : Region → Region → Bool
 same_region Interior Interior = true
@@ -37,9 +38,11 @@ same_region Boundary Everywhere = false
 same_region Everywhere Interior = false
 same_region Everywhere Boundary = false
 
--- what an item that writes this region needs of a read of this region and reach; none where the table has no such row
+-- what an item that writes this region needs of a read of this region and reach; none where the
+-- table has no such row
 abbrev pub cell_needs : Shape → Region → Region → ℕ → Option (List Flag)
-cell_needs s Interior Everywhere reach = if within_ghosts s reach then Some (I ∷ B ∷ G ∷ []) else None
+cell_needs s Interior Everywhere reach = if within_ghosts s reach then Some (I ∷ B ∷ G ∷ [])
+    else None
 cell_needs s Interior Interior reach = if reach == 0 then Some (I ∷ []) else None
 cell_needs s Interior Boundary reach = None
 cell_needs s Everywhere Everywhere reach = if reach == 0 then Some (I ∷ B ∷ G ∷ []) else None
@@ -57,15 +60,20 @@ region_of (w ∷ ws) = w.region
 abbrev pub grid_needs : Shape → ItemKind → Region → Touch → Option (List Flag)
 grid_needs s Cell region r = cell_needs s region r.region r.reach
 grid_needs s Scalar region r = None
-grid_needs s Sum region r = if same_region r.region Everywhere && r.reach == 0 then Some (I ∷ B ∷ []) else None
-grid_needs s Least region r = if same_region r.region Everywhere && r.reach == 0 then Some (I ∷ B ∷ []) else None
-grid_needs s Greatest region r = if same_region r.region Everywhere && r.reach == 0 then Some (I ∷ B ∷ []) else None
-grid_needs s Count region r = if same_region r.region Everywhere && r.reach == 0 then Some (I ∷ B ∷ []) else None
+grid_needs s Sum region r = if same_region r.region Everywhere && r.reach == 0
+    then Some (I ∷ B ∷ []) else None
+grid_needs s Least region r = if same_region r.region Everywhere && r.reach == 0
+    then Some (I ∷ B ∷ []) else None
+grid_needs s Greatest region r = if same_region r.region Everywhere && r.reach == 0
+    then Some (I ∷ B ∷ []) else None
+grid_needs s Count region r = if same_region r.region Everywhere && r.reach == 0
+    then Some (I ∷ B ∷ []) else None
 
 -- what an item needs of one of its reads
 abbrev pub read_needs : Setup → Item → Touch → Option (List Flag)
 read_needs setup x r =
-    if is_scalar setup r.var then Some (S ∷ []) else grid_needs setup.shape x.kind (region_of x.writes) r
+    if is_scalar setup r.var then Some (S ∷ [])
+    else grid_needs setup.shape x.kind (region_of x.writes) r
 
 abbrev pub same_level : Touch → Touch → Bool
 same_level a b = a.var.0 == b.var.0 && a.level == b.level
@@ -87,13 +95,18 @@ is_some_list (x ∷ xs) = true
 -- one read of a grid variable, and one scalar written
 abbrev pub reduces : Setup → Item → Bool
 reduces setup x =
-    is_one x.reads && is_one x.writes && list_all (λ (r : Touch). not (is_scalar setup r.var)) x.reads
+    is_one x.reads && is_one x.writes
+    && list_all (λ (r : Touch). not (is_scalar setup r.var)) x.reads
     && list_all (λ (w : Touch). is_scalar setup w.var) x.writes
 
 -- whether the reads' and writes' kinds are those of the item's kind
 abbrev pub kinds_agree : Setup → Item → ItemKind → Bool
-kinds_agree setup x Cell = list_all (λ (w : Touch). not (is_scalar setup w.var) && same_region w.region (region_of x.writes)) x.writes
-kinds_agree setup x Scalar = list_all (λ (w : Touch). is_scalar setup w.var) x.writes && list_all (λ (r : Touch). is_scalar setup r.var) x.reads
+kinds_agree setup x Cell =
+    list_all (λ (w : Touch). not (is_scalar setup w.var)
+    && same_region w.region (region_of x.writes)) x.writes
+kinds_agree setup x Scalar =
+    list_all (λ (w : Touch). is_scalar setup w.var) x.writes
+    && list_all (λ (r : Touch). is_scalar setup r.var) x.reads
 kinds_agree setup x Sum = reduces setup x
 kinds_agree setup x Least = reduces setup x
 kinds_agree setup x Greatest = reduces setup x
@@ -121,11 +134,11 @@ Flags = VarId → ℕ → Flag → Bool
 abbrev pub cleared : Flags
 cleared v level f = false
 
-abbrev pub same_var : VarId → VarId → Bool
-same_var a b = a.0 == b.0
+abbrev pub same_variable : VarId → VarId → Bool
+same_variable a b = a.0 == b.0
 
 abbrev pub is_among : VarId → List VarId → Bool
-is_among v vars = list_any (same_var v) vars
+is_among v vars = list_any (same_variable v) vars
 
 -- a flag of a written level after the write
 abbrev pub after_write : Region → Flag → Bool → Bool
@@ -151,8 +164,9 @@ after_scalar G was = was
 
 abbrev pub written : Setup → Flags → Touch → Flags
 written setup flags w v level f =
-    if same_var v w.var && level == w.level
-    then (if is_scalar setup v then after_scalar f (flags v level f) else after_write w.region f (flags v level f))
+    if same_variable v w.var && level == w.level
+    then (if is_scalar setup v then after_scalar f (flags v level f)
+    else after_write w.region f (flags v level f))
     else flags v level f
 
 abbrev pub all_written : Setup → List Touch → Flags → Flags
@@ -176,7 +190,8 @@ newer_level flags v (suc level) f = flags v level f
 
 -- after rotation
 abbrev pub rotated : Setup → Flags → Flags
-rotated setup flags v level f = if nat_lt 1 (levels_of setup v) then newer_level flags v level f else flags v level f
+rotated setup flags v level f = if nat_lt 1 (levels_of setup v) then newer_level flags v level f
+    else flags v level f
 
 -- ---- steps of a path
 
@@ -201,16 +216,19 @@ flags_or_none (Some fs) = fs
 
 abbrev pub needs_of_read : Setup → Item → Touch → List Need
 needs_of_read setup x r =
-    map (λ f. record { place = x.path; var = r.var; level = r.level; flag = f }) (flags_or_none (read_needs setup x r))
+    map (λ f. record { place = x.path; var = r.var; level = r.level; flag = f })
+    (flags_or_none (read_needs setup x r))
 
 abbrev pub output_needs : Setup → VarId → List Need
 output_needs setup v =
-    map (λ f. record { place = codes "output"; var = v; level = 0; flag = f }) (if is_scalar setup v then S ∷ [] else I ∷ B ∷ [])
+    map (λ f. record { place = codes "output"; var = v; level = 0; flag = f })
+    (if is_scalar setup v then S ∷ [] else I ∷ B ∷ [])
 
 -- what a step needs, in order
 abbrev pub needs : Setup → Act → List Need
 needs setup (Turns k) = flat_map (needs_of_read setup (item setup k)) (item setup k).reads
-needs setup (Syncs vars path) = map (λ v. record { place = path; var = v; level = 0; flag = I }) vars
+needs setup (Syncs vars path) =
+    map (λ v. record { place = path; var = v; level = 0; flag = I }) vars
 needs setup (Tests v path) = record { place = path; var = v; level = 0; flag = S } ∷ []
 needs setup Rotates = []
 needs setup Outputs = flat_map (output_needs setup) setup.out_vars

@@ -1,9 +1,11 @@
--- What the undivided run of a job depends on: everything but the cut, the lead, the folders, the slots and the way to begin.
+-- What the undivided run of a job depends on: everything but the cut, the lead, the folders, the
+-- slots and the way to begin.
 use Rattle.std.specs.Prelude.{ℕ, Bool, ℤ, List}
 use Rattle.cx_grid.specs.declared.shapes.Shape.{Shape}
 use Rattle.cx_plan.specs.declared.variable.VarId.{VarId}
 use Rattle.cx_plan.specs.declared.variable.VarInfo.{VarInfo}
 use Rattle.cx_plan.specs.declared.item.Item.{Item}
+use Rattle.cx_plan.specs.declared.steered.Steered.{Steered}
 use Rattle.cx_plan.specs.declared.tree.Tree.{Tree}
 use Rattle.cx_plan.specs.declared.job.Job.{Job}
 
@@ -11,6 +13,7 @@ pub record Setup : Type 0 where
   pub shape : Shape
   pub vars : List VarInfo
   pub items : List Item
+  pub steers : List Steered
   pub bins : List Tree
   pub itlast : ℕ
   pub while_limit : ℕ
@@ -25,6 +28,7 @@ setup_of job =
       shape = job.shape;
       vars = job.vars;
       items = job.items;
+      steers = job.steers;
       bins = job.plan.bins;
       itlast = job.itlast;
       while_limit = job.while_limit;

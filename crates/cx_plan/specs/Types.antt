@@ -10,7 +10,8 @@ signed_low bits = negsuc (2 ^ (bits - 1) - 1)
 abbrev pub signed_high : ℕ → ℤ
 signed_high bits = pos (2 ^ (bits - 1) - 1)
 
--- A plain INT is an INT8. A type that isn't of whole numbers is held in 64 bits too; binding refuses it.
+-- A plain INT is an INT8. A type that isn't of whole numbers is held in 64 bits too; binding
+-- refuses it.
 abbrev pub least : CType → ℤ
 least Byte = pos 0
 least Int2 = signed_low 16

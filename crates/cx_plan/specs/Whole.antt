@@ -1,5 +1,5 @@
 -- The jobs that calls ask for.
-use Rattle.std.specs.Prelude.{ℕ, ◌*◌, ◌^◌, ◌≤◌, ◌<◌, ◌≡◌, ◌≢◌, true, false, pos, negsuc, ◌≤ℤ◌, List, map, length, sum, filter, not, All, AllPairs}
+use Rattle.std.specs.Prelude.{ℕ, ◌*◌, ◌^◌, ◌≤◌, ◌<◌, ◌≡◌, ◌≢◌, true, false, pos, negsuc, ◌≤ℤ◌, List, map, length, sum, filter, not, All, AllPairs, IfSome, if◌then◌else◌}
 use Rattle.cx_grid.specs.Boxes.{point_count}
 use Rattle.cx_grid.specs.Grid.{IsShape, whole}
 use Rattle.cx_plan.specs.declared.variable.VarId.{VarId}
@@ -11,6 +11,7 @@ use Rattle.cx_plan.specs.declared.tree.Tree.{Tree, Seq', Call, Sync, If', While'
 use Rattle.cx_plan.specs.Setups.{setup_of}
 use Rattle.cx_plan.specs.Lookups.{is_scalar, levels_of, item, bin_count}
 use Rattle.cx_plan.specs.Regions.{run_items}
+use Rattle.cx_plan.specs.Steering.{IsSteer}
 use Rattle.cx_plan.specs.Sizes.{all_nodes, greatest_depth}
 
 -- a variable of the job
@@ -59,7 +60,8 @@ IsName full = (1 ≤ length full) × All (λ b. (33 ≤ b) × (b ≤ 126)) full
 
 -- how many numbers the grid variables have at one point
 abbrev pub grid_levels : List VarInfo → ℕ
-grid_levels vars = sum (map (λ (v : VarInfo). v.levels) (filter (λ (v : VarInfo). not v.scalar) vars))
+grid_levels vars =
+    sum (map (λ (v : VarInfo). v.levels) (filter (λ (v : VarInfo). not v.scalar) vars))
 
 pub record IsWhole (job : Job) : Type 0 where
   pub shape : IsShape job.shape
@@ -74,6 +76,8 @@ pub record IsWhole (job : Job) : Type 0 where
   pub nodes_limit : all_nodes job.plan.bins ≤ 4096
   pub depth_limit : greatest_depth job.plan.bins ≤ 32
   pub outputs : All (λ v. IsStored job v 0) job.out_vars
+  pub steers : All (IsSteer (setup_of job)) job.steers
+  pub weight : IfSome job.weight (IsStoredGrid job)
   pub outputs_rise : AllPairs (λ (a b : VarId). a.0 < b.0) job.out_vars
   pub variables_limit : length job.vars ≤ 256
   pub itlast_limit : job.itlast ≤ 1000000
@@ -88,3 +92,11 @@ pub record IsWhole (job : Job) : Type 0 where
   pub checkpoint_limit : job.chk_every ≤ℤ pos 1000000
   pub cells_limit : grid_levels job.vars * point_count (whole job.shape) ≤ 2 ^ 26
   pub key_limit : length job.key < 2 ^ 32
+
+-- how many numbers a checkpoint holds of a variable that is a scalar, and how many levels of a grid
+-- variable
+abbrev pub scalar_count : VarInfo → ℕ
+scalar_count v = if v.scalar then v.levels else 0
+
+abbrev pub level_count : VarInfo → ℕ
+level_count v = if v.scalar then 0 else v.levels

@@ -1,6 +1,6 @@
 //! When checkpoints and outputs are due.
 ghost use Rattle.std.specs.Prelude.{◌≡◌};
-ghost use Rattle.cx_plan.specs.Dues.{is_each, is_due, is_written};
+ghost use Rattle.cx_plan.specs.Dues.{is_each, is_due_by, is_due, is_written};
 ghost use Rattle.cx_plan.specs.Setups.{setup_of};
 
 use crate::Job;
@@ -12,13 +12,19 @@ fn is_each(every: i64, n: u64) -> bool
     every >= 1 && n % every.unsigned_abs() == 0
 }
 
-/// Whether a checkpoint is due at an iteration: where `chk_every` divides it, and at the last one where the job asks for that.
-/// None is due at iteration 0 or behind the last one.
+/// Whether a checkpoint is due at an iteration: where `every` divides it, and at the last one with `on_end`.
+/// None is due at iteration 0 or after the last one.
+pub fn is_due_by(itlast: u64, every: i64, on_end: bool, n: u64) -> bool
+    ensures { result ≡ is_due_by itlast every on_end n }
+{
+    n != 0 && n <= itlast && (is_each(every, n) || on_end && n == itlast)
+}
+
+/// Whether a checkpoint of a job is due at an iteration ([`is_due_by`]).
 pub fn is_due(job: &Job, n: u64) -> bool
     ensures { result ≡ is_due (setup_of job.now) n }
 {
-    let at_end = job.on_end && n == job.itlast;
-    n != 0 && n <= job.itlast && (is_each(job.chk_every, n) || at_end)
+    is_due_by(job.itlast, job.chk_every, job.on_end, n)
 }
 
 /// Whether the variables are written at an iteration: where `out_every` divides it, as each number divides 0.

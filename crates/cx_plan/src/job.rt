@@ -1,6 +1,6 @@
 //! Jobs: configurations that are ready to run.
 
-use crate::{Item, Schedule, VarId, VarInfo};
+use crate::{Item, Schedule, Steered, VarId, VarInfo};
 use cx_grid::Shape;
 use cx_text::{List, Text};
 
@@ -31,6 +31,8 @@ pub struct Job {
     /// The variables by their numbers, with their stored levels.
     pub vars: List<VarInfo>,
     pub items: List<Item>,
+    /// The numbers that parameters of items get from an iteration on.
+    pub steers: List<Steered>,
     /// What each bin runs.
     pub plan: Schedule,
     pub cut: Cuts,
@@ -40,6 +42,12 @@ pub struct Job {
     pub while_limit: u64,
     /// How many iterations a part may be ahead of another one, at most 64.
     pub lead: u64,
+    /// Whether the grid is cut anew by the weight of its points at each checkpoint.
+    pub balance: bool,
+    /// The grid variable whose numbers weigh the points.
+    pub weight: Option<VarId>,
+    /// What a number of the weighing variable counts for, at most 1,048,576.
+    pub weight_factor: u64,
     /// Output is written at iterations that this divides; below 1 never.
     pub out_every: i64,
     /// The variables that are written, in rising order.

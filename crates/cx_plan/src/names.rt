@@ -41,6 +41,7 @@ fn last_bracket(full: &[u8]) -> usize
     place
 }
 
+/// Whether a full name ends with the number of a copy.
 fn ends_with_bracket(full: &[u8]) -> bool
     ensures { result ≡ ends_with_bracket full.now }
 {

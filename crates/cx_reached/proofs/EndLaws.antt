@@ -58,58 +58,85 @@ same_goes e = cc
 
 module _ (r : Run) (run : IsRun r) where
   some_fault : ℕ → Bool
-  some_fault n = list_any (λ k. is_faulty r k (op_of r n) (undivided r n)) (range_with_len 0 (parts_in r))
+  some_fault n = list_any (λ k. is_faulty r k (op_of r n) (undivided r n))
+      (range_with_len 0 (parts_in r))
 
-  meets : (n : ℕ) → list_any (λ k. is_faulty r k (op_of r n) (undivided r n)) (range_with_len 0 (parts_in r)) ≡ is_some (met_of (notes_of r n))
-  meets n = tiles_meet r run (some_part r run) (op_of r n) (undivided r n) (names_at r run (undivided r n).control.pc)
+  meets : (n : ℕ) → list_any (λ k. is_faulty r k (op_of r n) (undivided r n))
+      (range_with_len 0 (parts_in r)) ≡ is_some (met_of (notes_of r n))
+  meets n = tiles_meet r run (some_part r run) (op_of r n) (undivided r n)
+      (names_at r run (undivided r n).control.pc)
 
   one_there : (n : ℕ) → is_full r n ≡ false → OneNote r (length_before r n) (notes_of r n)
-  one_there n h = op_one r (op_of r n) (undivided r n).control (undivided r n).state (length_before r n) (sym (by_length r n (op_of r n)) ∙ h)
+  one_there n h = op_one r (op_of r n) (undivided r n).control (undivided r n).state
+      (length_before r n) (sym (by_length r n (op_of r n)) ∙ h)
 
-  end_there : (n : ℕ) → ends_at r n ≡ true → is_full r n ≡ false → (end : End) × (met_of (notes_of r n) ≡ Some end)
+  end_there : (n : ℕ) → ends_at r n ≡ true → is_full r n ≡ false
+      → (end : End) × (met_of (notes_of r n) ≡ Some end)
   end_there n h f =
       met_some (met_of (notes_of r n))
-      (sym (meets n) ∙ left_true (list_any (λ k. is_faulty r k (op_of r n) (undivided r n)) (range_with_len 0 (parts_in r))) (is_full r n) h f)
+      (sym (meets n) ∙ left_true
+      (list_any (λ k. is_faulty r k (op_of r n) (undivided r n))
+      (range_with_len 0 (parts_in r))) (is_full r n) h f)
 
   -- the end that is met at a place is that of its operation
-  pub end_is_met : (n : ℕ) → ends_at r n ≡ true → (end : End) × (end_met_by r (op_of r n) (undivided r n).control.iteration ≡ Some end) × (end_at r n ≡ Some end)
+  pub end_is_met : (n : ℕ) → ends_at r n ≡ true
+      → (end : End) × (end_met_by r (op_of r n) (undivided r n).control.iteration ≡ Some end)
+      × (end_at r n ≡ Some end)
   end_is_met n h = go (is_full r n) refl
     where
       end_by : Bool → Option End
-      end_by b = if b then Some (OutputLimit (undivided r n).control.iteration) else met_of (notes_of r n)
+      end_by b = if b then Some (OutputLimit (undivided r n).control.iteration)
+          else met_of (notes_of r n)
 
-      go : (b : Bool) → is_full r n ≡ b → (end : End) × (end_met_by r (op_of r n) (undivided r n).control.iteration ≡ Some end) × (end_at r n ≡ Some end)
+      go : (b : Bool) → is_full r n ≡ b
+          → (end : End) × (end_met_by r (op_of r n) (undivided r n).control.iteration ≡ Some end)
+          × (end_at r n ≡ Some end)
       go true e = (
         OutputLimit (undivided r n).control.iteration,
-        full_is r (op_of r n) (length_before r n) (undivided r n).control.iteration (notes_of r n) (sym (by_length r n (op_of r n)) ∙ e),
-        ap (λ (b : Bool). if b then Some (OutputLimit (undivided r n).control.iteration) else met_of (notes_of r n)) e,
+        full_is r (op_of r n) (length_before r n) (undivided r n).control.iteration (notes_of r n)
+            (sym (by_length r n (op_of r n)) ∙ e),
+        ap (λ (b : Bool). if b then Some (OutputLimit (undivided r n).control.iteration)
+            else met_of (notes_of r n)) e,
       )
       go false e =
-          let m = end_there n h e in
-          (m.0, met_is r (op_of r n) (undivided r n).control (undivided r n).state m.0 m.1, ap (λ (b : Bool). if b then Some (OutputLimit (undivided r n).control.iteration) else met_of (notes_of r n)) e ∙ m.1)
+          let m = end_there n h e in (
+            m.0,
+            met_is r (op_of r n) (undivided r n).control (undivided r n).state m.0 m.1,
+            ap (λ (b : Bool). if b then Some (OutputLimit (undivided r n).control.iteration)
+                else met_of (notes_of r n)) e ∙ m.1,
+          )
 
   module _ (state : State) where
     -- the trace of the run from a place on, over so many operations
     abbrev rest_trace : ℕ → ℕ → Trace
-    rest_trace n m = trace_from (length_before r n) (noted_from r.setup r.rules (code r.setup) m (undivided r n)) state
+    rest_trace n m = trace_from (length_before r n)
+        (noted_from r.setup r.rules (code r.setup) m (undivided r n)) state
 
-    trace_step : (n m : ℕ) → ends_at r n ≡ false → rest_trace n (suc m) ≡ after (entries_of (notes_of r n)) (rest_trace (suc n) m)
+    trace_step : (n m : ℕ) → ends_at r n ≡ false
+        → rest_trace n (suc m) ≡ after (entries_of (notes_of r n)) (rest_trace (suc n) m)
     trace_step n m h =
-        let both = or_parts (list_any (λ k. is_faulty r k (op_of r n) (undivided r n)) (range_with_len 0 (parts_in r))) (is_full r n) h in
-        let fine = fits_one r (length_before r n) (notes_of r n) (one_there n both.1) (met_none (met_of (notes_of r n)) (sym (meets n) ∙ both.0)) in
-        trace_through (length_before r n) (notes_of r n) (noted_from r.setup r.rules (code r.setup) m (undivided r (suc n))) state fine.0 fine.1
+        let both =
+        or_parts (list_any (λ k. is_faulty r k (op_of r n) (undivided r n))
+        (range_with_len 0 (parts_in r))) (is_full r n) h in
+        let fine = fits_one r (length_before r n) (notes_of r n) (one_there n both.1)
+        (met_none (met_of (notes_of r n)) (sym (meets n) ∙ both.0)) in
+        trace_through (length_before r n) (notes_of r n)
+        (noted_from r.setup r.rules (code r.setup) m (undivided r (suc n))) state fine.0 fine.1
 
     after_both : (a b : List Entry) (t : Trace) → after a (after b t) ≡ after (a ++ b) t
-    after_both a b t = ap (λ (es : List Entry). record { entries = es; outcome = t.outcome }) (sym (append_assoc a b t.entries))
+    after_both a b t = ap (λ (es : List Entry). record { entries = es; outcome = t.outcome })
+        (sym (append_assoc a b t.entries))
 
-    trace_at : (n m : ℕ) → ((j : ℕ) → j < n → ends_at r j ≡ false) → rest_trace 0 (n + m) ≡ after (entries_of (noted r n)) (rest_trace n m)
+    trace_at : (n m : ℕ) → ((j : ℕ) → j < n → ends_at r j ≡ false)
+        → rest_trace 0 (n + m) ≡ after (entries_of (noted r n)) (rest_trace n m)
     trace_at zero m h = ap (rest_trace 0) (omega arith)
     trace_at (suc n) m h =
         let e : suc n + m ≡ n + suc m = omega arith in
         ap (rest_trace 0) e ∙ trace_at n (suc m) (λ j l. h j (omega (arith, l)))
         ∙ ap (after (entries_of (noted r n))) (trace_step n m (h n (omega arith)))
         ∙ after_both (entries_of (noted r n)) (entries_of (notes_of r n)) (rest_trace (suc n) m)
-        ∙ ap (λ (es : List Entry). after es (rest_trace (suc n) m)) (sym (entries_both (noted r n) (notes_of r n)))
+        ∙ ap (λ (es : List Entry). after es (rest_trace (suc n) m))
+        (sym (entries_both (noted r n) (notes_of r n)))
 
     -- behind a place where an end is met there are no works
     rest_works : (n m : ℕ) → ends_at r n ≡ true → works_of (rest_trace n (suc m)).entries ≡ []
@@ -119,25 +146,35 @@ module _ (r : Run) (run : IsRun r) where
         more = noted_from r.setup r.rules (code r.setup) m (undivided r (suc n))
 
         go : (b : Bool) → is_full r n ≡ b → works_of (rest_trace n (suc m)).entries ≡ []
-        go true e = full_rest r (op_of r n) (undivided r n).control (undivided r n).state (length_before r n) more state (sym (by_length r n (op_of r n)) ∙ e)
-        go false e = let met = end_there n h e in met_rest r (op_of r n) (undivided r n).control (undivided r n).state (length_before r n) more state met.0 (one_there n e) met.1
+        go true e = full_rest r (op_of r n) (undivided r n).control (undivided r n).state
+            (length_before r n) more state (sym (by_length r n (op_of r n)) ∙ e)
+        go false e = let met = end_there n h e in
+            met_rest r (op_of r n) (undivided r n).control (undivided r n).state (length_before r n)
+            more state met.0 (one_there n e) met.1
 
 -- ---- the whole run
 
-module _ (r : Run) (run : IsRun r) (trace : Trace) (runs : RunsAs r.setup r.rules r.first r.so_far trace) where
+module _ (r : Run) (run : IsRun r) (trace : Trace)
+    (runs : RunsAs r.setup r.rules r.first r.so_far trace) where
   abbrev last_state : State
   last_state = (flat_from r.setup r.rules (code r.setup) runs.count r.first).state
 
-  trace_is : (n m : ℕ) → n + m ≡ runs.count → ((j : ℕ) → j < n → ends_at r j ≡ false) → trace ≡ after (entries_of (noted r n)) (rest_trace r run last_state n m)
-  trace_is n m e before = runs.run_is ∙ ap (rest_trace r run last_state 0) (sym e) ∙ trace_at r run last_state n m before
+  trace_is : (n m : ℕ) → n + m ≡ runs.count → ((j : ℕ) → j < n → ends_at r j ≡ false)
+      → trace ≡ after (entries_of (noted r n)) (rest_trace r run last_state n m)
+  trace_is n m e before = runs.run_is ∙ ap (rest_trace r run last_state 0) (sym e)
+      ∙ trace_at r run last_state n m before
 
-  all_works : (n : ℕ) → n ≤ runs.count → ((j : ℕ) → j < n → ends_at r j ≡ false) → (n ≡ runs.count) ⊎ (ends_at r n ≡ true) → works_of trace.entries ≡ works_before r n
+  all_works : (n : ℕ) → n ≤ runs.count → ((j : ℕ) → j < n → ends_at r j ≡ false)
+      → (n ≡ runs.count) ⊎ (ends_at r n ≡ true) → works_of trace.entries ≡ works_before r n
   all_works n l before at = go (cases_lt n runs.count) at
     where
-      no_more : (es : List Entry) → works_of es ≡ [] → works_of (entries_of (noted r n) ++ es) ≡ works_before r n
-      no_more es e = works_both (entries_of (noted r n)) es ∙ ap (λ (xs : List Entry). works_before r n ++ xs) e ∙ append-nil (works_before r n)
+      no_more : (es : List Entry) → works_of es ≡ []
+          → works_of (entries_of (noted r n) ++ es) ≡ works_before r n
+      no_more es e = works_both (entries_of (noted r n)) es
+          ∙ ap (λ (xs : List Entry). works_before r n ++ xs) e ∙ append-nil (works_before r n)
 
-      go : (n < runs.count) ⊎ (runs.count ≤ n) → (n ≡ runs.count) ⊎ (ends_at r n ≡ true) → works_of trace.entries ≡ works_before r n
+      go : (n < runs.count) ⊎ (runs.count ≤ n) → (n ≡ runs.count) ⊎ (ends_at r n ≡ true)
+          → works_of trace.entries ≡ works_before r n
       go (inr h) c =
           let e : n + 0 ≡ runs.count = omega (arith, l, h) in
           ap (λ (t : Trace). works_of t.entries) (trace_is n 0 e before) ∙ no_more [] refl
@@ -145,31 +182,41 @@ module _ (r : Run) (run : IsRun r) (trace : Trace) (runs : RunsAs r.setup r.rule
       go (inl h) (inr met) =
           let e : n + suc (runs.count - suc n) ≡ runs.count = omega (arith, h) in
           ap (λ (t : Trace). works_of t.entries) (trace_is n (suc (runs.count - suc n)) e before)
-          ∙ no_more (rest_trace r run last_state n (suc (runs.count - suc n))).entries (rest_works r run last_state n (runs.count - suc n) met)
+          ∙ no_more (rest_trace r run last_state n (suc (runs.count - suc n))).entries
+          (rest_works r run last_state n (runs.count - suc n) met)
 
   -- the last state of a run that comes to its last operation
-  last_is_state : ((j : ℕ) → j < runs.count → ends_at r j ≡ false) → trace.outcome ≡ Goes (undivided r runs.count).state
+  last_is_state : ((j : ℕ) → j < runs.count → ends_at r j ≡ false)
+      → trace.outcome ≡ Goes (undivided r runs.count).state
   last_is_state before =
       let e : runs.count + 0 ≡ runs.count = omega arith in
-      ap (λ (t : Trace). t.outcome) (trace_is runs.count 0 e before) ∙ ap (λ (g : Flat). Goes g.state) (sym (undivided_is r runs.count))
+      ap (λ (t : Trace). t.outcome) (trace_is runs.count 0 e before)
+      ∙ ap (λ (g : Flat). Goes g.state) (sym (undivided_is r runs.count))
 
   stands : op_of r runs.count ≡ Halt
   stands = halt_is (op_of r runs.count) (halted_there r run trace runs)
 
   none_last : end_at r runs.count ≡ None
-  none_last = ap (λ (o : Op). if passes_limit r runs.count o then Some (OutputLimit (undivided r runs.count).control.iteration) else met_of (notes_at r.setup r.rules o (undivided r runs.count).control (undivided r runs.count).state)) stands
+  none_last = ap (λ (o : Op). if passes_limit r runs.count o
+      then Some (OutputLimit (undivided r runs.count).control.iteration)
+      else met_of (notes_at r.setup r.rules o (undivided r runs.count).control
+      (undivided r runs.count).state)) stands
 
-  ends_here : (n : ℕ) → n ≤ runs.count → ((j : ℕ) → j < n → ends_at r j ≡ false) → (n ≡ runs.count) ⊎ (ends_at r n ≡ true) → EndsAt r trace n
+  ends_here : (n : ℕ) → n ≤ runs.count → ((j : ℕ) → j < n → ends_at r j ≡ false)
+      → (n ≡ runs.count) ⊎ (ends_at r n ≡ true) → EndsAt r trace n
   ends_here n l before at = record {
-    ends = subst (EndsBy (end_at r n)) (sym (trace_outcome r run (some_part r run) last_state trace runs refl))
+    ends = subst (EndsBy (end_at r n))
+        (sym (trace_outcome r run (some_part r run) last_state trace runs refl))
         (end_is r run (some_part r run) last_state n runs.count l before at stands);
     earlier = entries_at r run (some_part r run) last_state trace runs refl n l before;
   }
 
 -- ---- a state that is reached
 
-module _ (tells : Type 0) (r : Run) (run : IsRun r) (trace : Trace) (runs : RunsAs r.setup r.rules r.first r.so_far trace)
-    (o : Oracle) (w : World Held (Message tells) Channel ℕ) (st : IsReachedState tells r o w) (t : tells) (n : ℕ) (over : w.over ≡ Some n) where
+module _ (tells : Type 0) (r : Run) (run : IsRun r) (trace : Trace)
+    (runs : RunsAs r.setup r.rules r.first r.so_far trace)
+    (o : Oracle) (w : World Held (Message tells) Channel ℕ) (st : IsReachedState tells r o w)
+    (t : tells) (n : ℕ) (over : w.over ≡ Some n) where
   abbrev there : ℕ
   there = end_place tells r run o st.oracle_is t
 
@@ -183,10 +230,12 @@ module _ (tells : Type 0) (r : Run) (run : IsRun r) (trace : Trace) (runs : Runs
   before = before_end tells r run o st.oracle_is t
 
   met_or_last : (there ≡ runs.count) ⊎ (ends_at r there ≡ true)
-  met_or_last = at_end (ends_at r there ≡ true) there (last_of r o) runs.count (count_is tells r run o st.oracle_is t trace runs) (first_at (last_of r o) 0 (ends_at r))
+  met_or_last = at_end (ends_at r there ≡ true) there (last_of r o) runs.count
+      (count_is tells r run o st.oracle_is t trace runs) (first_at (last_of r o) 0 (ends_at r))
 
   ends : EndsAt r trace n
-  ends = subst (EndsAt r trace) (sym is_there) (ends_here r run trace runs there within before met_or_last)
+  ends = subst (EndsAt r trace) (sym is_there)
+      (ends_here r run trace runs there within before met_or_last)
 
   -- all works before the end have been written
   works_there : works_before r there ≡ handed_out r w
@@ -208,20 +257,28 @@ module _ (tells : Type 0) (r : Run) (run : IsRun r) (trace : Trace) (runs : Runs
     at_count = last ∙ count_is tells r run o st.oracle_is t trace runs
 
     goes : trace.outcome ≡ Goes (undivided r runs.count).state
-    goes = last_is_state r run trace runs (λ j l. before j (subst (λ m. j < m) (sym at_count ∙ is_there) l))
+    goes = last_is_state r run trace runs
+        (λ j l. before j (subst (λ m. j < m) (sym at_count ∙ is_there) l))
 
-    scalars : (state : State) → trace.outcome ≡ Goes state → (k : ℕ) (v : VarId) → k < parts_in r → is_scalar r.setup v ≡ true → scalar_of (w.held k).numbers v ≡ scalar_of state v
+    scalars : (state : State) → trace.outcome ≡ Goes state → (k : ℕ) (v : VarId) → k < parts_in r
+        → is_scalar r.setup v ≡ true → scalar_of (w.held k).numbers v ≡ scalar_of state v
     scalars state e k v l s =
         (st.woven.agrees k l).stands.scalars v s
         ∙ ap (λ (g : Flat). scalar_of g.state v) (way tells r run o st.oracle_is t (w.place k))
-        ∙ ap (λ m. scalar_of (undivided r m).state v) (((st.ended t).ended n over).2 last k l ∙ sym last ∙ at_count)
+        ∙ ap (λ m. scalar_of (undivided r m).state v)
+        (((st.ended t).ended n over).2 last k l ∙ sym last ∙ at_count)
         ∙ ap (λ (x : State). scalar_of x v) (same_goes (sym goes ∙ e))
 
-  earlier : (n ≡ last_of r o → ⊥) → (end : End) × (end_met_by r (op_of r n) (undivided r n).control.iteration ≡ Some end) × EndsBy (Some end) trace.outcome
+  earlier : (n ≡ last_of r o → ⊥)
+      → (end : End) × (end_met_by r (op_of r n) (undivided r n).control.iteration ≡ Some end)
+      × EndsBy (Some end) trace.outcome
   earlier no_last = go met_or_last
     where
-      go : (there ≡ runs.count) ⊎ (ends_at r there ≡ true) → (end : End) × (end_met_by r (op_of r n) (undivided r n).control.iteration ≡ Some end) × EndsBy (Some end) trace.outcome
-      go (inl e) = absurd (no_last (is_there ∙ e ∙ sym (count_is tells r run o st.oracle_is t trace runs)))
+      go : (there ≡ runs.count) ⊎ (ends_at r there ≡ true)
+          → (end : End) × (end_met_by r (op_of r n) (undivided r n).control.iteration ≡ Some end)
+          × EndsBy (Some end) trace.outcome
+      go (inl e) =
+          absurd (no_last (is_there ∙ e ∙ sym (count_is tells r run o st.oracle_is t trace runs)))
       go (inr e) =
           let met = end_is_met r run n (subst (λ m. ends_at r m ≡ true) (sym is_there) e) in
           (met.0, met.1, subst (λ (x : Option End). EndsBy x trace.outcome) met.2 ends.ends)
@@ -235,5 +292,7 @@ module _ (tells : Type 0) (r : Run) (run : IsRun r) (trace : Trace) (runs : Runs
     scalars = scalars;
   }
 
-pub end_is_the_runs : (tells : Type 0) (r : Run) → IsRun r → (trace : Trace) → RunsAs r.setup r.rules r.first r.so_far trace → EndIsTheRuns tells r trace
-end_is_the_runs tells r run trace runs t o w st n over = ends_as_run tells r run trace runs o w st t n over
+pub end_is_the_runs : (tells : Type 0) (r : Run) → IsRun r → (trace : Trace)
+    → RunsAs r.setup r.rules r.first r.so_far trace → EndIsTheRuns tells r trace
+end_is_the_runs tells r run trace runs t o w st n over =
+    ends_as_run tells r run trace runs o w st t n over

@@ -20,8 +20,10 @@ not_none e f = cc
 same_place : {m n : ℕ} {o : Option ℕ} → o ≡ Some n → o ≡ Some m → m ≡ n
 same_place e f = cc
 
-module _ (tells : Type 0) (r : Run) (run : IsRun r) (o : Oracle) (w : World Held (Message tells) Channel ℕ) (st : IsReachedState tells r o w) where
-  fits : Fits (net tells within_lead r o) (script tells r o) (Agrees tells r o) (GivesAt r o) (Books tells r)
+module _ (tells : Type 0) (r : Run) (run : IsRun r) (o : Oracle)
+    (w : World Held (Message tells) Channel ℕ) (st : IsReachedState tells r o w) where
+  fits : Fits (net tells within_lead r o) (script tells r o) (Agrees tells r o) (GivesAt r o)
+      (Books tells r)
   fits = lead_fits tells r run o st.oracle_is.told st.oracle_is.first
 
   going_of : (e : Event) → Can (net tells within_lead r o) w e → w.over ≡ None
@@ -31,24 +33,31 @@ module _ (tells : Type 0) (r : Run) (run : IsRun r) (o : Oracle) (w : World Held
 
   goes_on : GoesOn tells r o w
   goes_on = record {
-    some_event = runs.some_event (net tells within_lead r o) (script tells r o) (Agrees tells r o) (GivesAt r o) (Books tells r) fits w st.woven;
+    some_event = runs.some_event (net tells within_lead r o) (script tells r o) (Agrees tells r o)
+        (GivesAt r o) (Books tells r) fits w st.woven;
     going = going_of;
-    falls = λ e v. runs.falls (net tells within_lead r o) (script tells r o) (Agrees tells r o) (GivesAt r o) (Books tells r) fits w v st.woven e;
+    falls = λ e v. runs.falls (net tells within_lead r o) (script tells r o) (Agrees tells r o)
+        (GivesAt r o) (Books tells r) fits w v st.woven e;
     one_work = one_next (net tells within_lead r o) w;
-    work_or_end = next_before_end (net tells within_lead r o) (script tells r o) (Agrees tells r o) (GivesAt r o) (Books tells r) fits w st.woven;
+    work_or_end = next_before_end (net tells within_lead r o) (script tells r o) (Agrees tells r o)
+        (GivesAt r o) (Books tells r) fits w st.woven;
   }
 
   end_stands : EndStands tells r o w
   end_stands = record {
-    at_last = end_last (net tells within_lead r o) (script tells r o) (Agrees tells r o) (GivesAt r o) (Books tells r) fits w st.woven;
-    at_stop = end_stop (net tells within_lead r o) (script tells r o) (Agrees tells r o) (GivesAt r o) (Books tells r) fits w st.woven;
+    at_last = end_last (net tells within_lead r o) (script tells r o) (Agrees tells r o)
+        (GivesAt r o) (Books tells r) fits w st.woven;
+    at_stop = end_stop (net tells within_lead r o) (script tells r o) (Agrees tells r o)
+        (GivesAt r o) (Books tells r) fits w st.woven;
   }
 
-  over_stays : (k : ℕ) (v : World Held (Message tells) Channel ℕ) → w.over ≡ None → After (net tells within_lead r o) w (Part k) v → v.over ≡ None
+  over_stays : (k : ℕ) (v : World Held (Message tells) Channel ℕ) → w.over ≡ None
+      → After (net tells within_lead r o) w (Part k) v → v.over ≡ None
   over_stays k v e (inl a) = ap (λ u. u.over) a.2 ∙ e
   over_stays k v e (inr a) = ap (λ u. u.over) a.2 ∙ e
 
-  over_by_work : (n m : ℕ) (v : World Held (Message tells) Channel ℕ) → w.over ≡ None → After (net tells within_lead r o) w (Write n) v → v.over ≡ Some m
+  over_by_work : (n m : ℕ) (v : World Held (Message tells) Channel ℕ) → w.over ≡ None
+      → After (net tells within_lead r o) w (Write n) v → v.over ≡ Some m
       → (m ≡ n) × (v ≡ over_at w n) × (net tells within_lead r o).Writes n (fronts w) w.book None
   over_by_work n m v e (inl a) q = absurd (not_none (ap (λ u. u.over) a.2 ∙ e) q)
   over_by_work n m v e (inr a) q = (same_place (ap (λ u. u.over) a.1) q, a.1, a.0)

@@ -14,11 +14,15 @@ module _ {L M C K B : Type 0} (N : Net L M C K B) (w : World L M C B) where
       go (inr l) (inl k) = absurd (a.none_before n b.after_wrote k b.work)
       go (inr l) (inr k) = omega arith
 
-module _ {L M C K B : Type 0} (N : Net L M C K B) (S : Script M C) (Agrees Gives : ℕ → ℕ → L → Type 0) (Books : ℕ → B → Type 0) (fits : Fits N S Agrees Gives Books)
+module _ {L M C K B : Type 0} (N : Net L M C K B) (S : Script M C)
+    (Agrees Gives : ℕ → ℕ → L → Type 0) (Books : ℕ → B → Type 0)
+    (fits : Fits N S Agrees Gives Books)
     (w : World L M C B) (inv : Woven N S Agrees Books w) where
   pub next_before_end : (n : ℕ) → IsNext N w n → CanEnd N w → ⊥
   next_before_end n nx can =
-      can.none_left n nx.after_wrote (omega (arith, nx.before, nx.all_in 0 fits.some_part, inv.within 0 fits.some_part)) nx.work
+      can.none_left n nx.after_wrote
+      (omega (arith, nx.before, nx.all_in 0 fits.some_part, inv.within 0 fits.some_part))
+      nx.work
 
   pub end_last : w.stop ≡ N.most → end_of N w ≡ N.last
   end_last e = omega (arith, fits.within_most)
@@ -26,7 +30,8 @@ module _ {L M C K B : Type 0} (N : Net L M C K B) (S : Script M C) (Agrees Gives
   pub end_stop : (w.stop ≡ N.most → ⊥) → (end_of N w ≡ w.stop) × (w.stop < N.last)
   end_stop no_most = go inv.stopped
     where
-      go : (w.stop ≡ N.most) ⊎ ((k : ℕ) × (k < N.parts) × (w.place k ≡ w.stop) × (w.stop < N.last)) → (end_of N w ≡ w.stop) × (w.stop < N.last)
+      go : (w.stop ≡ N.most) ⊎ ((k : ℕ) × (k < N.parts) × (w.place k ≡ w.stop) × (w.stop < N.last))
+          → (end_of N w ≡ w.stop) × (w.stop < N.last)
       go (inl e) = absurd (no_most e)
       go (inr h) = let l = h.3 in (omega (arith, l), l)
 
@@ -35,14 +40,17 @@ module _ {L M C K B : Type 0} (N : Net L M C K B) (S : Script M C) (Agrees Gives
 
   -- what was written is before the run's end
   pub wrote_within : Ends N S Agrees Books → Ended N S w → w.wrote ≤ S.ends
-  wrote_within ends old = not_past N S Agrees Gives Books fits w inv ends old w.wrote wrote_inside inv.behind (λ m l q. l)
+  wrote_within ends old = not_past N S Agrees Gives Books fits w inv ends old w.wrote wrote_inside
+      inv.behind (λ m l q. l)
 
   pub next_inside : (n : ℕ) → IsNext N w n → n < N.last
   next_inside n nx = omega (arith, nx.all_in 0 fits.some_part, inv.within 0 fits.some_part)
 
   -- the next work isn't behind the run's end
   pub next_within : Ends N S Agrees Books → Ended N S w → (n : ℕ) → IsNext N w n → n ≤ S.ends
-  next_within ends old n nx = not_past N S Agrees Gives Books fits w inv ends old n (omega (arith, next_inside n nx)) (λ k l. omega (arith, nx.all_in k l)) written
+  next_within ends old n nx =
+      not_past N S Agrees Gives Books fits w inv ends old n (omega (arith, next_inside n nx))
+      (λ k l. omega (arith, nx.all_in k l)) written
     where
       written : (m : ℕ) → m < n → IsWork N m → m < w.wrote
       written m l q = go (cases_lt m w.wrote)

@@ -33,35 +33,49 @@ use Rattle.cx_parts.proofs.WholeRun.{IsRun, names, true_states}
 use Rattle.cx_reached.specs.Works.{MakesWork}
 use Rattle.cx_reached.proofs.TellLaws.{way}
 
-module _ (tells : Type 0) (r : Run) (run : IsRun r) (t : tells) (pieces : ℕ → List (Message tells)) where
-  -- pieces make one level, and one text
-  one_level : (a b : List ℤ) → IsGathered t r pieces a → IsGathered t r pieces b → a ≡ b
-  one_level a b g h = same-numbers r.setup.shape a b g.count h.count (λ p inside.
-      let owner = (tiles (cut_of r) run.cut).each p inside in
-      ap (λ q. get_or a (index_in (whole r.setup.shape) q) (pos 0)) (wrap-own r.setup.shape p inside)
-      ∙ g.each owner.0 p owner.1 owner.2 ∙ sym (h.each owner.0 p owner.1 owner.2)
-      ∙ sym (ap (λ q. get_or b (index_in (whole r.setup.shape) q) (pos 0)) (wrap-own r.setup.shape p inside)))
+module _ (tells : Type 0) (r : Run) (run : IsRun r) (t : tells) (pieces : ℕ → List (Message tells))
+  where
+    -- pieces make one level, and one text
+    one_level : (a b : List ℤ) → IsGathered t r pieces a → IsGathered t r pieces b → a ≡ b
+    one_level a b g h = same-numbers r.setup.shape a b g.count h.count (λ p inside.
+        let owner = (tiles (cut_of r) run.cut).each p inside in
+        ap (λ q. get_or a (index_in (whole r.setup.shape) q) (pos 0))
+        (wrap-own r.setup.shape p inside)
+        ∙ g.each owner.0 p owner.1 owner.2 ∙ sym (h.each owner.0 p owner.1 owner.2)
+        ∙ sym (ap (λ q. get_or b (index_in (whole r.setup.shape) q) (pos 0))
+        (wrap-own r.setup.shape p inside)))
 
-  one_text : (scalar : Bool) (v : VarId) (iteration : ℕ) (a b : List ℕ) → IsTextOf scalar t r v iteration pieces a → IsTextOf scalar t r v iteration pieces b → a ≡ b
-  one_text true v iteration a b g h = g ∙ sym h
-  one_text false v iteration a b g h = g.2 ∙ ap (section (variable r.setup v).full iteration r.setup.shape) (one_level g.0 h.0 g.1 h.1) ∙ sym h.2
+    one_text : (scalar : Bool) (v : VarId) (iteration : ℕ) (a b : List ℕ)
+        → IsTextOf scalar t r v iteration pieces a → IsTextOf scalar t r v iteration pieces b
+        → a ≡ b
+    one_text true v iteration a b g h = g ∙ sym h
+    one_text false v iteration a b g h =
+        g.2 ∙ ap (section (variable r.setup v).full iteration r.setup.shape)
+        (one_level g.0 h.0 g.1 h.1) ∙ sym h.2
 
-module _ (tells : Type 0) (r : Run) (run : IsRun r) (o : Oracle) (is : IsOracle tells r o) (t : tells)
-    (n : ℕ) (pieces : ℕ → List (Message tells)) (given : (k : ℕ) → k < parts_in r → pieces k ≡ piece_at tells r o k n) where
+module _ (tells : Type 0) (r : Run) (run : IsRun r) (o : Oracle) (is : IsOracle tells r o)
+    (t : tells)
+    (n : ℕ) (pieces : ℕ → List (Message tells))
+    (given : (k : ℕ) → k < parts_in r → pieces k ≡ piece_at tells r o k n) where
   abbrev now : State
   now = (undivided r n).state
 
   op_is : (p : Op) → op_of r n ≡ p → next_op r (guided r o n).control ≡ p
   op_is p e = ap (λ (g : Flat). next_op r g.control) (way tells r run o is t n) ∙ e
 
-  noted_is : (p : Op) → op_of r n ≡ p → entries_of (notes_of r n) ≡ entries_of (notes_at r.setup r.rules p (undivided r n).control now)
-  noted_is p e = ap (λ (q : Op). entries_of (notes_at r.setup r.rules q (undivided r n).control now)) e
+  noted_is : (p : Op) → op_of r n ≡ p
+      → entries_of (notes_of r n)
+      ≡ entries_of (notes_at r.setup r.rules p (undivided r n).control now)
+  noted_is p e =
+      ap (λ (q : Op). entries_of (notes_at r.setup r.rules q (undivided r n).control now)) e
 
   module _ (v : VarId) (there : op_of r n ≡ Piece v) where
     piece_is : (k : ℕ) → k < parts_in r → only_level t (pieces k) ≡ only_piece t r k now v
     piece_is k l =
         ap (only_level t) (given k l)
-        ∙ ap (λ q. only_level t (op_hands r q n (piece_by r k (values_of r.setup now)) (state_by r k (values_of r.setup now) now))) (op_is (Piece v) there)
+        ∙ ap (λ q. only_level t
+        (op_hands r q n (piece_by r k (values_of r.setup now))
+        (state_by r k (values_of r.setup now) now))) (op_is (Piece v) there)
 
     current : IsCurrent r.setup v
     current = names r run (Piece v) (undivided r n).control.pc there
@@ -69,38 +83,59 @@ module _ (tells : Type 0) (r : Run) (run : IsRun r) (o : Oracle) (is : IsOracle 
     scalar_piece : is_scalar r.setup v ≡ true → only_level t (pieces 0) ≡ scalar_of now v ∷ []
     scalar_piece e =
         piece_is 0 (some_part r run)
-        ∙ ap (λ (b : Bool). if b then values_of r.setup now v 0 first_point ∷ [] else numbers_in (owned (cut_of r) 0) (values_of r.setup now v 0)) e
-        ∙ ap (λ (b : Bool). (if b then scalar_of now v else at r.setup.shape (level_of now v 0) first_point) ∷ []) e
+        ∙ ap (λ (b : Bool). if b then values_of r.setup now v 0 first_point ∷ []
+        else numbers_in (owned (cut_of r) 0) (values_of r.setup now v 0)) e
+        ∙ ap (λ (b : Bool). (if b then scalar_of now v
+        else at r.setup.shape (level_of now v 0) first_point) ∷ []) e
 
-    owned_number : is_scalar r.setup v ≡ false → (k : ℕ) (p : Point) → k < parts_in r → IsIn (owned (cut_of r) k) p
-        → number_at (whole r.setup.shape) (level_of now v 0) p ≡ number_at (owned (cut_of r) k) (only_level t (pieces k)) p
+    owned_number : is_scalar r.setup v ≡ false → (k : ℕ) (p : Point) → k < parts_in r
+        → IsIn (owned (cut_of r) k) p
+        → number_at (whole r.setup.shape) (level_of now v 0) p
+        ≡ number_at (owned (cut_of r) k) (only_level t (pieces k)) p
     owned_number e k p l inside =
-        ap (λ q. get_or (level_of now v 0) (index_in (whole r.setup.shape) q) (pos 0)) (sym (wrap-own r.setup.shape p ((tiles (cut_of r) run.cut).within p k l inside)))
-        ∙ sym (ap (λ (b : Bool). if b then scalar_of now v else at r.setup.shape (level_of now v 0) p) e)
+        ap (λ q. get_or (level_of now v 0) (index_in (whole r.setup.shape) q) (pos 0))
+        (sym (wrap-own r.setup.shape p ((tiles (cut_of r) run.cut).within p k l inside)))
+        ∙ sym
+        (ap (λ (b : Bool). if b then scalar_of now v else at r.setup.shape (level_of now v 0) p)
+        e)
         ∙ sym (ap (values_of r.setup now v 0) (point_at_index (owned (cut_of r) k) p inside))
-        ∙ sym (number_in (owned (cut_of r) k) (values_of r.setup now v 0) (index_in (owned (cut_of r) k) p) (index_below (owned (cut_of r) k) p inside))
-        ∙ sym (ap (λ (b : Bool). number_at (owned (cut_of r) k) (if b then values_of r.setup now v 0 first_point ∷ [] else numbers_in (owned (cut_of r) k) (values_of r.setup now v 0)) p) e)
+        ∙ sym (number_in (owned (cut_of r) k) (values_of r.setup now v 0)
+        (index_in (owned (cut_of r) k) p) (index_below (owned (cut_of r) k) p inside))
+        ∙ sym
+        (ap (λ (b : Bool). number_at (owned (cut_of r) k)
+        (if b then values_of r.setup now v 0 first_point ∷ []
+        else numbers_in (owned (cut_of r) k) (values_of r.setup now v 0)) p) e)
         ∙ sym (ap (λ ns. number_at (owned (cut_of r) k) ns p) (piece_is k l))
 
     gathered : is_scalar r.setup v ≡ false → IsGathered t r pieces (level_of now v 0)
     gathered e = record {
-      count = (true_states r run n).numbers v 0 current.0 current.1 ∙ ap (λ (b : Bool). if b then 1 else point_count (whole r.setup.shape)) e;
+      count = (true_states r run n).numbers v 0 current.0 current.1
+          ∙ ap (λ (b : Bool). if b then 1 else point_count (whole r.setup.shape)) e;
       each = owned_number e;
     }
 
-    text_there : (text : List ℕ) → IsTextOf (is_scalar r.setup v) t r v (undivided r n).control.iteration pieces text → text_of r.setup (undivided r n).control.iteration now v ≡ text
+    text_there : (text : List ℕ)
+        → IsTextOf (is_scalar r.setup v) t r v (undivided r n).control.iteration pieces text
+        → text_of r.setup (undivided r n).control.iteration now v ≡ text
     text_there text made =
-        one_text tells r run t pieces (is_scalar r.setup v) v (undivided r n).control.iteration (text_of r.setup (undivided r n).control.iteration now v) text
-        (text_is tells r run o is.told (some_part r run) n t pieces given v (op_is (Piece v) there) (undivided r n).control.iteration) made
+        one_text tells r run t pieces (is_scalar r.setup v) v (undivided r n).control.iteration
+        (text_of r.setup (undivided r n).control.iteration now v) text
+        (text_is tells r run o is.told (some_part r run) n t pieces given v (op_is (Piece v) there)
+        (undivided r n).control.iteration) made
 
   pub makes_work : MakesWork t r n pieces
   makes_work = record {
     text = λ v text e made.
-        noted_is (Piece v) e ∙ ap (λ (xs : List ℕ). Wrote v (undivided r n).control.iteration xs now ∷ []) (text_there v e text made);
-    level = λ v level e grid made. one_level tells r run t pieces level (level_of now v 0) made (gathered v e grid);
+        noted_is (Piece v) e ∙ ap
+        (λ (xs : List ℕ). Wrote v (undivided r n).control.iteration xs now ∷ [])
+        (text_there v e text made);
+    level = λ v level e grid made.
+        one_level tells r run t pieces level (level_of now v 0) made (gathered v e grid);
     scalar = scalar_piece;
     entry = λ e. noted_is Save e;
     state = λ e k l.
         ap (piece_levels t) (given k l)
-        ∙ ap (λ (q : Op). piece_levels t (op_hands r q n (piece_by r k (values_of r.setup now)) (state_by r k (values_of r.setup now) now))) (op_is Save e);
+        ∙ ap (λ (q : Op). piece_levels t
+        (op_hands r q n (piece_by r k (values_of r.setup now))
+        (state_by r k (values_of r.setup now) now))) (op_is Save e);
   }

@@ -4,6 +4,7 @@ use Rattle.std.specs.Prelude.{if◌then◌else◌, ◌==◌}
 use Rattle.std.proofs.lemmas.List.{append-nil}
 use Rattle.std.proofs.lemmas.Bool.{cases_lt}
 use Rattle.cx_plan.specs.Lookups.{item}
+use Rattle.cx_plan.specs.Steering.{item_at}
 use Rattle.cx_rule.specs.States.{State}
 use Rattle.cx_model.specs.declared.ends.End.TheVariants.{WhileLimit}
 use Rattle.cx_model.specs.Courses.{note, turn_note, limit_note}
@@ -24,7 +25,8 @@ use Rattle.cx_reached.specs.Works.{works_of}
 
 pub works_both : (a b : List Entry) → works_of (a ++ b) ≡ works_of a ++ works_of b
 works_both [] b = refl
-works_both (Wrote v iteration text state ∷ es) b = ap (λ xs. Wrote v iteration text state ∷ xs) (works_both es b)
+works_both (Wrote v iteration text state ∷ es) b =
+    ap (λ xs. Wrote v iteration text state ∷ xs) (works_both es b)
 works_both (Saved iteration state ∷ es) b = ap (λ xs. Saved iteration state ∷ xs) (works_both es b)
 works_both (Turned k iteration state ∷ es) b = works_both es b
 works_both (Overflowed k iteration state ∷ es) b = works_both es b
@@ -45,7 +47,9 @@ output_same (Rotated state ∷ es) = output_same es
 
 output_both : (a b : List Entry) → output_of (a ++ b) ≡ output_of a ++ output_of b
 output_both [] b = refl
-output_both (e ∷ es) b = ap (λ xs. text_added e ++ xs) (output_both es b) ∙ sym (append_three (text_added e) (output_of es) (output_of b))
+output_both (e ∷ es) b =
+    ap (λ xs. text_added e ++ xs) (output_both es b)
+    ∙ sym (append_three (text_added e) (output_of es) (output_of b))
   where
     append_three : (x y z : List ℕ) → (x ++ y) ++ z ≡ x ++ (y ++ z)
     append_three [] y z = refl
@@ -60,23 +64,34 @@ not_none : {b : ℕ} → ◌≡◌ {A = Option ℕ} (Some b) None → ⊥
 not_none e = cc
 
 module _ (r : Run) where
-  turn_silent : (k iteration : ℕ) (s : State) (o : Option State) → works_of (entries_of (turn_note k (item r.setup k) iteration s o ∷ [])) ≡ []
+  turn_silent : (k iteration : ℕ) (s : State) (o : Option State)
+      → works_of (entries_of (turn_note k (item_at r.setup k iteration) iteration s o ∷ [])) ≡ []
   turn_silent k iteration s None = refl
   turn_silent k iteration s (Some t) = refl
 
   -- one that hands nothing in notes no work
-  pub silent : (o : Op) (c : Control) (s : State) → buffer_of r o ≡ None → works_of (entries_of (notes_at r.setup r.rules o c s)) ≡ []
-  silent (Sweep i) c s h = turn_silent i c.iteration s (turn r.setup r.rules (item r.setup i) s c.iteration)
-  silent (Apply i) c s h = turn_silent i c.iteration s (turn r.setup r.rules (item r.setup i) s c.iteration)
-  silent (Join i) c s h = turn_silent i c.iteration s (turn r.setup r.rules (item r.setup i) s c.iteration)
+  pub silent : (o : Op) (c : Control) (s : State) → buffer_of r o ≡ None
+      → works_of (entries_of (notes_at r.setup r.rules o c s)) ≡ []
+  silent (Sweep i) c s h =
+      turn_silent i c.iteration s
+      (turn r.setup r.rules (item_at r.setup i c.iteration) s c.iteration)
+  silent (Apply i) c s h =
+      turn_silent i c.iteration s
+      (turn r.setup r.rules (item_at r.setup i c.iteration) s c.iteration)
+  silent (Join i) c s h = turn_silent i c.iteration s
+      (turn r.setup r.rules (item_at r.setup i c.iteration) s c.iteration)
   silent (Take d vars path) c s h = go (suc d == r.setup.shape.dims)
     where
-      go : (b : Bool) → works_of (entries_of (if b then note (Exchanged vars path s) ∷ [] else [])) ≡ []
+      go : (b : Bool) → works_of (entries_of (if b then note (Exchanged vars path s) ∷ [] else []))
+          ≡ []
       go true = refl
       go false = refl
   silent (Turn v path skip) c s h = go (last_turns c.opened == r.setup.while_limit)
     where
-      go : (b : Bool) → works_of (entries_of ((if b then limit_note v path (WhileLimit c.iteration path) s else note (Tested v path s)) ∷ [])) ≡ []
+      go : (b : Bool) → works_of
+          (entries_of
+          ((if b then limit_note v path (WhileLimit c.iteration path) s else note (Tested v path s))
+          ∷ [])) ≡ []
       go true = refl
       go false = refl
   silent (Piece v) c s h = absurd (not_none h)
@@ -94,7 +109,9 @@ module _ (r : Run) where
   silent Halt c s h = refl
 
   -- one that hands a piece in notes one work
-  pub one_work : (o : Op) (c : Control) (s : State) (b : ℕ) → buffer_of r o ≡ Some b → works_of (entries_of (notes_at r.setup r.rules o c s)) ≡ entries_of (notes_at r.setup r.rules o c s)
+  pub one_work : (o : Op) (c : Control) (s : State) (b : ℕ) → buffer_of r o ≡ Some b
+      → works_of (entries_of (notes_at r.setup r.rules o c s))
+      ≡ entries_of (notes_at r.setup r.rules o c s)
   one_work (Piece v) c s b h = refl
   one_work Save c s b h = refl
   one_work (Sweep i) c s b h = absurd (not_some h)
@@ -119,18 +136,25 @@ module _ (r : Run) where
   abbrev pub works_before : ℕ → List Entry
   works_before n = works_of (entries_of (noted r n))
 
-  pub works_next : (n : ℕ) → works_before (suc n) ≡ works_before n ++ works_of (entries_of (notes_of r n))
-  works_next n = ap works_of (entries_both (noted r n) (notes_of r n)) ∙ works_both (entries_of (noted r n)) (entries_of (notes_of r n))
+  pub works_next : (n : ℕ)
+      → works_before (suc n) ≡ works_before n ++ works_of (entries_of (notes_of r n))
+  works_next n = ap works_of (entries_both (noted r n) (notes_of r n))
+      ∙ works_both (entries_of (noted r n)) (entries_of (notes_of r n))
 
   -- where nothing is handed in there are no works
-  pub works_still : (a b : ℕ) → a ≤ b → ((m : ℕ) → a ≤ m → m < b → buffer_of r (op_of r m) ≡ None) → works_before b ≡ works_before a
+  pub works_still : (a b : ℕ) → a ≤ b → ((m : ℕ) → a ≤ m → m < b → buffer_of r (op_of r m) ≡ None)
+      → works_before b ≡ works_before a
   works_still a zero l none = let e : a ≡ 0 = omega arith in ap works_before (sym e)
   works_still a (suc b) l none = go (works_still a b) (cases_lt b a)
     where
-      go : (a ≤ b → ((m : ℕ) → a ≤ m → m < b → buffer_of r (op_of r m) ≡ None) → works_before b ≡ works_before a) → (b < a) ⊎ (a ≤ b) → works_before (suc b) ≡ works_before a
+      go : (a ≤ b → ((m : ℕ) → a ≤ m → m < b → buffer_of r (op_of r m) ≡ None)
+          → works_before b ≡ works_before a) → (b < a) ⊎ (a ≤ b)
+          → works_before (suc b) ≡ works_before a
       go more (inl h) = let e : a ≡ suc b = omega arith in ap works_before (sym e)
       go more (inr h) =
-          works_next b ∙ ap (λ xs. works_before b ++ xs) (silent (op_of r b) (undivided r b).control (undivided r b).state (none b h (omega arith)))
+          works_next b ∙ ap (λ xs. works_before b ++ xs)
+          (silent (op_of r b) (undivided r b).control (undivided r b).state
+          (none b h (omega arith)))
           ∙ append-nil (works_before b) ∙ more h (λ m x y. none m x (omega (arith, y)))
 
   -- ---- the length of the output
@@ -138,13 +162,17 @@ module _ (r : Run) where
   sum_lengths : (s a b c : ℕ) → c ≡ a + b → s + a + b ≡ s + c
   sum_lengths s a b c e = omega (arith, e)
 
-  pub length_is : (n : ℕ) → length_before r n ≡ r.so_far + length (output_of (entries_of (noted r n)))
+  pub length_is : (n : ℕ) → length_before r n
+      ≡ r.so_far + length (output_of (entries_of (noted r n)))
   length_is zero = zero_more r.so_far
     where
       zero_more : (a : ℕ) → a ≡ a + 0
       zero_more a = omega arith
   length_is (suc n) =
       ap (λ m. m + length (output_of (entries_of (notes_of r n)))) (length_is n)
-      ∙ sum_lengths r.so_far (length (output_of (entries_of (noted r n)))) (length (output_of (entries_of (notes_of r n)))) (length (output_of (entries_of (noted r n ++ notes_of r n))))
-      (ap (λ es. length (output_of es)) (entries_both (noted r n) (notes_of r n)) ∙ ap length (output_both (entries_of (noted r n)) (entries_of (notes_of r n)))
+      ∙ sum_lengths r.so_far (length (output_of (entries_of (noted r n))))
+      (length (output_of (entries_of (notes_of r n))))
+      (length (output_of (entries_of (noted r n ++ notes_of r n))))
+      (ap (λ es. length (output_of es)) (entries_both (noted r n) (notes_of r n))
+      ∙ ap length (output_both (entries_of (noted r n)) (entries_of (notes_of r n)))
       ∙ length-append (output_of (entries_of (noted r n))) (output_of (entries_of (notes_of r n))))

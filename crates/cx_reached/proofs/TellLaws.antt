@@ -32,8 +32,10 @@ before_both j a b h q = omega (arith, h, q)
 from_zero : (j : ℕ) → 0 ≤ j
 from_zero j = omega arith
 
-module _ (tells : Type 0) (r : Run) (run : IsRun r) (o : Oracle) (is : IsOracle tells r o) (t : tells) where
-  pub fits : Fits (net tells within_lead r o) (script tells r o) (Agrees tells r o) (GivesAt r o) (Books tells r)
+module _ (tells : Type 0) (r : Run) (run : IsRun r) (o : Oracle) (is : IsOracle tells r o)
+    (t : tells) where
+  pub fits : Fits (net tells within_lead r o) (script tells r o) (Agrees tells r o) (GivesAt r o)
+      (Books tells r)
   fits = lead_fits tells r run o is.told is.first
 
   pub ends : Ends (net tells within_lead r o) (script tells r o) (Agrees tells r o) (Books tells r)
@@ -43,7 +45,9 @@ module _ (tells : Type 0) (r : Run) (run : IsRun r) (o : Oracle) (is : IsOracle 
   way = same tells r run o is.told t
 
   pub last_true : last_of r o ≡ last_of r (truth r)
-  last_true = ap (first_from r.most 0) (fun_ext (λ n. ap (λ g. halts r g.control) (way n ∙ sym (guided_truth r (all_folds r run) n))))
+  last_true = ap (first_from r.most 0)
+      (fun_ext (λ n. ap (λ g. halts r g.control)
+      (way n ∙ sym (guided_truth r (all_folds r run) n))))
 
   abbrev pub end_place : ℕ
   end_place = first_from (last_of r o) 0 (ends_at r)
@@ -56,24 +60,33 @@ module _ (tells : Type 0) (r : Run) (run : IsRun r) (o : Oracle) (is : IsOracle 
     count_is = last_true ∙ last_is r run trace runs
 
     pub end_within : end_place ≤ runs.count
-    end_within = up_to end_place (last_of r o) runs.count (first_within (last_of r o) 0 (ends_at r)) count_is
+    end_within = up_to end_place (last_of r o) runs.count (first_within (last_of r o) 0 (ends_at r))
+        count_is
 
-module _ (tells : Type 0) (r : Run) (run : IsRun r) (o : Oracle) (w : World Held (Message tells) Channel ℕ) (st : IsReachedState tells r o w) (t : tells) where
+module _ (tells : Type 0) (r : Run) (run : IsRun r) (o : Oracle)
+    (w : World Held (Message tells) Channel ℕ) (st : IsReachedState tells r o w) (t : tells) where
   pub wrote_before : w.wrote ≤ end_place tells r run o st.oracle_is t
   wrote_before =
-      wrote_within (net tells within_lead r o) (script tells r o) (Agrees tells r o) (GivesAt r o) (Books tells r) (fits tells r run o st.oracle_is t) w st.woven
+      wrote_within (net tells within_lead r o) (script tells r o) (Agrees tells r o) (GivesAt r o)
+      (Books tells r) (fits tells r run o st.oracle_is t) w st.woven
       (ends tells r run o st.oracle_is t) (st.ended t)
 
   pub quiet_before : (j : ℕ) → j < w.wrote → ends_at r j ≡ false
-  quiet_before j l = before_end tells r run o st.oracle_is t j (before_both j w.wrote (end_place tells r run o st.oracle_is t) l wrote_before)
+  quiet_before j l = before_end tells r run o st.oracle_is t j
+      (before_both j w.wrote (end_place tells r run o st.oracle_is t) l wrote_before)
 
-  pub next_before : (n : ℕ) → IsNext (net tells within_lead r o) w n → n ≤ end_place tells r run o st.oracle_is t
+  pub next_before : (n : ℕ) → IsNext (net tells within_lead r o) w n
+      → n ≤ end_place tells r run o st.oracle_is t
   next_before =
-      next_within (net tells within_lead r o) (script tells r o) (Agrees tells r o) (GivesAt r o) (Books tells r) (fits tells r run o st.oracle_is t) w st.woven
+      next_within (net tells within_lead r o) (script tells r o) (Agrees tells r o) (GivesAt r o)
+      (Books tells r) (fits tells r run o st.oracle_is t) w st.woven
       (ends tells r run o st.oracle_is t) (st.ended t)
 
-  pub quiet_next : (n : ℕ) → IsNext (net tells within_lead r o) w n → (j : ℕ) → j < n → ends_at r j ≡ false
-  quiet_next n nx j l = before_end tells r run o st.oracle_is t j (before_both j n (end_place tells r run o st.oracle_is t) l (next_before n nx))
+  pub quiet_next : (n : ℕ) → IsNext (net tells within_lead r o) w n → (j : ℕ) → j < n
+      → ends_at r j ≡ false
+  quiet_next n nx j l = before_end tells r run o st.oracle_is t j
+      (before_both j n (end_place tells r run o st.oracle_is t) l (next_before n nx))
 
   pub next_place : (n : ℕ) → IsNext (net tells within_lead r o) w n → n < last_of r o
-  next_place = next_inside (net tells within_lead r o) (script tells r o) (Agrees tells r o) (GivesAt r o) (Books tells r) (fits tells r run o st.oracle_is t) w st.woven
+  next_place = next_inside (net tells within_lead r o) (script tells r o) (Agrees tells r o)
+      (GivesAt r o) (Books tells r) (fits tells r run o st.oracle_is t) w st.woven

@@ -37,19 +37,24 @@ end_met_by r (Next back) iteration = None
 end_met_by r Save iteration = None
 end_met_by r Halt iteration = None
 
--- A run in parts that is over at a place: the undivided run ends there too, by the end that its operation there meets or, at its
--- last place, by none, and all its works have been handed out. Behind the last place all parts hold the scalars of its last state.
-pub record EndsAsRun {tells : Type 0} (r : Run) (trace : Trace) (oracle : Oracle) (w : World Held (Message tells) Channel ℕ) (n : ℕ) : Type 0 where
+-- A run in parts that is over at a place: the undivided run ends there too, by the end that its
+-- operation there meets or, at its last place, by none, and all its works have been handed out.
+-- Behind the last place all parts hold the scalars of its last state.
+pub record EndsAsRun {tells : Type 0} (r : Run) (trace : Trace) (oracle : Oracle)
+    (w : World Held (Message tells) Channel ℕ) (n : ℕ) : Type 0 where
   pub ends : EndsAt r trace n
   pub works : works_of trace.entries ≡ handed_out r w
   pub last : n ≡ last_of r oracle → EndsBy None trace.outcome
-  pub earlier : (n ≡ last_of r oracle → ⊥) → (end : End) × (end_met_by r (op_of r n) (undivided r n).control.iteration ≡ Some end)
+  pub earlier : (n ≡ last_of r oracle → ⊥)
+      → (end : End) × (end_met_by r (op_of r n) (undivided r n).control.iteration ≡ Some end)
       × EndsBy (Some end) trace.outcome
   pub scalars : n ≡ last_of r oracle → (state : State) → trace.outcome ≡ Goes state
-      → (k : ℕ) (v : VarId) → k < parts_in r → is_scalar r.setup v ≡ true → scalar_of (w.held k).numbers v ≡ scalar_of state v
+      → (k : ℕ) (v : VarId) → k < parts_in r → is_scalar r.setup v ≡ true
+      → scalar_of (w.held k).numbers v ≡ scalar_of state v
 
 -- of each state that is reached and over
 abbrev pub EndIsTheRuns : Type 0 → Run → Trace → Type 0
 EndIsTheRuns tells r trace =
-    tells → (oracle : Oracle) (w : World Held (Message tells) Channel ℕ) → IsReachedState tells r oracle w
+    tells → (oracle : Oracle) (w : World Held (Message tells) Channel ℕ)
+    → IsReachedState tells r oracle w
     → (n : ℕ) → w.over ≡ Some n → EndsAsRun r trace oracle w n

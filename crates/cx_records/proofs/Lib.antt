@@ -1,8 +1,11 @@
 mod RecordSamples
-mod WordLaws
-mod NumberLaws
-mod RowLaws
-mod RecordLaws
+pub mod WordLaws
+pub mod NumberLaws
+pub mod RowLaws
+pub mod HeadLaws
+pub mod GridLaws
+pub mod RecordLaws
 mod LoopLaws
-mod WholeLaws
+mod EntryLaws
+pub mod SplitLaws
 mod PrintedLaws

@@ -2,7 +2,8 @@
 use Rattle.std.specs.Prelude.{◌≡◌, ℕ, zero, suc, ◌-◌, ◌*◌, ◌^◌, Bool, true, false, ◌||◌, ◌==◌, ℤ, pos, negsuc, List, [], ◌∷◌, ◌++◌, length, take, drop, slice_index_or, codes, nat_eq, Option, Some, None, Result, Ok, Err, if◌then◌else◌}
 use Rattle.std.specs.List.{position_or_len, starts_with}
 use Rattle.cx_text.specs.Digits.{natural_in}
-use Rattle.cx_records.specs.Records.{is_name, Spells}
+use Rattle.cx_records.specs.Records.{is_name}
+use Rattle.cx_records.specs.Spelling.{SpellsAll}
 use Rattle.cx_records.specs.declared.record.Record.{Record}
 use Rattle.cx_records.specs.declared.words.Stop.{Stop}
 use Rattle.cx_records.specs.declared.words.Stop.TheVariants as stops
@@ -42,7 +43,8 @@ skip byte [] = None
 skip byte (b ∷ bs) = if b == byte then Some bs else None
 
 abbrev pub skip_text : List ℕ → List ℕ → Option (List ℕ)
-skip_text text bytes = if starts_with nat_eq bytes text then Some (drop (length text) bytes) else None
+skip_text text bytes = if starts_with nat_eq bytes text then Some (drop (length text) bytes)
+    else None
 
 -- ---- numbers in their shortest spelling
 
@@ -89,8 +91,8 @@ name_of text = if is_name text then Some text else None
 abbrev pub name_at : List ℕ → Option (List ℕ × List ℕ)
 name_at = field_at name_of 32
 
-abbrev pub iteration_at : List ℕ → Option (ℕ × List ℕ)
-iteration_at = field_at (number_of (2 ^ 64 - 1)) 32
+abbrev pub number_at : ℕ → List ℕ → Option (ℕ × List ℕ)
+number_at high = field_at (number_of high) 32
 
 abbrev pub value_at : ℕ → List ℕ → Option (ℤ × List ℕ)
 value_at = field_at value_of
@@ -100,7 +102,8 @@ value_at = field_at value_of
 -- what stands behind a size: whether it is the last one, and the bytes behind
 abbrev pub size_end : List ℕ → Option (Bool × List ℕ)
 size_end [] = None
-size_end (b ∷ bs) = if b == 10 then Some (true, bs) else (if b == 32 then Some (false, bs) else None)
+size_end (b ∷ bs) = if b == 10 then Some (true, bs)
+    else (if b == 32 then Some (false, bs) else None)
 
 abbrev pub size_at : List ℕ → Option (ℕ × Bool × List ℕ)
 size_at bytes = do
@@ -113,7 +116,8 @@ unfoldable pub sizes_at : ℕ → List ℕ → Option (List ℕ × List ℕ)
 sizes_at zero bytes = None
 sizes_at (suc more) bytes = do
   size ← size_at bytes
-  if size.1 then Some (size.0 ∷ [], size.2) else (sizes_at more size.2 >>= λ others. Some (size.0 ∷ others.0, others.1))
+  if size.1 then Some (size.0 ∷ [], size.2)
+      else (sizes_at more size.2 >>= λ others. Some (size.0 ∷ others.0, others.1))
 
 -- a row of so many values and one more
 unfoldable pub row_at : ℕ → List ℕ → Option (List ℤ × List ℕ)
@@ -142,14 +146,29 @@ row_count size = slice_index_or size 1 1 * slice_index_or size 2 1
 abbrev pub level_at : List ℕ → List ℕ → Option (List ℤ × List ℕ)
 level_at size = rows_at (more_in_row size) (row_count size)
 
--- ---- records
-
-unfoldable pub section_at : List ℕ → ℕ → List ℕ → Option (Record × List ℕ)
-section_at name iteration bytes = do
+-- sizes, the values of a level with these sizes, and an empty line
+unfoldable pub grid_at : List ℕ → Option ((List ℕ × List ℤ) × List ℕ)
+grid_at bytes = do
   size ← sizes_at 3 bytes
   values ← level_at size.0 size.1
   rest ← skip 10 values.1
-  Some (record { full = name; iteration = iteration; size = size.0; values = values.0 }, rest)
+  Some ((size.0, values.0), rest)
+
+-- ---- records
+
+-- what sections and lines begin with: a variable's name and an iteration
+unfoldable pub head_at : List ℕ → Option ((List ℕ × ℕ) × List ℕ)
+head_at bytes = do
+  start ← skip_text (codes "# ") bytes
+  name ← name_at start
+  rest ← skip_text (codes "iteration ") name.1
+  iteration ← number_at (2 ^ 64 - 1) rest
+  Some ((name.0, iteration.0), iteration.1)
+
+unfoldable pub section_at : List ℕ → ℕ → List ℕ → Option (Record × List ℕ)
+section_at name iteration bytes = do
+  grid ← grid_at bytes
+  Some (record { full = name; iteration = iteration; size = grid.0.0; values = grid.0.1 }, grid.1)
 
 unfoldable pub line_at : List ℕ → ℕ → List ℕ → Option (Record × List ℕ)
 line_at name iteration bytes = do
@@ -163,11 +182,8 @@ body_at name iteration bytes (Some sizes) = section_at name iteration sizes
 
 unfoldable pub record_at : List ℕ → Option (Record × List ℕ)
 record_at bytes = do
-  start ← skip_text (codes "# ") bytes
-  name ← name_at start
-  head ← skip_text (codes "iteration ") name.1
-  iteration ← iteration_at head
-  body_at name.0 iteration.0 iteration.1 (skip_text (codes "size ") iteration.1)
+  head ← head_at bytes
+  body_at head.0.0 head.0.1 head.1 (skip_text (codes "size ") head.1)
 
 -- ---- growing lists
 
@@ -175,8 +191,12 @@ record_at bytes = do
 abbrev pub with_front : {A : Type 0} → List A → Option (List A × List ℕ) → Option (List A × List ℕ)
 with_front front read = read >>= λ x. Some (front ++ x.0, x.1)
 
--- Reading all records gave what the bytes spell, or nothing where they spell none, unless memory is wanting.
-abbrev pub GivesAll : List ℕ → Result (List Record) Stop → Type 0
-GivesAll bytes (Ok rs) = Spells bytes rs
-GivesAll bytes (Err stops.Memory) = Unit {0}
-GivesAll bytes (Err stops.Other) = (rs : List Record) → Spells bytes rs → ⊥
+-- ---- one entry after another
+
+-- Reading all entries gave what the bytes spell, or nothing where they spell none, unless memory is
+-- wanting.
+abbrev pub GivesAll : {E : Type 0} → (E → List ℕ) → (E → Type 0) → List ℕ → Result (List E) Stop
+    → Type 0
+GivesAll text Fits bytes (Ok es) = SpellsAll text Fits bytes es
+GivesAll text Fits bytes (Err stops.Memory) = Unit {0}
+GivesAll {E} text Fits bytes (Err stops.Other) = (es : List E) → SpellsAll text Fits bytes es → ⊥

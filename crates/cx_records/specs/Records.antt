@@ -1,6 +1,7 @@
--- What the output file is made of: sections of grid variables and lines of scalars, one record after another.
-use Rattle.std.specs.Prelude.{ℕ, ◌<◌, ◌≤◌, ◌^◌, ◌≡◌, Bool, false, IsTrue, ℤ, pos, List, [], ◌∷◌, length, slice_index_or, Option, Some, None}
-use Rattle.std.specs.List.{flat_map, list_all, AllByRecursion}
+-- What the output file is made of: sections of grid variables and lines of scalars, one record
+-- after another.
+use Rattle.std.specs.Prelude.{ℕ, ◌<◌, ◌≤◌, ◌^◌, ◌≡◌, Bool, false, IsTrue, ℤ, pos, List, [], ◌∷◌, length, slice_index_or, Option}
+use Rattle.std.specs.List.{list_all, AllByRecursion}
 use Rattle.std.specs.Int.{w64}
 use Rattle.std.specs.Int.RustNames.{FitsSigned}
 use Rattle.cx_text.specs.Bytes.{is_printable}
@@ -8,9 +9,11 @@ use Rattle.cx_grid.specs.declared.shapes.Shape.{Shape}
 use Rattle.cx_grid.specs.Boxes.{point_by, point_count}
 use Rattle.cx_grid.specs.Grid.{whole}
 use Rattle.cx_ascii.specs.Output.{section, line}
+use Rattle.cx_records.specs.Spelling.{SpellsAll, ReadsAll}
 use Rattle.cx_records.specs.declared.record.Record.{Record}
 
--- a grid with these numbers of points, by direction, and no ghost zones; a direction that it doesn't have has one point
+-- a grid with these numbers of points, by direction, and no ghost zones; a direction that it
+-- doesn't have has one point
 abbrev pub shape_of : List ℕ → Shape
 shape_of size =
     record {
@@ -29,8 +32,8 @@ is_name (b ∷ bs) = list_all is_printable (b ∷ bs)
 abbrev pub IsSize : ℕ → Type 0
 IsSize n = (1 ≤ n) × (n ≤ 16777216)
 
--- a grid variable's level, with one to three sizes and as many values as its grid has points, or a scalar's one value,
--- without a size
+-- a grid variable's level, with one to three sizes and as many values as its grid has points, or a
+-- scalar's one value, without a size
 pub record IsRecord (r : Record) : Type 0 where
   pub name : IsTrue (is_name r.full)
   pub iteration : r.iteration < 2 ^ 64
@@ -48,11 +51,9 @@ abbrev pub record_text : Record → List ℕ
 record_text r = text_of r.full r.iteration r.size r.values
 
 -- bytes are the texts of these records, one after another, with nothing between or behind
-pub record Spells (bytes : List ℕ) (rs : List Record) : Type 0 where
-  pub in_range : AllByRecursion IsRecord rs
-  pub spelled : bytes ≡ flat_map record_text rs
+abbrev pub Spells : List ℕ → List Record → Type 0
+Spells bytes rs = SpellsAll record_text IsRecord bytes rs
 
 -- records that the bytes spell, or none where they spell none
 abbrev pub ReadsAs : List ℕ → Option (List Record) → Type 0
-ReadsAs bytes None = (rs : List Record) → Spells bytes rs → ⊥
-ReadsAs bytes (Some rs) = Spells bytes rs
+ReadsAs bytes found = ReadsAll record_text IsRecord bytes found

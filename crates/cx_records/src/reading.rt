@@ -3,13 +3,26 @@
 ghost use Rattle.std.specs.Prelude.{◌≡◌, Some, IfOk, codes, List as ListOf};
 ghost use Rattle.cx_records.specs.declared.record.Record.{Record};
 ghost use Rattle.cx_records.specs.Records.{Spells, ReadsAs};
-ghost use Rattle.cx_records.specs.Reading.{Gives, GivesAll, skip_text, section_at, line_at, body_at, record_at};
+ghost use Rattle.cx_records.specs.Reading.{Gives, skip_text, head_at, section_at, line_at, body_at, record_at};
 
 use crate::Record;
-use crate::values::{level_at, sizes_at};
-use crate::words::{Stop, behind_text, iteration_at, name_at, skip, skip_text, value_at};
+use crate::entry::{Entry, read_all};
+use crate::values::grid_at;
+use crate::words::{Stop, name_at, number_at, skip_text, strip_text, value_at};
 use cx_text::{List, Memory, Text};
 use std::alloc::Global;
+
+/// The name and the iteration that a section or a line begins with, and what comes after them.
+#[tactic(auto, unfolding(crate::specs::Reading::head_at))]
+pub fn head_at(bytes: &[u8]) -> Result<(&[u8], u64, &[u8]), Stop>
+    ensures { Gives (λ x. ((x.0.now, x.1), x.2.now)) result (head_at bytes.now) }
+{
+    let rest = skip_text(b"# ", bytes)?;
+    let (full, rest) = name_at(rest)?;
+    let rest = skip_text(b"iteration ", rest)?;
+    let (iteration, rest) = number_at(u64::MAX, rest)?;
+    Ok((full, iteration, rest))
+}
 
 /// A section behind the word `size`.
 #[tactic(auto, unfolding(crate::specs::Reading::section_at))]
@@ -21,9 +34,7 @@ fn section_at<'a>(
 ) -> Result<(Record, &'a [u8]), Stop>
     ensures { Gives (λ x. (x.0, x.1.now)) result (section_at full.now iteration bytes.now) }
 {
-    let (size, rest) = sizes_at(alloc, bytes)?;
-    let (values, rest) = level_at(alloc, size.as_slice(), rest)?;
-    let rest = skip(b'\n', rest)?;
+    let (size, values, rest) = grid_at(alloc, bytes)?;
     let record = Record {
         full: Text::from_slice(alloc, full)?,
         iteration,
@@ -35,7 +46,7 @@ fn section_at<'a>(
 
 /// A scalar's line behind the word `value`.
 #[tactic(auto, unfolding(crate::specs::Reading::line_at))]
-fn line_at<'a>(
+pub fn line_at<'a>(
     alloc: Global,
     full: &[u8],
     iteration: u64,
@@ -65,7 +76,7 @@ fn body_at<'a>(
     ensures { Gives (λ x. (x.0, x.1.now)) result
         (body_at full.now iteration bytes.now (skip_text (codes "size ") bytes.now)) }
 {
-    match behind_text(b"size ", bytes) {
+    match strip_text(b"size ", bytes) {
         Some(sizes) => section_at(alloc, full, iteration, sizes),
         None => line_at(alloc, full, iteration, skip_text(b"value ", bytes)?),
     }
@@ -73,28 +84,27 @@ fn body_at<'a>(
 
 /// The record in front.
 #[tactic(auto, unfolding(crate::specs::Reading::record_at))]
-fn record_at(alloc: Global, bytes: &[u8]) -> Result<(Record, &[u8]), Stop>
+pub(crate) fn record_at(alloc: Global, bytes: &[u8]) -> Result<(Record, &[u8]), Stop>
     ensures { Gives (λ x. (x.0, x.1.now)) result (record_at bytes.now) }
 {
-    let rest = skip_text(b"# ", bytes)?;
-    let (full, rest) = name_at(rest)?;
-    let rest = skip_text(b"iteration ", rest)?;
-    let (iteration, rest) = iteration_at(rest)?;
+    let (full, iteration, rest) = head_at(bytes)?;
     body_at(alloc, full, iteration, rest)
 }
 
-/// All records that the bytes are.
-fn records_of(alloc: Global, bytes: &[u8]) -> Result<List<Record>, Stop>
-    ensures { GivesAll bytes.now result }
-{
-    let mut records = List::empty(alloc);
-    let mut rest = bytes;
-    'each: while !rest.is_empty() {
-        let (record, after) = record_at(alloc, rest)?;
-        records.push(record)?;
-        rest = after;
+impl Entry for Record {
+    ghost use Rattle.cx_records.specs.Records.{record_text, IsRecord};
+    ghost use Rattle.cx_records.specs.Reading.{record_at};
+
+    ghost text = { record_text };
+
+    ghost fits = { IsRecord };
+
+    ghost entry_at = { record_at };
+
+    /// Reads the record at the front of the bytes, and hands over what follows it.
+    fn read(alloc: Global, bytes: &[u8]) -> Result<(Self, &[u8]), Stop> {
+        record_at(alloc, bytes)
     }
-    Ok(records)
 }
 
 /// The records that the bytes of an output file are: sections of grid variables, and lines of scalars, one after another and
@@ -104,9 +114,5 @@ pub fn read_output(alloc: Global, bytes: &[u8]) -> Result<Option<List<Record>>, 
     ensures only { IfOk result (λ found. (rs : ListOf Record) → Spells bytes.now rs
         → found ≡ Some rs) }
 {
-    match records_of(alloc, bytes) {
-        Ok(records) => Ok(Some(records)),
-        Err(Stop::Other) => Ok(None),
-        Err(Stop::Memory) => Err(Memory),
-    }
+    read_all(alloc, bytes)
 }

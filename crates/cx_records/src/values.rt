@@ -1,14 +1,14 @@
 //! The sizes and the values of a section.
 
 ghost use Rattle.std.specs.Prelude.{◌≡◌, ◌≤◌, length, slice_index_or};
-ghost use Rattle.cx_records.specs.Reading.{Gives, with_front, sizes_at, row_at, rows_at, more_in_row, row_count, level_at};
+ghost use Rattle.cx_records.specs.Reading.{Gives, with_front, sizes_at, row_at, rows_at, more_in_row, row_count, level_at, grid_at};
 
-use crate::words::{Stop, size_at, value_at};
+use crate::words::{Stop, size_at, skip, value_at};
 use cx_text::List;
 use std::alloc::Global;
 
 /// One to three sizes, blanks between and the end of the line behind.
-pub(crate) fn sizes_at(alloc: Global, bytes: &[u8]) -> Result<(List<u32>, &[u8]), Stop>
+fn sizes_at(alloc: Global, bytes: &[u8]) -> Result<(List<u32>, &[u8]), Stop>
     ensures { Gives (λ x. (x.0, x.1.now)) result (sizes_at 3 bytes.now) }
 {
     let mut sizes = List::empty(alloc);
@@ -24,7 +24,7 @@ pub(crate) fn sizes_at(alloc: Global, bytes: &[u8]) -> Result<(List<u32>, &[u8])
     Err(Stop::Other)
 }
 
-/// Adds the values of a row at the end: so many, and one more.
+/// Adds the values of a row at the end: `more` of them with a blank after each, and the last of the line.
 fn push_row<'a>(values: &mut Vec<i64>, more: u32, bytes: &'a [u8]) -> Result<&'a [u8], Stop>
     ensures { Gives (λ rest. (values.new.items, rest.now)) result
         (with_front values.old.items (row_at more bytes.now)) }
@@ -67,12 +67,14 @@ fn points_along(sizes: &[u32], direction: usize) -> u32
     }
 }
 
+/// How many values a row has after its first one.
 fn more_in_row(sizes: &[u32]) -> u32
     ensures { result ≡ more_in_row sizes.now }
 {
     points_along(sizes, 0).saturating_sub(1)
 }
 
+/// How many rows a section has.
 fn row_count(sizes: &[u32]) -> u64
     ensures { result ≡ row_count sizes.now }
 {
@@ -88,7 +90,7 @@ fn room(more: u32, count: u64, bytes: &[u8]) -> usize
 }
 
 /// The values of a level with these sizes.
-pub(crate) fn level_at<'a>(
+fn level_at<'a>(
     alloc: Global,
     sizes: &[u32],
     bytes: &'a [u8],
@@ -101,4 +103,15 @@ pub(crate) fn level_at<'a>(
     values.reserve_exact(room(more, count, bytes))?;
     let rest = push_rows(&mut values, more, count, bytes)?;
     Ok((List::new(values), rest))
+}
+
+/// Sizes, the values of a level of these sizes in rows, and what comes after the empty line that ends them.
+#[tactic(auto, unfolding(crate::specs::Reading::grid_at))]
+pub fn grid_at(alloc: Global, bytes: &[u8]) -> Result<(List<u32>, List<i64>, &[u8]), Stop>
+    ensures { Gives (λ x. ((x.0, x.1), x.2.now)) result (grid_at bytes.now) }
+{
+    let (size, rest) = sizes_at(alloc, bytes)?;
+    let (values, rest) = level_at(alloc, size.as_slice(), rest)?;
+    let rest = skip(b'\n', rest)?;
+    Ok((size, values, rest))
 }

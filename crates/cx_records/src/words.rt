@@ -1,20 +1,20 @@
-//! Words and numbers of the output file, and what stands behind them.
+//! Words and numbers of files in the output's form, and what stands behind them.
 
 ghost use Rattle.std.specs.Prelude.{◌≡◌, ◌≤◌, length, IfOk, option_copied};
 ghost use Rattle.std.specs.List.{list_all, position};
 ghost use Rattle.cx_text.specs.Bytes.{is_printable};
 ghost use Rattle.cx_records.specs.Records.{is_name};
-ghost use Rattle.cx_records.specs.Reading.{Gives, is_end, word_len, word, behind, skip, skip_text, has_leading_zero, number_of, negative_of, size_of, value_of, name_at, iteration_at, value_at, size_end, size_at};
+ghost use Rattle.cx_records.specs.Reading.{Gives, is_end, word_len, word, behind, skip, skip_text, has_leading_zero, number_of, negative_of, size_of, value_of, name_at, number_at, value_at, size_end, size_at};
 
 use cx_text::{Memory, natural_in, negative};
 use std::alloc::{AllocError, AllocFailed};
 
-/// Why reading gave nothing.
+/// Why reading stopped.
 #[derive(Clone, Copy, Debug, PartialEq, Eq)]
-pub(crate) enum Stop {
-    /// The bytes are other ones.
+pub enum Stop {
+    /// The bytes are none of what is read here.
     Other,
-    /// Memory was wanting.
+    /// Out of memory.
     Memory,
 }
 
@@ -51,12 +51,14 @@ impl<T: Drop> From<AllocFailed<T>> for Stop {
     }
 }
 
+/// Whether a byte ends a word: a blank or a line end.
 fn is_end(byte: u8) -> bool
     ensures { result ≡ is_end byte }
 {
     byte == b' ' || byte == b'\n'
 }
 
+/// The place of the first blank or line end.
 fn first_end(bytes: &[u8]) -> Option<usize>
     ensures { result ≡ position is_end bytes.now }
 {
@@ -83,7 +85,7 @@ fn split_word(bytes: &[u8]) -> (&[u8], &[u8])
 }
 
 /// What stands behind a byte in front.
-pub(crate) fn skip(byte: u8, bytes: &[u8]) -> Result<&[u8], Stop>
+pub fn skip(byte: u8, bytes: &[u8]) -> Result<&[u8], Stop>
     ensures { Gives (λ x. x.now) result (skip byte bytes.now) }
 {
     match bytes {
@@ -92,8 +94,8 @@ pub(crate) fn skip(byte: u8, bytes: &[u8]) -> Result<&[u8], Stop>
     }
 }
 
-/// What stands behind a text in front, if it stands there.
-pub(crate) fn behind_text<'a>(text: &[u8], bytes: &'a [u8]) -> Option<&'a [u8]>
+/// What comes after a text in front, if the bytes begin with it.
+pub fn strip_text<'a>(text: &[u8], bytes: &'a [u8]) -> Option<&'a [u8]>
     ensures { option_copied result ≡ skip_text text.now bytes.now }
 {
     if bytes.starts_with(text) {
@@ -103,16 +105,17 @@ pub(crate) fn behind_text<'a>(text: &[u8], bytes: &'a [u8]) -> Option<&'a [u8]>
     }
 }
 
-/// What stands behind a text in front.
-pub(crate) fn skip_text<'a>(text: &[u8], bytes: &'a [u8]) -> Result<&'a [u8], Stop>
+/// What comes after a text in front.
+pub fn skip_text<'a>(text: &[u8], bytes: &'a [u8]) -> Result<&'a [u8], Stop>
     ensures { Gives (λ x. x.now) result (skip_text text.now bytes.now) }
 {
-    match behind_text(text, bytes) {
+    match strip_text(text, bytes) {
         Some(rest) => Ok(rest),
         None => Err(Stop::Other),
     }
 }
 
+/// Whether a text of several bytes begins with 0, as no written number does.
 fn has_leading_zero(text: &[u8]) -> bool
     ensures { result ≡ has_leading_zero text.now }
 {
@@ -156,6 +159,7 @@ fn negative_of(digits: &[u8]) -> Result<i64, Stop>
     }
 }
 
+/// The number of 64 signed bits that a text spells in the only way in which the output spells it.
 fn value_of(text: &[u8]) -> Result<i64, Stop>
     ensures { Gives (λ v. v) result (value_of text.now) }
 {
@@ -166,18 +170,21 @@ fn value_of(text: &[u8]) -> Result<i64, Stop>
     }
 }
 
+/// Whether a byte is printable ASCII other than a blank.
 fn is_printable(byte: u8) -> bool
     ensures { result ≡ is_printable byte }
 {
     33 <= byte && byte <= 126
 }
 
+/// Whether all bytes are printable and none is a blank.
 fn all_printable(text: &[u8]) -> bool
     ensures { result ≡ list_all is_printable text.now }
 {
     text.iter().all(|byte| is_printable(*byte))
 }
 
+/// Whether a text can be a full name: not empty, and all bytes printable.
 fn is_name(text: &[u8]) -> bool
     ensures { result ≡ is_name text.now }
 {
@@ -188,7 +195,7 @@ fn is_name(text: &[u8]) -> bool
 }
 
 /// A value and a byte behind it.
-pub(crate) fn value_at(byte: u8, bytes: &[u8]) -> Result<(i64, &[u8]), Stop>
+pub fn value_at(byte: u8, bytes: &[u8]) -> Result<(i64, &[u8]), Stop>
     ensures { Gives (λ x. (x.0, x.1.now)) result (value_at byte bytes.now) }
 {
     let (text, rest) = split_word(bytes);
@@ -196,17 +203,18 @@ pub(crate) fn value_at(byte: u8, bytes: &[u8]) -> Result<(i64, &[u8]), Stop>
     Ok((value, skip(byte, rest)?))
 }
 
-/// An iteration and a blank behind it.
-pub(crate) fn iteration_at(bytes: &[u8]) -> Result<(u64, &[u8]), Stop>
-    ensures { Gives (λ x. (x.0, x.1.now)) result (iteration_at bytes.now) }
+/// A number that isn't above `high`, and what comes after the blank that ends it.
+pub fn number_at(high: u64, bytes: &[u8]) -> Result<(u64, &[u8]), Stop>
+    ensures value { Gives (λ x. (x.0, x.1.now)) result (number_at high bytes.now) }
+    ensures most { IfOk result (λ x. x.0 ≤ high) }
 {
     let (text, rest) = split_word(bytes);
-    let iteration = number_of(u64::MAX, text)?;
-    Ok((iteration, skip(b' ', rest)?))
+    let number = number_of(high, text)?;
+    Ok((number, skip(b' ', rest)?))
 }
 
 /// A name and a blank behind it.
-pub(crate) fn name_at(bytes: &[u8]) -> Result<(&[u8], &[u8]), Stop>
+pub fn name_at(bytes: &[u8]) -> Result<(&[u8], &[u8]), Stop>
     ensures { Gives (λ x. (x.0.now, x.1.now)) result (name_at bytes.now) }
 {
     let (text, rest) = split_word(bytes);
@@ -228,7 +236,7 @@ fn size_end(bytes: &[u8]) -> Result<(bool, &[u8]), Stop>
 }
 
 /// A size, whether it is the last one, and what stands behind it.
-pub(crate) fn size_at(bytes: &[u8]) -> Result<(u32, bool, &[u8]), Stop>
+pub fn size_at(bytes: &[u8]) -> Result<(u32, bool, &[u8]), Stop>
     ensures { Gives (λ x. (x.0, x.1, x.2.now)) result (size_at bytes.now) }
 {
     let (text, rest) = split_word(bytes);

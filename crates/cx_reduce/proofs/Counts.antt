@@ -28,14 +28,16 @@ module _ (s : Shape) (owned local : Box3) (part : IsPart s owned local) where
   pub some_points : 1 ≤ point_count owned
   some_points =
       times_some (extent owned 0 * extent owned 1) (extent owned 2)
-      (times_some (extent owned 0) (extent owned 1) (gap_some owned.low.x owned.high.x part.x.some) (gap_some owned.low.y owned.high.y part.y.some))
+      (times_some (extent owned 0) (extent owned 1) (gap_some owned.low.x owned.high.x part.x.some)
+      (gap_some owned.low.y owned.high.y part.y.some))
       (gap_some owned.low.z owned.high.z part.z.some)
 
   pub few_points : point_count owned ≤ 2 ^ 24
   few_points =
       let most : point_count owned ≤ point_count (whole s) =
       mul-le-mul
-      (mul-le-mul (gap_within owned.low.x owned.high.x s.n.x part.x.from part.x.to) (gap_within owned.low.y owned.high.y s.n.y part.y.from part.y.to))
+      (mul-le-mul (gap_within owned.low.x owned.high.x s.n.x part.x.from part.x.to)
+      (gap_within owned.low.y owned.high.y s.n.y part.y.from part.y.to))
       (gap_within owned.low.z owned.high.z s.n.z part.z.from part.z.to)
       in
       let few = part.shape.few in

@@ -4,7 +4,8 @@ use Rattle.std.specs.Int.{int_min, int_max}
 use Rattle.cx_plan.specs.declared.item.ItemKind.{ItemKind}
 use Rattle.cx_plan.specs.declared.item.ItemKind.TheVariants.{Cell, Scalar, Sum, Least, Greatest, Count}
 use Rattle.cx_rule.specs.declared.routine.Overflow.{Overflow}
-use Rattle.cx_model.specs.Turns.{reduced, is_not_zero}
+use Rattle.cx_model.specs.Turns.{reduced}
+use Rattle.cx_text.specs.Numbers.{is_not_zero}
 
 -- the four kinds of reductions
 abbrev pub IsReduction : ItemKind → Type 0
@@ -42,7 +43,11 @@ joined_by Cell a b = a
 joined_by Scalar a b = a
 
 abbrev pub joined : Reduced → Reduced → Reduced
-joined a b = record { kind = a.kind; points = a.points + b.points; number = joined_by a.kind a.number b.number }
+joined a b = record {
+  kind = a.kind;
+  points = a.points + b.points;
+  number = joined_by a.kind a.number b.number;
+}
 
 -- the number where it lies in the range of a type; Overflow exactly where it doesn't
 abbrev pub Finishes : ℤ → ℤ → ℤ → Result ℤ Overflow → Type 0

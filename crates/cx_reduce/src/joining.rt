@@ -29,7 +29,7 @@ impl Model for Partial {
 }
 
 impl Partial {
-    /// The same number once more.
+    /// A copy of the partial result.
     pub fn copy(&self) -> Self
         ensures { result ≡ self.now }
     {

@@ -5,8 +5,8 @@ ghost use Rattle.cx_grid.specs.Boxes.{IsBox, IsSmall, extent, point_count, numbe
 ghost use Rattle.cx_field.specs.Patches.{IsGridLevel, number_at};
 ghost use Rattle.cx_rule.specs.Runs.{row_count};
 ghost use Rattle.cx_plan.specs.declared.item.ItemKind.TheVariants as kinds;
-ghost use Rattle.cx_model.specs.Turns.{is_not_zero};
 ghost use Rattle.cx_reduce.specs.Partials.{IsReduction, IsBounded, IsWithin, reduced_over, told, one_more};
+ghost use Rattle.cx_text.specs.Numbers.{is_not_zero};
 
 use crate::joining::{Partial, combine};
 use cx_field::Patch;

@@ -21,7 +21,8 @@ among-second (x ∷ a) b way among =
     let later = among-second a b way among in
     (suc later.0, later.1)
 
-among-either : (a b : List Witness) (way : Witness) → IsAmong (a ++ b) way → IsAmong a way ⊎ IsAmong b way
+among-either : (a b : List Witness) (way : Witness) → IsAmong (a ++ b) way
+    → IsAmong a way ⊎ IsAmong b way
 among-either [] b way among = inr among
 among-either (x ∷ a) b way (zero, at) = inl (0, at)
 among-either (x ∷ a) b way (suc k, at) = by (among-either a b way (k, at))
@@ -30,13 +31,16 @@ among-either (x ∷ a) b way (suc k, at) = by (among-either a b way (k, at))
     by (inl one) = inl (suc one.0, one.1)
     by (inr one) = inr one
 
-on-first : (x : Followed) (a b : List Witness) (level : ℕ) → IsClearedOn x a level → IsClearedOn x (a ++ b) level
+on-first : (x : Followed) (a b : List Witness) (level : ℕ) → IsClearedOn x a level
+    → IsClearedOn x (a ++ b) level
 on-first x a b level on = (on.0, among-first a b on.0 on.1, on.2)
 
-on-second : (x : Followed) (a b : List Witness) (level : ℕ) → IsClearedOn x b level → IsClearedOn x (a ++ b) level
+on-second : (x : Followed) (a b : List Witness) (level : ℕ) → IsClearedOn x b level
+    → IsClearedOn x (a ++ b) level
 on-second x a b level on = (on.0, among-second a b on.0 on.1, on.2)
 
-on-either : (x : Followed) (a b : List Witness) (level : ℕ) → IsClearedOn x (a ++ b) level → IsClearedOn x a level ⊎ IsClearedOn x b level
+on-either : (x : Followed) (a b : List Witness) (level : ℕ) → IsClearedOn x (a ++ b) level
+    → IsClearedOn x a level ⊎ IsClearedOn x b level
 on-either x a b level on = by (among-either a b on.0 on.1)
   where
     by : IsAmong a on.0 ⊎ IsAmong b on.0 → IsClearedOn x a level ⊎ IsClearedOn x b level
@@ -47,14 +51,16 @@ on-none : (x : Followed) (level : ℕ) → IsClearedOn x [] level → ⊥
 on-none x level (way, (k, at), cleared) = absurd (cc)
 
 -- lists that begin alike do so with the same list behind
-begins-append : (a b c : List Witness) → slice_get a 0 ≡ slice_get b 0 → slice_get (a ++ c) 0 ≡ slice_get (b ++ c) 0
+begins-append : (a b c : List Witness) → slice_get a 0 ≡ slice_get b 0
+    → slice_get (a ++ c) 0 ≡ slice_get (b ++ c) 0
 begins-append [] [] c same = refl
 begins-append [] (y ∷ b) c same = absurd (cc)
 begins-append (x ∷ a) [] c same = absurd (cc)
 begins-append (x ∷ a) (y ∷ b) c same = same
 
 -- a list that begins like one that isn't empty begins like it with a list behind
-begins-before : (a b c : List Witness) → 1 ≤ length a → slice_get a 0 ≡ slice_get b 0 → slice_get a 0 ≡ slice_get (b ++ c) 0
+begins-before : (a b c : List Witness) → 1 ≤ length a → slice_get a 0 ≡ slice_get b 0
+    → slice_get a 0 ≡ slice_get (b ++ c) 0
 begins-before [] b c some same = absurd (omega arith)
 begins-before (x ∷ a) [] c some same = absurd (cc)
 begins-before (x ∷ a) (y ∷ b) c some same = same
@@ -73,39 +79,48 @@ joins-none x old =
     by level (inl on) = on
     by level (inr on) = absurd (on-none x level on)
 
-pub joins-kept : (x : Followed) (old ways now : List Witness) (way : Witness) → Joins x old ways now → Joins x old (ways ++ way ∷ []) (now ++ way ∷ [])
+pub joins-kept : (x : Followed) (old ways now : List Witness) (way : Witness) → Joins x old ways now
+    → Joins x old (ways ++ way ∷ []) (now ++ way ∷ [])
 joins-kept x old ways now way joins =
     record {
       among = λ w among. came w (among-either now (way ∷ []) w among);
-      stays = begins-append now (old ++ ways) (way ∷ []) joins.stays ∙ ap (λ (ws : List Witness). slice_get ws 0) (append_assoc old ways (way ∷ []));
+      stays = begins-append now (old ++ ways) (way ∷ []) joins.stays
+          ∙ ap (λ (ws : List Witness). slice_get ws 0) (append_assoc old ways (way ∷ []));
       cleared = λ level few on. by level few on;
     }
   where
-    old_one : (w : Witness) → IsAmong old w ⊎ IsAmong ways w → IsAmong old w ⊎ IsAmong (ways ++ way ∷ []) w
+    old_one : (w : Witness) → IsAmong old w ⊎ IsAmong ways w
+        → IsAmong old w ⊎ IsAmong (ways ++ way ∷ []) w
     old_one w (inl one) = inl one
     old_one w (inr one) = inr (among-first ways (way ∷ []) w one)
 
-    came : (w : Witness) → IsAmong now w ⊎ IsAmong (way ∷ []) w → IsAmong old w ⊎ IsAmong (ways ++ way ∷ []) w
+    came : (w : Witness) → IsAmong now w ⊎ IsAmong (way ∷ []) w
+        → IsAmong old w ⊎ IsAmong (ways ++ way ∷ []) w
     came w (inl one) = old_one w (joins.among w one)
     came w (inr one) = inr (among-second ways (way ∷ []) w one)
 
-    of_ways : (level : ℕ) → level < 8 → IsClearedOn x ways level ⊎ IsClearedOn x (way ∷ []) level → IsClearedOn x (now ++ way ∷ []) level
+    of_ways : (level : ℕ) → level < 8 → IsClearedOn x ways level ⊎ IsClearedOn x (way ∷ []) level
+        → IsClearedOn x (now ++ way ∷ []) level
     of_ways level few (inl on) = on-first x now (way ∷ []) level (joins.cleared level few (inr on))
     of_ways level few (inr on) = on-second x now (way ∷ []) level on
 
-    by : (level : ℕ) → level < 8 → IsClearedOn x old level ⊎ IsClearedOn x (ways ++ way ∷ []) level → IsClearedOn x (now ++ way ∷ []) level
+    by : (level : ℕ) → level < 8 → IsClearedOn x old level ⊎ IsClearedOn x (ways ++ way ∷ []) level
+        → IsClearedOn x (now ++ way ∷ []) level
     by level few (inl on) = on-first x now (way ∷ []) level (joins.cleared level few (inl on))
     by level few (inr on) = of_ways level few (on-either x ways (way ∷ []) level on)
 
-pub joins-left : (x : Followed) (old ways now : List Witness) (way : Witness) → 1 ≤ length now → covers_one x now way ≡ true → Joins x old ways now → Joins x old (ways ++ way ∷ []) now
+pub joins-left : (x : Followed) (old ways now : List Witness) (way : Witness) → 1 ≤ length now
+    → covers_one x now way ≡ true → Joins x old ways now → Joins x old (ways ++ way ∷ []) now
 joins-left x old ways now way some covers joins =
     record {
       among = λ w among. came w (joins.among w among);
-      stays = begins-before now (old ++ ways) (way ∷ []) some joins.stays ∙ ap (λ (ws : List Witness). slice_get ws 0) (append_assoc old ways (way ∷ []));
+      stays = begins-before now (old ++ ways) (way ∷ []) some joins.stays
+          ∙ ap (λ (ws : List Witness). slice_get ws 0) (append_assoc old ways (way ∷ []));
       cleared = λ level few on. by level few on;
     }
   where
-    came : (w : Witness) → IsAmong old w ⊎ IsAmong ways w → IsAmong old w ⊎ IsAmong (ways ++ way ∷ []) w
+    came : (w : Witness) → IsAmong old w ⊎ IsAmong ways w
+        → IsAmong old w ⊎ IsAmong (ways ++ way ∷ []) w
     came w (inl one) = inl one
     came w (inr one) = inr (among-first ways (way ∷ []) w one)
 
@@ -115,16 +130,19 @@ joins-left x old ways now way some covers joins =
         covers_one-at x now w level few (subst (λ v. covers_one x now v ≡ true) same covers) cleared
     on_way level few (w, (suc k, at), cleared) = absurd (cc)
 
-    of_ways : (level : ℕ) → level < 8 → IsClearedOn x ways level ⊎ IsClearedOn x (way ∷ []) level → IsClearedOn x now level
+    of_ways : (level : ℕ) → level < 8 → IsClearedOn x ways level ⊎ IsClearedOn x (way ∷ []) level
+        → IsClearedOn x now level
     of_ways level few (inl on) = joins.cleared level few (inr on)
     of_ways level few (inr on) = on_way level few on
 
-    by : (level : ℕ) → level < 8 → IsClearedOn x old level ⊎ IsClearedOn x (ways ++ way ∷ []) level → IsClearedOn x now level
+    by : (level : ℕ) → level < 8 → IsClearedOn x old level ⊎ IsClearedOn x (ways ++ way ∷ []) level
+        → IsClearedOn x now level
     by level few (inl on) = joins.cleared level few (inl on)
     by level few (inr on) = of_ways level few (on-either x ways (way ∷ []) level on)
 
 -- the first list gathered, and then the second
-pub joins-both : (x : Followed) (first second mid new : List Witness) → Joins x [] first mid → Joins x mid second new → Joins x first second new
+pub joins-both : (x : Followed) (first second mid new : List Witness) → Joins x [] first mid
+    → Joins x mid second new → Joins x first second new
 joins-both x first second mid new one two =
     record {
       among = λ w among. came w (two.among w among);
@@ -140,15 +158,18 @@ joins-both x first second mid new one two =
     came w (inl among) = from_mid w (one.among w among)
     came w (inr among) = inr among
 
-    by : (level : ℕ) → level < 8 → IsClearedOn x first level ⊎ IsClearedOn x second level → IsClearedOn x new level
+    by : (level : ℕ) → level < 8 → IsClearedOn x first level ⊎ IsClearedOn x second level
+        → IsClearedOn x new level
     by level few (inl on) = two.cleared level few (inl (one.cleared level few (inr on)))
     by level few (inr on) = two.cleared level few (inr on)
 
 -- where the first list has a way, the new one has
-pub joins-some : (x : Followed) (first second new : List Witness) → Joins x first second new → 1 ≤ length first → 1 ≤ length new
+pub joins-some : (x : Followed) (first second new : List Witness) → Joins x first second new
+    → 1 ≤ length first → 1 ≤ length new
 joins-some x first second new joins some = by first new joins.stays some
   where
-    by : (first new : List Witness) → slice_get new 0 ≡ slice_get (first ++ second) 0 → 1 ≤ length first → 1 ≤ length new
+    by : (first new : List Witness) → slice_get new 0 ≡ slice_get (first ++ second) 0
+        → 1 ≤ length first → 1 ≤ length new
     by [] new stays some = absurd (omega arith)
     by (way ∷ ways) [] stays some = absurd (cc)
     by (way ∷ ways) (new ∷ news) stays some = omega arith

@@ -16,10 +16,14 @@ none-and-some : (o : Option RegionFault) (a : RegionFault) → o ≡ None → o 
 none-and-some o a h k = cc (h, k)
 
 -- a job whose items have shapes has no fault of shapes
-pub no-shape-fault : (setup : Setup) (a : RegionFault) → HasShapes setup → shape_fault setup ≡ Some a → ⊥
-no-shape-fault setup a shapes told = none-and-some (shape_fault setup) a (ap (option_map (λ k. no_shape setup (item setup k))) (none_from_shapes setup shapes)) told
+pub no-shape-fault : (setup : Setup) (a : RegionFault) → HasShapes setup
+    → shape_fault setup ≡ Some a → ⊥
+no-shape-fault setup a shapes told =
+    none-and-some (shape_fault setup) a
+    (ap (option_map (λ k. no_shape setup (item setup k))) (none_from_shapes setup shapes)) told
 
-pub one-fault : (setup : Setup) (a b : RegionFault) → IsRegionFault setup a → IsRegionFault setup b → without_path a ≡ without_path b
+pub one-fault : (setup : Setup) (a b : RegionFault) → IsRegionFault setup a → IsRegionFault setup b
+    → without_path a ≡ without_path b
 one-fault setup a b (inl f) (inl g) = ap without_path (some-is (shape_fault setup) a b f g)
 one-fault setup a b (inl f) (inr g) = absurd (no-shape-fault setup a g.0 f)
 one-fault setup a b (inr f) (inl g) = absurd (no-shape-fault setup b f.0 g)

@@ -22,9 +22,11 @@ pub record IsUnsetFault (setup : Setup) (fault : RegionFault) : Type 0 where
 
 -- The first item without a shape; where all have one, a need that isn't met.
 abbrev pub IsRegionFault : Setup → RegionFault → Type 0
-IsRegionFault setup fault = (shape_fault setup ≡ Some fault) ⊎ (HasShapes setup × IsUnsetFault setup fault)
+IsRegionFault setup fault =
+    (shape_fault setup ≡ Some fault) ⊎ (HasShapes setup × IsUnsetFault setup fault)
 
--- What a fault tells beside the path that it shows and the need on it: of several paths any may be shown.
+-- What a fault tells beside the path that it shows and the need on it: of several paths any may be
+-- shown.
 abbrev pub without_path : RegionFault → RegionFault
 without_path (Shape path variable) = Shape path variable
 without_path (Unset path place variable level flag) = Unset [] [] [] 0 I

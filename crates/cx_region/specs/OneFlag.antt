@@ -23,19 +23,23 @@ Behind letter P = Then (Just (Letter letter ∷ [])) P
 
 -- each new way is an old one that has gone on
 abbrev pub Come : Job → (List Mark → Type 0) → List Witness → List Witness → Type 0
-Come job Q old new = (new_way : Witness) → IsAmong new new_way → (way : Witness) × IsAmong old way × GoesOn job Q way new_way
+Come job Q old new = (new_way : Witness) → IsAmong new new_way
+    → (way : Witness) × IsAmong old way × GoesOn job Q way new_way
 
 -- where each WHILE takes one turn at most, nothing is said of where the flag is cleared
-abbrev pub GoOnBy : Job → Rounds → Followed → (List Mark → Type 0) → List Witness → List Witness → Type 0
+abbrev pub GoOnBy : Job → Rounds → Followed → (List Mark → Type 0) → List Witness → List Witness
+    → Type 0
 GoOnBy job Once x Q old new = Come job Q old new
 GoOnBy job Settled x Q old new = GoOn job x Q old new
 
-abbrev pub GoesBy : Job → Rounds → Followed → (List Mark → Type 0) → List Witness → Result (Vec Witness Global) WitnessStop → Type 0
+abbrev pub GoesBy : Job → Rounds → Followed → (List Mark → Type 0) → List Witness
+    → Result (Vec Witness Global) WitnessStop → Type 0
 GoesBy job rounds x Q old (Ok new) = GoOnBy job rounds x Q old new.items
 GoesBy job rounds x Q old (Err stop) = Stop job Q old stop
 
 -- where a search leads the ways
-abbrev pub GoesOnBy : Job → Search → (List Mark → Type 0) → List Witness → Result (Vec Witness Global) WitnessStop → Type 0
+abbrev pub GoesOnBy : Job → Search → (List Mark → Type 0) → List Witness
+    → Result (Vec Witness Global) WitnessStop → Type 0
 GoesOnBy job search Q old result = GoesBy job search.rounds search.followed Q old result
 
 -- each need of the flag is met on all paths
@@ -46,7 +50,8 @@ IsAlwaysMet setup x = (marks : List Mark) → PathOfJob setup marks → AreMet s
 abbrev pub AreAlwaysMet : Setup → VarId → Type 0
 AreAlwaysMet setup v = (f : Flag) → IsAlwaysMet setup (record { variable = v; flag = f })
 
--- each need of the flag is always met, memory is wanting, or a need isn't met on some path of these letters
+-- each need of the flag is always met, memory is wanting, or a need isn't met on some path of these
+-- letters
 abbrev pub Follows : {X : Type 0} → Setup → Followed → Result X WitnessStop → Type 0
 Follows setup x (Ok y) = IsAlwaysMet setup x
 Follows setup x (Err Memory) = Unit {0}

@@ -11,6 +11,7 @@ use cx_plan::{Bin, Job, Tree};
 use cx_text::Memory;
 use std::alloc::Global;
 
+/// Marks one item; nothing happens beyond the end of the marks.
 fn mark(marks: &mut [bool], item: u32)
     ensures { Marks (item ∷ []) marks.old marks.new }
 {
@@ -34,6 +35,7 @@ fn mark_tree(marks: &mut [bool], tree: &Tree)
     }
 }
 
+/// Marks the items that trees call.
 #[cycle(tree)]
 fn mark_trees(marks: &mut [bool], trees: &[Tree])
     ensures { Marks (flat_map called trees.now) marks.old marks.new }
@@ -43,6 +45,7 @@ fn mark_trees(marks: &mut [bool], trees: &[Tree])
     }
 }
 
+/// Marks the items that one bin calls.
 fn mark_bin(marks: &mut [bool], job: &Job, number: usize)
     ensures { Marks (called (bin (setup_of job.now) number)) marks.old marks.new }
 {
@@ -51,6 +54,7 @@ fn mark_bin(marks: &mut [bool], job: &Job, number: usize)
     }
 }
 
+/// Marks the items that the bins of a run call.
 fn mark_bins(marks: &mut [bool], job: &Job)
     ensures { Marks (run_items (setup_of job.now)) marks.old marks.new }
 {

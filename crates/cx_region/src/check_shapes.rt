@@ -6,8 +6,9 @@ ghost use Rattle.cx_text.specs.Telling.{Tells};
 ghost use Rattle.cx_plan.specs.Setups.{setup_of};
 ghost use Rattle.cx_plan.specs.Lookups.{variable, item};
 ghost use Rattle.cx_plan.specs.Regions.{has_shape};
-ghost use Rattle.cx_region.specs.Marks.{is_marked, AreRunItems};
+ghost use Rattle.cx_region.specs.Marks.{AreRunItems};
 ghost use Rattle.cx_region.specs.Shapes.{lacks_shape, first_shapeless, first_written, no_shape, shape_fault};
+ghost use Rattle.cx_plan.specs.Lists.{is_marked};
 
 use crate::RegionFault;
 use crate::called::called_items;
@@ -16,6 +17,7 @@ use cx_plan::{Item, Job, Touch};
 use cx_text::{Memory, Text};
 use std::alloc::Global;
 
+/// Whether an item is marked; none beyond the end of the marks is.
 fn is_marked(marks: &[bool], number: usize) -> bool
     ensures { result ≡ is_marked marks.now number }
 {
@@ -25,6 +27,7 @@ fn is_marked(marks: &[bool], number: usize) -> bool
     }
 }
 
+/// Whether an item is called and has no shape of the table.
 fn lacks_shape(job: &Job, is_called: bool, item: &Item) -> bool
     ensures { result ≡ (is_called && not (has_shape (setup_of job.now) item.now)) }
 {
@@ -55,6 +58,7 @@ fn first_written<'a>(job: &'a Job, writes: &[Touch]) -> &'a [u8]
     }
 }
 
+/// The fault of an item without a shape: its path and the first variable that it writes.
 fn no_shape(alloc: Global, job: &Job, item: &Item) -> Result<RegionFault, Memory>
     ensures { IfOk result (λ fault. fault ≡ no_shape (setup_of job.now) item.now) }
 {

@@ -19,6 +19,7 @@ use cx_plan::{Bin, Job, Tree};
 use cx_text::Memory;
 use std::alloc::Global;
 
+/// Follows ways through one bin, if the job has items in it.
 fn follow_bin<'a>(
     alloc: Global,
     job: &'a Job,
@@ -46,6 +47,7 @@ fn follow_bin<'a>(
     }
 }
 
+/// Follows ways through these bins, one after another.
 fn follow_bins<'a>(
     alloc: Global,
     job: &'a Job,
@@ -83,6 +85,7 @@ fn output_if_any<'a>(
     Ok(ways)
 }
 
+/// Follows ways through the ANALYSIS bin, and then through the output.
 fn follow_analysis<'a>(
     alloc: Global,
     job: &'a Job,
@@ -148,6 +151,7 @@ fn follow_checkpoint<'a>(
     Ok(join(alloc, followed, passed, taken)?)
 }
 
+/// Follows ways through iteration 0.
 fn follow_start<'a>(
     alloc: Global,
     job: &'a Job,
@@ -175,6 +179,7 @@ fn begun<'a>(alloc: Global, job: &'a Job, ways: &[Witness]) -> Result<Vec<Witnes
     take_all(alloc, job, inside, Step::Rotate)
 }
 
+/// Follows ways through one later iteration, from its rotation to its output.
 fn follow_iteration<'a>(
     alloc: Global,
     job: &'a Job,
@@ -215,6 +220,7 @@ fn follow_iterations<'a>(
     }
 }
 
+/// Follows ways through the whole job: its start, its iterations and its end.
 fn follow_all<'a>(
     alloc: Global,
     job: &'a Job,

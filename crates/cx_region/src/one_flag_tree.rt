@@ -111,6 +111,7 @@ pub(crate) fn follow_tree<'a>(
     }
 }
 
+/// Follows ways through trees, one after another.
 #[cycle(tree)]
 fn follow_trees<'a>(
     alloc: Global,
@@ -152,6 +153,7 @@ fn follow_work<'a>(
     follow_tree(alloc, job, search, inside, work)
 }
 
+/// Follows ways through an `IF`: those that take its work, and those that pass it by.
 #[cycle(tree)]
 fn follow_if<'a>(
     alloc: Global,
@@ -197,6 +199,7 @@ fn follow_while<'a>(
     }
 }
 
+/// Follows ways through a `WHILE` that has no pass or one.
 #[cycle(tree)]
 fn turn_once<'a>(
     alloc: Global,

@@ -120,7 +120,7 @@ impl Witness {
         Ok(Witness { letters, flags })
     }
 
-    /// The same way again.
+    /// A copy of the way with its flags.
     pub(crate) fn copy(&self, alloc: Global) -> Result<Self, Memory>
         ensures { IfOk result (λ way. way ≡ self.now) }
     {

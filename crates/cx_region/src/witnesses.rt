@@ -41,7 +41,7 @@ pub(crate) fn with_letter(mut ways: Vec<Witness>, letter: u8) -> Result<Vec<Witn
     Ok(ways)
 }
 
-/// The same ways again.
+/// Copies of ways in their order, with their flags.
 pub(crate) fn copies(alloc: Global, ways: &[Witness]) -> Result<Vec<Witness>, Memory>
     ensures { IfOk result (λ new. new.items ≡ ways.now) }
 {

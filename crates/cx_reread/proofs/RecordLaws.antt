@@ -32,7 +32,8 @@ printable : (bs : List ℕ) → All (λ b. (33 ≤ b) × (b ≤ 126)) bs → lis
 printable [] all = refl
 printable (b ∷ bs) all =
     let h = All-head (λ (c : ℕ). (33 ≤ c) × (c ≤ 126)) b bs all in
-    and_from (is_printable b) (list_all is_printable bs) (and_from (nat_le 33 b) (nat_le b 126) (le-leb 33 b h.0) (le-leb b 126 h.1))
+    and_from (is_printable b) (list_all is_printable bs)
+    (and_from (nat_le 33 b) (nat_le b 126) (le-leb 33 b h.0) (le-leb b 126 h.1))
     (printable bs (All-tail (λ (c : ℕ). (33 ≤ c) × (c ≤ 126)) b bs all))
 
 named : (full : List ℕ) → IsName full → is_name full ≡ true
@@ -56,27 +57,37 @@ module _ (job : Job) (job_is : IsWhole job) (laws : Laws) where
   abbrev setup : Setup
   setup = setup_of job
 
-  head_of : (v : VarId) (n : ℕ) (text : List ℕ) (state : State) → IsText job v n text state → IsHead (variable setup v).full n
+  head_of : (v : VarId) (n : ℕ) (text : List ℕ) (state : State) → IsText job v n text state
+      → IsHead (variable setup v).full n
   head_of v n text state is =
       record {
-        named = named (variable setup v).full (All-get_or (λ (i : VarInfo). IsName i.full) job.vars v.0 no_variable is.stored.0 job_is.names);
+        named = named (variable setup v).full
+            (All-get_or (λ (i : VarInfo). IsName i.full)
+            job.vars v.0 no_variable is.stored.0 job_is.names);
         small = few n job.itlast is.within job_is.itlast_limit;
       }
 
-  one_spelled : (v : VarId) (n : ℕ) (text : List ℕ) (state : State) → IsText job v n text state → IsState setup state → Spells text (record_of setup n state v ∷ [])
+  one_spelled : (v : VarId) (n : ℕ) (text : List ℕ) (state : State) → IsText job v n text state
+      → IsState setup state → Spells text (record_of setup n state v ∷ [])
   one_spelled v n text state is whole_state =
       subst (λ (t : List ℕ). Spells t (record_of setup n state v ∷ [])) (sym is.text)
       (by (is_scalar setup v) (whole_state.numbers v 0 is.stored.0 is.stored.1))
     where
-      by : (scalar : Bool) → length (level_of state v 0) ≡ (if scalar then 1 else point_count (whole setup.shape))
-          → Spells (if scalar then line (variable setup v).full n (scalar_of state v) else section (variable setup v).full n setup.shape (level_of state v 0))
-          ((if scalar then value_record (variable setup v).full n (scalar_of state v) else level_record (variable setup v).full n setup.shape (level_of state v 0)) ∷ [])
-      by true count = laws.lines (variable setup v).full n (scalar_of state v) (head_of v n text state is) (scalar_small state v is.small)
+      by : (scalar : Bool) → length (level_of state v 0)
+          ≡ (if scalar then 1 else point_count (whole setup.shape))
+          → Spells (if scalar then line (variable setup v).full n (scalar_of state v)
+          else section (variable setup v).full n setup.shape (level_of state v 0))
+          ((if scalar then value_record (variable setup v).full n (scalar_of state v)
+          else level_record (variable setup v).full n setup.shape (level_of state v 0)) ∷ [])
+      by true count = laws.lines (variable setup v).full n (scalar_of state v)
+          (head_of v n text state is) (scalar_small state v is.small)
       by false count =
-          laws.sections (variable setup v).full n setup.shape (level_of state v 0) (head_of v n text state is) job_is.shape count
+          laws.sections (variable setup v).full n setup.shape (level_of state v 0)
+          (head_of v n text state is) job_is.shape count
           (recursion_from_All IsSmall (level_of state v 0) (level_small state v 0 is.small))
 
-  entry_spelled : (e : Entry) → IsTold job e → IsState setup (state_before e) → Spells (text_added e) (records_added setup e)
+  entry_spelled : (e : Entry) → IsTold job e → IsState setup (state_before e)
+      → Spells (text_added e) (records_added setup e)
   entry_spelled (Turned k n state) told is = nothing_spelled
   entry_spelled (Overflowed k n state) told is = nothing_spelled
   entry_spelled (Exchanged vars path state) told is = nothing_spelled
@@ -85,7 +96,8 @@ module _ (job : Job) (job_is : IsWhole job) (laws : Laws) where
   entry_spelled (Saved n state) told is = nothing_spelled
   entry_spelled (Wrote v n text state) told is = one_spelled v n text state told is
 
-  all_spelled : (es : List Entry) → Each (IsTold job) es → All (λ e. IsState setup (state_before e)) es → Spells (output_of es) (records_of setup es)
+  all_spelled : (es : List Entry) → Each (IsTold job) es
+      → All (λ e. IsState setup (state_before e)) es → Spells (output_of es) (records_of setup es)
   all_spelled [] told are = nothing_spelled
   all_spelled (e ∷ es) told are =
       laws.joined (text_added e) (output_of es) (records_added setup e) (records_of setup es)
@@ -94,4 +106,5 @@ module _ (job : Job) (job_is : IsWhole job) (laws : Laws) where
 
   pub is_reread : (rules : List Rule) → KeepsStates setup rules → IsReread setup rules
   is_reread rules keeps =
-      all_spelled (undivided_run setup rules).entries (run_told job job_is.outputs rules) (keeps.run (start setup) keeps.begins)
+      all_spelled (undivided_run setup rules).entries (run_told job job_is.outputs rules)
+      (keeps.run (start setup) keeps.begins)

@@ -13,8 +13,10 @@ use Rattle.cx_restart.specs.Restarts.{Start, IsStart, GoesOn, MayLeave, BeginsOn
 
 -- a trail of one job is one of a job with the same run and key, by the same routines
 trail_of_other :
-    (a b : Job) (one other : List Rule) (image : Files) → setup_of a ≡ setup_of b → a.key ≡ b.key → one ≡ other
-    → IsTrail (course_of (setup_of a) a.key one) image → IsTrail (course_of (setup_of b) b.key other) image
+    (a b : Job) (one other : List Rule) (image : Files) → setup_of a ≡ setup_of b → a.key ≡ b.key
+    → one ≡ other
+    → IsTrail (course_of (setup_of a) a.key one) image
+    → IsTrail (course_of (setup_of b) b.key other) image
 trail_of_other a b one other image setup key rules trail =
     let first = subst (λ (s : Setup). IsTrail (course_of s a.key one) image) setup trail in
     let second = subst (λ (k : List ℕ). IsTrail (course_of (setup_of b) k one) image) key first in
@@ -31,9 +33,11 @@ left_is_trail s is trails image left =
     [ inl past ↦ trails image (is.view.only_now image past) | inr then ↦ then.trail ]
 
 -- so the next start is on trails
-next_on_trails : (before after : Start) → IsStart before → GoesOn before after → BeginsOnTrails before → BeginsOnTrails after
+next_on_trails : (before after : Start) → IsStart before → GoesOn before after
+    → BeginsOnTrails before → BeginsOnTrails after
 next_on_trails before after is on trails image now =
-    trail_of_other before.job after.job before.call.work.rules after.call.work.rules image on.job.setup on.job.key on.rules
+    trail_of_other before.job after.job before.call.work.rules after.call.work.rules image
+    on.job.setup on.job.key on.rules
     (left_is_trail before is trails image (on.disk image now))
 
 -- what a start has of the first one
@@ -64,13 +68,17 @@ ends_alike first last is f =
     record {
       output = λ ended.
           let out = leaves.output ended in
-          let one = subst (λ (s : Setup). HasOutput (output s rules) last.call.work.disk.new) (sym f.setup) out in
-          subst (λ (rs : List Rule). HasOutput (output (setup_of first.job) rs) last.call.work.disk.new) (sym f.rules) one;
+          let one = subst (λ (s : Setup). HasOutput (output s rules) last.call.work.disk.new)
+          (sym f.setup) out in
+          subst (λ (rs : List Rule).
+          HasOutput (output (setup_of first.job) rs) last.call.work.disk.new) (sym f.rules) one;
       done = λ zero_.
-          let one = subst (λ (s : Setup). end_of s rules ≡ Done) (sym f.setup) (leaves.done zero_) in
+          let one = subst (λ (s : Setup). end_of s rules ≡ Done) (sym f.setup) (leaves.done zero_)
+          in
           subst (λ (rs : List Rule). end_of (setup_of first.job) rs ≡ Done) (sym f.rules) one;
       ended = λ three.
-          let one = subst (λ (s : Setup). end_of s rules ≢ Done) (sym f.setup) (leaves.ended three) in
+          let one = subst (λ (s : Setup). end_of s rules ≢ Done) (sym f.setup) (leaves.ended three)
+          in
           subst (λ (rs : List Rule). end_of (setup_of first.job) rs ≢ Done) (sym f.rules) one;
       work = leaves.work;
     }
@@ -80,4 +88,5 @@ pub restarts_end :
     → ((n : ℕ) → n < times → GoesOn (start n) (start (suc n))) → BeginsOnTrails (start 0)
     → EndsAlike (start 0) (start times)
 restarts_end start times is on trails =
-    ends_alike (start 0) (start times) (is times (omega arith)) (follows start times is on trails times (omega arith))
+    ends_alike (start 0) (start times) (is times (omega arith))
+    (follows start times is on trails times (omega arith))

@@ -1,4 +1,5 @@
--- A run that is stopped and started again: what each start was handed, and what the last one leaves.
+-- A run that is stopped and started again: what each start was handed, and what the last one
+-- leaves.
 use Rattle.std.specs.Prelude.{◌≡◌, ◌≢◌, ℕ, List}
 use Rattle.cx_disk.specs.Disk.{Files, IsView}
 use Rattle.cx_plan.specs.Setups.{setup_of}
@@ -29,8 +30,8 @@ pub record IsStart (s : Start) : Type 0 where
 abbrev pub MayLeave : Start → Files → Type 0
 MayLeave s image = s.call.work.disk.new.left_since s.call.work.disk.old.moment image
 
--- One start after another: of a job with the same run and key, with the same routines, on a disk that a crash may have left of the one
--- before.
+-- One start after another: of a job with the same run and key, with the same routines, on a disk
+-- that a crash may have left of the one before.
 pub record GoesOn (before after : Start) : Type 0 where
   pub job : HaveOneRun before.job after.job
   pub rules : before.call.work.rules ≡ after.call.work.rules
@@ -40,8 +41,8 @@ pub record GoesOn (before after : Start) : Type 0 where
 abbrev pub BeginsOnTrails : Start → Type 0
 BeginsOnTrails s = WereTrails s.call.work s.job
 
--- Where the last start comes to an end, it leaves the output of the first one's undivided run, and its end is that run's; where it is
--- done, what it computed and exchanged is what was left to do.
+-- Where the last start comes to an end, it leaves the output of the first one's undivided run, and
+-- its end is that run's; where it is done, what it computed and exchanged is what was left to do.
 pub record EndsAlike (first last : Start) : Type 0 where
   pub output : IsEnd last.status
       → HasOutput (output (setup_of first.job) first.call.work.rules) last.call.work.disk.new

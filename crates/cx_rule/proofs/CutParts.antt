@@ -14,7 +14,8 @@ record Span (n g low high : ℤ) : Type 0 where
   some : low <ℤ high
   wide : (low +ℤ g) ≤ℤ high
 
-span : (n g : ℤ) (ws : List ℕ) (a : ℕ) → IsAxisCut n g ws → a < length ws → Span n g (own_low ws a) (own_high ws a)
+span : (n g : ℤ) (ws : List ℕ) (a : ℕ) → IsAxisCut n g ws → a < length ws
+    → Span n g (own_low ws a) (own_high ws a)
 span n g ws a w l =
     let more = start_more ws a l in
     let end = start_le ws (suc a) in
@@ -28,7 +29,8 @@ span n g ws a w l =
       wide = omega (arith, ints, more, wide);
     }
 
-pub part_is : (c : Parts) → IsWhole c → (k : ℕ) → k < part_count c → IsPart c.shape (owned c k) (local c k)
+pub part_is : (c : Parts) → IsWhole c → (k : ℕ) → k < part_count c
+    → IsPart c.shape (owned c k) (local c k)
 part_is c w k hk =
     let x = span _ _ c.x _ w.cut.x (place_below c k hk 0 (omega arith)) in
     let y = span _ _ c.y _ w.cut.y (place_below c k hk 1 (omega arith)) in

@@ -13,7 +13,8 @@ use Rattle.cx_rule.specs.Patches.{PatchValue, IsPatch, IsGridLevel, setup_in, nu
 use Rattle.cx_rule.specs.Filling.{IsAlike}
 use Rattle.cx_rule.proofs.NumberLaws.{var_below, level_below, stored_grid, grid_size, written_patch, same_sizes, level_same, level_other}
 
-module _ (p : PatchValue) (v : VarId) (l : ℕ) (x : Point) (a : ℤ) (s : IsPatch p) (g : IsGridLevel p v l) where
+module _ (p : PatchValue) (v : VarId) (l : ℕ) (x : Point) (a : ℤ) (s : IsPatch p)
+    (g : IsGridLevel p v l) where
   abbrev q : PatchValue
   q = with_number p v l x a
 
@@ -26,7 +27,8 @@ module _ (p : PatchValue) (v : VarId) (l : ℕ) (x : Point) (a : ℤ) (s : IsPat
   at_level : level_of q.numbers v l ≡ written
   at_level = level_same p.numbers v l written var (level_below p s v l (stored_grid p v l g))
 
-  elsewhere : (u : VarId) (m : ℕ) → (u.0 ≡ v.0 → ⊥) ⊎ (m ≡ l → ⊥) → level_of q.numbers u m ≡ level_of p.numbers u m
+  elsewhere : (u : VarId) (m : ℕ) → (u.0 ≡ v.0 → ⊥) ⊎ (m ≡ l → ⊥)
+      → level_of q.numbers u m ≡ level_of p.numbers u m
   elsewhere u m h = level_other p.numbers v l written var u m h
 
   pub number_patch : IsPatch q
@@ -38,8 +40,10 @@ module _ (p : PatchValue) (v : VarId) (l : ℕ) (x : Point) (a : ℤ) (s : IsPat
   pub number_alike : IsAlike p q
   number_alike = record {
     frame = refl;
-    sized = same_sizes p.numbers v l written (length-set (level_of p.numbers v l) (index_in p.local x) a);
-    scalars = λ u h. ap (λ ns. slice_index_or ns 0 (pos 0)) (elsewhere u 0 (inl (scalar_apart u h)));
+    sized = same_sizes p.numbers v l written
+        (length-set (level_of p.numbers v l) (index_in p.local x) a);
+    scalars = λ u h. ap (λ ns. slice_index_or ns 0 (pos 0))
+        (elsewhere u 0 (inl (scalar_apart u h)));
   }
 
   module _ (h : IsIn p.local x) where
@@ -51,18 +55,26 @@ module _ (p : PatchValue) (v : VarId) (l : ℕ) (x : Point) (a : ℤ) (s : IsPat
         ap (λ ns. slice_index_or ns (index_in p.local x) (pos 0)) at_level
         ∙ get_or-set_same (level_of p.numbers v l) (index_in p.local x) a (pos 0) there
 
-    by_place : (u : VarId) (m : ℕ) (y : Point) → IsIn p.local y → (y ≡ x → ⊥) → (u.0 ≡ v.0) ⊎ (u.0 ≡ v.0 → ⊥) → (m ≡ l) ⊎ (m ≡ l → ⊥)
+    by_place : (u : VarId) (m : ℕ) (y : Point) → IsIn p.local y → (y ≡ x → ⊥)
+        → (u.0 ≡ v.0) ⊎ (u.0 ≡ v.0 → ⊥) → (m ≡ l) ⊎ (m ≡ l → ⊥)
         → number_at q u m y ≡ number_at p u m y
     by_place u m y i e (inl r) (inl t) =
-        let apart : index_in p.local y ≡ index_in p.local x → ⊥ = λ r. e (index_once p.local y x i h r) in
+        let apart : index_in p.local y ≡ index_in p.local x
+        → ⊥ = λ r. e (index_once p.local y x i h r) in
         rw (r, t) (
         ap (λ ns. slice_index_or ns (index_in p.local y) (pos 0)) at_level
-        ∙ get_or-set_other (level_of p.numbers v l) (index_in p.local x) (index_in p.local y) a (pos 0) apart)
-    by_place u m y i e (inr r) t = ap (λ ns. slice_index_or ns (index_in p.local y) (pos 0)) (elsewhere u m (inl r))
-    by_place u m y i e (inl r) (inr t) = ap (λ ns. slice_index_or ns (index_in p.local y) (pos 0)) (elsewhere u m (inr t))
+        ∙ get_or-set_other (level_of p.numbers v l) (index_in p.local x) (index_in p.local y) a
+        (pos 0) apart)
+    by_place u m y i e (inr r) t =
+        ap (λ ns. slice_index_or ns (index_in p.local y) (pos 0)) (elsewhere u m (inl r))
+    by_place u m y i e (inl r) (inr t) =
+        ap (λ ns. slice_index_or ns (index_in p.local y) (pos 0)) (elsewhere u m (inr t))
 
-    pub number_other : (u : VarId) (m : ℕ) (y : Point) → IsIn p.local y → (u.0 ≡ v.0 → ⊥) ⊎ ((m ≡ l → ⊥) ⊎ (y ≡ x → ⊥))
+    pub number_other : (u : VarId) (m : ℕ) (y : Point) → IsIn p.local y
+        → (u.0 ≡ v.0 → ⊥) ⊎ ((m ≡ l → ⊥) ⊎ (y ≡ x → ⊥))
         → number_at q u m y ≡ number_at p u m y
-    number_other u m y i (inl e) = ap (λ ns. slice_index_or ns (index_in p.local y) (pos 0)) (elsewhere u m (inl e))
-    number_other u m y i (inr (inl e)) = ap (λ ns. slice_index_or ns (index_in p.local y) (pos 0)) (elsewhere u m (inr e))
+    number_other u m y i (inl e) =
+        ap (λ ns. slice_index_or ns (index_in p.local y) (pos 0)) (elsewhere u m (inl e))
+    number_other u m y i (inr (inl e)) =
+        ap (λ ns. slice_index_or ns (index_in p.local y) (pos 0)) (elsewhere u m (inr e))
     number_other u m y i (inr (inr e)) = by_place u m y i e (cases_eq u.0 v.0) (cases_eq m l)

@@ -20,7 +20,8 @@ pub record IsAround (n g a b low high : ℤ) : Type 0 where
   pub high_from : b ≤ℤ high
   pub high_to : high ≤ℤ (b +ℤ g)
 
-pub around : (ring : Bool) (n g a b : ℤ) → pos 0 ≤ℤ g → pos 0 ≤ℤ a → b ≤ℤ n → IsAround n g a b (widened_from ring g a) (widened_to ring n g b)
+pub around : (ring : Bool) (n g a b : ℤ) → pos 0 ≤ℤ g → pos 0 ≤ℤ a → b ≤ℤ n
+    → IsAround n g a b (widened_from ring g a) (widened_to ring n g b)
 around true n g a b ghosts from to = record {
   low_from = omega (arith, ints, ghosts);
   low_to = omega (arith, ints, ghosts);
@@ -35,7 +36,8 @@ around false n g a b ghosts from to = record {
 }
 
 -- a local span is at most three times as long as the owned one
-pub three : (n g a b low high : ℤ) → IsAround n g a b low high → a <ℤ b → (a +ℤ g) ≤ℤ b → int_gap low high ≤ 3 * int_gap a b
+pub three : (n g a b low high : ℤ) → IsAround n g a b low high → a <ℤ b → (a +ℤ g) ≤ℤ b
+    → int_gap low high ≤ 3 * int_gap a b
 three n g a b low high r some wide =
     let own : a ≤ℤ b = omega (arith, ints, some) in
     let all : low ≤ℤ high = omega (arith, ints, some, r.low_to, r.high_from) in
@@ -61,14 +63,20 @@ cubed : (x y z : ℕ) → 3 * x * (3 * y) * (3 * z) ≡ 27 * (x * y * z)
 cubed x y z = grind arith
 
 module _ (s : Shape) (own loc : Box3) (h : IsPart s own loc) where
-  pub around_x : IsAround s.n.x s.ghost_.x own.low.x own.high.x (widened s own.low own.high).low.x (widened s own.low own.high).high.x
-  around_x = around (is_periodic s 0) s.n.x s.ghost_.x own.low.x own.high.x h.shape.x.least_ghosts h.x.from h.x.to
+  pub around_x : IsAround s.n.x s.ghost_.x own.low.x own.high.x (widened s own.low own.high).low.x
+      (widened s own.low own.high).high.x
+  around_x = around (is_periodic s 0)
+      s.n.x s.ghost_.x own.low.x own.high.x h.shape.x.least_ghosts h.x.from h.x.to
 
-  pub around_y : IsAround s.n.y s.ghost_.y own.low.y own.high.y (widened s own.low own.high).low.y (widened s own.low own.high).high.y
-  around_y = around (is_periodic s 1) s.n.y s.ghost_.y own.low.y own.high.y h.shape.y.least_ghosts h.y.from h.y.to
+  pub around_y : IsAround s.n.y s.ghost_.y own.low.y own.high.y (widened s own.low own.high).low.y
+      (widened s own.low own.high).high.y
+  around_y = around (is_periodic s 1)
+      s.n.y s.ghost_.y own.low.y own.high.y h.shape.y.least_ghosts h.y.from h.y.to
 
-  pub around_z : IsAround s.n.z s.ghost_.z own.low.z own.high.z (widened s own.low own.high).low.z (widened s own.low own.high).high.z
-  around_z = around (is_periodic s 2) s.n.z s.ghost_.z own.low.z own.high.z h.shape.z.least_ghosts h.z.from h.z.to
+  pub around_z : IsAround s.n.z s.ghost_.z own.low.z own.high.z (widened s own.low own.high).low.z
+      (widened s own.low own.high).high.z
+  around_z = around (is_periodic s 2)
+      s.n.z s.ghost_.z own.low.z own.high.z h.shape.z.least_ghosts h.z.from h.z.to
 
   widened_box : IsBox (widened s own.low own.high)
   widened_box = record {
@@ -82,7 +90,8 @@ module _ (s : Shape) (own loc : Box3) (h : IsPart s own loc) where
 
   own_few : point_count own ≤ 2 ^ 24
   own_few =
-      let p = product (extent own 0) (extent own 1) (extent own 2) (extent (whole s) 0) (extent (whole s) 1) (extent (whole s) 2)
+      let p = product (extent own 0) (extent own 1) (extent own 2) (extent (whole s) 0)
+      (extent (whole s) 1) (extent (whole s) 2)
       (own_gap s.n.x own.low.x own.high.x h.x.from h.x.to h.x.some)
       (own_gap s.n.y own.low.y own.high.y h.y.from h.y.to h.y.some)
       (own_gap s.n.z own.low.z own.high.z h.z.from h.z.to h.z.some) in
@@ -91,7 +100,8 @@ module _ (s : Shape) (own loc : Box3) (h : IsPart s own loc) where
   widened_small : IsSmall (widened s own.low own.high)
   widened_small =
       let w = widened s own.low own.high in
-      let p = product (extent w 0) (extent w 1) (extent w 2) (3 * extent own 0) (3 * extent own 1) (3 * extent own 2)
+      let p = product (extent w 0) (extent w 1) (extent w 2) (3 * extent own 0) (3 * extent own 1)
+      (3 * extent own 2)
       (three s.n.x s.ghost_.x own.low.x own.high.x _ _ around_x h.x.some h.x.wide)
       (three s.n.y s.ghost_.y own.low.y own.high.y _ _ around_y h.y.some h.y.wide)
       (three s.n.z s.ghost_.z own.low.z own.high.z _ _ around_z h.z.some h.z.wide) in
@@ -107,13 +117,22 @@ zero_sizes zero xs = refl
 zero_sizes (suc n) xs = ap (λ (ls : List ℕ). length xs ∷ ls) (zero_sizes n xs)
 
 pub zeros_sized : (b : Box3) (vars : List VarInfo)
-    → map (map length) (map (zeros b) vars) ≡ map (λ (v : VarInfo). replicate v.levels (number_count b v)) vars
+    → map (map length) (map (zeros b) vars)
+    ≡ map (λ (v : VarInfo). replicate v.levels (number_count b v)) vars
 zeros_sized b [] = refl
 zeros_sized b (v ∷ vs) =
     let e : map length (zeros b v) ≡ replicate v.levels (number_count b v) =
-    zero_sizes v.levels (replicate (number_count b v) (pos 0)) ∙ ap (λ k. replicate v.levels k) (length-replicate (number_count b v) (pos 0)) in
+    zero_sizes v.levels (replicate (number_count b v) (pos 0))
+    ∙ ap (λ k. replicate v.levels k) (length-replicate (number_count b v) (pos 0)) in
     rw (e, zeros_sized b vs) refl
 
-pub new_patch_is : (s : Shape) (own loc : Box3) (vars : List VarInfo) → IsPart s own loc → IsPatch (bare s own loc vars (map (zeros loc) vars))
+pub new_patch_is : (s : Shape) (own loc : Box3) (vars : List VarInfo) → IsPart s own loc
+    → IsPatch (bare s own loc vars (map (zeros loc) vars))
 new_patch_is s own loc vars h =
-    record { part = h; box = local_box s own loc h; small = local_small s own loc h; sized = zeros_sized loc vars; buffers = refl }
+    record {
+      part = h;
+      box = local_box s own loc h;
+      small = local_small s own loc h;
+      sized = zeros_sized loc vars;
+      buffers = refl;
+    }

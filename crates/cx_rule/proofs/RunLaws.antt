@@ -23,7 +23,14 @@ pub local_wide : (p : PatchValue) → IsPatch p → 0 < extent p.local 0
 local_wide p s =
     let r = spans p.shape p.owned p.local s.part 0 (omega arith) in
     let o = s.part.x.some in
-    omega (arith, ints, r.low, o, r.high, gap_up p.local.low.x p.local.high.x (omega (arith, ints, r.low, o, r.high)))
+    omega (
+      arith,
+      ints,
+      r.low,
+      o,
+      r.high,
+      gap_up p.local.low.x p.local.high.x (omega (arith, ints, r.low, o, r.high)),
+    )
 
 pub rows_by : (x y z : ℕ) → 0 < x → x * y * z / x ≡ y * z
 rows_by x y z h = ap (λ n. n / x) (mul_assoc x y z) ∙ mul-div_cancel_left (y * z) h
@@ -45,11 +52,13 @@ row_next row x =
 
 pub rows_all : (b : Box3) (k : ℕ) → k ≡ row_count b → k * extent b 0 ≡ point_count b
 rows_all b k e =
-    ap (λ n. n * extent b 0) e ∙ mul_comm (extent b 1 * extent b 2) (extent b 0) ∙ sym (mul_assoc (extent b 0) (extent b 1) (extent b 2))
+    ap (λ n. n * extent b 0) e ∙ mul_comm (extent b 1 * extent b 2) (extent b 0)
+    ∙ sym (mul_assoc (extent b 0) (extent b 1) (extent b 2))
 
 -- ---- offsets
 
-pub offset_is : (b : Box3) (c : ℤ) (at : ℕ) → b.low.x ≤ℤ b.high.x → at ≡ int_gap b.low.x (int_min (int_max c b.low.x) b.high.x) → IsOffset b c at
+pub offset_is : (b : Box3) (c : ℤ) (at : ℕ) → b.low.x ≤ℤ b.high.x
+    → at ≡ int_gap b.low.x (int_min (int_max c b.low.x) b.high.x) → IsOffset b c at
 offset_is b c at h e =
     let over : b.low.x ≤ℤ int_min (int_max c b.low.x) b.high.x = omega (arith, ints, clamps, h) in
     let under : int_min (int_max c b.low.x) b.high.x ≤ℤ b.high.x = omega (arith, ints, clamps) in
@@ -67,7 +76,8 @@ module _ (part b : Box3) (low : Point) (start : low.x ≡ b.low.x) where
   abbrev in_rows : Bool
   in_rows = is_on part.low.y part.high.y low.y && is_on part.low.z part.high.z low.z
 
-  pub span_is : (from to high : ℕ) → in_rows ≡ true → IsOffset b part.low.x from → IsOffset b part.high.x to → high ≡ max to from
+  pub span_is : (from to high : ℕ) → in_rows ≡ true → IsOffset b part.low.x from
+      → IsOffset b part.high.x to → high ≡ max to from
       → IsSpan part b low (record { from = from; to = high })
   span_is from to high on f t e = record {
     order = omega (arith, e);
@@ -87,7 +97,8 @@ module _ (part b : Box3) (low : Point) (start : low.x ≡ b.low.x) where
 
       inside : (i : ℕ) → (from ≤ i) × (i < high) → IsIn part (beside low i)
       inside i h =
-          let p = and_parts (is_on part.low.y part.high.y low.y) (is_on part.low.z part.high.z low.z) on in
+          let p = and_parts (is_on part.low.y part.high.y low.y)
+          (is_on part.low.z part.high.z low.z) on in
           let k : i < to = omega (arith, h.0, h.1, e) in
           let m = t.most in
           let l : i < extent b 0 = omega (arith, k, m) in
@@ -95,7 +106,8 @@ module _ (part b : Box3) (low : Point) (start : low.x ≡ b.low.x) where
           record {
             x = record {
               from = omega (arith, ints, start, a);
-              below = by_lt_z (low.x +ℤ pos i) part.high.x (λ r. r) (λ r. absurd (over (t.to i l (omega (arith, ints, r, start))) k));
+              below = by_lt_z (low.x +ℤ pos i) part.high.x (λ r. r)
+                  (λ r. absurd (over (t.to i l (omega (arith, ints, r, start))) k));
             };
             y = on_is part.low.y part.high.y low.y p.0;
             z = on_is part.low.z part.high.z low.z p.1;
@@ -114,13 +126,15 @@ module _ (part b : Box3) (low : Point) (start : low.x ≡ b.low.x) where
     where
       no : (i : ℕ) → IsIn part (beside low i) → ⊥
       no i h =
-          let t : in_rows ≡ true = and_from (is_on part.low.y part.high.y low.y) (is_on part.low.z part.high.z low.z)
+          let t : in_rows ≡ true =
+          and_from (is_on part.low.y part.high.y low.y) (is_on part.low.z part.high.z low.z)
           (on_from part.low.y part.high.y low.y h.y) (on_from part.low.z part.high.z low.z h.z) in
           true≢false (sym t ∙ off)
 
 -- ---- a row of a zone
 
-module _ (b : Box3) (start : ℕ) (order : IsBox b) (wide : 0 < extent b 0) (room : start + extent b 0 ≤ point_count b) (first : start % extent b 0 ≡ 0) where
+module _ (b : Box3) (start : ℕ) (order : IsBox b) (wide : 0 < extent b 0)
+    (room : start + extent b 0 ≤ point_count b) (first : start % extent b 0 ≡ 0) where
   pub starts_row : (point_in b start).x ≡ b.low.x
   starts_row = rw first (omega (arith, ints))
 
@@ -128,12 +142,17 @@ module _ (b : Box3) (start : ℕ) (order : IsBox b) (wide : 0 < extent b 0) (roo
   row_point i l =
       let inside = point_inside b start (omega (arith, wide, room)) in
       let o = order.x in
-      let high : ((point_in b start).x +ℤ pos (extent b 0)) ≤ℤ b.high.x = omega (arith, ints, starts_row, gap_up b.low.x b.high.x o) in
+      let high : ((point_in b start).x +ℤ pos (extent b 0)) ≤ℤ b.high.x =
+      omega (arith, ints, starts_row, gap_up b.low.x b.high.x o) in
       let e : index_in b (beside (point_in b start) i) ≡ start + i =
-      row_index b (point_in b start) i inside.x.from ∙ ap (λ k. k + i) (index_at_point b start (omega (arith, wide, room))) in
-      ap (point_in b) (sym e) ∙ point_at_index b (beside (point_in b start) i) (row_inside b (point_in b start) (extent b 0) i inside high l)
+      row_index b (point_in b start) i inside.x.from
+      ∙ ap (λ k. k + i) (index_at_point b start (omega (arith, wide, room))) in
+      ap (point_in b) (sym e)
+      ∙ point_at_index b (beside (point_in b start) i)
+      (row_inside b (point_in b start) (extent b 0) i inside high l)
 
-  pub runs_are : (zone : Zone) (low : Point) (all hole : Span) (r : Runs) → low ≡ point_in b start → IsSpan zone.all b low all → IsSpan zone.hole b low hole
+  pub runs_are : (zone : Zone) (low : Point) (all hole : Span) (r : Runs) → low ≡ point_in b start
+      → IsSpan zone.all b low all → IsSpan zone.hole b low hole
       → IsBetween all hole r → IsRuns zone b start r
   runs_are zone low all hole r e a h n =
       let am = a.most in
@@ -153,9 +172,11 @@ module _ (b : Box3) (start : ℕ) (order : IsBox b) (wide : 0 < extent b 0) (roo
       to : (i : ℕ) → i < extent b 0 → in_zone zone (point_in b (start + i)) ≡ true → InRuns r i
       to i l z =
           let t : in_zone zone (beside low i) ≡ true = sym (ap (in_zone zone) (here i l)) ∙ z in
-          let p = and_parts (has_point zone.all (beside low i)) (not (has_point zone.hole (beside low i))) t in
+          let p = and_parts (has_point zone.all (beside low i))
+          (not (has_point zone.hole (beside low i))) t in
           n.to i (a.to i l (in_is zone.all (beside low i) p.0))
-          (λ s. not_both (has_point zone.hole (beside low i)) (in_from zone.hole (beside low i) (h.from i s)) p.1)
+          (λ s. not_both (has_point zone.hole (beside low i))
+          (in_from zone.hole (beside low i) (h.from i s)) p.1)
         where
           not_both : (t : Bool) → t ≡ true → not t ≡ true → ⊥
           not_both true u v = absurd cc
@@ -167,10 +188,12 @@ module _ (b : Box3) (start : ℕ) (order : IsBox b) (wide : 0 < extent b 0) (roo
           let am = a.most in
           let l : i < extent b 0 = omega (arith, p.0.1, am) in
           ap (in_zone zone) (here i l)
-          ∙ and_from (has_point zone.all (beside low i)) (not (has_point zone.hole (beside low i))) (in_from zone.all (beside low i) (a.from i p.0))
+          ∙ and_from (has_point zone.all (beside low i)) (not (has_point zone.hole (beside low i)))
+          (in_from zone.all (beside low i) (a.from i p.0))
           (off (has_point zone.hole (beside low i)) refl)
         where
-          off : (t : Bool) → has_point zone.hole (beside low i) ≡ t → not (has_point zone.hole (beside low i)) ≡ true
+          off : (t : Bool) → has_point zone.hole (beside low i) ≡ t
+              → not (has_point zone.hole (beside low i)) ≡ true
           off true u =
               let p = n.from i s in
               let am = a.most in

@@ -7,5 +7,7 @@ only_one (x ∷ []) v h = refl
 only_one (x ∷ y ∷ xs) v h = absurd (omega arith)
 
 -- the cells hold just the number that was set, which is the rule's
-pub single : (xs new : List ℤ) (v w : ℤ) → length xs ≡ 1 → new ≡ slice_set xs 0 v → v ≡ w → Some (w ∷ []) ≡ Some new
-single xs new v w one set same = ap (λ (n : List ℤ). Some n) (sym (set ∙ only_one xs v one ∙ ap (λ (n : ℤ). n ∷ []) same))
+pub single : (xs new : List ℤ) (v w : ℤ) → length xs ≡ 1 → new ≡ slice_set xs 0 v → v ≡ w
+    → Some (w ∷ []) ≡ Some new
+single xs new v w one set same =
+    ap (λ (n : List ℤ). Some n) (sym (set ∙ only_one xs v one ∙ ap (λ (n : ℤ). n ∷ []) same))

@@ -32,21 +32,28 @@ staged_beyond at buffers [] (suc k) h = absurd (omega (arith, h))
 staged_beyond at [] (n ∷ ns) (suc k) h = refl
 staged_beyond at (b ∷ bs) (n ∷ ns) (suc k) h = staged_beyond at bs ns k (omega (arith, h))
 
-pub staged_next : (at : ℕ) (buffers : List (List ℤ)) (ns : List ℤ) (k : ℕ) → k < length ns → k < length buffers
-    → slice_set (staged_at at buffers (take k ns)) k (slice_set (slice_index_or (staged_at at buffers (take k ns)) k []) at (get_or ns k (pos 0)))
+pub staged_next : (at : ℕ) (buffers : List (List ℤ)) (ns : List ℤ) (k : ℕ) → k < length ns
+    → k < length buffers
+    → slice_set (staged_at at buffers (take k ns)) k
+    (slice_set (slice_index_or (staged_at at buffers (take k ns)) k []) at
+    (get_or ns k (pos 0)))
     ≡ staged_at at buffers (take (suc k) ns)
 staged_next at [] ns k h l = absurd (omega (arith, l))
 staged_next at (b ∷ bs) [] k h l = absurd (omega (arith, h))
 staged_next at (b ∷ []) (n ∷ ns) zero h l = refl
 staged_next at (b ∷ c ∷ bs) (n ∷ ns) zero h l = refl
-staged_next at (b ∷ bs) (n ∷ ns) (suc k) h l = ap (λ rest. slice_set b at n ∷ rest) (staged_next at bs ns k (omega (arith, h)) (omega (arith, l)))
+staged_next at (b ∷ bs) (n ∷ ns) (suc k) h l =
+    ap (λ rest. slice_set b at n ∷ rest)
+    (staged_next at bs ns k (omega (arith, h)) (omega (arith, l)))
 
-pub staged_count : (at : ℕ) (buffers : List (List ℤ)) (ns : List ℤ) → length (staged_at at buffers ns) ≡ length buffers
+pub staged_count : (at : ℕ) (buffers : List (List ℤ)) (ns : List ℤ)
+    → length (staged_at at buffers ns) ≡ length buffers
 staged_count at [] ns = refl
 staged_count at (b ∷ bs) [] = refl
 staged_count at (b ∷ bs) (n ∷ ns) = ap suc (staged_count at bs ns)
 
-pub staged_sizes : (at : ℕ) (buffers : List (List ℤ)) (ns : List ℤ) → map length (staged_at at buffers ns) ≡ map length buffers
+pub staged_sizes : (at : ℕ) (buffers : List (List ℤ)) (ns : List ℤ)
+    → map length (staged_at at buffers ns) ≡ map length buffers
 staged_sizes at [] ns = refl
 staged_sizes at (b ∷ bs) [] = refl
 staged_sizes at (b ∷ bs) (n ∷ ns) =
@@ -63,11 +70,13 @@ cleared_sizes (b ∷ bs) =
 
 -- ---- what a routine may be called with
 
-pub touch_reaches : (ts : List Touch) → map (λ (t : Region × ℕ). t.1) (map of_touch ts) ≡ map reach_of ts
+pub touch_reaches : (ts : List Touch)
+    → map (λ (t : Region × ℕ). t.1) (map of_touch ts) ≡ map reach_of ts
 touch_reaches [] = refl
 touch_reaches (t ∷ ts) = ap (λ (rs : List ℕ). t.reach ∷ rs) (touch_reaches ts)
 
-pub want_reaches : (ws : List Want) → map (λ (t : Region × ℕ). t.1) (map of_want ws) ≡ map want_reach ws
+pub want_reaches : (ws : List Want)
+    → map (λ (t : Region × ℕ). t.1) (map of_want ws) ≡ map want_reach ws
 want_reaches [] = refl
 want_reaches (w ∷ ws) = ap (λ (rs : List ℕ). w.reach ∷ rs) (want_reaches ws)
 
@@ -77,8 +86,10 @@ touch_count ts = length-map ts of_touch
 pub want_count : (ws : List Want) → length (map of_want ws) ≡ length ws
 want_count ws = length-map ws of_want
 
-pub can_call : (s : Spec) (x : Item) (setup : Setup) (values : Values) (from y : Point) (iteration : ℕ) (w : Seen) (at : Place) (out : List ℤ)
-    → IsShape setup.shape → IsRoutineOf s x → w ≡ seen_at setup x values from → at ≡ place_at setup x iteration y
+pub can_call : (s : Spec) (x : Item) (setup : Setup) (values : Values) (from y : Point)
+    (iteration : ℕ) (w : Seen) (at : Place) (out : List ℤ)
+    → IsShape setup.shape → IsRoutineOf s x → w ≡ seen_at setup x values from
+    → at ≡ place_at setup x iteration y
     → IsIn (whole setup.shape) at.at → length out ≡ length x.writes → Fits s w at out
 can_call s x setup values from y iteration w at out shape its seen place inside room =
     let same : at.shape ≡ setup.shape = ap (λ (p : Place). p.shape) place in
@@ -87,8 +98,10 @@ can_call s x setup values from y iteration w at out shape its seen place inside 
       point = subst (λ (q : _). IsIn (whole q) at.at) (sym same) inside;
       dims = ap (λ (u : Seen). u.dims) seen ∙ ap (λ (q : _). q.dims) (sym same);
       reads = ap (λ (u : Seen). u.reaches) seen ∙ sym (touch_reaches x.reads)
-          ∙ ap (λ (ts : List (Region × ℕ)). map (λ (t : Region × ℕ). t.1) ts) its.reads ∙ want_reaches s.reads;
+          ∙ ap (λ (ts : List (Region × ℕ)). map (λ (t : Region × ℕ). t.1) ts) its.reads
+          ∙ want_reaches s.reads;
       values = rw seen (seen_count setup values from x.reads);
       params = ap (λ (p : Place). length p.params) place ∙ its.params;
-      writes = room ∙ sym (touch_count x.writes) ∙ ap (λ (ts : List (Region × ℕ)). length ts) its.writes ∙ want_count s.writes;
+      writes = room ∙ sym (touch_count x.writes)
+          ∙ ap (λ (ts : List (Region × ℕ)). length ts) its.writes ∙ want_count s.writes;
     }

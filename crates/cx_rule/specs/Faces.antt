@@ -31,22 +31,25 @@ box_numbers p b vars = flat_map (λ v. numbers_in b (values_in p v 0)) vars
 abbrev pub variable_at : List VarId → ℕ → VarId
 variable_at vars i = slice_index_or vars i (record { 0 = 0 })
 
--- the current levels of these variables have these values at the local points of a box; a variable's values stand behind those of
--- the ones before it
+-- the current levels of these variables have these values at the local points of a box; a
+-- variable's values stand behind those of the ones before it
 abbrev pub IsFilled : PatchValue → List VarId → Box3 → List ℤ → Type 0
 IsFilled p vars b values =
     (i : ℕ) (y : Point) → i < length vars → IsIn b y → IsIn p.local y
-    → values_in p (variable_at vars i) 0 y ≡ slice_index_or values (i * point_count b + index_in b y) (pos 0)
+    → values_in p (variable_at vars i) 0 y
+    ≡ slice_index_or values (i * point_count b + index_in b y) (pos 0)
 
 -- another variable, level or point than those that are filled
 abbrev pub IsKept : List VarId → Box3 → VarId → ℕ → Point → Type 0
 IsKept vars b v level y = (is_among v vars && level == 0 ≡ true) → IsIn b y → ⊥
 
 -- the ghosts of a box are filled, and all else is as before
-pub record Filled (old new : PatchValue) (vars : List VarId) (b : Box3) (values : List ℤ) : Type 0 where
+pub record Filled (old new : PatchValue) (vars : List VarId) (b : Box3)
+    (values : List ℤ) : Type 0 where
   pub frame : with_numbers new old.numbers ≡ old
   pub sized : map (map length) new.numbers ≡ map (map length) old.numbers
   pub filled : IsFilled new vars b values
   pub kept : (v : VarId) (level : ℕ) (y : Point) → IsIn old.local y → IsKept vars b v level y
       → values_in new v level y ≡ values_in old v level y
-  pub scalars : (v : VarId) → is_scalar (setup_in old) v ≡ true → scalar_of new.numbers v ≡ scalar_of old.numbers v
+  pub scalars : (v : VarId) → is_scalar (setup_in old) v ≡ true
+      → scalar_of new.numbers v ≡ scalar_of old.numbers v

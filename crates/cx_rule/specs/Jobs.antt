@@ -20,8 +20,8 @@ of_touch t = (t.region, t.reach)
 abbrev pub of_want : Want → Region × ℕ
 of_want w = (w.region, w.reach)
 
--- an object is that of an item: its thorn and its name in any case, its kind, the regions and reaches of its reads and writes in
--- the item's order, and as many parameters
+-- an object is that of an item: its thorn and its name in any case, its kind, the regions and
+-- reaches of its reads and writes in the item's order, and as many parameters
 pub record IsRoutineOf (s : Spec) (x : Item) : Type 0 where
   pub thorn : IsTrue (same_name s.thorn x.thorn)
   pub name : IsTrue (same_name s.name x.name)
@@ -43,4 +43,5 @@ pub record FitItem (specs : List Spec) (c : Parts) (x : Item) : Type 0 where
 
 -- each item that is run has its object, for the parts of the job's cut
 abbrev pub FitJob : List Spec → Job → Type 0
-FitJob specs job = All (λ i. FitItem specs (parts_of job.shape job.cut) (item (setup_of job) i)) (run_items (setup_of job))
+FitJob specs job = All (λ i. FitItem specs (parts_of job.shape job.cut) (item (setup_of job) i))
+    (run_items (setup_of job))

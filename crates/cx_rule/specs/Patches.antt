@@ -15,9 +15,11 @@ use Rattle.cx_cut.specs.Cuts.{widened}
 use Rattle.cx_rule.specs.Seen.{volumes}
 use Rattle.cx_rule.specs.States.{State, level_of, scalar_of, with_level}
 use Rattle.cx_rule.specs.Sweeps.{Values, reach_of}
+use Rattle.cx_plan.specs.Lists.{greatest}
 
--- Per variable its levels, the current one first: of a grid variable one number for each local point, x fastest, of a scalar one
--- number. `staged` has a buffer for each write, with one number for each local point; the window has room for `room` values.
+-- Per variable its levels, the current one first: of a grid variable one number for each local
+-- point, x fastest, of a scalar one number. `staged` has a buffer for each write, with one number
+-- for each local point; the window has room for `room` values.
 pub record PatchValue : Type 0 where
   pub shape : Shape
   pub owned : Box3
@@ -30,7 +32,15 @@ pub record PatchValue : Type 0 where
 -- a part's numbers with no buffers beside them, and with some
 abbrev pub bare : Shape → Box3 → Box3 → List VarInfo → State → PatchValue
 bare s owned local vars numbers =
-    record { shape = s; owned = owned; local = local; vars = vars; numbers = numbers; staged = []; room = 0 }
+    record {
+      shape = s;
+      owned = owned;
+      local = local;
+      vars = vars;
+      numbers = numbers;
+      staged = [];
+      room = 0;
+    }
 
 abbrev pub with_buffers : PatchValue → List (List ℤ) → ℕ → PatchValue
 with_buffers p staged room = record p { staged = staged; room = room }
@@ -49,11 +59,13 @@ setup_in p =
       out_vars = [];
       chk_every = pos 0;
       on_end = false;
+      steers = [];
     }
 
 -- ---- parts
 
--- a part's own points in a direction: they are of the grid, one at least, and no fewer than the ghost width
+-- a part's own points in a direction: they are of the grid, one at least, and no fewer than the
+-- ghost width
 pub record IsOwnSpan (s : Shape) (owned : Box3) (d : ℕ) : Type 0 where
   pub from : pos 0 ≤ℤ along owned.low d
   pub to : along owned.high d ≤ℤ along s.n d
@@ -104,10 +116,12 @@ pub record IsPatch (p : PatchValue) : Type 0 where
   pub part : IsPart p.shape p.owned p.local
   pub box : IsBox p.local
   pub small : IsSmall p.local
-  pub sized : map (map length) p.numbers ≡ map (λ (v : VarInfo). replicate v.levels (number_count p.local v)) p.vars
+  pub sized : map (map length) p.numbers
+      ≡ map (λ (v : VarInfo). replicate v.levels (number_count p.local v)) p.vars
   pub buffers : map length p.staged ≡ replicate (length p.staged) (point_count p.local)
 
--- the buffers beside a part's numbers: one number for each local point, and room for the numbers of each count of writes
+-- the buffers beside a part's numbers: one number for each local point, and room for the numbers of
+-- each count of writes
 pub record HasBuffers (p : PatchValue) (staged cells : List (List ℤ)) : Type 0 where
   pub buffers : map length staged ≡ replicate (length staged) (point_count p.local)
   pub counts : map length cells ≡ range_with_len 0 (length staged + 1)
@@ -120,7 +134,8 @@ number_at p v level y = slice_index_or (level_of p.numbers v level) (index_in p.
 
 -- what a rule sees: a scalar has its number at each point
 abbrev pub values_in : PatchValue → Values
-values_in p v level y = if is_scalar (setup_in p) v then scalar_of p.numbers v else number_at p v level y
+values_in p v level y = if is_scalar (setup_in p) v then scalar_of p.numbers v
+    else number_at p v level y
 
 -- the point so many places along x
 abbrev pub beside : Point → ℕ → Point
@@ -136,7 +151,8 @@ with_numbers p state = record p { numbers = state }
 -- the patch with one other number
 abbrev pub with_number : PatchValue → VarId → ℕ → Point → ℤ → PatchValue
 with_number p v level y n =
-    with_numbers p (with_level p.numbers v level (slice_set (level_of p.numbers v level) (index_in p.local y) n))
+    with_numbers p (with_level p.numbers v level
+    (slice_set (level_of p.numbers v level) (index_in p.local y) n))
 
 -- the same but for what is staged
 abbrev pub unstaged : PatchValue → PatchValue
@@ -147,10 +163,6 @@ unstaged p = record p { staged = [] }
 -- 0 everywhere
 abbrev pub zeros : Box3 → VarInfo → List (List ℤ)
 zeros b v = replicate v.levels (replicate (number_count b v) (pos 0))
-
-abbrev pub greatest : List ℕ → ℕ
-greatest [] = 0
-greatest (n ∷ ns) = max n (greatest ns)
 
 -- counts stay below 2^32
 abbrev pub capped : ℕ → ℕ
@@ -172,6 +184,7 @@ new_patch s owned local vars items =
       local = local;
       vars = vars;
       numbers = map (zeros local) vars;
-      staged = replicate (capped (greatest (map write_count items))) (replicate (point_count local) (pos 0));
+      staged = replicate (capped (greatest (map write_count items)))
+          (replicate (point_count local) (pos 0));
       room = capped (greatest (map (value_count s.dims) items));
     }

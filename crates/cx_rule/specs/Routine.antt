@@ -15,7 +15,8 @@ Rule = Seen → Place → Option (List ℤ)
 abbrev pub reach_of : Want → ℕ
 reach_of want = want.reach
 
--- the place is one of the grid; the window has the routine's reads, the place its parameters, the cells its writes
+-- the place is one of the grid; the window has the routine's reads, the place its parameters, the
+-- cells its writes
 pub record Fits (s : Spec) (w : Seen) (at : Place) (out : List ℤ) : Type 0 where
   pub shape : IsShape at.shape
   pub point : IsIn (whole at.shape) at.at

@@ -23,8 +23,8 @@ use Rattle.cx_rule.specs.declared.run.Run.{Run}
 use Rattle.cx_rule.specs.declared.spec.Spec.{Spec}
 use Rattle.cx_rule.specs.declared.zone.Zone.{Zone}
 
--- what a rule sees along a row: the grid's directions, each read's reach, how many points the row has, and for each of these what is
--- seen there and its place
+-- what a rule sees along a row: the grid's directions, each read's reach, how many points the row
+-- has, and for each of these what is seen there and its place
 pub record SeenRow : Type 0 where
   pub dims : ℕ
   pub reaches : List ℕ
@@ -46,7 +46,8 @@ offset_from reach y z j = record { x = pos j -ℤ pos reach; y = y; z = z }
 abbrev pub middle : ℤ → ℤ → Point
 middle y z = record { x = pos 0; y = y; z = z }
 
--- numbers along x, which around each point of a row are those that a read shows in a row of its window
+-- numbers along x, which around each point of a row are those that a read shows in a row of its
+-- window
 pub record ShowsAlong (r : SeenRow) (k : ℕ) (y z : ℤ) (ns : List ℤ) : Type 0 where
   pub count : length ns ≡ r.count + 2 * reach_at r k
   pub each : (i j : ℕ) → i < r.count → j ≤ 2 * reach_at r k
@@ -54,7 +55,8 @@ pub record ShowsAlong (r : SeenRow) (k : ℕ) (y z : ℤ) (ns : List ℤ) : Type
 
 -- ---- what a rule gives
 
--- the row has the routine's reads and its places the routine's parameters; the routine has one write
+-- the row has the routine's reads and its places the routine's parameters; the routine has one
+-- write
 pub record FitsRow (s : Spec) (r : SeenRow) : Type 0 where
   pub some : 1 ≤ r.dims
   pub most : r.dims ≤ 3
@@ -66,7 +68,8 @@ pub record FitsRow (s : Spec) (r : SeenRow) : Type 0 where
 
 -- these are the rule's numbers, one at each point
 abbrev pub GivesRow : Rule → SeenRow → List ℤ → Type 0
-GivesRow rule r ns = (i : ℕ) → i < r.count → rule (r.seen i) (r.place i) ≡ Some (slice_index_or ns i (pos 0) ∷ [])
+GivesRow rule r ns = (i : ℕ) → i < r.count
+    → rule (r.seen i) (r.place i) ≡ Some (slice_index_or ns i (pos 0) ∷ [])
 
 -- the rule gives no numbers at one of the points
 abbrev pub LacksOne : Rule → SeenRow → Type 0
@@ -74,7 +77,8 @@ LacksOne rule r = (i : ℕ) × (i < r.count) × (rule (r.seen i) (r.place i) ≡
 
 -- ---- rows of a part
 
--- an item's row of so many points from a point on, whose windows lie along x too, from another point on
+-- an item's row of so many points from a point on, whose windows lie along x too, from another
+-- point on
 abbrev pub row_of : PatchValue → Item → Point → Point → ℕ → ℕ → SeenRow
 row_of p x from low count iteration =
     record {
@@ -85,7 +89,8 @@ row_of p x from low count iteration =
       place = λ i. place_at (setup_in p) x iteration (beside low i);
     }
 
--- a part, an item, a point from which on the windows of so many points lie, one from which on these points lie, and an iteration
+-- a part, an item, a point from which on the windows of so many points lie, one from which on these
+-- points lie, and an iteration
 pub record RowValue : Type 0 where
   pub part : PatchValue
   pub item : Item
@@ -122,14 +127,17 @@ run_row p x iteration run = row_of p x run.from run.low run.count iteration
 
 -- the rule's numbers at a row's points, put into a buffer from a place on
 abbrev pub IsRowPut : Rule → SeenRow → ℕ → List ℤ → List ℤ → Type 0
-IsRowPut rule r at old new = (ns : List ℤ) × (length ns ≡ r.count) × GivesRow rule r ns × (new ≡ put_from at old ns)
+IsRowPut rule r at old new =
+    (ns : List ℤ) × (length ns ≡ r.count) × GivesRow rule r ns × (new ≡ put_from at old ns)
 
 -- the rule's numbers at a run's points are staged, or it gives none at one of them
-abbrev pub StagesRow : PatchValue → Rule → Item → ℕ → Run → PatchValue → Result (Unit {0}) Overflow → Type 0
+abbrev pub StagesRow : PatchValue → Rule → Item → ℕ → Run → PatchValue → Result (Unit {0}) Overflow
+    → Type 0
 StagesRow old rule x iteration run new (Ok _) =
     (ns : List ℤ) × (length ns ≡ run.count) × GivesRow rule (run_row old x iteration run) ns
     × (new ≡ with_row_staged old 0 run.low ns)
-StagesRow old rule x iteration run new (Err _) = LacksOne rule (run_row old x iteration run) × IsSamePatch new old
+StagesRow old rule x iteration run new (Err _) =
+    LacksOne rule (run_row old x iteration run) × IsSamePatch new old
 
 -- ---- numbers left open
 
@@ -145,7 +153,8 @@ pub record CanLeaveOpen (p : PatchValue) (low : Point) (count : ℕ) : Type 0 wh
 
 -- what is staged there, in the first buffer, are any numbers
 abbrev pub LeavesOpen : PatchValue → Point → ℕ → PatchValue → Type 0
-LeavesOpen old low count new = (ns : List ℤ) × (length ns ≡ count) × (new ≡ with_row_staged old 0 low ns)
+LeavesOpen old low count new =
+    (ns : List ℤ) × (length ns ≡ count) × (new ≡ with_row_staged old 0 low ns)
 
 -- ---- sweeps by rows
 
@@ -157,7 +166,8 @@ pub record IsRowItem (p : PatchValue) (x : Item) : Type 0 where
 
 -- whether a zone's hole begins behind a point in its row
 abbrev pub hole_follows : Zone → Point → Bool
-hole_follows z low = int_lt low.x z.hole.low.x && has_point z.hole (record { x = z.hole.low.x; y = low.y; z = low.z })
+hole_follows z low = int_lt low.x z.hole.low.x
+    && has_point z.hole (record { x = z.hole.low.x; y = low.y; z = low.z })
 
 -- the points before an end, from one on, lie in a zone, and their windows one beside another
 pub record IsRunEnd (s : Shape) (region : Region) (z : Zone) (low : Point) (end : ℤ) : Type 0 where
@@ -172,6 +182,8 @@ pub record IsRun (s : Shape) (region : Region) (z : Zone) (run : Run) : Type 0 w
   pub zone : (i : ℕ) → i < run.count → in_zone z (beside run.low i) ≡ true
   pub from : (i : ℕ) → i < run.count → window_point s region (beside run.low i) ≡ beside run.from i
 
--- a point of a box stands so many places behind another one, if the box has so many points behind that
+-- a point of a box stands so many places behind another one, if the box has so many points behind
+-- that
 abbrev pub Follows : Box3 → Point → ℕ → Point → Type 0
-Follows b p count next = index_in b p + count < point_count b → IsIn b next × (index_in b next ≡ index_in b p + count)
+Follows b p count next = index_in b p + count < point_count b
+    → IsIn b next × (index_in b next ≡ index_in b p + count)

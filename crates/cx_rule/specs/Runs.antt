@@ -71,7 +71,8 @@ are_within least greatest ns = list_all (is_within least greatest) ns
 
 -- whether a point lies outside of a zone, or its number in a range
 abbrev pub fits_at : Box3 → Zone → List ℤ → (least greatest : ℤ) → Point → Bool
-fits_at b zone values least greatest y = not (in_zone zone y) || is_within least greatest (slice_index_or values (index_in b y) (pos 0))
+fits_at b zone values least greatest y =
+    not (in_zone zone y) || is_within least greatest (slice_index_or values (index_in b y) (pos 0))
 
 -- whether the numbers at a zone's points are of a type
 abbrev pub fits_zone : Box3 → Zone → List ℤ → CType → Bool
@@ -89,25 +90,34 @@ abbrev pub row_points : Box3 → ℕ → List Point
 row_points b row = map (point_in b) (range_with_len (row * extent b 0) (extent b 0))
 
 -- a row's numbers at a zone's points are other ones, and all else is as before
-pub record SetsRow (b : Box3) (zone : Zone) (within : List ℤ) (row : ℕ) (old new : List ℤ) : Type 0 where
+pub record SetsRow (b : Box3) (zone : Zone) (within : List ℤ) (row : ℕ)
+    (old new : List ℤ) : Type 0 where
   pub count : length new ≡ length old
   pub here : (i : ℕ) → i < extent b 0
-      → slice_index_or new (row * extent b 0 + i) (pos 0) ≡ mixed_at b zone within old (point_in b (row * extent b 0 + i))
-  pub there : (j : ℕ) → (j < row * extent b 0) ⊎ (row * extent b 0 + extent b 0 ≤ j) → slice_index_or new j (pos 0) ≡ slice_index_or old j (pos 0)
+      → slice_index_or new (row * extent b 0 + i) (pos 0)
+      ≡ mixed_at b zone within old (point_in b (row * extent b 0 + i))
+  pub there : (j : ℕ) → (j < row * extent b 0) ⊎ (row * extent b 0 + extent b 0 ≤ j)
+      → slice_index_or new j (pos 0) ≡ slice_index_or old j (pos 0)
 
 -- a row's numbers outside of a zone are those of a level, and all else is as before
-pub record KeepsRow (b : Box3) (zone : Zone) (level : List ℤ) (row : ℕ) (old new : List ℤ) : Type 0 where
+pub record KeepsRow (b : Box3) (zone : Zone) (level : List ℤ) (row : ℕ)
+    (old new : List ℤ) : Type 0 where
   pub count : length new ≡ length old
   pub here : (i : ℕ) → i < extent b 0
-      → slice_index_or new (row * extent b 0 + i) (pos 0) ≡ mixed_at b zone old level (point_in b (row * extent b 0 + i))
-  pub there : (j : ℕ) → (j < row * extent b 0) ⊎ (row * extent b 0 + extent b 0 ≤ j) → slice_index_or new j (pos 0) ≡ slice_index_or old j (pos 0)
+      → slice_index_or new (row * extent b 0 + i) (pos 0)
+      ≡ mixed_at b zone old level (point_in b (row * extent b 0 + i))
+  pub there : (j : ℕ) → (j < row * extent b 0) ⊎ (row * extent b 0 + extent b 0 ≤ j)
+      → slice_index_or new j (pos 0) ≡ slice_index_or old j (pos 0)
 
 -- a span of a row has the numbers that stand there in another list, and all else is as before
 pub record SetsSpan (within : List ℤ) (start : ℕ) (s : Span) (old new : List ℤ) : Type 0 where
   pub count : length new ≡ length old
-  pub here : (i : ℕ) → InSpan s i → slice_index_or new (start + i) (pos 0) ≡ slice_index_or within (start + i) (pos 0)
-  pub below : (j : ℕ) → j < start + s.from → slice_index_or new j (pos 0) ≡ slice_index_or old j (pos 0)
-  pub above : (j : ℕ) → start + s.to ≤ j → slice_index_or new j (pos 0) ≡ slice_index_or old j (pos 0)
+  pub here : (i : ℕ) → InSpan s i
+      → slice_index_or new (start + i) (pos 0) ≡ slice_index_or within (start + i) (pos 0)
+  pub below : (j : ℕ) → j < start + s.from
+      → slice_index_or new j (pos 0) ≡ slice_index_or old j (pos 0)
+  pub above : (j : ℕ) → start + s.to ≤ j
+      → slice_index_or new j (pos 0) ≡ slice_index_or old j (pos 0)
 
 -- the k-th of some lists has other numbers, as many as before
 pub record SpendsOne (k : ℕ) (old new : List (List ℤ)) : Type 0 where

@@ -4,7 +4,8 @@ use Rattle.cx_grid.specs.declared.boxes.Point.{Point}
 use Rattle.cx_grid.specs.Boxes.{IsIn, point_count, index_in}
 use Rattle.cx_grid.specs.Windows.{reach_box}
 
--- what a rule sees: the grid's directions, each read's reach, and all values, read after read, those of a read x fastest
+-- what a rule sees: the grid's directions, each read's reach, and all values, read after read,
+-- those of a read x fastest
 pub record Seen : Type 0 where
   pub dims : ℕ
   pub reaches : List ℕ
@@ -16,7 +17,8 @@ pub record Shown : Type 0 where
   pub seen : Seen
 
 abbrev pub shown : (room dims : ℕ) → List ℕ → List ℤ → Shown
-shown room dims reaches values = record { room = room; seen = record { dims = dims; reaches = reaches; values = values } }
+shown room dims reaches values =
+    record { room = room; seen = record { dims = dims; reaches = reaches; values = values } }
 
 -- how many values a read has, and how many several reads have
 abbrev pub volume_of : ℕ → ℕ → ℕ
@@ -37,7 +39,8 @@ HasRoom w reach = volumes w.seen.dims w.seen.reaches + volume_of w.seen.dims rea
 
 -- where a read's offset stands among all values
 abbrev pub place_among : ℕ → List ℕ → ℕ → Point → ℕ
-place_among dims reaches read o = volumes dims (take read reaches) + index_in (reach_box dims (slice_index_or reaches read 0)) o
+place_among dims reaches read o =
+    volumes dims (take read reaches) + index_in (reach_box dims (slice_index_or reaches read 0)) o
 
 abbrev pub place_of : Seen → ℕ → Point → ℕ
 place_of w read o = place_among w.dims w.reaches read o

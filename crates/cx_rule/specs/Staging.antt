@@ -36,7 +36,10 @@ CanSee p x from = All (CanRead p from) x.reads
 -- a window with one read more
 abbrev pub with_window : Shown → ℕ → List ℤ → Shown
 with_window w reach values =
-    record w { seen = record w.seen { reaches = w.seen.reaches ++ reach ∷ []; values = w.seen.values ++ values } }
+    record w {
+      seen = record w.seen
+          { reaches = w.seen.reaches ++ reach ∷ []; values = w.seen.values ++ values };
+    }
 
 -- ---- staging
 
@@ -46,13 +49,17 @@ staged_at at [] ns = []
 staged_at at (buffer ∷ buffers) [] = buffer ∷ buffers
 staged_at at (buffer ∷ buffers) (n ∷ ns) = slice_set buffer at n ∷ staged_at at buffers ns
 
--- the patch with a number for each write staged at a local point, and with one write's number staged there
+-- the patch with a number for each write staged at a local point, and with one write's number
+-- staged there
 abbrev pub with_staged : PatchValue → Point → List ℤ → PatchValue
 with_staged p y ns = record p { staged = staged_at (index_in p.local y) p.staged ns }
 
 abbrev pub with_one_staged : PatchValue → ℕ → Point → ℤ → PatchValue
 with_one_staged p k y n =
-    record p { staged = slice_set p.staged k (slice_set (slice_index_or p.staged k []) (index_in p.local y) n) }
+    record p {
+      staged = slice_set p.staged k
+          (slice_set (slice_index_or p.staged k []) (index_in p.local y) n);
+    }
 
 -- numbers put into a buffer from a place on
 abbrev pub put_from : ℕ → List ℤ → List ℤ → List ℤ
@@ -60,7 +67,10 @@ put_from at buffer values = take at buffer ++ (values ++ drop (at + length value
 
 abbrev pub with_row_staged : PatchValue → ℕ → Point → List ℤ → PatchValue
 with_row_staged p k low values =
-    record p { staged = slice_set p.staged k (put_from (index_in p.local low) (slice_index_or p.staged k []) values) }
+    record p {
+      staged = slice_set p.staged k
+          (put_from (index_in p.local low) (slice_index_or p.staged k []) values);
+    }
 
 -- the point whose place a rule is given: a Scalar item's is the first one
 abbrev pub placed_at : ItemKind → Point → Point
@@ -74,7 +84,8 @@ placed_at Count y = y
 -- what a rule gives for a local point whose window is taken at another one
 abbrev pub given_at : PatchValue → Rule → Item → ℕ → Point → Point → Option (List ℤ)
 given_at p rule x iteration from y =
-    rule (seen_at (setup_in p) x (values_in p) from) (place_at (setup_in p) x iteration (placed_at x.kind y))
+    rule (seen_at (setup_in p) x (values_in p) from)
+    (place_at (setup_in p) x iteration (placed_at x.kind y))
 
 -- what staging a point asks for
 pub record CanStage (s : Spec) (x : Item) (p : PatchValue) (from y : Point) : Type 0 where
@@ -86,10 +97,13 @@ pub record CanStage (s : Spec) (x : Item) (p : PatchValue) (from y : Point) : Ty
   pub point : IsIn p.local y
 
 -- the rule's numbers are staged, one for each write; where it gives none, nothing has changed
-abbrev pub Stages : PatchValue → Rule → Item → ℕ → Point → Point → PatchValue → Result (Unit {0}) Overflow → Type 0
+abbrev pub Stages : PatchValue → Rule → Item → ℕ → Point → Point → PatchValue
+    → Result (Unit {0}) Overflow → Type 0
 Stages old rule x iteration from y new (Ok _) =
-    (ns : List ℤ) × (given_at old rule x iteration from y ≡ Some ns) × (length ns ≡ length x.writes) × (new ≡ with_staged old y ns)
-Stages old rule x iteration from y new (Err _) = (given_at old rule x iteration from y ≡ None) × (new ≡ old)
+    (ns : List ℤ) × (given_at old rule x iteration from y ≡ Some ns) × (length ns ≡ length x.writes)
+    × (new ≡ with_staged old y ns)
+Stages old rule x iteration from y new (Err _) =
+    (given_at old rule x iteration from y ≡ None) × (new ≡ old)
 
 -- ---- committing
 
@@ -100,11 +114,13 @@ AreBuffers b buffers = map length buffers ≡ replicate (length buffers) (point_
 -- a level's number outside a zone of a box, and another one within
 abbrev pub mixed_at : Box3 → Zone → List ℤ → List ℤ → Point → ℤ
 mixed_at b zone within level y =
-    if in_zone zone y then slice_index_or within (index_in b y) (pos 0) else slice_index_or level (index_in b y) (pos 0)
+    if in_zone zone y then slice_index_or within (index_in b y) (pos 0)
+    else slice_index_or level (index_in b y) (pos 0)
 
 -- the number staged for each of the first so many writes at a place
 abbrev pub numbers_staged : List (List ℤ) → ℕ → ℕ → List ℤ
-numbers_staged buffers count at = map (λ buffer. slice_index_or buffer at (pos 0)) (take count buffers)
+numbers_staged buffers count at =
+    map (λ buffer. slice_index_or buffer at (pos 0)) (take count buffers)
 
 -- the number staged for each of the first so many writes at a local point
 abbrev pub staged_numbers : PatchValue → ℕ → Point → List ℤ
@@ -114,15 +130,20 @@ staged_numbers p count y = numbers_staged p.staged count (index_in p.local y)
 abbrev pub fitting_at : PatchValue → Item → Point → Option (List ℤ)
 fitting_at p x y = if_fit (setup_in p) x.writes (Some (staged_numbers p (length x.writes) y))
 
--- A Scalar item sets its scalars to what is staged at the zone's first point; any other sets its levels at the zone's points to
--- what is staged there. None where a number leaves its type.
+-- A Scalar item sets its scalars to what is staged at the zone's first point; any other sets its
+-- levels at the zone's points to what is staged there. None where a number leaves its type.
 abbrev pub committed_by : ItemKind → PatchValue → Item → Zone → Option State
 committed_by Scalar p x zone = scalar_turn x p.numbers (fitting_at p x zone.all.low)
-committed_by Cell p x zone = sweep p.local (values_in p) (in_zone zone) (fitting_at p x) x.writes p.numbers
-committed_by Sum p x zone = sweep p.local (values_in p) (in_zone zone) (fitting_at p x) x.writes p.numbers
-committed_by Least p x zone = sweep p.local (values_in p) (in_zone zone) (fitting_at p x) x.writes p.numbers
-committed_by Greatest p x zone = sweep p.local (values_in p) (in_zone zone) (fitting_at p x) x.writes p.numbers
-committed_by Count p x zone = sweep p.local (values_in p) (in_zone zone) (fitting_at p x) x.writes p.numbers
+committed_by Cell p x zone =
+    sweep p.local (values_in p) (in_zone zone) (fitting_at p x) x.writes p.numbers
+committed_by Sum p x zone =
+    sweep p.local (values_in p) (in_zone zone) (fitting_at p x) x.writes p.numbers
+committed_by Least p x zone =
+    sweep p.local (values_in p) (in_zone zone) (fitting_at p x) x.writes p.numbers
+committed_by Greatest p x zone =
+    sweep p.local (values_in p) (in_zone zone) (fitting_at p x) x.writes p.numbers
+committed_by Count p x zone =
+    sweep p.local (values_in p) (in_zone zone) (fitting_at p x) x.writes p.numbers
 
 abbrev pub committed : PatchValue → Item → Zone → Option State
 committed p x zone = committed_by x.kind p x zone
@@ -134,7 +155,8 @@ no_numbers ns = map (λ n. pos 0) ns
 abbrev pub cleared : List (List ℤ) → List (List ℤ)
 cleared buffers = map no_numbers buffers
 
--- a zone of local points, and writes of stored levels: of scalars at a Scalar item, of grid variables at any other
+-- a zone of local points, and writes of stored levels: of scalars at a Scalar item, of grid
+-- variables at any other
 abbrev pub IsLocalZone : PatchValue → Zone → Type 0
 IsLocalZone p zone = (y : Point) → in_zone zone y ≡ true → IsIn p.local y
 
@@ -161,16 +183,20 @@ pub record CanCommit (p : PatchValue) (x : Item) (zone : Zone) : Type 0 where
   pub distinct : are_distinct x.writes ≡ true
   pub writes : length x.writes ≤ length p.staged
 
--- the staged numbers are set and nothing is staged any more; where one leaves its type, nothing has changed
+-- the staged numbers are set and nothing is staged any more; where one leaves its type, nothing has
+-- changed
 abbrev pub Commits : PatchValue → Item → Zone → PatchValue → Result (Unit {0}) Overflow → Type 0
 Commits old x zone new (Ok _) =
-    (state : State) × (committed old x zone ≡ Some state) × (new ≡ record old { numbers = state; staged = cleared old.staged })
+    (state : State) × (committed old x zone ≡ Some state)
+    × (new ≡ record old { numbers = state; staged = cleared old.staged })
 Commits old x zone new (Err _) = (committed old x zone ≡ None) × (new ≡ old)
 
 -- the same of a part's numbers alone, beside the buffers
-abbrev pub SetsBy : ItemKind → PatchValue → Item → Zone → PatchValue → PatchValue → Result (Unit {0}) Overflow → Type 0
+abbrev pub SetsBy : ItemKind → PatchValue → Item → Zone → PatchValue → PatchValue
+    → Result (Unit {0}) Overflow → Type 0
 SetsBy kind staged x zone old new (Ok _) =
-    (state : State) × (committed_by kind staged x zone ≡ Some state) × (new ≡ with_numbers old state)
+    (state : State) × (committed_by kind staged x zone ≡ Some state)
+    × (new ≡ with_numbers old state)
 SetsBy kind staged x zone old new (Err _) = (committed_by kind staged x zone ≡ None) × (new ≡ old)
 
 -- whether a point lies outside of a zone, or what is staged there is in its variables' types
@@ -179,6 +205,8 @@ does_fit setup b zone ws buffers y =
     not (in_zone zone y) || all_fit setup ws (numbers_staged buffers (length ws) (index_in b y))
 
 -- a state with levels set at a zone's points to what is staged there, from the k-th write on
-abbrev pub levels_put : PatchValue → Zone → List (List ℤ) → (count k : ℕ) → List Touch → State → State
+abbrev pub levels_put : PatchValue → Zone → List (List ℤ) → (count k : ℕ) → List Touch → State
+    → State
 levels_put p zone buffers count k ws state =
-    levels_after p.local (values_in p) (in_zone zone) (λ y. Some (numbers_staged buffers count (index_in p.local y))) k ws state
+    levels_after p.local (values_in p) (in_zone zone)
+    (λ y. Some (numbers_staged buffers count (index_in p.local y))) k ws state

@@ -29,18 +29,29 @@ Values = VarId → ℕ → Point → ℤ
 
 -- the values that one read hands over at a point
 abbrev pub values_around : Setup → Values → Point → Touch → List ℤ
-values_around setup values p r = numbers_in (reach_box setup.shape.dims r.reach) (λ o. values r.var r.level (shifted p o))
+values_around setup values p r =
+    numbers_in (reach_box setup.shape.dims r.reach) (λ o. values r.var r.level (shifted p o))
 
 abbrev pub reach_of : Touch → ℕ
 reach_of r = r.reach
 
 abbrev pub seen_at : Setup → Item → Values → Point → Seen
 seen_at setup x values p =
-    record { dims = setup.shape.dims; reaches = map reach_of x.reads; values = flat_map (values_around setup values p) x.reads }
+    record {
+      dims = setup.shape.dims;
+      reaches = map reach_of x.reads;
+      values = flat_map (values_around setup values p) x.reads;
+    }
 
 -- the place of a point of the grid, which a point beside the grid names by wrap
 abbrev pub place_at : Setup → Item → ℕ → Point → Place
-place_at setup x iteration p = record { at = wrap setup.shape p; shape = setup.shape; iteration = iteration; params = x.params }
+place_at setup x iteration p =
+    record {
+      at = wrap setup.shape p;
+      shape = setup.shape;
+      iteration = iteration;
+      params = x.params;
+    }
 
 -- ---- what a rule gives
 
@@ -83,18 +94,22 @@ number_or None k old = old
 number_or (Some ns) k old = slice_index_or ns k old
 
 -- a level over a box: the k-th of each point's numbers in a zone, and the old numbers elsewhere
-abbrev pub level_after : Box3 → (Point → Bool) → (Point → Option (List ℤ)) → ℕ → (Point → ℤ) → List ℤ
-level_after box zone numbers k old = numbers_in box (λ p. if zone p then number_or (numbers p) k (old p) else old p)
+abbrev pub level_after : Box3 → (Point → Bool) → (Point → Option (List ℤ)) → ℕ → (Point → ℤ)
+    → List ℤ
+level_after box zone numbers k old =
+    numbers_in box (λ p. if zone p then number_or (numbers p) k (old p) else old p)
 
 -- the state with each written level replaced, from the k-th write on
-abbrev pub levels_after : Box3 → Values → (Point → Bool) → (Point → Option (List ℤ)) → ℕ → List Touch → State → State
+abbrev pub levels_after : Box3 → Values → (Point → Bool) → (Point → Option (List ℤ)) → ℕ
+    → List Touch → State → State
 levels_after box values zone numbers k [] state = state
 levels_after box values zone numbers k (w ∷ ws) state =
     levels_after box values zone numbers (k + 1) ws
     (with_level state w.var w.level (level_after box zone numbers k (values w.var w.level)))
 
 -- a sweep of a zone of a box: none where one point of it has no numbers
-abbrev pub sweep : Box3 → Values → (Point → Bool) → (Point → Option (List ℤ)) → List Touch → State → Option State
+abbrev pub sweep : Box3 → Values → (Point → Bool) → (Point → Option (List ℤ)) → List Touch → State
+    → Option State
 sweep box values zone numbers writes state =
     if list_all (λ p. not (zone p) || is_some (numbers p)) (points_in box)
     then Some (levels_after box values zone numbers 0 writes state)

@@ -31,17 +31,22 @@ window_from p x y = window_point p.shape (region_of x.writes) y
 -- what a rule gives at one of these points, and its numbers where they fit, or none
 abbrev pub rule_numbers : PatchValue → Rule → Item → ℕ → Point → Option (List ℤ)
 rule_numbers p rule x iteration y =
-    rule (seen_at (setup_in p) x (values_in p) (window_from p x y)) (place_at (setup_in p) x iteration y)
+    rule (seen_at (setup_in p) x (values_in p) (window_from p x y))
+    (place_at (setup_in p) x iteration y)
 
 abbrev pub swept_numbers : PatchValue → Rule → Item → ℕ → Point → Option (List ℤ)
-swept_numbers p rule x iteration y = numbers_by (setup_in p) rule x (values_in p) iteration (window_from p x y) y
+swept_numbers p rule x iteration y =
+    numbers_by (setup_in p) rule x (values_in p) iteration (window_from p x y) y
 
--- a part's numbers after an item's sweep; none where a rule gives no numbers or a number leaves its type
+-- a part's numbers after an item's sweep; none where a rule gives no numbers or a number leaves its
+-- type
 abbrev pub swept_by : ItemKind → PatchValue → Rule → Item → ℕ → Option State
 swept_by Cell p rule x iteration =
-    sweep p.local (values_in p) (in_zone (swept_zone p x)) (swept_numbers p rule x iteration) x.writes p.numbers
+    sweep p.local (values_in p) (in_zone (swept_zone p x)) (swept_numbers p rule x iteration)
+    x.writes p.numbers
 swept_by Scalar p rule x iteration =
-    scalar_turn x p.numbers (numbers_by (setup_in p) rule x (values_in p) iteration first_point first_point)
+    scalar_turn x p.numbers
+    (numbers_by (setup_in p) rule x (values_in p) iteration first_point first_point)
 swept_by Sum p rule x iteration = None
 swept_by Least p rule x iteration = None
 swept_by Greatest p rule x iteration = None
@@ -60,17 +65,20 @@ pub record RoseWithin (points before after : ℕ) : Type 0 where
   pub least : before ≤ after
   pub most : after ≤ raised before points
 
--- What a sweep does. At Ok it sets the numbers, exactly, and the meter rises by the zone's points. Overflow comes exactly where
--- there are no such numbers; then none has changed.
-abbrev pub Sweeps : PatchValue → Rule → Item → ℕ → PatchValue → ℕ → ℕ → Result (Unit {0}) Overflow → Type 0
+-- What a sweep does. At Ok it sets the numbers, exactly, and the meter rises by the zone's points.
+-- Overflow comes exactly where there are no such numbers; then none has changed.
+abbrev pub Sweeps : PatchValue → Rule → Item → ℕ → PatchValue → ℕ → ℕ → Result (Unit {0}) Overflow
+    → Type 0
 Sweeps old rule x iteration new before after (Ok _) =
-    (state : State) × (swept old rule x iteration ≡ Some state) × IsSamePatch new (with_numbers old state)
+    (state : State) × (swept old rule x iteration ≡ Some state)
+    × IsSamePatch new (with_numbers old state)
     × (after ≡ raised before (zone_points (swept_zone old x)))
 Sweeps old rule x iteration new before after (Err _) =
-    (swept old rule x iteration ≡ None) × IsSamePatch new old × RoseWithin (zone_points (swept_zone old x)) before after
+    (swept old rule x iteration ≡ None) × IsSamePatch new old
+    × RoseWithin (zone_points (swept_zone old x)) before after
 
--- what a sweep asks for: an item in a shape of the table, no larger than the patch's items, its routine, and a part of no more
--- points than the routine's cap
+-- what a sweep asks for: an item in a shape of the table, no larger than the patch's items, its
+-- routine, and a part of no more points than the routine's cap
 pub record CanSweep (s : Spec) (x : Item) (p : PatchValue) : Type 0 where
   pub routine : IsRoutineOf s x
   pub kind : (x.kind ≡ Cell) ⊎ (x.kind ≡ Scalar)
@@ -88,8 +96,10 @@ IsBoundaryWriter x = (x.kind ≡ Cell) × (region_of x.writes ≡ Boundary)
 
 -- ---- before the commit
 
--- at some points of the zone the rule's numbers are staged, and the meter rose by the number of these
-pub record IsStaged (old : PatchValue) (rule : Rule) (x : Item) (iteration : ℕ) (points : List Point)
+-- at some points of the zone the rule's numbers are staged, and the meter rose by the number of
+-- these
+pub record IsStaged (old : PatchValue) (rule : Rule) (x : Item) (iteration : ℕ)
+    (points : List Point)
     (new : PatchValue) (before after : ℕ) : Type 0 where
   pub same : IsSamePatch new old
   pub numbers : All (λ y. in_zone (swept_zone old x) y ≡ true
@@ -97,12 +107,14 @@ pub record IsStaged (old : PatchValue) (rule : Rule) (x : Item) (iteration : ℕ
   pub meter : after ≡ raised before (length (filter (in_zone (swept_zone old x)) points))
 
 -- the rule gives no numbers at a point of the zone
-pub record IsWithout (old : PatchValue) (rule : Rule) (x : Item) (iteration : ℕ) (y : Point) : Type 0 where
+pub record IsWithout (old : PatchValue) (rule : Rule) (x : Item) (iteration : ℕ)
+    (y : Point) : Type 0 where
   pub zone : in_zone (swept_zone old x) y ≡ true
   pub none : rule_numbers old rule x iteration y ≡ None
 
 -- what staging a zone does: at Ok all its points are staged
-abbrev pub StagesZone : PatchValue → Rule → Item → ℕ → PatchValue → ℕ → ℕ → Result (Unit {0}) Overflow → Type 0
+abbrev pub StagesZone : PatchValue → Rule → Item → ℕ → PatchValue → ℕ → ℕ
+    → Result (Unit {0}) Overflow → Type 0
 StagesZone old rule x iteration new before after (Ok _) =
     IsStaged old rule x iteration (points_in (swept_zone old x).all) new before after
 StagesZone old rule x iteration new before after (Err _) =

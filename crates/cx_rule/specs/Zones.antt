@@ -21,13 +21,15 @@ pub record IsOutside (z : Zone) (p : Point) : Type 0 where
   pub all : IsIn z.all p
   pub hole : in_zone z p ≡ false
 
--- a box's points that are interior: in a direction that is not periodic, those from the ghost width on and below that width
--- before the end
+-- a box's points that are interior: in a direction that is not periodic, those from the ghost width
+-- on and below that width before the end
 abbrev pub inner : Shape → Box3 → Box3
 inner s b =
     record {
-      low = point_by (λ d. if is_periodic s d then along b.low d else int_max (along b.low d) (along s.ghost_ d));
-      high = point_by (λ d. if is_periodic s d then along b.high d else int_min (along b.high d) (along s.n d -ℤ along s.ghost_ d));
+      low = point_by (λ d. if is_periodic s d then along b.low d
+          else int_max (along b.low d) (along s.ghost_ d));
+      high = point_by (λ d. if is_periodic s d then along b.high d
+          else int_min (along b.high d) (along s.n d -ℤ along s.ghost_ d));
     }
 
 -- a box without points

@@ -135,6 +135,7 @@ fn set_number(buffers: &mut Vec<Buffer>, k: usize, at: usize, value: i64)
     buffer.set(at, value);
 }
 
+/// Stages the numbers that a rule gives at a point, each in its write's buffer.
 fn set_each(buffers: &mut Vec<Buffer>, at: usize, cells: &Cells, count: usize)
     requires count { count ≡ length cells.now }
     requires buffers { count ≤ length buffers.old.items }
@@ -146,6 +147,7 @@ fn set_each(buffers: &mut Vec<Buffer>, at: usize, cells: &Cells, count: usize)
     }
 }
 
+/// Empties all buffers, which keep their memory.
 fn clear_all(buffers: &mut Vec<Buffer>)
     ensures { buffers.new.items ≡ cleared buffers.old.items }
 {

@@ -3,13 +3,14 @@ ghost use Rattle.cx_rule.specs.Single.{one_number};
 
 use crate::Overflow;
 use cx_text::Memory;
+use smallvec::{SmallVec, smallvec};
 use std::alloc::Global;
 use std::marker::Model;
 
 /// The numbers that a routine writes at a point, one for each write.
 #[derive(Debug, Drop)]
 pub struct Cells {
-    values: Vec<i64>,
+    values: SmallVec<i64, 4>,
 }
 
 impl Model for Cells {
@@ -25,7 +26,7 @@ impl Cells {
     pub fn new(alloc: Global, writes: u32) -> Result<Self, Memory>
         ensures { IfOk result (λ cells. cells ≡ replicate writes (pos 0)) }
     {
-        let values = vec![in alloc; 0; writes as usize]?;
+        let values = smallvec![in alloc; 0; writes as usize]?;
         Ok(Cells { values })
     }
 

@@ -221,7 +221,7 @@ fn fits_row(b: &Box3, zone: &Zone, values: &[i64], row: usize, low: i64, high: i
     are_within(before, low, high) && are_within(behind, low, high)
 }
 
-/// Whether numbers lie in a range. Each lies in that of all numbers, and none is looked at.
+/// Whether numbers lie in a range. The ends of all 64-bit numbers are constants, so that loop can be dropped.
 fn are_within(values: &[i64], low: i64, high: i64) -> bool
     ensures { result ≡ are_within low high values.now }
 {
@@ -256,6 +256,7 @@ fn all_within(values: &[i64], low: i64, high: i64) -> bool
     all
 }
 
+/// Whether a number is in a range, both ends included.
 fn is_within(value: i64, low: i64, high: i64) -> bool
     ensures { result ≡ is_within low high value }
 {

@@ -13,7 +13,7 @@ pub fn mix(seed: u64, index: u64) -> u64
     third ^ (third >> 31)
 }
 
-/// The same from a seed with its sign, whose 64 bits are taken as they stand.
+/// A number of 64 bits that is spread by `mix` from a seed with a sign, whose 64 bits are taken as they are.
 pub fn mix_from(seed: i64, index: usize) -> u64
     ensures { result ≡ mix_from seed index }
 {

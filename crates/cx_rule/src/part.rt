@@ -54,6 +54,7 @@ impl Part {
         })
     }
 
+    /// The shape of the whole grid.
     pub(crate) fn shape(&self) -> &Shape
         ensures value { result.now ≡ self.now.shape }
         ensures patch { IsPatch self.now }
@@ -61,6 +62,7 @@ impl Part {
         &self.shape
     }
 
+    /// The points that the part owns.
     pub(crate) fn owned(&self) -> &Box3
         ensures value { result.now ≡ self.now.owned }
         ensures patch { IsPatch self.now }
@@ -68,6 +70,7 @@ impl Part {
         &self.owned
     }
 
+    /// The points that the part has numbers of, ghost points included.
     pub(crate) fn local(&self) -> &Box3
         ensures value { result.now ≡ self.now.local }
         ensures patch { IsPatch self.now }
@@ -193,6 +196,7 @@ fn set_number(all: &mut Vec<Levels>, v: usize, level: usize, at: usize, value: i
     levels.set(level, at, value);
 }
 
+/// Makes each level of each variable the next older one.
 fn rotate_all(all: &mut Vec<Levels>)
     ensures { all.new.items ≡ rotate all.old.items }
 {
@@ -212,6 +216,7 @@ fn copies(alloc: Global, vars: &[VarInfo]) -> Result<List<VarInfo>, Memory>
     Ok(all)
 }
 
+/// A copy of what is known of a variable.
 fn copy(alloc: Global, info: &VarInfo) -> Result<VarInfo, Memory>
     ensures { IfOk result (λ copy. copy ≡ info.now) }
 {

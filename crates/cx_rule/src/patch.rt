@@ -5,9 +5,10 @@ ghost use Rattle.cx_grid.specs.Boxes.{IsIn};
 ghost use Rattle.cx_rule.specs.Seen.{volumes};
 ghost use Rattle.cx_rule.specs.States.{scalar_of, with_scalar, rotate};
 ghost use Rattle.cx_rule.specs.Sweeps.{seen_at, reach_of};
-ghost use Rattle.cx_rule.specs.Patches.{new_patch, IsPart, IsPatch, IsGridLevel, IsScalar, number_at, numbers_along, with_number, with_numbers, value_count, setup_in, values_in, capped, greatest, write_count};
+ghost use Rattle.cx_rule.specs.Patches.{new_patch, IsPart, IsPatch, IsGridLevel, IsScalar, number_at, numbers_along, with_number, with_numbers, value_count, setup_in, values_in, capped, write_count};
 ghost use Rattle.cx_rule.specs.Staging.{CanSee};
 ghost use Rattle.cx_rule.specs.Zones.{zone_of};
+ghost use Rattle.cx_plan.specs.Lists.{greatest};
 
 use crate::buffers::Buffers;
 use crate::part::Part;
@@ -178,6 +179,7 @@ fn most_writes(items: &[Item]) -> u32
     most
 }
 
+/// The greater of two numbers.
 fn larger(a: u32, b: u32) -> u32
     ensures { result ≡ max a b }
 {

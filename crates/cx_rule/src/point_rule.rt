@@ -62,14 +62,17 @@ impl<R: PointRule> Routine for RoutineOf<R> {
 
     ghost rule = { λ _. R.law };
 
+    /// What the routine reads, writes and takes.
     fn spec(&self) -> &Spec {
         &self.spec
     }
 
+    /// The most points of a part that the routine sweeps.
     fn cap(&self) -> u64 {
         self.spec.cap
     }
 
+    /// Computes the numbers at one point by the rule, and counts the point.
     fn point(
         &self,
         w: &Window,
@@ -81,6 +84,7 @@ impl<R: PointRule> Routine for RoutineOf<R> {
         self.rule.numbers(w, at, out)
     }
 
+    /// Computes all points of the zone by the rule, one by one.
     fn sweep(
         &self,
         item: &Item,

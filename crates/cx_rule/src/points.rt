@@ -17,6 +17,7 @@ pub(crate) fn moved(p: Point, offset: Point) -> Point
     }
 }
 
+/// A coordinate moved up, which stays near the grid.
 pub(crate) fn sum(c: i32, by: i32) -> i32
     requires { IsNear (c +ℤ by) }
     ensures { result ≡ c +ℤ by }
@@ -24,6 +25,7 @@ pub(crate) fn sum(c: i32, by: i32) -> i32
     c + by
 }
 
+/// A coordinate moved down, which stays near the grid.
 pub(crate) fn difference(c: i32, by: i32) -> i32
     requires { IsNear (c -ℤ by) }
     ensures { result ≡ c -ℤ by }

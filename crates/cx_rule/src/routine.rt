@@ -9,9 +9,11 @@ ghost use Rattle.cx_rule.specs.declared.spec.Spec.{Spec};
 
 use crate::{Cells, Meter, Patch, Place, Spec, Window, Zone};
 use cx_plan::Item;
+use thiserror::Error;
 
 /// A rule gives no numbers at a point: a number leaves its type.
-#[derive(Clone, Copy, Debug, PartialEq, Eq)]
+#[derive(Clone, Copy, Debug, Error, PartialEq, Eq)]
+#[error("Overflow")]
 pub struct Overflow;
 
 /// A routine of a thorn, as an object. Its meaning is its rule, a function of what a window shows and of a place.

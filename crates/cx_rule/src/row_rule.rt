@@ -47,14 +47,17 @@ impl<R: RowRule> Routine for RowsOf<R> {
 
     ghost rule = { λ _. R.law };
 
+    /// What the routine reads, writes and takes.
     fn spec(&self) -> &Spec {
         &self.spec
     }
 
+    /// The most points of a part that the routine sweeps.
     fn cap(&self) -> u64 {
         self.spec.cap
     }
 
+    /// Computes the numbers at one point by the rule, and counts the point.
     fn point(
         &self,
         w: &Window,
@@ -66,6 +69,7 @@ impl<R: RowRule> Routine for RowsOf<R> {
         self.rule.numbers(w, at, out)
     }
 
+    /// Computes all points of the zone by the rule, row by row.
     fn sweep(
         &self,
         item: &Item,

@@ -95,7 +95,7 @@ fn clamp_end(shape: &Shape, low: Point, end: i32) -> i32
     }
 }
 
-/// The same in a direction of `n` points that isn't periodic.
+/// Where such points end along a direction of `n` points that isn't periodic.
 fn inner_end(n: i32, ghosts: i32, c: i32, end: i32) -> i32
     requires n { (pos 1 ≤ℤ n) × (n ≤ℤ pos 16777216) }
     requires ghosts { (pos 0 ≤ℤ ghosts) × (ghosts ≤ℤ pos 8) }

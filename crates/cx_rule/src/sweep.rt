@@ -163,12 +163,14 @@ pub(crate) fn hole_from(zone: &Zone, p: Point) -> usize
     steps_to(p.x, end)
 }
 
+/// The lesser of two coordinates.
 pub(crate) fn lesser(a: i32, b: i32) -> i32
     ensures { result ≡ int_min a b }
 {
     a.min(b)
 }
 
+/// How many steps lead from one coordinate to a greater one.
 pub(crate) fn steps_to(from: i32, to: i32) -> usize
     requires { from <ℤ to }
     ensures value { (from +ℤ pos result) ≡ to }

@@ -137,6 +137,7 @@ fn volume(dims: u8, reach: u8) -> usize
     count(&reach_box(dims, reach))
 }
 
+/// Adds zeros, for which there is room.
 fn add_zeros(values: &mut Vec<i64>, count: usize)
     requires { length values.old.items + count ≤ vec_capacity values.old }
     ensures items { values.new.items ≡ values.old.items ++ replicate count (pos 0) }

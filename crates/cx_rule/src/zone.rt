@@ -88,12 +88,14 @@ fn inner(shape: &Shape, b: &Box3) -> Box3
     }
 }
 
+/// The lowest coordinate of a part that isn't in the lower boundary of a direction.
 fn inner_low(periodic: bool, ghosts: i32, low: i32) -> i32
     ensures { result ≡ (if periodic then low else int_max low ghosts) }
 {
     if periodic { low } else { low.max(ghosts) }
 }
 
+/// The end of a part's coordinates that aren't in the upper boundary of a direction.
 fn inner_high(periodic: bool, n: i32, ghosts: i32, high: i32) -> i32
     requires n { pos 1 ≤ℤ n }
     requires ghosts { (pos 0 ≤ℤ ghosts) × (ghosts ≤ℤ pos 8) }

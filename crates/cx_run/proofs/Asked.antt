@@ -24,11 +24,13 @@ none_some x e = cc
 pub not_asked : {A : Type 0} (o : Option A) (x : A) → o ≡ None → o ≡ Some x → ⊥
 not_asked o x none some = none_some x (sym none ∙ some)
 
-pub same_request : (c : Call) (answer : Answer) (x : IsAsked c answer) (r : Request) → asked c.words ≡ Some r → x.request ≡ r
+pub same_request : (c : Call) (answer : Answer) (x : IsAsked c answer) (r : Request)
+    → asked c.words ≡ Some r → x.request ≡ r
 same_request c answer x r asks = some_same x.request r (sym x.asks ∙ asks)
 
 -- a shelf that a command reads has failed: then it is the one that was lent
-rises_lent : (lent : Lent Held) (command : Command) → HasRisen (shelf_for lent command).faults → HasRisen lent.faults
+rises_lent : (lent : Lent Held) (command : Command) → HasRisen (shelf_for lent command).faults
+    → HasRisen lent.faults
 rises_lent lent (commands.Make seed size) rose = absurd (never rose)
   where
     never : HasRisen (record { old = 0; new = 0 }) → ⊥
@@ -51,25 +53,37 @@ a_job job = Ok job
 err_is : (x y : JobFault) → x ≡ y → a_fault x ≡ a_fault y
 err_is x y e = ap a_fault e
 
-failed_with : (c : Call) (r : Request) (fault : JobFault) (answer : Answer) → MakesAs c r (Err fault) → FollowsFault c fault answer
+failed_with : (c : Call) (r : Request) (fault : JobFault) (answer : Answer)
+    → MakesAs c r (Err fault) → FollowsFault c fault answer
     → (fault ≡ faults.Memory) ⊎ (fault ≡ faults.Shelf) → HasFailed c answer
-failed_with c r fault answer makes follows (inl is) = memory (follows.answer_is ∙ ap answer_of is) follows.still
-failed_with c r fault answer makes follows (inr is) = shelf (follows.answer_is ∙ ap answer_of is) (rises_lent c.shelf r.command (makes.cause.failed (err_is fault faults.Shelf is))) follows.still
+failed_with c r fault answer makes follows (inl is) =
+    memory (follows.answer_is ∙ ap answer_of is) follows.still
+failed_with c r fault answer makes follows (inr is) =
+    shelf (follows.answer_is ∙ ap answer_of is)
+    (rises_lent c.shelf r.command (makes.cause.failed (err_is fault faults.Shelf is))) follows.still
 
-job_found : (c : Call) (r : Request) (command : Command) (found : Result Job JobFault) (answer : Answer) → MakesAs c r found → Follows c command found answer
-    → TellsFiles c r → (job : Job) → Makes c r (Ok job) → ComesTo c.work command job answer ⊎ HasFailed c answer
+job_found : (c : Call) (r : Request) (command : Command) (found : Result Job JobFault)
+    (answer : Answer) → MakesAs c r found → Follows c command found answer
+    → TellsFiles c r → (job : Job) → Makes c r (Ok job)
+    → ComesTo c.work command job answer ⊎ HasFailed c answer
 job_found c r command (Ok other) answer makes follows told job made =
-    inl (subst (λ (x : Job). ComesTo c.work command x answer) (makes.only told job made) follows.comes)
-job_found c r command (Err fault) answer makes follows told job made = inr (failed_with c r fault answer makes follows (makes.only told job made))
+    inl (subst (λ (x : Job). ComesTo c.work command x answer) (makes.only told job made)
+    follows.comes)
+job_found c r command (Err fault) answer makes follows told job made =
+    inr (failed_with c r fault answer makes follows (makes.only told job made))
 
 -- the words ask for this, and the files make this job: what the command comes to with it
-pub job_of : (c : Call) (answer : Answer) → Explains c answer → (r : Request) (job : Job) → asked c.words ≡ Some r → TellsFiles c r → Makes c r (Ok job)
+pub job_of : (c : Call) (answer : Answer) → Explains c answer → (r : Request) (job : Job)
+    → asked c.words ≡ Some r → TellsFiles c r → Makes c r (Ok job)
     → ComesTo c.work r.command job answer ⊎ HasFailed c answer
-job_of c answer (inl wrong) r job asks told made = absurd (not_asked (asked c.words) r wrong.words asks)
+job_of c answer (inl wrong) r job asks told made =
+    absurd (not_asked (asked c.words) r wrong.words asks)
 job_of c answer (inr x) r job asks told made =
     let same = same_request c answer x r asks in
     subst (λ (q : Request). ComesTo c.work q.command job answer ⊎ HasFailed c answer) same
-    (job_found c x.request x.request.command x.found answer x.makes x.follows (subst (λ (q : Request). TellsFiles c q) (sym same) told) job (subst (λ (q : Request). Makes c q (Ok job)) (sym same) made))
+    (job_found c x.request x.request.command x.found answer x.makes x.follows
+    (subst (λ (q : Request). TellsFiles c q) (sym same) told) job
+    (subst (λ (q : Request). Makes c q (Ok job)) (sym same) made))
 
 -- ---- where they make a fault
 
@@ -102,7 +116,8 @@ pub record IsFaulty (c : Call) (answer : Answer) : Type 0 where
   pub rose : found ≡ faults.Shelf → HasRisen c.shelf.faults
 
 -- the files make no job: a fault is found
-no_job_found : (c : Call) (r : Request) (command : Command) (found : Result Job JobFault) (answer : Answer) → MakesAs c r found → Follows c command found answer
+no_job_found : (c : Call) (r : Request) (command : Command) (found : Result Job JobFault)
+    (answer : Answer) → MakesAs c r found → Follows c command found answer
     → TellsFiles c r → ((job : Job) → Makes c r (Ok job) → ⊥) → IsFaulty c answer
 no_job_found c r command (Ok job) answer makes follows told none = absurd (go (makes.answers told))
   where
@@ -111,59 +126,105 @@ no_job_found c r command (Ok job) answer makes follows told none = absurd (go (m
     go (inr (inl e)) = absurd cc
     go (inr (inr made)) = none job made
 no_job_found c r command (Err fault) answer makes follows told none =
-    record { found = fault; answer_is = follows.answer_is; still = follows.still; rose = λ is. rises_lent c.shelf r.command (makes.cause.failed (err_is fault faults.Shelf is)) }
+    record {
+      found = fault;
+      answer_is = follows.answer_is;
+      still = follows.still;
+      rose = λ is. rises_lent c.shelf r.command
+          (makes.cause.failed (err_is fault faults.Shelf is));
+    }
 
-pub no_job : (c : Call) (answer : Answer) → Explains c answer → (r : Request) → asked c.words ≡ Some r → TellsFiles c r → ((job : Job) → Makes c r (Ok job) → ⊥) → IsFaulty c answer
+pub no_job : (c : Call) (answer : Answer) → Explains c answer → (r : Request)
+    → asked c.words ≡ Some r → TellsFiles c r → ((job : Job) → Makes c r (Ok job) → ⊥)
+    → IsFaulty c answer
 no_job c answer (inl wrong) r asks told none = absurd (not_asked (asked c.words) r wrong.words asks)
 no_job c answer (inr x) r asks told none =
     let same = same_request c answer x r asks in
-    no_job_found c x.request x.request.command x.found answer x.makes x.follows (subst (λ (q : Request). TellsFiles c q) (sym same) told) (λ job made. none job (subst (λ (q : Request). Makes c q (Ok job)) same made))
+    no_job_found c x.request x.request.command x.found answer x.makes x.follows
+    (subst (λ (q : Request). TellsFiles c q) (sym same) told)
+    (λ job made. none job (subst (λ (q : Request). Makes c q (Ok job)) same made))
 
 -- of several faults the one that is found, but for the cycle or the path that is shown
 pub record IsFaultOf (c : Call) (fault : JobFault) (answer : Answer) : Type 0 where
   pub is : IsFaulty c answer
-  pub alike : (is.found ≡ faults.Memory) ⊎ ((is.found ≡ faults.Shelf) ⊎ (without_witness is.found ≡ without_witness fault))
+  pub alike : (is.found ≡ faults.Memory)
+      ⊎ ((is.found ≡ faults.Shelf) ⊎ (without_witness is.found ≡ without_witness fault))
 
-fault_found : (c : Call) (r : Request) (command : Command) (found : Result Job JobFault) (answer : Answer) → MakesAs c r found → Follows c command found answer
+fault_found : (c : Call) (r : Request) (command : Command) (found : Result Job JobFault)
+    (answer : Answer) → MakesAs c r found → Follows c command found answer
     → TellsFiles c r → (fault : JobFault) → Makes c r (Err fault) → IsFaultOf c fault answer
-fault_found c r command (Ok job) answer makes follows told fault made = absurd (makes.faulty told fault made)
+fault_found c r command (Ok job) answer makes follows told fault made =
+    absurd (makes.faulty told fault made)
 fault_found c r command (Err other) answer makes follows told fault made =
     record {
-      is = record { found = other; answer_is = follows.answer_is; still = follows.still; rose = λ is. rises_lent c.shelf r.command (makes.cause.failed (err_is other faults.Shelf is)) };
+      is = record {
+        found = other;
+        answer_is = follows.answer_is;
+        still = follows.still;
+        rose = λ is. rises_lent c.shelf r.command
+            (makes.cause.failed (err_is other faults.Shelf is));
+      };
       alike = makes.faulty told fault made;
     }
 
-pub fault_of : (c : Call) (answer : Answer) → Explains c answer → (r : Request) (fault : JobFault) → asked c.words ≡ Some r → TellsFiles c r → Makes c r (Err fault) → IsFaultOf c fault answer
-fault_of c answer (inl wrong) r fault asks told made = absurd (not_asked (asked c.words) r wrong.words asks)
+pub fault_of : (c : Call) (answer : Answer) → Explains c answer → (r : Request) (fault : JobFault)
+    → asked c.words ≡ Some r → TellsFiles c r → Makes c r (Err fault) → IsFaultOf c fault answer
+fault_of c answer (inl wrong) r fault asks told made =
+    absurd (not_asked (asked c.words) r wrong.words asks)
 fault_of c answer (inr x) r fault asks told made =
     let same = same_request c answer x r asks in
-    fault_found c x.request x.request.command x.found answer x.makes x.follows (subst (λ (q : Request). TellsFiles c q) (sym same) told) fault (subst (λ (q : Request). Makes c q (Err fault)) (sym same) made)
+    fault_found c x.request x.request.command x.found answer x.makes x.follows
+    (subst (λ (q : Request). TellsFiles c q) (sym same) told) fault
+    (subst (λ (q : Request). Makes c q (Err fault)) (sym same) made)
 
 -- ---- from what the functions of a call ensure
 
-pub with_job : (c : Call) (r : Request) (job : Job) (answer : Answer) → asked c.words ≡ Some r → SparesShelf c.shelf r.command → MakesAs c r (Ok job) → IsReady c.specs job
+pub with_job : (c : Call) (r : Request) (job : Job) (answer : Answer) → asked c.words ≡ Some r
+    → SparesShelf c.shelf r.command → MakesAs c r (Ok job) → IsReady c.specs job
     → ComesTo c.work r.command job answer → Explains c answer
 with_job c r job answer asks spared makes ready comes =
-    inr (record { request = r; asks = asks; found = Ok job; shelf = spared; makes = makes; follows = record { whole = ready.whole; fit = ready.fit; comes = comes } })
+    inr (record {
+      request = r;
+      asks = asks;
+      found = Ok job;
+      shelf = spared;
+      makes = makes;
+      follows = record { whole = ready.whole; fit = ready.fit; comes = comes };
+    })
 
-pub with_fault : (c : Call) (r : Request) (fault : JobFault) (answer : Answer) → asked c.words ≡ Some r → SparesShelf c.shelf r.command → MakesAs c r (Err fault) → answer ≡ answer_of fault
+pub with_fault : (c : Call) (r : Request) (fault : JobFault) (answer : Answer)
+    → asked c.words ≡ Some r → SparesShelf c.shelf r.command → MakesAs c r (Err fault)
+    → answer ≡ answer_of fault
     → IsStill c.work → Explains c answer
 with_fault c r fault answer asks spared makes is still =
-    inr (record { request = r; asks = asks; found = Err fault; shelf = spared; makes = makes; follows = record { answer_is = is; still = still } })
+    inr (record {
+      request = r;
+      asks = asks;
+      found = Err fault;
+      shelf = spared;
+      makes = makes;
+      follows = record { answer_is = is; still = still };
+    })
 
 -- ---- the shelf
 
 -- a request that leaves it alone has done so
-pub spared : (c : Call) (answer : Answer) → Explains c answer → (r : Request) → asked c.words ≡ Some r → SparesShelf c.shelf r.command
+pub spared : (c : Call) (answer : Answer) → Explains c answer → (r : Request)
+    → asked c.words ≡ Some r → SparesShelf c.shelf r.command
 spared c answer (inl wrong) r asks = absurd (not_asked (asked c.words) r wrong.words asks)
-spared c answer (inr x) r asks = subst (λ (q : Request). SparesShelf c.shelf q.command) (same_request c answer x r asks) x.shelf
+spared c answer (inr x) r asks =
+    subst (λ (q : Request). SparesShelf c.shelf q.command) (same_request c answer x r asks) x.shelf
 
 -- ---- what a call's cause says of the files
 
-pub job_made : (c : Call) (answer : Answer) (x : IsAsked c answer) (job : Job) → x.found ≡ Ok job → TellsFiles c x.request → Makes c x.request (Ok job)
-job_made c answer x job is told = go (subst (λ (found : Result Job JobFault). MakesAs c x.request found) is x.makes)
+pub job_made : (c : Call) (answer : Answer) (x : IsAsked c answer) (job : Job) → x.found ≡ Ok job
+    → TellsFiles c x.request → Makes c x.request (Ok job)
+job_made c answer x job is told =
+    go (subst (λ (found : Result Job JobFault). MakesAs c x.request found) is x.makes)
   where
-    from : (a_job job ≡ a_fault faults.Memory) ⊎ ((a_job job ≡ a_fault faults.Shelf) ⊎ Makes c x.request (Ok job)) → Makes c x.request (Ok job)
+    from : (a_job job ≡ a_fault faults.Memory)
+        ⊎ ((a_job job ≡ a_fault faults.Shelf) ⊎ Makes c x.request (Ok job))
+        → Makes c x.request (Ok job)
     from (inl e) = absurd cc
     from (inr (inl e)) = absurd cc
     from (inr (inr made)) = made
@@ -171,14 +232,18 @@ job_made c answer x job is told = go (subst (λ (found : Result Job JobFault). M
     go : MakesAs c x.request (Ok job) → Makes c x.request (Ok job)
     go makes = from (makes.answers told)
 
-pub fault_made : (c : Call) (answer : Answer) (x : IsAsked c answer) (fault : JobFault) → x.found ≡ Err fault → fault ≢ faults.Memory → fault ≢ faults.Shelf → TellsFiles c x.request
+pub fault_made : (c : Call) (answer : Answer) (x : IsAsked c answer) (fault : JobFault)
+    → x.found ≡ Err fault → fault ≢ faults.Memory → fault ≢ faults.Shelf → TellsFiles c x.request
     → Makes c x.request (Err fault)
-fault_made c answer x fault is not_memory not_shelf told = go (subst (λ (found : Result Job JobFault). MakesAs c x.request found) is x.makes)
+fault_made c answer x fault is not_memory not_shelf told =
+    go (subst (λ (found : Result Job JobFault). MakesAs c x.request found) is x.makes)
   where
     same : (e f : JobFault) → a_fault e ≡ a_fault f → e ≡ f
     same e f is = cc
 
-    from : (a_fault fault ≡ a_fault faults.Memory) ⊎ ((a_fault fault ≡ a_fault faults.Shelf) ⊎ Makes c x.request (Err fault)) → Makes c x.request (Err fault)
+    from : (a_fault fault ≡ a_fault faults.Memory)
+        ⊎ ((a_fault fault ≡ a_fault faults.Shelf) ⊎ Makes c x.request (Err fault))
+        → Makes c x.request (Err fault)
     from (inl e) = absurd (not_memory (same fault faults.Memory e))
     from (inr (inl e)) = absurd (not_shelf (same fault faults.Shelf e))
     from (inr (inr made)) = made

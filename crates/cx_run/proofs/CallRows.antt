@@ -12,16 +12,20 @@ use Rattle.cx_run.specs.declared.words.Command.TheVariants as commands
 a_run : asked (codes "run" ∷ codes "ca.par" ∷ []) ≡ Some (request commands.Run (codes "ca.par") 0)
 a_run = refl
 
-a_seed_behind : asked (codes "run" ∷ codes "ca.par" ∷ codes "--turns" ∷ codes "12" ∷ []) ≡ Some (request commands.Run (codes "ca.par") 12)
+a_seed_behind : asked (codes "run" ∷ codes "ca.par" ∷ codes "--turns" ∷ codes "12" ∷ [])
+    ≡ Some (request commands.Run (codes "ca.par") 12)
 a_seed_behind = refl
 
-a_seed_before : asked (codes "run" ∷ codes "--turns" ∷ codes "7" ∷ codes "ca.par" ∷ []) ≡ Some (request commands.Run (codes "ca.par") 7)
+a_seed_before : asked (codes "run" ∷ codes "--turns" ∷ codes "7" ∷ codes "ca.par" ∷ [])
+    ≡ Some (request commands.Run (codes "ca.par") 7)
 a_seed_before = refl
 
-a_joined_seed : asked (codes "run" ∷ codes "ca.par" ∷ codes "--turns=007" ∷ []) ≡ Some (request commands.Run (codes "ca.par") 7)
+a_joined_seed : asked (codes "run" ∷ codes "ca.par" ∷ codes "--turns=007" ∷ [])
+    ≡ Some (request commands.Run (codes "ca.par") 7)
 a_joined_seed = refl
 
-a_joined_seed_before : asked (codes "run" ∷ codes "--turns=3" ∷ codes "ca.par" ∷ []) ≡ Some (request commands.Run (codes "ca.par") 3)
+a_joined_seed_before : asked (codes "run" ∷ codes "--turns=3" ∷ codes "ca.par" ∷ [])
+    ≡ Some (request commands.Run (codes "ca.par") 3)
 a_joined_seed_before = refl
 
 two_seeds : asked (codes "run" ∷ codes "--turns=3" ∷ codes "ca.par" ∷ codes "--turns=3" ∷ []) ≡ None
@@ -33,16 +37,19 @@ no_seed = refl
 an_empty_seed : asked (codes "run" ∷ codes "ca.par" ∷ codes "--turns=" ∷ []) ≡ None
 an_empty_seed = refl
 
-a_schedule : asked (codes "schedule" ∷ codes "ca.par" ∷ []) ≡ Some (request commands.Schedule (codes "ca.par") 0)
+a_schedule : asked (codes "schedule" ∷ codes "ca.par" ∷ [])
+    ≡ Some (request commands.Schedule (codes "ca.par") 0)
 a_schedule = refl
 
 a_schedule_with_a_seed : asked (codes "schedule" ∷ codes "ca.par" ∷ codes "--turns=1" ∷ []) ≡ None
 a_schedule_with_a_seed = refl
 
-a_make : asked (codes "make" ∷ codes "007" ∷ codes "0064" ∷ []) ≡ Some (request (commands.Make 7 64) (codes "made.par") 0)
+a_make : asked (codes "make" ∷ codes "007" ∷ codes "0064" ∷ [])
+    ≡ Some (request (commands.Make 7 64) (codes "made.par") 0)
 a_make = refl
 
-the_greatest_make : asked (codes "make" ∷ codes "9223372036854775807" ∷ codes "1024" ∷ []) ≡ Some (request (commands.Make 9223372036854775807 1024) (codes "made.par") 0)
+the_greatest_make : asked (codes "make" ∷ codes "9223372036854775807" ∷ codes "1024" ∷ [])
+    ≡ Some (request (commands.Make 9223372036854775807 1024) (codes "made.par") 0)
 the_greatest_make = refl
 
 a_seed_too_great : asked (codes "make" ∷ codes "9223372036854775808" ∷ codes "64" ∷ []) ≡ None
@@ -70,25 +77,31 @@ a_dash : asked (codes "run" ∷ codes "-x" ∷ []) ≡ None
 a_dash = refl
 
 -- the usage text as it stands on the screen
-usage_line : text_of a.Usage ≡ codes "usage: cactus run FILE [--turns SEED]\n       cactus check FILE\n       cactus schedule FILE\n       cactus describe FILE\n       cactus parts FILE\n       cactus make SEED SIZE\n"
+usage_line : text_of a.Usage
+    ≡ codes
+    "usage: cactus run FILE [--turns SEED]\n       cactus check FILE\n       cactus schedule FILE\n       cactus describe FILE\n       cactus parts FILE\n       cactus make SEED SIZE\n"
 usage_line = refl
 
 done : text_of (a.Done 2) ≡ codes "done: iteration 2\n"
 unfolding digits
 done = refl
 
-made : text_of (a.Made 20 7 64 16459 (pos 628)) ≡ codes "done: iteration 20\nmade 7 64 points 4096 parts 16 output 16459 live 628\n"
+made : text_of (a.Made 20 7 64 16459 (pos 628))
+    ≡ codes "done: iteration 20\nmade 7 64 points 4096 parts 16 output 16459 live 628\n"
 unfolding digits
 made = refl
 
-no_file : text_of (answer_of (faults.NoFile (codes "none.par"))) ≡ codes "refused: NoFile none.par\n"
+no_file : text_of (answer_of (faults.NoFile (codes "none.par")))
+    ≡ codes "refused: NoFile none.par\n"
 no_file = refl
 
-ended_early : text_of (a.Ended (ends.Overflow 7 (codes "EVOL/diff_step"))) ≡ codes "ended: Overflow 7 EVOL/diff_step\n"
+ended_early : text_of (a.Ended (ends.Overflow 7 (codes "EVOL/diff_step")))
+    ≡ codes "ended: Overflow 7 EVOL/diff_step\n"
 unfolding digits
 ended_early = refl
 
-ended_while : text_of (a.Ended (ends.WhileLimit 1 (codes "EVOL/control_spin"))) ≡ codes "ended: WhileLimit 1 EVOL/control_spin\n"
+ended_while : text_of (a.Ended (ends.WhileLimit 1 (codes "EVOL/control_spin")))
+    ≡ codes "ended: WhileLimit 1 EVOL/control_spin\n"
 unfolding digits
 ended_while = refl
 
@@ -107,10 +120,13 @@ damaged : text_of (a.Recovery (begins.Damaged 1)) ≡ codes "recovery: Damaged 1
 unfolding digits
 damaged = refl
 
-output_short : text_of (a.Recovery (begins.OutputShort 10 300)) ≡ codes "recovery: OutputShort 10 300\n"
+output_short : text_of (a.Recovery (begins.OutputShort 10 300))
+    ≡ codes "recovery: OutputShort 10 300\n"
 unfolding digits
 output_short = refl
 
-other_job : text_of (a.Recovery (begins.OtherJob (codes "parameter wave::amount = \"5\"") (codes "parameter wave::amount = \"6\"")))
+other_job : text_of (a.Recovery
+    (begins.OtherJob (codes "parameter wave::amount = \"5\"")
+    (codes "parameter wave::amount = \"6\"")))
     ≡ codes "recovery: OtherJob\nparameter wave::amount = \"5\"\nparameter wave::amount = \"6\"\n"
 other_job = refl

@@ -18,7 +18,9 @@ ring = record {
   z = 1 ∷ [];
 }
 
-row_ring : parts_text ring ≡ codes "part 0 from 0 size 4 low 2 high 1" ++ 10 ∷ codes "part 1 from 4 size 3 low 0 high 2" ++ 10 ∷ codes "part 2 from 7 size 3 low 1 high 0" ++ 10 ∷ []
+row_ring : parts_text ring
+    ≡ codes "part 0 from 0 size 4 low 2 high 1" ++ 10 ∷ codes "part 1 from 4 size 3 low 0 high 2"
+    ++ 10 ∷ codes "part 2 from 7 size 3 low 1 high 0" ++ 10 ∷ []
 unfolding digits
 row_ring = refl
 
@@ -40,7 +42,9 @@ sheet = record {
   z = 1 ∷ [];
 }
 
-row_sheet : parts_text sheet ≡ codes "part 0 from 0 0 size 2 3 low - - high 1 -" ++ 10 ∷ codes "part 1 from 2 0 size 2 3 low 0 - high - -" ++ 10 ∷ []
+row_sheet : parts_text sheet
+    ≡ codes "part 0 from 0 0 size 2 3 low - - high 1 -" ++ 10
+    ∷ codes "part 1 from 2 0 size 2 3 low 0 - high - -" ++ 10 ∷ []
 unfolding digits
 row_sheet = refl
 

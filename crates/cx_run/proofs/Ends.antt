@@ -17,7 +17,8 @@ end_of_ended (Ends (ends.WhileLimit iteration path)) = refl
 end_of_ended (Ends (ends.OutputLimit iteration)) = refl
 
 -- a core that has ended so, and its end
-pub end_with : (o : Outcome) (t : TraceOutcome) (end : End) → o ≡ ended_as t → end_in o ≡ end → end_by t ≡ end
+pub end_with : (o : Outcome) (t : TraceOutcome) (end : End) → o ≡ ended_as t → end_in o ≡ end
+    → end_by t ≡ end
 end_with o t end same is = sym (end_of_ended t) ∙ ap end_in (sym same) ∙ is
 
 pub done_is : (o : Outcome) → o ≢ outcomes.Going → end_in o ≡ ends.Done → o ≡ outcomes.Done
@@ -29,5 +30,7 @@ done_is (outcomes.OutputLimit iteration) over is = absurd cc
 
 -- ---- the text of one that was made
 
-pub joined : (text first line done sum : List ℕ) → text ≡ first ++ line → first ≡ done → line ≡ sum → text ≡ done ++ sum
-joined text first line done sum whole a b = whole ∙ ap (λ (l : List ℕ). l ++ line) a ∙ ap (λ (l : List ℕ). done ++ l) b
+pub joined : (text first line done sum : List ℕ) → text ≡ first ++ line → first ≡ done → line ≡ sum
+    → text ≡ done ++ sum
+joined text first line done sum whole a b =
+    whole ∙ ap (λ (l : List ℕ). l ++ line) a ∙ ap (λ (l : List ℕ). done ++ l) b

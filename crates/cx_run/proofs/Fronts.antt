@@ -3,8 +3,16 @@ use Rattle.std.proofs.Common.{◌≡◌, ◌∙◌, ℕ, List, [], ◌++◌, tak
 use Rattle.std.proofs.lemmas.List.{append-nil}
 use Rattle.cx_run.specs.Sink.{AddsFront}
 
-pub front_taken : (bytes old new : List ℕ) (n : ℕ) → new ≡ old ++ take n bytes → AddsFront bytes old new
-front_taken bytes old new n e = record { front = take n bytes; rest = drop n bytes; whole = take-append-drop n bytes; added = e }
+pub front_taken : (bytes old new : List ℕ) (n : ℕ) → new ≡ old ++ take n bytes
+    → AddsFront bytes old new
+front_taken bytes old new n e =
+    record {
+      front = take n bytes;
+      rest = drop n bytes;
+      whole = take-append-drop n bytes;
+      added = e;
+    }
 
 pub front_none : (bytes old new : List ℕ) → new ≡ old → AddsFront bytes old new
-front_none bytes old new e = record { front = []; rest = bytes; whole = refl; added = e ∙ sym (append-nil old) }
+front_none bytes old new e =
+    record { front = []; rest = bytes; whole = refl; added = e ∙ sym (append-nil old) }

@@ -20,13 +20,25 @@ use Rattle.cx_run.specs.declared.words.Command.{Command}
 use Rattle.cx_run.specs.declared.words.Command.TheVariants as commands
 
 -- all that is known of a job that was made
-pub ready_of : (specs : List Spec) (made : Result Job JobFault) → IfOk made IsWhole → IfOk made (λ job. HasShapes (setup_of job) × Sound (setup_of job))
-    → IfOk made (λ job. cut_fault (parts_of job.shape job.cut) ≡ None) → IfOk made (λ job. FitJob specs job) → IfOk made (λ job. local_cells job ≤ 2 ^ 27) → IfOk made (IsReady specs)
-ready_of specs (Ok job) whole sound cut fit few = record { whole = whole; shapes = sound.0; sound = sound.1; fit = fit; cut = cut; few_cells = few }
+pub ready_of : (specs : List Spec) (made : Result Job JobFault) → IfOk made IsWhole
+    → IfOk made (λ job. HasShapes (setup_of job) × Sound (setup_of job))
+    → IfOk made (λ job. cut_fault (parts_of job.shape job.cut) ≡ None)
+    → IfOk made (λ job. FitJob specs job) → IfOk made (λ job. local_cells job ≤ 2 ^ 27)
+    → IfOk made (IsReady specs)
+ready_of specs (Ok job) whole sound cut fit few =
+    record {
+      whole = whole;
+      shapes = sound.0;
+      sound = sound.1;
+      fit = fit;
+      cut = cut;
+      few_cells = few;
+    }
 ready_of specs (Err e) whole sound cut fit few = tt
 
 -- want of memory before a job is made
-pub wanting : (s : Lent Held) (file : List ℕ) (specs : List Spec) → (s.tells → s.new ≡ s.old) → s.faults.old ≤ s.faults.new → MakesOn s file specs (Err faults.Memory)
+pub wanting : (s : Lent Held) (file : List ℕ) (specs : List Spec) → (s.tells → s.new ≡ s.old)
+    → s.faults.old ≤ s.faults.new → MakesOn s file specs (Err faults.Memory)
 wanting s file specs same later =
     record {
       answers = λ told. inl refl;
@@ -37,21 +49,33 @@ wanting s file specs same later =
     }
 
 -- what was answered on a shelf in memory that had these files
-pub on_files : (files shelf : List (List ℕ × List ℕ)) (file : List ℕ) (specs : List Spec) (new : Held) (found : Result Job JobFault) → shelf ≡ files
-    → MakesWith (Unit {0}) (Made file specs) (looked_up shelf) new 0 0 found → MakesOn (shelf_of files) file specs found
+pub on_files : (files shelf : List (List ℕ × List ℕ)) (file : List ℕ) (specs : List Spec)
+    (new : Held) (found : Result Job JobFault) → shelf ≡ files
+    → MakesWith (Unit {0}) (Made file specs) (looked_up shelf) new 0 0 found
+    → MakesOn (shelf_of files) file specs found
 on_files files shelf file specs new found is makes =
     subst (λ (l : List (List ℕ × List ℕ)). MakesOn (shelf_of l) file specs found) is
-    (record { answers = makes.answers; only = makes.only; faulty = makes.faulty; same = λ told. refl; cause = makes.cause })
+    (record {
+      answers = makes.answers;
+      only = makes.only;
+      faulty = makes.faulty;
+      same = λ told. refl;
+      cause = makes.cause;
+    })
 
 -- on the same files
-pub same_files : (files others : List (List ℕ × List ℕ)) (file : List ℕ) (specs : List Spec) (found : Result Job JobFault) → files ≡ others
+pub same_files : (files others : List (List ℕ × List ℕ)) (file : List ℕ) (specs : List Spec)
+    (found : Result Job JobFault) → files ≡ others
     → MakesOn (shelf_of files) file specs found → MakesOn (shelf_of others) file specs found
-same_files files others file specs found is makes = subst (λ (l : List (List ℕ × List ℕ)). MakesOn (shelf_of l) file specs found) is makes
+same_files files others file specs found is makes =
+    subst (λ (l : List (List ℕ × List ℕ)). MakesOn (shelf_of l) file specs found) is makes
 
 -- on whichever shelf
-pub wanting_for : (lent : Lent Held) (command : Command) (file : List ℕ) (specs : List Spec) → lent.new ≡ lent.old → lent.faults.old ≤ lent.faults.new
+pub wanting_for : (lent : Lent Held) (command : Command) (file : List ℕ) (specs : List Spec)
+    → lent.new ≡ lent.old → lent.faults.old ≤ lent.faults.new
     → MakesOn (shelf_for lent command) file specs (Err faults.Memory)
-wanting_for lent (commands.Make seed size) file specs same later = wanting (shelf_of (made_files seed size)) file specs (λ told. refl) (omega arith)
+wanting_for lent (commands.Make seed size) file specs same later =
+    wanting (shelf_of (made_files seed size)) file specs (λ told. refl) (omega arith)
 wanting_for lent command file specs same later = wanting lent file specs (λ told. same) later
 
 -- a shelf that isn't looked at is spared
@@ -71,20 +95,27 @@ none_some : (pair : ℕ × ℕ) → None ≡ Some pair → ⊥
 none_some pair e = cc
 
 -- what was answered on the files that it makes
-pub made_on : (lent : Lent Held) (command : Command) (pair : ℕ × ℕ) (name file : List ℕ) (specs : List Spec) (found : Result Job JobFault) → made_from command ≡ Some pair → name ≡ file
-    → MakesOn (shelf_of (made_files pair.0 pair.1)) name specs found → MakesOn (shelf_for lent command) file specs found
+pub made_on : (lent : Lent Held) (command : Command) (pair : ℕ × ℕ) (name file : List ℕ)
+    (specs : List Spec) (found : Result Job JobFault) → made_from command ≡ Some pair → name ≡ file
+    → MakesOn (shelf_of (made_files pair.0 pair.1)) name specs found
+    → MakesOn (shelf_for lent command) file specs found
 made_on lent (commands.Make seed size) pair name file specs found is same makes =
     let own : ℕ × ℕ = (seed, size) in
-    subst (λ (p : ℕ × ℕ). MakesOn (shelf_of (made_files p.0 p.1)) file specs found) (sym (pair_same own pair is))
+    subst (λ (p : ℕ × ℕ). MakesOn (shelf_of (made_files p.0 p.1)) file specs found)
+    (sym (pair_same own pair is))
     (subst (λ (f : List ℕ). MakesOn (shelf_of (made_files pair.0 pair.1)) f specs found) same makes)
 made_on lent command pair name file specs found is same makes = absurd (none_some pair is)
 
 -- and on the shelf that was lent
-pub lent_on : (lent : Lent Held) (command : Command) (name file : List ℕ) (specs : List Spec) (found : Result Job JobFault) → made_from command ≡ None → name ≡ file
+pub lent_on : (lent : Lent Held) (command : Command) (name file : List ℕ) (specs : List Spec)
+    (found : Result Job JobFault) → made_from command ≡ None → name ≡ file
     → MakesOn lent name specs found → MakesOn (shelf_for lent command) file specs found
-lent_on lent (commands.Make seed size) name file specs found is same makes = absurd (some_none (seed, size) is)
-lent_on lent command name file specs found is same makes = subst (λ (f : List ℕ). MakesOn lent f specs found) same makes
+lent_on lent (commands.Make seed size) name file specs found is same makes =
+    absurd (some_none (seed, size) is)
+lent_on lent command name file specs found is same makes =
+    subst (λ (f : List ℕ). MakesOn lent f specs found) same makes
 
-pub lent_spared : (lent : Lent Held) (command : Command) → made_from command ≡ None → SparesShelf lent command
+pub lent_spared : (lent : Lent Held) (command : Command) → made_from command ≡ None
+    → SparesShelf lent command
 lent_spared lent (commands.Make seed size) is = absurd (some_none (seed, size) is)
 lent_spared lent command is = tt

@@ -55,25 +55,31 @@ status_is a.Wire = inr (inr (inr (inr (inl refl))))
 status_is a.Memory = inr (inr (inr (inr (inr (inl refl)))))
 status_is (a.Recovery fault) = inr (inr (inr (inr (inr (inr refl)))))
 
-known : (sink : Lent (List ℕ)) (answer : Answer) (result : ℕ) → Said sink answer result → IsStatus result
-known sink answer result (inl p) = subst (λ (s : ℕ). IsStatus s) (sym p.status_is) (status_is answer)
+known : (sink : Lent (List ℕ)) (answer : Answer) (result : ℕ) → Said sink answer result
+    → IsStatus result
+known sink answer result (inl p) =
+    subst (λ (s : ℕ). IsStatus s) (sym p.status_is) (status_is answer)
 known sink answer result (inr p) = inr (inr (inr (inr (inl p.status_is))))
 
-status_known : (sink : Lent (List ℕ)) (answer : Answer) (result : ℕ) → WasSaid sink answer result → IsStatus result
+status_known : (sink : Lent (List ℕ)) (answer : Answer) (result : ℕ) → WasSaid sink answer result
+    → IsStatus result
 status_known sink answer result (inl said) = known sink answer result said
 status_known sink answer result (inr said) = known sink a.Memory result said
 
-wrong_said : (sink : Lent (List ℕ)) (answer : Answer) (result : ℕ) → answer ≡ a.Usage → WasSaid sink answer result → (result ≡ 1) ⊎ ((result ≡ 4) ⊎ (result ≡ 5))
+wrong_said : (sink : Lent (List ℕ)) (answer : Answer) (result : ℕ) → answer ≡ a.Usage
+    → WasSaid sink answer result → (result ≡ 1) ⊎ ((result ≡ 4) ⊎ (result ≡ 5))
 wrong_said sink answer result is (inl (inl p)) = inl (p.status_is ∙ ap status_of is)
 wrong_said sink answer result is (inl (inr p)) = inr (inl p.status_is)
 wrong_said sink answer result is (inr (inl p)) = inr (inr p.status_is)
 wrong_said sink answer result is (inr (inr p)) = inr (inl p.status_is)
 
-wrong_answer : (c : Call) (answer : Answer) → Explains c answer → asked c.words ≡ None → answer ≡ a.Usage
+wrong_answer : (c : Call) (answer : Answer) → Explains c answer → asked c.words ≡ None
+    → answer ≡ a.Usage
 wrong_answer c answer (inl wrong) none = wrong.answer_is
 wrong_answer c answer (inr x) none = absurd (not_asked (asked c.words) x.request none x.asks)
 
-comes_not_1 : (w : Work) (command : Command) (job : Job) (answer : Answer) → Comes w command job answer → status_of answer ≡ 1 → ⊥
+comes_not_1 : (w : Work) (command : Command) (job : Job) (answer : Answer)
+    → Comes w command job answer → status_of answer ≡ 1 → ⊥
 comes_not_1 w command job (a.Done iteration) x e = absurd cc
 comes_not_1 w command job (a.Made iteration seed size output live) x e = absurd cc
 comes_not_1 w command job (a.Text text) x e = absurd cc
@@ -86,31 +92,48 @@ comes_not_1 w command job a.Wire x e = absurd cc
 comes_not_1 w command job a.Memory x e = absurd cc
 comes_not_1 w command job (a.Recovery fault) x e = absurd cc
 
-fault_not_1 : (fault : JobFault) (answer : Answer) → answer ≡ answer_of fault → IsSorted fault → status_of answer ≡ 1 → ⊥
-fault_not_1 fault answer is (by_shelf same e) one = no_4 (status_of answer) (ap status_of (is ∙ e)) one
+fault_not_1 : (fault : JobFault) (answer : Answer) → answer ≡ answer_of fault → IsSorted fault
+    → status_of answer ≡ 1 → ⊥
+fault_not_1 fault answer is (by_shelf same e) one =
+    no_4 (status_of answer) (ap status_of (is ∙ e)) one
 fault_not_1 fault answer is (by_memory e) one = no_5 (status_of answer) (ap status_of (is ∙ e)) one
 fault_not_1 fault answer is (refused e) one = no_2 (status_of answer) (ap status_of (is ∙ e)) one
 
-follows_not_1 : (c : Call) (command : Command) (found : Result Job JobFault) (answer : Answer) → Follows c command found answer → status_of answer ≡ 1 → ⊥
+follows_not_1 : (c : Call) (command : Command) (found : Result Job JobFault) (answer : Answer)
+    → Follows c command found answer → status_of answer ≡ 1 → ⊥
 follows_not_1 c command (Ok job) answer x e = comes_not_1 c.work command job answer x.comes.cause e
-follows_not_1 c command (Err fault) answer x e = fault_not_1 fault answer x.answer_is (sorted fault) e
+follows_not_1 c command (Err fault) answer x e =
+    fault_not_1 fault answer x.answer_is (sorted fault) e
 
-usage_words : (c : Call) (answer : Answer) → Explains c answer → status_of answer ≡ 1 → asked c.words ≡ None
+usage_words : (c : Call) (answer : Answer) → Explains c answer → status_of answer ≡ 1
+    → asked c.words ≡ None
 usage_words c answer (inl wrong) e = wrong.words
-usage_words c answer (inr x) e = absurd (follows_not_1 c x.request.command x.found answer x.follows e)
+usage_words c answer (inr x) e =
+    absurd (follows_not_1 c x.request.command x.found answer x.follows e)
 
-asked_words : (c : Call) (answer : Answer) → Explains c answer → status_of answer ≢ 1 → (r : Request) × (asked c.words ≡ Some r)
+asked_words : (c : Call) (answer : Answer) → Explains c answer → status_of answer ≢ 1
+    → (r : Request) × (asked c.words ≡ Some r)
 asked_words c answer (inl wrong) other = absurd (other (ap status_of wrong.answer_is))
 asked_words c answer (inr x) other = (x.request, x.asks)
 
-other_said : (sink : Lent (List ℕ)) (answer : Answer) (result : ℕ) → WasSaid sink answer result → (result ≡ 0) ⊎ ((result ≡ 2) ⊎ ((result ≡ 3) ⊎ (result ≡ 6))) → status_of answer ≢ 1
-other_said sink answer result said (inl e) one = no_0 (status_of answer) (said_status sink answer result 0 said e (λ y. absurd cc) (λ y. absurd cc)) one
-other_said sink answer result said (inr (inl e)) one = no_2 (status_of answer) (said_status sink answer result 2 said e (λ y. absurd cc) (λ y. absurd cc)) one
-other_said sink answer result said (inr (inr (inl e))) one = no_3 (status_of answer) (said_status sink answer result 3 said e (λ y. absurd cc) (λ y. absurd cc)) one
-other_said sink answer result said (inr (inr (inr e))) one = no_6 (status_of answer) (said_status sink answer result 6 said e (λ y. absurd cc) (λ y. absurd cc)) one
+other_said : (sink : Lent (List ℕ)) (answer : Answer) (result : ℕ) → WasSaid sink answer result
+    → (result ≡ 0) ⊎ ((result ≡ 2) ⊎ ((result ≡ 3) ⊎ (result ≡ 6))) → status_of answer ≢ 1
+other_said sink answer result said (inl e) one =
+    no_0 (status_of answer)
+    (said_status sink answer result 0 said e (λ y. absurd cc) (λ y. absurd cc)) one
+other_said sink answer result said (inr (inl e)) one =
+    no_2 (status_of answer)
+    (said_status sink answer result 2 said e (λ y. absurd cc) (λ y. absurd cc)) one
+other_said sink answer result said (inr (inr (inl e))) one =
+    no_3 (status_of answer)
+    (said_status sink answer result 3 said e (λ y. absurd cc) (λ y. absurd cc)) one
+other_said sink answer result said (inr (inr (inr e))) one =
+    no_6 (status_of answer)
+    (said_status sink answer result 6 said e (λ y. absurd cc) (λ y. absurd cc)) one
 
 -- every status is one for the words
-pub status_for : (c : Call) (sink : Lent (List ℕ)) (result : ℕ) → Obeys c sink result → IsStatusFor c.words result
+pub status_for : (c : Call) (sink : Lent (List ℕ)) (result : ℕ) → Obeys c sink result
+    → IsStatusFor c.words result
 status_for c sink result obeys =
     let answer = obeys.printed.answer in
     let x = obeys.printed.cause in
@@ -118,7 +141,8 @@ status_for c sink result obeys =
     record {
       known = status_known sink answer result said;
       wrong_use = λ none. wrong_said sink answer result (wrong_answer c answer x none) said;
-      usage = λ e. usage_words c answer x (said_status sink answer result 1 said e (λ y. absurd cc) (λ y. absurd cc));
+      usage = λ e. usage_words c answer x
+          (said_status sink answer result 1 said e (λ y. absurd cc) (λ y. absurd cc));
       other = λ e. asked_words c answer x (other_said sink answer result said e);
     }
 
@@ -133,12 +157,17 @@ pub record IsMade (c : Call) (request : Request) (job : Job) : Type 0 where
   pub asks : asked c.words ≡ Some request
   pub makes : TellsFiles c request → Makes c request (Ok job)
 
--- 0: a run is done and has the undivided run's output, of a file or made, or another command has its text
+-- 0: a run is done and has the undivided run's output, of a file or made, or another command has
+-- its text
 pub data Done (c : Call) (sink : Lent (List ℕ)) : Type 0 where
-  run : (r : Request) (job : Job) → IsMade c r job → r.command ≡ commands.Run → HasRun c.work job ends.Done → Prints sink (done_text job.itlast) → Done c sink
-  made_run : (r : Request) (job : Job) (seed size output : ℕ) (live : ℤ) → IsMade c r job → r.command ≡ commands.Make seed size → (ran : HasRun c.work job ends.Done)
-      → IsSummed c.work job ran.found output live → Prints sink (made_text job.itlast seed size output live) → Done c sink
-  told : (r : Request) (job : Job) → IsMade c r job → (Runs r.command → ⊥) → IsStill c.work → Prints sink (command_text r.command job) → Done c sink
+  run : (r : Request) (job : Job) → IsMade c r job → r.command ≡ commands.Run
+      → HasRun c.work job ends.Done → Prints sink (done_text job.itlast) → Done c sink
+  made_run : (r : Request) (job : Job) (seed size output : ℕ) (live : ℤ) → IsMade c r job
+      → r.command ≡ commands.Make seed size → (ran : HasRun c.work job ends.Done)
+      → IsSummed c.work job ran.found output live
+      → Prints sink (made_text job.itlast seed size output live) → Done c sink
+  told : (r : Request) (job : Job) → IsMade c r job → (Runs r.command → ⊥) → IsStill c.work
+      → Prints sink (command_text r.command job) → Done c sink
 
 -- 2: the file makes no job, for this reason
 pub record Refused (c : Call) (sink : Lent (List ℕ)) : Type 0 where
@@ -171,18 +200,28 @@ pub record NotBegun (c : Call) (sink : Lent (List ℕ)) : Type 0 where
 abbrev Printed : Lent (List ℕ) → Answer → Type 0
 Printed sink answer = Prints sink (text_of answer)
 
-no_fault_status : (fault : JobFault) (answer : Answer) (s : ℕ) → answer ≡ answer_of fault → IsSorted fault → status_of answer ≡ s → (s ≡ 2 → ⊥) → (s ≡ 4 → ⊥) → (s ≡ 5 → ⊥) → ⊥
-no_fault_status fault answer s is (by_shelf same e) status not2 not4 not5 = not4 (sym (sym (ap status_of (is ∙ e)) ∙ status))
-no_fault_status fault answer s is (by_memory e) status not2 not4 not5 = not5 (sym (sym (ap status_of (is ∙ e)) ∙ status))
-no_fault_status fault answer s is (refused e) status not2 not4 not5 = not2 (sym (sym (ap status_of (is ∙ e)) ∙ status))
+no_fault_status : (fault : JobFault) (answer : Answer) (s : ℕ) → answer ≡ answer_of fault
+    → IsSorted fault → status_of answer ≡ s → (s ≡ 2 → ⊥) → (s ≡ 4 → ⊥) → (s ≡ 5 → ⊥) → ⊥
+no_fault_status fault answer s is (by_shelf same e) status not2 not4 not5 =
+    not4 (sym (sym (ap status_of (is ∙ e)) ∙ status))
+no_fault_status fault answer s is (by_memory e) status not2 not4 not5 =
+    not5 (sym (sym (ap status_of (is ∙ e)) ∙ status))
+no_fault_status fault answer s is (refused e) status not2 not4 not5 =
+    not2 (sym (sym (ap status_of (is ∙ e)) ∙ status))
 
-done_comes : (c : Call) (sink : Lent (List ℕ)) (r : Request) (job : Job) (answer : Answer) → IsMade c r job → Comes c.work r.command job answer → status_of answer ≡ 0 → Printed sink answer → Done c sink
+done_comes : (c : Call) (sink : Lent (List ℕ)) (r : Request) (job : Job) (answer : Answer)
+    → IsMade c r job → Comes c.work r.command job answer → status_of answer ≡ 0
+    → Printed sink answer → Done c sink
 done_comes c sink r job (a.Done iteration) is x e said =
-    run r job is x.command_is x.run (λ told. subst (λ (n : ℕ). Adds (done_text n) sink.old sink.new) x.last (said told))
+    run r job is x.command_is x.run
+    (λ told. subst (λ (n : ℕ). Adds (done_text n) sink.old sink.new) x.last (said told))
 done_comes c sink r job (a.Made iteration seed size output live) is x e said =
-    made_run r job seed size output live is x.command_is x.run x.sums (λ told. subst (λ (n : ℕ). Adds (made_text n seed size output live) sink.old sink.new) x.last (said told))
+    made_run r job seed size output live is x.command_is x.run x.sums
+    (λ told. subst (λ (n : ℕ). Adds (made_text n seed size output live) sink.old sink.new)
+    x.last (said told))
 done_comes c sink r job (a.Text text) made x e said =
-    told r job made x.other x.still (λ told. subst (λ (t : List ℕ). Adds t sink.old sink.new) x.text_is (said told))
+    told r job made x.other x.still
+    (λ told. subst (λ (t : List ℕ). Adds t sink.old sink.new) x.text_is (said told))
 done_comes c sink r job a.Usage made x e said = absurd x
 done_comes c sink r job (a.Refused fault) made x e said = absurd x
 done_comes c sink r job (a.Ended end) made x e said = absurd cc
@@ -192,24 +231,43 @@ done_comes c sink r job a.Wire made x e said = absurd cc
 done_comes c sink r job a.Memory made x e said = absurd cc
 done_comes c sink r job (a.Recovery fault) made x e said = absurd cc
 
-done_by : (c : Call) (sink : Lent (List ℕ)) (answer : Answer) → Explains c answer → status_of answer ≡ 0 → Printed sink answer → Done c sink
-done_by c sink answer (inl wrong) e said = absurd (no_0 (status_of answer) e (ap status_of wrong.answer_is))
+done_by : (c : Call) (sink : Lent (List ℕ)) (answer : Answer) → Explains c answer
+    → status_of answer ≡ 0 → Printed sink answer → Done c sink
+done_by c sink answer (inl wrong) e said =
+    absurd (no_0 (status_of answer) e (ap status_of wrong.answer_is))
 done_by c sink answer (inr x) e said = go x.found x.follows (job_made c answer x) e
   where
-    go : (found : Result Job JobFault) → Follows c x.request.command found answer → ((job : Job) → found ≡ Ok job → TellsFiles c x.request → Makes c x.request (Ok job)) → status_of answer ≡ 0 → Done c sink
-    go (Ok job) f made e = done_comes c sink x.request job answer (record { asks = x.asks; makes = made job refl }) f.comes.cause e said
-    go (Err fault) f made e = absurd (no_fault_status fault answer 0 f.answer_is (sorted fault) e (λ y. absurd cc) (λ y. absurd cc) (λ y. absurd cc))
+    go : (found : Result Job JobFault) → Follows c x.request.command found answer
+        → ((job : Job) → found ≡ Ok job → TellsFiles c x.request → Makes c x.request (Ok job))
+        → status_of answer ≡ 0 → Done c sink
+    go (Ok job) f made e = done_comes c sink x.request job answer
+        (record { asks = x.asks; makes = made job refl }) f.comes.cause e said
+    go (Err fault) f made e =
+        absurd (no_fault_status fault answer 0 f.answer_is (sorted fault) e (λ y. absurd cc)
+        (λ y. absurd cc) (λ y. absurd cc))
 
-pub done : (c : Call) (sink : Lent (List ℕ)) (result : ℕ) → Obeys c sink result → result ≡ 0 → Done c sink
+pub done : (c : Call) (sink : Lent (List ℕ)) (result : ℕ) → Obeys c sink result → result ≡ 0
+    → Done c sink
 done c sink result obeys e =
     let answer = obeys.printed.answer in
     let said = obeys.printed.said in
-    done_by c sink answer obeys.printed.cause (said_status sink answer result 0 said e (λ y. absurd cc) (λ y. absurd cc))
+    done_by c sink answer obeys.printed.cause
+    (said_status sink answer result 0 said e (λ y. absurd cc) (λ y. absurd cc))
     (said_text sink answer result 0 said e (λ y. absurd cc) (λ y. absurd cc))
 
-ended_comes : (c : Call) (sink : Lent (List ℕ)) (r : Request) (job : Job) (answer : Answer) → IsMade c r job → Comes c.work r.command job answer → status_of answer ≡ 3 → Printed sink answer → Ended c sink
+ended_comes : (c : Call) (sink : Lent (List ℕ)) (r : Request) (job : Job) (answer : Answer)
+    → IsMade c r job → Comes c.work r.command job answer → status_of answer ≡ 3
+    → Printed sink answer → Ended c sink
 ended_comes c sink r job (a.Ended end) made x e said =
-    record { request = r; job = job; end = end; made = made; other = x.other; ran = x.run; said = said }
+    record {
+      request = r;
+      job = job;
+      end = end;
+      made = made;
+      other = x.other;
+      ran = x.run;
+      said = said;
+    }
 ended_comes c sink r job (a.Done iteration) made x e said = absurd cc
 ended_comes c sink r job (a.Made iteration seed size output live) made x e said = absurd cc
 ended_comes c sink r job (a.Text text) made x e said = absurd cc
@@ -221,17 +279,26 @@ ended_comes c sink r job a.Wire made x e said = absurd cc
 ended_comes c sink r job a.Memory made x e said = absurd cc
 ended_comes c sink r job (a.Recovery fault) made x e said = absurd cc
 
-ended_by : (c : Call) (sink : Lent (List ℕ)) (answer : Answer) → Explains c answer → status_of answer ≡ 3 → Printed sink answer → Ended c sink
-ended_by c sink answer (inl wrong) e said = absurd (no_3 (status_of answer) e (ap status_of wrong.answer_is))
+ended_by : (c : Call) (sink : Lent (List ℕ)) (answer : Answer) → Explains c answer
+    → status_of answer ≡ 3 → Printed sink answer → Ended c sink
+ended_by c sink answer (inl wrong) e said =
+    absurd (no_3 (status_of answer) e (ap status_of wrong.answer_is))
 ended_by c sink answer (inr x) e said = go x.found x.follows (job_made c answer x) e
   where
-    go : (found : Result Job JobFault) → Follows c x.request.command found answer → ((job : Job) → found ≡ Ok job → TellsFiles c x.request → Makes c x.request (Ok job)) → status_of answer ≡ 3 → Ended c sink
-    go (Ok job) f made e = ended_comes c sink x.request job answer (record { asks = x.asks; makes = made job refl }) f.comes.cause e said
-    go (Err fault) f made e = absurd (no_fault_status fault answer 3 f.answer_is (sorted fault) e (λ y. absurd cc) (λ y. absurd cc) (λ y. absurd cc))
+    go : (found : Result Job JobFault) → Follows c x.request.command found answer
+        → ((job : Job) → found ≡ Ok job → TellsFiles c x.request → Makes c x.request (Ok job))
+        → status_of answer ≡ 3 → Ended c sink
+    go (Ok job) f made e = ended_comes c sink x.request job answer
+        (record { asks = x.asks; makes = made job refl }) f.comes.cause e said
+    go (Err fault) f made e =
+        absurd (no_fault_status fault answer 3 f.answer_is (sorted fault) e (λ y. absurd cc)
+        (λ y. absurd cc) (λ y. absurd cc))
 
-pub ended : (c : Call) (sink : Lent (List ℕ)) (result : ℕ) → Obeys c sink result → result ≡ 3 → Ended c sink
+pub ended : (c : Call) (sink : Lent (List ℕ)) (result : ℕ) → Obeys c sink result → result ≡ 3
+    → Ended c sink
 ended c sink result obeys e =
     let answer = obeys.printed.answer in
     let said = obeys.printed.said in
-    ended_by c sink answer obeys.printed.cause (said_status sink answer result 3 said e (λ y. absurd cc) (λ y. absurd cc))
+    ended_by c sink answer obeys.printed.cause
+    (said_status sink answer result 3 said e (λ y. absurd cc) (λ y. absurd cc))
     (said_text sink answer result 3 said e (λ y. absurd cc) (λ y. absurd cc))

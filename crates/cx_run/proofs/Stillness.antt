@@ -13,20 +13,30 @@ not_below_itself None = tt
 not_below_itself (Some n) = omega arith
 
 -- an image from before is a trail that keeps pace
-keeps_trail : (d : Drive) → AreTrails (course d) d.disk.old → (image : Files) → d.disk.old.images image → KeepsTrail d image
+keeps_trail : (d : Drive) → AreTrails (course d) d.disk.old → (image : Files)
+    → d.disk.old.images image → KeepsTrail d image
 keeps_trail d trails image was =
     record {
       trail = trails image was;
-      not_behind = λ goes_on. record { first = image; was = was; not_below = not_below_itself (newest image) };
-      pace = λ c has longer all. let l : length (image output_file) < length (image output_file) = all image was in absurd (omega (arith, l));
+      not_behind = λ goes_on.
+          record { first = image; was = was; not_below = not_below_itself (newest image) };
+      pace = λ c has longer all. let l : length (image output_file) < length (image output_file) =
+          all image was in absurd (omega (arith, l));
     }
 
-pub still_trails : (w : Work) (job : Job) → IsStill w → w.disk.tells → AreTrails (course (driven w job)) w.disk.old → LeavesTrails (driven w job)
+pub still_trails : (w : Work) (job : Job) → IsStill w → w.disk.tells
+    → AreTrails (course (driven w job)) w.disk.old → LeavesTrails (driven w job)
 still_trails w job still told trails =
     let quiet = still.quiet told in
-    record { later = quiet.moments.later; each = λ since image le left. go image (quiet.moments.each since image le left) }
+    record {
+      later = quiet.moments.later;
+      each = λ since image le left. go image (quiet.moments.each since image le left);
+    }
   where
-    go : {L : Type 0} (image : Files) → L ⊎ ((before : Files) × w.disk.old.images before × SameFiles before image) → L ⊎ KeepsTrail (driven w job) image
+    go : {L : Type 0} (image : Files)
+        → L ⊎ ((before : Files) × w.disk.old.images before × SameFiles before image)
+        → L ⊎ KeepsTrail (driven w job) image
     go image (inl left) = inl left
     go image (inr (before, was, same)) =
-        inr (subst (λ (files : Files). KeepsTrail (driven w job) files) (sym (fun_ext same)) (keeps_trail (driven w job) trails before was))
+        inr (subst (λ (files : Files). KeepsTrail (driven w job) files) (sym (fun_ext same))
+        (keeps_trail (driven w job) trails before was))

@@ -86,7 +86,8 @@ answer_at itlast end = a.Ended end
 -- a run that is done: `make` tells the length of its output, and how many cells live at the end
 abbrev pub done_by : Command → Job → Cores → ℕ → Answer
 done_by (Make seed size) job core iteration =
-    a.Made iteration seed size core.length (live_by (live_variable (setup_of job)) (last_number core))
+    a.Made iteration seed size core.length
+    (live_by (live_variable (setup_of job)) (last_number core))
 done_by command job core iteration = a.Done iteration
 
 abbrev pub summed : Command → Job → Cores → Answer → Answer

@@ -79,12 +79,13 @@ work_on rules d w disk disk_after wire wire_after meter meter_after = record {
 abbrev pub called_with :
     {H D W : Type 0} → List Rule → List Spec → ShelfGhosts H → DiskGhosts D → WireGhosts W
     → List (List ℕ) → H → H → D → D → W → W → ℕ → ℕ → Call
-called_with rules specs h d w words shelf shelf_after disk disk_after wire wire_after meter meter_after = record {
-  words = words;
-  specs = specs;
-  shelf = lent_shelf h shelf shelf_after;
-  work = work_on rules d w disk disk_after wire wire_after meter meter_after;
-}
+called_with rules specs h d w words shelf shelf_after disk disk_after wire wire_after meter
+    meter_after = record {
+      words = words;
+      specs = specs;
+      shelf = lent_shelf h shelf shelf_after;
+      work = work_on rules d w disk disk_after wire wire_after meter meter_after;
+    }
 
 -- ---- which files are read
 
@@ -98,8 +99,8 @@ shelf_of files = record {
   faults = record { old = 0; new = 0 };
 }
 
--- the shelf that a command reads: `make` one of its own, with the files that it makes, the others the
--- one that was lent
+-- the shelf that a command reads: `make` one of its own, with the files that it makes, the others
+-- the one that was lent
 abbrev pub shelf_for : Lent Held → Command → Lent Held
 shelf_for lent (Make seed size) = shelf_of (made_files seed size)
 shelf_for lent command = lent
@@ -153,7 +154,8 @@ driven w job = record { job = job; rules = w.rules; disk = w.disk; wire = w.wire
 abbrev pub AreTold : Call → Type 0
 AreTold c = c.work.disk.tells × c.work.wire.tells
 
--- how many cells live, by the numbers of a run's scalars, where there is a scalar that says it, else 0
+-- how many cells live, by the numbers of a run's scalars, where there is a scalar that says it,
+-- else 0
 abbrev pub live_by : Option VarId → (VarId → ℤ) → ℤ
 live_by None number = pos 0
 live_by (Some v) number = number v

@@ -1,5 +1,5 @@
 -- What stands behind each answer.
-use Rattle.std.specs.Prelude.{◌≡◌, ◌≢◌, ◌⊎◌, ℕ, ℤ, List, length, Option, None, Some, Result, Ok, Err}
+use Rattle.std.specs.Prelude.{◌≡◌, ◌≢◌, ◌⊎◌, ℕ, ℤ, List, [], length, Option, None, Some, Result, Ok, Err}
 use Rattle.cx_disk.specs.Disk.{Files, IsNamed}
 use Rattle.cx_plan.specs.Setups.{setup_of}
 use Rattle.cx_plan.specs.Whole.{IsWhole}
@@ -39,7 +39,8 @@ use Rattle.cx_run.specs.declared.words.Command.TheVariants.{Run, Make}
 -- the last checkpoint of the run is the newest one of each image
 abbrev pub HasLast : Drive → Type 0
 HasLast d =
-    (image : Files) → d.disk.new.images image → (n : Option ℕ) × NewestIs image n × LastIs (course d) n
+    (image : Files) → d.disk.new.images image
+    → (n : Option ℕ) × NewestIs image n × LastIs (course d) n
 
 -- from a disk that it can go on from: the undivided run's output and end, and its work where it is
 -- done
@@ -56,7 +57,7 @@ pub record HasRun (w : Work) (job : Job) (end : End) : Type 0 where
   pub began : w.disk.tells → begun job w.disk.old.seen ≡ Ok found
   pub ends : AreTold (driven w job) → end_by (run_from (setup_of job) w.rules found).outcome ≡ end
   pub come : AreTold (driven w job) → StartsWell (driven w job) → HasCome (driven w job) end
-  pub folders : IsNamed job.out_dir job.chk_dir w.folders
+  pub folders : IsNamed job.out_dir [] job.chk_dir w.folders
 
 -- how many cells live in the last state of a run that is done
 abbrev pub LiveIs : Job → Trace → ℤ → Type 0
@@ -119,7 +120,8 @@ Comes w command job a.Shelf = ⊥
 abbrev pub WereTrails : Work → Job → Type 0
 WereTrails w job = AreTrails (course (driven w job)) w.disk.old
 
--- A run that began on trails is refused only where a checkpoint is asked for and there is none, and leaves trails at each moment.
+-- A run that began on trails is refused only where a checkpoint is asked for and there is none, and
+-- leaves trails at each moment.
 pub record ComesTo (w : Work) (command : Command) (job : Job) (answer : Answer) : Type 0 where
   pub cause : Comes w command job answer
   pub begins : Runs command → w.disk.tells → WereTrails w job → BeginsOn job w.rules w.disk.old.seen

@@ -31,9 +31,9 @@ use Rattle.cx_run.specs.declared.words.Command.TheVariants.{Make}
 abbrev pub IsEnd : ℕ → Type 0
 IsEnd result = (result ≡ 0) ⊎ (result ≡ 3)
 
--- What it leaves of a disk that it could go on from: the undivided run's output, its last checkpoint
--- as the newest one, and no other end than the undivided run's. Where it is done, what was computed
--- and exchanged is what was left to do.
+-- What it leaves of a disk that it could go on from: the undivided run's output, its last
+-- checkpoint as the newest one, and no other end than the undivided run's. Where it is done, what
+-- was computed and exchanged is what was left to do.
 pub record Leaves (w : Work) (job : Job) (result : ℕ) : Type 0 where
   pub output : IsEnd result → HasWholeOutput (driven w job)
   pub last : IsEnd result → HasLast (driven w job)
@@ -118,7 +118,8 @@ pub data Gives (c : Call) : ℕ → Type 0 where
   run : AreTold c → (job : Job) (found : Option Checkpoint) → IsRun c job
       → begun job c.work.disk.old.seen ≡ Ok found
       → Gives c (status_at (end_by (run_from (setup_of job) c.work.rules found).outcome))
-  -- from trails, or where old checkpoints are given up, unless a checkpoint is asked for and none is there
+  -- from trails, or where old checkpoints are given up, unless a checkpoint is asked for and none
+  -- is there
   well : AreTold c → (job : Job) → IsRun c job → StartsWell (driven c.work job)
       → begun job c.work.disk.old.seen ≢ Err NoCheckpoint
       → Gives c (status_at (end_of (setup_of job) c.work.rules))

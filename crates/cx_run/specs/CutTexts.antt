@@ -41,7 +41,8 @@ neighbour_text (Some k) = number_text k
 neighbour_text None = codes " -"
 
 abbrev pub side_text : Parts → ℕ → Side → List ℕ
-side_text c k side = flat_map (λ d. neighbour_text (neighbour c k d side)) (range_with_len 0 c.shape.dims)
+side_text c k side = flat_map (λ d. neighbour_text (neighbour c k d side))
+    (range_with_len 0 c.shape.dims)
 
 -- a part's number, where its own points begin, how many they are, and its neighbours
 abbrev pub place_text : Parts → ℕ → List ℕ
@@ -50,7 +51,8 @@ place_text c k =
     ++ codes " size" ++ point_text c.shape.dims (size_of (owned c k))
 
 abbrev pub sides_text : Parts → ℕ → List ℕ
-sides_text c k = codes " low" ++ side_text c k Low ++ codes " high" ++ side_text c k High ++ line_feed
+sides_text c k = codes " low" ++ side_text c k Low ++ codes " high" ++ side_text c k High
+    ++ line_feed
 
 abbrev pub part_line : Parts → ℕ → List ℕ
 part_line c k = place_text c k ++ sides_text c k

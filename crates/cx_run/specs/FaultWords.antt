@@ -1,5 +1,5 @@
--- The words of every fault: the texts that outer faults keep (a file's name, a thorn or a path), the name of the innermost variant, and what
--- it keeps, with one blank between each two.
+-- The words of every fault: the texts that outer faults keep (a file's name, a thorn or a path),
+-- the name of the innermost variant, and what it keeps, with one blank between each two.
 use Rattle.std.specs.Prelude.{ℕ, List, [], ◌∷◌, ◌++◌, codes}
 use Rattle.std.specs.List.{join_with_byte, join_by}
 use Rattle.std.specs.Fmt.{decimal}
@@ -71,14 +71,18 @@ bind_fault_words (binds.TwoProviders implementation a b) =
     spaced (codes "TwoProviders" ∷ or_dash implementation ∷ or_dash a ∷ or_dash b ∷ [])
 bind_fault_words (binds.MissingImplementation thorn implementation) =
     spaced (codes "MissingImplementation" ∷ or_dash thorn ∷ or_dash implementation ∷ [])
-bind_fault_words (binds.MissingCapability thorn capability) = spaced (codes "MissingCapability" ∷ or_dash thorn ∷ or_dash capability ∷ [])
-bind_fault_words (binds.MissingThorn thorn other) = spaced (codes "MissingThorn" ∷ or_dash thorn ∷ or_dash other ∷ [])
+bind_fault_words (binds.MissingCapability thorn capability) =
+    spaced (codes "MissingCapability" ∷ or_dash thorn ∷ or_dash capability ∷ [])
+bind_fault_words (binds.MissingThorn thorn other) =
+    spaced (codes "MissingThorn" ∷ or_dash thorn ∷ or_dash other ∷ [])
 bind_fault_words (binds.NoParameter thorn implementation name) =
     spaced (codes "NoParameter" ∷ or_dash thorn ∷ or_dash implementation ∷ or_dash name ∷ [])
-bind_fault_words (binds.WrongType thorn name) = spaced (codes "WrongType" ∷ or_dash thorn ∷ or_dash name ∷ [])
+bind_fault_words (binds.WrongType thorn name) =
+    spaced (codes "WrongType" ∷ or_dash thorn ∷ or_dash name ∷ [])
 bind_fault_words (binds.TwoVariables full) = spaced (codes "TwoVariables" ∷ or_dash full ∷ [])
 bind_fault_words (binds.TwoParameters full) = spaced (codes "TwoParameters" ∷ or_dash full ∷ [])
-bind_fault_words (binds.Unsupported thorn name) = spaced (codes "Unsupported" ∷ or_dash thorn ∷ or_dash name ∷ [])
+bind_fault_words (binds.Unsupported thorn name) =
+    spaced (codes "Unsupported" ∷ or_dash thorn ∷ or_dash name ∷ [])
 bind_fault_words (binds.TwoDims a b) = spaced (codes "TwoDims" ∷ or_dash a ∷ or_dash b ∷ [])
 bind_fault_words (binds.Limit of_ n) = spaced (codes "Limit" ∷ or_dash of_ ∷ decimal n ∷ [])
 bind_fault_words binds.Memory = codes "Memory"
@@ -120,18 +124,24 @@ order_fault_words (orders.Limit of_ n) = spaced (codes "Limit" ∷ or_dash of_ �
 order_fault_words orders.Memory = codes "Memory"
 
 abbrev pub region_fault_words : RegionFault → List ℕ
-region_fault_words (regions.Shape path var) = spaced (codes "Shape" ∷ or_dash path ∷ or_dash var ∷ [])
+region_fault_words (regions.Shape path var) =
+    spaced (codes "Shape" ∷ or_dash path ∷ or_dash var ∷ [])
 region_fault_words (regions.Unset path item var level flag) =
-    spaced (codes "Unset" ∷ or_dash path ∷ or_dash item ∷ or_dash var ∷ decimal level ∷ flag_letter flag ∷ [])
+    spaced (codes "Unset" ∷ or_dash path ∷ or_dash item ∷ or_dash var ∷ decimal level
+    ∷ flag_letter flag ∷ [])
 region_fault_words regions.Memory = codes "Memory"
 
 -- ---- cuts
 
 abbrev pub cut_fault_words : CutFault → List ℕ
-cut_fault_words (cuts.WidthsDiffer sum points) = spaced (codes "WidthsDiffer" ∷ decimal sum ∷ decimal points ∷ [])
-cut_fault_words (cuts.GridTooSmall points least) = spaced (codes "GridTooSmall" ∷ decimal points ∷ decimal least ∷ [])
-cut_fault_words (cuts.TooMany parts most) = spaced (codes "TooMany" ∷ decimal parts ∷ decimal most ∷ [])
-cut_fault_words (cuts.PartTooThin width least) = spaced (codes "PartTooThin" ∷ decimal width ∷ decimal least ∷ [])
+cut_fault_words (cuts.WidthsDiffer sum points) =
+    spaced (codes "WidthsDiffer" ∷ decimal sum ∷ decimal points ∷ [])
+cut_fault_words (cuts.GridTooSmall points least) =
+    spaced (codes "GridTooSmall" ∷ decimal points ∷ decimal least ∷ [])
+cut_fault_words (cuts.TooMany parts most) =
+    spaced (codes "TooMany" ∷ decimal parts ∷ decimal most ∷ [])
+cut_fault_words (cuts.PartTooThin width least) =
+    spaced (codes "PartTooThin" ∷ decimal width ∷ decimal least ∷ [])
 cut_fault_words cuts.Memory = codes "Memory"
 
 -- ---- jobs

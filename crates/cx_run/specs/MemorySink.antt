@@ -2,7 +2,8 @@
 use Rattle.std.specs.Prelude.{ℕ, ◌+◌, ◌-◌, ◌^◌, ◌≤◌, List, [], length, min, take}
 use Rattle.std.specs.List.{Contains}
 
--- its bytes, the most that it holds, the numbers of the calls that fail, and how many calls and faults there were
+-- its bytes, the most that it holds, the numbers of the calls that fail, and how many calls and
+-- faults there were
 pub record Written : Type 0 where
   pub bytes : List ℕ
   pub room : ℕ
@@ -21,10 +22,6 @@ HasRoom sink piece = length sink.bytes + length piece ≤ sink.room
 -- a sink that nothing was written to
 abbrev pub empty_sink : ℕ → List ℕ → Written
 empty_sink room fail = record { bytes = []; room = room; fail = fail; calls = 0; faults = 0 }
-
--- a count and one more, up to where it stops
-abbrev pub next_count : ℕ → ℕ
-next_count n = min (n + 1) (2 ^ 64 - 1)
 
 -- the front of a piece that there is room for
 abbrev pub fitting : Written → List ℕ → List ℕ

@@ -51,7 +51,7 @@ use std::alloc::Global;
 /// done it tells how many points there are, how long the output is, and how many cells live in the last state.
 ///
 /// A run goes by `drive` of cx_drive: the grid is cut into parts, which exchange messages by the wire, in the order that `turns`
-/// picks; the output goes into file 8 of the disk, and checkpoints into the files 0 to 7. By the job's `IO::recover` it begins afresh
+/// picks; the output goes into the file `OLD_OUTPUT` of the disk, and checkpoints into its slots. By the job's `IO::recover` it begins afresh
 /// or goes on from the newest checkpoint. Where the shelf, the disk and the wire tell what they hold, and each image of the disk is a
 /// trail of the job at the start, or old checkpoints are given up, then at status 0 and 3 the output is that of the undivided run, also
 /// in what a crash may leave; and at any status each image at each moment of the call is a trail of the job.

@@ -125,6 +125,7 @@ fn push_further(text: &mut Text, name: &Text) -> Result<(), Memory>
     push_or_dash(text, name.as_slice())
 }
 
+/// Adds names with a comma before each.
 fn push_each_further(text: &mut Text, names: &[Text]) -> Result<(), Memory>
     ensures { OnOk result
         (text.new ≡ text.old ++ flat_map (λ name. codes "," ++ or_dash name) names.now) }

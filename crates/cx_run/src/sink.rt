@@ -2,16 +2,19 @@
 ghost use Rattle.std.specs.Prelude.{◌≡◌, ◌≤◌, ◌<◌, ◌-◌, ◌+◌, ◌^◌, ◌↔◌, [], ℕ, List as ListOf, OnOk, OnErr, IfOk, IsOk, IsErr, IsTrue, min, length, take, ◌++◌};
 ghost use Rattle.cx_run.specs.Sink.{Adds, AddsFront};
 ghost use Rattle.cx_disk.specs.Cause.{HasCause};
-ghost use Rattle.cx_run.specs.MemorySink.{FailsNext, HasRoom, empty_sink, next_count, fitting};
+ghost use Rattle.cx_run.specs.MemorySink.{FailsNext, HasRoom, empty_sink, fitting};
+ghost use Rattle.cx_disk.specs.Fuse.{next_count};
 
 use cx_text::{List, Memory};
 use std::alloc::Global;
 use std::marker::Model;
+use thiserror::Error;
 
 /// Why a sink took less than it was given.
-#[derive(Clone, Copy, Debug, PartialEq, Eq)]
+#[derive(Clone, Copy, Debug, Error, PartialEq, Eq)]
 pub enum SinkFault {
     /// The sink failed. Its count of faults has risen in this call, or stands at 2^64 - 1.
+    #[error("Failed")]
     Failed,
 }
 
@@ -83,7 +86,7 @@ impl MemorySink {
         &self.bytes
     }
 
-    // A failure, counted.
+    /// A failure, which is counted.
     fn failed(&mut self) -> Result<(), SinkFault>
         ensures fails { IsErr result }
         ensures next { self.new ≡ record self.old { faults = next_count self.old.faults } }
@@ -92,7 +95,7 @@ impl MemorySink {
         Err(SinkFault::Failed)
     }
 
-    // Writes as much of the front of a piece as there is room for, and tells whether that is all of it.
+    /// Writes as much of the front of a piece as there is room for, and says whether that is all of it.
     fn fill(&mut self, piece: &[u8]) -> bool
         ensures all { IsTrue result ↔ HasRoom self.old piece.now }
         ensures next { self.new

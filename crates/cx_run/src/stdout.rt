@@ -35,6 +35,7 @@ impl<R: Print + Drop> Sink for StdoutSink<R> {
 
     ghost faults = { λ sink. sink };
 
+    /// Writes all bytes to standard output, in as many pieces as it takes.
     fn put(&mut self, bytes: &[u8]) -> Result<(), SinkFault> {
         let mut rest = bytes;
         'pieces: while !rest.is_empty() {

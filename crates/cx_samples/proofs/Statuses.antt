@@ -9,14 +9,17 @@ use Rattle.cx_run.proofs.Readings.{status_for}
 
 -- what holds with a call's own routines holds with the sample thorns'
 pub with_samples :
-    (By : List Rule → List Spec → Type 0) (rules sample_rules : List Rule) (specs sample_specs : List Spec)
+    (By : List Rule → List Spec → Type 0) (rules sample_rules : List Rule)
+    (specs sample_specs : List Spec)
     → rules ≡ sample_rules → specs ≡ sample_specs → By rules specs → By sample_rules sample_specs
 with_samples By rules sample_rules specs sample_specs same_rules same_specs by =
-    subst (λ (ss : List Spec). By sample_rules ss) same_specs (subst (λ (rs : List Rule). By rs specs) same_rules by)
+    subst (λ (ss : List Spec). By sample_rules ss) same_specs
+    (subst (λ (rs : List Rule). By rs specs) same_rules by)
 
 -- the status of a call that obeys is one for its words
 pub status_of_call :
-    {E : Type 0} (c : Call) (sink : Lent (List ℕ)) (result : Result ℕ E) → IfOk result (Obeys c sink) → IfOk result (IsStatusFor c.words)
+    {E : Type 0} (c : Call) (sink : Lent (List ℕ)) (result : Result ℕ E)
+    → IfOk result (Obeys c sink) → IfOk result (IsStatusFor c.words)
 status_of_call c sink (Ok status) obeys = status_for c sink status obeys
 status_of_call c sink (Err e) obeys = tt
 
@@ -38,5 +41,6 @@ wanting_status words s five =
       other = λ e. absurd (not_other s five e);
     }
 
-pub same_status : (words : List (List ℕ)) (s t : ℕ) → t ≡ s → IsStatusFor words s → IsStatusFor words t
+pub same_status : (words : List (List ℕ)) (s t : ℕ) → t ≡ s → IsStatusFor words s
+    → IsStatusFor words t
 same_status words s t e is = subst (λ (n : ℕ). IsStatusFor words n) (sym e) is

@@ -13,7 +13,8 @@ abbrev pub sample_rules : List Rule
 sample_rules =
     ca_init_rule ∷ ca_step_rule ∷ ca_zero_rule ∷ ca_count_rule
     ∷ life_init_rule ∷ life_step_rule ∷ life_zero_rule ∷ life_count_rule
-    ∷ wave_init_rule ∷ wave_init1_rule ∷ wave_step_rule ∷ wave_copy_rule ∷ wave_flat_rule ∷ wave_scalar_rule ∷ wave_sum_rule
+    ∷ wave_init_rule ∷ wave_init1_rule ∷ wave_step_rule ∷ wave_copy_rule ∷ wave_flat_rule
+    ∷ wave_scalar_rule ∷ wave_sum_rule
     ∷ diff_init_rule ∷ diff_step_rule ∷ diff_flat_rule ∷ diff_scalar_rule ∷ diff_sum_rule
     ∷ control_set_rule ∷ control_spin_rule ∷ []
 
@@ -22,6 +23,7 @@ abbrev pub sample_specs : List Spec
 sample_specs =
     ca_init_spec ∷ ca_step_spec ∷ ca_zero_spec ∷ ca_count_spec
     ∷ life_init_spec ∷ life_step_spec ∷ life_zero_spec ∷ life_count_spec
-    ∷ wave_init_spec ∷ wave_init1_spec ∷ wave_step_spec ∷ wave_copy_spec ∷ wave_flat_spec ∷ wave_scalar_spec ∷ wave_sum_spec
+    ∷ wave_init_spec ∷ wave_init1_spec ∷ wave_step_spec ∷ wave_copy_spec ∷ wave_flat_spec
+    ∷ wave_scalar_spec ∷ wave_sum_spec
     ∷ diff_init_spec ∷ diff_step_spec ∷ diff_flat_spec ∷ diff_scalar_spec ∷ diff_sum_spec
     ∷ control_set_spec ∷ control_spin_spec ∷ []

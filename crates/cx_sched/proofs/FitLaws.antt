@@ -46,14 +46,19 @@ both_true true b e = (refl, e)
 both_true false b e = absurd cc
 
 same_length : (w v : List ℕ) → same_name w v ≡ true → length w ≡ length v
-same_length w v e = sym (length-map w to_ascii_lowercase) ∙ ap length ((bytes_eq-Decides (map to_ascii_lowercase w) (map to_ascii_lowercase v)).0 e) ∙ length-map v to_ascii_lowercase
+same_length w v e = sym (length-map w to_ascii_lowercase)
+    ∙ ap length ((bytes_eq-Decides (map to_ascii_lowercase w) (map to_ascii_lowercase v)).0 e)
+    ∙ length-map v to_ascii_lowercase
 
 way_short : (w : List ℕ) → is_way_name w ≡ true → length w ≤ 64
-way_short w e = either_true (same_name w AT) (same_name w IN) (length w ≤ 64) (λ h. let l = same_length w AT h in omega (arith, l)) (λ h. let l = same_length w IN h in omega (arith, l)) e
+way_short w e = either_true (same_name w AT) (same_name w IN) (length w ≤ 64)
+    (λ h. let l = same_length w AT h in omega (arith, l))
+    (λ h. let l = same_length w IN h in omega (arith, l)) e
 
 -- AT or IN is a word
 way_word : (t : Token) → is_way t ≡ true → is_word t ≡ true
-way_word t e = either_true (is_named AT t) (is_named IN t) (is_word t ≡ true) (λ h. (both_true (is_word t) _ h).0) (λ h. (both_true (is_word t) _ h).0) e
+way_word t e = either_true (is_named AT t) (is_named IN t) (is_word t ≡ true)
+    (λ h. (both_true (is_word t) _ h).0) (λ h. (both_true (is_word t) _ h).0) e
 
 -- a word is AT or IN where its text is
 way_text : (t : Token) → is_word t ≡ true → is_way t ≡ is_way_name t.text
@@ -63,11 +68,13 @@ some_at : {A : Type 0} (b : Bool) (v x : A) → cond b (Some v) None ≡ Some x 
 some_at true v x e = (refl, cc)
 some_at false v x e = absurd cc
 
-way_sees : {F : Option Token → Type 0} → Sees F way (λ w n. (IsName w × (is_way_name w ≡ true)) × Ended n)
+way_sees : {F : Option Token → Type 0}
+    → Sees F way (λ w n. (IsName w × (is_way_name w ≡ true)) × Ended n)
 way_sees = sees_lexeme (λ w. IsName w × (is_way_name w ≡ true)) (λ t x h v m f.
     let k = some_at (is_way t) t.text x v in
     let a_word = way_word t k.0 in
-    let is : is_way_name x ≡ true = subst (λ (w : List ℕ). is_way_name w ≡ true) k.1 (sym (way_text t a_word) ∙ k.0) in
+    let is : is_way_name x ≡ true =
+    subst (λ (w : List ℕ). is_way_name w ≡ true) k.1 (sym (way_text t a_word) ∙ k.0) in
     ((way_short x is, printable_name Ccl t x h (rw a_word (ap (λ (w : List ℕ). Some w) k.1))), is))
 
 -- ---- the head
@@ -86,20 +93,24 @@ place_is : (b : Bool) (p : List ℕ) → place_of (cond b (At p) (Inside p)) ≡
 place_is true p = refl
 place_is false p = refl
 
-good : (g : Bool) (n w p : List ℕ) → IsName n → IsName p → HeadGood (record { group = g; name = n; spot = spot w p })
+good : (g : Bool) (n w p : List ℕ) → IsName n → IsName p
+    → HeadGood (record { group = g; name = n; spot = spot w p })
 good g n w p h k = (h, subst IsName (sym (place_is (same_name w AT) p)) k)
 
-placed_sees : {F : Option Token → Type 0} (g : Bool) (n : List ℕ) → IsName n → (g ≡ false → same_name n GROUP ≡ true → ⊥) → Sees F (placed g n) HeadFits
+placed_sees : {F : Option Token → Type 0} (g : Bool) (n : List ℕ) → IsName n
+    → (g ≡ false → same_name n GROUP ≡ true → ⊥) → Sees F (placed g n) HeadFits
 placed_sees g n h never =
     sees_also way_sees (λ w q.
     sees_also name_sees (λ p k.
     sees_nothing (λ m e. (good g n w p h k, (e, λ o. absurd (never o.0 o.1))))))
 
-place_sees : {F : Option Token → Type 0} (g w : List ℕ) → IsName g → Sees (λ n. F n × (passes is_way n ≡ false)) (place g w) HeadFits
+place_sees : {F : Option Token → Type 0} (g w : List ℕ) → IsName g
+    → Sees (λ n. F n × (passes is_way n ≡ false)) (place g w) HeadFits
 place_sees g w h =
     sees_also (sees_lexeme (λ p. IsName p × (is_way_name p ≡ false)) (λ t x k v m f.
     let j = some_at (is_word t) t.text x v in
-    let is : is_way_name x ≡ false = subst (λ (y : List ℕ). is_way_name y ≡ false) j.1 (sym (way_text t j.0) ∙ f.1) in
+    let is : is_way_name x ≡ false =
+    subst (λ (y : List ℕ). is_way_name y ≡ false) j.1 (sym (way_text t j.0) ∙ f.1) in
     ((name_is_short t x v m, printable_name Ccl t x k v), is))) (λ p k.
     sees_nothing (λ m e. (
       good false g w p h k.0,
@@ -111,19 +122,27 @@ place_sees g w h =
       ),
     )))
 
-either_sees : {F : Option Token → Type 0} (g n : List ℕ) → IsName g → IsName n → Sees F (either g n) HeadFits
+either_sees : {F : Option Token → Type 0} (g n : List ℕ) → IsName g → IsName n
+    → Sees F (either g n) HeadFits
 either_sees g n h k =
     sees_also way_sees (λ w q.
-    sees_choice (sees_also name_sees (λ p j. sees_nothing (λ m e. (good true n w p k j, (e, λ o. absurd (let bad : true ≡ false = o.0 in cc))))))
+    sees_choice (sees_also name_sees
+    (λ p j. sees_nothing (λ m e.
+    (good true n w p k j, (e, λ o. absurd (let bad : true ≡ false = o.0 in cc))))))
     (sees_nothing (λ m e. (good false g n w h q.0, (e.0, λ o. e.1)))))
 
-behind_group_sees : {F : Option Token → Type 0} (b : Bool) (g n : List ℕ) → IsName g → IsName n → Sees F (behind_group b g n) HeadFits
+behind_group_sees : {F : Option Token → Type 0} (b : Bool) (g n : List ℕ) → IsName g → IsName n
+    → Sees F (behind_group b g n) HeadFits
 behind_group_sees true g n h k = sees_choice (either_sees g n h k) (place_sees g n h)
-behind_group_sees false g n h k = placed_sees true n k (λ e f. let bad : true ≡ false = e in absurd cc)
+behind_group_sees false g n h k =
+    placed_sees true n k (λ e f. let bad : true ≡ false = e in absurd cc)
 
-behind_name_sees : {F : Option Token → Type 0} (b : Bool) (n : List ℕ) → same_name n GROUP ≡ b → IsName n → Sees F (behind_name b n) HeadFits
-behind_name_sees true g is h = sees_also name_sees (λ n k. behind_group_sees (is_way_name n) g n h k)
-behind_name_sees false n is h = placed_sees false n h (λ e f. let bad : true ≡ false = sym f ∙ is in absurd cc)
+behind_name_sees : {F : Option Token → Type 0} (b : Bool) (n : List ℕ) → same_name n GROUP ≡ b
+    → IsName n → Sees F (behind_name b n) HeadFits
+behind_name_sees true g is h =
+    sees_also name_sees (λ n k. behind_group_sees (is_way_name n) g n h k)
+behind_name_sees false n is h =
+    placed_sees false n h (λ e f. let bad : true ≡ false = sym f ∙ is in absurd cc)
 
 head_sees : {F : Option Token → Type 0} → Sees F head HeadFits
 head_sees = sees_also name_sees (λ n h. behind_name_sees (same_name n GROUP) n refl h)
@@ -133,28 +152,64 @@ head_sees = sees_also name_sees (λ n h. behind_name_sees (same_name n GROUP) n 
 abbrev ClausesGood : Clauses → Type 0
 ClausesGood c = ClausesFit c.alias c.test c.turn c.before c.after
 
-listed_sees : {F : Option Token → Type 0} (ns : List (List ℕ)) → AllByRecursion IsName ns → Sees F (listed ns) (λ ms n. AllByRecursion IsName ms × Unit {0})
+listed_sees : {F : Option Token → Type 0} (ns : List (List ℕ)) → AllByRecursion IsName ns
+    → Sees F (listed ns) (λ ms n. AllByRecursion IsName ms × Unit {0})
 listed_sees ns h =
     sees_also name_sees (λ n k.
-    sees_from (weaker_sees (sees_loop {test = is_comma_or_word} (λ ms n. AllByRecursion IsName ms) (λ ms. sees_given (AllByRecursion IsName ms) (λ o f. f.0) (λ g.
-    sees_also (sees_any comma) (λ u p. sees_also name_sees (λ m j. sees_nothing (λ o e. each-append IsName ms (m ∷ []) g (j, tt))))))) (λ ms o g. (g.0, tt)))
+    sees_from
+    (weaker_sees (sees_loop {test = is_comma_or_word} (λ ms n. AllByRecursion IsName ms)
+    (λ ms. sees_given (AllByRecursion IsName ms) (λ o f. f.0) (λ g.
+    sees_also (sees_any comma)
+    (λ u p. sees_also name_sees
+    (λ m j. sees_nothing (λ o e. each-append IsName ms (m ∷ []) g (j, tt)))))))
+    (λ ms o g. (g.0, tt)))
     (λ o e. each-append IsName ns (n ∷ []) h (k, tt)))
 
-name_list_sees : {F : Option Token → Type 0} (ns : List (List ℕ)) → AllByRecursion IsName ns → Sees F (name_list ns) (λ ms n. AllByRecursion IsName ms × Ended n)
+name_list_sees : {F : Option Token → Type 0} (ns : List (List ℕ)) → AllByRecursion IsName ns
+    → Sees F (name_list ns) (λ ms n. AllByRecursion IsName ms × Ended n)
 name_list_sees ns h =
-    sees_choice (sees_also sees_skipped (λ u p. sees_also (listed_sees ns h) (λ ms g. sees_also sees_skipped (λ v q. sees_nothing (λ m e. (g, e))))))
-    (sees_also name_sees (λ n k. sees_nothing (λ m e. (each-append IsName ns (n ∷ []) h (k, tt), e))))
+    sees_choice (sees_also sees_skipped
+    (λ u p. sees_also (listed_sees ns h)
+    (λ ms g. sees_also sees_skipped (λ v q. sees_nothing (λ m e. (g, e))))))
+    (sees_also name_sees (λ n k.
+    sees_nothing (λ m e. (each-append IsName ns (n ∷ []) h (k, tt), e))))
 
 abbrev ClauseFits : Clauses → Option Token → Type 0
 ClauseFits c n = ClausesGood c × Ended n
 
-clause_sees : {F : Option Token → Type 0} (c : Clauses) → ClausesGood c → Sees F (clause c) ClauseFits
+clause_sees : {F : Option Token → Type 0} (c : Clauses) → ClausesGood c
+    → Sees F (clause c) ClauseFits
 clause_sees c g =
-    sees_choice (sees_also sees_skipped (λ u p. sees_also name_sees (λ n h. sees_nothing (λ m e. (record { alias = h; test = g.test; turn = g.turn; before = g.before; after = g.after }, e)))))
-    (sees_choice (sees_also sees_skipped (λ u p. sees_also reference_sees (λ r h. sees_nothing (λ m e. (record { alias = g.alias; test = h; turn = g.turn; before = g.before; after = g.after }, e)))))
-    (sees_choice (sees_also sees_skipped (λ u p. sees_also reference_sees (λ r h. sees_nothing (λ m e. (record { alias = g.alias; test = g.test; turn = h; before = g.before; after = g.after }, e)))))
-    (sees_choice (sees_also sees_skipped (λ u p. sees_also (name_list_sees c.before g.before) (λ ns h. sees_nothing (λ m e. (record { alias = g.alias; test = g.test; turn = g.turn; before = h; after = g.after }, e)))))
-    (sees_also sees_skipped (λ u p. sees_also (name_list_sees c.after g.after) (λ ns h. sees_nothing (λ m e. (record { alias = g.alias; test = g.test; turn = g.turn; before = g.before; after = h }, e))))))))
+    sees_choice (sees_also sees_skipped
+    (λ u p. sees_also name_sees
+    (λ n h. sees_nothing (λ m e. (
+      record { alias = h; test = g.test; turn = g.turn; before = g.before; after = g.after },
+      e,
+    )))))
+    (sees_choice (sees_also sees_skipped
+    (λ u p. sees_also reference_sees
+    (λ r h. sees_nothing (λ m e. (
+      record { alias = g.alias; test = h; turn = g.turn; before = g.before; after = g.after },
+      e,
+    )))))
+    (sees_choice (sees_also sees_skipped
+    (λ u p. sees_also reference_sees
+    (λ r h. sees_nothing (λ m e. (
+      record { alias = g.alias; test = g.test; turn = h; before = g.before; after = g.after },
+      e,
+    )))))
+    (sees_choice (sees_also sees_skipped
+    (λ u p. sees_also (name_list_sees c.before g.before)
+    (λ ns h. sees_nothing (λ m e. (
+      record { alias = g.alias; test = g.test; turn = g.turn; before = h; after = g.after },
+      e,
+    )))))
+    (sees_also sees_skipped
+    (λ u p. sees_also (name_list_sees c.after g.after)
+    (λ ns h. sees_nothing (λ m e. (
+      record { alias = g.alias; test = g.test; turn = g.turn; before = g.before; after = h },
+      e,
+    ))))))))
 
 clause_word : (n : Option Token) → passes is_clause n ≡ true → passes is_word n ≡ false → ⊥
 clause_word None e w = absurd cc
@@ -164,13 +219,21 @@ clause_word (Some t) e w =
     absurd cc
 
 -- where Z holds, no word comes first
-all_clauses_see : (Z : Type 0) → Sees (λ n. Ended n × (Z → Not is_word n)) (loop is_clause clause no_clauses) (λ c n. (ClausesGood c × (Z → c ≡ no_clauses)) × Ended n)
+all_clauses_see : (Z : Type 0)
+    → Sees (λ n. Ended n × (Z → Not is_word n)) (loop is_clause clause no_clauses)
+    (λ c n. (ClausesGood c × (Z → c ≡ no_clauses)) × Ended n)
 all_clauses_see Z =
-    sees_from (weaker_sees (sees_loop {test = is_clause} (λ c n. ClausesGood c × (Ended n × (Z → (c ≡ no_clauses) × Not is_word n))) (λ c.
-    sees_given (ClausesGood c × (Z → ⊥)) (λ n f. (f.0.0, λ z. clause_word n f.1 ((f.0.1.1 z).1))) (λ q.
+    sees_from
+    (weaker_sees (sees_loop {test = is_clause}
+    (λ c n. ClausesGood c × (Ended n × (Z → (c ≡ no_clauses) × Not is_word n))) (λ c.
+    sees_given (ClausesGood c × (Z → ⊥)) (λ n f. (f.0.0, λ z. clause_word n f.1 ((f.0.1.1 z).1)))
+    (λ q.
     weaker_sees (clause_sees c q.0) (λ d n h. (h.0, (h.1, λ z. absurd (q.1 z)))))))
     (λ c n h. ((h.0.0, λ z. (h.0.1.1 z).0), h.0.1.0)))
-    (λ n f. (record { alias = tt; test = tt; turn = tt; before = tt; after = tt }, (f.0, λ z. (refl, f.1 z))))
+    (λ n f. (
+      record { alias = tt; test = tt; turn = tt; before = tt; after = tt },
+      (f.0, λ z. (refl, f.1 z)),
+    ))
 
 -- ---- blocks
 
@@ -179,16 +242,32 @@ record MadeFits (left : ℕ) (m : Made) : Type 0 where
   fits : BlockFits m.block used
   size : m.lines + used ≤ left
 
-made_fits : (left : ℕ) (h : Head) (c : Clauses) (l : Lines) (text : List ℕ) → HeadGood h → ClausesGood c → (Odd h → c ≡ no_clauses) → LinesFit left l → MadeFits left (record { lines = l.left; block = block_of h c l text })
+made_fits : (left : ℕ) (h : Head) (c : Clauses) (l : Lines) (text : List ℕ) → HeadGood h
+    → ClausesGood c → (Odd h → c ≡ no_clauses) → LinesFit left l
+    → MadeFits left (record { lines = l.left; block = block_of h c l text })
 made_fits left h c l text good_ fits odd f = record {
   used = total f.idle l.storage l.sync l.reads l.writes;
-  fits = record { name = good_.0; place = good_.1; odd = λ a b d. odd (a, b, d); clauses = fits; idle = f.idle; at = f.at; kept = f.kept; rest = f.rest; lists = f.lists; size = refl };
-  size = let z = f.size in let i = f.storage in let j = f.sync in let k = f.reads in let m = f.writes in omega (arith, z, i, j, k, m);
+  fits = record {
+    name = good_.0;
+    place = good_.1;
+    odd = λ a b d. odd (a, b, d);
+    clauses = fits;
+    idle = f.idle;
+    at = f.at;
+    kept = f.kept;
+    rest = f.rest;
+    lists = f.lists;
+    size = refl;
+  };
+  size = let z = f.size in let i = f.storage in let j = f.sync in let k = f.reads in
+      let m = f.writes in omega (arith, z, i, j, k, m);
 }
 
-block_sees : {F : Option Token → Type 0} (full : Bool) (left : ℕ) → Sees F (block full left) (λ m n. ((full ≡ false) × MadeFits left m) × Unit {0})
+block_sees : {F : Option Token → Type 0} (full : Bool) (left : ℕ)
+    → Sees F (block full left) (λ m n. ((full ≡ false) × MadeFits left m) × Unit {0})
 block_sees full left =
-    sees_also (sees_lexeme (λ u. full ≡ false) (λ t x h v m f. (no_mark full Limit None m).0)) (λ u o.
+    sees_also (sees_lexeme (λ u. full ≡ false) (λ t x h v m f. (no_mark full Limit None m).0))
+    (λ u o.
     sees_also {Q = HeadGood} {G = λ h n. Ended n × (Odd h → Not is_word n)} head_sees (λ h a.
     sees_also (all_clauses_see (Odd h)) (λ c b.
     sees_also (lines_see left) (λ l f.
@@ -206,11 +285,19 @@ record ReadFits (depth most_nodes most_lines : ℕ) (s : Read) : Type 0 where
   lines : s.lines + l ≤ most_lines
 
 nobody_fits : (depth k l : ℕ) → ReadFits depth k l (nobody k l)
-nobody_fits depth k l = record { n = 0; l = 0; tree = no_nodes refl refl refl; nodes = omega arith; lines = omega arith }
+nobody_fits depth k l = record {
+  n = 0;
+  l = 0;
+  tree = no_nodes refl refl refl;
+  nodes = omega arith;
+  lines = omega arith;
+}
 
-storage_sees : {F : Option Token → Type 0} (depth k l : ℕ) (s : Read) → ReadFits depth k l s → Sees F (storage s) (λ r n. ReadFits depth k l r)
+storage_sees : {F : Option Token → Type 0} (depth k l : ℕ) (s : Read) → ReadFits depth k l s
+    → Sees F (storage s) (λ r n. ReadFits depth k l r)
 storage_sees depth k l s f =
-    sees_also (sees_lexeme (λ u. nat_eq s.nodes 0 ≡ false) (λ t x h v m g. (no_mark (nat_eq s.nodes 0) Limit None m).0)) (λ u o.
+    sees_also (sees_lexeme (λ u. nat_eq s.nodes 0 ≡ false)
+    (λ t x h v m g. (no_mark (nat_eq s.nodes 0) Limit None m).0)) (λ u o.
     sees_also (sees_any (sign_here 58)) (λ v p.
     sees_also stores_see (λ rs g.
     sees_also (sees_any line_end) (λ w q.
@@ -221,12 +308,14 @@ storage_sees depth k l s f =
     record {
       n = f.n + 1;
       l = f.l + 0;
-      tree = nodes_joined f.tree 1 0 (Storage rs ∷ []) (storage_node rs [] 0 refl g refl (no_nodes refl refl refl));
+      tree = nodes_joined f.tree 1 0 (Storage rs ∷ [])
+          (storage_node rs [] 0 refl g refl (no_nodes refl refl refl));
       nodes = omega (arith, some, a);
       lines = omega (arith, b);
     })))))
 
-blocked_sees : {F : Option Token → Type 0} (depth k l : ℕ) (s : Read) → ReadFits depth k l s → Sees F (blocked s) (λ r n. ReadFits depth k l r)
+blocked_sees : {F : Option Token → Type 0} (depth k l : ℕ) (s : Read) → ReadFits depth k l s
+    → Sees F (blocked s) (λ r n. ReadFits depth k l r)
 blocked_sees depth k l s f =
     sees_also (block_sees (nat_eq s.nodes 0) s.lines) (λ m g.
     sees_nothing (λ n e.
@@ -238,7 +327,8 @@ blocked_sees depth k l s f =
     record {
       n = f.n + 1;
       l = f.l + (made.used + 0);
-      tree = nodes_joined f.tree 1 (made.used + 0) (Block m.block ∷ []) (block_node m.block [] 0 made.used 0 refl made.fits refl refl (no_nodes refl refl refl));
+      tree = nodes_joined f.tree 1 (made.used + 0) (Block m.block ∷ [])
+          (block_node m.block [] 0 made.used 0 refl made.fits refl refl (no_nodes refl refl refl));
       nodes = omega (arith, some, a);
       lines = omega (arith, b, c);
     }))
@@ -246,9 +336,11 @@ blocked_sees depth k l s f =
 names : NamesAre Fine IsName
 names t n p v m = (name_is_short t n v m, printable_name Ccl t n p v)
 
-condition_sees : {F : Option Token → Type 0} (full : Bool) → Sees F (condition full) (λ e n. ((full ≡ false) × ExprFits e) × Unit {0})
+condition_sees : {F : Option Token → Type 0} (full : Bool)
+    → Sees F (condition full) (λ e n. ((full ≡ false) × ExprFits e) × Unit {0})
 condition_sees full =
-    sees_also (sees_lexeme (λ u. full ≡ false) (λ t x h v m f. (no_mark full Limit None m).0)) (λ u o.
+    sees_also (sees_lexeme (λ u. full ≡ false) (λ t x h v m f. (no_mark full Limit None m).0))
+    (λ u o.
     sees_also sees_skipped (λ v p.
     sees_also (of_holds ExprFits (expression_holds Fine IsName names)) (λ e g.
     sees_also sees_skipped (λ w q. sees_nothing (λ n k. ((o, g), tt))))))
@@ -260,13 +352,20 @@ BodyFits (suc depth) k l r = ReadFits depth k l r
 
 -- what bodies are like
 abbrev Bodies : ℕ → Type 0
-Bodies depth = (k l : ℕ) → Sees (λ n. Unit {0}) (body depth k l) (λ r n. BodyFits depth k l r × Unit {0})
+Bodies depth = (k l : ℕ)
+    → Sees (λ n. Unit {0}) (body depth k l) (λ r n. BodyFits depth k l r × Unit {0})
 
-otherwise_sees : {F : Option Token → Type 0} (depth k l : ℕ) → Bodies (suc depth) → Sees F (otherwise (body (suc depth)) k l) (λ r n. ReadFits depth k l r × Unit {0})
-otherwise_sees depth k l h = sees_choice (sees_also sees_skipped (λ u p. sees_from (h k l) (λ n f. tt))) (sees_nothing (λ n f. (nobody_fits depth k l, tt)))
+otherwise_sees : {F : Option Token → Type 0} (depth k l : ℕ) → Bodies (suc depth)
+    → Sees F (otherwise (body (suc depth)) k l) (λ r n. ReadFits depth k l r × Unit {0})
+otherwise_sees depth k l h =
+    sees_choice (sees_also sees_skipped (λ u p. sees_from (h k l) (λ n f. tt)))
+    (sees_nothing (λ n f. (nobody_fits depth k l, tt)))
 
-conditional_sees : {F : Option Token → Type 0} (depth k l : ℕ) → Bodies depth → (s : Read) → ReadFits depth k l s → Sees F (conditional (body depth) s) (λ r n. ReadFits depth k l r)
-conditional_sees zero k l h s f = sees_also (condition_sees (nat_eq s.nodes 0)) (λ e q. sees_also (sees_from (h (s.nodes - 1) s.lines) (λ n g. tt)) (λ y b. absurd b))
+conditional_sees : {F : Option Token → Type 0} (depth k l : ℕ) → Bodies depth → (s : Read)
+    → ReadFits depth k l s → Sees F (conditional (body depth) s) (λ r n. ReadFits depth k l r)
+conditional_sees zero k l h s f =
+    sees_also (condition_sees (nat_eq s.nodes 0))
+    (λ e q. sees_also (sees_from (h (s.nodes - 1) s.lines) (λ n g. tt)) (λ y b. absurd b))
 conditional_sees (suc depth) k l h s f =
     sees_also (condition_sees (nat_eq s.nodes 0)) (λ e q.
     sees_also (sees_from (h (s.nodes - 1) s.lines) (λ n g. tt)) (λ y f1.
@@ -282,25 +381,39 @@ conditional_sees (suc depth) k l h s f =
     record {
       n = f.n + suc (f1.n + (f2.n + 0));
       l = f.l + (f1.l + (f2.l + 0));
-      tree = nodes_joined f.tree (suc (f1.n + (f2.n + 0))) (f1.l + (f2.l + 0)) (Cond e y.tree z.tree ∷ []) (cond_node e y.tree z.tree [] f1.n f2.n 0 f1.l f2.l 0 refl q.1 refl refl f1.tree f2.tree (no_nodes refl refl refl));
+      tree = nodes_joined f.tree (suc (f1.n + (f2.n + 0))) (f1.l + (f2.l + 0))
+          (Cond e y.tree z.tree ∷ [])
+          (cond_node e y.tree z.tree [] f1.n f2.n 0 f1.l f2.l 0 refl q.1 refl refl f1.tree f2.tree
+          (no_nodes refl refl refl));
       nodes = omega (arith, some, a, a1, a2);
       lines = omega (arith, b, b1, b2);
     }))))
 
-node_sees : {F : Option Token → Type 0} (depth k l : ℕ) → Bodies depth → (s : Read) → ReadFits depth k l s → Sees F (node (body depth) s) (λ r n. ReadFits depth k l r)
-node_sees depth k l h s f = sees_choice (storage_sees depth k l s f) (sees_choice (conditional_sees depth k l h s f) (blocked_sees depth k l s f))
+node_sees : {F : Option Token → Type 0} (depth k l : ℕ) → Bodies depth → (s : Read)
+    → ReadFits depth k l s → Sees F (node (body depth) s) (λ r n. ReadFits depth k l r)
+node_sees depth k l h s f =
+    sees_choice (storage_sees depth k l s f)
+    (sees_choice (conditional_sees depth k l h s f) (blocked_sees depth k l s f))
 
 -- nodes, until none comes
-nodes_see : {F : Option Token → Type 0} (depth k l : ℕ) → Bodies depth → Sees F (loop is_node (node (body depth)) (nobody k l)) (λ r n. ReadFits depth k l r × Unit {0})
+nodes_see : {F : Option Token → Type 0} (depth k l : ℕ) → Bodies depth
+    → Sees F (loop is_node (node (body depth)) (nobody k l))
+    (λ r n. ReadFits depth k l r × Unit {0})
 nodes_see depth k l h =
-    sees_from (weaker_sees (sees_loop {test = is_node} (λ s n. ReadFits depth k l s) (λ s. sees_given (ReadFits depth k l s) (λ n f. f.0) (node_sees depth k l h s))) (λ s n g. (g.0, tt))) (λ n f. nobody_fits depth k l)
+    sees_from
+    (weaker_sees (sees_loop {test = is_node} (λ s n. ReadFits depth k l s)
+    (λ s. sees_given (ReadFits depth k l s) (λ n f. f.0) (node_sees depth k l h s)))
+    (λ s n g. (g.0, tt))) (λ n f. nobody_fits depth k l)
 
 bodies : (depth : ℕ) → Bodies depth
 unfolding body
 bodies zero k l = sees_also (sees_lexeme (λ u. ⊥) (λ t x h v m f. absurd cc)) (λ u b. absurd b)
 bodies (suc depth) k l =
-    sees_choice (sees_also sees_skipped (λ u p. sees_also (nodes_see depth k l (bodies depth)) (λ s f. sees_also sees_skipped (λ v q. sees_nothing (λ n e. (f, tt))))))
-    (weaker_sees (node_sees depth k l (bodies depth) (nobody k l) (nobody_fits depth k l)) (λ r n f. (f, tt)))
+    sees_choice (sees_also sees_skipped
+    (λ u p. sees_also (nodes_see depth k l (bodies depth))
+    (λ s f. sees_also sees_skipped (λ v q. sees_nothing (λ n e. (f, tt))))))
+    (weaker_sees (node_sees depth k l (bodies depth) (nobody k l) (nobody_fits depth k l))
+    (λ r n f. (f, tt)))
 
 -- ---- the file
 
@@ -315,4 +428,11 @@ pub schedule_sees : Sees (λ n. Unit {0}) schedule (λ file n. FileFits file)
 schedule_sees =
     sees_also (sees_any line_ends) (λ u p.
     sees_also (nodes_see 32 4096 4096 (bodies 32)) (λ s f.
-    sees_nothing (λ n e. let a = f.nodes in let b = f.lines in record { n = f.n; l = f.l; items = f.tree; nodes = omega (arith, a); lines = omega (arith, b) })))
+    sees_nothing (λ n e. let a = f.nodes in let b = f.lines in
+    record {
+      n = f.n;
+      l = f.l;
+      items = f.tree;
+      nodes = omega (arith, a);
+      lines = omega (arith, b);
+    })))

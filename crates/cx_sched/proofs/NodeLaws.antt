@@ -32,35 +32,52 @@ node_end = record { else_ = refl; quoted = refl; ended = refl }
 abbrev FirstOfNode : Option Token → Type 0
 FirstOfNode n = Not (is_sign 123) n × Ended n
 
-storage_part : (s : Read) {F : Option Token → Type 0} → F (Some (a_word STORAGE)) → Part (storage s) F AfterNode
+storage_part : (s : Read) {F : Option Token → Type 0} → F (Some (a_word STORAGE))
+    → Part (storage s) F AfterNode
 storage_part s f =
-    before_part (lexeme_then (keyword_is STORAGE refl) f (λ u. token_then {G = AfterStores} (sign_is 58 refl) refl (λ v.
-    empty_then stores_tail.good stores_tail.empty (λ n k. (k, k)) (λ rs. lexeme_last a_line_end (record { word = refl; store = record { pair = refl; bracket = refl; comma = refl } })))))
+    before_part (lexeme_then (keyword_is STORAGE refl) f
+    (λ u. token_then {G = AfterStores} (sign_is 58 refl) refl (λ v.
+    empty_then stores_tail.good stores_tail.empty (λ n k. (k, k))
+    (λ rs. lexeme_last a_line_end
+    (record { word = refl; store = record { pair = refl; bracket = refl; comma = refl } })))))
     (λ n h. h.ended)
 
-blocked_part : (s : Read) {F : Option Token → Type 0} → F (Some (a_word SCHEDULE)) → Part (blocked s) F AfterNode
-blocked_part s f = before_part (part_end None (refl, refl) (block_part (nat_eq s.nodes 0) s.lines f)) (λ n h. (h.quoted, h.ended))
+blocked_part : (s : Read) {F : Option Token → Type 0} → F (Some (a_word SCHEDULE))
+    → Part (blocked s) F AfterNode
+blocked_part s f = before_part
+    (part_end None (refl, refl) (block_part (nat_eq s.nodes 0) s.lines f))
+    (λ n h. (h.quoted, h.ended))
 
 a_close : AfterExpr (Some (a_sign 41))
 a_close = (refl, (refl, (refl, (refl, (refl, (refl, refl, refl))))))
 
-pub condition_part : (full : Bool) {F : Option Token → Type 0} → F (Some (a_word IF)) → Part (condition full) F Ended
-condition_part full f = lexeme_then (keyword_is IF refl) f (λ u. lexeme_then (sign_is 40 refl) refl (λ v. part_then (Some (a_sign 41)) a_close expression_part (λ e. lexeme_last (sign_is 41 refl) a_close)))
+pub condition_part : (full : Bool) {F : Option Token → Type 0} → F (Some (a_word IF))
+    → Part (condition full) F Ended
+condition_part full f = lexeme_then (keyword_is IF refl) f
+    (λ u. lexeme_then (sign_is 40 refl) refl
+    (λ v. part_then (Some (a_sign 41)) a_close expression_part
+    (λ e. lexeme_last (sign_is 41 refl) a_close)))
 
-otherwise_tail : (b : ℕ → ℕ → Rule Read) (nodes lines : ℕ) → ((k l : ℕ) → Part (b k l) Ended AfterNode) → Tail (otherwise b nodes lines) AfterNode
-otherwise_tail b nodes lines p = tail_option None node_end (lexeme_then {F = Any} (keyword_is ELSE refl) tt (λ u. p nodes lines)) (λ n h. h) (λ n h. h.else_)
+otherwise_tail : (b : ℕ → ℕ → Rule Read) (nodes lines : ℕ)
+    → ((k l : ℕ) → Part (b k l) Ended AfterNode) → Tail (otherwise b nodes lines) AfterNode
+otherwise_tail b nodes lines p =
+    tail_option None node_end (lexeme_then {F = Any} (keyword_is ELSE refl) tt (λ u. p nodes lines))
+    (λ n h. h) (λ n h. h.else_)
 
-conditional_part : (b : ℕ → ℕ → Rule Read) (s : Read) → ((k l : ℕ) → Part (b k l) Ended AfterNode) → Part (conditional b s) Any AfterNode
+conditional_part : (b : ℕ → ℕ → Rule Read) (s : Read) → ((k l : ℕ) → Part (b k l) Ended AfterNode)
+    → Part (conditional b s) Any AfterNode
 conditional_part b s p =
     part_then None refl (condition_part (nat_eq s.nodes 0) {F = Any} tt) (λ e.
     part_then_tail (p (s.nodes - 1) s.lines) (λ n h. h) None node_end (λ y.
     tail_then (otherwise_tail b y.nodes y.lines p) (λ n. tail_end None node_end)))
 
-node_part : (b : ℕ → ℕ → Rule Read) (s : Read) → ((k l : ℕ) → Part (b k l) Ended AfterNode) → Part (node b s) FirstOfNode AfterNode
+node_part : (b : ℕ → ℕ → Rule Read) (s : Read) → ((k l : ℕ) → Part (b k l) Ended AfterNode)
+    → Part (node b s) FirstOfNode AfterNode
 node_part b s p =
     weaker_part {F = λ n. Not (is_named IF) n × (Not (is_named STORAGE) n × FirstOfNode n)}
     (part_choice (storage_part s {F = Any} tt)
-    (part_choice (conditional_part b s p) (blocked_part s (refl, (refl, (refl, refl)))) (λ n h. h.0))
+    (part_choice (conditional_part b s p) (blocked_part s (refl, (refl, (refl, refl))))
+    (λ n h. h.0))
     (λ n h. h.1.0)) (λ n h. h.1.1)
 
 -- what follows nodes
@@ -71,13 +88,20 @@ pub record AfterNodes (n : Option Token) : Type 0 where
 nodes_end : AfterNodes None
 nodes_end = record { node = refl; after = node_end }
 
-nodes_good : (b : ℕ → ℕ → Rule Read) (s : Read) → ((k l : ℕ) → Part (b k l) Ended AfterNode) → Good (loop is_node (node b) s) AfterNodes
-nodes_good b s p = loop_good (λ t. (node_part b t p).good) (λ t. (node_part b t p).full) (λ n h. h.node) (λ n h. h.after) None nodes_end
+nodes_good : (b : ℕ → ℕ → Rule Read) (s : Read) → ((k l : ℕ) → Part (b k l) Ended AfterNode)
+    → Good (loop is_node (node b) s) AfterNodes
+nodes_good b s p = loop_good (λ t. (node_part b t p).good) (λ t. (node_part b t p).full)
+    (λ n h. h.node) (λ n h. h.after) None nodes_end
 
-braced_part : (b : ℕ → ℕ → Rule Read) (nodes lines : ℕ) → ((k l : ℕ) → Part (b k l) Ended AfterNode) → Part (braced b nodes lines) Any Ended
+braced_part : (b : ℕ → ℕ → Rule Read) (nodes lines : ℕ) → ((k l : ℕ) → Part (b k l) Ended AfterNode)
+    → Part (braced b nodes lines) Any Ended
 braced_part b nodes lines p =
     lexeme_then (sign_is 123 refl) tt (λ u.
-    weaker_part {F = AfterNodes} (empty_then {G = AfterNodes} (nodes_good b (nobody nodes lines) p) (loop_empty (node b) (nobody nodes lines)) (λ n h. (h, h.node)) (λ s. lexeme_last (sign_is 125 refl) (record { node = refl; after = record { else_ = refl; quoted = refl; ended = refl } })))
+    weaker_part {F = AfterNodes}
+    (empty_then {G = AfterNodes} (nodes_good b (nobody nodes lines) p)
+    (loop_empty (node b) (nobody nodes lines)) (λ n h. (h, h.node))
+    (λ s. lexeme_last (sign_is 125 refl)
+    (record { node = refl; after = record { else_ = refl; quoted = refl; ended = refl } })))
     (λ n h. h.after.ended))
 
 abbrev a_body : Means (if_is is_body)
@@ -87,10 +111,16 @@ pub body_part : (depth nodes lines : ℕ) → Part (body depth nodes lines) Ende
 unfolding body
 body_part zero nodes lines = before_part (beyond_part is_body a_body refl) (λ n h. h.ended)
 body_part (suc depth) nodes lines =
-    weaker_part {F = FirstOfNode} (part_choice (before_part (braced_part (body depth) nodes lines (body_part depth)) (λ n h. h.ended)) (node_part (body depth) (nobody nodes lines) (body_part depth)) (λ n h. h.0)) (λ n h. h.1)
+    weaker_part {F = FirstOfNode}
+    (part_choice (before_part (braced_part (body depth) nodes lines (body_part depth))
+    (λ n h. h.ended)) (node_part (body depth) (nobody nodes lines) (body_part depth))
+    (λ n h. h.0)) (λ n h. h.1)
 
 pub file_good : Good schedule AfterNodes
-file_good = (tail_then (line_ends_tail None nodes_end (λ n h. h.after.ended)) (λ u. tail_then (tail_loop None nodes_end (λ s. node_part (body 32) s (body_part 32)) (λ n h. h.after) (λ n h. h.node)) (λ s. tail_end {H = AfterNodes} None nodes_end))).good
+file_good =
+    (tail_then (line_ends_tail None nodes_end (λ n h. h.after.ended))
+    (λ u. tail_then (tail_loop None nodes_end (λ s. node_part (body 32) s (body_part 32))
+    (λ n h. h.after) (λ n h. h.node)) (λ s. tail_end {H = AfterNodes} None nodes_end))).good
 
 pub file_end : AfterNodes None
 file_end = nodes_end
@@ -114,33 +144,45 @@ else_short = short_part (lexeme_good (keyword_is ELSE refl)) lexeme_full
 
 -- ---- what reading a body answers, case by case
 
-pub beyond_limit : (depth nodes lines : ℕ) (ts : List Token) → depth ≡ 0 → passes is_body (head ts) ≡ true → (body depth nodes lines).reads ts ≡ Err (Marked Limit, ts)
+pub beyond_limit : (depth nodes lines : ℕ) (ts : List Token) → depth ≡ 0
+    → passes is_body (head ts) ≡ true → (body depth nodes lines).reads ts ≡ Err (Marked Limit, ts)
 unfolding body
 beyond_limit (suc depth) nodes lines ts e go = absurd (omega arith)
 beyond_limit zero nodes lines [] e go = absurd cc
 beyond_limit zero nodes lines (t ∷ ts) e go = rw go refl
 
-pub beyond_none : (depth nodes lines : ℕ) (ts : List Token) → depth ≡ 0 → passes is_body (head ts) ≡ false → (body depth nodes lines).reads ts ≡ Err (Unexpected, ts)
+pub beyond_none : (depth nodes lines : ℕ) (ts : List Token) → depth ≡ 0
+    → passes is_body (head ts) ≡ false → (body depth nodes lines).reads ts ≡ Err (Unexpected, ts)
 unfolding body
 beyond_none (suc depth) nodes lines ts e go = absurd (omega arith)
 beyond_none zero nodes lines [] e go = refl
 beyond_none zero nodes lines (t ∷ ts) e go = rw go refl
 
-braced_behind : (depth nodes lines : ℕ) (ts : List Token) → passes (is_sign 123) (head ts) ≡ true → (body (suc depth) nodes lines).reads ts ≡ (braced (body depth) nodes lines).reads ts
+braced_behind : (depth nodes lines : ℕ) (ts : List Token) → passes (is_sign 123) (head ts) ≡ true
+    → (body (suc depth) nodes lines).reads ts ≡ (braced (body depth) nodes lines).reads ts
 unfolding body
 braced_behind depth nodes lines ts go = rw go refl
 
-single_behind : (depth nodes lines : ℕ) (ts : List Token) → passes (is_sign 123) (head ts) ≡ false → (body (suc depth) nodes lines).reads ts ≡ (node (body depth) (nobody nodes lines)).reads ts
+single_behind : (depth nodes lines : ℕ) (ts : List Token) → passes (is_sign 123) (head ts) ≡ false
+    → (body (suc depth) nodes lines).reads ts ≡ (node (body depth) (nobody nodes lines)).reads ts
 unfolding body
 single_behind depth nodes lines ts go = rw go refl
 
 less : (k : ℕ) → k ≡ suc k - 1
 less k = omega arith
 
-pub braced_goes : (depth nodes lines : ℕ) (ts : List Token) → depth ≢ 0 → passes (is_sign 123) (head ts) ≡ true → (body depth nodes lines).reads ts ≡ (braced (body (depth - 1)) nodes lines).reads ts
+pub braced_goes : (depth nodes lines : ℕ) (ts : List Token) → depth ≢ 0
+    → passes (is_sign 123) (head ts) ≡ true
+    → (body depth nodes lines).reads ts ≡ (braced (body (depth - 1)) nodes lines).reads ts
 braced_goes zero nodes lines ts ne go = absurd (ne refl)
-braced_goes (suc depth) nodes lines ts ne go = braced_behind depth nodes lines ts go ∙ ap (λ (d : ℕ). (braced (body d) nodes lines).reads ts) (less depth)
+braced_goes (suc depth) nodes lines ts ne go =
+    braced_behind depth nodes lines ts go
+    ∙ ap (λ (d : ℕ). (braced (body d) nodes lines).reads ts) (less depth)
 
-pub single_goes : (depth nodes lines : ℕ) (ts : List Token) → depth ≢ 0 → passes (is_sign 123) (head ts) ≡ false → (body depth nodes lines).reads ts ≡ (node (body (depth - 1)) (nobody nodes lines)).reads ts
+pub single_goes : (depth nodes lines : ℕ) (ts : List Token) → depth ≢ 0
+    → passes (is_sign 123) (head ts) ≡ false
+    → (body depth nodes lines).reads ts ≡ (node (body (depth - 1)) (nobody nodes lines)).reads ts
 single_goes zero nodes lines ts ne go = absurd (ne refl)
-single_goes (suc depth) nodes lines ts ne go = single_behind depth nodes lines ts go ∙ ap (λ (d : ℕ). (node (body d) (nobody nodes lines)).reads ts) (less depth)
+single_goes (suc depth) nodes lines ts ne go =
+    single_behind depth nodes lines ts go
+    ∙ ap (λ (d : ℕ). (node (body d) (nobody nodes lines)).reads ts) (less depth)

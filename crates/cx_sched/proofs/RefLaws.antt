@@ -35,7 +35,11 @@ pub ref_end : AfterRef None
 ref_end = record { bracket = refl; paren = refl; comma = refl; name = name_end }
 
 abbrev a_region : Means region_of
-a_region = record { tok = a_word (73 ∷ 78 ∷ 84 ∷ 69 ∷ 82 ∷ 73 ∷ 79 ∷ 82 ∷ []); x = Interior; is = refl }
+a_region = record {
+  tok = a_word (73 ∷ 78 ∷ 84 ∷ 69 ∷ 82 ∷ 73 ∷ 79 ∷ 82 ∷ []);
+  x = Interior;
+  is = refl;
+}
 
 owned_part : (w : List ℕ) → Part (owned w) Any Ended
 owned_part w = lexeme_then (sign_pair_is 58 58 refl) tt (λ u. lexeme_last a_name refl)
@@ -44,13 +48,16 @@ pub behind_word_tail : (w : List ℕ) → Tail (behind_word w) AfterName
 behind_word_tail w = tail_option None name_end (owned_part w) (λ n h. h.ended) (λ n h. h.pair)
 
 pub reference_part : {F : Option Token → Type 0} → F (Some a_name.tok) → Part reference F AfterName
-reference_part f = part_then_tail (lexeme_alone a_name f) (λ n h. h.ended) None name_end behind_word_tail
+reference_part f = part_then_tail (lexeme_alone a_name f) (λ n h. h.ended)
+    None name_end behind_word_tail
 
 bracket_part : Part bracket Any Ended
-bracket_part = lexeme_then (sign_is 91 refl) tt (λ u. lexeme_then a_number refl (λ n. lexeme_last (sign_is 93 refl) refl))
+bracket_part = lexeme_then (sign_is 91 refl) tt
+    (λ u. lexeme_then a_number refl (λ n. lexeme_last (sign_is 93 refl) refl))
 
 parens_part : Part parens Any Ended
-parens_part = lexeme_then (sign_is 40 refl) tt (λ u. lexeme_then a_region refl (λ g. lexeme_last (sign_is 41 refl) refl))
+parens_part = lexeme_then (sign_is 40 refl) tt
+    (λ u. lexeme_then a_region refl (λ g. lexeme_last (sign_is 41 refl) refl))
 
 ref_tail : (w : List ℕ) → Tail (behind_word w) AfterRef
 ref_tail w = tail_option None ref_end (owned_part w) (λ n h. h.name.ended) (λ n h. h.name.pair)
@@ -62,16 +69,20 @@ region_tail : Tail region AfterRef
 region_tail = tail_option None ref_end parens_part (λ n h. h.name.ended) (λ n h. h.paren)
 
 comma_tail : Tail comma AfterRef
-comma_tail = tail_option None ref_end (lexeme_alone {F = Any} (sign_is 44 refl) tt) (λ n h. h.name.ended) (λ n h. h.comma)
+comma_tail = tail_option None ref_end (lexeme_alone {F = Any} (sign_is 44 refl) tt)
+    (λ n h. h.name.ended) (λ n h. h.comma)
 
 pub store_tail : (w : List ℕ) → Tail (store w) AfterRef
-store_tail w = tail_then (ref_tail w) (λ r. tail_then bracketed_tail (λ k. tail_then comma_tail (λ u. tail_end None ref_end)))
+store_tail w = tail_then (ref_tail w)
+    (λ r. tail_then bracketed_tail (λ k. tail_then comma_tail (λ u. tail_end None ref_end)))
 
 pub sync_name_tail : (w : List ℕ) → Tail (sync_name w) AfterRef
 sync_name_tail w = tail_then (ref_tail w) (λ r. tail_then comma_tail (λ u. tail_end None ref_end))
 
 pub access_tail : (w : List ℕ) → Tail (access w) AfterRef
-access_tail w = tail_then (ref_tail w) (λ r. tail_then bracketed_tail (λ k. tail_then region_tail (λ g. tail_then comma_tail (λ u. tail_end None ref_end))))
+access_tail w = tail_then (ref_tail w)
+    (λ r. tail_then bracketed_tail
+    (λ k. tail_then region_tail (λ g. tail_then comma_tail (λ u. tail_end None ref_end))))
 
 -- ---- where LineEnd may come next
 
@@ -91,13 +102,15 @@ behind_word_here_tail : (w : List ℕ) → Tail (behind_word_here w) AfterStore
 behind_word_here_tail w = tail_option None store_end (owned_here_part w) (λ n h. h) (λ n h. h.pair)
 
 bracket_here_part : Part bracket_here Any AfterStore
-bracket_here_part = lexeme_then (sign_is 91 refl) tt (λ u. lexeme_then a_number refl (λ n. token_last (sign_is 93 refl) refl))
+bracket_here_part = lexeme_then (sign_is 91 refl) tt
+    (λ u. lexeme_then a_number refl (λ n. token_last (sign_is 93 refl) refl))
 
 bracketed_here_tail : Tail bracketed_here AfterStore
 bracketed_here_tail = tail_option None store_end bracket_here_part (λ n h. h) (λ n h. h.bracket)
 
 -- a token behind which LineEnd isn't skipped, alone
-token_alone : {A : Type 0} {value : Token → Option A} {mark : Token → Option Mark} (one : Means value) → Part (token value mark) Any AfterStore
+token_alone : {A : Type 0} {value : Token → Option A} {mark : Token → Option Mark}
+    (one : Means value) → Part (token value mark) Any AfterStore
 token_alone {A} {value} {mark} one = record {
   good = token_good one;
   full = token_is_full;
@@ -107,10 +120,14 @@ token_alone {A} {value} {mark} one = record {
 }
 
 comma_here_tail : Tail comma_here AfterStore
-comma_here_tail = tail_option None store_end (token_alone (sign_is 44 refl)) (λ n h. h) (λ n h. h.comma)
+comma_here_tail = tail_option None store_end (token_alone (sign_is 44 refl)) (λ n h. h)
+    (λ n h. h.comma)
 
 pub more_stores_part : (rs : List (Ref × Option ℕ)) → Part (more_stores rs) Any AfterStore
-more_stores_part rs = part_then_tail (token_alone a_name) (λ n h. h) None store_end (λ w. tail_then (behind_word_here_tail w) (λ r. tail_then bracketed_here_tail (λ k. tail_then comma_here_tail (λ u. tail_end None store_end))))
+more_stores_part rs = part_then_tail (token_alone a_name) (λ n h. h) None store_end
+    (λ w. tail_then (behind_word_here_tail w)
+    (λ r. tail_then bracketed_here_tail
+    (λ k. tail_then comma_here_tail (λ u. tail_end None store_end))))
 
 pub more_stores_short : (rs : List (Ref × Option ℕ)) → Short (more_stores rs)
 more_stores_short rs = short_part (more_stores_part rs).good (more_stores_part rs).full
@@ -121,4 +138,5 @@ pub record AfterStores (n : Option Token) : Type 0 where
   pub store : AfterStore n
 
 pub stores_tail : Tail stores AfterStores
-stores_tail = tail_loop None (record { word = refl; store = store_end }) more_stores_part (λ n h. h.store) (λ n h. h.word)
+stores_tail = tail_loop None (record { word = refl; store = store_end }) more_stores_part
+    (λ n h. h.store) (λ n h. h.word)

@@ -24,10 +24,18 @@ row_block : printed (file_tokens (record {
     rest = [];
     text = codes "one";
   }) ∷ [];
-})) ≡ codes "schedule GROUP steps AT EVOL IF w :: on AFTER ( early late ) { SYNC : u READS : v_p ( everywhere ) } \"one\"" ++ 10 ∷ []
+})) ≡ codes
+    "schedule GROUP steps AT EVOL IF w :: on AFTER ( early late ) { SYNC : u READS : v_p ( everywhere ) } \"one\"" ++ 10 ∷ []
 row_block = refl
 
 -- if ( x ) { STORAGE : u }
-row_condition : printed (file_tokens (record { items = Cond (Named (codes "x") None) (Storage ((record { owner = None; name = codes "u"; copy = None }, None) ∷ []) ∷ []) [] ∷ [] })) ≡ codes "if ( x ) {" ++ 10 ∷ codes "STORAGE : u" ++ 10 ∷ codes "}" ++ 10 ∷ []
-unfolding Rattle.cx_sched.specs.declared.tree.Node.TheBlock.hidden-the_row-Node-0 denote.Hole.Carrier.hidden
+row_condition : printed (file_tokens
+    (record {
+      items = Cond (Named (codes "x") None)
+          (Storage ((record { owner = None; name = codes "u"; copy = None }, None) ∷ []) ∷ []) []
+          ∷ [];
+    }))
+    ≡ codes "if ( x ) {" ++ 10 ∷ codes "STORAGE : u" ++ 10 ∷ codes "}" ++ 10 ∷ []
+unfolding Rattle.cx_sched.specs.declared.tree.Node.TheBlock.hidden-the_row-Node-0
+    denote.Hole.Carrier.hidden
 row_condition = refl

@@ -22,9 +22,11 @@ use Rattle.cx_sched.proofs.FitLaws.{FileFits, schedule_sees}
 
 all_same : (ts : List Token) → AllByRecursion (λ t. kept t ≡ t) ts → unlined ts ≡ ts
 all_same [] h = refl
-all_same (t ∷ ts) h = ap (λ (us : List Token). kept t ∷ us) (all_same ts h.1) ∙ ap (λ (u : Token). u ∷ ts) h.0
+all_same (t ∷ ts) h = ap (λ (us : List Token). kept t ∷ us) (all_same ts h.1)
+    ∙ ap (λ (u : Token). u ∷ ts) h.0
 
-file_again : (file : ScheduleFile) → FileFits file → schedule.reads (file_tokens file) ≡ Ok (file, [])
+file_again : (file : ScheduleFile) → FileFits file
+    → schedule.reads (file_tokens file) ≡ Ok (file, [])
 file_again file f =
     let ts : List Token = nodes file.items ++ [] in
     let same : file_tokens file ≡ ts = sym (append-nil (nodes file.items)) in
@@ -33,12 +35,16 @@ file_again file f =
     let whole : schedule.reads ts ≡ Ok (file, []) = rw (no_skip ts starts, all) refl in
     ap schedule.reads same ∙ whole
 
-spelled_as : (ts : List Token) (file : ScheduleFile) → (x : ScheduleFile) × Spells schedule.derives ts x × (x ≡ file) → Spells schedule.derives ts file
+spelled_as : (ts : List Token) (file : ScheduleFile)
+    → (x : ScheduleFile) × Spells schedule.derives ts x × (x ≡ file)
+    → Spells schedule.derives ts file
 spelled_as ts file (x, s, e) = subst (λ (y : ScheduleFile). Spells schedule.derives ts y) e s
 
-pub printed_text : (file : ScheduleFile) → HasSpelling Ccl schedule.derives file → TextSpells Ccl schedule.derives (printed (file_tokens file)) file
+pub printed_text : (file : ScheduleFile) → HasSpelling Ccl schedule.derives file
+    → TextSpells Ccl schedule.derives (printed (file_tokens file)) file
 printed_text file (bytes, (ts, spelling, s)) =
-    let f = schedule_sees.law file (clean ts) None s (unmarked_printable Ccl ts (print.all_printable bytes ts spelling)) tt in
+    let f = schedule_sees.law file (clean ts) None s
+    (unmarked_printable Ccl ts (print.all_printable bytes ts spelling)) tt in
     let us : List Token = file_tokens file in
     let lined = nodes_lined f.items in
     let end : us ++ [] ≡ us = append-nil us in
@@ -47,5 +53,6 @@ printed_text file (bytes, (ts, spelling, s)) =
     let lines = subst (AllByRecursion (λ (t : Token). kept t ≡ t)) end (lined.same [] tt) in
     let again = again_from Ccl us printable ended in
     let same : unlined again.0 ≡ us = unlined_same again.0 us again.2 ∙ all_same us lines in
-    let read = spelled_blind file_good schedule_same again.0 file (ap schedule.reads same ∙ file_again file f) in
+    let read = spelled_blind file_good schedule_same again.0 file
+    (ap schedule.reads same ∙ file_again file f) in
     (again.0, again.1, spelled_as again.0 file read)

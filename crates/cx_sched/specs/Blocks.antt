@@ -52,7 +52,8 @@ group_place n w = do
   p ← name
   nothing (record { group = true; name = n; spot = spot w p })
 
--- behind GROUP, AT or IN, and AT or IN again: the first of both is a name where a Word follows, else the second is one
+-- behind GROUP, AT or IN, and AT or IN again: the first of both is a name where a Word follows,
+-- else the second is one
 abbrev pub either : List ℕ → List ℕ → Rule Head
 either g n = do
   w ← way
@@ -68,7 +69,8 @@ behind_name true g = do
   behind_group (is_way_name n) g n
 behind_name false n = placed false n
 
--- [ GROUP ] Word (AT | IN) Word: GROUP is the keyword where the head can then be read, else the name
+-- [ GROUP ] Word (AT | IN) Word: GROUP is the keyword where the head can then be read, else the
+-- name
 abbrev pub head : Rule Head
 head = do
   n ← name
@@ -133,11 +135,14 @@ after c = do
   nothing (record c { after = ns })
 
 abbrev pub is_clause : Token → Bool
-is_clause t = is_named AS t || is_named IF t || is_named WHILE t || is_named BEFORE t || is_named AFTER t
+is_clause t = is_named AS t || is_named IF t || is_named WHILE t || is_named BEFORE t
+    || is_named AFTER t
 
 -- clause = AS Word | IF ref | WHILE ref | BEFORE list | AFTER list
 abbrev pub clause : Clauses → Rule Clauses
-clause c = choice (is_named AS) (alias c) (choice (is_named IF) (tested c) (choice (is_named WHILE) (turning c) (choice (is_named BEFORE) (before c) (after c))))
+clause c = choice (is_named AS) (alias c)
+    (choice (is_named IF) (tested c)
+    (choice (is_named WHILE) (turning c) (choice (is_named BEFORE) (before c) (after c))))
 
 -- ---- blocks
 

@@ -16,7 +16,15 @@ use Rattle.cx_sched.specs.Refs.{store, sync_name, access}
 
 -- before the first line of a block, where so many lines may still stand
 abbrev pub no_lines : ℕ → Lines
-no_lines left = record { left = left; line = Start; storage = []; sync = []; reads = []; writes = []; rest = [] }
+no_lines left = record {
+  left = left;
+  line = Start;
+  storage = [];
+  sync = [];
+  reads = [];
+  writes = [];
+  rest = [];
+}
 
 -- ---- how a line begins
 

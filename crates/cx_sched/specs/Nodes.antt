@@ -1,4 +1,5 @@
--- The nodes of a schedule file, at most so many, and bodies of nodes, at most so many within one another.
+-- The nodes of a schedule file, at most so many, and bodies of nodes, at most so many within one
+-- another.
 use Rattle.std.specs.Prelude.{ℕ, zero, suc, ◌-◌, Bool, ◌||◌, nat_eq, [], ◌∷◌, ◌++◌}
 use Rattle.cx_text.specs.declared.token.Token.{Token}
 use Rattle.cx_text.specs.Rules.{Rule, nothing, ◌>>=◌, choice, loop, is_sign, is_named, line_ends, keyword, sign, sign_here, line_end}
@@ -39,7 +40,8 @@ blocked s = do
 
 -- [ else body ]
 abbrev pub otherwise : (ℕ → ℕ → Rule Read) → ℕ → ℕ → Rule Read
-otherwise body nodes lines = choice (is_named ELSE) (keyword ELSE >>= λ u. body nodes lines) (nothing (nobody nodes lines))
+otherwise body nodes lines =
+    choice (is_named ELSE) (keyword ELSE >>= λ u. body nodes lines) (nothing (nobody nodes lines))
 
 -- if "(" expr ")", which is marked where as many nodes as may stand are there already
 abbrev pub condition : Bool → Rule Expr
@@ -60,7 +62,8 @@ conditional body s = do
 
 -- node = STORAGE ":" stores LineEnd | if "(" expr ")" body [ else body ] | block, behind others
 abbrev pub node : (ℕ → ℕ → Rule Read) → Read → Rule Read
-node body s = choice (is_named STORAGE) (storage s) (choice (is_named IF) (conditional body s) (blocked s))
+node body s = choice (is_named STORAGE) (storage s)
+    (choice (is_named IF) (conditional body s) (blocked s))
 
 -- "{" { node } "}"
 abbrev pub braced : (ℕ → ℕ → Rule Read) → ℕ → ℕ → Rule Read
@@ -73,7 +76,8 @@ braced body nodes lines = do
 -- body = "{" { node } "}" | node, where so many bodies may still stand within one another
 unfoldable pub body : ℕ → ℕ → ℕ → Rule Read
 body zero nodes lines = beyond is_body (nobody nodes lines)
-body (suc depth) nodes lines = choice (is_sign 123) (braced (body depth) nodes lines) (node (body depth) (nobody nodes lines))
+body (suc depth) nodes lines =
+    choice (is_sign 123) (braced (body depth) nodes lines) (node (body depth) (nobody nodes lines))
 
 -- file = { node }
 abbrev pub schedule : Rule ScheduleFile

@@ -65,7 +65,8 @@ access_line name (t ∷ ts) = word name ∷ sign 58 ∷ accesses (t ∷ ts)
 
 -- lines without effect stand first, as they are kept
 abbrev pub lines : BlockOf → List Token
-lines b = b.rest ++ storage_line b.storage ++ sync_line b.sync ++ access_line (codes "READS") b.reads ++ access_line (codes "WRITES") b.writes
+lines b = b.rest ++ storage_line b.storage ++ sync_line b.sync
+    ++ access_line (codes "READS") b.reads ++ access_line (codes "WRITES") b.writes
 
 -- ---- what stands before a block's lines
 
@@ -94,7 +95,8 @@ others name [] = []
 others name (n ∷ ns) = word name ∷ sign 40 ∷ words (n ∷ ns) ++ sign 41 ∷ []
 
 abbrev pub clauses : BlockOf → List Token
-clauses b = alias b.alias ++ scalar IF b.test ++ scalar WHILE b.turn ++ others BEFORE b.before ++ others AFTER b.after
+clauses b = alias b.alias ++ scalar IF b.test ++ scalar WHILE b.turn ++ others BEFORE b.before
+    ++ others AFTER b.after
 
 -- ---- nodes
 
@@ -109,7 +111,9 @@ block b = heading b ++ clauses b ++ sign 123 ∷ lines b ++ sign 125 ∷ descrip
 abbrev mutual
   pub node : Node → List Token
   node (Storage groups) = word STORAGE ∷ sign 58 ∷ stores groups ++ line_end ∷ []
-  node (Cond' e shape body shape2 other) = word (codes "if") ∷ sign 40 ∷ expr_tokens e ++ sign 41 ∷ sign 123 ∷ line_end ∷ each body ++ sign 125 ∷ line_end ∷ otherwise other
+  node (Cond' e shape body shape2 other) =
+      word (codes "if") ∷ sign 40 ∷ expr_tokens e ++ sign 41 ∷ sign 123 ∷ line_end ∷ each body
+      ++ sign 125 ∷ line_end ∷ otherwise other
   node (Block b) = block b ++ line_end ∷ []
 
   -- of the nodes in a list
@@ -120,7 +124,8 @@ abbrev mutual
   -- no else stands where nothing is in it
   pub otherwise : {m : _} → Row_of-Node m → List Token
   otherwise end_of-Node = []
-  otherwise (more_of-Node n rest) = word (codes "else") ∷ sign 123 ∷ line_end ∷ (node n ++ each rest) ++ sign 125 ∷ line_end ∷ []
+  otherwise (more_of-Node n rest) =
+      word (codes "else") ∷ sign 123 ∷ line_end ∷ (node n ++ each rest) ++ sign 125 ∷ line_end ∷ []
 
 abbrev pub nodes : List Node → List Token
 nodes [] = []
@@ -129,7 +134,8 @@ nodes (n ∷ ns) = node n ++ nodes ns
 -- else, and a body that isn't empty
 abbrev pub otherwise_nodes : List Node → List Token
 otherwise_nodes [] = []
-otherwise_nodes (n ∷ ns) = word (codes "else") ∷ sign 123 ∷ line_end ∷ nodes (n ∷ ns) ++ sign 125 ∷ line_end ∷ []
+otherwise_nodes (n ∷ ns) =
+    word (codes "else") ∷ sign 123 ∷ line_end ∷ nodes (n ∷ ns) ++ sign 125 ∷ line_end ∷ []
 
 abbrev pub file_tokens : ScheduleFile → List Token
 file_tokens file = nodes file.items

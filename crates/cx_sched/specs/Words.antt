@@ -50,7 +50,8 @@ AFTER = codes "AFTER"
 
 -- a line without effect
 abbrev pub is_idle : List ℕ → Bool
-is_idle w = same_name w (codes "LANG") || same_name w (codes "OPTIONS") || same_name w (codes "TRIGGERS")
+is_idle w = same_name w (codes "LANG") || same_name w (codes "OPTIONS")
+    || same_name w (codes "TRIGGERS")
 
 -- the line that a word begins
 abbrev pub line_of : List ℕ → Option Line
@@ -63,4 +64,6 @@ line_of w =
 
 -- the region that a word names
 abbrev pub region_of : Token → Option Region
-region_of t = cond (is_named (codes "INTERIOR") t) (Some Interior) (cond (is_named (codes "BOUNDARY") t) (Some Boundary) (cond (is_named (codes "EVERYWHERE") t) (Some Everywhere) None))
+region_of t = cond (is_named (codes "INTERIOR") t) (Some Interior)
+    (cond (is_named (codes "BOUNDARY") t) (Some Boundary)
+    (cond (is_named (codes "EVERYWHERE") t) (Some Everywhere) None))

@@ -37,12 +37,14 @@ pub struct Made {
     pub block: Block,
 }
 
+/// Whether a token says where a block is placed: `AT` or `IN`.
 fn is_way(token: &Token) -> bool
     ensures { result ≡ is_way token.now }
 {
     token.is_named(b"AT") || token.is_named(b"IN")
 }
 
+/// Whether the next token is `AT` or `IN`.
 fn at_way(reader: &Reader) -> bool
     ensures { result ≡ passes is_way (next reader.now.rest.now) }
 {
@@ -52,6 +54,7 @@ fn at_way(reader: &Reader) -> bool
     }
 }
 
+/// Reads `AT` or `IN` as it is spelled, but no line end after it.
 fn way_here(reader: &mut Reader, alloc: Global) -> Result<Text, Stop>
     ensures { Obeys (token way_of unmarked) result reader.old reader.new }
 {
@@ -74,12 +77,14 @@ fn way(reader: &mut Reader, alloc: Global) -> Result<Text, Stop>
     Ok(word)
 }
 
+/// Whether a name is the word `AT` or `IN`.
 fn is_way_name(name: &[u8]) -> bool
     ensures { result ≡ is_way_name name.now }
 {
     same_name(name, b"AT") || same_name(name, b"IN")
 }
 
+/// The place of a block: a bin after `AT`, a group after `IN`.
 fn spot(word: &Text, place: Text) -> Spot
     ensures { result ≡ spot word.now place }
 {
@@ -90,6 +95,7 @@ fn spot(word: &Text, place: Text) -> Spot
     }
 }
 
+/// Reads `AT` or `IN` and the bin or group after it, which end the heading of a block.
 fn placed(reader: &mut Reader, alloc: Global, group: bool, name: Text) -> Result<Head, Stop>
     ensures { Obeys (placed group name) result reader.old reader.new }
 {
@@ -102,7 +108,7 @@ fn placed(reader: &mut Reader, alloc: Global, group: bool, name: Text) -> Result
     })
 }
 
-/// The head behind GROUP as a name and AT or IN.
+/// Reads the bin or group after `GROUP AT` or `GROUP IN`, where `GROUP` is the routine's name.
 fn place(reader: &mut Reader, alloc: Global, name: Text, word: &Text) -> Result<Head, Stop>
     ensures { Obeys (place name word.now) result reader.old reader.new }
 {
@@ -114,7 +120,7 @@ fn place(reader: &mut Reader, alloc: Global, name: Text, word: &Text) -> Result<
     })
 }
 
-/// The head behind the keyword GROUP, a name and AT or IN.
+/// Reads the bin or group after `GROUP NAME AT` or `GROUP NAME IN`.
 fn group_place(reader: &mut Reader, alloc: Global, name: Text, word: &Text) -> Result<Head, Stop>
     ensures { Obeys (group_place name word.now) result reader.old reader.new }
 {
@@ -126,7 +132,7 @@ fn group_place(reader: &mut Reader, alloc: Global, name: Text, word: &Text) -> R
     })
 }
 
-/// The head behind GROUP and AT or IN, where AT or IN follows again.
+/// Reads the heading after `GROUP AT` or `GROUP IN`, where `AT` or `IN` follows again.
 fn either(reader: &mut Reader, alloc: Global, group: Text, name: Text) -> Result<Head, Stop>
     ensures { Obeys (either group name) result reader.old reader.new }
 {
@@ -142,7 +148,7 @@ fn either(reader: &mut Reader, alloc: Global, group: Text, name: Text) -> Result
     }
 }
 
-/// The head behind GROUP and a word, which may be AT or IN.
+/// Reads the heading after `GROUP` and a word, which may be `AT` or `IN`.
 fn behind_group(
     reader: &mut Reader,
     alloc: Global,
@@ -161,7 +167,7 @@ fn behind_group(
     }
 }
 
-/// The head behind a word, which may be GROUP.
+/// Reads the heading after its first word, which may be `GROUP`.
 fn behind_name(reader: &mut Reader, alloc: Global, is_group: bool, name: Text) -> Result<Head, Stop>
     ensures { Obeys (behind_name is_group name) result reader.old reader.new }
 {
@@ -174,7 +180,7 @@ fn behind_name(reader: &mut Reader, alloc: Global, is_group: bool, name: Text) -
     }
 }
 
-/// What stands before the clauses, behind SCHEDULE.
+/// Reads the heading of a block after `SCHEDULE`, up to its clauses.
 fn heading(reader: &mut Reader, alloc: Global) -> Result<Head, Stop>
     ensures { Obeys head result reader.old reader.new }
 {
@@ -183,6 +189,7 @@ fn heading(reader: &mut Reader, alloc: Global) -> Result<Head, Stop>
     behind_name(reader, alloc, is_group, name)
 }
 
+/// Reads a list of names in parentheses.
 fn names_in_parens(reader: &mut Reader, alloc: Global, names: &mut List<Text>) -> Result<(), Stop>
     ensures { Builds (names_in_parens names.old) names.new result reader.old reader.new }
 {
@@ -191,6 +198,7 @@ fn names_in_parens(reader: &mut Reader, alloc: Global, names: &mut List<Text>) -
     reader.sign(b')')
 }
 
+/// Reads one name and adds it to the list.
 fn one_name(reader: &mut Reader, alloc: Global, names: &mut List<Text>) -> Result<(), Stop>
     ensures { Builds (one_name names.old) names.new result reader.old reader.new }
 {
@@ -199,6 +207,7 @@ fn one_name(reader: &mut Reader, alloc: Global, names: &mut List<Text>) -> Resul
     Ok(())
 }
 
+/// Reads one name, or several in parentheses.
 fn name_list(reader: &mut Reader, alloc: Global, names: &mut List<Text>) -> Result<(), Stop>
     ensures { Builds (name_list names.old) names.new result reader.old reader.new }
 {
@@ -209,6 +218,7 @@ fn name_list(reader: &mut Reader, alloc: Global, names: &mut List<Text>) -> Resu
     }
 }
 
+/// Reads `AS` and a name, which a block has at most once.
 fn alias(reader: &mut Reader, alloc: Global, clauses: &mut Clauses) -> Result<(), Stop>
     ensures { Builds (alias clauses.old) clauses.new result reader.old reader.new }
 {
@@ -218,6 +228,7 @@ fn alias(reader: &mut Reader, alloc: Global, clauses: &mut Clauses) -> Result<()
     Ok(())
 }
 
+/// Reads `IF` and a scalar, which a block has at most once.
 fn tested(reader: &mut Reader, alloc: Global, clauses: &mut Clauses) -> Result<(), Stop>
     ensures { Builds (tested clauses.old) clauses.new result reader.old reader.new }
 {
@@ -227,6 +238,7 @@ fn tested(reader: &mut Reader, alloc: Global, clauses: &mut Clauses) -> Result<(
     Ok(())
 }
 
+/// Reads `WHILE` and a scalar, which a block has at most once.
 fn turning(reader: &mut Reader, alloc: Global, clauses: &mut Clauses) -> Result<(), Stop>
     ensures { Builds (turning clauses.old) clauses.new result reader.old reader.new }
 {
@@ -236,6 +248,7 @@ fn turning(reader: &mut Reader, alloc: Global, clauses: &mut Clauses) -> Result<
     Ok(())
 }
 
+/// Reads `BEFORE` and names, which add to those of an earlier `BEFORE`.
 fn before(reader: &mut Reader, alloc: Global, clauses: &mut Clauses) -> Result<(), Stop>
     ensures { Builds (before clauses.old) clauses.new result reader.old reader.new }
 {
@@ -243,6 +256,7 @@ fn before(reader: &mut Reader, alloc: Global, clauses: &mut Clauses) -> Result<(
     name_list(reader, alloc, &mut clauses.before)
 }
 
+/// Reads `AFTER` and names, which add to those of an earlier `AFTER`.
 fn after(reader: &mut Reader, alloc: Global, clauses: &mut Clauses) -> Result<(), Stop>
     ensures { Builds (after clauses.old) clauses.new result reader.old reader.new }
 {
@@ -250,6 +264,7 @@ fn after(reader: &mut Reader, alloc: Global, clauses: &mut Clauses) -> Result<()
     name_list(reader, alloc, &mut clauses.after)
 }
 
+/// Whether a token begins a clause of a block.
 fn is_clause(token: &Token) -> bool
     ensures { result ≡ is_clause token.now }
 {
@@ -260,6 +275,7 @@ fn is_clause(token: &Token) -> bool
         || token.is_named(b"AFTER")
 }
 
+/// Whether a clause of a block begins at the next token.
 fn at_clause(reader: &Reader) -> bool
     ensures { result ≡ passes is_clause (next reader.now.rest.now) }
 {
@@ -269,6 +285,7 @@ fn at_clause(reader: &Reader) -> bool
     }
 }
 
+/// Reads one clause of a block.
 fn clause(reader: &mut Reader, alloc: Global, clauses: &mut Clauses) -> Result<(), Stop>
     ensures { Builds (clause clauses.old) clauses.new result reader.old reader.new }
 {
@@ -285,6 +302,7 @@ fn clause(reader: &mut Reader, alloc: Global, clauses: &mut Clauses) -> Result<(
     }
 }
 
+/// Reads clauses for as long as one begins at the next token.
 fn clauses_after(reader: &mut Reader, alloc: Global, clauses: &mut Clauses) -> Result<(), Stop>
     ensures { Builds (loop is_clause clause clauses.old) clauses.new result reader.old reader.new }
 {
@@ -294,6 +312,7 @@ fn clauses_after(reader: &mut Reader, alloc: Global, clauses: &mut Clauses) -> R
     Ok(())
 }
 
+/// Reads the clauses of a block, in any order.
 fn all_clauses(reader: &mut Reader, alloc: Global) -> Result<Clauses, Stop>
     ensures { Obeys (loop is_clause clause no_clauses) result reader.old reader.new }
 {
@@ -308,7 +327,7 @@ fn all_clauses(reader: &mut Reader, alloc: Global) -> Result<Clauses, Stop>
     Ok(clauses)
 }
 
-/// A quoted text, if one stands here, else an empty one.
+/// Reads an optional quoted text; without one it is empty.
 fn description(reader: &mut Reader, alloc: Global) -> Result<Text, Stop>
     ensures { Obeys (choice is_quoted quoted (nothing [])) result reader.old reader.new }
 {
@@ -319,6 +338,7 @@ fn description(reader: &mut Reader, alloc: Global) -> Result<Text, Stop>
     }
 }
 
+/// The block of a heading, clauses, lines and a description.
 fn block_of(head: Head, clauses: Clauses, lines: Lines, text: Text) -> Block
     ensures { result ≡ block_of head clauses lines text }
 {
@@ -340,7 +360,7 @@ fn block_of(head: Head, clauses: Clauses, lines: Lines, text: Text) -> Block
     }
 }
 
-/// A block behind its head, in which so many lines may stand.
+/// Reads a block after its heading. It may have `left` lines.
 fn behind_head(reader: &mut Reader, alloc: Global, head: Head, left: usize) -> Result<Made, Stop>
     ensures { Obeys (behind_head head left) result reader.old reader.new }
 {

@@ -74,6 +74,7 @@ fn line_of(word: &[u8]) -> Option<Line>
     }
 }
 
+/// A token that is this word. It is of line 0, since it isn't read.
 fn word_token(alloc: Global, word: &[u8]) -> Result<Token, Memory>
     ensures { IfOk result (λ t. t ≡ written.word word.now) }
 {
@@ -84,6 +85,7 @@ fn word_token(alloc: Global, word: &[u8]) -> Result<Token, Memory>
     })
 }
 
+/// A token that is a colon. It is of line 0, since it isn't read.
 fn colon_token(alloc: Global) -> Result<Token, Memory>
     ensures { IfOk result (λ t. t ≡ written.sign 58) }
 {
@@ -113,6 +115,7 @@ fn keep_beginning(
     }
 }
 
+/// Reads a colon but no line end after it. In a `full` file it is one line too many.
 fn colon_here(reader: &mut Reader, full: bool) -> Result<(), Stop>
     ensures { Obeys (token (if_is (is_sign 58)) (λ t. first_mark full marks.Limit None))
         result reader.old reader.new }
@@ -129,7 +132,7 @@ fn colon_here(reader: &mut Reader, full: bool) -> Result<(), Stop>
     }
 }
 
-/// The colon of a line, which is past the limit where as many lines as may stand are there already.
+/// Reads the colon of a line. In a `full` file it is one line too many.
 fn colon(reader: &mut Reader, full: bool) -> Result<(), Stop>
     ensures { Obeys (lexeme (if_is (is_sign 58)) (λ t. first_mark full marks.Limit None))
         result reader.old reader.new }
@@ -139,7 +142,7 @@ fn colon(reader: &mut Reader, full: bool) -> Result<(), Stop>
     Ok(())
 }
 
-/// A line, behind its word.
+/// Reads the colon after the word of a line, which begins the line.
 fn begin(
     reader: &mut Reader,
     alloc: Global,
@@ -156,6 +159,7 @@ fn begin(
     Ok(())
 }
 
+/// Reads a word that begins a line of a block, but no line end after it.
 fn line_word_here(reader: &mut Reader, alloc: Global) -> Result<(Line, Text), Stop>
     ensures { Obeys (token line_word unmarked) result reader.old reader.new }
 {
@@ -172,6 +176,7 @@ fn line_word_here(reader: &mut Reader, alloc: Global) -> Result<(Line, Text), St
     }
 }
 
+/// Reads a word that begins a line of a block: the line's kind and the word as it is spelled.
 fn line_word(reader: &mut Reader, alloc: Global) -> Result<(Line, Text), Stop>
     ensures { Obeys (lexeme line_word unmarked) result reader.old reader.new }
 {
@@ -188,13 +193,14 @@ fn first(reader: &mut Reader, alloc: Global, lines: &mut Lines) -> Result<(), St
     begin(reader, alloc, line, &word, lines)
 }
 
-/// Whether a token of a line without effect may stand here; behind a word of it a colon may not.
+/// Whether a line without effect may go on with this token. No colon may follow a word of it.
 fn is_kept(token: &Token, behind: bool) -> bool
     ensures { result ≡ kept_after behind token.now }
 {
     !token.is_sign(b'}') && !(behind && token.is_sign(b':'))
 }
 
+/// Reads a token of a line without effect, but no line end after it. No colon may follow a word.
 fn kept_here(reader: &mut Reader, alloc: Global, behind: bool) -> Result<Token, Stop>
     ensures { Obeys (token (kept_if (kept_after behind)) unmarked) result reader.old reader.new }
 {
@@ -208,6 +214,7 @@ fn kept_here(reader: &mut Reader, alloc: Global, behind: bool) -> Result<Token, 
     }
 }
 
+/// Reads a token of a line without effect. No colon may follow a word of the line.
 fn kept_token(reader: &mut Reader, alloc: Global, behind: bool) -> Result<Token, Stop>
     ensures { Obeys (lexeme (kept_if (kept_after behind)) unmarked) result reader.old reader.new }
 {
@@ -216,6 +223,7 @@ fn kept_token(reader: &mut Reader, alloc: Global, behind: bool) -> Result<Token,
     Ok(kept)
 }
 
+/// The line that a token can begin, if a colon follows it.
 fn begun_by(token: &Token) -> Option<Line>
     ensures { result ≡ begun_by token.now }
 {
@@ -226,6 +234,7 @@ fn begun_by(token: &Token) -> Option<Line>
     }
 }
 
+/// Adds a token to those of the lines without effect, and notes whether it is a word.
 fn keep(token: Token, lines: &mut Lines) -> Result<(), Memory>
     ensures { OnOk result (lines.new ≡ keep token lines.old) }
 {
@@ -252,7 +261,7 @@ fn kept(reader: &mut Reader, alloc: Global, behind: bool, lines: &mut Lines) -> 
     }
 }
 
-/// A name in a list, behind its first word.
+/// Reads a name in a list after its first word, and adds it.
 fn item(
     reader: &mut Reader,
     alloc: Global,
@@ -282,6 +291,7 @@ fn named(reader: &mut Reader, alloc: Global, kind: Kind, lines: &mut Lines) -> R
     }
 }
 
+/// Reads what comes next in a block: the beginning of a line, or a token or name of one.
 fn entry(reader: &mut Reader, alloc: Global, lines: &mut Lines) -> Result<(), Stop>
     ensures { Builds (entry lines.old) lines.new result reader.old reader.new }
 {
@@ -293,6 +303,7 @@ fn entry(reader: &mut Reader, alloc: Global, lines: &mut Lines) -> Result<(), St
     }
 }
 
+/// Reads the lines of a block up to its closing brace.
 fn entries(reader: &mut Reader, alloc: Global, lines: &mut Lines) -> Result<(), Stop>
     ensures { Builds (loop is_inside entry lines.old) lines.new result reader.old reader.new }
 {

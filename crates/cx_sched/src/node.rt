@@ -30,6 +30,7 @@ struct Read {
     tree: List<Node>,
 }
 
+/// Whether a node begins at the next token.
 fn at_node(reader: &Reader) -> bool
     ensures { result ≡ passes is_node (head reader.now.rest.now) }
 {
@@ -39,12 +40,14 @@ fn at_node(reader: &Reader) -> bool
     }
 }
 
+/// Whether a token begins a node: `STORAGE`, `IF` or `SCHEDULE`.
 fn is_node(token: &Token) -> bool
     ensures { result ≡ is_node token.now }
 {
     token.is_named(b"STORAGE") || token.is_named(b"IF") || token.is_named(b"SCHEDULE")
 }
 
+/// Whether the body of an `if` begins at the next token: a brace or a single node.
 fn at_body(reader: &Reader) -> bool
     ensures { result ≡ passes is_body (head reader.now.rest.now) }
 {
@@ -54,6 +57,7 @@ fn at_body(reader: &Reader) -> bool
     }
 }
 
+/// Reads a `STORAGE` line outside of blocks, and adds it as a node.
 fn storage(reader: &mut Reader, alloc: Global, read: &mut Read) -> Result<(), Stop>
     ensures { Builds (storage read.old) read.new result reader.old reader.new }
 {
@@ -66,6 +70,7 @@ fn storage(reader: &mut Reader, alloc: Global, read: &mut Read) -> Result<(), St
     Ok(())
 }
 
+/// Reads a `schedule` block and adds it as a node.
 fn blocked(reader: &mut Reader, alloc: Global, read: &mut Read) -> Result<(), Stop>
     ensures { Builds (blocked read.old) read.new result reader.old reader.new }
 {
@@ -76,7 +81,7 @@ fn blocked(reader: &mut Reader, alloc: Global, read: &mut Read) -> Result<(), St
     Ok(())
 }
 
-/// The condition of a node, behind its keyword.
+/// Reads `IF` and the condition of a node in parentheses.
 fn condition(reader: &mut Reader, alloc: Global, full: bool) -> Result<Expr, Stop>
     ensures { Obeys (condition full) result reader.old reader.new }
 {
@@ -87,6 +92,7 @@ fn condition(reader: &mut Reader, alloc: Global, full: bool) -> Result<Expr, Sto
     Ok(test)
 }
 
+/// Adds an `if` node. The limits that remain are those after its `else` body.
 fn push_cond(read: &mut Read, test: Expr, yes: List<Node>, no: Read) -> Result<(), Memory>
     ensures { OnOk result (read.new ≡ record {
       nodes = no.nodes;
@@ -105,6 +111,7 @@ fn push_cond(read: &mut Read, test: Expr, yes: List<Node>, no: Read) -> Result<(
     Ok(())
 }
 
+/// An empty body, with how many nodes and lines may still come.
 fn nothing_yet(alloc: Global, nodes: usize, lines: usize) -> Read
     ensures { result ≡ nobody nodes lines }
 {
@@ -115,7 +122,7 @@ fn nothing_yet(alloc: Global, nodes: usize, lines: usize) -> Read
     }
 }
 
-/// The body behind ELSE, if that stands here.
+/// Reads an optional `ELSE` and its body; without it the body is empty.
 #[cycle(node)]
 fn otherwise(
     reader: &mut Reader,
@@ -134,6 +141,7 @@ fn otherwise(
     }
 }
 
+/// Reads an `if` with its bodies and adds it as a node.
 #[cycle(node)]
 fn conditional(reader: &mut Reader, alloc: Global, depth: u32, read: &mut Read) -> Result<(), Stop>
     ensures { Builds (conditional (body depth) read.old) read.new result reader.old reader.new }
@@ -151,7 +159,7 @@ fn conditional(reader: &mut Reader, alloc: Global, depth: u32, read: &mut Read) 
     Ok(())
 }
 
-/// A node, in whose bodies so many bodies may still stand within one another.
+/// Reads a node, whose bodies may nest `depth` deep.
 #[cycle(node)]
 fn node(reader: &mut Reader, alloc: Global, depth: u32, read: &mut Read) -> Result<(), Stop>
     ensures { Builds (node (body depth) read.old) read.new result reader.old reader.new }
@@ -165,6 +173,7 @@ fn node(reader: &mut Reader, alloc: Global, depth: u32, read: &mut Read) -> Resu
     }
 }
 
+/// Reads nodes for as long as one begins at the next token.
 #[cycle(node)]
 fn nodes(reader: &mut Reader, alloc: Global, depth: u32, read: &mut Read) -> Result<(), Stop>
     ensures { Builds (loop is_node (node (body depth)) read.old) read.new
@@ -176,6 +185,7 @@ fn nodes(reader: &mut Reader, alloc: Global, depth: u32, read: &mut Read) -> Res
     Ok(())
 }
 
+/// Reads a body in braces.
 #[cycle(node)]
 fn braced(
     reader: &mut Reader,
@@ -193,6 +203,7 @@ fn braced(
     Ok(read)
 }
 
+/// Reads a body that is one node.
 #[cycle(node)]
 fn single(
     reader: &mut Reader,
@@ -208,7 +219,7 @@ fn single(
     Ok(read)
 }
 
-/// A body, where so many may still stand within one another.
+/// Reads a body, which may have bodies in it up to this depth.
 #[cycle(node)]
 fn body(
     reader: &mut Reader,
@@ -232,6 +243,7 @@ fn body(
     }
 }
 
+/// Reads a schedule file.
 fn whole(reader: &mut Reader, alloc: Global) -> Result<ScheduleFile, Stop>
     ensures { Obeys schedule result reader.old reader.new }
 {

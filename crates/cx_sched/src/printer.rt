@@ -16,6 +16,7 @@ use cx_plan::{Region, region_text};
 use cx_text::{List, Memory, Text, Token, write_tokens};
 use std::alloc::Global;
 
+/// Appends `owner::name`.
 fn push_owned(
     tokens: &mut List<Token>,
     alloc: Global,
@@ -30,6 +31,7 @@ fn push_owned(
     tokens.push_word(alloc, name)
 }
 
+/// Appends a name with its owner, if it has one, but not the number of its copy.
 fn push_ref(tokens: &mut List<Token>, alloc: Global, item: &Ref) -> Result<(), Memory>
     ensures { IfOk result (λ x. tokens.new ≡ tokens.old ++ ref item.now) }
 {
@@ -39,6 +41,7 @@ fn push_ref(tokens: &mut List<Token>, alloc: Global, item: &Ref) -> Result<(), M
     }
 }
 
+/// Appends a number in square brackets, if there is one.
 fn push_bracketed(tokens: &mut List<Token>, alloc: Global, n: Option<u32>) -> Result<(), Memory>
     ensures { IfOk result (λ x. tokens.new ≡ tokens.old ++ bracketed n) }
 {
@@ -52,6 +55,7 @@ fn push_bracketed(tokens: &mut List<Token>, alloc: Global, n: Option<u32>) -> Re
     }
 }
 
+/// Appends the name of a group and its number of time levels, if it is written.
 fn push_store(
     tokens: &mut List<Token>,
     alloc: Global,
@@ -63,6 +67,7 @@ fn push_store(
     push_bracketed(tokens, alloc, item.1)
 }
 
+/// Appends groups with their numbers of time levels, without commas.
 fn push_stores(
     tokens: &mut List<Token>,
     alloc: Global,
@@ -76,6 +81,7 @@ fn push_stores(
     Ok(())
 }
 
+/// Appends names without commas.
 fn push_refs(tokens: &mut List<Token>, alloc: Global, items: &[Ref]) -> Result<(), Memory>
     ensures { IfOk result (λ x. tokens.new ≡ tokens.old ++ refs items.now) }
 {
@@ -85,6 +91,7 @@ fn push_refs(tokens: &mut List<Token>, alloc: Global, items: &[Ref]) -> Result<(
     Ok(())
 }
 
+/// Appends a region in parentheses.
 fn push_region(tokens: &mut List<Token>, alloc: Global, region: Region) -> Result<(), Memory>
     ensures { IfOk result (λ x. tokens.new ≡
         tokens.old ++ sign 40 ∷ word (region_text region) ∷ sign 41 ∷ []) }
@@ -94,6 +101,7 @@ fn push_region(tokens: &mut List<Token>, alloc: Global, region: Region) -> Resul
     tokens.push_sign(alloc, b')')
 }
 
+/// Appends a variable that is read or written: its name, copy and region.
 fn push_access(tokens: &mut List<Token>, alloc: Global, item: &(Ref, Region)) -> Result<(), Memory>
     ensures { IfOk result (λ x. tokens.new ≡ tokens.old ++ access item.now) }
 {
@@ -102,6 +110,7 @@ fn push_access(tokens: &mut List<Token>, alloc: Global, item: &(Ref, Region)) ->
     push_region(tokens, alloc, item.1)
 }
 
+/// Appends variables that are read or written, without commas.
 fn push_accesses(
     tokens: &mut List<Token>,
     alloc: Global,
@@ -123,6 +132,7 @@ fn push_line(tokens: &mut List<Token>, alloc: Global, name: &[u8]) -> Result<(),
     tokens.push_sign(alloc, b':')
 }
 
+/// Appends the `STORAGE` line of a block; nothing if it stores no group.
 fn push_storage(
     tokens: &mut List<Token>,
     alloc: Global,
@@ -139,6 +149,7 @@ fn push_storage(
     }
 }
 
+/// Appends the `SYNC` line of a block; nothing if it synchronises nothing.
 fn push_sync(tokens: &mut List<Token>, alloc: Global, items: &[Ref]) -> Result<(), Memory>
     ensures { IfOk result (λ x. tokens.new ≡ tokens.old ++ sync_line items.now) }
 {
@@ -151,6 +162,7 @@ fn push_sync(tokens: &mut List<Token>, alloc: Global, items: &[Ref]) -> Result<(
     }
 }
 
+/// Appends a `READS` or `WRITES` line; nothing if it names no variable.
 fn push_access_line(
     tokens: &mut List<Token>,
     alloc: Global,
@@ -168,6 +180,7 @@ fn push_access_line(
     }
 }
 
+/// Appends all lines of a block, those without effect first.
 fn push_lines(tokens: &mut List<Token>, alloc: Global, item: &Block) -> Result<(), Memory>
     ensures { IfOk result (λ x. tokens.new ≡ tokens.old ++ lines item.now) }
 {
@@ -178,6 +191,7 @@ fn push_lines(tokens: &mut List<Token>, alloc: Global, item: &Block) -> Result<(
     push_access_line(tokens, alloc, b"WRITES", item.writes.as_slice())
 }
 
+/// Appends `GROUP` in the heading of a group; nothing in that of a routine.
 fn push_group_word(tokens: &mut List<Token>, alloc: Global, group: bool) -> Result<(), Memory>
     ensures { IfOk result (λ x. tokens.new ≡ tokens.old ++ group_word group) }
 {
@@ -201,6 +215,7 @@ fn push_two(
     tokens.push_word(alloc, second)
 }
 
+/// Appends `AT` with the bin, or `IN` with the group.
 fn push_spot(tokens: &mut List<Token>, alloc: Global, item: &Spot) -> Result<(), Memory>
     ensures { IfOk result (λ x. tokens.new ≡ tokens.old ++ spot item.now) }
 {
@@ -210,6 +225,7 @@ fn push_spot(tokens: &mut List<Token>, alloc: Global, item: &Spot) -> Result<(),
     }
 }
 
+/// Appends `schedule`, the name of a block and where it is placed.
 fn push_heading(tokens: &mut List<Token>, alloc: Global, item: &Block) -> Result<(), Memory>
     ensures { IfOk result (λ x. tokens.new ≡ tokens.old ++ heading item.now) }
 {
@@ -219,6 +235,7 @@ fn push_heading(tokens: &mut List<Token>, alloc: Global, item: &Block) -> Result
     push_spot(tokens, alloc, &item.spot)
 }
 
+/// Appends the `AS` clause, if there is one.
 fn push_alias(tokens: &mut List<Token>, alloc: Global, name: &Option<Text>) -> Result<(), Memory>
     ensures { IfOk result (λ x. tokens.new ≡ tokens.old ++ alias name.now) }
 {
@@ -228,6 +245,7 @@ fn push_alias(tokens: &mut List<Token>, alloc: Global, name: &Option<Text>) -> R
     }
 }
 
+/// Appends an `IF` or `WHILE` clause, if there is one.
 fn push_scalar(
     tokens: &mut List<Token>,
     alloc: Global,
@@ -245,6 +263,7 @@ fn push_scalar(
     }
 }
 
+/// Appends a `BEFORE` or `AFTER` clause with its names in parentheses; nothing if it names none.
 fn push_others(
     tokens: &mut List<Token>,
     alloc: Global,
@@ -264,6 +283,7 @@ fn push_others(
     }
 }
 
+/// Appends all clauses of a block in one fixed order.
 fn push_clauses(tokens: &mut List<Token>, alloc: Global, item: &Block) -> Result<(), Memory>
     ensures { IfOk result (λ x. tokens.new ≡ tokens.old ++ clauses item.now) }
 {
@@ -274,6 +294,7 @@ fn push_clauses(tokens: &mut List<Token>, alloc: Global, item: &Block) -> Result
     push_others(tokens, alloc, b"AFTER", item.after.as_slice())
 }
 
+/// Appends a description in quotes; nothing if it is empty.
 fn push_description(tokens: &mut List<Token>, alloc: Global, text: &[u8]) -> Result<(), Memory>
     ensures { IfOk result (λ x. tokens.new ≡ tokens.old ++ description text.now) }
 {
@@ -283,6 +304,7 @@ fn push_description(tokens: &mut List<Token>, alloc: Global, text: &[u8]) -> Res
     }
 }
 
+/// Appends a whole block and a line end.
 fn push_block(tokens: &mut List<Token>, alloc: Global, item: &Block) -> Result<(), Memory>
     ensures { IfOk result (λ x. tokens.new ≡ tokens.old ++ (block item.now ++ line_end ∷ [])) }
 {
@@ -295,6 +317,7 @@ fn push_block(tokens: &mut List<Token>, alloc: Global, item: &Block) -> Result<(
     tokens.push_line_end(alloc)
 }
 
+/// Appends a `STORAGE` line outside of blocks.
 fn push_storage_node(
     tokens: &mut List<Token>,
     alloc: Global,
@@ -308,7 +331,7 @@ fn push_storage_node(
     tokens.push_line_end(alloc)
 }
 
-/// What stands before the body behind a condition.
+/// Appends `if` and a condition in parentheses.
 fn push_condition(tokens: &mut List<Token>, alloc: Global, test: &Expr) -> Result<(), Memory>
     ensures { IfOk result (λ x. tokens.new ≡
         tokens.old ++ (word (codes "if") ∷ sign 40 ∷ expr_tokens test.now ++ sign 41 ∷ [])) }
@@ -319,6 +342,7 @@ fn push_condition(tokens: &mut List<Token>, alloc: Global, test: &Expr) -> Resul
     tokens.push_sign(alloc, b')')
 }
 
+/// Appends a brace and a line end.
 fn push_brace(tokens: &mut List<Token>, alloc: Global, brace: u8) -> Result<(), Memory>
     ensures { IfOk result (λ x. tokens.new ≡ tokens.old ++ sign brace ∷ line_end ∷ []) }
 {
@@ -326,6 +350,7 @@ fn push_brace(tokens: &mut List<Token>, alloc: Global, brace: u8) -> Result<(), 
     tokens.push_line_end(alloc)
 }
 
+/// Appends nodes in braces.
 #[cycle(print)]
 fn push_body(tokens: &mut List<Token>, alloc: Global, items: &[Node]) -> Result<(), Memory>
     ensures { IfOk result (λ x. tokens.new ≡
@@ -336,6 +361,7 @@ fn push_body(tokens: &mut List<Token>, alloc: Global, items: &[Node]) -> Result<
     push_brace(tokens, alloc, b'}')
 }
 
+/// Appends `else` and its body; nothing if the body is empty.
 #[cycle(print)]
 fn push_otherwise(tokens: &mut List<Token>, alloc: Global, items: &[Node]) -> Result<(), Memory>
     ensures { IfOk result (λ x. tokens.new ≡ tokens.old ++ otherwise_nodes items.now) }
@@ -349,6 +375,7 @@ fn push_otherwise(tokens: &mut List<Token>, alloc: Global, items: &[Node]) -> Re
     }
 }
 
+/// Appends a node of any kind.
 #[cycle(print)]
 fn push_node(tokens: &mut List<Token>, alloc: Global, item: &Node) -> Result<(), Memory>
     ensures { IfOk result (λ x. tokens.new ≡ tokens.old ++ node item.now) }
@@ -364,6 +391,7 @@ fn push_node(tokens: &mut List<Token>, alloc: Global, item: &Node) -> Result<(),
     }
 }
 
+/// Appends nodes in their order.
 #[cycle(print)]
 fn push_nodes(tokens: &mut List<Token>, alloc: Global, items: &[Node]) -> Result<(), Memory>
     ensures { IfOk result (λ x. tokens.new ≡ tokens.old ++ nodes items.now) }
@@ -374,6 +402,7 @@ fn push_nodes(tokens: &mut List<Token>, alloc: Global, items: &[Node]) -> Result
     Ok(())
 }
 
+/// The tokens of this schedule file.
 fn tokens_of(alloc: Global, file: &ScheduleFile) -> Result<List<Token>, Memory>
     ensures { IfOk result (λ tokens. tokens ≡ file_tokens file.now) }
 {

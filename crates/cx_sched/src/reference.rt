@@ -12,6 +12,7 @@ use cx_plan::Region;
 use cx_text::{List, Reader, Stop, Text, Token, Why};
 use std::alloc::Global;
 
+/// Reads a number from 0 to `high`, both included.
 fn number_up_to(reader: &mut Reader, high: u64) -> Result<u64, Stop>
     ensures reads { Obeys (number_in 0 high) result reader.old reader.new }
     ensures most { IfOk result (λ n. n ≤ high) }
@@ -19,6 +20,7 @@ fn number_up_to(reader: &mut Reader, high: u64) -> Result<u64, Stop>
     reader.number_in(0, high)
 }
 
+/// Reads `::` and the name after an owner.
 fn owned(reader: &mut Reader, alloc: Global, owner: Text) -> Result<Ref, Stop>
     ensures { Obeys (owned owner) result reader.old reader.new }
 {
@@ -54,6 +56,7 @@ pub fn reference(reader: &mut Reader, alloc: Global) -> Result<Ref, Stop>
     behind_word(reader, alloc, word)
 }
 
+/// Reads a number of 32 bits in square brackets.
 fn bracket(reader: &mut Reader) -> Result<Option<u32>, Stop>
     ensures { Obeys bracket result reader.old reader.new }
 {
@@ -63,6 +66,7 @@ fn bracket(reader: &mut Reader) -> Result<Option<u32>, Stop>
     Ok(Some(number as u32))
 }
 
+/// Reads an optional number in square brackets.
 fn bracketed(reader: &mut Reader) -> Result<Option<u32>, Stop>
     ensures { Obeys bracketed result reader.old reader.new }
 {
@@ -88,6 +92,7 @@ fn region_of(token: &Token) -> Option<Region>
     }
 }
 
+/// Reads the word of a region, but no line end after it.
 fn region_here(reader: &mut Reader) -> Result<Region, Stop>
     ensures { Obeys (token region_of unmarked) result reader.old reader.new }
 {
@@ -103,6 +108,7 @@ fn region_here(reader: &mut Reader) -> Result<Region, Stop>
     }
 }
 
+/// Reads the word of a region.
 fn region_word(reader: &mut Reader) -> Result<Region, Stop>
     ensures { Obeys (lexeme region_of unmarked) result reader.old reader.new }
 {
@@ -111,6 +117,7 @@ fn region_word(reader: &mut Reader) -> Result<Region, Stop>
     Ok(region)
 }
 
+/// Reads a region in parentheses.
 fn parens(reader: &mut Reader) -> Result<Region, Stop>
     ensures { Obeys parens result reader.old reader.new }
 {
@@ -161,6 +168,7 @@ pub fn access(reader: &mut Reader, alloc: Global, word: Text) -> Result<(Ref, Re
     Ok((Ref { owner, name, copy }, region))
 }
 
+/// Reads `::` and the name after an owner, but no line end after them.
 fn owned_here(reader: &mut Reader, alloc: Global, owner: Text) -> Result<Ref, Stop>
     ensures { Obeys (owned_here owner) result reader.old reader.new }
 {
@@ -188,6 +196,7 @@ fn behind_word_here(reader: &mut Reader, alloc: Global, word: Text) -> Result<Re
     }
 }
 
+/// Reads a number in square brackets, but no line end after them.
 fn bracket_here(reader: &mut Reader) -> Result<Option<u32>, Stop>
     ensures { Obeys bracket_here result reader.old reader.new }
 {
@@ -197,6 +206,7 @@ fn bracket_here(reader: &mut Reader) -> Result<Option<u32>, Stop>
     Ok(Some(number as u32))
 }
 
+/// Reads an optional number in square brackets, but no line end after them.
 fn bracketed_here(reader: &mut Reader) -> Result<Option<u32>, Stop>
     ensures { Obeys bracketed_here result reader.old reader.new }
 {
@@ -207,6 +217,7 @@ fn bracketed_here(reader: &mut Reader) -> Result<Option<u32>, Stop>
     }
 }
 
+/// Skips an optional comma, but no line end after it.
 fn comma_here(reader: &mut Reader) -> Result<(), Stop>
     ensures { Obeys comma_here result reader.old reader.new }
 {
@@ -217,6 +228,7 @@ fn comma_here(reader: &mut Reader) -> Result<(), Stop>
     }
 }
 
+/// Reads a group with its number of time levels, and an optional comma.
 fn more_stores(
     reader: &mut Reader,
     alloc: Global,
@@ -232,6 +244,7 @@ fn more_stores(
     Ok(())
 }
 
+/// Reads groups for as long as a word comes next.
 fn stores_after(
     reader: &mut Reader,
     alloc: Global,

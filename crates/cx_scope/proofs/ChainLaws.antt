@@ -4,7 +4,8 @@ use Rattle.std.proofs.lemmas.Option.{slice_get_read}
 use Rattle.std.specs.List.{position_from}
 
 module _ {X : Type 0} where
-  tail_of : (all : List X) (k : ℕ) (x : X) (xs : List X) → drop k all ≡ x ∷ xs → drop (k + 1) all ≡ xs
+  tail_of : (all : List X) (k : ℕ) (x : X) (xs : List X) → drop k all ≡ x ∷ xs
+      → drop (k + 1) all ≡ xs
   tail_of [] zero x xs e = absurd cc
   tail_of (y ∷ ys) zero x xs e = cc
   tail_of [] (suc k) x xs e = absurd cc
@@ -24,8 +25,10 @@ module _ {X : Type 0} where
   read_of [] (suc k) x xs e = absurd cc
   read_of (y ∷ ys) (suc k) x xs e = read_of ys k x xs e
 
-  got_of : (all : List X) (k : ℕ) (x : X) (xs : List X) → drop k all ≡ x ∷ xs → slice_get all k ≡ Some x
-  got_of all k x xs e = slice_get_read all (length all) k x refl (within_of all k x xs e) (read_of all k x xs e)
+  got_of : (all : List X) (k : ℕ) (x : X) (xs : List X) → drop k all ≡ x ∷ xs
+      → slice_get all k ≡ Some x
+  got_of all k x xs e = slice_get_read all (length all) k x refl (within_of all k x xs e)
+      (read_of all k x xs e)
 
 module _ {X : Type 0} (p n : X → Bool) (fits : (x : X) → p x ≡ true → n x ≡ true) where
   -- the first that passes, from a place on
@@ -37,15 +40,20 @@ module _ {X : Type 0} (p n : X → Bool) (fits : (x : X) → p x ≡ true → n 
   no_pass b true x e h q = absurd (true≢false (sym (fits x q) ∙ e ∙ h))
   no_pass b false x e h q = refl
 
-  one : (b : Bool) (xs : List X) (k : ℕ) (x : X) (all : List X) → n x ≡ b → drop k all ≡ x ∷ xs → position_from p (k + 1) xs ≡ from_place all (position_from n (k + 1) xs)
+  one : (b : Bool) (xs : List X) (k : ℕ) (x : X) (all : List X) → n x ≡ b → drop k all ≡ x ∷ xs
+      → position_from p (k + 1) xs ≡ from_place all (position_from n (k + 1) xs)
       → position_from p k (x ∷ xs) ≡ from_place all (cond b (Some k) (position_from n (k + 1) xs))
   one true xs k x all e at rest = ap (λ l. position_from p k l) (sym at)
-  one false xs k x all e at rest = ap (λ b. cond b (Some k) (position_from p (k + 1) xs)) (no_pass false (p x) x e refl refl) ∙ rest
+  one false xs k x all e at rest =
+      ap (λ b. cond b (Some k) (position_from p (k + 1) xs)) (no_pass false (p x) x e refl refl)
+      ∙ rest
 
   -- none before the next that has the name passes
-  pub skipped : (xs : List X) (k : ℕ) (all : List X) → drop k all ≡ xs → position_from p k xs ≡ from_place all (position_from n k xs)
+  pub skipped : (xs : List X) (k : ℕ) (all : List X) → drop k all ≡ xs
+      → position_from p k xs ≡ from_place all (position_from n k xs)
   skipped [] k all at = refl
-  skipped (x ∷ xs) k all at = one (n x) xs k x all refl at (skipped xs (k + 1) all (tail_of all k x xs at))
+  skipped (x ∷ xs) k all at =
+      one (n x) xs k x all refl at (skipped xs (k + 1) all (tail_of all k x xs at))
 
 module _ {X : Type 0} (n : X → Bool) where
   pub record FoundAt (all : List X) (from k : ℕ) : Type 0 where
@@ -55,23 +63,40 @@ module _ {X : Type 0} (n : X → Bool) where
     pub has : n element ≡ true
     pub behind : from ≤ k
 
-  here : (b : Bool) (xs : List X) (j k : ℕ) (x : X) (all : List X) → n x ≡ b → drop j all ≡ x ∷ xs → (position_from n (j + 1) xs ≡ Some k → FoundAt all (j + 1) k) → cond b (Some j) (position_from n (j + 1) xs) ≡ Some k → FoundAt all j k
+  here : (b : Bool) (xs : List X) (j k : ℕ) (x : X) (all : List X) → n x ≡ b → drop j all ≡ x ∷ xs
+      → (position_from n (j + 1) xs ≡ Some k → FoundAt all (j + 1) k)
+      → cond b (Some j) (position_from n (j + 1) xs) ≡ Some k → FoundAt all j k
   here true xs j k x all e at later h =
       let same : j ≡ k = cc in
-      record { element = x; rest = xs; at = ap (λ i. drop i all) (sym same) ∙ at; has = e; behind = omega (arith, same) }
+      record {
+        element = x;
+        rest = xs;
+        at = ap (λ i. drop i all) (sym same) ∙ at;
+        has = e;
+        behind = omega (arith, same);
+      }
   here false xs j k x all e at later h =
       let found = later h in
-      record { element = found.element; rest = found.rest; at = found.at; has = found.has; behind = (let low = found.behind in omega (arith, low)) }
+      record {
+        element = found.element;
+        rest = found.rest;
+        at = found.at;
+        has = found.has;
+        behind = (let low = found.behind in omega (arith, low));
+      }
 
-  pub placed : (xs : List X) (j k : ℕ) (all : List X) → drop j all ≡ xs → position_from n j xs ≡ Some k → FoundAt all j k
+  pub placed : (xs : List X) (j k : ℕ) (all : List X) → drop j all ≡ xs
+      → position_from n j xs ≡ Some k → FoundAt all j k
   placed [] j k all at h = absurd cc
-  placed (x ∷ xs) j k all at h = here (n x) xs j k x all refl at (placed xs (j + 1) k all (tail_of all j x xs at)) h
+  placed (x ∷ xs) j k all at h =
+      here (n x) xs j k x all refl at (placed xs (j + 1) k all (tail_of all j x xs at)) h
 
   abbrev pub left : List X → Option ℕ → ℕ
   left all None = 0
   left all (Some k) = length all - k
 
-  less : (all : List X) (k : ℕ) (next : Option ℕ) → k < length all → position_from n (k + 1) (drop (k + 1) all) ≡ next → left all next < left all (Some k)
+  less : (all : List X) (k : ℕ) (next : Option ℕ) → k < length all
+      → position_from n (k + 1) (drop (k + 1) all) ≡ next → left all next < left all (Some k)
   less all k None within e = omega (arith, within)
   less all k (Some j) within e =
       let found = placed (drop (k + 1) all) (k + 1) j all refl e in
@@ -79,7 +104,9 @@ module _ {X : Type 0} (n : X → Bool) where
       omega (arith, within, low)
 
   -- the search is nearer to its end at the next place
-  pub falls : (all : List X) (from k : ℕ) (next : Option ℕ) → position_from n from (drop from all) ≡ Some k → next ≡ position_from n (k + 1) (drop (k + 1) all) → left all next < left all (Some k)
+  pub falls : (all : List X) (from k : ℕ) (next : Option ℕ)
+      → position_from n from (drop from all) ≡ Some k
+      → next ≡ position_from n (k + 1) (drop (k + 1) all) → left all next < left all (Some k)
   falls all from k next is after =
       let found = placed (drop from all) from k all refl is in
       less all k next (within_of all k found.element found.rest found.at) (sym after)
@@ -96,32 +123,52 @@ module _ {X : Type 0} (p n : X → Bool) where
 
 module _ {X : Type 0} (p n : X → Bool) (fits : (x : X) → p x ≡ true → n x ≡ true) where
   pub ends : (all : List X) → Ahead p n all None → None ≡ position_from p 0 all
-  ends all a = ap (λ o. from_place p n fits all o) (sym a.is) ∙ sym (skipped p n fits (drop a.from all) a.from all refl) ∙ a.same
+  ends all a = ap (λ o. from_place p n fits all o) (sym a.is)
+      ∙ sym (skipped p n fits (drop a.from all) a.from all refl) ∙ a.same
 
-  stands : (all : List X) (k : ℕ) (a : Ahead p n all (Some k)) → position_from p k (drop k all) ≡ position_from p 0 all
-  stands all k a = ap (λ o. from_place p n fits all o) (sym a.is) ∙ sym (skipped p n fits (drop a.from all) a.from all refl) ∙ a.same
+  stands : (all : List X) (k : ℕ) (a : Ahead p n all (Some k))
+      → position_from p k (drop k all) ≡ position_from p 0 all
+  stands all k a = ap (λ o. from_place p n fits all o) (sym a.is)
+      ∙ sym (skipped p n fits (drop a.from all) a.from all refl) ∙ a.same
 
-  passes_at : (all : List X) (k : ℕ) (x : X) (xs : List X) → drop k all ≡ x ∷ xs → p x ≡ true → Some k ≡ position_from p k (drop k all)
-  passes_at all k x xs at h = ap (λ b. cond b (Some k) (position_from p (k + 1) xs)) (sym h) ∙ ap (λ l. position_from p k l) (sym at)
+  passes_at : (all : List X) (k : ℕ) (x : X) (xs : List X) → drop k all ≡ x ∷ xs → p x ≡ true
+      → Some k ≡ position_from p k (drop k all)
+  passes_at all k x xs at h =
+      ap (λ b. cond b (Some k) (position_from p (k + 1) xs)) (sym h)
+      ∙ ap (λ l. position_from p k l) (sym at)
 
-  fails_at : (all : List X) (k : ℕ) (x : X) (xs : List X) → drop k all ≡ x ∷ xs → p x ≡ false → position_from p (k + 1) (drop (k + 1) all) ≡ position_from p k (drop k all)
+  fails_at : (all : List X) (k : ℕ) (x : X) (xs : List X) → drop k all ≡ x ∷ xs → p x ≡ false
+      → position_from p (k + 1) (drop (k + 1) all) ≡ position_from p k (drop k all)
   fails_at all k x xs at h =
       ap (λ l. position_from p (k + 1) l) (tail_of all k x xs at)
       ∙ ap (λ b. cond b (Some k) (position_from p (k + 1) xs)) (sym h)
       ∙ ap (λ l. position_from p k l) (sym at)
 
-  pub meets : (all : List X) (k : ℕ) → (a : Ahead p n all (Some k)) → ((x : X) → slice_get all k ≡ Some x → p x ≡ true) → Some k ≡ position_from p 0 all
+  pub meets : (all : List X) (k : ℕ) → (a : Ahead p n all (Some k))
+      → ((x : X) → slice_get all k ≡ Some x → p x ≡ true) → Some k ≡ position_from p 0 all
   meets all k a hit =
       let found = placed n (drop a.from all) a.from k all refl a.is in
-      passes_at all k found.element found.rest found.at (hit found.element (got_of all k found.element found.rest found.at)) ∙ stands all k a
+      passes_at all k found.element found.rest found.at
+      (hit found.element (got_of all k found.element found.rest found.at)) ∙ stands all k a
 
-  pub goes_on : (all : List X) (k : ℕ) (next : Option ℕ) → (a : Ahead p n all (Some k)) → ((x : X) → slice_get all k ≡ Some x → p x ≡ false) → ((x : X) → slice_get all k ≡ Some x → n x ≡ true → next ≡ position_from n (k + 1) (drop (k + 1) all)) → Ahead p n all next
+  pub goes_on : (all : List X) (k : ℕ) (next : Option ℕ) → (a : Ahead p n all (Some k))
+      → ((x : X) → slice_get all k ≡ Some x → p x ≡ false)
+      → ((x : X) → slice_get all k ≡ Some x → n x ≡ true
+      → next ≡ position_from n (k + 1) (drop (k + 1) all)) → Ahead p n all next
   goes_on all k next a miss after =
       let found = placed n (drop a.from all) a.from k all refl a.is in
       let got = got_of all k found.element found.rest found.at in
-      record { from = k + 1; is = sym (after found.element got found.has); same = fails_at all k found.element found.rest found.at (miss found.element got) ∙ stands all k a }
+      record {
+        from = k + 1;
+        is = sym (after found.element got found.has);
+        same = fails_at all k found.element found.rest found.at (miss found.element got)
+            ∙ stands all k a;
+      }
 
-  pub nearer : (all : List X) (k : ℕ) (next : Option ℕ) → (a : Ahead p n all (Some k)) → ((x : X) → slice_get all k ≡ Some x → n x ≡ true → next ≡ position_from n (k + 1) (drop (k + 1) all)) → left n all next < left n all (Some k)
+  pub nearer : (all : List X) (k : ℕ) (next : Option ℕ) → (a : Ahead p n all (Some k))
+      → ((x : X) → slice_get all k ≡ Some x → n x ≡ true
+      → next ≡ position_from n (k + 1) (drop (k + 1) all)) → left n all next < left n all (Some k)
   nearer all k next a after =
       let found = placed n (drop a.from all) a.from k all refl a.is in
-      falls n all a.from k next a.is (after found.element (got_of all k found.element found.rest found.at) found.has)
+      falls n all a.from k next a.is
+      (after found.element (got_of all k found.element found.rest found.at) found.has)

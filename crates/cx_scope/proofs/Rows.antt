@@ -14,15 +14,20 @@ with_friends t friends = record t { interface = record t.interface { friends = f
 
 -- a inherits from b, b from c; c has a public and a private group; d is a friend of a and of e
 abbrev thorn_a : Thorn
-thorn_a = thorn (codes "A") (codes "a") (codes "b" ∷ []) (record (grid_group Public (codes "waves") 3 (codes "phi" ∷ [])) { levels = 2 } ∷ []) []
+thorn_a = thorn (codes "A") (codes "a") (codes "b" ∷ [])
+    (record (grid_group Public (codes "waves") 3 (codes "phi" ∷ [])) { levels = 2 } ∷ []) []
 
 abbrev thorns : List Thorn
 thorns =
     thorn_a
     ∷ thorn (codes "B") (codes "b") (codes "c" ∷ []) [] []
-    ∷ thorn (codes "C") (codes "c") [] (scalar_group Public (codes "shown") (codes "s" ∷ []) ∷ scalar_group Private (codes "kept") (codes "p" ∷ []) ∷ []) []
-    ∷ with_friends (thorn (codes "D") (codes "d") [] [] []) (codes "A" ∷ codes "e" ∷ codes "absent" ∷ [])
-    ∷ thorn (codes "E") (codes "e") [] (scalar_group Protected (codes "ours") (codes "o" ∷ []) ∷ []) []
+    ∷ thorn (codes "C") (codes "c") []
+    (scalar_group Public (codes "shown") (codes "s" ∷ [])
+    ∷ scalar_group Private (codes "kept") (codes "p" ∷ []) ∷ []) []
+    ∷ with_friends (thorn (codes "D") (codes "d") [] [] [])
+    (codes "A" ∷ codes "e" ∷ codes "absent" ∷ [])
+    ∷ thorn (codes "E") (codes "e") [] (scalar_group Protected (codes "ours") (codes "o" ∷ []) ∷ [])
+    []
     ∷ []
 
 -- an ancestor's ancestor
@@ -31,9 +36,12 @@ row_ancestor = through (codes "b") (codes "c") (inherited (codes "b") refl) refl
 
 -- a and e are friends through d, whose friend line names a in another case
 row_friend : Friend thorns (codes "a") (codes "e")
-row_friend = onward (codes "a") (codes "d") (codes "e") (back (codes "d") (codes "a") (line (codes "d") (codes "a") refl refl)) (line (codes "d") (codes "e") refl refl)
+row_friend = onward (codes "a") (codes "d") (codes "e")
+    (back (codes "d") (codes "a") (line (codes "d") (codes "a") refl refl))
+    (line (codes "d") (codes "e") refl refl)
 
--- what these thorns see: the first two have ancestors, and the first one and the last two are friends
+-- what these thorns see: the first two have ancestors, and the first one and the last two are
+-- friends
 abbrev is_friendly : ℕ → Bool
 is_friendly t = t == 0 || nat_lt 2 t
 
@@ -73,7 +81,8 @@ row_no_storage = refl
 row_no_level : resolve thorns sight storage 0 (bare (codes "phi_p")) ≡ Err (NoLevel (codes "phi_p"))
 row_no_level = refl
 
-row_stored : resolve thorns sight (2 ∷ 1 ∷ 0 ∷ 1 ∷ []) 0 (bare (codes "phi_p")) ≡ Ok ((var_id 0, 1) ∷ [])
+row_stored : resolve thorns sight (2 ∷ 1 ∷ 0 ∷ 1 ∷ []) 0 (bare (codes "phi_p"))
+    ≡ Ok ((var_id 0, 1) ∷ [])
 row_stored = refl
 
 -- a group that nobody has
@@ -83,5 +92,7 @@ row_no_group = refl
 row_group : group_of thorns sight 0 (bare (codes "WAVES")) ≡ Ok (var_id 0 ∷ [])
 row_group = refl
 
-row_owner : resolve thorns sight storage 2 (record { owner = Some (codes "C"); name = codes "P"; copy = None }) ≡ Err (NoStorage (codes "C::P"))
+row_owner : resolve thorns sight storage 2
+    (record { owner = Some (codes "C"); name = codes "P"; copy = None })
+    ≡ Err (NoStorage (codes "C::P"))
 row_owner = refl

@@ -15,4 +15,5 @@ FindsFirsts firsts k gs = (name : List ℕ) → place_of firsts name ≡ named_f
 
 -- Each group that stands at a place or behind it has the next one of its name.
 abbrev pub FindsNexts : List (Option ℕ) → ℕ → List NamedGroup → Type 0
-FindsNexts nexts k gs = (j : ℕ) → (g : NamedGroup) → k ≤ j → slice_get gs j ≡ Some g → slice_get nexts j ≡ Some (named_from g.name (j + 1) (drop (j + 1) gs))
+FindsNexts nexts k gs = (j : ℕ) → (g : NamedGroup) → k ≤ j → slice_get gs j ≡ Some g
+    → slice_get nexts j ≡ Some (named_from g.name (j + 1) (drop (j + 1) gs))

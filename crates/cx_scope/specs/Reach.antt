@@ -1,6 +1,7 @@
 -- What is reached along edges between numbers, as a least set, and the search for one more.
 use Rattle.std.specs.Prelude.{◌≡◌, ◌↔◌, ℕ, ◌==◌, nat_lt, Bool, true, false, not, ◌&&◌, ◌||◌, List, slice_index_or}
 use Rattle.std.specs.List.{list_any, list_all}
+use Rattle.cx_plan.specs.Lists.{is_marked}
 
 abbrev pub Edge : Type 0
 Edge = ℕ × ℕ
@@ -12,10 +13,6 @@ has_edge edges a b = list_any (λ e. e.0 == a && e.1 == b) edges
 pub data Reach (edges : List Edge) : ℕ → ℕ → Type 0 where
   edge : (a b : ℕ) → has_edge edges a b ≡ true → Reach edges a b
   onward : (a b c : ℕ) → Reach edges a b → has_edge edges b c ≡ true → Reach edges a c
-
--- whether a number is marked
-abbrev pub is_marked : List Bool → ℕ → Bool
-is_marked marks k = slice_index_or marks k false
 
 -- what is marked is what is reached from a number
 abbrev pub MarksReach : List Edge → ℕ → List Bool → Type 0

@@ -1,4 +1,5 @@
--- What a thorn sees: its own groups, the public ones of its ancestors and the protected ones of its friends.
+-- What a thorn sees: its own groups, the public ones of its ancestors and the protected ones of its
+-- friends.
 use Rattle.std.specs.Prelude.{◌≡◌, ◌↔◌, ℕ, ◌==◌, Bool, true, false, ◌&&◌, IsTrue, List, [], ◌∷◌, slice_get, Some}
 use Rattle.cx_iface.specs.declared.tree.Access.{Access}
 use Rattle.cx_iface.specs.declared.tree.Access.TheVariants.{Public, Protected, Private}
@@ -8,15 +9,19 @@ use Rattle.cx_scope.specs.declared.names.Tier.{Tier}
 use Rattle.cx_scope.specs.declared.names.Tier.TheVariants.{Own, Inherited, Friends, Any}
 use Rattle.cx_scope.specs.Relations.{Ancestor, Friend}
 
--- Answers to two questions on thorns by their numbers: whether the second one provides an ancestor of the first one, and whether they provide friends.
+-- Answers to two questions on thorns by their numbers: whether the second one provides an ancestor
+-- of the first one, and whether they provide friends.
 pub record Sight : Type 0 where
   pub is_ancestor : ℕ → ℕ → Bool
   pub is_friend : ℕ → ℕ → Bool
 
 -- the answers are those of the least sets
 pub record IsSightOf (thorns : List Thorn) (sight : Sight) : Type 0 where
-  pub ancestors : (t u : ℕ) (x y : Thorn) → slice_get thorns t ≡ Some x → slice_get thorns u ≡ Some y → IsTrue (sight.is_ancestor t u) ↔ Ancestor thorns x y.interface.implements
-  pub friends : (t u : ℕ) (x y : Thorn) → slice_get thorns t ≡ Some x → slice_get thorns u ≡ Some y → IsTrue (sight.is_friend t u) ↔ Friend thorns x.interface.implements y.interface.implements
+  pub ancestors : (t u : ℕ) (x y : Thorn) → slice_get thorns t ≡ Some x
+      → slice_get thorns u ≡ Some y
+      → IsTrue (sight.is_ancestor t u) ↔ Ancestor thorns x y.interface.implements
+  pub friends : (t u : ℕ) (x y : Thorn) → slice_get thorns t ≡ Some x → slice_get thorns u ≡ Some y
+      → IsTrue (sight.is_friend t u) ↔ Friend thorns x.interface.implements y.interface.implements
 
 abbrev pub is_public : Access → Bool
 is_public Public = true

@@ -44,11 +44,14 @@ members_of tables place = members_at tables.variables (slice_get tables.groups p
 
 abbrev pub group_levels_meant : Tables → List ℕ → ℕ → Ref → Result (List (VarId × ℕ)) ScopeFault
 group_levels_meant tables storage t r =
-    group_levels tables.variables tables.groups (sight_of tables) t r storage (group_meant tables t seen r)
+    group_levels tables.variables tables.groups (sight_of tables) t r storage
+    (group_meant tables t seen r)
 
 abbrev pub levels_meant : Tables → List ℕ → ℕ → Ref → Result (List (VarId × ℕ)) ScopeFault
 levels_meant tables storage t r =
-    levels tables.variables tables.groups (sight_of tables) t r storage (level_meant tables t seen r)
+    levels tables.variables tables.groups (sight_of tables) t r storage
+    (level_meant tables t seen r)
 
 abbrev pub members_meant : Tables → ℕ → Ref → Result (List VarId) ScopeFault
-members_meant tables t r = group_members tables.variables tables.groups (sight_of tables) t r (group_meant tables t seen r)
+members_meant tables t r =
+    group_members tables.variables tables.groups (sight_of tables) t r (group_meant tables t seen r)

@@ -19,6 +19,7 @@ pub(crate) enum Tie {
     Friends,
 }
 
+/// Adds a copy of a name at the end of the list.
 fn push_copy(alloc: Global, names: &mut List<Text>, name: &[u8]) -> Result<(), Memory>
     ensures { OnOk result (names.new ≡ names.old ++ name.now ∷ []) }
 {
@@ -39,6 +40,7 @@ fn active_implementations(alloc: Global, thorns: &[Thorn]) -> Result<List<Text>,
     Ok(names)
 }
 
+/// Whether a thorn that provides `from` has `to` in its friend line.
 fn is_line_of(thorn: &Thorn, from: &[u8], to: &[u8]) -> bool
     ensures { result ≡ has_friend_line from.now to.now thorn.now }
 {
@@ -46,12 +48,14 @@ fn is_line_of(thorn: &Thorn, from: &[u8], to: &[u8]) -> bool
         && among(thorn.interface.friends.as_slice(), to)
 }
 
+/// Whether some thorn that provides `from` has `to` in its friend line.
 fn is_friend_line(thorns: &[Thorn], from: &[u8], to: &[u8]) -> bool
     ensures { result ≡ is_friend_line thorns.now from.now to.now }
 {
     thorns.iter().any(|thorn| is_line_of(thorn, from, to))
 }
 
+/// Whether the thorn of this number inherits the implementation.
 fn inherits_at(thorns: &[Thorn], number: usize, name: &[u8]) -> bool
     ensures { result ≡ inherits_by (slice_get thorns.now number) name.now }
 {
@@ -61,6 +65,7 @@ fn inherits_at(thorns: &[Thorn], number: usize, name: &[u8]) -> bool
     }
 }
 
+/// The implementation at a place; empty beyond the end of the list.
 fn name_at(names: &[Text], place: usize) -> &[u8]
     ensures { result.now ≡ name_at names.now place }
 {
@@ -70,6 +75,7 @@ fn name_at(names: &[Text], place: usize) -> &[u8]
     }
 }
 
+/// Whether the tie leads from one implementation to the other. Friendship leads both ways.
 fn is_tied(thorns: &[Thorn], names: &[Text], tie: Tie, from: usize, to: usize) -> bool
     ensures { result ≡ is_tied thorns.now names.now tie from to }
 {
@@ -83,6 +89,7 @@ fn is_tied(thorns: &[Thorn], names: &[Text], tie: Tie, from: usize, to: usize) -
     }
 }
 
+/// Adds an edge if the two implementations are tied.
 fn push_edge(
     edges: &mut List<(usize, usize)>,
     tied: bool,
@@ -97,6 +104,7 @@ fn push_edge(
     edges.push((from, to))
 }
 
+/// Adds the edges that lead from one implementation to all others.
 fn push_edges_from(
     thorns: &[Thorn],
     names: &[Text],
@@ -128,6 +136,7 @@ fn edges(
     Ok(edges)
 }
 
+/// For each number whether edges lead to it from this one, in one step or more.
 fn row(
     alloc: Global,
     count: usize,

@@ -39,7 +39,7 @@ impl Model for Groups {
         FindsFirsts groups.firsts 0 groups.list × FindsNexts groups.nexts.items 0 groups.list };
 }
 
-/// Puts a group before those behind it.
+/// Puts a group at the front of those of its name.
 fn link(
     alloc: Global,
     firsts: &mut NamePlaces,
@@ -62,7 +62,7 @@ fn link(
     Ok(())
 }
 
-/// Where groups of each name stand, from the last group to the first.
+/// Where the groups of each name are, linked from the last group to the first.
 fn link_all(alloc: Global, groups: &[NamedGroup]) -> Result<Chains, Memory>
     ensures { IfOk result
         (λ chains. FindsFirsts chains.firsts 0 groups.now

@@ -44,6 +44,7 @@ pub(crate) struct NamedVariable {
     pub(crate) copy: Option<u32>,
 }
 
+/// A group with its thorn and what names need of it: access, owner and name.
 fn named_group(
     alloc: Global,
     number: usize,
@@ -62,6 +63,7 @@ fn named_group(
     })
 }
 
+/// Adds the groups of one thorn, in the order of its file.
 fn push_groups(
     alloc: Global,
     named: &mut List<NamedGroup>,
@@ -91,6 +93,7 @@ pub(crate) fn named_groups(alloc: Global, thorns: &[Thorn]) -> Result<List<Named
     Ok(named)
 }
 
+/// A copy of a group with its owner and its name.
 fn copy_group(alloc: Global, group: &NamedGroup) -> Result<NamedGroup, Memory>
     ensures { IfOk result (λ copy. copy ≡ group.now) }
 {
@@ -103,6 +106,7 @@ fn copy_group(alloc: Global, group: &NamedGroup) -> Result<NamedGroup, Memory>
     })
 }
 
+/// A variable of a group, or one copy of it.
 fn named_variable(
     alloc: Global,
     group: &NamedGroup,
@@ -118,6 +122,7 @@ fn named_variable(
     })
 }
 
+/// Adds the copies of a variable by their numbers, from 0.
 fn push_numbered(
     alloc: Global,
     named: &mut List<NamedVariable>,
@@ -135,6 +140,7 @@ fn push_numbered(
     Ok(())
 }
 
+/// Adds a variable, or all copies of one in a vector group.
 fn push_copies(
     alloc: Global,
     named: &mut List<NamedVariable>,
@@ -150,6 +156,7 @@ fn push_copies(
     }
 }
 
+/// Adds the variables of a group with all their copies, in the order of the file.
 fn push_names(
     alloc: Global,
     named: &mut List<NamedVariable>,
@@ -166,6 +173,7 @@ fn push_names(
     Ok(())
 }
 
+/// Adds all variables of one group.
 fn push_variables_in(
     alloc: Global,
     named: &mut List<NamedVariable>,
@@ -187,6 +195,7 @@ fn push_variables_in(
     )
 }
 
+/// Adds all variables of one thorn, group by group.
 fn push_variables(
     alloc: Global,
     named: &mut List<NamedVariable>,

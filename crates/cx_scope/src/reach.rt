@@ -2,10 +2,12 @@
 
 ghost use Rattle.std.specs.Prelude.{◌≡◌, true, false, replicate, IfOk, find, option_map};
 ghost use Rattle.std.specs.Option.{option_copied};
-ghost use Rattle.cx_scope.specs.Reach.{is_marked, is_new, ends_below, MarksReach};
+ghost use Rattle.cx_scope.specs.Reach.{is_new, ends_below, MarksReach};
+ghost use Rattle.cx_plan.specs.Lists.{is_marked};
 
 use std::alloc::{AllocError, Global};
 
+/// Whether a number is marked; none beyond the end of the marks is.
 fn is_marked(marks: &[bool], k: usize) -> bool
     ensures { result ≡ is_marked marks.now k }
 {
@@ -15,6 +17,7 @@ fn is_marked(marks: &[bool], k: usize) -> bool
     }
 }
 
+/// Whether an edge leads from the start or a marked number to a number that isn't marked.
 fn is_new(from: usize, marks: &[bool], edge: (usize, usize)) -> bool
     ensures { result ≡ is_new from marks.now edge }
 {
@@ -42,6 +45,7 @@ fn next_end(edges: &[(usize, usize)], from: usize, marks: &[bool]) -> Option<usi
     }
 }
 
+/// Marks of so many numbers, none of them set.
 fn no_marks(alloc: Global, count: usize) -> Result<Vec<bool>, AllocError>
     ensures { IfOk result (λ v. v.items ≡ replicate count false) }
 {

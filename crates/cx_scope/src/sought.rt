@@ -12,6 +12,7 @@ use cx_sched::Ref;
 use cx_text::{List, Memory, Text, same_name};
 use std::alloc::Global;
 
+/// Whether the owner that a name has, if any, is that of the group.
 fn fits_owner(owner: &Option<Text>, group: &NamedGroup) -> bool
     ensures { result ≡ fits_owner owner.now group.now }
 {
@@ -21,6 +22,7 @@ fn fits_owner(owner: &Option<Text>, group: &NamedGroup) -> bool
     }
 }
 
+/// Whether both mean one copy by its number, or both mean a variable without copies.
 fn is_same_copy(a: Option<u32>, b: Option<u32>) -> bool
     ensures { result ≡ is_same_copy a b }
 {
@@ -40,6 +42,7 @@ fn names_variable(name: &Ref, base: &[u8], variable: &NamedVariable) -> bool
         && is_same_copy(name.copy, variable.copy)
 }
 
+/// Whether a name, which then has no copy, is that of the group.
 fn names_group(name: &Ref, group: &NamedGroup) -> bool
     ensures { result ≡ names_group name.now group.now }
 {
@@ -63,6 +66,7 @@ fn without_suffix(name: &[u8]) -> Option<&[u8]>
     }
 }
 
+/// Whether a thorn sees a variable in this tier, and the variable has the name with this text.
 fn is_this_variable(
     tables: &Tables,
     thorn: usize,
@@ -77,6 +81,7 @@ fn is_this_variable(
     tables.is_in(thorn, tier, &variable.group) && names_variable(name, base, variable)
 }
 
+/// The first variable of the name in one tier, by its number.
 fn variable_in(tables: &Tables, thorn: usize, tier: Tier, name: &Ref, base: &[u8]) -> Option<usize>
     ensures { result
         ≡ position_from (has_variable tables.now thorn tier (with_base name.now base.now)) 0
@@ -87,6 +92,7 @@ fn variable_in(tables: &Tables, thorn: usize, tier: Tier, name: &Ref, base: &[u8
     ))
 }
 
+/// The first variable of the name in the first of these tiers that has one.
 fn variable_at(
     tables: &Tables,
     thorn: usize,
@@ -127,13 +133,14 @@ pub(crate) fn find_variable(
     }
 }
 
+/// Whether a thorn sees a group in this tier, and the group has the name.
 fn is_this_group(tables: &Tables, thorn: usize, tier: Tier, name: &Ref, group: &NamedGroup) -> bool
     ensures { result ≡ has_group tables.now thorn tier name.now group.now }
 {
     tables.is_in(thorn, tier, group) && names_group(name, group)
 }
 
-/// Whether such a group, of this name, stands at a place.
+/// Whether the group at a place has this name and is seen by the thorn in this tier.
 fn is_at(tables: &Tables, thorn: usize, tier: Tier, name: &Ref, place: usize) -> bool
     ensures { result
         ≡ option_map_or (has_group tables.now thorn tier name.now)
@@ -145,6 +152,7 @@ fn is_at(tables: &Tables, thorn: usize, tier: Tier, name: &Ref, place: usize) ->
     }
 }
 
+/// The first group of the name in one tier, by its place among all groups.
 fn group_in(tables: &Tables, thorn: usize, tier: Tier, name: &Ref) -> Option<usize>
     ensures { result
         ≡ position_from (has_group tables.now thorn tier name.now) 0 tables.now.groups }
@@ -171,6 +179,7 @@ pub(crate) fn find_group(tables: &Tables, thorn: usize, tiers: &[Tier], name: &R
     None
 }
 
+/// Whether two are one group: of one thorn and at one place in its file.
 fn is_same_group(a: &NamedGroup, b: &NamedGroup) -> bool
     ensures { result ≡ is_same_group a.now b.now }
 {

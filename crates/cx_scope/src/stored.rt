@@ -30,6 +30,7 @@ pub fn ref_text(alloc: Global, name: &Ref) -> Result<Text, Memory>
     }
 }
 
+/// The fault of a name that the thorn doesn't see: hidden if another has it, else not found.
 fn unseen(alloc: Global, is_there: bool, name: &Ref) -> Result<ScopeFault, Memory>
     ensures { IfOk result (λ fault. fault ≡ unseen is_there name.now) }
 {
@@ -41,6 +42,7 @@ fn unseen(alloc: Global, is_there: bool, name: &Ref) -> Result<ScopeFault, Memor
     }
 }
 
+/// How many time levels of a variable are stored; 0 if it has no storage.
 fn stored_levels(storage: &[u8], place: usize) -> u8
     ensures { result ≡ slice_index_or storage.now place 0 }
 {
@@ -101,6 +103,7 @@ fn current_levels(
     Ok(levels)
 }
 
+/// The numbers of variables as their ids.
 fn var_ids(alloc: Global, places: &[u32]) -> Result<List<VarId>, Memory>
     ensures { IfOk result (λ ids. ids ≡ map var_id places.now) }
 {
@@ -112,12 +115,14 @@ fn var_ids(alloc: Global, places: &[u32]) -> Result<List<VarId>, Memory>
 }
 
 impl Tables {
+    /// Whether a group of any thorn has the name.
     fn is_anyones_group(&self, thorn: usize, name: &Ref) -> bool
         ensures { result ≡ is_group_of_any self.now thorn name.now }
     {
         find_group(self, thorn, &[Tier::Any], name).is_some()
     }
 
+    /// Whether a variable or a group of any thorn has the name.
     fn is_anyones(&self, thorn: usize, name: &Ref) -> bool
         ensures { result ≡ is_of_any self.now thorn name.now }
     {
@@ -136,6 +141,7 @@ impl Tables {
         }
     }
 
+    /// Level 0 of each variable of the group that a name means; a fault if the thorn sees no such group.
     fn group_levels(
         &self,
         alloc: Global,

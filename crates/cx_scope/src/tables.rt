@@ -2,8 +2,8 @@
 
 ghost use Rattle.std.specs.Prelude.{◌≡◌};
 ghost use Rattle.cx_scope.specs.Closures.{sight_of, row_of, is_of_ancestor, is_of_friend};
-ghost use Rattle.cx_scope.specs.Reach.{is_marked};
 ghost use Rattle.cx_scope.specs.Sight.{is_in, is_public, is_protected};
+ghost use Rattle.cx_plan.specs.Lists.{is_marked};
 
 use crate::groups::Groups;
 use crate::names::{NamedGroup, NamedVariable, Tier};
@@ -19,6 +19,7 @@ pub(crate) struct Tables {
     pub(crate) friends: List<List<bool>>,
 }
 
+/// Whether the row of a thorn marks this place; none beyond the ends of the table is.
 fn is_marked(rows: &[List<bool>], row: usize, place: usize) -> bool
     ensures { result ≡ is_marked (row_of rows.now row) place }
 {
@@ -28,6 +29,7 @@ fn is_marked(rows: &[List<bool>], row: usize, place: usize) -> bool
     }
 }
 
+/// Whether a group is public, so that thorns that inherit its implementation see it.
 fn is_public(access: Access) -> bool
     ensures { result ≡ is_public access }
 {
@@ -37,6 +39,7 @@ fn is_public(access: Access) -> bool
     }
 }
 
+/// Whether a group is protected, so that friends of its implementation see it.
 fn is_protected(access: Access) -> bool
     ensures { result ≡ is_protected access }
 {
@@ -46,12 +49,14 @@ fn is_protected(access: Access) -> bool
     }
 }
 
+/// Whether a group is public and of an ancestor of the thorn's implementation.
 fn is_of_ancestor(tables: &Tables, thorn: usize, group: &NamedGroup) -> bool
     ensures { result ≡ is_of_ancestor tables.now thorn group.now }
 {
     is_public(group.access) && is_marked(tables.ancestors.as_slice(), thorn, group.thorn)
 }
 
+/// Whether a group is protected and of a friend of the thorn's implementation.
 fn is_of_friend(tables: &Tables, thorn: usize, group: &NamedGroup) -> bool
     ensures { result ≡ is_of_friend tables.now thorn group.now }
 {

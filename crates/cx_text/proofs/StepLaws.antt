@@ -29,7 +29,8 @@ class_line (classes.Word Ccl) = refl
 class_line (classes.Word Par) = refl
 class_line (classes.Word Thorns) = refl
 
-differs : (test : ℕ → Bool) (b : ℕ) → test 10 ≡ false → test b ≡ true → (t : Bool) → (b == 10) ≡ t → (b == 10) ≡ false
+differs : (test : ℕ → Bool) (b : ℕ) → test 10 ≡ false → test b ≡ true → (t : Bool) → (b == 10) ≡ t
+    → (b == 10) ≡ false
 differs test b e h true t =
     let same : test b ≡ test 10 = ap test (eqb-true b 10 t) in
     absurd cc
@@ -56,65 +57,112 @@ is_feed roles.Joint = false
 is_feed roles.Sign = false
 is_feed roles.Bad = false
 
-role_line_if : (style : Style) (fresh : Bool) (b : ℕ) (t : Bool) → (b == 10) ≡ t → is_feed (role_of style fresh b) ≡ false → (b == 10) ≡ false
+role_line_if : (style : Style) (fresh : Bool) (b : ℕ) (t : Bool) → (b == 10) ≡ t
+    → is_feed (role_of style fresh b) ≡ false → (b == 10) ≡ false
 role_line_if style fresh b false t h = t
 role_line_if style fresh b true t h =
-    let same : is_feed (role_of style fresh b) ≡ true = ap (λ (x : ℕ). is_feed (role_of style fresh x)) (eqb-true b 10 t) in
+    let same : is_feed (role_of style fresh b) ≡ true =
+    ap (λ (x : ℕ). is_feed (role_of style fresh x)) (eqb-true b 10 t) in
     absurd cc
 
-pub role_line : (style : Style) (fresh : Bool) (b : ℕ) (r : Role) → r ≡ role_of style fresh b → is_feed r ≡ false → (b == 10) ≡ false
+pub role_line : (style : Style) (fresh : Bool) (b : ℕ) (r : Role) → r ≡ role_of style fresh b
+    → is_feed r ≡ false → (b == 10) ≡ false
 role_line style fresh b r e h = role_line_if style fresh b (b == 10) refl (ap is_feed (sym e) ∙ h)
 
 first_feeds : (b : ℕ) (more : List ℕ) → (b == 10) ≡ false → feeds more ≡ 0 → feeds (b ∷ more) ≡ 0
 first_feeds b more e h = rw (e, h) refl
 
-pub run_feeds : (class : Class) (b : ℕ) (bs : List ℕ) → (b == 10) ≡ false → feeds (b ∷ front class bs) ≡ 0
-run_feeds class b bs e = first_feeds b (front class bs) e (class_feeds class (front class bs) (is_front class bs).0)
+pub run_feeds : (class : Class) (b : ℕ) (bs : List ℕ) → (b == 10) ≡ false
+    → feeds (b ∷ front class bs) ≡ 0
+run_feeds class b bs e =
+    first_feeds b (front class bs) e (class_feeds class (front class bs) (is_front class bs).0)
 
 -- ---- the steps
 
-pub long_step : (result : Result (Option Token) TextFault) (p : Piece) (rest : List ℕ) (fresh : Bool) (line : ℕ) (fault : TextFault) → feeds (bytes_of p) ≡ 0 → fresh_after fresh p ≡ false → MatchResult result (λ token. token ≡ own_token line p) (λ e. e ≡ faults.Memory) → Takes result false line rest (Some (p, rest)) fresh line fault
-long_step (Ok token) p rest fresh line fault fed stale h = (h, sym stale, rw fed (omega arith), refl)
+pub long_step : (result : Result (Option Token) TextFault) (p : Piece) (rest : List ℕ)
+    (fresh : Bool) (line : ℕ) (fault : TextFault) → feeds (bytes_of p) ≡ 0
+    → fresh_after fresh p ≡ false
+    → MatchResult result (λ token. token ≡ own_token line p) (λ e. e ≡ faults.Memory)
+    → Takes result false line rest (Some (p, rest)) fresh line fault
+long_step (Ok token) p rest fresh line fault fed stale h =
+    (h, sym stale, rw fed (omega arith), refl)
 long_step (Err e) p rest fresh line fault fed stale h = h
 
-pub comment_step : (style : Style) (fresh : Bool) (line : ℕ) (fault : TextFault) (b : ℕ) (bs : List ℕ) (r : Role) → r ≡ role_of style fresh b → (r ≡ roles.Comment) ⊎ (r ≡ roles.IgnoredLine) → Takes (Ok None) false line (behind classes.Line bs) (take_as style (role_of style fresh b) b bs) fresh line fault
+pub comment_step : (style : Style) (fresh : Bool) (line : ℕ) (fault : TextFault) (b : ℕ)
+    (bs : List ℕ) (r : Role) → r ≡ role_of style fresh b
+    → (r ≡ roles.Comment) ⊎ (r ≡ roles.IgnoredLine)
+    → Takes (Ok None) false line (behind classes.Line bs)
+    (take_as style (role_of style fresh b) b bs) fresh line fault
 comment_step style fresh line fault b bs r e (inl is) =
     let here : role_of style fresh b ≡ roles.Comment = sym e ∙ is in
     let fed = run_feeds classes.Line b bs (role_line style fresh b roles.Comment (sym here) refl) in
-    subst (λ (x : Role). Takes (Ok None) false line (behind classes.Line bs) (take_as style x b bs) fresh line fault) (sym here) (refl, refl, rw fed (omega arith), refl)
+    subst (λ (x : Role). Takes (Ok None) false line (behind classes.Line bs) (take_as style x b bs)
+    fresh line fault) (sym here) (refl, refl, rw fed (omega arith), refl)
 comment_step style fresh line fault b bs r e (inr is) =
     let here : role_of style fresh b ≡ roles.IgnoredLine = sym e ∙ is in
-    let fed = run_feeds classes.Line b bs (role_line style fresh b roles.IgnoredLine (sym here) refl) in
-    subst (λ (x : Role). Takes (Ok None) false line (behind classes.Line bs) (take_as style x b bs) fresh line fault) (sym here) (refl, refl, rw fed (omega arith), refl)
+    let fed = run_feeds classes.Line b bs
+    (role_line style fresh b roles.IgnoredLine (sym here) refl) in
+    subst (λ (x : Role). Takes (Ok None) false line (behind classes.Line bs) (take_as style x b bs)
+    fresh line fault) (sym here) (refl, refl, rw fed (omega arith), refl)
 
-pub word_step : (style : Style) (fresh : Bool) (line : ℕ) (fault : TextFault) (b : ℕ) (bs : List ℕ) (result : Result (Option Token) TextFault) → roles.Word ≡ role_of style fresh b
-    → MatchResult result (λ token. token ≡ own_token line (Word b (front (classes.Word style) bs))) (λ e. e ≡ faults.Memory)
-    → Takes result false line (behind (classes.Word style) bs) (take_as style (role_of style fresh b) b bs) fresh line fault
+pub word_step : (style : Style) (fresh : Bool) (line : ℕ) (fault : TextFault) (b : ℕ) (bs : List ℕ)
+    (result : Result (Option Token) TextFault) → roles.Word ≡ role_of style fresh b
+    → MatchResult result (λ token. token ≡ own_token line (Word b (front (classes.Word style) bs)))
+    (λ e. e ≡ faults.Memory)
+    → Takes result false line (behind (classes.Word style) bs)
+    (take_as style (role_of style fresh b) b bs) fresh line fault
 word_step style fresh line fault b bs result e h =
     let fed = run_feeds (classes.Word style) b bs (role_line style fresh b roles.Word e refl) in
-    subst (λ (x : Role). Takes result false line (behind (classes.Word style) bs) (take_as style x b bs) fresh line fault) e
-    (long_step result (Word b (front (classes.Word style) bs)) (behind (classes.Word style) bs) fresh line fault fed refl h)
+    subst (λ (x : Role). Takes result false line (behind (classes.Word style) bs)
+    (take_as style x b bs) fresh line fault) e
+    (long_step result (Word b (front (classes.Word style) bs)) (behind (classes.Word style) bs)
+    fresh line fault fed refl h)
 
-pub number_step : (style : Style) (fresh : Bool) (line : ℕ) (fault : TextFault) (b : ℕ) (bs : List ℕ) (result : Result (Option Token) TextFault) → roles.Number ≡ role_of style fresh b
-    → MatchResult result (λ token. token ≡ own_token line (Number b (front classes.Digit bs))) (λ e. e ≡ faults.Memory)
-    → Takes result false line (behind classes.Digit bs) (take_as style (role_of style fresh b) b bs) fresh line fault
+pub number_step : (style : Style) (fresh : Bool) (line : ℕ) (fault : TextFault) (b : ℕ)
+    (bs : List ℕ) (result : Result (Option Token) TextFault) → roles.Number ≡ role_of style fresh b
+    → MatchResult result (λ token. token ≡ own_token line (Number b (front classes.Digit bs)))
+    (λ e. e ≡ faults.Memory)
+    → Takes result false line (behind classes.Digit bs) (take_as style (role_of style fresh b) b bs)
+    fresh line fault
 number_step style fresh line fault b bs result e h =
     let fed = run_feeds classes.Digit b bs (role_line style fresh b roles.Number e refl) in
-    subst (λ (x : Role). Takes result false line (behind classes.Digit bs) (take_as style x b bs) fresh line fault) e
-    (long_step result (Number b (front classes.Digit bs)) (behind classes.Digit bs) fresh line fault fed refl h)
+    subst (λ (x : Role). Takes result false line (behind classes.Digit bs) (take_as style x b bs)
+    fresh line fault) e
+    (long_step result (Number b (front classes.Digit bs)) (behind classes.Digit bs)
+    fresh line fault fed refl h)
 
-joint_feeds : (b : ℕ) (blanks : List ℕ) → (b == 10) ≡ false → feeds blanks ≡ 0 → feeds (b ∷ (blanks ++ 10 ∷ [])) ≡ 1
+joint_feeds : (b : ℕ) (blanks : List ℕ) → (b == 10) ≡ false → feeds blanks ≡ 0
+    → feeds (b ∷ (blanks ++ 10 ∷ [])) ≡ 1
 joint_feeds b blanks e h = rw (e, feeds-append blanks (10 ∷ []), h) refl
 
-pub joint_step : (style : Style) (fresh : Bool) (line : ℕ) (fault : TextFault) (b : ℕ) (bs rest : List ℕ) → roles.Joint ≡ role_of style fresh b → TakesByte true rest 10 (behind classes.Blank bs) → Takes (Ok None) false (line + 1) rest (take_as style (role_of style fresh b) b bs) fresh line fault
+pub joint_step : (style : Style) (fresh : Bool) (line : ℕ) (fault : TextFault) (b : ℕ)
+    (bs rest : List ℕ) → roles.Joint ≡ role_of style fresh b
+    → TakesByte true rest 10 (behind classes.Blank bs)
+    → Takes (Ok None) false (line + 1) rest (take_as style (role_of style fresh b) b bs)
+    fresh line fault
 joint_step style fresh line fault b bs rest e taken =
-    let fed : feeds (b ∷ (front classes.Blank bs ++ 10 ∷ [])) ≡ 1 = joint_feeds b (front classes.Blank bs) (role_line style fresh b roles.Joint e refl) (class_feeds classes.Blank (front classes.Blank bs) (is_front classes.Blank bs).0) in
-    let at : Takes (Ok None) false (line + 1) rest (Some (Joint b (front classes.Blank bs), rest)) fresh line fault = (refl, refl, ap (λ n. line + n) (sym fed), refl) in
-    let P : List ℕ → Type 0 = λ x. Takes (Ok None) false (line + 1) rest (take_joint b (front classes.Blank bs) x) fresh line fault in
-    subst (λ (x : Role). Takes (Ok None) false (line + 1) rest (take_as style x b bs) fresh line fault) e (subst P (sym taken) at)
+    let fed : feeds (b ∷ (front classes.Blank bs ++ 10 ∷ [])) ≡ 1 =
+    joint_feeds b (front classes.Blank bs) (role_line style fresh b roles.Joint e refl)
+    (class_feeds classes.Blank (front classes.Blank bs) (is_front classes.Blank bs).0) in
+    let at : Takes (Ok None) false (line + 1) rest (Some (Joint b (front classes.Blank bs), rest))
+    fresh line fault = (refl, refl, ap (λ n. line + n) (sym fed), refl) in
+    let P : List ℕ → Type 0 =
+    λ x. Takes (Ok None) false (line + 1) rest (take_joint b (front classes.Blank bs) x)
+    fresh line fault in
+    subst (λ (x : Role). Takes (Ok None) false (line + 1) rest (take_as style x b bs)
+    fresh line fault) e (subst P (sym taken) at)
 
-pub quoted_step : (quote : ℕ) (o : Option (List QuotedByte × List ℕ)) (text : List ℕ) (fresh' : Bool) (line' : ℕ) (rest' : List ℕ) (fresh : Bool) (line : ℕ) (fault : TextFault) → (quote == 10) ≡ false → fresh' ≡ false → TakesText (Ok (Some text)) line' rest' o line → Takes (Ok (Some (record { kind = kinds.Quoted; text = text; line = line }))) fresh' line' rest' (take_quoted quote o) fresh line fault
+pub quoted_step : (quote : ℕ) (o : Option (List QuotedByte × List ℕ)) (text : List ℕ)
+    (fresh' : Bool) (line' : ℕ) (rest' : List ℕ) (fresh : Bool) (line : ℕ) (fault : TextFault)
+    → (quote == 10) ≡ false → fresh' ≡ false → TakesText (Ok (Some text)) line' rest' o line
+    → Takes (Ok (Some (record { kind = kinds.Quoted; text = text; line = line })))
+    fresh' line' rest' (take_quoted quote o) fresh line fault
 quoted_step quote None text fresh' line' rest' fresh line fault e stale h = absurd h
 quoted_step quote (Some x) text fresh' line' rest' fresh line fault e stale h =
-    let fed : feeds (quoted_bytes quote x.0) ≡ feeds text = quoted_feeds quote x.0 e ∙ ap feeds (sym h.0) in
-    (ap (λ t. Some (record { kind = kinds.Quoted; text = t; line = line })) h.0, stale, h.1 ∙ rw (e, fed) (omega arith), h.2)
+    let fed : feeds (quoted_bytes quote x.0) ≡ feeds text =
+    quoted_feeds quote x.0 e ∙ ap feeds (sym h.0) in (
+      ap (λ t. Some (record { kind = kinds.Quoted; text = t; line = line })) h.0,
+      stale,
+      h.1 ∙ rw (e, fed) (omega arith),
+      h.2,
+    )

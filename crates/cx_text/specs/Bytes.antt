@@ -1,6 +1,7 @@
--- What a byte begins where neither a quoted text nor a comment is open, and which bytes go on with it.
-use Rattle.std.specs.Prelude.{ℕ, Bool, true, false, not, ◌&&◌, ◌||◌, ◌==◌, nat_le, if◌then◌else◌}
-use Rattle.std.specs.Char.{is_ascii_digit, is_ascii_alphabetic}
+-- What a byte begins where neither a quoted text nor a comment is open, and which bytes go on with
+-- it.
+use Rattle.std.specs.Prelude.{ℕ, Bool, true, false, not, ◌&&◌, ◌||◌, ◌==◌, nat_le, if◌then◌else◌, List, map, nat_eq}
+use Rattle.std.specs.Char.{is_ascii_digit, is_ascii_alphabetic, to_ascii_lowercase}
 use Rattle.cx_text.specs.declared.token.Style.{Style}
 use Rattle.cx_text.specs.declared.token.Style.TheVariants.{Ccl, Par, Thorns}
 use Rattle.cx_text.specs.declared.byte.Role.{Role}
@@ -94,3 +95,10 @@ has classes.Line b = not (b == 10)
 has classes.Blank b = is_blank b
 has classes.Digit b = is_ascii_digit b
 has (classes.Word style) b = goes_on style b
+
+-- a name in small letters
+abbrev pub folded : List ℕ → List ℕ
+folded name = map to_ascii_lowercase name
+
+abbrev pub is_slash : ℕ → Bool
+is_slash b = nat_eq b 47

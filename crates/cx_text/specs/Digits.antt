@@ -11,4 +11,5 @@ is_digits (b ∷ bs) = list_all is_ascii_digit (b ∷ bs)
 
 -- the number that a text of digits is, if it isn't above `high`
 abbrev pub natural_in : ℕ → List ℕ → Option ℕ
-natural_in high text = if is_digits text && nat_le (decimal_from 0 text) high then Some (decimal_from 0 text) else None
+natural_in high text = if is_digits text && nat_le (decimal_from 0 text) high
+    then Some (decimal_from 0 text) else None

@@ -44,21 +44,30 @@ nothing x y ms next = (y ≡ x) × (ms ≡ [])
 
 -- one part, and then another
 abbrev pub also : {A B : Type 0} → Grammar A → (A → Grammar B) → Grammar B
-also S R y ms next = (x : _) × (front : List Item) × (back : List Item) × (ms ≡ front ++ back) × S x front (next_of back next) × R x y back next
+also S R y ms next = (x : _) × (front : List Item) × (back : List Item) × (ms ≡ front ++ back)
+    × S x front (next_of back next) × R x y back next
 
--- one token that means a value, with a mark that depends on whether the token behind it passes, and then a part
-abbrev pub lookahead : {A B : Type 0} → (Token → Option A) → (Token → Bool) → (Bool → Token → Option Mark) → (A → Grammar B) → Grammar B
-lookahead value test mark R y ms next = (x : _) × (t : Token) × (back : List Item) × (value t ≡ Some x) × (ms ≡ (t, mark (passes test (next_of back next)) t) ∷ back) × R x y back next
+-- one token that means a value, with a mark that depends on whether the token behind it passes, and
+-- then a part
+abbrev pub lookahead : {A B : Type 0} → (Token → Option A) → (Token → Bool)
+    → (Bool → Token → Option Mark) → (A → Grammar B) → Grammar B
+lookahead value test mark R y ms next =
+    (x : _) × (t : Token) × (back : List Item) × (value t ≡ Some x)
+    × (ms ≡ (t, mark (passes test (next_of back next)) t) ∷ back) × R x y back next
 
 -- the one where the next token passes, else the other
 abbrev pub choice : {A : Type 0} → (Token → Bool) → Grammar A → Grammar A → Grammar A
 choice test S R x ms next = MatchBool (passes test (next_of ms next)) (S x ms next) (R x ms next)
 
--- One after the other, for as long as the next token passes. What an item may be depends on those before it: it is
--- derived in a context, which it changes for those after it.
-abbrev pub many : {A C : Type 0} → (Token → Bool) → (C → Grammar A) → (C → A → C) → C → Grammar (List A)
+-- One after the other, for as long as the next token passes. What an item may be depends on those
+-- before it: it is derived in a context, which it changes for those after it.
+abbrev pub many : {A C : Type 0} → (Token → Bool) → (C → Grammar A) → (C → A → C) → C
+    → Grammar (List A)
 many test S step c [] ms next = (passes test (next_of ms next) ≡ false) × (ms ≡ [])
-many test S step c (x ∷ xs) ms next = (passes test (next_of ms next) ≡ true) × (front : List Item) × (back : List Item) × (ms ≡ front ++ back) × S c x front (next_of back next) × many test S step (step c x) xs back next
+many test S step c (x ∷ xs) ms next =
+    (passes test (next_of ms next) ≡ true) × (front : List Item) × (back : List Item)
+    × (ms ≡ front ++ back) × S c x front (next_of back next)
+    × many test S step (step c x) xs back next
 
 -- a whole list of tokens that is derived as a value, with no mark
 abbrev pub Spells : {A : Type 0} → Grammar A → List Token → A → Type 0
@@ -68,29 +77,37 @@ Spells S ts x = S x (clean ts) None
 abbrev pub Begins : {A : Type 0} → Grammar A → List Token → Type 0
 Begins {A} S ts = (x : A) × (more : List Item) × S x (clean ts ++ more) None
 
--- no derived list, whatever its marks, goes on from `before` with the next token, or ends there where there is none
+-- no derived list, whatever its marks, goes on from `before` with the next token, or ends there
+-- where there is none
 abbrev pub NoneBegins : {A : Type 0} → Grammar A → List Token → Option Token → Type 0
-NoneBegins {A} S before next = (x : A) (ms : List Item) (more : List Token) → S x ms None → tokens ms ≡ before ++ more → head more ≡ next → ⊥
+NoneBegins {A} S before next = (x : A) (ms : List Item) (more : List Token) → S x ms None
+    → tokens ms ≡ before ++ more → head more ≡ next → ⊥
 
 -- some derived list goes on from `before`, unmarked, with this token, which has this mark
 abbrev pub BeginsMarked : {A : Type 0} → Grammar A → List Token → Token → Mark → Type 0
-BeginsMarked {A} S before t mark = (x : A) × (more : List Item) × S x (clean before ++ (t, Some mark) ∷ more) None
+BeginsMarked {A} S before t mark =
+    (x : A) × (more : List Item) × S x (clean before ++ (t, Some mark) ∷ more) None
 
--- no derived list goes on from `before`, unmarked, with this token unmarked too and then this one behind it, or ends
--- behind the token where there is none
+-- no derived list goes on from `before`, unmarked, with this token unmarked too and then this one
+-- behind it, or ends behind the token where there is none
 abbrev pub NoneUnmarked : {A : Type 0} → Grammar A → List Token → Token → Option Token → Type 0
-NoneUnmarked {A} S before t behind = (x : A) (more : List Item) → S x (clean before ++ (t, None) ∷ more) None → next_of more None ≡ behind → ⊥
+NoneUnmarked {A} S before t behind = (x : A) (more : List Item)
+    → S x (clean before ++ (t, None) ∷ more) None → next_of more None ≡ behind → ⊥
 
--- What is wrong after `before`, with the first of the rest: no list goes on with it, or it has a mark. A mark counts where
--- the list can't go on without it, with this token and the one behind it.
+-- What is wrong after `before`, with the first of the rest: no list goes on with it, or it has a
+-- mark. A mark counts where the list can't go on without it, with this token and the one behind it.
 abbrev pub IsWrong : {A : Type 0} → Grammar A → List Token → Why → List Token → Type 0
 IsWrong S before Unexpected rest = Begins S before × NoneBegins S before (head rest)
 IsWrong S before (Marked mark) [] = ⊥
-IsWrong S before (Marked mark) (t ∷ rest) = BeginsMarked S before t mark × NoneUnmarked S before t (head rest)
+IsWrong S before (Marked mark) (t ∷ rest) =
+    BeginsMarked S before t mark × NoneUnmarked S before t (head rest)
 
 -- what is wrong first: after no shorter beginning anything is
 abbrev pub IsFirstFault : {A : Type 0} → Grammar A → List Token → Why → List Token → Type 0
-IsFirstFault S before why rest = IsWrong S before why rest × ((early : List Token) (t : Token) (late : List Token) (other : Why) → before ≡ early ++ t ∷ late → IsWrong S early other (t ∷ late ++ rest) → ⊥)
+IsFirstFault S before why rest =
+    IsWrong S before why rest
+    × ((early : List Token) (t : Token) (late : List Token) (other : Why)
+    → before ≡ early ++ t ∷ late → IsWrong S early other (t ∷ late ++ rest) → ⊥)
 
 -- the line of the last token, or 1 where there is none
 abbrev pub last_line : List Token → ℕ
@@ -105,7 +122,9 @@ line_at ts (t ∷ rest) = t.line
 
 -- the first fault of a list, and its line
 abbrev pub HasFault : {A : Type 0} → Grammar A → List Token → Why → ℕ → Type 0
-HasFault S ts why line = (before : List Token) × (rest : List Token) × (ts ≡ before ++ rest) × IsFirstFault S before why rest × (line ≡ line_at ts rest)
+HasFault S ts why line =
+    (before : List Token) × (rest : List Token) × (ts ≡ before ++ rest)
+    × IsFirstFault S before why rest × (line ≡ line_at ts rest)
 
 abbrev pub IsFault : {A : Type 0} → Grammar A → List Token → CclFault → Type 0
 IsFault S ts faults.Memory = Unit {0}
@@ -120,5 +139,7 @@ ReadsBy S view ts (Ok x) = Spells S ts (view x)
 ReadsBy S view ts (Err e) = IsFault S ts e
 
 -- what is spelled is answered, unless memory runs out
-abbrev pub AnswersOnly : {X A : Type 0} → Grammar A → (X → A) → List Token → Result X CclFault → Type 0
-AnswersOnly {X} {A} S view ts result = (x : A) → Spells S ts x → MatchResult result (λ v. view v ≡ x) (λ e. e ≡ faults.Memory)
+abbrev pub AnswersOnly : {X A : Type 0} → Grammar A → (X → A) → List Token → Result X CclFault
+    → Type 0
+AnswersOnly {X} {A} S view ts result = (x : A) → Spells S ts x
+    → MatchResult result (λ v. view v ≡ x) (λ e. e ≡ faults.Memory)

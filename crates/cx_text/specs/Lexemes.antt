@@ -97,7 +97,9 @@ abbrev pub number_of : Token → Option ℕ
 number_of t = cond (is_number t) (Some (decimal_from 0 t.text)) None
 
 abbrev pub number_mark : ℕ → ℕ → Token → Option Mark
-number_mark low high t = first_mark (nat_lt (decimal_from 0 t.text) low || nat_lt high (decimal_from 0 t.text)) BadNumber None
+number_mark low high t =
+    first_mark (nat_lt (decimal_from 0 t.text) low || nat_lt high (decimal_from 0 t.text))
+    BadNumber None
 
 -- a number from low to high
 abbrev pub number_in : ℕ → ℕ → Rule ℕ

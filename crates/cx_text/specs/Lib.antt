@@ -8,6 +8,7 @@ pub mod Digits
 pub mod Telling
 pub mod Written
 pub mod Bytes
+pub mod Numbers
 pub mod Pieces
 pub mod Scanning
 pub mod Printing

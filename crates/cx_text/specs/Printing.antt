@@ -30,7 +30,8 @@ gap fresh t = if fresh || is_line_end t then [] else (32 ∷ [])
 
 abbrev pub printed_from : Bool → List Token → List ℕ
 printed_from fresh [] = []
-printed_from fresh (t ∷ ts) = (gap fresh t ++ spelling t.kind t.text) ++ printed_from (is_line_end t) ts
+printed_from fresh (t ∷ ts) =
+    (gap fresh t ++ spelling t.kind t.text) ++ printed_from (is_line_end t) ts
 
 -- each token as it is written, one blank between two of a line, and a line feed at a line's end
 abbrev pub printed : List Token → List ℕ
@@ -45,7 +46,8 @@ unlined t = (t.kind, t.text)
 
 -- a text has these tokens but for their lines
 abbrev pub SpelledAgain : Style → List ℕ → List Token → Type 0
-SpelledAgain style text ts = (us : List Token) × Spelled text style us × (map unlined us ≡ map unlined ts)
+SpelledAgain style text ts =
+    (us : List Token) × Spelled text style us × (map unlined us ≡ map unlined ts)
 
 -- a text whose tokens spell a value
 abbrev pub TextSpells : {A : Type 0} → Style → Grammar A → List ℕ → A → Type 0

@@ -1,4 +1,5 @@
--- Reading from left to right. A reading function answers a value and the tokens after it, or a fault and the tokens from it on.
+-- Reading from left to right. A reading function answers a value and the tokens after it, or a
+-- fault and the tokens from it on.
 use Rattle.std.specs.Prelude.{◌≡◌, ℕ, zero, suc, Bool, cond, List, [], ◌∷◌, length, Option, Some, None, Result, Ok, Err}
 use Rattle.cx_text.specs.declared.stop.Mark.{Mark}
 use Rattle.cx_text.specs.declared.stop.Why.{Why}
@@ -39,7 +40,8 @@ go_on (Err e) f = Err e
 abbrev pub read_also : {A B : Type 0} → Read A → (A → Read B) → Read B
 read_also p f ts = go_on (p ts) f
 
-abbrev pub read_marked : {A : Type 0} → (Token → Option A) → (Token → Bool) → (Bool → Token → Option Mark) → Read A
+abbrev pub read_marked : {A : Type 0} → (Token → Option A) → (Token → Bool)
+    → (Bool → Token → Option Mark) → Read A
 read_marked value test mark [] = Err (Unexpected, [])
 read_marked value test mark (t ∷ ts) = found (value t) (mark (passes test (head ts)) t) t ts
 
@@ -47,12 +49,17 @@ abbrev pub read_choice : {A : Type 0} → (Token → Bool) → Read A → Read A
 read_choice test p q ts = cond (passes test (head ts)) (p ts) (q ts)
 
 -- at most n of them
-unfoldable pub read_up_to : {A C : Type 0} → (Token → Bool) → (C → Read A) → (C → A → C) → ℕ → C → Read (List A)
+unfoldable pub read_up_to : {A C : Type 0} → (Token → Bool) → (C → Read A) → (C → A → C) → ℕ → C
+    → Read (List A)
 read_up_to test p step zero c ts = Ok ([], ts)
-read_up_to test p step (suc n) c ts = cond (passes test (head ts)) (go_on (p c ts) (λ x us. go_on (read_up_to test p step n (step c x) us) (λ xs vs. Ok (x ∷ xs, vs)))) (Ok ([], ts))
+read_up_to test p step (suc n) c ts =
+    cond (passes test (head ts))
+    (go_on (p c ts) (λ x us.
+    go_on (read_up_to test p step n (step c x) us) (λ xs vs. Ok (x ∷ xs, vs)))) (Ok ([], ts))
 
 -- as many as there are
-unfoldable pub read_many : {A C : Type 0} → (Token → Bool) → (C → Read A) → (C → A → C) → C → Read (List A)
+unfoldable pub read_many : {A C : Type 0} → (Token → Bool) → (C → Read A) → (C → A → C) → C
+    → Read (List A)
 read_many test p step c ts = read_up_to test p step (length ts) c ts
 
 -- nothing is left
@@ -63,7 +70,8 @@ read_end x (t ∷ ts) = Err (Unexpected, t ∷ ts)
 abbrev pub read_whole : {A : Type 0} → Read A → Read A
 read_whole p = read_also p read_end
 
--- What a reader returned, seen by view, and where it stands is what reading gives, unless memory ran out.
+-- What a reader returned, seen by view, and where it stands is what reading gives, unless memory
+-- ran out.
 abbrev pub Fails : {Y : Type 0} → Stop → List Token → Answer Y → Type 0
 Fails stops.Memory rest read = Unit {0}
 Fails (stops.Fault why) rest read = read ≡ Err (why, rest)

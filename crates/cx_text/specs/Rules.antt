@@ -1,4 +1,5 @@
--- Rules: what a grammar derives, and how it is read from left to right. Each way to make a rule gives both.
+-- Rules: what a grammar derives, and how it is read from left to right. Each way to make a rule
+-- gives both.
 use Rattle.std.specs.Prelude.{ℕ, Bool, true, false, cond, ◌&&◌, nat_lt, List, [], ◌∷◌, length, map, Option, Some, None, Result}
 use Rattle.std.specs.Str.{bytes_eq}
 use Rattle.std.specs.Char.{to_ascii_lowercase}
@@ -26,22 +27,37 @@ nothing x = record { derives = grammar.nothing x; reads = read_nothing x }
 
 infixl 10 ◌>>=◌
 abbrev pub ◌>>=◌ : {A B : Type 0} → Rule A → (A → Rule B) → Rule B
-r >>= f = record { derives = grammar.also r.derives (λ x. (f x).derives); reads = read_also r.reads (λ x. (f x).reads) }
+r >>= f = record {
+  derives = grammar.also r.derives (λ x. (f x).derives);
+  reads = read_also r.reads (λ x. (f x).reads);
+}
 
 -- a token whose mark depends on whether the one behind it passes, and then a rule
-abbrev pub lookahead : {A B : Type 0} → (Token → Option A) → (Token → Bool) → (Bool → Token → Option Mark) → (A → Rule B) → Rule B
-lookahead value test mark f = record { derives = grammar.lookahead value test mark (λ x. (f x).derives); reads = read_also (read_marked value test mark) (λ x. (f x).reads) }
+abbrev pub lookahead : {A B : Type 0} → (Token → Option A) → (Token → Bool)
+    → (Bool → Token → Option Mark) → (A → Rule B) → Rule B
+lookahead value test mark f =
+    record {
+      derives = grammar.lookahead value test mark (λ x. (f x).derives);
+      reads = read_also (read_marked value test mark) (λ x. (f x).reads);
+    }
 
 abbrev pub choice : {A : Type 0} → (Token → Bool) → Rule A → Rule A → Rule A
-choice test r s = record { derives = grammar.choice test r.derives s.derives; reads = read_choice test r.reads s.reads }
+choice test r s = record {
+  derives = grammar.choice test r.derives s.derives;
+  reads = read_choice test r.reads s.reads;
+}
 
 abbrev pub last : {C : Type 0} → C → List C → C
 last c [] = c
 last c (x ∷ xs) = last x xs
 
--- again and again, for as long as the next token passes, each turn making a new value of the one so far
+-- again and again, for as long as the next token passes, each turn making a new value of the one so
+-- far
 abbrev pub turns : {C : Type 0} → (Token → Bool) → (C → Rule C) → C → Rule (List C)
-turns test r c = record { derives = grammar.many test (λ d. (r d).derives) (λ d x. x) c; reads = read_many test (λ d. (r d).reads) (λ d x. x) c }
+turns test r c = record {
+  derives = grammar.many test (λ d. (r d).derives) (λ d x. x) c;
+  reads = read_many test (λ d. (r d).reads) (λ d x. x) c;
+}
 
 abbrev pub loop : {C : Type 0} → (Token → Bool) → (C → Rule C) → C → Rule C
 loop test r c = do
@@ -72,7 +88,8 @@ is_sign b t = is_sign_kind t.kind && bytes_eq t.text (b ∷ [])
 
 -- a word, in any case
 abbrev pub is_named : List ℕ → Token → Bool
-is_named name t = is_word t && bytes_eq (map to_ascii_lowercase t.text) (map to_ascii_lowercase name)
+is_named name t = is_word t
+    && bytes_eq (map to_ascii_lowercase t.text) (map to_ascii_lowercase name)
 
 abbrev pub name_of : Token → Option (List ℕ)
 name_of t = cond (is_word t) (Some t.text) None
@@ -115,8 +132,8 @@ line_end = lexeme (if_is is_line_end) unmarked
 
 -- ---- what a function that reads owes
 
--- It answers what the rule reads from where the reader stood, and leaves it behind that; at a fault it leaves it at the
--- faulty token. Memory may run out.
+-- It answers what the rule reads from where the reader stood, and leaves it behind that; at a fault
+-- it leaves it at the faulty token. Memory may run out.
 abbrev pub Obeys : {X : Type 0} → Rule X → Result X Stop → Reader → Reader → Type 0
 Obeys rule result old new = Gives (λ x. x) result new.rest.now (rule.reads old.rest.now)
 

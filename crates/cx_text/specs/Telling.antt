@@ -1,4 +1,5 @@
--- What an answer says of what is so, where memory may run out. A crate hands in its own fault for want of memory.
+-- What an answer says of what is so, where memory may run out. A crate hands in its own fault for
+-- want of memory.
 use Rattle.std.specs.Prelude.{◌≡◌, ◌⊎◌, Option, Some, None, Result, Ok, Err}
 
 -- A test answers whether there is this fault: Ok for none, else the fault or want of memory.
@@ -17,4 +18,5 @@ Stage A F = Result A F → Type 0
 
 -- one stage, and then another; the first fault counts
 abbrev pub Then : {A B F : Type 0} → Stage A F → (A → Stage B F) → Stage B F
-Then {A} {B} {F} p q result = ((e : F) × p (Err e) × (result ≡ Err e)) ⊎ ((x : A) × p (Ok x) × q x result)
+Then {A} {B} {F} p q result =
+    ((e : F) × p (Err e) × (result ≡ Err e)) ⊎ ((x : A) × p (Ok x) × q x result)

@@ -40,24 +40,28 @@ pub fn is_blank(byte: u8) -> bool
     byte == b' ' || byte == b'\t' || byte == b'\r'
 }
 
+/// Whether a byte is printable ASCII other than a blank.
 fn is_printable(byte: u8) -> bool
     ensures { result ≡ is_printable byte }
 {
     33 <= byte && byte <= 126
 }
 
+/// Whether a name can begin with this byte: a letter or an underscore.
 fn begins_name(byte: u8) -> bool
     ensures { result ≡ begins_name byte }
 {
     byte.is_ascii_alphabetic() || byte == b'_'
 }
 
+/// Whether a name can have this byte: a letter, a digit or an underscore.
 fn is_in_name(byte: u8) -> bool
     ensures { result ≡ is_in_name byte }
 {
     begins_name(byte) || byte.is_ascii_digit()
 }
 
+/// Whether a byte is a double or a single quote.
 fn is_quote(byte: u8) -> bool
     ensures { result ≡ is_quote byte }
 {
@@ -71,6 +75,7 @@ pub fn is_escapable(byte: u8) -> bool
     is_quote(byte) || byte == b'\\'
 }
 
+/// Whether a byte is a sign of parameter files: `=`, `[` or `]`.
 fn is_par_sign(byte: u8) -> bool
     ensures { result ≡ is_par_sign byte }
 {
@@ -88,12 +93,14 @@ pub fn is_pair(first: u8, second: u8) -> bool
     }
 }
 
+/// Whether a file of this style ignores lines that begin with `!`.
 fn ignores_lines(style: Style) -> bool
     ensures { result ≡ ignores_lines style }
 {
     !matches!(style, Style::Ccl)
 }
 
+/// What a byte begins in a ccl file.
 fn ccl_role(byte: u8) -> Role
     ensures { result ≡ ccl_role byte }
 {
@@ -112,6 +119,7 @@ fn ccl_role(byte: u8) -> Role
     }
 }
 
+/// What a byte begins in a parameter file.
 fn par_role(byte: u8) -> Role
     ensures { result ≡ par_role byte }
 {
@@ -126,6 +134,7 @@ fn par_role(byte: u8) -> Role
     }
 }
 
+/// What a byte begins in a list of thorns.
 fn thorns_role(byte: u8) -> Role
     ensures { result ≡ thorns_role byte }
 {
@@ -136,6 +145,7 @@ fn thorns_role(byte: u8) -> Role
     }
 }
 
+/// What a byte that is no blank, line end or comment begins in a file of this style.
 fn style_role(style: Style, byte: u8) -> Role
     ensures { result ≡ style_role style byte }
 {
@@ -163,6 +173,7 @@ pub fn role_of(style: Style, fresh: bool, byte: u8) -> Role
     }
 }
 
+/// Whether a word goes on with this byte in a file of this style.
 fn goes_on(style: Style, byte: u8) -> bool
     ensures { result ≡ goes_on style byte }
 {
@@ -174,6 +185,7 @@ fn goes_on(style: Style, byte: u8) -> bool
 }
 
 impl Class {
+    /// Whether a byte is of the class.
     fn has(self, byte: u8) -> bool
         ensures { result ≡ has self byte }
     {

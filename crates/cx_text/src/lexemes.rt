@@ -95,6 +95,7 @@ impl<'a> Reader<'a> {
         }
     }
 
+    /// Reads two signs that belong together, such as `::`, but no line end after them.
     fn sign_pair_here(&mut self, a: u8, b: u8) -> Result<(), Stop>
         ensures { Obeys (token (if_is (is_sign_pair a b)) unmarked) result self.old self.new }
     {
@@ -116,6 +117,7 @@ impl<'a> Reader<'a> {
         Ok(())
     }
 
+    /// Reads a keyword, but no line end after it. It is a fault if the keyword was there before.
     fn once_here(&mut self, name: &[u8], seen: bool) -> Result<(), Stop>
         ensures { Obeys (once_here name.now seen) result self.old self.new }
     {
@@ -140,6 +142,7 @@ impl<'a> Reader<'a> {
         Ok(())
     }
 
+    /// Reads a keyword, but no line end after it. In a `full` file it is one too many.
     fn counted_keyword_here(&mut self, name: &[u8], full: bool) -> Result<(), Stop>
         ensures { Obeys (counted_keyword_here name.now full) result self.old self.new }
     {
@@ -164,6 +167,7 @@ impl<'a> Reader<'a> {
         Ok(())
     }
 
+    /// Reads a word of any length, but no line end after it.
     fn word_here(&mut self, alloc: Global) -> Result<Text, Stop>
         ensures { Obeys (token name_of unmarked) result self.old self.new }
     {
@@ -186,6 +190,7 @@ impl<'a> Reader<'a> {
         Ok(text)
     }
 
+    /// Reads a number from `low` to `high`, both included, but no line end after it.
     fn number_here(&mut self, low: u64, high: u64) -> Result<u64, Stop>
         ensures { Obeys (token number_of (number_mark low high)) result self.old self.new }
     {
@@ -212,6 +217,7 @@ impl<'a> Reader<'a> {
         Ok(value)
     }
 
+    /// Reads a quoted text, but no line end after it.
     fn quoted_text_here(&mut self, alloc: Global) -> Result<Text, Stop>
         ensures { Obeys (token quoted_of unmarked) result self.old self.new }
     {
@@ -245,6 +251,7 @@ impl<'a> Reader<'a> {
         }
     }
 
+    /// Reads an optional comma and a further name of the line, but no line end after it.
     fn more_names(&mut self, alloc: Global, names: &mut List<Text>) -> Result<(), Stop>
         ensures { Builds (more_names names.old) names.new result self.old self.new }
     {
@@ -285,6 +292,7 @@ impl<'a> Reader<'a> {
         }
     }
 
+    /// Reads an optional comma and a further name of a list.
     fn more_listed(&mut self, alloc: Global, names: &mut List<Text>) -> Result<(), Stop>
         ensures { Builds (more_listed names.old) names.new result self.old self.new }
     {
@@ -294,6 +302,7 @@ impl<'a> Reader<'a> {
         Ok(())
     }
 
+    /// Reads names for as long as a comma or a word comes next.
     fn name_list_after(&mut self, alloc: Global, names: &mut List<Text>) -> Result<(), Stop>
         ensures { Builds (loop is_comma_or_word more_listed names.old) names.new result
             self.old self.new }
@@ -323,6 +332,7 @@ impl<'a> Reader<'a> {
         }
     }
 
+    /// Skips the next token, which is not `}`.
     fn inside(&mut self) -> Result<(), Stop>
         ensures { Obeys (inside tt) result self.old self.new }
     {
@@ -335,6 +345,7 @@ impl<'a> Reader<'a> {
         }
     }
 
+    /// Skips all tokens before the next `}`.
     fn skip_inside(&mut self) -> Result<(), Stop>
         ensures { Obeys (loop is_inside inside tt) result self.old self.new }
     {

@@ -7,6 +7,7 @@ ghost use Rattle.cx_text.specs.Printing.{escaped, escaped_byte, spelling, gap, p
 use crate::{Kind, List, Memory, Text, Token};
 use std::alloc::Global;
 
+/// Adds a byte; a double quote or a backslash is escaped with a backslash.
 fn push_escaped_byte(text: &mut Text, byte: u8) -> Result<(), Memory>
     ensures { IfOk result (λ x. text.new ≡ text.old ++ escaped_byte byte) }
 {
@@ -17,6 +18,7 @@ fn push_escaped_byte(text: &mut Text, byte: u8) -> Result<(), Memory>
     }
 }
 
+/// Adds bytes with double quotes and backslashes escaped.
 fn push_escaped(text: &mut Text, bytes: &[u8]) -> Result<(), Memory>
     ensures { IfOk result (λ x. text.new ≡ text.old ++ escaped bytes.now) }
 {
@@ -26,6 +28,7 @@ fn push_escaped(text: &mut Text, bytes: &[u8]) -> Result<(), Memory>
     Ok(())
 }
 
+/// Adds a token as a file has it: a quoted text in double quotes, a line end as one byte.
 fn push_spelling(text: &mut Text, token: &Token) -> Result<(), Memory>
     ensures { IfOk result (λ x. text.new ≡ text.old ++ spelling token.now.kind token.now.text) }
 {

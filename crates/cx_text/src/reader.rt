@@ -37,6 +37,7 @@ impl<'a> Reader<'a> {
         }
     }
 
+    /// Whether the next token is a line end.
     fn at_line_end(&self) -> bool
         ensures { result ≡ passes is_line_end (head self.now.rest.now) }
     {
@@ -126,6 +127,7 @@ impl<'a> Reader<'a> {
         Ok(())
     }
 
+    /// Reads a keyword in any case, but no line end after it.
     fn keyword_here(&mut self, name: &[u8]) -> Result<(), Stop>
         ensures { Obeys (token (if_is (is_named name.now)) unmarked) result self.old self.new }
     {
@@ -200,6 +202,7 @@ impl<'a> Reader<'a> {
     }
 }
 
+/// The line of the last token; 1 if there is none.
 fn last_line(tokens: &[Token]) -> u32
     ensures { result ≡ last_line tokens.now }
 {

@@ -5,26 +5,34 @@ ghost use Rattle.cx_text.specs.declared.stop.Stop.TheVariants as stops;
 
 use crate::Memory;
 use std::alloc::{AllocError, AllocFailed};
+use thiserror::Error;
 
 /// What can be wrong with a token that may stand where it stands.
-#[derive(Clone, Copy, Debug, Drop, PartialEq, Eq)]
+#[derive(Clone, Copy, Debug, Drop, Error, PartialEq, Eq)]
 pub enum Mark {
+    #[error("Repeated")]
     Repeated,
+    #[error("BadNumber")]
     BadNumber,
+    #[error("Limit")]
     Limit,
 }
 
 /// What is wrong with a token.
-#[derive(Clone, Copy, Debug, Drop, PartialEq, Eq)]
+#[derive(Clone, Copy, Debug, Drop, Error, PartialEq, Eq)]
 pub enum Why {
+    #[error("Unexpected")]
     Unexpected,
+    #[error(transparent)]
     Marked(Mark),
 }
 
 /// Why a reader stopped. At a fault it stands at the faulty token.
-#[derive(Clone, Copy, Debug, Drop, PartialEq, Eq)]
+#[derive(Clone, Copy, Debug, Drop, Error, PartialEq, Eq)]
 pub enum Stop {
+    #[error("Memory")]
     Memory,
+    #[error(transparent)]
     Fault(Why),
 }
 

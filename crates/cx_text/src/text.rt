@@ -36,7 +36,7 @@ impl Text {
         })
     }
 
-    /// The same text.
+    /// A copy of the text.
     pub fn copy(&self, alloc: Global) -> Result<Self, Memory>
         ensures { IfOk result (λ copy. copy ≡ self.now) }
     {

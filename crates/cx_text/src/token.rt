@@ -64,7 +64,7 @@ impl Token {
         matches!(self.kind, Kind::Sign) && self.text.as_slice() == [first, second].as_slice()
     }
 
-    /// The same token.
+    /// A copy of the token, its line too.
     pub fn copy(&self, alloc: Global) -> Result<Token, Memory>
         ensures { IfOk result (λ token. token ≡ self.now) }
     {

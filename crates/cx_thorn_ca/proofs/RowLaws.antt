@@ -15,10 +15,12 @@ one_more f cells k cell room is before i l = go (cases_eq i k)
   where
     go : (i ≡ k) ⊎ (i ≢ k) → cell_at (slice_set cells k cell) i ≡ f i
     go (inl same) =
-        subst (λ j. cell_at (slice_set cells k cell) j ≡ f j) (sym same) (get_or-set_same cells k cell (pos 0) room ∙ is)
+        subst (λ j. cell_at (slice_set cells k cell) j ≡ f j) (sym same)
+        (get_or-set_same cells k cell (pos 0) room ∙ is)
     go (inr other) = get_or-set_other cells k i cell (pos 0) other ∙ before i (omega (arith, other))
 
-pub two_more : (f : ℕ → ℤ) (cells : List ℤ) (k : ℕ) (first second : ℤ) → k + 1 < length cells → first ≡ f k → second ≡ f (k + 1)
+pub two_more : (f : ℕ → ℤ) (cells : List ℤ) (k : ℕ) (first second : ℤ) → k + 1 < length cells
+    → first ≡ f k → second ≡ f (k + 1)
     → AreBy f cells k → AreBy f (slice_set (slice_set cells k first) (k + 1) second) (k + 2)
 two_more f cells k first second room is next before i l =
     let long : length (slice_set cells k first) ≡ length cells = length-set cells k first in
@@ -33,15 +35,18 @@ pub alive_few : (cell : ℤ) → alive_of cell ≤ 1
 alive_few cell = few_of (nat_eq (unsigned_abs cell) 0)
 
 -- a number of a lent row by its offset, where the read's reach is 1
-pub shown_at : (r : SeenRow) (y : ℤ) (cells : List ℤ) (i j : ℕ) → r.reaches ≡ 1 ∷ [] → ShowsAlong r 0 y (pos 0) cells
-    → i < r.count → j ≤ 2 → cell_at cells (i + j) ≡ value_of (r.seen i) 0 (offset_from 1 y (pos 0) j)
+pub shown_at : (r : SeenRow) (y : ℤ) (cells : List ℤ) (i j : ℕ) → r.reaches ≡ 1 ∷ []
+    → ShowsAlong r 0 y (pos 0) cells
+    → i < r.count → j ≤ 2 → cell_at cells (i + j)
+    ≡ value_of (r.seen i) 0 (offset_from 1 y (pos 0) j)
 shown_at r y cells i j reads shows l h =
     let reach : reach_at r 0 ≡ 1 = ap (λ rs. slice_index_or rs 0 0) reads in
     subst (λ k. cell_at cells (i + j) ≡ value_of (r.seen i) 0 (offset_from k y (pos 0) j)) reach
     (shows.each i j l (rw reach h))
 
 -- the first of them
-pub first_shown : (r : SeenRow) (y : ℤ) (cells : List ℤ) (i : ℕ) → r.reaches ≡ 1 ∷ [] → ShowsAlong r 0 y (pos 0) cells
+pub first_shown : (r : SeenRow) (y : ℤ) (cells : List ℤ) (i : ℕ) → r.reaches ≡ 1 ∷ []
+    → ShowsAlong r 0 y (pos 0) cells
     → i < r.count → cell_at cells i ≡ value_of (r.seen i) 0 (off (negsuc 0) y)
 first_shown r y cells i reads shows l =
     let none : i ≡ i + 0 = omega arith in
@@ -59,4 +64,5 @@ ca_row r rule cells next n fits param shows count is i l =
     let middle = shown_at r (pos 0) cells i 1 fits.reads shows l (omega arith) in
     let right = shown_at r (pos 0) cells i 2 fits.reads shows l (omega arith) in
     let near : i < n = omega (arith, l, count) in
-    ap (λ cell. Some (cell ∷ [])) (sym (is i near ∙ same_next _ _ _ _ _ _ _ _ (param i) left middle right))
+    ap (λ cell. Some (cell ∷ []))
+    (sym (is i near ∙ same_next _ _ _ _ _ _ _ _ (param i) left middle right))

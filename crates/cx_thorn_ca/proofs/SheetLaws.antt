@@ -21,12 +21,16 @@ at_count : (survive born : ℤ) (n : ℕ) (none : Bool) → n ≤ 8
     → life_bit survive born (n + 16 * (if none then 0 else 1))
     ≡ pos (bit_of (if nat_eq (if none then 0 else 1) 1 then survive else born) n)
 at_count survive born n true h =
-    ap (λ b. if b then bit_at born (n + 0) else bit_at survive (n + 0 - 16)) (below n h) ∙ ap (bit_at born) (nothing n)
+    ap (λ b. if b then bit_at born (n + 0) else bit_at survive (n + 0 - 16)) (below n h)
+    ∙ ap (bit_at born) (nothing n)
 at_count survive born n false h =
-    ap (λ b. if b then bit_at born (n + 16) else bit_at survive (n + 16 - 16)) (above n) ∙ ap (bit_at survive) (sixteen n)
+    ap (λ b. if b then bit_at born (n + 16) else bit_at survive (n + 16 - 16)) (above n)
+    ∙ ap (bit_at survive) (sixteen n)
 
-pub counted_is_next : (survive born : ℤ) (table below cells above : List ℤ) (i : ℕ) → AreBy (life_bit survive born) table 25
+pub counted_is_next : (survive born : ℤ) (table below cells above : List ℤ) (i : ℕ)
+    → AreBy (life_bit survive born) table 25
     → counted_at table below cells above i ≡ next_amid survive born below cells above i
 counted_is_next survive born table below cells above i bits =
     bits (count_at below cells above i) (count_few below cells above i)
-    ∙ at_count survive born (living_at below cells above i) (nat_eq (unsigned_abs (cell_at cells (i + 1))) 0) (living_few below cells above i)
+    ∙ at_count survive born (living_at below cells above i)
+    (nat_eq (unsigned_abs (cell_at cells (i + 1))) 0) (living_few below cells above i)

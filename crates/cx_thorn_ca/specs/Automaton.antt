@@ -35,7 +35,8 @@ beside x = off x (pos 0)
 -- the left, the middle and the right cell as a number from 0 to 7
 abbrev pub pattern_of : Seen → ℕ
 pattern_of w =
-    4 * alive_of (value_of w 0 (beside (negsuc 0))) + 2 * alive_of (value_of w 0 (beside (pos 0))) + alive_of (value_of w 0 (beside (pos 1)))
+    4 * alive_of (value_of w 0 (beside (negsuc 0))) + 2 * alive_of (value_of w 0 (beside (pos 0)))
+    + alive_of (value_of w 0 (beside (pos 1)))
 
 -- the next cell is the bit of the rule's number that these three name
 abbrev pub ca_step_rule : Rule

@@ -29,16 +29,19 @@ first_life pattern seed p index =
     if is_place pattern 0 then (if is_among glider p then 1 else 0) else mix_from seed index % 2
 
 abbrev pub life_init_rule : Rule
-life_init_rule w at = Some (pos (first_life (param_of at 0) (param_of at 1) at.at (global_index at)) ∷ [])
+life_init_rule w at = Some
+    (pos (first_life (param_of at 0) (param_of at 1) at.at (global_index at)) ∷ [])
 
 -- the offsets of three cells in a row
 abbrev pub row_of_three : ℤ → List Point
 row_of_three y = off (negsuc 0) y ∷ off (pos 0) y ∷ off (pos 1) y ∷ []
 
--- the offsets of the neighbours: two in the row, and three on either side of it where the grid has a second direction
+-- the offsets of the neighbours: two in the row, and three on either side of it where the grid has
+-- a second direction
 abbrev pub neighbours : ℕ → List Point
 neighbours dims =
-    off (negsuc 0) (pos 0) ∷ off (pos 1) (pos 0) ∷ (if nat_lt 1 dims then row_of_three (negsuc 0) ++ row_of_three (pos 1) else [])
+    off (negsuc 0) (pos 0) ∷ off (pos 1) (pos 0)
+    ∷ (if nat_lt 1 dims then row_of_three (negsuc 0) ++ row_of_three (pos 1) else [])
 
 -- how many cells at these offsets are not 0
 abbrev pub living : Seen → List Point → ℕ
@@ -51,7 +54,8 @@ counts_of cell survive born = if nat_eq (alive_of cell) 1 then survive else born
 -- a cell survives, and a cell is born, where the bit of its living neighbours' number is set
 abbrev pub life_step_rule : Rule
 life_step_rule w at =
-    Some (pos (bit_of (counts_of (value_of w 0 here) (param_of at 0) (param_of at 1)) (living w (neighbours w.dims))) ∷ [])
+    Some (pos (bit_of (counts_of (value_of w 0 here) (param_of at 0) (param_of at 1))
+    (living w (neighbours w.dims))) ∷ [])
 
 -- the sheet's edge
 abbrev pub life_zero_rule : Rule

@@ -27,7 +27,8 @@ abbrev pub next_cell : ℤ → ℤ → ℤ → ℤ → ℤ
 next_cell rule left middle right = pos (bit_of rule (pattern left middle right))
 
 abbrev pub next_at : ℤ → List ℤ → ℕ → ℤ
-next_at rule cells i = next_cell rule (cell_at cells i) (cell_at cells (i + 1)) (cell_at cells (i + 2))
+next_at rule cells i = next_cell rule (cell_at cells i) (cell_at cells (i + 1))
+    (cell_at cells (i + 2))
 
 -- four bits of a number
 abbrev pub four_at : ℕ → ℕ → ℕ
@@ -37,8 +38,8 @@ four_at bits k = bits / 2 ^ (2 * k) % 16
 abbrev pub turned : ℕ → ℕ
 turned three = 4 * (three % 2) + 2 * (three / 2 % 2) + three / 4
 
--- a table of the two cells that follow between four, at twice the number whose bits these four are: the three that tell the one at a
--- place, and the one
+-- a table of the two cells that follow between four, at twice the number whose bits these four are:
+-- the three that tell the one at a place, and the one
 abbrev pub three_of : ℕ → ℕ
 three_of k = if nat_eq (k % 2) 0 then k / 2 % 8 else k / 4
 
@@ -49,7 +50,8 @@ pair_bit rule k = bit_at rule (turned (three_of k))
 
 -- how many of three cells in a row are not 0
 abbrev pub three_at : List ℤ → ℕ → ℕ
-three_at cells i = alive_of (cell_at cells i) + alive_of (cell_at cells (i + 1)) + alive_of (cell_at cells (i + 2))
+three_at cells i = alive_of (cell_at cells i) + alive_of (cell_at cells (i + 1))
+    + alive_of (cell_at cells (i + 2))
 
 -- how many neighbours in the row are not 0
 abbrev pub beside_at : List ℤ → ℕ → ℕ
@@ -57,7 +59,8 @@ beside_at cells i = alive_of (cell_at cells i) + alive_of (cell_at cells (i + 2)
 
 -- the next cell of a row without neighbours above and below
 abbrev pub next_alone : ℤ → ℤ → List ℤ → ℕ → ℤ
-next_alone survive born cells i = pos (bit_of (counts_of (cell_at cells (i + 1)) survive born) (beside_at cells i))
+next_alone survive born cells i =
+    pos (bit_of (counts_of (cell_at cells (i + 1)) survive born) (beside_at cells i))
 
 -- the next cell of a row of a sheet
 abbrev pub living_at : List ℤ → List ℤ → List ℤ → ℕ → ℕ

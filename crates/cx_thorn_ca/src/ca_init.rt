@@ -24,6 +24,7 @@ impl PointRule for CaInitRule {
         CaInitRule
     }
 
+    /// Writes the cells everywhere, and takes the seed and the place of a single living cell.
     fn describe(alloc: Global) -> Result<Spec, Memory> {
         let mut spec = Spec::new(alloc, b"ElemCA", b"ca_init", ItemKind::Cell)?;
         spec.add_write(alloc, b"ca::cell", Region::Everywhere)?;
@@ -32,6 +33,7 @@ impl PointRule for CaInitRule {
         Ok(spec)
     }
 
+    /// The first state of the cell.
     fn numbers(&self, _w: &Window, at: &Place, out: &mut Cells) -> Result<(), Overflow> {
         out.set_only(first_cell(at.param(0), at.param(1), at.index()));
         Ok(())

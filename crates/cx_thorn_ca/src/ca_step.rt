@@ -26,6 +26,7 @@ impl PointRule for CaStepRule {
         CaStepRule
     }
 
+    /// Reads a cell and its neighbours, and writes the cell in the interior; it takes the rule's number.
     fn describe(alloc: Global) -> Result<Spec, Memory> {
         let mut spec = Spec::new(alloc, b"ElemCA", b"ca_step", ItemKind::Cell)?;
         spec.add_read(alloc, b"ca::cell", Region::Everywhere, 1)?;
@@ -34,6 +35,7 @@ impl PointRule for CaStepRule {
         Ok(spec)
     }
 
+    /// The bit of the rule's number for the three cells around the point.
     fn numbers(&self, w: &Window, at: &Place, out: &mut Cells) -> Result<(), Overflow> {
         let left = alive(w, -1, 0);
         let middle = alive(w, 0, 0);
@@ -44,6 +46,7 @@ impl PointRule for CaStepRule {
 }
 
 impl RowRule for CaStepRule {
+    /// Computes a row of next cells.
     fn row(&self, row: &Row, out: &mut [i64]) -> Result<(), Overflow> {
         next_row(row.param(0), row.along(0, 0, 0), out);
         Ok(())

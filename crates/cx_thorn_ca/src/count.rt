@@ -24,6 +24,7 @@ impl PointRule for CaCountRule {
         CaCountRule
     }
 
+    /// Reads the cells of the row, and writes the number of living ones as their sum.
     fn describe(alloc: Global) -> Result<Spec, Memory> {
         let mut spec = Spec::new(alloc, b"ElemCA", b"ca_count", ItemKind::Sum)?;
         spec.add_read(alloc, b"ca::cell", Region::Everywhere, 0)?;
@@ -31,6 +32,7 @@ impl PointRule for CaCountRule {
         Ok(spec)
     }
 
+    /// What a cell adds to the sum: itself.
     fn numbers(&self, w: &Window, _at: &Place, out: &mut Cells) -> Result<(), Overflow> {
         out.set_only(w.here(0));
         Ok(())
@@ -54,6 +56,7 @@ impl PointRule for LifeCountRule {
         LifeCountRule
     }
 
+    /// Reads the cells of the sheet, and writes the number of living ones as their count.
     fn describe(alloc: Global) -> Result<Spec, Memory> {
         let mut spec = Spec::new(alloc, b"Life2D", b"life_count", ItemKind::Count)?;
         spec.add_read(alloc, b"life::cell", Region::Everywhere, 0)?;
@@ -61,6 +64,7 @@ impl PointRule for LifeCountRule {
         Ok(spec)
     }
 
+    /// The cell, which counts if it isn't 0.
     fn numbers(&self, w: &Window, _at: &Place, out: &mut Cells) -> Result<(), Overflow> {
         out.set_only(w.here(0));
         Ok(())

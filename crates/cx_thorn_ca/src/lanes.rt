@@ -35,7 +35,7 @@ fn living_lanes(cells: &[i64], i: usize) -> u64x16
         .select(u64x16::splat(0), u64x16::splat(1))
 }
 
-/// The same in bytes.
+/// 1 for each of sixteen cells that isn't 0, from a place on, in lanes of one byte.
 #[inline(always)]
 pub(crate) fn living(cells: &[i64], i: usize) -> u8x16
     requires { i + 16 ≤ length cells.now }
@@ -44,7 +44,7 @@ pub(crate) fn living(cells: &[i64], i: usize) -> u8x16
     living_lanes(cells, i).cast::<u8>()
 }
 
-/// The same as the bits of a number, the first cell's bit as the lowest.
+/// A bit for each of sixteen cells, from a place on: 1 if the cell isn't 0. The first cell's is the lowest.
 #[inline(always)]
 pub(crate) fn living_bits(cells: &[i64], i: usize) -> u64
     requires { i + 16 ≤ length cells.now }

@@ -26,6 +26,7 @@ impl PointRule for LifeInitRule {
         LifeInitRule
     }
 
+    /// Writes the cells everywhere, and takes the pattern and the seed.
     fn describe(alloc: Global) -> Result<Spec, Memory> {
         let mut spec = Spec::new(alloc, b"Life2D", b"life_init", ItemKind::Cell)?;
         spec.add_write(alloc, b"life::cell", Region::Everywhere)?;
@@ -34,6 +35,7 @@ impl PointRule for LifeInitRule {
         Ok(spec)
     }
 
+    /// The first state of the cell.
     fn numbers(&self, _w: &Window, at: &Place, out: &mut Cells) -> Result<(), Overflow> {
         out.set_only(first_life(at.param(0), at.param(1), at.at, at.index()));
         Ok(())
@@ -72,6 +74,7 @@ fn is_cell(p: Point, x: u8, y: u8) -> bool
     p.x == x as i32 && p.y == y as i32
 }
 
+/// Whether one of five holds.
 fn any_of(a: bool, b: bool, c: bool, d: bool, e: bool) -> bool
     ensures { result ≡ (a || (b || (c || (d || (e || false))))) }
 {

@@ -29,6 +29,7 @@ impl PointRule for LifeStepRule {
         LifeStepRule
     }
 
+    /// Reads a cell and its neighbours, and writes the cell in the interior; it takes the rules of life.
     fn describe(alloc: Global) -> Result<Spec, Memory> {
         let mut spec = Spec::new(alloc, b"Life2D", b"life_step", ItemKind::Cell)?;
         spec.add_read(alloc, b"life::cell", Region::Everywhere, 1)?;
@@ -38,6 +39,7 @@ impl PointRule for LifeStepRule {
         Ok(spec)
     }
 
+    /// 1 if the number of living neighbours is one at which the cell survives or is born, else 0.
     fn numbers(&self, w: &Window, at: &Place, out: &mut Cells) -> Result<(), Overflow> {
         let counts = counts(w.here(0), at.param(0), at.param(1));
         out.set_only(bit(counts, living(w, at.shape.dims)));
@@ -46,6 +48,7 @@ impl PointRule for LifeStepRule {
 }
 
 impl RowRule for LifeStepRule {
+    /// Computes a row of next cells, also on a grid with one direction.
     fn row(&self, row: &Row, out: &mut [i64]) -> Result<(), Overflow> {
         if row.dims() < 2 {
             put_alone(row, out);

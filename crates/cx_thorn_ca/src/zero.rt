@@ -25,12 +25,14 @@ impl PointRule for CaZeroRule {
         CaZeroRule
     }
 
+    /// Writes the cells of the row in the boundary.
     fn describe(alloc: Global) -> Result<Spec, Memory> {
         let mut spec = Spec::new(alloc, b"ElemCA", b"ca_zero", ItemKind::Cell)?;
         spec.add_write(alloc, b"ca::cell", Region::Boundary)?;
         Ok(spec)
     }
 
+    /// The cell is dead.
     fn numbers(&self, _w: &Window, _at: &Place, out: &mut Cells) -> Result<(), Overflow> {
         out.set_only(0);
         Ok(())
@@ -38,6 +40,7 @@ impl PointRule for CaZeroRule {
 }
 
 impl RowRule for CaZeroRule {
+    /// Sets a row of cells to 0.
     fn row(&self, _row: &Row, out: &mut [i64]) -> Result<(), Overflow> {
         put_zeros(out);
         Ok(())
@@ -60,12 +63,14 @@ impl PointRule for LifeZeroRule {
         LifeZeroRule
     }
 
+    /// Writes the cells of the sheet in the boundary.
     fn describe(alloc: Global) -> Result<Spec, Memory> {
         let mut spec = Spec::new(alloc, b"Life2D", b"life_zero", ItemKind::Cell)?;
         spec.add_write(alloc, b"life::cell", Region::Boundary)?;
         Ok(spec)
     }
 
+    /// The cell is dead.
     fn numbers(&self, _w: &Window, _at: &Place, out: &mut Cells) -> Result<(), Overflow> {
         out.set_only(0);
         Ok(())
@@ -73,6 +78,7 @@ impl PointRule for LifeZeroRule {
 }
 
 impl RowRule for LifeZeroRule {
+    /// Sets a row of cells to 0.
     fn row(&self, _row: &Row, out: &mut [i64]) -> Result<(), Overflow> {
         put_zeros(out);
         Ok(())

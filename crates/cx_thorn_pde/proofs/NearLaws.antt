@@ -49,16 +49,19 @@ size_of (pos a) m low high = omega (arith, ints)
 size_of (negsuc a) m low high = omega (arith, ints)
 
 -- a small factor times a bend has 64 bits
-pub product_fits : (factor bend : ℤ) → IsSmall factor → negsuc (2 ^ 46) ≤ℤ bend → bend ≤ℤ pos (2 ^ 46)
+pub product_fits : (factor bend : ℤ) → IsSmall factor → negsuc (2 ^ 46) ≤ℤ bend
+    → bend ≤ℤ pos (2 ^ 46)
     → FitsSigned w64 (factor *ℤ bend)
 product_fits factor bend small low high =
-    fits_signed_mul w64 factor bend (2 ^ 16 + 1) (2 ^ 46 + 1) (size_of factor (2 ^ 16) small.low small.high) (size_of bend (2 ^ 46) low high) (lit< tt)
+    fits_signed_mul w64 factor bend (2 ^ 16 + 1) (2 ^ 46 + 1)
+    (size_of factor (2 ^ 16) small.low small.high) (size_of bend (2 ^ 46) low high) (lit< tt)
 
 pub over_256_fits : (n : ℤ) → FitsSigned w64 n → FitsSigned w64 (int_div_euclid n (pos 256))
 over_256_fits (pos a) f = record { sfits = omega (arith, f.sfits) }
 over_256_fits (negsuc a) f = record { sfits = omega (arith, f.sfits) }
 
-pub near_star : (r : RowValues) (from to i : ℕ) → AreNearRows r from to → from ≤ i → i < to → IsNearStar (star_at r i)
+pub near_star : (r : RowValues) (from to i : ℕ) → AreNearRows r from to → from ≤ i → i < to
+    → IsNearStar (star_at r i)
 near_star r from to i near low high =
     record {
       here = near.row (i + 1) (omega (arith, low)) (omega (arith, high));

@@ -22,8 +22,10 @@ not_below : (a b : ℕ) → (a < b → ⊥) → b ≤ a
 not_below a b h = by_size a b (λ low. absurd (h low)) (λ high. high)
 
 pub misfits : (n : ℤ) → (FitsSigned w64 n → ⊥) → None ≡ in_64_bits n
-misfits (pos n) f = rw (lt_false n (2 ^ 63) (not_below n (2 ^ 63) (λ h. f (record { sfits = h })))) refl
-misfits (negsuc n) f = rw (lt_false n (2 ^ 63) (not_below n (2 ^ 63) (λ h. f (record { sfits = h })))) refl
+misfits (pos n) f = rw (lt_false n (2 ^ 63) (not_below n (2 ^ 63) (λ h. f (record { sfits = h }))))
+    refl
+misfits (negsuc n) f = rw
+    (lt_false n (2 ^ 63) (not_below n (2 ^ 63) (λ h. f (record { sfits = h })))) refl
 
 outside_high : (n : ℤ) → pos (2 ^ 63) ≤ℤ n → None ≡ in_64_bits n
 outside_high (pos n) h = rw (lt_false n (2 ^ 63) (omega (arith, ints, h))) refl

@@ -46,7 +46,8 @@ diff_init_spec =
       kind = Cell;
       reads = [];
       writes = heat_in Everywhere 0 ∷ [];
-      params = codes "diff::pattern" ∷ codes "diff::amount" ∷ codes "diff::start" ∷ codes "diff::seed" ∷ [];
+      params = codes "diff::pattern" ∷ codes "diff::amount" ∷ codes "diff::start"
+          ∷ codes "diff::seed" ∷ [];
       cap = most_points;
     }
 

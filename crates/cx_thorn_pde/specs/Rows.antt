@@ -19,7 +19,8 @@ flat_of s = bend_of s.right s.left s.here +ℤ bend_of s.above s.below s.here
 abbrev pub lap_of : Star → ℤ
 lap_of s = flat_of s +ℤ bend_of s.over s.under s.here
 
--- the numbers before a row's, the row, those below and above it along y, and those under and over it along z
+-- the numbers before a row's, the row, those below and above it along y, and those under and over
+-- it along z
 pub record RowValues : Type 0 where
   pub before : List ℤ
   pub row : List ℤ
@@ -32,7 +33,8 @@ abbrev pub row_values : (before row below above under over : List ℤ) → RowVa
 row_values before row below above under over =
     record { before = before; row = row; below = below; above = above; under = under; over = over }
 
--- so many places: the numbers before begin with the first one's, and each row begins one number before it and ends one behind the last
+-- so many places: the numbers before begin with the first one's, and each row begins one number
+-- before it and ends one behind the last
 pub record HasPlaces (r : RowValues) (n : ℕ) : Type 0 where
   pub before : n ≤ length r.before
   pub row : n + 2 ≤ length r.row
@@ -81,7 +83,8 @@ pub record IsAlone (dims : ℕ) (r : RowValues) : Type 0 where
 abbrev pub if_has : Bool → ℤ → ℤ
 if_has has by = if has then by else pos 0
 
--- the row of the first read beside this one along y, and along z; this one itself where the grid lacks the direction
+-- the row of the first read beside this one along y, and along z; this one itself where the grid
+-- lacks the direction
 abbrev pub ShowsInY : (r : SeenRow) (y : ℤ) → List ℤ → Type 0
 ShowsInY r y ns = ShowsAlong r 0 (if_has (nat_lt 1 r.dims) y) (pos 0) ns
 

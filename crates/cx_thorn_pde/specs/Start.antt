@@ -12,7 +12,8 @@ point_start amount start index = if is_place start index then amount else pos 0
 
 -- the amount where the sum of the coordinates is even, and its negative elsewhere
 abbrev pub alternate_start : ℤ → Point → ℤ
-alternate_start amount p = if nat_eq (unsigned_abs (p.x +ℤ p.y +ℤ p.z) % 2) 0 then amount else neg_ℤ amount
+alternate_start amount p = if nat_eq (unsigned_abs (p.x +ℤ p.y +ℤ p.z) % 2) 0 then amount
+    else neg_ℤ amount
 
 -- mixed from a seed, from 0 to the amount, which may be 0; and 0 for an amount below 0
 abbrev pub random_start : ℤ → ℤ → ℕ → ℤ
@@ -29,4 +30,6 @@ start_number pattern amount start seed p index =
 
 -- by the parameters pattern, amount, start and seed
 abbrev pub start_at : Place → Option ℤ
-start_at at = in_64_bits (start_number (param_of at 0) (param_of at 1) (param_of at 2) (param_of at 3) at.at (global_index at))
+start_at at = in_64_bits
+    (start_number (param_of at 0) (param_of at 1) (param_of at 2) (param_of at 3) at.at
+    (global_index at))

@@ -67,7 +67,8 @@ wave_init_spec =
       kind = Cell;
       reads = [];
       writes = phi_in Everywhere 0 ∷ phi_p_in Everywhere 0 ∷ [];
-      params = codes "wave::pattern" ∷ codes "wave::amount" ∷ codes "wave::start" ∷ codes "wave::seed" ∷ [];
+      params = codes "wave::pattern" ∷ codes "wave::amount" ∷ codes "wave::start"
+          ∷ codes "wave::seed" ∷ [];
       cap = most_points;
     }
 
@@ -79,7 +80,8 @@ wave_init1_spec =
       kind = Cell;
       reads = [];
       writes = phi_in Everywhere 0 ∷ [];
-      params = codes "wave::pattern" ∷ codes "wave::amount" ∷ codes "wave::start" ∷ codes "wave::seed" ∷ [];
+      params = codes "wave::pattern" ∷ codes "wave::amount" ∷ codes "wave::start"
+          ∷ codes "wave::seed" ∷ [];
       cap = most_points;
     }
 

@@ -62,6 +62,7 @@ fn bend_z(w: &Window, dims: u8) -> i128
     bend_up(w)
 }
 
+/// How the numbers bend at a point in the third direction: both neighbours less twice the number there.
 fn bend_up(w: &Window) -> i128
     requires directions { w.now.seen.dims ≡ 3 }
     requires read { 0 < length w.now.seen.reaches }
@@ -94,6 +95,7 @@ pub(crate) fn bend_of(up: i64, down: i64, here: i64) -> i128
     minus_twice(both(up, down), here)
 }
 
+/// The sum of two neighbours.
 fn both(up: i64, down: i64) -> i128
     ensures value { result ≡ up +ℤ down }
     ensures low { negsuc (2 ^ 65) ≤ℤ result }
@@ -102,6 +104,7 @@ fn both(up: i64, down: i64) -> i128
     up as i128 + down as i128
 }
 
+/// A sum less twice the number at the point.
 fn minus_twice(sum: i128, here: i64) -> i128
     requires low { negsuc (2 ^ 65) ≤ℤ sum }
     requires high { sum ≤ℤ pos (2 ^ 65) }

@@ -26,6 +26,7 @@ pub(crate) fn rows_around<'r>(row: &'r Row, before: &'r [i64]) -> RowsAround<'r>
     }
 }
 
+/// The rows around a row on a grid with one direction: the row alone.
 fn line_around<'r>(row: &'r Row, before: &'r [i64]) -> RowsAround<'r>
     requires dims { (seen_row row.now).dims ≡ 1 }
     requires read { 0 < length (seen_row row.now).reaches }
@@ -38,6 +39,7 @@ fn line_around<'r>(row: &'r Row, before: &'r [i64]) -> RowsAround<'r>
     RowsAround::line(before, row.along(0, 0, 0))
 }
 
+/// The rows around a row on a grid with two directions.
 fn sheet_around<'r>(row: &'r Row, before: &'r [i64]) -> RowsAround<'r>
     requires dims { (seen_row row.now).dims ≡ 2 }
     requires read { 0 < length (seen_row row.now).reaches }
@@ -52,6 +54,7 @@ fn sheet_around<'r>(row: &'r Row, before: &'r [i64]) -> RowsAround<'r>
     RowsAround::sheet(before, row.along(0, 0, 0), below, above)
 }
 
+/// The rows around a row on a grid with three directions.
 fn space_around<'r>(row: &'r Row, before: &'r [i64]) -> RowsAround<'r>
     requires dims { (seen_row row.now).dims ≡ 3 }
     requires read { 0 < length (seen_row row.now).reaches }

@@ -24,6 +24,7 @@ impl PointRule for ControlSetRule {
         ControlSetRule
     }
 
+    /// Writes the count, and takes the number of turns.
     fn describe(alloc: Global) -> Result<Spec, Memory> {
         let mut spec = Spec::new(alloc, b"Control", b"control_set", ItemKind::Scalar)?;
         spec.add_write(alloc, b"control::count", Region::Everywhere)?;
@@ -31,6 +32,7 @@ impl PointRule for ControlSetRule {
         Ok(spec)
     }
 
+    /// The count begins at the number of turns.
     fn numbers(&self, _w: &Window, at: &Place, out: &mut Cells) -> Result<(), Overflow> {
         out.set_only(at.param(0));
         Ok(())
@@ -53,6 +55,7 @@ impl PointRule for ControlSpinRule {
         ControlSpinRule
     }
 
+    /// Reads and writes the count, and takes how much it drops.
     fn describe(alloc: Global) -> Result<Spec, Memory> {
         let mut spec = Spec::new(alloc, b"Control", b"control_spin", ItemKind::Scalar)?;
         spec.add_read(alloc, b"control::count", Region::Everywhere, 0)?;
@@ -61,11 +64,13 @@ impl PointRule for ControlSpinRule {
         Ok(spec)
     }
 
+    /// The count less its drop; an overflow if that has more than 64 bits.
     fn numbers(&self, w: &Window, at: &Place, out: &mut Cells) -> Result<(), Overflow> {
         out.set_if(in_64_bits(minus(w.here(0), at.param(0))))
     }
 }
 
+/// The count less its drop, exactly.
 fn minus(count: i64, drop: i64) -> i128
     ensures { result ≡ count -ℤ drop }
 {

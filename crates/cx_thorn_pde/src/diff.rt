@@ -28,6 +28,7 @@ impl PointRule for DiffInitRule {
         DiffInitRule
     }
 
+    /// Writes the heat everywhere, and takes the pattern that it starts with.
     fn describe(alloc: Global) -> Result<Spec, Memory> {
         let mut spec = Spec::new(alloc, b"DiffInt", b"diff_init", ItemKind::Cell)?;
         spec.add_write(alloc, b"diff::u", Region::Everywhere)?;
@@ -38,6 +39,7 @@ impl PointRule for DiffInitRule {
         Ok(spec)
     }
 
+    /// The heat that the pattern gives the point.
     fn numbers(&self, _w: &Window, at: &Place, out: &mut Cells) -> Result<(), Overflow> {
         out.set_if(start_at(at))
     }
@@ -60,6 +62,7 @@ impl PointRule for DiffStepRule {
         DiffStepRule
     }
 
+    /// Reads the heat of a point and its neighbours, and writes it in the interior.
     fn describe(alloc: Global) -> Result<Spec, Memory> {
         let mut spec = Spec::new(alloc, b"DiffInt", b"diff_step", ItemKind::Cell)?;
         spec.add_read(alloc, b"diff::u", Region::Everywhere, 1)?;
@@ -68,6 +71,7 @@ impl PointRule for DiffStepRule {
         Ok(spec)
     }
 
+    /// The heat at the point, and a factor, in 256ths, times its bend.
     fn numbers(&self, w: &Window, at: &Place, out: &mut Cells) -> Result<(), Overflow> {
         let bend = lap(w, at.shape.dims);
         out.set_if(plus_scaled(w.here(0) as i128, at.param(0), bend))
@@ -75,6 +79,7 @@ impl PointRule for DiffStepRule {
 }
 
 impl RowRule for DiffStepRule {
+    /// Computes a row of next heats. The heat itself takes the place of the one before.
     fn row(&self, row: &Row, out: &mut [i64]) -> Result<(), Overflow> {
         // Twice a value minus itself is the value.
         let before = inner(row.along(0, 0, 0));

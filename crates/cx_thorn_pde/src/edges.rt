@@ -27,6 +27,7 @@ impl PointRule for WaveFlatRule {
         WaveFlatRule
     }
 
+    /// Reads the wave in the interior, and writes it in the boundary.
     fn describe(alloc: Global) -> Result<Spec, Memory> {
         let mut spec = Spec::new(alloc, b"WaveInt", b"wave_flat", ItemKind::Cell)?;
         spec.add_read(alloc, b"wave::phi", Region::Interior, 0)?;
@@ -34,6 +35,7 @@ impl PointRule for WaveFlatRule {
         Ok(spec)
     }
 
+    /// The wave at the nearest point of the interior.
     fn numbers(&self, w: &Window, _at: &Place, out: &mut Cells) -> Result<(), Overflow> {
         out.set_only(w.here(0));
         Ok(())
@@ -41,6 +43,7 @@ impl PointRule for WaveFlatRule {
 }
 
 impl RowRule for WaveFlatRule {
+    /// Copies a row from the nearest points of the interior.
     fn row(&self, row: &Row, out: &mut [i64]) -> Result<(), Overflow> {
         read_along(row, out);
         Ok(())
@@ -63,6 +66,7 @@ impl PointRule for WaveCopyRule {
         WaveCopyRule
     }
 
+    /// Reads the wave before in the interior, and writes the wave in the boundary.
     fn describe(alloc: Global) -> Result<Spec, Memory> {
         let mut spec = Spec::new(alloc, b"WaveInt", b"wave_copy", ItemKind::Cell)?;
         spec.add_read(alloc, b"wave::phi_p", Region::Interior, 0)?;
@@ -70,6 +74,7 @@ impl PointRule for WaveCopyRule {
         Ok(spec)
     }
 
+    /// The wave before at the nearest point of the interior.
     fn numbers(&self, w: &Window, _at: &Place, out: &mut Cells) -> Result<(), Overflow> {
         out.set_only(w.here(0));
         Ok(())
@@ -77,6 +82,7 @@ impl PointRule for WaveCopyRule {
 }
 
 impl RowRule for WaveCopyRule {
+    /// Copies a row of the wave before from the nearest points of the interior.
     fn row(&self, row: &Row, out: &mut [i64]) -> Result<(), Overflow> {
         read_along(row, out);
         Ok(())
@@ -99,6 +105,7 @@ impl PointRule for WaveScalarRule {
         WaveScalarRule
     }
 
+    /// Writes the wave in the boundary, and takes the number there.
     fn describe(alloc: Global) -> Result<Spec, Memory> {
         let mut spec = Spec::new(alloc, b"WaveInt", b"wave_scalar", ItemKind::Cell)?;
         spec.add_write(alloc, b"wave::phi", Region::Boundary)?;
@@ -106,6 +113,7 @@ impl PointRule for WaveScalarRule {
         Ok(spec)
     }
 
+    /// The number of the parameter.
     fn numbers(&self, _w: &Window, at: &Place, out: &mut Cells) -> Result<(), Overflow> {
         out.set_only(at.param(0));
         Ok(())
@@ -113,6 +121,7 @@ impl PointRule for WaveScalarRule {
 }
 
 impl RowRule for WaveScalarRule {
+    /// Sets a row to the number of the parameter.
     fn row(&self, row: &Row, out: &mut [i64]) -> Result<(), Overflow> {
         param_along(row, out);
         Ok(())
@@ -135,6 +144,7 @@ impl PointRule for DiffFlatRule {
         DiffFlatRule
     }
 
+    /// Reads the heat in the interior, and writes it in the boundary.
     fn describe(alloc: Global) -> Result<Spec, Memory> {
         let mut spec = Spec::new(alloc, b"DiffInt", b"diff_flat", ItemKind::Cell)?;
         spec.add_read(alloc, b"diff::u", Region::Interior, 0)?;
@@ -142,6 +152,7 @@ impl PointRule for DiffFlatRule {
         Ok(spec)
     }
 
+    /// The heat at the nearest point of the interior.
     fn numbers(&self, w: &Window, _at: &Place, out: &mut Cells) -> Result<(), Overflow> {
         out.set_only(w.here(0));
         Ok(())
@@ -149,6 +160,7 @@ impl PointRule for DiffFlatRule {
 }
 
 impl RowRule for DiffFlatRule {
+    /// Copies a row from the nearest points of the interior.
     fn row(&self, row: &Row, out: &mut [i64]) -> Result<(), Overflow> {
         read_along(row, out);
         Ok(())
@@ -171,6 +183,7 @@ impl PointRule for DiffScalarRule {
         DiffScalarRule
     }
 
+    /// Writes the heat in the boundary, and takes the number there.
     fn describe(alloc: Global) -> Result<Spec, Memory> {
         let mut spec = Spec::new(alloc, b"DiffInt", b"diff_scalar", ItemKind::Cell)?;
         spec.add_write(alloc, b"diff::u", Region::Boundary)?;
@@ -178,6 +191,7 @@ impl PointRule for DiffScalarRule {
         Ok(spec)
     }
 
+    /// The number of the parameter.
     fn numbers(&self, _w: &Window, at: &Place, out: &mut Cells) -> Result<(), Overflow> {
         out.set_only(at.param(0));
         Ok(())
@@ -185,6 +199,7 @@ impl PointRule for DiffScalarRule {
 }
 
 impl RowRule for DiffScalarRule {
+    /// Sets a row to the number of the parameter.
     fn row(&self, row: &Row, out: &mut [i64]) -> Result<(), Overflow> {
         param_along(row, out);
         Ok(())
@@ -213,6 +228,7 @@ fn param_along(row: &Row, out: &mut [i64])
     put_everywhere(row.param(0), out);
 }
 
+/// Sets all numbers of a row to one number.
 fn put_everywhere(number: i64, out: &mut [i64])
     ensures numbers { AreBy (λ _. Some number) out.new (length out.old) }
     ensures room { length out.new ≡ length out.old }

@@ -25,6 +25,7 @@ pub(crate) fn plus_scaled(base: i128, factor: i64, number: i128) -> Option<i64>
     }
 }
 
+/// A base and a product in 256ths, which is rounded down; none if the sum has more than 64 bits.
 fn plus_256th(base: i128, product: i128) -> Option<i64>
     requires low { negsuc (2 ^ 66) ≤ℤ base }
     requires high { base ≤ℤ pos (2 ^ 66) }
@@ -34,6 +35,7 @@ fn plus_256th(base: i128, product: i128) -> Option<i64>
     in_64_bits(plus(base, part))
 }
 
+/// The sum of a base and a part, exactly.
 fn plus(base: i128, part: i128) -> i128
     requires low { (negsuc (2 ^ 66) ≤ℤ base) × (negsuc (2 ^ 119) ≤ℤ part) }
     requires high { (base ≤ℤ pos (2 ^ 66)) × (part ≤ℤ pos (2 ^ 119)) }

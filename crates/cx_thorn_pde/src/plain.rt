@@ -20,6 +20,7 @@ impl Star {
         plus(base, part(factor, self.lap_plain()))
     }
 
+    /// The sum of the bends of all three directions, near 0.
     #[inline(always)]
     fn lap_plain(&self) -> i64
         requires { IsNearStar self.now }
@@ -31,6 +32,7 @@ impl Star {
         sum(self.flat_plain(), z)
     }
 
+    /// The sum of the bends of the first two directions, near 0.
     #[inline(always)]
     fn flat_plain(&self) -> i64
         requires { IsNearStar self.now }
@@ -44,6 +46,7 @@ impl Star {
     }
 }
 
+/// Twice the last number less the one before, near 0.
 #[inline(always)]
 fn twice_minus(last: i64, before: i64) -> i64
     requires last { IsNear last }
@@ -55,6 +58,7 @@ fn twice_minus(last: i64, before: i64) -> i64
     2 * last - before
 }
 
+/// How the numbers bend between two neighbours, near 0.
 #[inline(always)]
 fn bend_of(up: i64, down: i64, here: i64) -> i64
     requires up { IsNear up }
@@ -67,6 +71,7 @@ fn bend_of(up: i64, down: i64, here: i64) -> i64
     minus_twice(both(up, down), here)
 }
 
+/// The sum of two neighbours, near 0.
 #[inline(always)]
 fn both(up: i64, down: i64) -> i64
     requires up { IsNear up }
@@ -78,6 +83,7 @@ fn both(up: i64, down: i64) -> i64
     up + down
 }
 
+/// A sum less twice the number at the point, near 0.
 #[inline(always)]
 fn minus_twice(sum: i64, here: i64) -> i64
     requires low { negsuc (2 ^ 42) ≤ℤ sum }
@@ -90,6 +96,7 @@ fn minus_twice(sum: i64, here: i64) -> i64
     sum - 2 * here
 }
 
+/// The sum of two bends, near 0.
 #[inline(always)]
 fn sum(a: i64, b: i64) -> i64
     requires low { (negsuc (2 ^ 45) ≤ℤ a) × (negsuc (2 ^ 45) ≤ℤ b) }
@@ -99,6 +106,7 @@ fn sum(a: i64, b: i64) -> i64
     a + b
 }
 
+/// The sum of a base and a part, near 0.
 #[inline(always)]
 fn plus(base: i64, part: i64) -> i64
     requires base { (negsuc (2 ^ 43) ≤ℤ base) × (base ≤ℤ pos (2 ^ 43)) }

@@ -132,7 +132,7 @@ impl<'r> RowsAround<'r> {
         self.star_at(i).next(factor, self.before_at(i))
     }
 
-    /// The same without tests, where the numbers are near 0.
+    /// The next number at a place by sums that aren't tested, where the numbers are near 0.
     #[inline(always)]
     fn plain_at(&self, factor: u32, i: usize) -> i64
         requires places { HasPlaces self.now (i + 1) }
@@ -191,7 +191,7 @@ impl<'r> RowsAround<'r> {
         self.put_exact(factor, from, to, out)
     }
 
-    /// The same by sums that are tested one by one.
+    /// Sets the next numbers from one place to another by sums that are tested one by one.
     fn put_exact(
         &self,
         factor: i64,
@@ -216,8 +216,8 @@ impl<'r> RowsAround<'r> {
         Ok(())
     }
 
-    /// The same by sums without tests, where all numbers are near 0: in one, two and three directions by a loop that reads no row
-    /// twice.
+    /// Sets the next numbers from one place to another by sums without tests, where all numbers are near 0:
+    /// in one, two and three directions by a loop that reads no row twice.
     #[inline(never)]
     fn put_plain(&self, factor: u32, from: usize, to: usize, out: &mut [i64])
         requires places { HasPlaces self.now (length out.old) }
@@ -238,7 +238,7 @@ impl<'r> RowsAround<'r> {
         }
     }
 
-    /// The same rows where the grid has one direction.
+    /// These rows as those of a grid with one direction, if it has one.
     #[inline(always)]
     fn as_line(&self) -> Option<RowsAround<'r>>
         ensures { IfSome result (λ rows. rows ≡ self.now) }
@@ -250,7 +250,7 @@ impl<'r> RowsAround<'r> {
         }
     }
 
-    /// The same rows where the grid has one or two directions.
+    /// These rows as those of a grid with two directions, if it has one or two.
     #[inline(always)]
     fn as_sheet(&self) -> Option<RowsAround<'r>>
         ensures { IfSome result (λ rows. rows ≡ self.now) }
@@ -262,7 +262,7 @@ impl<'r> RowsAround<'r> {
         }
     }
 
-    /// The same rows as a value of the caller's own, so that a loop need not read them again behind each number that it writes.
+    /// These rows as a value of the caller's own, so that a loop need not read them again after each write.
     #[inline(always)]
     fn again(&self) -> RowsAround<'r>
         ensures { result ≡ self.now }

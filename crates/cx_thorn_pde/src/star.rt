@@ -31,7 +31,7 @@ impl Star {
         }
     }
 
-    /// The same in sums of 64 bits; none where one of them leaves these.
+    /// The number after this one and the one before it, by sums of 64 bits; none if one of them doesn't fit.
     #[inline(always)]
     fn next_narrow(&self, factor: i64, before: i64) -> Option<i64>
         ensures { IfSome result (λ n. n ≡ next_of factor before self.now) }
@@ -41,6 +41,7 @@ impl Star {
         plus_part(base, factor, bend)
     }
 
+    /// The sum of the bends of all three directions; none if a sum on the way doesn't fit 64 bits.
     #[inline(always)]
     fn lap_narrow(&self) -> Option<i64>
         ensures { IfSome result (λ n. n ≡ lap_of self.now) }
@@ -50,6 +51,7 @@ impl Star {
         flat.checked_add(z)
     }
 
+    /// The sum of the bends of the first two directions; none if a sum on the way doesn't fit 64 bits.
     #[inline(always)]
     fn flat_narrow(&self) -> Option<i64>
         ensures { IfSome result (λ n. n ≡ flat_of self.now) }
@@ -59,12 +61,14 @@ impl Star {
         x.checked_add(y)
     }
 
+    /// The number after this one and the one before it, by sums of 128 bits, which all fit.
     fn next_wide(&self, factor: i64, before: i64) -> Option<i64>
         ensures { result ≡ in_64_bits (next_of factor before self.now) }
     {
         stepped(self.here, before, factor, self.lap_wide())
     }
 
+    /// The sum of the bends of all three directions, exactly.
     fn lap_wide(&self) -> i128
         ensures { result ≡ lap_of self.now }
     {
@@ -75,6 +79,7 @@ impl Star {
     }
 }
 
+/// Twice the last number less the one before; none if it doesn't fit 64 bits.
 #[inline(always)]
 fn twice_minus(last: i64, before: i64) -> Option<i64>
     ensures { IfSome result (λ n. n ≡ pos 2 *ℤ last -ℤ before) }
@@ -82,6 +87,7 @@ fn twice_minus(last: i64, before: i64) -> Option<i64>
     last.checked_mul(2)?.checked_sub(before)
 }
 
+/// How the numbers bend between two neighbours; none if a sum on the way doesn't fit 64 bits.
 #[inline(always)]
 fn bend_narrow(up: i64, down: i64, here: i64) -> Option<i64>
     ensures { IfSome result (λ n. n ≡ bend_of up down here) }
@@ -90,6 +96,7 @@ fn bend_narrow(up: i64, down: i64, here: i64) -> Option<i64>
     minus_twice(sum, here)
 }
 
+/// A sum less twice the number at the point; none if it doesn't fit 64 bits.
 #[inline(always)]
 fn minus_twice(sum: i64, here: i64) -> Option<i64>
     ensures { IfSome result (λ n. n ≡ sum -ℤ pos 2 *ℤ here) }
@@ -98,6 +105,7 @@ fn minus_twice(sum: i64, here: i64) -> Option<i64>
     sum.checked_sub(twice)
 }
 
+/// A base and a factor, in 256ths, times a bend; none if a number on the way doesn't fit 64 bits.
 #[inline(always)]
 fn plus_part(base: i64, factor: i64, bend: i64) -> Option<i64>
     ensures { IfSome result (λ n. n ≡ base +ℤ scaled factor bend) }

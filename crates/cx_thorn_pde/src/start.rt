@@ -26,6 +26,7 @@ pub(crate) fn start_at(at: &Place) -> Option<i64>
     in_64_bits(start)
 }
 
+/// The number that a pattern gives a point: one point, a constant, alternating signs or random numbers.
 fn start_number(pattern: i64, amount: i64, start: i64, seed: i64, p: Point, index: usize) -> i128
     requires index { index < 2 ^ 24 }
     requires x { (pos 0 ≤ℤ p.x) × (p.x ≤ℤ pos 16777216) }

@@ -24,6 +24,7 @@ impl PointRule for WaveSumRule {
         WaveSumRule
     }
 
+    /// Reads the wave everywhere, and writes its total.
     fn describe(alloc: Global) -> Result<Spec, Memory> {
         let mut spec = Spec::new(alloc, b"WaveInt", b"wave_sum", ItemKind::Sum)?;
         spec.add_read(alloc, b"wave::phi", Region::Everywhere, 0)?;
@@ -31,6 +32,7 @@ impl PointRule for WaveSumRule {
         Ok(spec)
     }
 
+    /// What a point adds to the total: the wave there.
     fn numbers(&self, w: &Window, _at: &Place, out: &mut Cells) -> Result<(), Overflow> {
         out.set_only(w.here(0));
         Ok(())
@@ -53,6 +55,7 @@ impl PointRule for DiffSumRule {
         DiffSumRule
     }
 
+    /// Reads the heat everywhere, and writes its total.
     fn describe(alloc: Global) -> Result<Spec, Memory> {
         let mut spec = Spec::new(alloc, b"DiffInt", b"diff_sum", ItemKind::Sum)?;
         spec.add_read(alloc, b"diff::u", Region::Everywhere, 0)?;
@@ -60,6 +63,7 @@ impl PointRule for DiffSumRule {
         Ok(spec)
     }
 
+    /// What a point adds to the total: the heat there.
     fn numbers(&self, w: &Window, _at: &Place, out: &mut Cells) -> Result<(), Overflow> {
         out.set_only(w.here(0));
         Ok(())

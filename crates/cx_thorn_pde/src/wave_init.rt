@@ -25,6 +25,7 @@ impl PointRule for WaveInitRule {
         WaveInitRule
     }
 
+    /// Writes the wave and the wave before everywhere, and takes the pattern that they start with.
     fn describe(alloc: Global) -> Result<Spec, Memory> {
         let mut spec = Spec::new(alloc, b"WaveInt", b"wave_init", ItemKind::Cell)?;
         spec.add_write(alloc, b"wave::phi", Region::Everywhere)?;
@@ -36,6 +37,7 @@ impl PointRule for WaveInitRule {
         Ok(spec)
     }
 
+    /// The number that the pattern gives the point, for both levels.
     fn numbers(&self, _w: &Window, at: &Place, out: &mut Cells) -> Result<(), Overflow> {
         set_both(out, start_at(at))
     }
@@ -57,6 +59,7 @@ impl PointRule for WaveInit1Rule {
         WaveInit1Rule
     }
 
+    /// Writes the wave everywhere, and takes the pattern that it starts with.
     fn describe(alloc: Global) -> Result<Spec, Memory> {
         let mut spec = Spec::new(alloc, b"WaveInt", b"wave_init1", ItemKind::Cell)?;
         spec.add_write(alloc, b"wave::phi", Region::Everywhere)?;
@@ -67,6 +70,7 @@ impl PointRule for WaveInit1Rule {
         Ok(spec)
     }
 
+    /// The number that the pattern gives the point.
     fn numbers(&self, _w: &Window, at: &Place, out: &mut Cells) -> Result<(), Overflow> {
         out.set_if(start_at(at))
     }

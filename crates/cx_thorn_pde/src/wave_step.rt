@@ -31,6 +31,7 @@ impl PointRule for WaveStepRule {
         WaveStepRule
     }
 
+    /// Reads the last two levels of the wave, and writes the next one in the interior.
     fn describe(alloc: Global) -> Result<Spec, Memory> {
         let mut spec = Spec::new(alloc, b"WaveInt", b"wave_step", ItemKind::Cell)?;
         spec.add_read(alloc, b"wave::phi_p", Region::Everywhere, 1)?;
@@ -40,12 +41,14 @@ impl PointRule for WaveStepRule {
         Ok(spec)
     }
 
+    /// Twice the last number less the one before, and a factor, in 256ths, times its bend.
     fn numbers(&self, w: &Window, at: &Place, out: &mut Cells) -> Result<(), Overflow> {
         out.set_if(next(w, at.shape.dims, at.param(0)))
     }
 }
 
 impl RowRule for WaveStepRule {
+    /// Computes a row of the next level.
     fn row(&self, row: &Row, out: &mut [i64]) -> Result<(), Overflow> {
         let around = rows_around(row, row.along(1, 0, 0));
         around.next_row(row.param(0), out)
@@ -71,6 +74,7 @@ pub(crate) fn stepped(last: i64, before: i64, factor: i64, bend: i128) -> Option
     plus_scaled(twice_minus(last, before), factor, bend)
 }
 
+/// Twice the last number less the one before, exactly.
 fn twice_minus(last: i64, before: i64) -> i128
     ensures value { result ≡ pos 2 *ℤ last -ℤ before }
     ensures low { negsuc (2 ^ 66) ≤ℤ result }

@@ -29,12 +29,14 @@ impl SeededTurns {
 }
 
 impl Turns for SeededTurns {
+    /// Begins the turns that belong to a seed.
     fn start(&mut self, seed: u64)
         ensures { self.new ≡ seed }
     {
         self.state = seed;
     }
 
+    /// A number below n, by the next state of a linear congruential generator.
     fn pick(&mut self, n: u64) -> u64
         requires { 0 < n }
         ensures below { result < n }

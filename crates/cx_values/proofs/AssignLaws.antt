@@ -13,7 +13,9 @@ use Rattle.cx_text.specs.Telling.{Tells}
 use Rattle.cx_values.specs.Faults.{fault_by, assign_fault}
 use Rattle.cx_values.specs.Assigned.{assigned_by, assigned, Assigns}
 
-module _ (thorns : List Thorn) (settings : List Setting) (ts : List Thorn) (ps : List Param) (ss : List Setting) (table : Names) (t : ts ≡ thorns) (p : ps ≡ parameters thorns) (s : ss ≡ settings) (named : (name : List ℕ) → table name ≡ names_by ts ps name) where
+module _ (thorns : List Thorn) (settings : List Setting) (ts : List Thorn) (ps : List Param)
+    (ss : List Setting) (table : Names) (t : ts ≡ thorns) (p : ps ≡ parameters thorns)
+    (s : ss ≡ settings) (named : (name : List ℕ) → table name ≡ names_by ts ps name) where
   same_names : table ≡ names thorns
   unfolding names
   same_names = fun_ext named ∙ ap (λ ts. names_by ts ps) t ∙ ap (λ ps. names_by thorns ps) p
@@ -33,7 +35,8 @@ module _ (thorns : List Thorn) (settings : List Setting) (ts : List Thorn) (ps :
       ∙ ap (λ ts. assigned_by (parameters thorns) (names thorns) ts ss) t
       ∙ ap (λ ss. assigned_by (parameters thorns) (names thorns) thorns ss) s
 
-  pub assigns : (r : Result Values ValueFault) → Tells Memory (fault_by ps table ss) r → IfOk r (λ values. values ≡ assigned_by ps table ts ss) → Assigns thorns settings r
+  pub assigns : (r : Result Values ValueFault) → Tells Memory (fault_by ps table ss) r
+      → IfOk r (λ values. values ≡ assigned_by ps table ts ss) → Assigns thorns settings r
   assigns (Ok values) told is = (is ∙ same_values, sym same_fault ∙ told)
   assigns (Err e) (inl memory) is = inl memory
   assigns (Err e) (inr fault) is = inr (sym same_fault ∙ fault)

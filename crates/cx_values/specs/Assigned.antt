@@ -32,12 +32,17 @@ abbrev pub default_of : List ℕ → Param → List ℕ
 default_of dir p = if same_name p.full (codes "IO::recover_dir") then dir else default_text p.decl
 
 abbrev pub slot : List ℕ → Param → Slot
-slot dir p = record { full = p.full; length = p.decl.length; default = held_by p.decl.ptype p.ranges (default_of dir p) }
+slot dir p = record {
+  full = p.full;
+  length = p.decl.length;
+  default = held_by p.decl.ptype p.ranges (default_of dir p);
+}
 
 abbrev pub given_of : List ℕ → Option Target → Option Param → List Given
 given_of text None p = []
 given_of text (Some at) None = []
-given_of text (Some at) (Some p) = record { parameter = at.0; element = at.1; held = held_by p.decl.ptype p.ranges text } ∷ []
+given_of text (Some at) (Some p) =
+    record { parameter = at.0; element = at.1; held = held_by p.decl.ptype p.ranges text } ∷ []
 
 abbrev pub given_at : List Param → List ℕ → Option Target → List Given
 given_at ps text None = []
@@ -66,7 +71,8 @@ used_by names d (Some implementation) = shared_use d (names (full_name implement
 
 -- a thorn's own parameters, and those that it uses or extends
 abbrev pub uses_of : List Param → Names → ℕ × Thorn → List Use
-uses_of ps names t = flat_map (own_use t.0) (enumerate_from 0 ps) ++ flat_map (λ d. used_by names d (shared_by d.scope)) t.1.params
+uses_of ps names t = flat_map (own_use t.0) (enumerate_from 0 ps)
+    ++ flat_map (λ d. used_by names d (shared_by d.scope)) t.1.params
 
 abbrev pub global_use : ℕ × Param → List Use
 global_use p = if is_global p.1.decl.scope then use_as p.1.decl.name p.0 ∷ [] else []
@@ -87,7 +93,8 @@ assigned thorns settings = assigned_by (parameters thorns) (names thorns) thorns
 
 -- Settings without a fault give all parameters their values.
 abbrev pub Assigns : List Thorn → List Setting → Result Values ValueFault → Type 0
-Assigns thorns settings (Ok values) = (values ≡ assigned thorns settings) × (assign_fault thorns settings ≡ None)
+Assigns thorns settings (Ok values) =
+    (values ≡ assigned thorns settings) × (assign_fault thorns settings ≡ None)
 Assigns thorns settings (Err e) = (e ≡ Memory) ⊎ (assign_fault thorns settings ≡ Some e)
 
 -- ---- what is told of values
@@ -100,7 +107,8 @@ abbrev pub given_before : List Given → Seen
 given_before given n k = list_any (is_given n k) given
 
 abbrev pub held_in : List Given → ℕ → Slot → ℕ → Held
-held_in given n slot k = unwrap_or (option_map (λ g. g.held) (find (is_given n k) given)) slot.default
+held_in given n slot k =
+    unwrap_or (option_map (λ g. g.held) (find (is_given n k) given)) slot.default
 
 abbrev pub held_at : List Given → Option ℕ → ℕ → Option Slot → Option Held
 held_at given index n None = None
@@ -112,7 +120,8 @@ holds values index n = held_at values.given index n (slice_get values.slots n)
 
 -- the element of an index of a parameter, by its full name
 abbrev pub held_named : Values → List ℕ → Option ℕ → Option Held
-held_named values full index = option_and_then (holds values index) (position (λ s. same_name s.full full) values.slots)
+held_named values full index =
+    option_and_then (holds values index) (position (λ s. same_name s.full full) values.slots)
 
 abbrev pub get : Values → List ℕ → Option ℕ → Option Value
 get values full index = option_map (λ h. h.value) (held_named values full index)
@@ -136,7 +145,9 @@ abbrev pub used_as : List ℕ → List Use → Option ℕ
 used_as name uses = option_map (λ u. u.parameter) (find (λ u. same_name u.name name) uses)
 
 abbrev pub finds_in : Values → List Use → List ℕ → Option ℕ → Option Held
-finds_in values uses name index = option_and_then (holds values index) (or_else (used_as name uses) (used_as name values.globals))
+finds_in values uses name index =
+    option_and_then (holds values index) (or_else (used_as name uses) (used_as name values.globals))
 
 abbrev pub thorn_finds : Values → ℕ → List ℕ → Option ℕ → Known
-thorn_finds values t name index = known_held (option_and_then (λ uses. finds_in values uses name index) (slice_get values.uses t))
+thorn_finds values t name index =
+    known_held (option_and_then (λ uses. finds_in values uses name index) (slice_get values.uses t))

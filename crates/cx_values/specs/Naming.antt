@@ -4,7 +4,7 @@ use Rattle.std.specs.List.{flat_map, enumerate_from, starts_with}
 use Rattle.std.specs.Option.{option_map, option_and_then, unwrap_or}
 use Rattle.cx_text.specs.Lexemes.{same_name}
 use Rattle.cx_plan.specs.Lists.{or_else}
-use Rattle.cx_plan.specs.Names.{full_name}
+use Rattle.cx_plan.specs.Names.{full_name, with_owner}
 use Rattle.cx_parfile.specs.declared.settings.Setting.{Setting}
 use Rattle.cx_bind.specs.declared.thorns.Thorn.{Thorn}
 use Rattle.cx_bind.specs.declared.thorns.Param.{Param}
@@ -22,7 +22,9 @@ Names = List ℕ → Option ℕ
 
 -- the thorn of the provider with whose implementation a full name begins
 abbrev pub built_in_thorn : List ℕ → List ℕ
-built_in_thorn full = unwrap_or (option_map (λ p. p.thorn) (find (λ p. starts_with nat_eq full (full_name p.implementation [])) built_in)) []
+built_in_thorn full = unwrap_or
+    (option_map (λ p. p.thorn)
+    (find (λ p. starts_with nat_eq full (full_name p.implementation [])) built_in)) []
 
 abbrev pub thorn_name_of : Option Thorn → List ℕ → List ℕ
 thorn_name_of (Some t) full = t.name
@@ -44,9 +46,11 @@ name_if named name = if named then Some name else None
 -- the name that a way gives a parameter, if it gives one
 abbrev pub name_by : List Thorn → Way → Param → Option (List ℕ)
 name_by thorns Full p = Some p.full
-name_by thorns GlobalOfThorn p = name_if (is_global p.decl.scope) (full_name (thorn_name thorns p) p.decl.name)
+name_by thorns GlobalOfThorn p =
+    name_if (is_global p.decl.scope) (full_name (thorn_name thorns p) p.decl.name)
 name_by thorns Alone p = name_if (is_global p.decl.scope) p.decl.name
-name_by thorns RestrictedOfThorn p = name_if (is_restricted p.decl.scope) (full_name (thorn_name thorns p) p.decl.name)
+name_by thorns RestrictedOfThorn p =
+    name_if (is_restricted p.decl.scope) (full_name (thorn_name thorns p) p.decl.name)
 
 abbrev pub naming_of : ℕ → Option (List ℕ) → List Naming
 naming_of n None = []
@@ -58,11 +62,13 @@ naming thorns way p = naming_of p.0 (name_by thorns way p.1)
 abbrev pub namings_by : List Thorn → List (ℕ × Param) → Way → List Naming
 namings_by thorns ps way = flat_map (naming thorns way) ps
 
--- Full names go before all others. Then a global parameter is named by its thorn, and by its name alone, and last
--- a restricted one by its thorn.
+-- Full names go before all others. Then a global parameter is named by its thorn, and by its name
+-- alone, and last a restricted one by its thorn.
 abbrev pub namings : List Thorn → List (ℕ × Param) → List Naming
 namings thorns ps =
-    namings_by thorns ps Full ++ (namings_by thorns ps GlobalOfThorn ++ (namings_by thorns ps Alone ++ namings_by thorns ps RestrictedOfThorn))
+    namings_by thorns ps Full
+    ++ (namings_by thorns ps GlobalOfThorn
+    ++ (namings_by thorns ps Alone ++ namings_by thorns ps RestrictedOfThorn))
 
 -- of several parameters of a name the first counts
 abbrev pub named_in : List Naming → Names
@@ -70,7 +76,8 @@ named_in ns name = option_map (λ n. n.1) (find (λ n. same_name n.0 name) ns)
 
 -- a table of places gets these names, but for those that it has
 abbrev pub Adds : List Naming → List (List ℕ × ℕ) → List (List ℕ × ℕ) → Type 0
-Adds ns old new = (name : List ℕ) → place_of new name ≡ or_else (place_of old name) (named_in ns name)
+Adds ns old new = (name : List ℕ)
+    → place_of new name ≡ or_else (place_of old name) (named_in ns name)
 
 abbrev pub names_by : List Thorn → List Param → Names
 names_by thorns ps = named_in (namings thorns (enumerate_from 0 ps))
@@ -80,12 +87,8 @@ names thorns = names_by thorns (parameters thorns)
 
 -- ---- what a setting names
 
-abbrev pub written : Option (List ℕ) → List ℕ → List ℕ
-written None name = name
-written (Some owner) name = full_name owner name
-
--- The element that an index names: an array has one for each index below its length, and another parameter one without
--- an index.
+-- The element that an index names: an array has one for each index below its length, and another
+-- parameter one without an index.
 abbrev pub element : Option ℕ → Option ℕ → Option ℕ
 element None None = Some 0
 element None (Some k) = None
@@ -105,4 +108,4 @@ target_at ps index n = target_in index n (slice_get ps n)
 
 -- what a setting sets, if its name and its index name something
 abbrev pub target : List Param → Names → Setting → Option Target
-target ps names s = option_and_then (target_at ps s.index) (names (written s.owner s.name))
+target ps names s = option_and_then (target_at ps s.index) (names (with_owner s.owner s.name))

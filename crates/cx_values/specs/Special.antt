@@ -47,7 +47,8 @@ text_set ps names settings None = None
 text_set ps names settings (Some n) = first_of_each (text_by ps names n) settings
 
 abbrev pub checkpoint_dir : List Param → Names → List Setting → List ℕ
-checkpoint_dir ps names settings = unwrap_or (text_set ps names settings (names (codes "IO::checkpoint_dir"))) (codes ".")
+checkpoint_dir ps names settings =
+    unwrap_or (text_set ps names settings (names (codes "IO::checkpoint_dir"))) (codes ".")
 
 -- ---- values that are stated beside the ranges
 

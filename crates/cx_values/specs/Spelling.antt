@@ -17,7 +17,8 @@ use Rattle.cx_values.specs.declared.values.Held.{Held}
 -- a number of 64 signed bits: digits, or `-` and digits
 abbrev pub number_in : List ℕ → Option ℤ
 number_in [] = None
-number_in (b ∷ bs) = if b == 45 then option_map (λ n. neg_ℤ (pos n)) (natural_in lowest bs) else option_map (λ n. pos n) (natural_in highest (b ∷ bs))
+number_in (b ∷ bs) = if b == 45 then option_map (λ n. neg_ℤ (pos n)) (natural_in lowest bs)
+    else option_map (λ n. pos n) (natural_in highest (b ∷ bs))
 
 -- ---- flags
 
@@ -28,7 +29,8 @@ abbrev pub no_words : List (List ℕ)
 no_words = codes "no" ∷ codes "false" ∷ codes "n" ∷ codes "f" ∷ codes "0" ∷ []
 
 abbrev pub flag_in : List ℕ → Option Bool
-flag_in text = if among yes_words text then Some true else (if among no_words text then Some false else None)
+flag_in text = if among yes_words text then Some true
+    else (if among no_words text then Some false else None)
 
 -- ---- values
 
@@ -69,7 +71,8 @@ as_declared Real ranges v = v
 abbrev pub flag_number : Bool → ℤ
 flag_number b = if b then pos 1 else pos 0
 
--- the number of a value: an INT's own, 0 or 1 of a BOOLEAN, and of a KEYWORD its place among the words
+-- the number of a value: an INT's own, 0 or 1 of a BOOLEAN, and of a KEYWORD its place among the
+-- words
 abbrev pub number_by : PType → List Range → Value → Option ℤ
 number_by Int ranges (Number n) = Some n
 number_by Int ranges (Flag b) = None
@@ -84,7 +87,10 @@ number_by String ranges v = None
 number_by Real ranges v = None
 
 abbrev pub held : PType → List Range → Value → Held
-held ptype ranges v = record { value = as_declared ptype ranges v; number = number_by ptype ranges v }
+held ptype ranges v = record {
+  value = as_declared ptype ranges v;
+  number = number_by ptype ranges v;
+}
 
 -- what a parameter holds where a text gives its value
 abbrev pub held_by : PType → List Range → List ℕ → Held

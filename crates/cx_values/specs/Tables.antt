@@ -38,7 +38,9 @@ element_place table n k = lookup (λ key. n == key.0 && k == key.1) table
 
 -- an element gets a place, unless it has one
 abbrev pub Notes : ℕ × ℕ → ℕ → ElementPlaces → ElementPlaces → Type 0
-Notes key place old new = (n k : ℕ) → element_place new n k ≡ or_else (element_place old n k) (if key.0 == n && key.1 == k then Some place else None)
+Notes key place old new = (n k : ℕ)
+    → element_place new n k
+    ≡ or_else (element_place old n k) (if key.0 == n && key.1 == k then Some place else None)
 
 -- A table of elements finds the first that sets each of them.
 abbrev pub FindsGiven : List Given → ElementPlaces → Type 0

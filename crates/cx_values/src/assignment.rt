@@ -19,6 +19,7 @@ use cx_bind::{Bound, NamePlaces, Param, Thorn};
 use cx_parfile::{Setting, Settings};
 use std::alloc::Global;
 
+/// Checks defaults and settings and gives all parameters their values; `names` finds parameters by name.
 fn assign_by(
     alloc: Global,
     params: &[Param],

@@ -3,25 +3,33 @@
 ghost use Rattle.std.specs.Prelude.{◌≡◌};
 ghost use Rattle.cx_values.specs.declared.fault.ValueFault.TheVariants as faults;
 
-use cx_text::{Memory, Text};
+use cx_text::{Memory, OrDash, Text};
 use std::alloc::{AllocError, AllocFailed};
+use thiserror::Error;
 
 /// Why parameters can't have values. The numbers are lines of the parameter file.
-#[derive(Debug, Drop)]
+#[derive(Debug, Drop, Error)]
 pub enum ValueFault {
     /// The default of the parameter of this full name is no value, or lies outside the ranges of its own declaration.
+    #[error("BadDefault {}", OrDash(.0))]
     BadDefault(Text),
     /// A setting names no parameter.
+    #[error("UnknownParam {0}")]
     UnknownParam(u32),
     /// A setting names an array without an index, another parameter with one, or no element of an array.
+    #[error("Index {0}")]
     Index(u32),
     /// A setting's text spells no value of the parameter's type.
+    #[error("BadSpelling {0}")]
     BadSpelling(u32),
     /// A setting's value lies in no range of the parameter.
+    #[error("OutOfRange {0}")]
     OutOfRange(u32),
     /// A setting sets an element that an earlier one sets.
+    #[error("Twice {0}")]
     Twice(u32),
     /// Memory is wanting.
+    #[error("Memory")]
     Memory,
 }
 

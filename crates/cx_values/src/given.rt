@@ -65,6 +65,7 @@ fn held_set(alloc: Global, dir: &[u8], param: &Param, setting: &Setting) -> Resu
     Ok(held_value(alloc, param.decl.ptype, param.ranges.as_slice(), value)?)
 }
 
+/// Tests that no earlier setting sets this element of the parameter.
 fn check_new(given: &AllGiven, parameter: usize, element: u32, line: u32) -> Result<(), ValueFault>
     ensures { Tells faults.Memory (twice_fault (given_before given.now parameter element) line)
         result }
@@ -122,7 +123,7 @@ fn given_parameter(
     }
 }
 
-/// What a setting gives behind others.
+/// What a setting gives, where `given` is what earlier ones give; a fault if it can't be set.
 fn given_next(
     alloc: Global,
     params: &[Param],

@@ -25,6 +25,7 @@ pub(crate) fn element(length: Option<u32>, index: Option<u32>) -> Option<u32>
     }
 }
 
+/// The value that a setting gives an element; where nothing sets it, the parameter's default.
 fn held_in<'a>(given: &'a AllGiven, parameter: usize, slot: &'a Slot, element: u32) -> &'a Held
     ensures { result.now ≡ held_in given.now parameter slot.now element }
 {
@@ -45,6 +46,7 @@ fn used_by_any(uses: &Uses, globals: &Uses, name: &[u8]) -> Option<usize>
 }
 
 impl Values {
+    /// What a parameter holds, at an element if it is an array. None for an index that it doesn't have.
     fn find_held(&self, index: Option<u32>, parameter: usize) -> Option<&Held>
         ensures { option_copied result ≡ holds self.now index parameter }
     {
@@ -53,6 +55,7 @@ impl Values {
         Some(held_in(&self.given, parameter, slot, element))
     }
 
+    /// What the parameter of a full name holds, at an element if it is an array.
     fn find_by_name(&self, full: &Text, index: Option<u32>) -> Option<&Held>
         ensures { option_copied result ≡ held_named self.now full.now index }
     {
@@ -107,6 +110,7 @@ pub struct ThornView<'a> {
     pub thorn: u32,
 }
 
+/// The value as a routine sees it: a flag is the number 0 or 1.
 fn found_value(held: &Held) -> Found<'_>
     ensures { known result ≡ known_value held.now.value }
 {
@@ -118,6 +122,7 @@ fn found_value(held: &Held) -> Found<'_>
 }
 
 impl ThornView<'_> {
+    /// What the parameter holds that the thorn knows by this name, its own or one that it uses.
     fn find_held(&self, name: &Text, index: Option<u32>) -> Option<&Held>
         ensures { known_held (option_copied result)
             ≡ thorn_finds self.now.values.now self.now.thorn name.now index }
@@ -131,6 +136,7 @@ impl ThornView<'_> {
 impl Lookup for ThornView<'_> {
     ghost finds = { λ v name index. thorn_finds v.values.now v.thorn name index };
 
+    /// The value that the thorn knows by this name, at an element if the parameter is an array.
     fn find(&self, name: &Text, index: Option<u32>) -> Found<'_> {
         match self.find_held(name, index) {
             Some(held) => found_value(held),

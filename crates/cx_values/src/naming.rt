@@ -25,6 +25,7 @@ pub(crate) enum Way {
     RestrictedOfThorn,
 }
 
+/// Whether a parameter is restricted, so that a setting names it by its implementation or its thorn.
 fn is_restricted(scope: &Scope) -> bool
     ensures { result ≡ is_restricted scope.now }
 {
@@ -53,6 +54,7 @@ fn built_in_thorn(full: &[u8]) -> &'static [u8]
     }
 }
 
+/// The name of the thorn that declares a parameter, also where the thorn is built in.
 fn thorn_name<'a>(thorns: &'a [Thorn], param: &Param) -> &'a [u8]
     ensures { result.now ≡ thorn_name thorns.now param.now }
 {
@@ -80,6 +82,7 @@ fn name_of_thorn(
     Ok(Some(full_name(alloc, owner, param.decl.name.as_slice())?))
 }
 
+/// A copy of the name, where a setting may name the parameter by it alone.
 fn name_alone(alloc: Global, named: bool, name: &Text) -> Result<Option<Text>, Memory>
     ensures { IfOk result (λ alone. alone ≡ name_if named name.now) }
 {
@@ -118,6 +121,7 @@ pub(crate) fn add_name(
     places.insert(alloc, name, place)
 }
 
+/// Adds the name that a parameter has in one way of naming, if it has one.
 fn add_naming(
     alloc: Global,
     places: &mut NamePlaces,
@@ -135,6 +139,7 @@ fn add_naming(
     }
 }
 
+/// Adds the names that all parameters have in one way of naming.
 fn add_namings(
     alloc: Global,
     places: &mut NamePlaces,

@@ -4,8 +4,9 @@ ghost use Rattle.std.specs.Prelude.{◌≡◌, None, Some, codes, IfOk};
 ghost use Rattle.std.specs.Option.{option_copied, unwrap_or};
 ghost use Rattle.cx_plan.specs.Lists.{first_of_each};
 ghost use Rattle.cx_bind.specs.NamePlaces.{place_of};
-ghost use Rattle.cx_values.specs.Naming.{written, target_in, target};
+ghost use Rattle.cx_values.specs.Naming.{target_in, target};
 ghost use Rattle.cx_values.specs.Special.{is_target, sets, text_by, checkpoint_dir};
+ghost use Rattle.cx_plan.specs.Names.{with_owner};
 
 use crate::lookups::element;
 use cx_bind::{NamePlaces, Param, full_name};
@@ -15,7 +16,7 @@ use std::alloc::Global;
 
 /// The name of a setting as it is written.
 fn setting_name(alloc: Global, setting: &Setting) -> Result<Text, Memory>
-    ensures { IfOk result (λ name. name ≡ written setting.now.owner setting.now.name) }
+    ensures { IfOk result (λ name. name ≡ with_owner setting.now.owner setting.now.name) }
 {
     match &setting.owner {
         None => Text::from_slice(alloc, setting.name.as_slice()),
@@ -30,7 +31,7 @@ pub(crate) fn find_parameter(
     setting: &Setting,
 ) -> Result<Option<usize>, Memory>
     ensures { IfOk result
-        (λ place. place ≡ place_of names.now (written setting.now.owner setting.now.name)) }
+        (λ place. place ≡ place_of names.now (with_owner setting.now.owner setting.now.name)) }
 {
     let name = setting_name(alloc, setting)?;
     names.get(alloc, name.as_slice())
@@ -64,6 +65,7 @@ fn target(
     }
 }
 
+/// Whether a setting sets this element of this parameter.
 fn is_target(place: usize, element: u32, target: Option<(usize, u32)>) -> bool
     ensures { result ≡ is_target place element target }
 {
@@ -106,6 +108,7 @@ fn text_set<'a>(
     Ok(None)
 }
 
+/// A copy of the text, or `.` where there is none.
 fn text_or_here(alloc: Global, text: Option<&Text>) -> Result<Text, Memory>
     ensures { IfOk result (λ dir. dir ≡ unwrap_or (option_copied text.entry) (codes ".")) }
 {

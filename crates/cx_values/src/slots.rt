@@ -16,6 +16,7 @@ use cx_param::{ParamDecl, Range, Value, allows};
 use cx_text::{List, Memory, Text};
 use std::alloc::Global;
 
+/// The text of the declared default; empty for a use or an extension, which has none.
 fn default_text(decl: &ParamDecl) -> &[u8]
     ensures { result.now ≡ default_text decl.now }
 {
@@ -25,6 +26,7 @@ fn default_text(decl: &ParamDecl) -> &[u8]
     }
 }
 
+/// Whether there is a value and the ranges allow it.
 fn is_allowed(ranges: &List<Range>, value: &Option<Value>) -> bool
     ensures { result ≡ is_allowed ranges.now value.now }
 {
@@ -34,6 +36,7 @@ fn is_allowed(ranges: &List<Range>, value: &Option<Value>) -> bool
     }
 }
 
+/// Tests that a parameter's default is a value of its type in its own ranges, extensions left out.
 fn check_default(alloc: Global, param: &Param) -> Result<(), ValueFault>
     ensures { Tells faults.Memory (default_fault param.now) result }
 {
@@ -65,6 +68,7 @@ fn default_of<'a>(dir: &'a [u8], param: &'a Param) -> &'a [u8]
     }
 }
 
+/// What a parameter holds by default, with its full name and its array length.
 fn slot(alloc: Global, dir: &[u8], param: &Param) -> Result<Slot, Memory>
     ensures { IfOk result (λ one. one ≡ slot dir.now param.now) }
 {

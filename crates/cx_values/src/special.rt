@@ -19,6 +19,7 @@ fn is_width(word: &[u8]) -> bool
     word.is_empty() || natural_in(MAX_WIDTH, word).is_some()
 }
 
+/// Whether each part of the text is a width.
 fn are_widths(parts: &[&[u8]]) -> bool
     ensures { result ≡ list_all is_width (map (λ x. x.now) parts.now) }
 {
@@ -30,6 +31,7 @@ fn are_widths(parts: &[&[u8]]) -> bool
     true
 }
 
+/// Whether a text is a list of widths with blanks between them.
 fn is_widths(alloc: Global, text: &[u8]) -> Result<bool, Memory>
     ensures { IfOk result (λ widths. widths ≡ is_widths text.now) }
 {
@@ -37,6 +39,7 @@ fn is_widths(alloc: Global, text: &[u8]) -> Result<bool, Memory>
     Ok(are_widths(&parts))
 }
 
+/// Whether the values of a parameter are lists of widths: those of the driver for each direction.
 fn has_widths(full: &[u8]) -> bool
     ensures { result ≡ among widths_names full.now }
 {
@@ -55,6 +58,7 @@ pub(crate) fn is_misspelled(alloc: Global, full: &[u8], text: &[u8]) -> Result<b
     Ok(!is_widths(alloc, text)?)
 }
 
+/// Whether a value is this text, byte for byte.
 fn is_text(text: &[u8], value: &Value) -> bool
     ensures { result ≡ is_text text.now value.now }
 {
@@ -64,6 +68,7 @@ fn is_text(text: &[u8], value: &Value) -> bool
     }
 }
 
+/// Whether a value is the flag no.
 fn is_off(value: &Value) -> bool
     ensures { result ≡ is_off value.now }
 {

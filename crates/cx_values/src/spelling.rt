@@ -15,6 +15,7 @@ const HIGHEST: u64 = 9_223_372_036_854_775_807;
 
 const LOWEST: u64 = 9_223_372_036_854_775_808;
 
+/// The number of 64 signed bits that a text spells, with an optional minus sign.
 fn number_in(text: &[u8]) -> Option<i64>
     ensures { result ≡ number_in text.now }
 {
@@ -30,6 +31,7 @@ fn number_in(text: &[u8]) -> Option<i64>
     }
 }
 
+/// Whether a text spells yes in any of the five ways.
 fn is_yes(text: &[u8]) -> bool
     ensures { result ≡ among yes_words text.now }
 {
@@ -40,6 +42,7 @@ fn is_yes(text: &[u8]) -> bool
         || same_name(text, b"1")
 }
 
+/// Whether a text spells no in any of the five ways.
 fn is_no(text: &[u8]) -> bool
     ensures { result ≡ among no_words text.now }
 {
@@ -50,6 +53,7 @@ fn is_no(text: &[u8]) -> bool
         || same_name(text, b"0")
 }
 
+/// The flag that a text spells: yes, no or neither.
 fn flag_in(text: &[u8]) -> Option<bool>
     ensures { result ≡ flag_in text.now }
 {
@@ -84,6 +88,7 @@ pub(crate) fn value_of_text(
     }
 }
 
+/// Whether a range is the word that the text spells, in any case.
 fn is_word(text: &[u8], range: &Range) -> bool
     ensures { result ≡ is_word text.now range.now }
 {
@@ -93,12 +98,14 @@ fn is_word(text: &[u8], range: &Range) -> bool
     }
 }
 
+/// The first range that is the word which the text spells.
 fn word_in<'a>(text: &[u8], ranges: &'a [Range]) -> Option<&'a Range>
     ensures { option_copied result ≡ find (is_word text.now) ranges.now }
 {
     ranges.iter().find(|range| is_word(text, range))
 }
 
+/// The place among the ranges of the word that the text spells.
 fn place_of_word(text: &[u8], ranges: &[Range]) -> Option<usize>
     ensures { result ≡ position (is_word text.now) ranges.now }
 {
@@ -115,6 +122,7 @@ fn declared(alloc: Global, text: Text, ranges: &[Range]) -> Result<Text, Memory>
     }
 }
 
+/// The value; a keyword is spelled as its declaration spells it.
 fn as_declared(alloc: Global, ptype: PType, ranges: &[Range], value: Value) -> Result<Value, Memory>
     ensures { IfOk result (λ stated. stated ≡ as_declared ptype ranges.now value) }
 {
@@ -124,6 +132,7 @@ fn as_declared(alloc: Global, ptype: PType, ranges: &[Range], value: Value) -> R
     }
 }
 
+/// The place of a keyword's word among its ranges, as a number.
 fn number_of_word(text: &[u8], ranges: &[Range]) -> Option<i64>
     requires { length ranges.now < 2 ^ 63 }
     ensures { result ≡ option_map (λ k. pos k) (position (is_word text.now) ranges.now) }
@@ -134,6 +143,7 @@ fn number_of_word(text: &[u8], ranges: &[Range]) -> Option<i64>
     }
 }
 
+/// The value as a number: a keyword's place among its words, 0 or 1 for a flag. A text has none.
 fn number_by(ptype: PType, ranges: &[Range], value: &Value) -> Option<i64>
     requires { length ranges.now < 2 ^ 63 }
     ensures { result ≡ number_by ptype ranges.now value.now }

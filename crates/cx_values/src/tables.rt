@@ -33,6 +33,7 @@ impl Model for Slots {
     ghost invariant = { λ slots. FindsSlots slots.list slots.places };
 }
 
+/// Where the slot of each full name is; of equal names the first counts.
 fn places_of_slots(alloc: Global, slots: &[Slot]) -> Result<NamePlaces, Memory>
     ensures { IfOk result (λ places. FindsSlots slots.now places) }
 {
@@ -44,6 +45,7 @@ fn places_of_slots(alloc: Global, slots: &[Slot]) -> Result<NamePlaces, Memory>
 }
 
 impl Slots {
+    /// The slots, with where the one of each full name is.
     pub(crate) fn new(alloc: Global, list: List<Slot>) -> Result<Self, Memory>
         ensures { IfOk result (λ slots. slots ≡ list) }
     {
@@ -86,6 +88,7 @@ impl Model for Uses {
     ghost invariant = { λ uses. FindsUses uses.list uses.places };
 }
 
+/// Which parameter each name means; of equal names the first counts.
 fn places_of_uses(alloc: Global, uses: &[Use]) -> Result<NamePlaces, Memory>
     ensures { IfOk result (λ places. FindsUses uses.now places) }
 {
@@ -97,6 +100,7 @@ fn places_of_uses(alloc: Global, uses: &[Use]) -> Result<NamePlaces, Memory>
 }
 
 impl Uses {
+    /// The uses, with which parameter each name means.
     pub(crate) fn new(alloc: Global, list: List<Use>) -> Result<Self, Memory>
         ensures { IfOk result (λ uses. uses ≡ list) }
     {
@@ -121,6 +125,7 @@ impl Uses {
 
 type ElementPlaces = IndexMap<(usize, u32), usize>;
 
+/// The place of what settings give to an element of a parameter.
 fn place_of_element(places: &ElementPlaces, parameter: usize, element: u32) -> Option<usize>
     ensures { result ≡ element_place places.now.entries parameter element }
 {
@@ -158,6 +163,7 @@ impl Model for AllGiven {
     ghost invariant = { λ given. FindsGiven given.list given.places.entries };
 }
 
+/// What a setting gives at a place of the list.
 fn given_at(given: &[Given], place: usize) -> Option<&Given>
     ensures { option_copied result ≡ slice_get given.now place }
 {
@@ -165,6 +171,7 @@ fn given_at(given: &[Given], place: usize) -> Option<&Given>
 }
 
 impl AllGiven {
+    /// A list in which no setting has given anything yet.
     pub(crate) fn new(alloc: Global) -> Self
         ensures { result ≡ [] }
     {
@@ -205,7 +212,7 @@ impl AllGiven {
         self.place(parameter, element).is_some()
     }
 
-    /// These, and one more behind them.
+    /// These, and one more at the end.
     pub(crate) fn with(self, one: Given) -> Result<Self, Memory>
         ensures { IfOk result (λ more. more ≡ self ++ one ∷ []) }
     {

@@ -15,6 +15,7 @@ use cx_param::ParamDecl;
 use cx_text::{List, Memory, Text};
 use std::alloc::Global;
 
+/// Adds the name by which a thorn uses a parameter.
 fn push_use(
     alloc: Global,
     uses: &mut List<Use>,
@@ -29,6 +30,7 @@ fn push_use(
     })
 }
 
+/// Adds the name of a parameter that the thorn declares; nothing if another one declares it.
 fn push_own(
     alloc: Global,
     uses: &mut List<Use>,
@@ -70,6 +72,7 @@ fn name_of_use(decl: &ParamDecl) -> &Text
     }
 }
 
+/// Adds the name by which a line of the thorn's param file uses or extends a parameter.
 fn push_shared(
     alloc: Global,
     uses: &mut List<Use>,
@@ -107,6 +110,7 @@ fn push_all_shared(
     Ok(())
 }
 
+/// The names by which a thorn uses parameters: its own, and then those that it shares.
 fn uses_of(
     alloc: Global,
     params: &[Param],
@@ -142,6 +146,7 @@ pub(crate) fn all_uses(
     Ok(all)
 }
 
+/// Adds the name of a global parameter, by which each thorn can use it.
 fn push_global(
     alloc: Global,
     globals: &mut List<Use>,

@@ -39,23 +39,36 @@ module _ (setup : Setup) where
     none_tree (Call k) = none_item (item setup k).kind k
     none_tree (Sync vars path) = none_sync vars path 0 setup.shape.dims
     none_tree (If' v path shape one) = (refl, none_row one)
-    none_tree (While' v path shape one) = (refl, (refl, none_both (row_code setup one) (op.Again (suc (length (row_code setup one))) ∷ []) (none_row one) (refl, tt)))
+    none_tree (While' v path shape one) = (
+      refl,
+      (
+        refl,
+        none_both (row_code setup one) (op.Again (suc (length (row_code setup one))) ∷ [])
+            (none_row one) (refl, tt),
+      ),
+    )
 
     none_row : {m : _} → (row : Row_of-Tree m) → NoSkip (row_code setup row)
     none_row end_of-Tree = tt
-    none_row (more_of-Tree tree rest) = none_both (tree_code setup tree) (row_code setup rest) (none_tree tree) (none_row rest)
+    none_row (more_of-Tree tree rest) =
+        none_both (tree_code setup tree) (row_code setup rest) (none_tree tree) (none_row rest)
 
   none_bins : (bs : List ℕ) → NoSkip (bins_code setup bs)
   none_bins [] = tt
-  none_bins (b ∷ bs) = none_both (tree_code setup (bin setup b)) (bins_code setup bs) (none_tree (bin setup b)) (none_bins bs)
+  none_bins (b ∷ bs) = none_both (tree_code setup (bin setup b)) (bins_code setup bs)
+      (none_tree (bin setup b)) (none_bins bs)
 
-behind_none : (a rest : List Op) (count : ℕ) → NoSkip a → landed (a ++ op.Skip count ∷ rest) ≡ length a + count
+behind_none : (a rest : List Op) (count : ℕ) → NoSkip a
+    → landed (a ++ op.Skip count ∷ rest) ≡ length a + count
 behind_none [] rest count h = let e : count ≡ 0 + count = omega arith in e
 behind_none (o ∷ os) rest count h =
     let e : suc (length os + count) ≡ suc (length os) + count = omega arith in
-    ap (λ x. landing x (landed (os ++ op.Skip count ∷ rest))) h.0 ∙ ap suc (behind_none os rest count h.1) ∙ e
+    ap (λ x. landing x (landed (os ++ op.Skip count ∷ rest))) h.0
+    ∙ ap suc (behind_none os rest count h.1) ∙ e
 
 pub lands : (setup : Setup) → landed (code setup) ≡ analysis_place setup
 lands setup =
-    behind_none (start_code setup) (loop_code setup ++ end_code setup) (suc (length (before_code setup)))
-    (none_bins setup (STARTUP ∷ WRAGH ∷ PARAMCHECK ∷ BASEGRID ∷ INITIAL ∷ POSTINITIAL ∷ POSTSTEP ∷ []))
+    behind_none (start_code setup) (loop_code setup ++ end_code setup)
+    (suc (length (before_code setup)))
+    (none_bins setup (STARTUP ∷ WRAGH ∷ PARAMCHECK ∷ BASEGRID ∷ INITIAL ∷ POSTINITIAL ∷ POSTSTEP
+    ∷ []))

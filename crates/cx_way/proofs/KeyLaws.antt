@@ -10,7 +10,8 @@ use Rattle.cx_flat.proofs.WayLaws.{less_trans, less_never}
 use Rattle.cx_flat.proofs.AtLaws.{rises_at}
 use Rattle.cx_way.specs.Keys.{InOrder}
 
-module _ (setup : Setup) (scalars : Scalars) (first : Control) (most : ℕ) (way : WayEnds setup first most scalars) where
+module _ (setup : Setup) (scalars : Scalars) (first : Control) (most : ℕ)
+    (way : WayEnds setup first most scalars) where
   abbrev at : ℕ → Control
   at n = way_from setup (code setup) scalars n first
 
@@ -24,7 +25,8 @@ module _ (setup : Setup) (scalars : Scalars) (first : Control) (most : ℕ) (way
   climbs (suc d) m l =
       let e : suc (suc d + m) ≡ suc (suc d) + m = omega arith in
       subst (λ n. Less (key (at m)) (key (at n))) e
-      (less_trans (key (at m)) (key (at (suc d + m))) (key (at (suc (suc d + m)))) (climbs d m (omega arith)) (rises (suc d + m) (omega arith)))
+      (less_trans (key (at m)) (key (at (suc d + m))) (key (at (suc (suc d + m))))
+      (climbs d m (omega arith)) (rises (suc d + m) (omega arith)))
 
   above : (m n : ℕ) → n ≤ way.count → m < n → Less (key (at m)) (key (at n))
   above m n l h =
@@ -36,8 +38,11 @@ module _ (setup : Setup) (scalars : Scalars) (first : Control) (most : ℕ) (way
       elim (cases_lt m n) [
         | inl less ↦ less
         | inr past ↦ absurd (elim (cases_lt n m) [
-          | inl more ↦ less_never (key (at m)) (less_trans (key (at m)) (key (at n)) (key (at m)) h (above n m l more))
-          | inr same ↦ less_never (key (at m)) (let e : n ≡ m = omega (arith, past, same) in subst (λ k. Less (key (at m)) (key (at k))) e h)
+          | inl more ↦ less_never (key (at m))
+              (less_trans (key (at m)) (key (at n)) (key (at m)) h (above n m l more))
+          | inr same ↦ less_never (key (at m))
+              (let e : n ≡ m = omega (arith, past, same) in
+              subst (λ k. Less (key (at m)) (key (at k))) e h)
         ])
       ]
 

@@ -8,10 +8,12 @@ use Rattle.cx_flat.specs.Code.{op_at, code, analysis_place}
 use Rattle.cx_flat.specs.Flats.{Opened, Control, control_after}
 use Rattle.cx_flat.specs.Ways.{Scalars, way_from, at_place}
 
--- what a run can come to from its start, or from ANALYSIS of an iteration, whatever the scalars are before each operation
+-- what a run can come to from its start, or from ANALYSIS of an iteration, whatever the scalars are
+-- before each operation
 pub data IsReached (setup : Setup) : Control → Type 0 where
   starts : {c : Control} → c ≡ at_place 0 0 → IsReached setup c
-  continues : {c : Control} (n : ℕ) → n ≤ setup.itlast → c ≡ at_place (analysis_place setup) n → IsReached setup c
+  continues : {c : Control} (n : ℕ) → n ≤ setup.itlast → c ≡ at_place (analysis_place setup) n
+      → IsReached setup c
   follows : {c : Control} (before : Control) (scalars : VarId → ℤ) → IsReached setup before
       → c ≡ control_after setup (op_at (code setup) before.pc) scalars before → IsReached setup c
 
@@ -26,7 +28,8 @@ pub record Fits (setup : Setup) (ops : List Op) (c : Control) : Type 0 where
   pub depth : length c.opened ≤ most_open
   pub turns : All (λ (o : Opened). o.turns ≤ setup.while_limit) c.opened
 
--- there are far fewer than 2^32 operations, each place that is reached fits, and each place of a way is reached
+-- there are far fewer than 2^32 operations, each place that is reached fits, and each place of a
+-- way is reached
 pub record PlacesFit (setup : Setup) : Type 0 where
   pub few : length (code setup) < 2 ^ 31
   pub fit : (c : Control) → IsReached setup c → Fits setup (code setup) c

@@ -58,7 +58,7 @@ pub(crate) fn comes_before(mine: &[OpenWhile], here: u32, theirs: &[OpenWhile], 
     }
 }
 
-/// The same for a place where no WHILE is open.
+/// Whether a place where no `WHILE` is open comes before another one with its open `WHILE`s.
 fn before_any(here: u32, theirs: &[OpenWhile], there: u32) -> bool
     ensures { IsTrue result ↔ Less (opened_key [] here) (opened_key (all_opened theirs.now) there) }
 {

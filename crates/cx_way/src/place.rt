@@ -13,9 +13,10 @@ ghost use Rattle.cx_way.specs.Steps.{IsReached, IsTested};
 
 use crate::opened::{OpenWhile, are_same, comes_before, last_turns};
 use crate::skips::landing_place;
-use arrayvec::ArrayVec;
 use cx_flat::Op;
 use cx_plan::{Job, is_due, is_written};
+use smallvec::SmallVec;
+use std::alloc::Global;
 use std::marker::Model;
 
 /// Where a part stands in a run: before which operation, in which iteration, and in which turn of each WHILE that is open, of
@@ -24,10 +25,11 @@ use std::marker::Model;
 pub struct Place {
     pc: u32,
     iteration: u64,
-    opened: ArrayVec<OpenWhile, 32>,
+    opened: SmallVec<OpenWhile, 32>,
 }
 
 impl Model for Place {
+    ghost use Rattle.std.specs.Prelude.{◌≤◌};
     ghost use Rattle.cx_flat.specs.Flats.{Control};
     ghost use Rattle.cx_way.specs.Seen.{all_opened};
 
@@ -38,29 +40,31 @@ impl Model for Place {
       iteration = p.iteration;
       opened = all_opened p.opened.items;
     } };
+
+    ghost invariant = { λ p. 32 ≤ p.opened.capacity };
 }
 
 impl Place {
     /// The beginning of a run.
-    pub fn start() -> Self
+    pub fn start(alloc: Global) -> Self
         ensures { result ≡ at_place 0 0 }
     {
         Place {
             pc: 0,
             iteration: 0,
-            opened: ArrayVec::new(),
+            opened: SmallVec::new(alloc),
         }
     }
 
     /// ANALYSIS of an iteration, where a run is continued from a checkpoint. `ops` are the operations of the job.
-    pub fn at_analysis(ops: &[Op], iteration: u64) -> Self
+    pub fn at_analysis(alloc: Global, ops: &[Op], iteration: u64) -> Self
         ensures { (job : Job) → IsWhole job → ops.now ≡ code (setup_of job)
             → result ≡ at_place (analysis_place (setup_of job)) iteration }
     {
         Place {
             pc: landing_place(ops),
             iteration,
-            opened: ArrayVec::new(),
+            opened: SmallVec::new(alloc),
         }
     }
 
@@ -107,6 +111,7 @@ impl Place {
         }
     }
 
+    /// Goes on to the next operation.
     fn step(&mut self)
         requires { self.old.pc + 1 < 2 ^ 32 }
         ensures { self.new ≡ next self.old }
@@ -114,6 +119,7 @@ impl Place {
         self.pc += 1;
     }
 
+    /// Goes on to a later operation, so many further on.
     fn skip(&mut self, count: u32)
         requires { self.old.pc + count < 2 ^ 32 }
         ensures { self.new ≡ to self.old (self.old.pc + count) }
@@ -121,6 +127,7 @@ impl Place {
         self.pc += count;
     }
 
+    /// Goes on to the next operation, or skips so many.
     fn step_or_skip(&mut self, goes_on: bool, count: u32)
         requires next { self.old.pc + 1 < 2 ^ 32 }
         requires out { goes_on ≡ false → self.old.pc + count < 2 ^ 32 }
@@ -134,18 +141,20 @@ impl Place {
         }
     }
 
+    /// Opens a `WHILE` that has had no pass yet.
     fn open(&mut self)
         requires room { length self.old.opened < 32 }
         requires pc { self.old.pc + 1 < 2 ^ 32 }
         ensures { self.new ≡ opens self.old }
     {
         self.pc += 1;
-        self.opened.push(OpenWhile {
+        self.opened.push_reserved(OpenWhile {
             place: self.pc,
             turns: 0,
         });
     }
 
+    /// Closes the innermost `WHILE`, and goes on after it.
     fn leave(&mut self, count: u32)
         requires { self.old.pc + count < 2 ^ 32 }
         ensures { self.new ≡ leaves_loop self.old (self.old.pc + count) }
@@ -154,6 +163,7 @@ impl Place {
         self.pc += count;
     }
 
+    /// Begins a pass of the innermost `WHILE`, or leaves it: at a scalar of 0, or after the most passes.
     fn turn(&mut self, job: &Job, count: u32, scalar: i64)
         requires next { self.old.pc + 1 < 2 ^ 32 }
         requires out { self.old.pc + count < 2 ^ 32 }
@@ -166,6 +176,7 @@ impl Place {
         }
     }
 
+    /// Ends a pass of the innermost `WHILE`, counts it and goes back to its test.
     fn turn_back(&mut self, count: u32)
         requires depth { length self.old.opened ≤ 32 }
         requires turns { last_turns self.old.opened + 1 < 2 ^ 64 }
@@ -173,11 +184,12 @@ impl Place {
     {
         self.pc = self.pc.saturating_sub(count);
         match self.opened.pop() {
-            Some(open) => self.opened.push(open.turned()),
+            Some(open) => self.opened.push_reserved(open.turned()),
             None => {}
         }
     }
 
+    /// Goes back to begin the next iteration; after the last one it goes on.
     fn iterate(&mut self, job: &Job, count: u32)
         requires { self.old.pc + 1 < 2 ^ 32 }
         ensures { self.new ≡ iterates (setup_of job.now) self.old (self.old.pc - count) }
@@ -190,6 +202,7 @@ impl Place {
         }
     }
 
+    /// Goes on into an `IF`, or skips it where the scalar is 0.
     fn test(&mut self, count: u32, scalar: i64)
         requires next { self.old.pc + 1 < 2 ^ 32 }
         requires out { self.old.pc + count < 2 ^ 32 }

@@ -27,7 +27,7 @@ fn landed(ops: &[Op]) -> usize
     ops.len()
 }
 
-/// The same as the number of an operation, of which a job has far fewer than 2^32.
+/// Where the first jump leads, as the number of an operation, of which a job has far fewer than 2^32.
 pub(crate) fn landing_place(ops: &[Op]) -> u32
     ensures { landed ops.now < 2 ^ 32 → result ≡ landed ops.now }
 {

@@ -21,7 +21,8 @@ abbrev pub first_low : Side → List ℤ → Option ℤ
 first_low Low values = slice_get values 0
 first_low High values = None
 
--- the value of a mail that is to be altered: while none was, the first one that part 0 sends by its low face
+-- the value of a mail that is to be altered: while none was, the first one that part 0 sends by its
+-- low face
 abbrev pub due : Altering → ℕ → Mail → Option ℤ
 due w from mail =
     if w.altered then None else (if from == 0 then first_low mail.head.side mail.values else None)
@@ -39,8 +40,10 @@ abbrev pub is_due : Option ℤ → Bool
 is_due None = false
 is_due (Some first) = true
 
--- A mail goes on with 1 added to the value that is to be altered. After an error nothing has changed.
-abbrev pub Alters : {T F : Type 0} → (old new : Altering) → (from to : ℕ) → Mail → Result T F → Type 0
+-- A mail goes on with 1 added to the value that is to be altered. After an error nothing has
+-- changed.
+abbrev pub Alters : {T F : Type 0} → (old new : Altering) → (from to : ℕ) → Mail → Result T F
+    → Type 0
 Alters old new from to mail (Ok x) =
     Gains (queue_of old.wire) (queue_of new.wire) from to (one_added (due old from mail) mail)
     × (new.altered ≡ (old.altered || is_due (due old from mail)))

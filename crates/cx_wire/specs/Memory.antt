@@ -45,4 +45,9 @@ carried_sum_fits w = mod_below w.sum (2 ^ 64) (omega arith)
 
 -- a wire that has carried nothing
 abbrev pub new_wire : ℕ → Carried
-new_wire parts = record { parts = parts; queues = replicate (parts * parts) []; received = 0; sum = 0 }
+new_wire parts = record {
+  parts = parts;
+  queues = replicate (parts * parts) [];
+  received = 0;
+  sum = 0;
+}

@@ -1,5 +1,5 @@
--- Messages as contracts see them. What a wire doesn't tell is a function from whether it tells: of a wire that tells nothing it says
--- nothing.
+-- Messages as contracts see them. What a wire doesn't tell is a function from whether it tells: of
+-- a wire that tells nothing it says nothing.
 use Rattle.std.specs.Prelude.{◌≡◌, ℤ, List, [], ◌∷◌, length, Option, Some, None}
 use Rattle.cx_wire.specs.declared.mail.Head.{Head}
 use Rattle.cx_wire.specs.declared.mail.Mail.{Mail}

@@ -7,11 +7,6 @@ use Rattle.std.proofs.Common.{arith}
 abbrev pub counted : ℕ → ℕ → ℕ
 counted count values = max count (min (count + values) (2 ^ 64 - 1))
 
--- the values together, each taken modulo 2^64
-abbrev pub sum_of : List ℤ → ℕ
-sum_of [] = 0
-sum_of (n ∷ ns) = cast_unsigned w64 n + sum_of ns
-
 pub counted_none : (count : ℕ) → count ≡ counted count 0
 counted_none count = omega arith
 

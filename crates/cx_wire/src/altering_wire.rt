@@ -3,9 +3,10 @@ ghost use Rattle.std.specs.Prelude.{◌≡◌, ◌<◌, ◌+◌, ◌%◌, ◌^�
 ghost use Rattle.cx_disk.specs.Cause.{HasCause};
 ghost use Rattle.cx_wire.specs.Messages.{sent, IsCounted};
 ghost use Rattle.cx_wire.specs.Queues.{Gains, Loses, SameQueues, fault_alone};
-ghost use Rattle.cx_wire.specs.Received.{counted, sum_of};
+ghost use Rattle.cx_wire.specs.Received.{counted};
 ghost use Rattle.cx_wire.specs.Memory.{queue_of, bare_queue, carried_sum};
 ghost use Rattle.cx_wire.specs.Altering.{altering_wire, due, with_first, Alters};
+ghost use Rattle.cx_text.specs.Numbers.{word_sum};
 
 use crate::mail::{Head, Mail};
 use crate::memory_wire::MemoryWire;
@@ -89,6 +90,7 @@ impl Wire for AlteringWire {
 
     ghost sum_fits = { λ w _. carried_sum_fits w.wire };
 
+    /// Sends mail; the first value of the one mail that is due arrives greater by one.
     fn send(&mut self, from: u32, to: u32, mail: Mail) -> Result<(), (WireFault, Mail)>
         requires from { from < self.old.wire.parts }
         requires to { to < self.old.wire.parts }
@@ -119,10 +121,12 @@ impl Wire for AlteringWire {
         }
     }
 
+    /// The head of the mail that is received next.
     fn front(&self, from: u32, to: u32) -> Option<Head> {
         self.wire.front(from, to)
     }
 
+    /// Receives mail as the wire in memory has it.
     fn receive(&mut self, from: u32, to: u32) -> Result<Mail, WireFault>
         requires from { from < self.old.wire.parts }
         requires to { to < self.old.wire.parts }
@@ -139,7 +143,7 @@ impl Wire for AlteringWire {
         ensures received { IfOk result (λ mail.
             self.new.wire.received ≡ counted self.old.wire.received mail.head.count) }
         ensures added { IfOk result (λ mail. carried_sum self.new.wire
-            ≡ (carried_sum self.old.wire + sum_of mail.values) % 2 ^ 64) }
+            ≡ (carried_sum self.old.wire + word_sum mail.values) % 2 ^ 64) }
         ensures same { OnErr result (self.new.wire.received ≡ self.old.wire.received) }
         ensures same_sum { OnErr result (carried_sum self.new.wire ≡ carried_sum self.old.wire) }
         ensures cause { HasCause WireFault.Failed 0 0 result }

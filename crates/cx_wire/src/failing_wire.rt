@@ -3,9 +3,10 @@ ghost use Rattle.std.specs.Prelude.{◌≡◌, ◌<◌, ◌≤◌, ◌+◌, ◌%
 ghost use Rattle.cx_disk.specs.Cause.{Rose, HasCause};
 ghost use Rattle.cx_wire.specs.Messages.{sent, IsCounted};
 ghost use Rattle.cx_wire.specs.Queues.{Gains, Loses, SameQueues, fault_alone};
-ghost use Rattle.cx_wire.specs.Received.{counted, sum_of};
+ghost use Rattle.cx_wire.specs.Received.{counted};
 ghost use Rattle.cx_wire.specs.Memory.{told_queue, carried_sum};
 ghost use Rattle.cx_wire.specs.Failing.{FailsNext, FailsAt, failing_wire, failed, passed};
+ghost use Rattle.cx_text.specs.Numbers.{word_sum};
 
 use crate::mail::{Head, Mail};
 use crate::memory_wire::MemoryWire;
@@ -82,6 +83,7 @@ impl Wire for FailingWire {
 
     ghost sum_fits = { λ w _. carried_sum_fits w.wire };
 
+    /// Sends mail, but at a call that is to fail nothing is sent and the mail comes back.
     fn send(&mut self, from: u32, to: u32, mail: Mail) -> Result<(), (WireFault, Mail)>
         requires from { from < self.old.wire.parts }
         requires to { to < self.old.wire.parts }
@@ -104,10 +106,12 @@ impl Wire for FailingWire {
         self.wire.send(from, to, mail)
     }
 
+    /// The head of the mail that is received next; it counts as no call.
     fn front(&self, from: u32, to: u32) -> Option<Head> {
         self.wire.front(from, to)
     }
 
+    /// Receives mail, but at a call that is to fail the mail stays in its queue.
     fn receive(&mut self, from: u32, to: u32) -> Result<Mail, WireFault>
         requires from { from < self.old.wire.parts }
         requires to { to < self.old.wire.parts }
@@ -122,7 +126,7 @@ impl Wire for FailingWire {
         ensures received { IfOk result (λ mail.
             self.new.wire.received ≡ counted self.old.wire.received mail.head.count) }
         ensures added { IfOk result (λ mail. carried_sum self.new.wire
-            ≡ (carried_sum self.old.wire + sum_of mail.values) % 2 ^ 64) }
+            ≡ (carried_sum self.old.wire + word_sum mail.values) % 2 ^ 64) }
         ensures same { OnErr result (self.new.wire.received ≡ self.old.wire.received) }
         ensures same_sum { OnErr result (carried_sum self.new.wire ≡ carried_sum self.old.wire) }
         ensures cause { HasCause WireFault.Failed self.old.faults self.new.faults result }

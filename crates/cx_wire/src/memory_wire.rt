@@ -145,15 +145,18 @@ impl Wire for MemoryWire {
 
     ghost sum_fits = { λ w _. carried_sum_fits w };
 
+    /// Adds mail to the queue from one part to the other.
     fn send(&mut self, from: u32, to: u32, mail: Mail) -> Result<(), (WireFault, Mail)> {
         let at = number(from, to, self.parts);
         add_to(&mut self.queues, at, mail)
     }
 
+    /// The head of the first mail of the queue.
     fn front(&self, from: u32, to: u32) -> Option<Head> {
         self.queues[number(from, to, self.parts)].front()
     }
 
+    /// Takes the first mail of the queue, and counts its values.
     fn receive(&mut self, from: u32, to: u32) -> Result<Mail, WireFault> {
         let at = number(from, to, self.parts);
         let mail = take_from(&mut self.queues, at);

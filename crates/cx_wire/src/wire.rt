@@ -3,16 +3,20 @@ ghost use Rattle.std.specs.Prelude.{◌≡◌, ◌<◌, ◌+◌, ◌%◌, ◌^�
 ghost use Rattle.cx_disk.specs.Cause.{HasCause};
 ghost use Rattle.cx_wire.specs.Messages.{Sent, sent, front_head, IsCounted};
 ghost use Rattle.cx_wire.specs.Queues.{Gains, Loses, SameQueues, fault_alone};
-ghost use Rattle.cx_wire.specs.Received.{counted, sum_of};
+ghost use Rattle.cx_wire.specs.Received.{counted};
+ghost use Rattle.cx_text.specs.Numbers.{word_sum};
 
 use crate::mail::{Head, Mail};
+use thiserror::Error;
 
 /// Why a call of a wire did nothing.
-#[derive(Clone, Copy, Debug, PartialEq, Eq)]
+#[derive(Clone, Copy, Debug, Error, PartialEq, Eq)]
 pub enum WireFault {
     /// The wire failed. Its count of faults has risen in this call, or stands at 2^64 - 1.
+    #[error("Failed")]
     Failed,
     /// Memory was wanting.
+    #[error("Memory")]
     Memory,
 }
 
@@ -81,7 +85,7 @@ pub trait Wire {
         ensures received { IfOk result
             (λ mail. received self.new ≡ counted (received self.old) mail.head.count) }
         ensures added { IsTrue tells → IfOk result
-            (λ mail. sum self.new ≡ (sum self.old + sum_of mail.values) % 2 ^ 64) }
+            (λ mail. sum self.new ≡ (sum self.old + word_sum mail.values) % 2 ^ 64) }
         ensures same { OnErr result (received self.new ≡ received self.old) }
         ensures same_sum { IsTrue tells → OnErr result (sum self.new ≡ sum self.old) }
         ensures cause { HasCause WireFault.Failed (faults self.old) (faults self.new) result }

@@ -1,6 +1,6 @@
 //! Disks that fail, and what a crash may leave of them.
 
-use cx_disk::{Disk, DiskFault, FailingDisk, FuseDisk, MemoryDisk, put};
+use cx_disk::{Disk, DiskFault, FailingDisk, FuseDisk, MemoryDisk, OLD_OUTPUT, put};
 use cx_text::{List, Memory, Text};
 use std::alloc::Global;
 use std::test::Fail;
@@ -13,33 +13,33 @@ const OLD: &[u8] = b"0123";
 
 const NEW: &[u8] = b"abcd";
 
-// Mounts a disk, and writes three times to the beginning of the output. Tells which writes were done.
+/// Mounts a disk, and writes three times to the beginning of the output. Tells which writes were done.
 fn three_writes<D: Disk>(alloc: Global, disk: &mut D) -> Result<[bool; 3], DiskFault> {
     let folder = Text::new(Vec::new(alloc));
-    disk.mount(&folder, &folder)?;
-    let first = disk.write_at(8, 0, b"a").is_ok();
-    let second = disk.write_at(8, 0, b"b").is_ok();
-    let third = disk.write_at(8, 0, b"c").is_ok();
+    disk.mount(&folder, &List::empty(alloc), &folder)?;
+    let first = disk.write_at(OLD_OUTPUT, 0, b"a").is_ok();
+    let second = disk.write_at(OLD_OUTPUT, 0, b"b").is_ok();
+    let third = disk.write_at(OLD_OUTPUT, 0, b"c").is_ok();
     Ok([first, second, third])
 }
 
-// Mounts a disk, writes to slot 0, and then to the output, which it syncs.
+/// Mounts a disk, writes to slot 0, and then to the output, which it syncs.
 fn one_synced<D: Disk>(alloc: Global, disk: &mut D) -> Result<(), DiskFault> {
     let folder = Text::new(Vec::new(alloc));
-    disk.mount(&folder, &folder)?;
+    disk.mount(&folder, &List::empty(alloc), &folder)?;
     disk.write_at(0, 0, b"loose")?;
-    put(disk, 8, 0, b"synced")
+    put(disk, OLD_OUTPUT, 0, b"synced")
 }
 
-// Mounts a disk, writes over the beginning of slot 0, and cuts slot 1.
+/// Mounts a disk, writes over the beginning of slot 0, and cuts slot 1.
 fn write_and_cut<D: Disk>(alloc: Global, disk: &mut D) -> Result<(), DiskFault> {
     let folder = Text::new(Vec::new(alloc));
-    disk.mount(&folder, &folder)?;
+    disk.mount(&folder, &List::empty(alloc), &folder)?;
     disk.write_at(0, 0, NEW)?;
     disk.cut(1, 0)
 }
 
-// The disk of three writes, of which one fails, and which of them were done.
+/// The disk of three writes, of which one fails, and which of them were done.
 fn after_failure(alloc: Global, fail: u64) -> Result<(MemoryDisk, [bool; 3]), Fail> {
     let mut calls = List::empty(alloc);
     calls.push(fail)?;
@@ -48,14 +48,14 @@ fn after_failure(alloc: Global, fail: u64) -> Result<(MemoryDisk, [bool; 3]), Fa
     Ok((disk.into_inner(), done))
 }
 
-// An image of a disk with slot 0 written and the output synced.
+/// An image of a disk with slot 0 written and the output synced.
 fn synced_image(alloc: Global, choice: u64) -> Result<MemoryDisk, Fail> {
     let mut disk = FuseDisk::new(MemoryDisk::new(alloc, List::empty(alloc)), 9);
     one_synced(alloc, &mut disk)?;
     Ok(disk.into_image(choice)?)
 }
 
-// Two files with the old bytes.
+/// Two files with the old bytes.
 fn two_files(alloc: Global) -> Result<List<Text>, Memory> {
     let mut files = List::empty(alloc);
     files.push(Text::from_slice(alloc, OLD)?)?;
@@ -63,7 +63,7 @@ fn two_files(alloc: Global) -> Result<List<Text>, Memory> {
     Ok(files)
 }
 
-// An image of a disk with slot 0 written over and slot 1 cut.
+/// An image of a disk with slot 0 written over and slot 1 cut.
 fn torn_image(alloc: Global, choice: u64) -> Result<MemoryDisk, Fail> {
     let mut disk = FuseDisk::new(MemoryDisk::new(alloc, two_files(alloc)?), 9);
     write_and_cut(alloc, &mut disk)?;
@@ -83,7 +83,11 @@ fn failing_disk_goes_on(rt: HostRuntime) -> Result<(), Fail> {
     for (fail, done, bytes) in cases {
         let (disk, found) = after_failure(alloc, *fail)?;
         assert!(rt; found == *done, "call {fail} fails");
-        assert_eq!(rt; disk.bytes(8), *bytes, "call {fail} fails");
+        assert_eq!(rt;
+            disk.bytes(OLD_OUTPUT as usize),
+            *bytes,
+            "call {fail} fails"
+        );
     }
     Ok(())
 }
@@ -95,7 +99,11 @@ fn image_has_what_is_synced(rt: HostRuntime) -> Result<(), Fail> {
     for (choice, bytes) in cases {
         let image = synced_image(alloc, *choice)?;
         assert_eq!(rt; image.bytes(0), *bytes, "choice {choice}");
-        assert_eq!(rt; image.bytes(8), b"synced".as_slice(), "choice {choice}");
+        assert_eq!(rt;
+            image.bytes(OLD_OUTPUT as usize),
+            b"synced".as_slice(),
+            "choice {choice}"
+        );
     }
     Ok(())
 }
@@ -115,9 +123,9 @@ fn image_is_torn(rt: HostRuntime) -> Result<(), Fail> {
         torn |= bytes != OLD && bytes != NEW;
         between |= (1..4).contains(&image.bytes(1).len());
     }
-    assert!(rt; untouched);
-    assert!(rt; written);
-    assert!(rt; torn);
-    assert!(rt; between);
+    assert!(rt; untouched, "some image is untouched");
+    assert!(rt; written, "some image is written");
+    assert!(rt; torn, "some image is torn");
+    assert!(rt; between, "some cut is between");
     Ok(())
 }

@@ -21,7 +21,8 @@ record Span (n g low high : ℤ) : Type 0 where
   some : low <ℤ high
   wide : (low +ℤ g) ≤ℤ high
 
-span : (n g : ℤ) (ws : List ℕ) (a : ℕ) → IsAxisCut n g ws → a < length ws → Span n g (own_low ws a) (own_high ws a)
+span : (n g : ℤ) (ws : List ℕ) (a : ℕ) → IsAxisCut n g ws → a < length ws
+    → Span n g (own_low ws a) (own_high ws a)
 span n g ws a w l =
     let more = start_more ws a l in
     let end = start_le ws (suc a) in
@@ -75,22 +76,26 @@ module _ (c : Parts) (w : IsWhole c) (k : ℕ) (hk : k < part_count c) where
           local_is = ap (λ (q : PatchValue). q.local) is;
           direction = hd;
           stored = record { levels = levels; differ = λ i j d a b. absurd (omega (arith, a, b)) };
-          few = λ side. let small = face_small c.shape (owned c k) (local c k) part_is d h3 side in omega (arith, small);
+          few = λ side. let small = face_small c.shape (owned c k) (local c k) part_is d h3 side in
+              omega (arith, small);
         }
 
 -- a patch with other numbers is still that of the part
-pub still : (c : Parts) (k : ℕ) (old new : PatchValue) → with_numbers new old.numbers ≡ old → IsPartOf c k old → IsPartOf c k new
+pub still : (c : Parts) (k : ℕ) (old new : PatchValue) → with_numbers new old.numbers ≡ old
+    → IsPartOf c k old → IsPartOf c k new
 still c k old new e is = ap (λ (p : PatchValue). with_numbers p []) e ∙ is
 
 -- one part more
-pub one_more : (c : Parts) (n : ℕ) (ps : List PatchValue) (p : PatchValue) → AreParts c n ps → IsPartOf c n p → AreParts c (n + 1) (ps ++ p ∷ [])
+pub one_more : (c : Parts) (n : ℕ) (ps : List PatchValue) (p : PatchValue) → AreParts c n ps
+    → IsPartOf c n p → AreParts c (n + 1) (ps ++ p ∷ [])
 one_more c n ps p are is =
     record {
       count = let count = are.count in length-append ps (p ∷ []) ∙ omega (arith, count);
       each = λ k d l. go k d l (cases_eq k n);
     }
   where
-    go : (k : ℕ) (d : PatchValue) → k < n + 1 → (k ≡ n) ⊎ (k ≡ n → ⊥) → IsPartOf c k (slice_index_or (ps ++ p ∷ []) k d)
+    go : (k : ℕ) (d : PatchValue) → k < n + 1 → (k ≡ n) ⊎ (k ≡ n → ⊥)
+        → IsPartOf c k (slice_index_or (ps ++ p ∷ []) k d)
     go k d l (inl e) =
         let count = are.count in
         let at_end : length ps + 0 ≡ k = omega (arith, count, e) in
@@ -103,14 +108,16 @@ one_more c n ps p are is =
         rw (get_or-append ps (p ∷ []) d k short) (are.each k d below)
 
 -- one patch changed
-pub one_changed : (c : Parts) (n k : ℕ) (ps : List PatchValue) (p : PatchValue) → AreParts c n ps → IsPartOf c k p → AreParts c n (slice_set ps k p)
+pub one_changed : (c : Parts) (n k : ℕ) (ps : List PatchValue) (p : PatchValue) → AreParts c n ps
+    → IsPartOf c k p → AreParts c n (slice_set ps k p)
 one_changed c n k ps p are is =
     record {
       count = length-set ps k p ∙ are.count;
       each = λ i d l. go i d l (cases_eq i k);
     }
   where
-    go : (i : ℕ) (d : PatchValue) → i < n → (i ≡ k) ⊎ (i ≡ k → ⊥) → IsPartOf c i (slice_index_or (slice_set ps k p) i d)
+    go : (i : ℕ) (d : PatchValue) → i < n → (i ≡ k) ⊎ (i ≡ k → ⊥)
+        → IsPartOf c i (slice_index_or (slice_set ps k p) i d)
     go i d l (inl e) =
         let count = are.count in
         let short : k < length ps = omega (arith, l, e, count) in
@@ -123,7 +130,8 @@ have_cells c n ps are k d l =
     ap (λ (q : PatchValue). q.vars) (are.each k d (omega (arith, count, l)))
 
 -- a patch of the list is that of its part
-pub part_at : (c : Parts) (n : ℕ) (ps : List PatchValue) → AreParts c n ps → (k : ℕ) → k < n → (p : PatchValue) → p ≡ slice_index_or ps k p → IsPartOf c k p
+pub part_at : (c : Parts) (n : ℕ) (ps : List PatchValue) → AreParts c n ps → (k : ℕ) → k < n
+    → (p : PatchValue) → p ≡ slice_index_or ps k p → IsPartOf c k p
 part_at c n ps are k l p e = subst (λ (q : PatchValue). IsPartOf c k q) (sym e) (are.each k p l)
 
 pub none_gives : {X P : Type 0} (o : Option X) → is_some o ≡ false → IfNone o P → P

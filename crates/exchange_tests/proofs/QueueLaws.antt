@@ -13,7 +13,8 @@ use Rattle.cx_ghost.proofs.RoundLaws.{posts_are_needed}
 use Rattle.exchange_tests.specs.Parts.{cell, Told, told_queue, HoldsFaces, Holds, EmptyTo, EmptyFrom}
 
 -- while part k posts
-pub posted : (c : Parts) (d k : ℕ) (values : Side → IsTrue true → List ℤ) (old new : ℕ → ℕ → List Told) → k < part_count c → Holds c d old → EmptyFrom c k old
+pub posted : (c : Parts) (d k : ℕ) (values : Side → IsTrue true → List ℤ)
+    (old new : ℕ → ℕ → List Told) → k < part_count c → Holds c d old → EmptyFrom c k old
     → Adds k (posted_faces c k d cell 0 values) old new → Holds c d new
 posted c d k values old new hk holds empty adds a b hb = go (cases_eq a k)
   where
@@ -23,35 +24,43 @@ posted c d k values old new hk holds empty adds a b hb = go (cases_eq a k)
         let none = empty a b hb (omega (arith, e)) in
         let added = adds a b in
         let is = rw (here, none) at added in
-        inr (subst (λ i. i < part_count c) (sym e) hk, values, is ∙ ap (λ i. posted_faces c i d cell 0 values b) (sym e))
+        inr (
+          subst (λ i. i < part_count c) (sym e) hk,
+          values,
+          is ∙ ap (λ i. posted_faces c i d cell 0 values b) (sym e),
+        )
     go (inr m) =
         let off : (a == k) ≡ false = ne_eqb a k m in
         let added = adds a b in
         let same = rw off at added in
         subst (λ q. HoldsFaces c d a b q) (sym (same ∙ append-nil (old a b))) (holds a b hb)
 
-pub behind_posted : (c : Parts) (k : ℕ) (sent : ℕ → List Told) (old new : ℕ → ℕ → List Told) → EmptyFrom c k old → Adds k sent old new → EmptyFrom c (k + 1) new
+pub behind_posted : (c : Parts) (k : ℕ) (sent : ℕ → List Told) (old new : ℕ → ℕ → List Told)
+    → EmptyFrom c k old → Adds k sent old new → EmptyFrom c (k + 1) new
 behind_posted c k sent old new empty adds a b hb l =
     let off : (a == k) ≡ false = ne_eqb a k (λ e. omega (arith, l, e)) in
     let added = adds a b in
     let same = rw off at added in
     same ∙ append-nil (old a b) ∙ empty a b hb (omega (arith, l))
 
-pub empty_more : (c : Parts) (n m : ℕ) (q : ℕ → ℕ → List Told) → n ≤ m → EmptyFrom c n q → EmptyFrom c m q
+pub empty_more : (c : Parts) (n m : ℕ) (q : ℕ → ℕ → List Told) → n ≤ m → EmptyFrom c n q
+    → EmptyFrom c m q
 empty_more c n m q l empty a b hb h = empty a b hb (omega (arith, l, h))
 
 pub empty_holds : (c : Parts) (d : ℕ) (q : ℕ → ℕ → List Told) → EmptyFrom c 0 q → Holds c d q
 empty_holds c d q empty a b hb = inl (empty a b hb (omega arith))
 
 -- part k may take
-pub ready : (c : Parts) → IsWhole c → (d k : ℕ) → d < c.shape.dims → k < part_count c → (q : ℕ → ℕ → List Told) → Holds c d q → IsReady c k d cell q
+pub ready : (c : Parts) → IsWhole c → (d k : ℕ) → d < c.shape.dims → k < part_count c
+    → (q : ℕ → ℕ → List Told) → Holds c d q → IsReady c k d cell q
 ready c w d k hd hk q holds a = go (holds a k hk)
   where
     go : HoldsFaces c d a k (q a k) → (q a k ≡ []) ⊎ BeginsWith c a d cell (needed c k d a) (q a k)
     go (inl e) = inl e
     go (inr (ha, values, e)) =
         let meets = posts_are_needed c w d hd a k ha hk cell 0 values [] in
-        inr (subst (λ xs. BeginsWith c a d cell (needed c k d a) xs) (append-nil _ ∙ sym e) meets.begins)
+        inr (subst (λ xs. BeginsWith c a d cell (needed c k d a) xs) (append-nil _ ∙ sym e)
+        meets.begins)
 
 abbrev nothing : List Told
 nothing = []
@@ -60,12 +69,14 @@ drop_none : (n : ℕ) → drop n nothing ≡ nothing
 drop_none zero = refl
 drop_none (suc n) = refl
 
-pub taken : (c : Parts) → IsWhole c → (d k : ℕ) → d < c.shape.dims → k < part_count c → (old new : ℕ → ℕ → List Told) → Holds c d old → EmptyTo c k old → TakesNeeded c k d old new
+pub taken : (c : Parts) → IsWhole c → (d k : ℕ) → d < c.shape.dims → k < part_count c
+    → (old new : ℕ → ℕ → List Told) → Holds c d old → EmptyTo c k old → TakesNeeded c k d old new
     → EmptyTo c (k + 1) new
 taken c w d k hd hk old new holds empty takes a b hb l = go (cases_eq b k)
   where
     gone : HoldsFaces c d a k (old a k) → drop (length (needed c k d a)) (old a k) ≡ []
-    gone (inl e) = ap (λ xs. drop (length (needed c k d a)) xs) e ∙ drop_none (length (needed c k d a))
+    gone (inl e) = ap (λ xs. drop (length (needed c k d a)) xs) e
+        ∙ drop_none (length (needed c k d a))
     gone (inr (ha, values, e)) =
         let meets = posts_are_needed c w d hd a k ha hk cell 0 values [] in
         ap (λ xs. drop (length (needed c k d a)) xs) (e ∙ sym (append-nil _)) ∙ meets.leaves
@@ -82,7 +93,8 @@ taken c w d k hd hk old new holds empty takes a b hb l = go (cases_eq b k)
         let same = rw off at t in
         same ∙ empty a b hb (omega (arith, l, m))
 
-pub still_holds : (c : Parts) (d k : ℕ) (old new : ℕ → ℕ → List Told) → Holds c d old → EmptyTo c (k + 1) new → TakesNeeded c k d old new → Holds c d new
+pub still_holds : (c : Parts) (d k : ℕ) (old new : ℕ → ℕ → List Told) → Holds c d old
+    → EmptyTo c (k + 1) new → TakesNeeded c k d old new → Holds c d new
 still_holds c d k old new holds empty takes a b hb = go (cases_eq b k)
   where
     go : (b ≡ k) ⊎ (b ≡ k → ⊥) → HoldsFaces c d a b (new a b)
@@ -107,7 +119,8 @@ blank (suc m) (suc i) = blank m i
 pub empty_wire : (c : Parts) (n : ℕ) → EmptyFrom c 0 (told_queue (new_wire n))
 empty_wire c n a b hb l = go (nat_lt a n && nat_lt b n)
   where
-    go : (v : Bool) → map sent (if v then slice_index_or (replicate (n * n) no_mail) (a * n + b) [] else []) ≡ nothing
+    go : (v : Bool) → map sent
+        (if v then slice_index_or (replicate (n * n) no_mail) (a * n + b) [] else []) ≡ nothing
     go true = ap (λ xs. map sent xs) (blank (n * n) (a * n + b))
     go false = refl
 

@@ -73,7 +73,8 @@ told_queue w = sent_queue w
 abbrev pub HoldsFaces : Parts → ℕ → ℕ → ℕ → List Told → Type 0
 HoldsFaces c d a b q =
     (q ≡ [])
-    ⊎ ((a < part_count c) × (values : Side → IsTrue true → List ℤ) × (q ≡ posted_faces c a d cell 0 values b))
+    ⊎ ((a < part_count c) × (values : Side → IsTrue true → List ℤ)
+    × (q ≡ posted_faces c a d cell 0 values b))
 
 abbrev pub Holds : Parts → ℕ → (ℕ → ℕ → List Told) → Type 0
 Holds c d q = (a b : ℕ) → b < part_count c → HoldsFaces c d a b (q a b)

@@ -48,14 +48,6 @@ const RINGS: &[(&[u32], &[i64])] = &[
     ),
 ];
 
-#[test]
-fn ghosts_hold_the_neighbours_numbers(rt: HostRuntime) -> Result<(), Fail> {
-    for (x, want) in RINGS {
-        assert_eq!(rt; ring_shown(rt.alloc(), x)?.as_slice(), *want);
-    }
-    Ok(())
-}
-
 /// Whether all local points of all parts have their numbers.
 fn are_true(patches: &Vec<Patch>) -> bool
     requires { HaveCells patches.now.items }
@@ -78,8 +70,12 @@ fn block_is_true(alloc: Global) -> Result<bool, Fail> {
 }
 
 #[test]
-fn corners_of_27_parts_are_true(rt: HostRuntime) -> Result<(), Fail> {
-    assert!(rt; block_is_true(rt.alloc())?);
+fn ghosts_hold_the_neighbours_numbers(rt: HostRuntime) -> Result<(), Fail> {
+    for (x, want) in RINGS {
+        let shown = ring_shown(rt.alloc(), x)?;
+        assert_eq!(rt; shown.as_slice(), *want, "parts of {x:?} points");
+    }
+    assert!(rt; block_is_true(rt.alloc())?, "corners of 27 parts");
     Ok(())
 }
 
@@ -109,9 +105,10 @@ const MISSED: &[(&[u32], (u32, u32), Option<(u32, u32)>)] = &[
 ];
 
 #[test]
-fn take_tells_the_first_message_that_is_missing(rt: HostRuntime) -> Result<(), Fail> {
+fn take_reports_the_first_message_that_is_missing(rt: HostRuntime) -> Result<(), Fail> {
     for (x, senders, want) in MISSED {
-        assert_eq!(rt; missed(rt.alloc(), x, *senders)?, *want);
+        let found = missed(rt.alloc(), x, *senders)?;
+        assert_eq!(rt; found, *want, "parts of {x:?} points, senders {senders:?}");
     }
     Ok(())
 }

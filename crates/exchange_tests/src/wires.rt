@@ -62,18 +62,12 @@ fn pair(values: &[i64]) -> Option<[i64; 2]> {
 fn a_wire_counts_what_it_gives_out(rt: HostRuntime) -> Result<(), Fail> {
     let alloc = rt.alloc();
     let mut wire = MemoryWire::new(alloc, 2)?;
-    assert_eq!(rt;
-        through(alloc, &mut wire, Side::Low, [-1, 3])?,
-        Some([-1, 3])
-    );
-    assert_eq!(rt; wire.received(), 2);
-    assert_eq!(rt; wire.received_sum(), 2);
-    assert_eq!(rt;
-        through(alloc, &mut wire, Side::High, [-4, 1])?,
-        Some([-4, 1])
-    );
-    assert_eq!(rt; wire.received(), 4);
-    assert_eq!(rt; wire.received_sum(), u64::MAX);
+    let first = through(alloc, &mut wire, Side::Low, [-1, 3])?;
+    let counted = (first, wire.received(), wire.received_sum());
+    assert_eq!(rt; counted, (Some([-1, 3]), 2, 2), "the first mail");
+    let second = through(alloc, &mut wire, Side::High, [-4, 1])?;
+    let counted = (second, wire.received(), wire.received_sum());
+    assert_eq!(rt; counted, (Some([-4, 1]), 4, u64::MAX), "the second mail");
     Ok(())
 }
 
@@ -81,12 +75,11 @@ fn a_wire_counts_what_it_gives_out(rt: HostRuntime) -> Result<(), Fail> {
 fn a_wire_alters_one_value(rt: HostRuntime) -> Result<(), Fail> {
     let alloc = rt.alloc();
     let mut wire = AlteringWire::new(MemoryWire::new(alloc, 2)?);
-    assert_eq!(rt;
-        through(alloc, &mut wire, Side::High, [5, 6])?,
-        Some([5, 6])
-    );
-    assert_eq!(rt; through(alloc, &mut wire, Side::Low, [5, 6])?, Some([6, 6]));
-    assert_eq!(rt; through(alloc, &mut wire, Side::Low, [5, 6])?, Some([5, 6]));
+    let high = through(alloc, &mut wire, Side::High, [5, 6])?;
+    let low = through(alloc, &mut wire, Side::Low, [5, 6])?;
+    let next = through(alloc, &mut wire, Side::Low, [5, 6])?;
+    let want = [Some([5, 6]), Some([6, 6]), Some([5, 6])];
+    assert_eq!(rt; [high, low, next], want, "three mails");
     Ok(())
 }
 
@@ -95,13 +88,13 @@ fn a_wire_fails_at_some_calls(rt: HostRuntime) -> Result<(), Fail> {
     let alloc = rt.alloc();
     let fail = List::new(Vec::from_array(alloc, [0, 2])?);
     let mut wire = FailingWire::new(MemoryWire::new(alloc, 2)?, fail);
-    assert_eq!(rt; through(alloc, &mut wire, Side::Low, [1, 2])?, None);
-    assert_eq!(rt; through(alloc, &mut wire, Side::Low, [3, 4])?, None);
-    assert_eq!(rt; wire.front(0, 1), Some(head(Side::Low)));
-    assert_eq!(rt;
-        through(alloc, &mut wire, Side::High, [5, 6])?,
-        Some([3, 4])
-    );
+    let unsent = through(alloc, &mut wire, Side::Low, [1, 2])?;
+    let kept = through(alloc, &mut wire, Side::Low, [3, 4])?;
+    assert_eq!(rt; (unsent, kept), (None, None), "calls that fail");
+    let front = wire.front(0, 1);
+    assert_eq!(rt; front, Some(head(Side::Low)), "the mail that is kept");
+    let got = through(alloc, &mut wire, Side::High, [5, 6])?;
+    assert_eq!(rt; got, Some([3, 4]), "the kept mail comes first");
     Ok(())
 }
 
@@ -112,6 +105,6 @@ fn a_wire_notes_what_is_sent(rt: HostRuntime) -> Result<(), Fail> {
     through(alloc, &mut wire, Side::High, [1, 2])?;
     through(alloc, &mut wire, Side::Low, [1, 2])?;
     let want = [(0, 1, head(Side::High)), (0, 1, head(Side::Low))];
-    assert_eq!(rt; wire.notes().as_slice(), want.as_slice());
+    assert_eq!(rt; wire.notes().as_slice(), want.as_slice(), "two mails");
     Ok(())
 }

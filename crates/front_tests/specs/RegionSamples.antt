@@ -1,5 +1,5 @@
 -- The jobs of tests: a wave on a line of six points, and a scalar.
-use Rattle.std.specs.Prelude.{ℕ, zero, suc, ◌∷◌, [], List, Bool, false, true, pos, negsuc, codes}
+use Rattle.std.specs.Prelude.{ℕ, zero, suc, ◌∷◌, [], List, Bool, false, true, pos, negsuc, None, codes}
 use Rattle.cx_text.specs.declared.ctype.CType.TheVariants.{Int8}
 use Rattle.cx_plan.specs.declared.variable.VarId.{VarId}
 use Rattle.cx_plan.specs.declared.variable.VarInfo.{VarInfo}
@@ -24,7 +24,16 @@ touch v level region reach = record { var = v; level = level; region = region; r
 
 abbrev pub item_of : ItemKind → List Touch → List Touch → Item
 item_of kind reads writes =
-    record { thorn = codes "W"; name = codes "w"; path = codes "EVOL/w"; kind = kind; routine = 0; reads = reads; writes = writes; params = [] }
+    record {
+      thorn = codes "W";
+      name = codes "w";
+      path = codes "EVOL/w";
+      kind = kind;
+      routine = 0;
+      reads = reads;
+      writes = writes;
+      params = [];
+    }
 
 -- what is known of a variable of bytes
 abbrev pub info_of : List ℕ → Bool → ℕ → VarInfo
@@ -34,12 +43,16 @@ abbrev pub sample_variables : List VarInfo
 sample_variables =
     info_of (codes "phi") false 3 ∷ info_of (codes "on") true 1 ∷ []
 
--- the switch is set; the wave begins; it takes a step; its boundary is set by what is within, and alone
+-- the switch is set; the wave begins; it takes a step; its boundary is set by what is within, and
+-- alone
 abbrev pub sample_items : List Item
 sample_items =
-    item_of Scalar [] (touch switch 0 Everywhere 0 ∷ []) ∷ item_of Cell [] (touch wave 0 Everywhere 0 ∷ touch wave 1 Everywhere 0 ∷ [])
-    ∷ item_of Cell (touch wave 1 Everywhere 1 ∷ touch wave 2 Interior 0 ∷ []) (touch wave 0 Interior 0 ∷ [])
-    ∷ item_of Cell (touch wave 0 Interior 0 ∷ []) (touch wave 0 Boundary 0 ∷ []) ∷ item_of Cell [] (touch wave 0 Boundary 0 ∷ []) ∷ []
+    item_of Scalar [] (touch switch 0 Everywhere 0 ∷ [])
+    ∷ item_of Cell [] (touch wave 0 Everywhere 0 ∷ touch wave 1 Everywhere 0 ∷ [])
+    ∷ item_of Cell (touch wave 1 Everywhere 1 ∷ touch wave 2 Interior 0 ∷ [])
+    (touch wave 0 Interior 0 ∷ [])
+    ∷ item_of Cell (touch wave 0 Interior 0 ∷ []) (touch wave 0 Boundary 0 ∷ [])
+    ∷ item_of Cell [] (touch wave 0 Boundary 0 ∷ []) ∷ []
 
 abbrev pub nothing : Tree
 nothing = Seq []
@@ -48,14 +61,29 @@ nothing = Seq []
 abbrev pub sample : Tree → Tree → Job
 sample initial evol =
     record {
-      shape = record { dims = 1; n = record { x = pos 6; y = pos 1; z = pos 1 }; ghost_ = record { x = pos 1; y = pos 0; z = pos 0 }; periodic = false ∷ false ∷ false ∷ [] };
+      shape = record {
+        dims = 1;
+        n = record { x = pos 6; y = pos 1; z = pos 1 };
+        ghost_ = record { x = pos 1; y = pos 0; z = pos 0 };
+        periodic = false ∷ false ∷ false ∷ [];
+      };
       vars = sample_variables;
       items = sample_items;
-      plan = record { bins = nothing ∷ nothing ∷ nothing ∷ nothing ∷ initial ∷ nothing ∷ nothing ∷ evol ∷ nothing ∷ nothing ∷ nothing ∷ nothing ∷ nothing ∷ nothing ∷ nothing ∷ nothing ∷ nothing ∷ [] };
+      steers = [];
+      plan =
+          record {
+            bins = nothing ∷ nothing ∷ nothing ∷ nothing ∷ initial ∷ nothing ∷ nothing ∷ evol
+                ∷ nothing ∷ nothing ∷ nothing ∷ nothing ∷ nothing ∷ nothing ∷ nothing ∷ nothing
+                ∷ nothing
+                ∷ [];
+          };
       cut = record { x = []; y = []; z = [] };
       itlast = 8;
       while_limit = 8;
       lead = 1;
+      balance = false;
+      weight = None;
+      weight_factor = 1;
       out_every = pos 1;
       out_vars = wave ∷ [];
       chk_every = negsuc 0;

@@ -4,79 +4,19 @@ use crate::common::{Files, text, thorns};
 use cx_bind::{BindFault, bind, select};
 use cx_conf::read_thornlist;
 use cx_text::{List, Style, Text, tokens};
+use sample_files::{control, diffint, elemca, life2d, waveint};
 use std::alloc::Global;
 use std::test::Fail;
 
-const ELEMCA: Files = (
-    b"ElemCA",
-    br#"implements: ca
-public:
-CCTK_BYTE cells TYPE=GF DIM=1 { cell } "cells"
-CCTK_INT counts TYPE=SCALAR { live } "live cells"
-"#,
-    br#"restricted:
-INT rule "Wolfram's number" { 0:255 :: "any" } 90
-INT start "the one cell" { 0:* :: "place" } 0
-INT seed "random start" { -1 :: "one cell" 0:* :: "mixed" } -1
-"#,
-    b"",
-);
+const ELEMCA: Files = (b"ElemCA", elemca::INTERFACE, elemca::PARAM, b"");
 
-/// The parameters of a field of whole numbers.
-const FIELD: &[u8] = br#"restricted:
-INT factor "in 256ths" { 0:* :: "" } 64
-KEYWORD pattern "start" { "point" "uniform" "alternate" "random" } "point"
-INT amount "height" { *:* :: "" } 8
-INT start "place" { 0:* :: "" } 0
-INT seed "mixing" { 0:* :: "" } 0
-INT edge "boundary value" { *:* :: "" } 0
-BOOLEAN sum "print the sum" { } "no"
-"#;
+const WAVE: Files = (b"WaveInt", waveint::INTERFACE, waveint::PARAM, b"");
 
-const WAVE: Files = (
-    b"WaveInt",
-    br#"implements: wave
-public:
-CCTK_INT evolved TYPE=GF DIM=1 TIMELEVELS=3 { phi } "field"
-CCTK_INT sums TYPE=SCALAR { total } "sum"
-"#,
-    FIELD,
-    b"",
-);
+const HEAT: Files = (b"DiffInt", diffint::INTERFACE, diffint::PARAM, b"");
 
-const HEAT: Files = (
-    b"DiffInt",
-    br#"implements: diff
-public:
-CCTK_INT evolved TYPE=GF DIM=1 { u } "field"
-CCTK_INT sums TYPE=SCALAR { total } "sum"
-"#,
-    FIELD,
-    b"",
-);
+const LIFE: Files = (b"Life2D", life2d::INTERFACE, life2d::PARAM, b"");
 
-const LIFE: Files = (
-    b"Life2D",
-    br#"implements: life
-public:
-CCTK_BYTE cells TYPE=GF DIM=2 { cell } "cells"
-CCTK_INT counts TYPE=SCALAR { live } "live cells"
-"#,
-    br#"restricted:
-INT born { 0:511 } 8
-INT survive { 0:511 } 12
-KEYWORD pattern { "glider" "random" } "glider"
-INT seed { 0:* } 0
-"#,
-    b"",
-);
-
-const CONTROL: Files = (
-    b"Control",
-    b"implements: control\npublic:\nCCTK_INT counter TYPE=SCALAR { count } \"turns left\"\n",
-    b"restricted:\nINT turns { 0:* } 3\nINT drop { 0:* } 1\n",
-    b"",
-);
+const CONTROL: Files = (b"Control", control::INTERFACE, control::PARAM, b"");
 
 /// Thorns, and the words of their fault, or nothing where they are bound.
 const BINDINGS: &[(&[Files], &str)] = &[
@@ -241,9 +181,9 @@ fn bound_words(alloc: Global, all: &[Files]) -> Result<Text, Fail> {
 
 #[test]
 fn thorns_fit_or_have_their_first_fault(rt: HostRuntime) -> Result<(), Fail> {
-    for (all, want) in BINDINGS {
+    for (place, (all, want)) in BINDINGS.iter().enumerate() {
         let told = bound_words(rt.alloc(), all)?;
-        assert_eq!(rt; told.as_slice(), want.as_bytes(), "{want}");
+        assert_eq!(rt; told.as_slice(), want.as_bytes(), "row {place}: {want}");
     }
     Ok(())
 }
@@ -277,14 +217,18 @@ fn active_thorns_have_one_place_each(rt: HostRuntime) -> Result<(), Fail> {
         (&[b"driver"], "UnknownThorn driver"),
     ];
     for (active, want) in cases {
-        assert_eq!(rt;
-            selected(alloc, active)?.as_slice(),
-            want.as_bytes(),
-            "{want}"
-        );
+        let told = selected(alloc, active)?;
+        assert_eq!(rt; told.as_slice(), want.as_bytes(), "{want}");
     }
     Ok(())
 }
+
+/// Places of parameters, their names and their thorns; the built-in thorns come after the five of the test.
+const PARAMETERS: &[(usize, &str, u32)] = &[
+    (0, "Cactus::cctk_itlast", 5),
+    (33, "ca::rule", 0),
+    (52, "E::own", 4),
+];
 
 #[test]
 fn sample_thorns_have_their_variables_and_parameters(rt: HostRuntime) -> Result<(), Fail> {
@@ -303,20 +247,20 @@ fn sample_thorns_have_their_variables_and_parameters(rt: HostRuntime) -> Result<
     for info in bound.variables().as_slice() {
         push(&mut names, &info.full)?;
     }
-    assert_eq!(rt;
-        names.as_slice(),
-        b" ca::cell ca::live wave::phi wave::total diff::u diff::total control::count".as_slice()
-    );
+    let want: &[u8] =
+        b" ca::cell ca::live wave::phi wave::total diff::u diff::total control::count";
+    assert_eq!(rt; names.as_slice(), want, "variables");
     let parameters = bound.parameters().as_slice();
-    assert_eq!(rt; parameters.len(), 53);
-    assert_eq!(rt;
-        parameters[0].full.as_slice(),
-        b"Cactus::cctk_itlast".as_slice()
-    );
-    assert_eq!(rt; parameters[0].thorn, 5);
-    assert_eq!(rt; parameters[33].full.as_slice(), b"ca::rule".as_slice());
-    assert_eq!(rt; parameters[33].ranges.len(), 2);
-    assert_eq!(rt; parameters[52].full.as_slice(), b"E::own".as_slice());
-    assert_eq!(rt; parameters[52].thorn, 4);
+    assert_eq!(rt; parameters.len(), 53, "how many parameters");
+    assert_eq!(rt; parameters[33].ranges.len(), 2, "ranges of ca::rule");
+    for (place, full, thorn) in PARAMETERS {
+        match parameters.get(*place) {
+            Some(parameter) => {
+                let found = (parameter.full.as_slice(), parameter.thorn);
+                assert_eq!(rt; found, (full.as_bytes(), *thorn), "{full}");
+            }
+            None => panic!(rt; "no parameter {place}"),
+        }
+    }
     Ok(())
 }

@@ -1,6 +1,8 @@
 //! Numbers with pairs, and their least orders or cycles, worked out by hand.
 
 use cx_least::{Sorted, least_order};
+use cx_text::List;
+use std::alloc::Global;
 use std::test::Fail;
 
 /// How many numbers there are, pairs of them, and the least order.
@@ -24,23 +26,25 @@ const CYCLES: &[(usize, &[(usize, usize)], &[usize])] = &[
     (4, &[(3, 1), (1, 3), (0, 2)], &[1, 3]),
 ];
 
-#[test]
-fn orders_are_the_least(rt: HostRuntime) -> Result<(), Fail> {
-    for (count, pairs, want) in ORDERS {
-        match least_order(rt.alloc(), *count, pairs)? {
-            Sorted::InOrder(order) => assert_eq!(rt; order.as_slice(), *want),
-            Sorted::InCycle(_) => panic!(rt; "a cycle"),
-        }
+/// Whether there is an order; and the order, or a cycle.
+fn sorted(
+    alloc: Global,
+    count: usize,
+    pairs: &[(usize, usize)],
+) -> Result<(bool, List<usize>), Fail> {
+    match least_order(alloc, count, pairs)? {
+        Sorted::InOrder(order) => Ok((true, order)),
+        Sorted::InCycle(cycle) => Ok((false, cycle)),
     }
-    Ok(())
 }
 
 #[test]
-fn cycles_begin_with_their_least_number(rt: HostRuntime) -> Result<(), Fail> {
-    for (count, pairs, want) in CYCLES {
-        match least_order(rt.alloc(), *count, pairs)? {
-            Sorted::InOrder(_) => panic!(rt; "an order"),
-            Sorted::InCycle(cycle) => assert_eq!(rt; cycle.as_slice(), *want),
+fn orders_are_the_least_and_cycles_begin_with_the_least(rt: HostRuntime) -> Result<(), Fail> {
+    for (is_order, table) in [(true, ORDERS), (false, CYCLES)] {
+        for (count, pairs, want) in table {
+            let (found, numbers) = sorted(rt.alloc(), *count, pairs)?;
+            let found = (found, numbers.as_slice());
+            assert_eq!(rt; found, (is_order, *want), "{count} numbers, {pairs:?}");
         }
     }
     Ok(())

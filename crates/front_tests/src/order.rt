@@ -11,7 +11,9 @@ use cx_sched::{ScheduleFile, read_schedule};
 use cx_scope::ScopeFault;
 use cx_text::{List, Style, Text, tokens};
 use cx_values::assign;
+use sample_files::elemca;
 use std::alloc::Global;
+use std::process::Abort;
 use std::test::Fail;
 
 /// A thorn's name, and its interface, param and schedule files.
@@ -33,26 +35,12 @@ fn with_parameter<'a>(name: &'a [u8], interface: &'a [u8], schedule: &'a [u8]) -
     }
 }
 
-const CELLS: &[u8] =
-    b"implements: ca\npublic:\nCCTK_BYTE cells TYPE=GF DIM=1 { cell }\nCCTK_INT counts TYPE=SCALAR { live }\n";
-
 /// The automaton.
 const AUTOMATON: Files<'static> = Files {
     name: b"ElemCA",
-    interface: CELLS,
-    params: b"",
-    schedule: br#"STORAGE: cells[1] counts[1]
-schedule ca_init AT INITIAL { LANG: C WRITES: ca::cell(everywhere) } "start"
-schedule ca_step AT EVOL
-{
-  LANG: C
-  SYNC: cells
-  READS: ca::cell(everywhere)
-  WRITES: ca::cell(interior)
-} "one step"
-schedule ca_zero AT EVOL AFTER ca_step { LANG: C WRITES: ca::cell(boundary) } "edge"
-schedule ca_count AT POSTSTEP { LANG: C READS: ca::cell(everywhere) WRITES: ca::live } "count"
-"#,
+    interface: elemca::INTERFACE,
+    params: elemca::PARAM,
+    schedule: elemca::SCHEDULE,
 };
 
 const AUTOMATON_TEXT: &str = "bin STARTUP
@@ -218,105 +206,105 @@ fn told(alloc: Global, all: &[Files<'_>]) -> Result<Text, Fail> {
 }
 
 /// Small schedules of a thorn T with the least order of their EVOL, worked out by hand.
-const ORDERS: &[(&[u8], &str)] = &[
+const ORDERS: &[(&str, &str)] = &[
     (
-        b"schedule A AT EVOL BEFORE B { }\nschedule B AT EVOL BEFORE C { }\nschedule C AT EVOL BEFORE Z { }\n",
+        "schedule A AT EVOL BEFORE B { }\nschedule B AT EVOL BEFORE C { }\nschedule C AT EVOL BEFORE Z { }\n",
         "  call T::A\n  call T::B\n  call T::C\n",
     ),
     (
-        b"schedule A AT EVOL { }\nschedule B AT CCTK_EVOL { }\nschedule C AT evol BEFORE a { }\n",
+        "schedule A AT EVOL { }\nschedule B AT CCTK_EVOL { }\nschedule C AT evol BEFORE a { }\n",
         "  call T::B\n  call T::C\n  call T::A\n",
     ),
     (
-        b"schedule A AT EVOL AFTER B { }\nschedule B AT EVOL AFTER C { }\nschedule C AT EVOL { }\n",
+        "schedule A AT EVOL AFTER B { }\nschedule B AT EVOL AFTER C { }\nschedule C AT EVOL { }\n",
         "  call T::C\n  call T::B\n  call T::A\n",
     ),
     (
-        b"schedule A AT EVOL AFTER D { }\nschedule B AT EVOL { }\nschedule C AT EVOL BEFORE B { }\nschedule D AT EVOL { }\n",
+        "schedule A AT EVOL AFTER D { }\nschedule B AT EVOL { }\nschedule C AT EVOL BEFORE B { }\nschedule D AT EVOL { }\n",
         "  call T::C\n  call T::B\n  call T::D\n  call T::A\n",
     ),
     (
-        b"schedule A AT EVOL { }\nschedule B AT EVOL { }\nschedule C AT EVOL { }\nschedule D AT EVOL BEFORE (A, C) { }\n",
+        "schedule A AT EVOL { }\nschedule B AT EVOL { }\nschedule C AT EVOL { }\nschedule D AT EVOL BEFORE (A, C) { }\n",
         "  call T::B\n  call T::D\n  call T::A\n  call T::C\n",
     ),
     (
-        b"schedule A AT EVOL AS X { }\nschedule B AT EVOL BEFORE X { }\nschedule C AT EVOL BEFORE A { }\n",
+        "schedule A AT EVOL AS X { }\nschedule B AT EVOL BEFORE X { }\nschedule C AT EVOL BEFORE A { }\n",
         "  call T::B\n  call T::A as X\n  call T::C\n",
     ),
     (
-        b"schedule A AT EVOL AFTER Q { }\nschedule B AT EVOL { }\nschedule Q AT POSTSTEP BEFORE A { }\n",
+        "schedule A AT EVOL AFTER Q { }\nschedule B AT EVOL { }\nschedule Q AT POSTSTEP BEFORE A { }\n",
         "  call T::A\n  call T::B\n",
     ),
     (
-        b"schedule A AT EVOL AFTER g { }\nschedule GROUP G AT EVOL { }\nschedule C IN g { }\nschedule D IN G BEFORE C { }\nschedule E IN H { }\n",
+        "schedule A AT EVOL AFTER g { }\nschedule GROUP G AT EVOL { }\nschedule C IN g { }\nschedule D IN G BEFORE C { }\nschedule E IN H { }\n",
         "  group G\n    call T::D\n    call T::C\n  call T::A\n",
     ),
     (
-        b"schedule GROUP G AT EVOL { }\nschedule A IN G { }\nschedule GROUP G AT EVOL AS again BEFORE G { }\n",
+        "schedule GROUP G AT EVOL { }\nschedule A IN G { }\nschedule GROUP G AT EVOL AS again BEFORE G { }\n",
         "  group G as again\n    call T::A\n  group G\n    call T::A\n",
     ),
     (
-        b"if (on == 1) schedule A AT EVOL { }\nelse { if (1 / 0) schedule B AT NEVER { } }\nif (0)\n{\nSTORAGE: nobody[9]\n}\nelse schedule C AT EVOL BEFORE A { }\n",
+        "if (on == 1) schedule A AT EVOL { }\nelse { if (1 / 0) schedule B AT NEVER { } }\nif (0)\n{\nSTORAGE: nobody[9]\n}\nelse schedule C AT EVOL BEFORE A { }\n",
         "  call T::C\n  call T::A\n",
     ),
 ];
 
 /// The same of a thorn W with a field of three levels and a scalar.
-const FIELDS: &[(&[u8], &str)] = &[
+const FIELDS: &[(&str, &str)] = &[
     (
-        b"STORAGE: field[2]\nSTORAGE: flags\nschedule A AT EVOL IF on WHILE w::on { SYNC: phi field READS: phi_p phi_p(interior) WRITES: phi(boundary) }\n",
+        "STORAGE: field[2]\nSTORAGE: flags\nschedule A AT EVOL IF on WHILE w::on { SYNC: phi field READS: phi_p phi_p(interior) WRITES: phi(boundary) }\n",
         "  call W::A if w::on while w::on reads w::phi_p(everywhere) w::phi_p(interior) writes w::phi(boundary) sync w::phi\n",
     ),
     (
-        b"if (on == 0)\n{\nSTORAGE: field[3]\n}\nSTORAGE: field[1] field[2]\nschedule A AT EVOL { READS: phi_p_p }\n",
+        "if (on == 0)\n{\nSTORAGE: field[3]\n}\nSTORAGE: field[1] field[2]\nschedule A AT EVOL { READS: phi_p_p }\n",
         "Scope EVOL/A NoLevel phi_p_p",
     ),
     (
-        b"schedule GROUP G AT EVOL { READS: nobody }\nschedule A IN G { STORAGE: field[9] READS: phi_p_p }\n",
+        "schedule GROUP G AT EVOL { READS: nobody }\nschedule A IN G { STORAGE: field[9] READS: phi_p_p }\n",
         "  group G\n    call W::A reads w::phi_p_p(everywhere)\n",
     ),
     (
-        b"STORAGE: field flags\nschedule GROUP G AT EVOL { SYNC: field }\nschedule A IN G { SYNC: flags }\n",
+        "STORAGE: field flags\nschedule GROUP G AT EVOL { SYNC: field }\nschedule A IN G { SYNC: flags }\n",
         "Scope EVOL/G/A NotGrid flags",
     ),
     (
-        b"STORAGE: field flags\nschedule A AT EVOL WHILE field { }\n",
+        "STORAGE: field flags\nschedule A AT EVOL WHILE field { }\n",
         "Scope EVOL/A NotScalar field",
     ),
     (
-        b"schedule A AT EVOL { READS: phi }\n",
+        "schedule A AT EVOL { READS: phi }\n",
         "Scope EVOL/A NoStorage phi",
     ),
 ];
 
 /// Faults, each of which comes before those behind it.
-const FAULTS: &[(&[u8], &str)] = &[
+const FAULTS: &[(&str, &str)] = &[
     (
-        b"if (missing) { }\nschedule A AT NEVER { }\n",
+        "if (missing) { }\nschedule A AT NEVER { }\n",
         "Expr T UnknownName missing",
     ),
     (
-        b"schedule A AT CCTK_NEVER { }\nschedule A AT EVOL { }\nschedule A AT EVOL { }\n",
+        "schedule A AT CCTK_NEVER { }\nschedule A AT EVOL { }\nschedule A AT EVOL { }\n",
         "UnknownBin CCTK_NEVER",
     ),
     (
-        b"schedule A AT evol { }\nschedule a AT CCTK_EVOL { }\nschedule GROUP P IN P { }\n",
+        "schedule A AT evol { }\nschedule a AT CCTK_EVOL { }\nschedule GROUP P IN P { }\n",
         "TwoNames EVOL/a",
     ),
     (
-        b"schedule GROUP P IN Q { }\nschedule GROUP Q IN P { }\nschedule A AT EVOL BEFORE A { }\n",
+        "schedule GROUP P IN Q { }\nschedule GROUP Q IN P { }\nschedule A AT EVOL BEFORE A { }\n",
         "GroupCycle P Q",
     ),
     (
-        b"schedule GROUP p IN Rr { }\nschedule GROUP rR IN P { }\nschedule GROUP RR IN p AS again { }\n",
+        "schedule GROUP p IN Rr { }\nschedule GROUP rR IN P { }\nschedule GROUP RR IN p AS again { }\n",
         "GroupCycle p rR",
     ),
     (
-        b"schedule A AT EVOL BEFORE B { }\nschedule B AT EVOL BEFORE C { }\nschedule C AT EVOL BEFORE A { }\nSTORAGE: nobody\n",
+        "schedule A AT EVOL BEFORE B { }\nschedule B AT EVOL BEFORE C { }\nschedule C AT EVOL BEFORE A { }\nSTORAGE: nobody\n",
         "Cycle A B C",
     ),
     (
-        b"STORAGE: nobody\nschedule A AT EVOL { READS: other }\n",
+        "STORAGE: nobody\nschedule A AT EVOL { READS: other }\n",
         "Scope T NotFound nobody",
     ),
 ];
@@ -326,83 +314,81 @@ fn the_automaton(rt: HostRuntime) -> Result<(), Fail> {
     let alloc = rt.alloc();
     match ordered(alloc, &[AUTOMATON])? {
         Some(Ok(ordered)) => {
-            assert_eq!(rt; ordered.text.as_slice(), AUTOMATON_TEXT.as_bytes());
-            assert_eq!(rt; ordered.storage.as_slice(), [1u8, 1].as_slice());
-            assert_eq!(rt; ordered.items.len(), 4);
+            let schedule = ordered.text.as_slice();
+            assert_eq!(rt; schedule, AUTOMATON_TEXT.as_bytes(), "the schedule");
+            let levels = [1u8, 1];
+            let storage = ordered.storage.as_slice();
+            assert_eq!(rt; storage, levels.as_slice(), "stored levels");
+            assert_eq!(rt; ordered.items.len(), 4, "how many items");
         }
-        _ => panic!(rt; "no order"),
+        _ => panic!(rt; "the automaton has no order"),
     }
     Ok(())
 }
 
-#[test]
-fn least_orders(rt: HostRuntime) -> Result<(), Fail> {
-    for (schedule, want) in ORDERS {
-        let told = told(
-            rt.alloc(),
-            &[with_parameter(b"T", b"implements: t\n", schedule)],
-        )?;
-        assert_eq!(rt; told.as_slice(), want.as_bytes(), "{want}");
-    }
-    Ok(())
-}
-
-#[test]
-fn names_of_entries(rt: HostRuntime) -> Result<(), Fail> {
-    const FIELD: &[u8] =
-        b"implements: w\npublic:\nINT field TYPE=GF DIM=1 TIMELEVELS=3 { phi }\nINT flags { on }\n";
-    for (schedule, want) in FIELDS {
-        let told = told(rt.alloc(), &[with_parameter(b"W", FIELD, schedule)])?;
-        assert_eq!(rt; told.as_slice(), want.as_bytes(), "{want}");
-    }
-    Ok(())
-}
-
-#[test]
-fn faults_in_order(rt: HostRuntime) -> Result<(), Fail> {
-    for (schedule, want) in FAULTS {
-        let told = told(
-            rt.alloc(),
-            &[with_parameter(b"T", b"implements: t\n", schedule)],
-        )?;
-        assert_eq!(rt; told.as_slice(), want.as_bytes(), "{want}");
-    }
-    Ok(())
-}
+const FIELD: &[u8] =
+    b"implements: w\npublic:\nINT field TYPE=GF DIM=1 TIMELEVELS=3 { phi }\nINT flags { on }\n";
 
 /// Two thorns, in the order of activation, and what EVOL does.
-const PAIRS: &[(&[u8], &[u8], &str)] = &[
+const PAIRS: &[(&str, &str, &str)] = &[
     (
-        b"schedule M AT EVOL { }\n",
-        b"schedule N AT EVOL { }\n",
+        "schedule M AT EVOL { }\n",
+        "schedule N AT EVOL { }\n",
         "  call One::M\n  call Two::N\n",
     ),
     (
-        b"schedule M AT EVOL AFTER N { }\n",
-        b"schedule N AT EVOL { }\n",
+        "schedule M AT EVOL AFTER N { }\n",
+        "schedule N AT EVOL { }\n",
         "  call Two::N\n  call One::M\n",
     ),
     (
-        b"schedule N AT EVOL { }\n",
-        b"schedule M AT EVOL AFTER N { }\n",
+        "schedule N AT EVOL { }\n",
+        "schedule M AT EVOL AFTER N { }\n",
         "  call One::N\n  call Two::M\n",
     ),
     (
-        b"schedule M AT EVOL { }\n",
-        b"schedule M AT EVOL { }\n",
+        "schedule M AT EVOL { }\n",
+        "schedule M AT EVOL { }\n",
         "TwoNames EVOL/M",
     ),
 ];
+
+fn assert_told(
+    rt: &impl Abort,
+    alloc: Global,
+    thorns: &[Files<'_>],
+    name: &str,
+    want: &str,
+) -> Result<(), Fail> {
+    let told = told(alloc, thorns)?;
+    assert_eq!(rt; told.as_slice(), want.as_bytes(), "{name}");
+    Ok(())
+}
+
+#[test]
+fn least_orders_and_faults_of_a_thorn(rt: HostRuntime) -> Result<(), Fail> {
+    let alloc = rt.alloc();
+    for table in [ORDERS, FAULTS] {
+        for (schedule, want) in table {
+            let thorn = with_parameter(b"T", b"implements: t\n", schedule.as_bytes());
+            assert_told(&rt, alloc, &[thorn], schedule, want)?;
+        }
+    }
+    for (schedule, want) in FIELDS {
+        let thorn = with_parameter(b"W", FIELD, schedule.as_bytes());
+        assert_told(&rt, alloc, &[thorn], schedule, want)?;
+    }
+    Ok(())
+}
 
 #[test]
 fn two_thorns_in_one_bin(rt: HostRuntime) -> Result<(), Fail> {
     for (first, second, want) in PAIRS {
         let thorns = [
-            with_parameter(b"One", b"implements: one\n", first),
-            with_parameter(b"Two", b"implements: two\n", second),
+            with_parameter(b"One", b"implements: one\n", first.as_bytes()),
+            with_parameter(b"Two", b"implements: two\n", second.as_bytes()),
         ];
-        let told = told(rt.alloc(), &thorns)?;
-        assert_eq!(rt; told.as_slice(), want.as_bytes(), "{want}");
+        assert_told(&rt, rt.alloc(), &thorns, first, want)?;
     }
     Ok(())
 }
@@ -428,18 +414,6 @@ const NESTED: &[(u32, u32, &str)] = &[
     (31, 5, "Limit nodes 18446744073709551615"),
 ];
 
-#[test]
-fn limits_are_counted_without_building(rt: HostRuntime) -> Result<(), Fail> {
-    let alloc = rt.alloc();
-    for (levels, copies, want) in NESTED {
-        let schedule = nested_groups(alloc, *levels, *copies)?;
-        let thorn = with_parameter(b"T", b"implements: t\n", schedule.as_slice());
-        let told = told(alloc, &[thorn])?;
-        assert_eq!(rt; told.as_slice(), want.as_bytes(), "{want}");
-    }
-    Ok(())
-}
-
 /// Entries with the numbers below an end from 4 on, each of which must run before the four that are numbered below it.
 fn backward(alloc: Global, end: u32) -> Result<Text, Fail> {
     let mut schedule = text(alloc, b"")?;
@@ -455,15 +429,19 @@ fn backward(alloc: Global, end: u32) -> Result<Text, Fail> {
 }
 
 #[test]
-fn a_large_bin(rt: HostRuntime) -> Result<(), Fail> {
+fn nested_groups_and_a_large_bin(rt: HostRuntime) -> Result<(), Fail> {
     let alloc = rt.alloc();
+    for (levels, copies, want) in NESTED {
+        let schedule = nested_groups(alloc, *levels, *copies)?;
+        let thorn = with_parameter(b"T", b"implements: t\n", schedule.as_slice());
+        assert_told(&rt, alloc, &[thorn], want, want)?;
+    }
     let schedule = backward(alloc, 4083)?;
     let thorn = with_parameter(b"T", b"implements: t\n", schedule.as_slice());
     let told = told(alloc, &[thorn])?;
-    assert!(rt;
-        told.as_slice()
-            .starts_with(b"  call T::e4082\n  call T::e4081\n")
-    );
-    assert!(rt; told.as_slice().ends_with(b"  call T::e5\n  call T::e4\n"));
+    let first: &[u8] = b"  call T::e4082\n  call T::e4081\n";
+    assert!(rt; told.as_slice().starts_with(first), "a large bin");
+    let last: &[u8] = b"  call T::e5\n  call T::e4\n";
+    assert!(rt; told.as_slice().ends_with(last), "a large bin's end");
     Ok(())
 }

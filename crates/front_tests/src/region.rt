@@ -150,6 +150,7 @@ fn job(alloc: Global, initial: Tree, evol: Tree) -> Result<Job, Fail>
         shape: line(),
         vars: variables(alloc)?,
         items: items(alloc)?,
+        steers: List::empty(alloc),
         plan: Schedule {
             bins: bins(alloc, initial, evol)?,
         },
@@ -161,6 +162,9 @@ fn job(alloc: Global, initial: Tree, evol: Tree) -> Result<Job, Fail>
         itlast: 8,
         while_limit: 8,
         lead: 1,
+        balance: false,
+        weight: None,
+        weight_factor: 1,
         out_every: 1,
         out_vars: List::new(vec![in alloc; WAVE]?),
         chk_every: -1,
@@ -252,19 +256,7 @@ fn a_wave_that_is_exchanged_is_sound(rt: HostRuntime) -> Result<(), Fail> {
     let between = sync(alloc)?;
     let evol = step(alloc, between)?;
     let sound = is_sound(alloc, first, evol)?;
-    assert!(rt; sound);
-    Ok(())
-}
-
-#[test]
-fn an_if_around_the_only_writer_is_not(rt: HostRuntime) -> Result<(), Fail> {
-    let alloc = rt.alloc();
-    let perhaps = if_on(alloc, Tree::Call(1))?;
-    let first = initial(alloc, perhaps)?;
-    let between = sync(alloc)?;
-    let evol = step(alloc, between)?;
-    let sound = is_sound(alloc, first, evol)?;
-    assert!(rt; !sound);
+    assert!(rt; sound, "an exchanged wave");
     Ok(())
 }
 
@@ -275,7 +267,7 @@ fn a_wave_without_exchange_is_not(rt: HostRuntime) -> Result<(), Fail> {
     let between = nothing(alloc);
     let evol = step(alloc, between)?;
     let sound = is_sound(alloc, first, evol)?;
-    assert!(rt; !sound);
+    assert!(rt; !sound, "no exchange");
     Ok(())
 }
 
@@ -286,7 +278,7 @@ fn whiles_in_one_another_take_no_time(rt: HostRuntime) -> Result<(), Fail> {
     let turns = nested(alloc, 30, Tree::Call(2))?;
     let evol = both(alloc, turns, Tree::Call(1))?;
     let sound = is_sound(alloc, first, evol)?;
-    assert!(rt; sound);
+    assert!(rt; sound, "thirty WHILEs, one in another");
     Ok(())
 }
 
@@ -324,7 +316,7 @@ fn output_without_the_only_writer_is_shown(rt: HostRuntime) -> Result<(), Fail> 
     let between = sync(alloc)?;
     let evol = step(alloc, between)?;
     let shown = is_shown(alloc, first, evol, b"n", 0, Flag::I)?;
-    assert!(rt; shown);
+    assert!(rt; shown, "n, level 0, I");
     Ok(())
 }
 
@@ -334,7 +326,7 @@ fn a_missing_exchange_is_shown_in_the_second_iteration(rt: HostRuntime) -> Resul
     let first = initial(alloc, Tree::Call(1))?;
     let evol = both(alloc, Tree::Call(2), Tree::Call(4))?;
     let shown = is_shown(alloc, first, evol, b"ii", 1, Flag::G)?;
-    assert!(rt; shown);
+    assert!(rt; shown, "ii, level 1, G");
     Ok(())
 }
 
@@ -345,6 +337,6 @@ fn a_turn_that_clears_the_boundary_is_shown(rt: HostRuntime) -> Result<(), Fail>
     let turns = nested(alloc, 3, Tree::Call(2))?;
     let evol = both(alloc, Tree::Call(1), turns)?;
     let shown = is_shown(alloc, first, evol, b"iwwwxxx", 0, Flag::B)?;
-    assert!(rt; shown);
+    assert!(rt; shown, "iwwwxxx, level 0, B");
     Ok(())
 }

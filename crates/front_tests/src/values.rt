@@ -47,41 +47,41 @@ const MORE: Files = (
 
 const ALL: &[Files] = &[ELEMCA, RANGES, WAVE, NAMES, MORE];
 
-fn values(alloc: Global, all: &[Files], file: &[u8]) -> Result<Result<Values, ValueFault>, Fail> {
+fn values(alloc: Global, all: &[Files], file: &str) -> Result<Result<Values, ValueFault>, Fail> {
     let bound = bound(alloc, all)?;
     let base = text(alloc, b"box")?;
-    let settings = read_parfile(alloc, &tokens(alloc, file, Style::Par)?, &base)?;
+    let settings = read_parfile(alloc, &tokens(alloc, file.as_bytes(), Style::Par)?, &base)?;
     Ok(assign(alloc, &bound, &settings))
 }
 
 /// A parameter file, and the name and the line of the fault of its settings.
-const FAULTS: &[(&[u8], &str, u32)] = &[
-    (b"\n\nca::rule = 256\n", "OutOfRange", 3),
-    (b"\n\nca::rule = x\n", "BadSpelling", 3),
-    (b"\n\nca::ruler = 3\n", "UnknownParam", 3),
-    (b"\n\nElemCA::rule = 3\nca::rule = 4\n", "Twice", 4),
-    (b"range::n = 0\n", "OutOfRange", 1),
-    (b"range::n = 10\n", "", 0),
-    (b"range::n = 11\n", "OutOfRange", 1),
-    (b"range::s = 3\n", "", 0),
-    (b"range::s = 4\n", "OutOfRange", 1),
-    (b"kinds::own = yes\n", "UnknownParam", 1),
-    (b"Names::own = 2\n", "BadSpelling", 1),
-    (b"many[0] = 1\n", "UnknownParam", 1),
-    (b"kinds::many = 1\n", "Index", 1),
-    (b"kinds::many[2] = 1\n", "Index", 1),
-    (b"all[0] = 1\n", "Index", 1),
-    (b"kinds::all = 1\nNames::all = 1\n", "Twice", 2),
-    (b"wave::pattern = comb\n", "OutOfRange", 1),
-    (b"driver::lead = 65\n", "OutOfRange", 1),
-    (b"driver::widths_x = \"4 16777217\"\n", "BadSpelling", 1),
-    (b"IO::recover_dir = a\nIO::checkpoint_dir = a\n", "", 0),
+const FAULTS: &[(&str, &str, u32)] = &[
+    ("\n\nca::rule = 256\n", "OutOfRange", 3),
+    ("\n\nca::rule = x\n", "BadSpelling", 3),
+    ("\n\nca::ruler = 3\n", "UnknownParam", 3),
+    ("\n\nElemCA::rule = 3\nca::rule = 4\n", "Twice", 4),
+    ("range::n = 0\n", "OutOfRange", 1),
+    ("range::n = 10\n", "", 0),
+    ("range::n = 11\n", "OutOfRange", 1),
+    ("range::s = 3\n", "", 0),
+    ("range::s = 4\n", "OutOfRange", 1),
+    ("kinds::own = yes\n", "UnknownParam", 1),
+    ("Names::own = 2\n", "BadSpelling", 1),
+    ("many[0] = 1\n", "UnknownParam", 1),
+    ("kinds::many = 1\n", "Index", 1),
+    ("kinds::many[2] = 1\n", "Index", 1),
+    ("all[0] = 1\n", "Index", 1),
+    ("kinds::all = 1\nNames::all = 1\n", "Twice", 2),
+    ("wave::pattern = comb\n", "OutOfRange", 1),
+    ("driver::lead = 65\n", "OutOfRange", 1),
+    ("driver::widths_x = \"4 16777217\"\n", "BadSpelling", 1),
+    ("IO::recover_dir = a\nIO::checkpoint_dir = a\n", "", 0),
     (
-        b"IO::recover_dir = \".\"\nIO::checkpoint_dir = a\n",
+        "IO::recover_dir = \".\"\nIO::checkpoint_dir = a\n",
         "OutOfRange",
         1,
     ),
-    (b"IO::checkpoint_ID = yes\n", "OutOfRange", 1),
+    ("IO::checkpoint_ID = yes\n", "OutOfRange", 1),
 ];
 
 fn fault_of(answer: &Result<Values, ValueFault>) -> (&'static str, u32) {
@@ -97,16 +97,6 @@ fn fault_of(answer: &Result<Values, ValueFault>) -> (&'static str, u32) {
     }
 }
 
-#[test]
-fn settings_have_their_first_fault(rt: HostRuntime) -> Result<(), Fail> {
-    for (file, want, line) in FAULTS {
-        let (fault, at) = fault_of(&values(rt.alloc(), ALL, file)?);
-        assert_eq!(rt; fault, *want, "{file:?}");
-        assert_eq!(rt; at, *line, "{file:?}");
-    }
-    Ok(())
-}
-
 /// The parameter whose default is bad.
 fn bad_default(answer: &Result<Values, ValueFault>) -> &[u8] {
     match answer {
@@ -115,89 +105,89 @@ fn bad_default(answer: &Result<Values, ValueFault>) -> &[u8] {
     }
 }
 
+const BAD: Files = (
+    b"Bad",
+    b"implements: bad\n",
+    b"restricted:\nINT n { 0:9 } 10\n",
+    b"",
+);
+
 #[test]
-fn a_default_lies_in_its_ranges(rt: HostRuntime) -> Result<(), Fail> {
-    let bad: Files = (
-        b"Bad",
-        b"implements: bad\n",
-        b"restricted:\nINT n { 0:9 } 10\n",
-        b"",
-    );
-    let answer = values(rt.alloc(), &[bad], b"")?;
-    assert_eq!(rt; bad_default(&answer), b"bad::n".as_slice());
+fn settings_and_defaults_have_their_first_fault(rt: HostRuntime) -> Result<(), Fail> {
+    for (file, want, line) in FAULTS {
+        let fault = fault_of(&values(rt.alloc(), ALL, file)?);
+        assert_eq!(rt; fault, (*want, *line), "{file:?}");
+    }
+    let answer = values(rt.alloc(), &[BAD], "")?;
+    let want = b"bad::n".as_slice();
+    assert_eq!(rt; bad_default(&answer), want, "a bad default");
     Ok(())
 }
 
 /// A parameter file; a parameter, an index of it, its value in words and its number.
 type Told = (
-    &'static [u8],
-    &'static [u8],
+    &'static str,
+    &'static str,
     Option<u32>,
     Option<&'static str>,
     Option<i64>,
 );
 
 const VALUES: &[Told] = &[
-    (b"", b"ca::rule", None, Some("90"), Some(90)),
+    ("", "ca::rule", None, Some("90"), Some(90)),
     (
-        b"\n\nElemCA::rule = 3\n",
-        b"CA::rule",
+        "\n\nElemCA::rule = 3\n",
+        "CA::rule",
         None,
         Some("3"),
         Some(3),
     ),
-    (b"CA::RULE = 007\n", b"ca::rule", None, Some("7"), Some(7)),
+    ("CA::RULE = 007\n", "ca::rule", None, Some("7"), Some(7)),
+    ("Names::own = T\n", "Names::own", None, Some("yes"), Some(1)),
+    ("", "kinds::own", None, None, None),
     (
-        b"Names::own = T\n",
-        b"Names::own",
-        None,
-        Some("yes"),
-        Some(1),
-    ),
-    (b"", b"kinds::own", None, None, None),
-    (
-        b"kinds::many[1] = 5\n",
-        b"kinds::many",
+        "kinds::many[1] = 5\n",
+        "kinds::many",
         Some(1),
         Some("5"),
         Some(5),
     ),
     (
-        b"kinds::many[1] = 5\n",
-        b"kinds::many",
+        "kinds::many[1] = 5\n",
+        "kinds::many",
         Some(0),
         Some("1"),
         Some(1),
     ),
-    (b"", b"kinds::many", None, None, None),
-    (b"", b"kinds::many", Some(2), None, None),
-    (b"", b"ca::rule", Some(0), None, None),
-    (b"all = 3\n", b"kinds::all", None, Some("3"), Some(3)),
-    (b"Names::all = 3\n", b"kinds::all", None, Some("3"), Some(3)),
+    ("", "kinds::many", None, None, None),
+    ("", "kinds::many", Some(2), None, None),
+    ("", "ca::rule", Some(0), None, None),
+    ("all = 3\n", "kinds::all", None, Some("3"), Some(3)),
+    ("Names::all = 3\n", "kinds::all", None, Some("3"), Some(3)),
     (
-        b"wave::pattern = SAW\n",
-        b"wave::pattern",
+        "wave::pattern = SAW\n",
+        "wave::pattern",
         None,
         Some("saw"),
         Some(2),
     ),
     (
-        b"PUGH::periodic = 1\n",
-        b"driver::periodic",
+        "PUGH::periodic = 1\n",
+        "driver::periodic",
         None,
         Some("yes"),
         Some(1),
     ),
     (
-        b"IO::checkpoint_dir = a\n",
-        b"IO::recover_dir",
+        "IO::checkpoint_dir = a\n",
+        "IO::recover_dir",
         None,
         Some("a"),
         None,
     ),
     (
-        b"IO::out_every = -1\n",
-        b"IO::out_every",
+        "IO::out_every = -1\n",
+        "IO::out_every",
         None,
         Some("-1"),
         Some(-1),
@@ -214,7 +204,7 @@ fn words(alloc: Global, value: &Value) -> Result<Text, Fail> {
 }
 
 fn is_told(alloc: Global, values: &Values, told: &Told) -> Result<bool, Fail> {
-    let full = text(alloc, told.1)?;
+    let full = text(alloc, told.1.as_bytes())?;
     let is_number = values.number(&full, told.2) == told.4;
     match (values.get(&full, told.2), told.3) {
         (Some(value), Some(want)) => {
@@ -231,75 +221,76 @@ fn settings_give_values_by_each_form_of_name(rt: HostRuntime) -> Result<(), Fail
     for told in VALUES {
         match values(alloc, ALL, told.0)? {
             Ok(values) => assert!(rt; is_told(alloc, &values, told)?, "{told:?}"),
-            Err(fault) => assert!(rt; false, "{fault:?}"),
+            Err(fault) => panic!(rt; "{fault:?} of {told:?}"),
         }
     }
     Ok(())
 }
 
 /// The built-in parameters, and their defaults.
-const DEFAULTS: &[(&[u8], &str)] = &[
-    (b"Cactus::cctk_itlast", "10"),
-    (b"Cactus::cctk_run_title", ""),
-    (b"Cactus::terminate", "iteration"),
-    (b"driver::global_nx", "10"),
-    (b"driver::global_ny", "10"),
-    (b"driver::global_nz", "10"),
-    (b"driver::global_nsize", "-1"),
-    (b"driver::ghost_size", "-1"),
-    (b"driver::ghost_size_x", "1"),
-    (b"driver::ghost_size_y", "1"),
-    (b"driver::ghost_size_z", "1"),
-    (b"driver::periodic", "no"),
-    (b"driver::periodic_x", "yes"),
-    (b"driver::periodic_y", "yes"),
-    (b"driver::periodic_z", "yes"),
-    (b"driver::parts_x", "1"),
-    (b"driver::parts_y", "1"),
-    (b"driver::parts_z", "1"),
-    (b"driver::widths_x", ""),
-    (b"driver::widths_y", ""),
-    (b"driver::widths_z", ""),
-    (b"driver::lead", "0"),
-    (b"driver::while_limit", "1000"),
-    (b"IO::out_dir", "."),
-    (b"IO::out_vars", ""),
-    (b"IO::out_every", "1"),
-    (b"IO::checkpoint_every", "-1"),
-    (b"IO::checkpoint_keep", "1"),
-    (b"IO::checkpoint_on_terminate", "no"),
-    (b"IO::checkpoint_dir", "."),
-    (b"IO::recover_dir", "."),
-    (b"IO::recover", "no"),
-    (b"IO::checkpoint_ID", "no"),
+const DEFAULTS: &[(&str, &str)] = &[
+    ("Cactus::cctk_itlast", "10"),
+    ("Cactus::cctk_run_title", ""),
+    ("Cactus::terminate", "iteration"),
+    ("driver::global_nx", "10"),
+    ("driver::global_ny", "10"),
+    ("driver::global_nz", "10"),
+    ("driver::global_nsize", "-1"),
+    ("driver::ghost_size", "-1"),
+    ("driver::ghost_size_x", "1"),
+    ("driver::ghost_size_y", "1"),
+    ("driver::ghost_size_z", "1"),
+    ("driver::periodic", "no"),
+    ("driver::periodic_x", "yes"),
+    ("driver::periodic_y", "yes"),
+    ("driver::periodic_z", "yes"),
+    ("driver::parts_x", "1"),
+    ("driver::parts_y", "1"),
+    ("driver::parts_z", "1"),
+    ("driver::widths_x", ""),
+    ("driver::widths_y", ""),
+    ("driver::widths_z", ""),
+    ("driver::lead", "0"),
+    ("driver::while_limit", "1000"),
+    ("IO::out_dir", "."),
+    ("IO::out_vars", ""),
+    ("IO::out_every", "1"),
+    ("IO::checkpoint_every", "-1"),
+    ("IO::checkpoint_keep", "1"),
+    ("IO::checkpoint_on_terminate", "no"),
+    ("IO::checkpoint_dir", "."),
+    ("IO::recover_dir", "."),
+    ("IO::recover", "no"),
+    ("IO::checkpoint_ID", "no"),
 ];
 
 #[test]
 fn built_in_parameters_have_their_defaults(rt: HostRuntime) -> Result<(), Fail> {
     let alloc = rt.alloc();
-    let values = values(alloc, &[], b"")??;
+    let values = values(alloc, &[], "")??;
     for (full, want) in DEFAULTS {
-        match values.get(&text(alloc, full)?, None) {
-            Some(value) => assert_eq!(rt; words(alloc, value)?.as_slice(), want.as_bytes()),
-            None => assert!(rt; false, "{want}"),
-        }
+        let told = match values.get(&text(alloc, full.as_bytes())?, None) {
+            Some(value) => words(alloc, value)?,
+            None => text(alloc, b"no parameter")?,
+        };
+        assert_eq!(rt; told.as_slice(), want.as_bytes(), "{full}");
     }
     Ok(())
 }
 
 /// A thorn's number, an expression and its value, or the fault's word.
-const EXPRESSIONS: &[(u32, &[u8], Result<i64, &str>)] = &[
-    (2, b"CCTK_Equals(pattern, \"POINT\")", Ok(1)),
-    (2, b"pattern + 1", Err("NotNumber")),
-    (4, b"CCTK_Equals(pattern, \"point\")", Ok(1)),
-    (0, b"pattern + 1", Err("UnknownName")),
-    (0, b"rule + all", Ok(92)),
-    (3, b"many[1] + own", Ok(1)),
-    (4, b"few[1]", Ok(1)),
-    (4, b"many[1]", Err("UnknownName")),
-    (4, b"few[2]", Err("UnknownName")),
-    (0, b"CCTK_Equals(rule, \"90\")", Err("NotText")),
-    (9, b"all", Err("UnknownName")),
+const EXPRESSIONS: &[(u32, &str, Result<i64, &str>)] = &[
+    (2, "CCTK_Equals(pattern, \"POINT\")", Ok(1)),
+    (2, "pattern + 1", Err("NotNumber")),
+    (4, "CCTK_Equals(pattern, \"point\")", Ok(1)),
+    (0, "pattern + 1", Err("UnknownName")),
+    (0, "rule + all", Ok(92)),
+    (3, "many[1] + own", Ok(1)),
+    (4, "few[1]", Ok(1)),
+    (4, "many[1]", Err("UnknownName")),
+    (4, "few[2]", Err("UnknownName")),
+    (0, "CCTK_Equals(rule, \"90\")", Err("NotText")),
+    (9, "all", Err("UnknownName")),
 ];
 
 fn word(fault: &ExprFault) -> &'static str {
@@ -311,18 +302,27 @@ fn word(fault: &ExprFault) -> &'static str {
     }
 }
 
+/// What an expression comes to in a thorn: a value, or the fault's word.
+fn evaluated(
+    alloc: Global,
+    values: &Values,
+    thorn: u32,
+    source: &str,
+) -> Result<Result<i64, &'static str>, Fail> {
+    let (expr, _) = read_expr(alloc, &tokens(alloc, source.as_bytes(), Style::Ccl)?, 0)?;
+    match eval(&expr, &values.lookup(thorn)) {
+        Ok(n) => Ok(Ok(n)),
+        Err(fault) => Ok(Err(word(fault))),
+    }
+}
+
 #[test]
 fn expressions_see_a_thorns_parameters(rt: HostRuntime) -> Result<(), Fail> {
     let alloc = rt.alloc();
-    let values = values(alloc, ALL, b"")??;
+    let values = values(alloc, ALL, "")??;
     for (thorn, source, want) in EXPRESSIONS {
-        let (expr, _) = read_expr(alloc, &tokens(alloc, source, Style::Ccl)?, 0)?;
-        let view = values.lookup(*thorn);
-        match (eval(&expr, &view), want) {
-            (Ok(n), Ok(want)) => assert_eq!(rt; n, *want),
-            (Err(fault), Err(want)) => assert_eq!(rt; word(fault), *want),
-            _ => assert!(rt; false, "{source:?}"),
-        }
+        let found = evaluated(alloc, &values, *thorn, source)?;
+        assert_eq!(rt; found, *want, "{source} in thorn {thorn}");
     }
     Ok(())
 }

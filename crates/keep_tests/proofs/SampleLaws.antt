@@ -13,6 +13,7 @@ use Rattle.cx_plan.specs.Setups.{setup_of}
 use Rattle.cx_plan.specs.Lookups.{item, no_item, no_variable}
 use Rattle.cx_plan.specs.Regions.{run_items}
 use Rattle.cx_chk.specs.Encoding.{IsCheckpoint}
+use Rattle.cx_plan.specs.Steering.{IsSteer}
 use Rattle.cx_plan.specs.Whole.{IsTree, IsName, IsItem, IsSmall, IsStored, IsWhole}
 use Rattle.keep_tests.specs.Samples.{sample, sample_variables, sample_checkpoint}
 
@@ -21,9 +22,24 @@ whole-shape r =
     record {
       some = omega arith;
       most = omega arith;
-      x = record { some = omega (arith, ints); most = omega (arith, ints); least_ghosts = omega (arith, ints); most_ghosts = omega (arith, ints) };
-      y = record { some = omega (arith, ints); most = omega (arith, ints); least_ghosts = omega (arith, ints); most_ghosts = omega (arith, ints) };
-      z = record { some = omega (arith, ints); most = omega (arith, ints); least_ghosts = omega (arith, ints); most_ghosts = omega (arith, ints) };
+      x = record {
+        some = omega (arith, ints);
+        most = omega (arith, ints);
+        least_ghosts = omega (arith, ints);
+        most_ghosts = omega (arith, ints);
+      };
+      y = record {
+        some = omega (arith, ints);
+        most = omega (arith, ints);
+        least_ghosts = omega (arith, ints);
+        most_ghosts = omega (arith, ints);
+      };
+      z = record {
+        some = omega (arith, ints);
+        most = omega (arith, ints);
+        least_ghosts = omega (arith, ints);
+        most_ghosts = omega (arith, ints);
+      };
       no_y = λ h. record { one = refl; no_ghosts = refl };
       no_z = λ h. record { one = refl; no_ghosts = refl };
       few = omega arith;
@@ -45,8 +61,21 @@ names-are : All (λ (v : VarInfo). IsName v.full) sample_variables
 names-are =
     let is = λ (b : ℕ). (33 ≤ b) × (b ≤ 126) in
     All-from_recursion (λ (v : VarInfo). IsName v.full) sample_variables (
-      (omega arith, All-from_recursion is (codes "phi") ((omega arith, omega arith), ((omega arith, omega arith), ((omega arith, omega arith), tt)))),
-      ((omega arith, All-from_recursion is (codes "on") ((omega arith, omega arith), ((omega arith, omega arith), tt))), tt),
+      (
+        omega arith,
+        All-from_recursion is (codes "phi") (
+          (omega arith, omega arith),
+          ((omega arith, omega arith), ((omega arith, omega arith), tt)),
+        ),
+      ),
+      (
+        (
+          omega arith,
+          All-from_recursion is (codes "on")
+              ((omega arith, omega arith), ((omega arith, omega arith), tt)),
+        ),
+        tt,
+      ),
     )
 
 names-apart : AllPairs (λ (v w : VarInfo). v.full ≢ w.full) sample_variables
@@ -54,25 +83,45 @@ names-apart =
     let apart = λ (v w : VarInfo). v.full ≢ w.full in
     let phi = get_or sample_variables 0 no_variable in
     let on = get_or sample_variables 1 no_variable in
-    AllPairs-cons apart phi (on ∷ []) (All-from_recursion (apart phi) (on ∷ []) ((λ e. absurd (omega (arith, ap (λ (l : List ℕ). length l) e))), tt)) (pairs-of-one apart on)
+    AllPairs-cons apart phi (on ∷ [])
+    (All-from_recursion (apart phi) (on ∷ [])
+    ((λ e. absurd (omega (arith, ap (λ (l : List ℕ). length l) e))), tt))
+    (pairs-of-one apart on)
 
 pub sample-whole : (r : Recover) → IsWhole (sample r)
-unfolding Rattle.cx_plan.specs.declared.tree.Tree.TheBlock.hidden-the_row-Tree-0 denote.Hole.Carrier.hidden
+unfolding Rattle.cx_plan.specs.declared.tree.Tree.TheBlock.hidden-the_row-Tree-0
+    denote.Hole.Carrier.hidden
 sample-whole r =
     let job = sample r in
     record {
       shape = whole-shape r;
       names = names-are;
       names_differ = names-apart;
-      one_level = All-from_recursion (λ (v : VarInfo). v.scalar ≡ true → v.levels ≤ 1) sample_variables ((λ e. absurd (cc)), ((λ e. omega arith), tt));
-      levels_limit = All-from_recursion (λ (v : VarInfo). v.levels ≤ 8) sample_variables (omega arith, (omega arith, tt));
+      one_level = All-from_recursion (λ (v : VarInfo). v.scalar ≡ true → v.levels ≤ 1)
+          sample_variables ((λ e. absurd (cc)), ((λ e. omega arith), tt));
+      levels_limit = All-from_recursion (λ (v : VarInfo). v.levels ≤ 8) sample_variables
+          (omega arith, (omega arith, tt));
       items = All-nil (IsItem job);
       run_items = λ i k below. item-small r (get_or (run_items (setup_of job)) i k);
       bins = refl;
-      trees = All-from_recursion (IsTree job) job.plan.bins (tt, (tt, (tt, (tt, (tt, (tt, (tt, (tt, (tt, (tt, (tt, (tt, (tt, (tt, (tt, (tt, (tt, tt)))))))))))))))));
+      trees = All-from_recursion (IsTree job) job.plan.bins (
+        tt,
+        (
+          tt,
+          (
+            tt,
+            (
+              tt,
+              (tt, (tt, (tt, (tt, (tt, (tt, (tt, (tt, (tt, (tt, (tt, (tt, (tt, tt))))))))))))),
+            ),
+          ),
+        ),
+      );
       nodes_limit = omega arith;
       depth_limit = omega arith;
       outputs = All-nil (λ v. IsStored job v 0);
+      steers = All-nil (IsSteer (setup_of job));
+      weight = tt;
       outputs_rise = pairs-none (λ (v w : VarId). v.0 < w.0);
       variables_limit = omega arith;
       itlast_limit = omega arith;

@@ -1,5 +1,6 @@
--- The job of the tests: a scalar and a grid variable of two points, with checkpoints at iterations 20 and 40.
-use Rattle.std.specs.Prelude.{◌∷◌, [], List, false, true, pos, negsuc, codes}
+-- The job of the tests: a scalar and a grid variable of two points, with checkpoints at iterations
+-- 20 and 40.
+use Rattle.std.specs.Prelude.{◌∷◌, [], List, false, true, pos, negsuc, None, codes}
 use Rattle.cx_text.specs.declared.ctype.CType.TheVariants.{Int8, Byte}
 use Rattle.cx_plan.specs.declared.variable.VarInfo.{VarInfo}
 use Rattle.cx_plan.specs.declared.tree.Tree.{Tree, Seq}
@@ -16,19 +17,29 @@ abbrev pub nothing : Tree
 nothing = Seq []
 
 abbrev pub no_bins : List Tree
-no_bins = nothing ∷ nothing ∷ nothing ∷ nothing ∷ nothing ∷ nothing ∷ nothing ∷ nothing ∷ nothing ∷ nothing ∷ nothing ∷ nothing ∷ nothing ∷ nothing ∷ nothing ∷ nothing ∷ nothing ∷ []
+no_bins = nothing ∷ nothing ∷ nothing ∷ nothing ∷ nothing ∷ nothing ∷ nothing ∷ nothing ∷ nothing
+    ∷ nothing ∷ nothing ∷ nothing ∷ nothing ∷ nothing ∷ nothing ∷ nothing ∷ nothing ∷ []
 
 abbrev pub sample : Recover → Job
 sample recover =
     record {
-      shape = record { dims = 1; n = record { x = pos 2; y = pos 1; z = pos 1 }; ghost_ = record { x = pos 0; y = pos 0; z = pos 0 }; periodic = false ∷ false ∷ false ∷ [] };
+      shape = record {
+        dims = 1;
+        n = record { x = pos 2; y = pos 1; z = pos 1 };
+        ghost_ = record { x = pos 0; y = pos 0; z = pos 0 };
+        periodic = false ∷ false ∷ false ∷ [];
+      };
       vars = sample_variables;
       items = [];
+      steers = [];
       plan = record { bins = no_bins };
       cut = record { x = []; y = []; z = [] };
       itlast = 40;
       while_limit = 1;
       lead = 0;
+      balance = false;
+      weight = None;
+      weight_factor = 1;
       out_every = negsuc 0;
       out_vars = [];
       chk_every = pos 20;
@@ -44,4 +55,10 @@ sample recover =
 
 -- the checkpoint of iteration 20 of the tests, behind three bytes of output
 abbrev pub sample_checkpoint : Checkpoint
-sample_checkpoint = record { iteration = 20; key = codes "k\nv 5"; lengths = 3 ∷ []; scalars = negsuc 0 ∷ []; levels = (pos 0 ∷ pos 1 ∷ []) ∷ [] }
+sample_checkpoint = record {
+  iteration = 20;
+  key = codes "k\nv 5";
+  lengths = 3 ∷ [];
+  scalars = negsuc 0 ∷ [];
+  levels = (pos 0 ∷ pos 1 ∷ []) ∷ [];
+}

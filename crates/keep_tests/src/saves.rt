@@ -7,7 +7,7 @@ ghost use Rattle.keep_tests.specs.Samples.{sample_checkpoint};
 
 use crate::starts::{VALUES, disk, job, slot, start_words, text};
 use cx_chk::Checkpoint;
-use cx_disk::{Disk, FuseDisk, MemoryDisk};
+use cx_disk::{Disk, FuseDisk, MemoryDisk, OLD_OUTPUT};
 use cx_keep::{BeginFault, Keep};
 use cx_plan::{Job, Recover};
 use cx_text::List;
@@ -51,8 +51,12 @@ fn a_run_saves_a_checkpoint(rt: HostRuntime) -> Result<(), Fail> {
     let c = checkpoint(alloc)?;
     run(alloc, &mut disk, &job, &c)?;
     let saved = slot(alloc, 20, b'5', VALUES)?;
-    assert_eq!(rt; disk.bytes(0), saved.as_slice());
-    assert_eq!(rt; disk.bytes(8), b"abc".as_slice());
+    assert_eq!(rt; disk.bytes(0), saved.as_slice(), "slot 0");
+    assert_eq!(rt;
+        disk.bytes(OLD_OUTPUT as usize),
+        b"abc".as_slice(),
+        "the output"
+    );
     Ok(())
 }
 
@@ -86,7 +90,7 @@ fn a_run_that_stops(rt: HostRuntime) -> Result<(), Fail> {
     let alloc = rt.alloc();
     for (calls, choice, words) in STOPS {
         let shown = words_behind(alloc, *calls, *choice)?;
-        assert_eq!(rt; shown.as_str(), *words);
+        assert_eq!(rt; shown.as_str(), *words, "{calls} calls, choice {choice}");
     }
     Ok(())
 }
@@ -107,7 +111,7 @@ fn a_start_that_stops(rt: HostRuntime) -> Result<(), Fail> {
     let alloc = rt.alloc();
     for choice in 0..3 {
         let shown = words_behind_cut(alloc, choice)?;
-        assert_eq!(rt; shown.as_str(), "true: from 20: abc");
+        assert_eq!(rt; shown.as_str(), "true: from 20: abc", "choice {choice}");
     }
     Ok(())
 }

@@ -6,7 +6,7 @@ ghost use Rattle.cx_plan.specs.Whole.{IsWhole};
 ghost use Rattle.keep_tests.specs.Samples.{sample, sample_variables, nothing, no_bins};
 
 use cx_chk::Checkpoint;
-use cx_disk::MemoryDisk;
+use cx_disk::{MemoryDisk, OLD_OUTPUT, SLOTS};
 use cx_grid::{Point, Shape};
 use cx_keep::{BeginFault, Keep};
 use cx_plan::{Cuts, Job, Recover, Schedule, Tree, VarInfo};
@@ -107,6 +107,7 @@ pub(crate) fn job(alloc: Global, recover: Recover) -> Result<Job, Fail>
         shape: line(recover),
         vars: variables(alloc)?,
         items: List::empty(alloc),
+        steers: List::empty(alloc),
         plan: Schedule { bins: bins(alloc)? },
         cut: Cuts {
             x: List::empty(alloc),
@@ -116,6 +117,9 @@ pub(crate) fn job(alloc: Global, recover: Recover) -> Result<Job, Fail>
         itlast: 40,
         while_limit: 1,
         lead: 0,
+        balance: false,
+        weight: None,
+        weight_factor: 1,
         out_every: -1,
         out_vars: List::empty(alloc),
         chk_every: 20,
@@ -146,7 +150,7 @@ pub(crate) fn slot(alloc: Global, iteration: u8, last: u8, values: &[u8]) -> Res
 pub(crate) fn disk(alloc: Global, slot: Vec<u8>, output: &[u8]) -> Result<MemoryDisk, Fail> {
     let mut files = List::empty(alloc);
     files.push(Text::new(slot))?;
-    for _ in 1..8 {
+    for _ in 1..SLOTS {
         files.push(text(alloc, b"")?)?;
     }
     files.push(text(alloc, output)?)?;
@@ -200,7 +204,7 @@ pub(crate) fn start_words(
 ) -> Result<String, Fail> {
     let job = job(alloc, recover)?;
     let words = begin_words(alloc, &mut disk, &job)?;
-    let output = str::from_utf8(disk.bytes(8))?;
+    let output = str::from_utf8(disk.bytes(OLD_OUTPUT as usize))?;
     Ok(format!(in alloc; "{words}: {output}")?)
 }
 
@@ -214,7 +218,7 @@ fn a_start_without_a_slot(rt: HostRuntime) -> Result<(), Fail> {
     ] {
         let disk = disk(alloc, Vec::new(alloc), b"old")?;
         let shown = start_words(alloc, disk, recover)?;
-        assert_eq!(rt; shown.as_str(), words);
+        assert_eq!(rt; shown.as_str(), words, "{recover:?}");
     }
     Ok(())
 }
@@ -229,7 +233,7 @@ fn a_start_with_a_slot(rt: HostRuntime) -> Result<(), Fail> {
     ] {
         let disk = disk(alloc, slot(alloc, 20, b'5', VALUES)?, b"abcde")?;
         let shown = start_words(alloc, disk, recover)?;
-        assert_eq!(rt; shown.as_str(), words);
+        assert_eq!(rt; shown.as_str(), words, "{recover:?}");
     }
     Ok(())
 }
@@ -253,7 +257,7 @@ fn a_start_that_is_refused(rt: HostRuntime) -> Result<(), Fail> {
         let slot = slot(alloc, *iteration, *last, values)?;
         let disk = disk(alloc, slot, output)?;
         let shown = start_words(alloc, disk, Recover::Auto)?;
-        assert_eq!(rt; shown.as_str(), *words);
+        assert_eq!(rt; shown.as_str(), *words, "wanted: {words}");
     }
     Ok(())
 }

@@ -9,26 +9,26 @@ use cx_text::{CType, List, Memory, Text};
 use std::alloc::Global;
 use std::test::Fail;
 
-// A file's name and its bytes.
+/// A file's name and its bytes.
 struct File {
-    name: &'static [u8],
+    name: &'static str,
     bytes: &'static [u8],
 }
 
 const FILES: &[File] = &[
     File {
-        name: b"ThornList",
+        name: "ThornList",
         bytes: b"Integer/Life2D\n",
     },
     File {
-        name: b"arrangements/Integer/Life2D/interface.ccl",
+        name: "arrangements/Integer/Life2D/interface.ccl",
         bytes: b"implements: life\n\
         public:\n\
         CCTK_BYTE cells TYPE=GF DIM=2 { cell } \"cells\"\n\
         CCTK_INT counts TYPE=SCALAR { live } \"live cells\"\n",
     },
     File {
-        name: b"arrangements/Integer/Life2D/param.ccl",
+        name: "arrangements/Integer/Life2D/param.ccl",
         bytes: b"restricted:\n\
         INT born { 0:511 } 8\n\
         INT survive { 0:511 } 12\n\
@@ -36,7 +36,7 @@ const FILES: &[File] = &[
         INT seed { 0:* } 0\n",
     },
     File {
-        name: b"arrangements/Integer/Life2D/schedule.ccl",
+        name: "arrangements/Integer/Life2D/schedule.ccl",
         bytes: b"STORAGE: cells[1] counts[1]\n\
         schedule life_init AT INITIAL { LANG: C WRITES: life::cell(everywhere) } \"start\"\n\
         schedule life_step AT EVOL\n\
@@ -50,7 +50,7 @@ const FILES: &[File] = &[
         schedule life_count AT POSTSTEP { LANG: C READS: life::cell(everywhere) WRITES: life::live } \"count\"\n",
     },
     File {
-        name: b"made.par",
+        name: "made.par",
         bytes: b"ActiveThorns = \"Life2D\"\n\
         Cactus::cctk_itlast = 20\n\
         driver::global_nx = 64\n\
@@ -71,22 +71,25 @@ const FILES: &[File] = &[
 #[test]
 fn files_of_a_seed_and_a_size(rt: HostRuntime) -> Result<(), Fail> {
     let files = made_files(rt.alloc(), 7, 64)?;
-    assert_eq!(rt; files.len(), FILES.len());
+    assert_eq!(rt; files.len(), FILES.len(), "how many files");
     for (file, expected) in files.as_slice().iter().zip(FILES) {
-        assert_eq!(rt; file.0.as_slice(), expected.name);
-        assert_eq!(rt; file.1.as_slice(), expected.bytes);
+        let found = (file.0.as_slice(), file.1.as_slice());
+        let want = (expected.name.as_bytes(), expected.bytes);
+        assert_eq!(rt; found, want, "{}", expected.name);
     }
-    assert_eq!(rt; file_name(rt.alloc())?.as_slice(), b"made.par".as_slice());
+    let name = file_name(rt.alloc())?;
+    let want = b"made.par".as_slice();
+    assert_eq!(rt; name.as_slice(), want, "the parameter file's name");
     Ok(())
 }
 
-// What is summed up, and the line.
+/// What is summed up, and the line.
 struct Sum {
     seed: u64,
     size: u32,
     output: u64,
     live: i64,
-    line: &'static [u8],
+    line: &'static str,
 }
 
 const SUMS: &[Sum] = &[
@@ -95,14 +98,14 @@ const SUMS: &[Sum] = &[
         size: 64,
         output: 16_459,
         live: 512,
-        line: b"made 7 64 points 4096 parts 16 output 16459 live 512\n",
+        line: "made 7 64 points 4096 parts 16 output 16459 live 512\n",
     },
     Sum {
         seed: 9_223_372_036_854_775_807,
         size: 1024,
         output: 0,
         live: -1,
-        line: b"made 9223372036854775807 1024 points 1048576 parts 16 output 0 live -1\n",
+        line: "made 9223372036854775807 1024 points 1048576 parts 16 output 0 live -1\n",
     },
 ];
 
@@ -110,7 +113,7 @@ const SUMS: &[Sum] = &[
 fn sums_of_runs(rt: HostRuntime) -> Result<(), Fail> {
     for sum in SUMS {
         let line = summary(rt.alloc(), sum.seed, sum.size, sum.output, sum.live)?;
-        assert_eq!(rt; line.as_slice(), sum.line);
+        assert_eq!(rt; line.as_slice(), sum.line.as_bytes(), "{}", sum.line);
     }
     Ok(())
 }
@@ -146,7 +149,7 @@ fn sheet() -> Shape {
     }
 }
 
-// A job with the variables of Life2D, which runs nothing.
+/// A job with the variables of Life2D, which runs nothing.
 fn job(alloc: Global) -> Result<Job, Fail>
     ensures { IfOk result (λ job. length job.vars ≤ 256) }
 {
@@ -155,6 +158,7 @@ fn job(alloc: Global) -> Result<Job, Fail>
         shape: sheet(),
         vars,
         items: List::empty(alloc),
+        steers: List::empty(alloc),
         plan: Schedule {
             bins: List::empty(alloc),
         },
@@ -166,6 +170,9 @@ fn job(alloc: Global) -> Result<Job, Fail>
         itlast: 20,
         while_limit: 1,
         lead: 0,
+        balance: false,
+        weight: None,
+        weight_factor: 1,
         out_every: 20,
         out_vars: List::empty(alloc),
         chk_every: 10,
@@ -180,12 +187,15 @@ fn job(alloc: Global) -> Result<Job, Fail>
     })
 }
 
+/// Names that no scalar has.
+const NO_SCALARS: &[&str] = &["life::cell", "life::lives", ""];
+
 #[test]
 fn scalars_by_their_names(rt: HostRuntime) -> Result<(), Fail> {
     let job = job(rt.alloc())?;
-    assert_eq!(rt; live_variable(&job), Some(VarId(1)));
-    assert_eq!(rt; scalar_named(&job, b"life::cell"), None);
-    assert_eq!(rt; scalar_named(&job, b"life::lives"), None);
-    assert_eq!(rt; scalar_named(&job, b""), None);
+    assert_eq!(rt; live_variable(&job), Some(VarId(1)), "life::live");
+    for name in NO_SCALARS {
+        assert_eq!(rt; scalar_named(&job, name.as_bytes()), None, "{name:?}");
+    }
     Ok(())
 }

@@ -149,8 +149,23 @@ fn assert_pairs(
     Ok(())
 }
 
+/// Each beginning of a file is read as it is derived.
+fn assert_cut(
+    rt: &impl Abort,
+    alloc: Global,
+    start: u8,
+    style: Style,
+    text: &[u8],
+) -> Result<(), Fail> {
+    for end in 0..=text.len() {
+        let list = tokens(alloc, &text[..end], style)?;
+        assert_answered_as_derived(rt, alloc, start, &list)?;
+    }
+    Ok(())
+}
+
 #[test]
-fn short_lists_are_read_as_they_are_derived(rt: HostRuntime) -> Result<(), Fail> {
+fn lists_and_cut_files_are_read_as_they_are_derived(rt: HostRuntime) -> Result<(), Fail> {
     let alloc = rt.alloc();
     for beginning in CONFIGURATION_BEGINNINGS {
         assert_pairs(&rt, alloc, b'C', beginning, b"portw{}:,\n5")?;
@@ -158,17 +173,8 @@ fn short_lists_are_read_as_they_are_derived(rt: HostRuntime) -> Result<(), Fail>
     for beginning in PLACE_BEGINNINGS {
         assert_pairs(&rt, alloc, b'P', beginning, b"aw\n5")?;
     }
-    Ok(())
-}
-
-#[test]
-fn files_cut_short_are_read_as_they_are_derived(rt: HostRuntime) -> Result<(), Fail> {
-    let alloc = rt.alloc();
     for (start, style, text) in [(b'C', Style::Ccl, FILE), (b'P', Style::Thorns, BOX)] {
-        for end in 0..=text.len() {
-            let list = tokens(alloc, &text[..end], style)?;
-            assert_answered_as_derived(&rt, alloc, start, &list)?;
-        }
+        assert_cut(&rt, alloc, start, style, text)?;
     }
     Ok(())
 }

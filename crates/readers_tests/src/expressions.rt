@@ -7,7 +7,7 @@ ghost use Rattle.cx_expr.specs.Exprs.{expression};
 ghost use Rattle.cx_expr.specs.Known.{NumberOf, TextOf, Nothing};
 
 use cx_expr::{Expr, ExprFault, Found, Lookup, eval, print_expr, read_expr};
-use cx_text::{CclFault, Style, Text, tokens};
+use cx_text::{CclFault, Memory, Style, Text, tokens};
 use std::alloc::Global;
 use std::process::Abort;
 use std::test::Fail;
@@ -45,169 +45,189 @@ impl Lookup for Nobody {
     }
 }
 
-/// Expressions in which each name stands for 5, and their values.
-const VALUES: &[(&[u8], i64)] = &[
-    (b"1 + 2 * 3 == 7", 1),
-    (b"2 - 3 - 4", -5),
-    (b"-7 / 2", -3),
-    (b"7 / -2", -3),
-    (b"-7 % 2", -1),
-    (b"7 % -2", 1),
-    (b"100 / 7 * 7 + 100 % 7", 100),
-    (b"8 / 2 / 2", 2),
-    (b"(1 + 2) * 3", 9),
-    (b"!0", 1),
-    (b"!5", 0),
-    (b"!!5", 1),
-    (b"- -3", 3),
-    (b"-2 + 3", 1),
-    (b"1 < 2", 1),
-    (b"2 <= 1", 0),
-    (b"2 > 1", 1),
-    (b"2 >= 3", 0),
-    (b"1 != 1", 0),
-    (b"0 || 3", 1),
-    (b"0 || 0", 0),
-    (b"2 && 3", 1),
-    (b"2 && 0", 0),
-    (b"0 && 1 / 0", 0),
-    (b"1 || 1 / 0", 1),
-    (b"1 || 0 && 0", 1),
-    (b"1 + 1 == 2 && 3 < 4", 1),
-    (b"n * n[3] - 1", 24),
-    (b"CCTK_Equals + 1", 6),
-    (b"9223372036854775807", 9_223_372_036_854_775_807),
-    (b"-9223372036854775807 - 1", -9_223_372_036_854_775_808),
-    (b"(-9223372036854775807 - 1) % -1", 0),
+/// Expressions in which each name stands for 5, and their values, or the sign where a result leaves 64 bits.
+const VALUES: &[(&str, &str)] = &[
+    ("1 + 2 * 3 == 7", "1"),
+    ("2 - 3 - 4", "-5"),
+    ("-7 / 2", "-3"),
+    ("7 / -2", "-3"),
+    ("-7 % 2", "-1"),
+    ("7 % -2", "1"),
+    ("100 / 7 * 7 + 100 % 7", "100"),
+    ("8 / 2 / 2", "2"),
+    ("(1 + 2) * 3", "9"),
+    ("!0", "1"),
+    ("!5", "0"),
+    ("!!5", "1"),
+    ("- -3", "3"),
+    ("-2 + 3", "1"),
+    ("1 < 2", "1"),
+    ("2 <= 1", "0"),
+    ("2 > 1", "1"),
+    ("2 >= 3", "0"),
+    ("1 != 1", "0"),
+    ("0 || 3", "1"),
+    ("0 || 0", "0"),
+    ("2 && 3", "1"),
+    ("2 && 0", "0"),
+    ("0 && 1 / 0", "0"),
+    ("1 || 1 / 0", "1"),
+    ("1 || 0 && 0", "1"),
+    ("1 + 1 == 2 && 3 < 4", "1"),
+    ("n * n[3] - 1", "24"),
+    ("CCTK_Equals + 1", "6"),
+    ("9223372036854775807", "9223372036854775807"),
+    ("-9223372036854775807 - 1", "-9223372036854775808"),
+    ("(-9223372036854775807 - 1) % -1", "0"),
+    ("7 / 0", "Range /"),
+    ("7 % 0", "Range %"),
+    ("9223372036854775807 + 1", "Range +"),
+    ("-9223372036854775807 - 2", "Range -"),
+    ("9223372036854775807 * 2", "Range *"),
+    ("-(-9223372036854775807 - 1)", "Range -"),
+    ("(-9223372036854775807 - 1) / -1", "Range /"),
 ];
 
-/// Expressions without a value, by a sign that is out of range.
-const RANGES: &[(&[u8], &[u8])] = &[
-    (b"7 / 0", b"/"),
-    (b"7 % 0", b"%"),
-    (b"9223372036854775807 + 1", b"+"),
-    (b"-9223372036854775807 - 2", b"-"),
-    (b"9223372036854775807 * 2", b"*"),
-    (b"-(-9223372036854775807 - 1)", b"-"),
-    (b"(-9223372036854775807 - 1) / -1", b"/"),
+/// What names stand for.
+#[derive(Clone, Copy, Debug)]
+enum Names {
+    Fives,
+    Points,
+    Unknown,
+}
+
+/// Expressions, what names stand for, and values or faults.
+const NAMES: &[(&str, Names, &str)] = &[
+    ("CCTK_Equals(pattern, \"POINT\")", Names::Points, "1"),
+    (
+        "CCTK_Equals(pattern, \"POINT\")",
+        Names::Fives,
+        "NotText pattern",
+    ),
+    ("pattern[2] + 1", Names::Points, "NotNumber pattern"),
+    ("pattern[2] + 1", Names::Unknown, "UnknownName pattern"),
 ];
 
 /// Expressions in which each name stands for 5, their values, and how they are printed.
-const PRINTED: &[(&[u8], i64, &[u8])] = &[
-    (b"1 || 0 && 0", 1, b"1 || 0 && 0\n"),
-    (b"(1 || 0) && 0", 0, b"( 1 || 0 ) && 0\n"),
-    (b"1 || (0 && 0)", 1, b"1 || 0 && 0\n"),
-    (b"(0 || 0) || 7", 1, b"0 || 0 || 7\n"),
-    (b"0 || (0 || 7)", 1, b"0 || ( 0 || 7 )\n"),
-    (b"(2 && 3) && 0", 0, b"2 && 3 && 0\n"),
-    (b"2 && (3 && 0)", 0, b"2 && ( 3 && 0 )\n"),
-    (b"(1 < 2) < 3", 1, b"( 1 < 2 ) < 3\n"),
-    (b"1 < (2 < 3)", 0, b"1 < ( 2 < 3 )\n"),
-    (b"(1 + 2) == 3", 1, b"1 + 2 == 3\n"),
-    (b"1 + (2 == 3)", 1, b"1 + ( 2 == 3 )\n"),
-    (b"(2 - 3) - 4", -5, b"2 - 3 - 4\n"),
-    (b"2 - (3 - 4)", 3, b"2 - ( 3 - 4 )\n"),
-    (b"2 * (3 + 4)", 14, b"2 * ( 3 + 4 )\n"),
-    (b"(2 * 3) + 4", 10, b"2 * 3 + 4\n"),
-    (b"100 / (7 * 2)", 7, b"100 / ( 7 * 2 )\n"),
-    (b"100 / 7 * 2", 28, b"100 / 7 * 2\n"),
-    (b"-8 % 3", -2, b"- 8 % 3\n"),
-    (b"-(8 % 3)", -2, b"- ( 8 % 3 )\n"),
-    (b"!(1 - 1)", 1, b"! ( 1 - 1 )\n"),
-    (b"!1 - 1", -1, b"! 1 - 1\n"),
-    (b"!!n", 1, b"! ! n\n"),
-    (b"- -n", 5, b"- - n\n"),
-    (b"!-!3", 1, b"! - ! 3\n"),
-    (b"((n))\n", 5, b"n\n"),
-    (b"-(n)", -5, b"- n\n"),
-    (b"n[4294967295] * n", 25, b"n [ 4294967295 ] * n\n"),
+const PRINTED: &[(&str, i64, &str)] = &[
+    ("1 || 0 && 0", 1, "1 || 0 && 0\n"),
+    ("(1 || 0) && 0", 0, "( 1 || 0 ) && 0\n"),
+    ("1 || (0 && 0)", 1, "1 || 0 && 0\n"),
+    ("(0 || 0) || 7", 1, "0 || 0 || 7\n"),
+    ("0 || (0 || 7)", 1, "0 || ( 0 || 7 )\n"),
+    ("(2 && 3) && 0", 0, "2 && 3 && 0\n"),
+    ("2 && (3 && 0)", 0, "2 && ( 3 && 0 )\n"),
+    ("(1 < 2) < 3", 1, "( 1 < 2 ) < 3\n"),
+    ("1 < (2 < 3)", 0, "1 < ( 2 < 3 )\n"),
+    ("(1 + 2) == 3", 1, "1 + 2 == 3\n"),
+    ("1 + (2 == 3)", 1, "1 + ( 2 == 3 )\n"),
+    ("(2 - 3) - 4", -5, "2 - 3 - 4\n"),
+    ("2 - (3 - 4)", 3, "2 - ( 3 - 4 )\n"),
+    ("2 * (3 + 4)", 14, "2 * ( 3 + 4 )\n"),
+    ("(2 * 3) + 4", 10, "2 * 3 + 4\n"),
+    ("100 / (7 * 2)", 7, "100 / ( 7 * 2 )\n"),
+    ("100 / 7 * 2", 28, "100 / 7 * 2\n"),
+    ("-8 % 3", -2, "- 8 % 3\n"),
+    ("-(8 % 3)", -2, "- ( 8 % 3 )\n"),
+    ("!(1 - 1)", 1, "! ( 1 - 1 )\n"),
+    ("!1 - 1", -1, "! 1 - 1\n"),
+    ("!!n", 1, "! ! n\n"),
+    ("- -n", 5, "- - n\n"),
+    ("!-!3", 1, "! - ! 3\n"),
+    ("((n))\n", 5, "n\n"),
+    ("-(n)", -5, "- n\n"),
+    ("n[4294967295] * n", 25, "n [ 4294967295 ] * n\n"),
     (
-        b"((1 <= 2) != (3 >= 4)) + (5 > 6)",
+        "((1 <= 2) != (3 >= 4)) + (5 > 6)",
         1,
-        b"( ( 1 <= 2 ) != ( 3 >= 4 ) ) + ( 5 > 6 )\n",
+        "( ( 1 <= 2 ) != ( 3 >= 4 ) ) + ( 5 > 6 )\n",
     ),
     (
-        b"9223372036854775807 - 007",
+        "9223372036854775807 - 007",
         9_223_372_036_854_775_800,
-        b"9223372036854775807 - 7\n",
+        "9223372036854775807 - 7\n",
     ),
-    (b"cctk_equals + 1", 6, b"cctk_equals + 1\n"),
+    ("cctk_equals + 1", 6, "cctk_equals + 1\n"),
 ];
 
 /// Expressions in which each name stands for the text `point`, their values, and how they are printed.
-const TEXTS: &[(&[u8], i64, &[u8])] = &[
+const TEXTS: &[(&str, i64, &str)] = &[
     (
-        b"CCTK_Equals(pattern, \"POINT\")",
+        "CCTK_Equals(pattern, \"POINT\")",
         1,
-        b"CCTK_Equals ( pattern , \"POINT\" )\n",
+        "CCTK_Equals ( pattern , \"POINT\" )\n",
     ),
     (
-        b"cctk_EQUALS(a, 'x\"y') || 0",
+        "cctk_EQUALS(a, 'x\"y') || 0",
         0,
-        b"CCTK_Equals ( a , \"x\\\"y\" ) || 0\n",
+        "CCTK_Equals ( a , \"x\\\"y\" ) || 0\n",
     ),
     (
-        b"!(CCTK_equals(pattern, \"line\"))",
+        "!(CCTK_equals(pattern, \"line\"))",
         1,
-        b"! CCTK_Equals ( pattern , \"line\" )\n",
+        "! CCTK_Equals ( pattern , \"line\" )\n",
     ),
 ];
 
 /// Texts, the place of an expression, and the place behind it or the first fault.
-const PLACES: &[(&[u8], usize, Result<usize, CclFault>)] = &[
-    (b"1 < 2 < 3", 0, Ok(3)),
-    (b"if (a\n+\nb) x", 2, Ok(7)),
-    (b"cctk_EQUALS(a, \"b\") c", 0, Ok(6)),
-    (b"1 +\n\n", 0, Err(CclFault::Unexpected(1))),
-    (b"1\n+ ;", 0, Err(CclFault::Unexpected(2))),
-    (b"(1 2", 0, Err(CclFault::Unexpected(1))),
-    (b"", 0, Err(CclFault::Unexpected(1))),
-    (b"9223372036854775808", 0, Err(CclFault::BadNumber(1))),
-    (b"a[4294967295]", 0, Ok(5)),
-    (b"1 +\na[4294967296]", 0, Err(CclFault::BadNumber(2))),
+const PLACES: &[(&str, usize, Result<usize, CclFault>)] = &[
+    ("1 < 2 < 3", 0, Ok(3)),
+    ("if (a\n+\nb) x", 2, Ok(7)),
+    ("cctk_EQUALS(a, \"b\") c", 0, Ok(6)),
+    ("1 +\n\n", 0, Err(CclFault::Unexpected(1))),
+    ("1\n+ ;", 0, Err(CclFault::Unexpected(2))),
+    ("(1 2", 0, Err(CclFault::Unexpected(1))),
+    ("", 0, Err(CclFault::Unexpected(1))),
+    ("9223372036854775808", 0, Err(CclFault::BadNumber(1))),
+    ("a[4294967295]", 0, Ok(5)),
+    ("1 +\na[4294967296]", 0, Err(CclFault::BadNumber(2))),
 ];
 
-fn read(rt: &HostRuntime, text: &[u8]) -> Result<Expr, Fail> {
-    let list = tokens(rt.alloc(), text, Style::Ccl)?;
-    let (e, _) = read_expr(rt.alloc(), &list, 0)?;
-    Ok(e)
+/// A word and a name.
+fn of_name(alloc: Global, word: &[u8], name: &Text) -> Result<Text, Memory> {
+    let mut words = Text::from_slice(alloc, word)?;
+    words.push_slice(name.as_slice())?;
+    Ok(words)
+}
+
+/// A value, or a fault with what it is about.
+fn words(alloc: Global, answer: Result<i64, &ExprFault>) -> Result<Text, Memory> {
+    match answer {
+        Ok(n) => Text::from_slice(alloc, n.to_string(alloc)?.as_bytes()),
+        Err(ExprFault::Range(sign)) => of_name(alloc, b"Range ", sign),
+        Err(ExprFault::NotText(name)) => of_name(alloc, b"NotText ", name),
+        Err(ExprFault::NotNumber(name)) => of_name(alloc, b"NotNumber ", name),
+        Err(ExprFault::UnknownName(name)) => of_name(alloc, b"UnknownName ", name),
+    }
+}
+
+/// What an expression comes to, in words.
+fn told(alloc: Global, text: &str, names: Names) -> Result<Text, Fail> {
+    let e = whole(alloc, text)?;
+    let answer = match names {
+        Names::Fives => eval(&e, &Five),
+        Names::Points => eval(&e, &Point),
+        Names::Unknown => eval(&e, &Nobody),
+    };
+    Ok(words(alloc, answer)?)
 }
 
 #[test]
-fn expressions_have_these_values(rt: HostRuntime) -> Result<(), Fail> {
+fn expressions_have_these_values_and_faults(rt: HostRuntime) -> Result<(), Fail> {
     for (text, want) in VALUES {
-        let e = read(&rt, text)?;
-        assert_eq!(rt; eval(&e, &Five).ok(), Some(*want), "{text:?}");
+        let told = told(rt.alloc(), text, Names::Fives)?;
+        assert_eq!(rt; told.as_slice(), want.as_bytes(), "{text}");
     }
-    Ok(())
-}
-
-#[test]
-fn results_out_of_range_keep_the_sign(rt: HostRuntime) -> Result<(), Fail> {
-    for (text, want) in RANGES {
-        let e = read(&rt, text)?;
-        match eval(&e, &Five) {
-            Err(ExprFault::Range(sign)) => assert_eq!(rt; sign.as_slice(), *want, "{text:?}"),
-            _ => return Err(Fail::new("another answer")),
-        }
+    for (text, names, want) in NAMES {
+        let told = told(rt.alloc(), text, *names)?;
+        assert_eq!(rt; told.as_slice(), want.as_bytes(), "{text} with {names:?}");
     }
-    Ok(())
-}
-
-#[test]
-fn names_stand_for_texts_or_nothing(rt: HostRuntime) -> Result<(), Fail> {
-    let equal = read(&rt, b"CCTK_Equals(pattern, \"POINT\")")?;
-    assert_eq!(rt; eval(&equal, &Point).ok(), Some(1));
-    assert!(rt; matches!(eval(&equal, &Five), Err(ExprFault::NotText(_))));
-    let sum = read(&rt, b"pattern[2] + 1")?;
-    assert!(rt; matches!(eval(&sum, &Point), Err(ExprFault::NotNumber(_))));
-    assert!(rt; matches!(eval(&sum, &Nobody), Err(ExprFault::UnknownName(_))));
     Ok(())
 }
 
 /// The place behind the expression at a place of a text, or its first fault.
-fn place_behind(rt: &HostRuntime, text: &[u8], at: usize) -> Result<Result<usize, CclFault>, Fail> {
-    let list = tokens(rt.alloc(), text, Style::Ccl)?;
+fn place_behind(rt: &HostRuntime, text: &str, at: usize) -> Result<Result<usize, CclFault>, Fail> {
+    let list = tokens(rt.alloc(), text.as_bytes(), Style::Ccl)?;
     if list.len() < at {
         return Err(Fail::new("no such place"));
     }
@@ -220,20 +240,17 @@ fn place_behind(rt: &HostRuntime, text: &[u8], at: usize) -> Result<Result<usize
 #[test]
 fn expressions_end_at_these_places(rt: HostRuntime) -> Result<(), Fail> {
     for (text, at, want) in PLACES {
-        match (place_behind(&rt, text, *at)?, want) {
-            (Ok(place), Ok(behind)) => assert_eq!(rt; place, *behind, "{text:?}"),
-            (Err(fault), Err(first)) => assert_eq!(rt; fault, *first, "{text:?}"),
-            _ => return Err(Fail::new("another answer")),
-        }
+        let found = place_behind(&rt, text, *at)?;
+        assert_eq!(rt; found, *want, "{text:?} from {at}");
     }
     Ok(())
 }
 
 /// The expression that a whole text spells.
-fn whole(alloc: Global, text: &[u8]) -> Result<Expr, Fail>
+fn whole(alloc: Global, text: &str) -> Result<Expr, Fail>
     ensures { IfOk result (λ e. HasSpelling styles.Ccl expression.derives e) }
 {
-    let list = tokens(alloc, text, Style::Ccl)?;
+    let list = tokens(alloc, text.as_bytes(), Style::Ccl)?;
     let (e, place) = read_expr(alloc, &list, 0)?;
     if place == list.len() {
         Ok(e)
@@ -243,13 +260,13 @@ fn whole(alloc: Global, text: &[u8]) -> Result<Expr, Fail>
 }
 
 /// How an expression is printed.
-fn printed(alloc: Global, text: &[u8]) -> Result<Text, Fail> {
+fn printed(alloc: Global, text: &str) -> Result<Text, Fail> {
     let e = whole(alloc, text)?;
     Ok(print_expr(alloc, &e)?)
 }
 
 /// The value of an expression.
-fn value<L: Lookup>(alloc: Global, text: &[u8], names: &L) -> Result<Option<i64>, Fail> {
+fn value<L: Lookup>(alloc: Global, text: &str, names: &L) -> Result<Option<i64>, Fail> {
     let e = whole(alloc, text)?;
     Ok(eval(&e, names).ok())
 }
@@ -258,14 +275,15 @@ fn value<L: Lookup>(alloc: Global, text: &[u8], names: &L) -> Result<Option<i64>
 fn assert_printed<L: Lookup>(
     rt: &impl Abort,
     alloc: Global,
-    row: &(&[u8], i64, &[u8]),
+    row: &(&str, i64, &str),
     names: &L,
 ) -> Result<(), Fail> {
     let (text, want, line) = row;
-    assert_eq!(rt; printed(alloc, text)?.as_slice(), *line);
-    assert_eq!(rt; printed(alloc, line)?.as_slice(), *line);
-    assert_eq!(rt; value(alloc, text, names)?, Some(*want));
-    assert_eq!(rt; value(alloc, line, names)?, Some(*want));
+    for spelled in [*text, *line] {
+        let again = printed(alloc, spelled)?;
+        assert_eq!(rt; again.as_slice(), line.as_bytes(), "{spelled:?}");
+        assert_eq!(rt; value(alloc, spelled, names)?, Some(*want), "{spelled:?}");
+    }
     Ok(())
 }
 

@@ -2,7 +2,7 @@
 //! token of the files is marked, so marks aren't in it.
 
 use crate::derivations::{Rules, fault};
-use crate::interfaces::SAMPLES;
+use crate::interfaces::FILES;
 use cx_iface::read_interface;
 use cx_text::{Kind, List, Memory, Style, Token, tokens};
 use std::alloc::Global;
@@ -150,7 +150,7 @@ fn assert_cut(rt: &impl Abort, alloc: Global, text: &[u8]) -> Result<(), Fail> {
 
 #[test]
 fn files_cut_short_are_read_as_they_are_derived(rt: HostRuntime) -> Result<(), Fail> {
-    for text in SAMPLES {
+    for (_, text) in FILES {
         for end in 0..=text.len() {
             assert_cut(&rt, rt.alloc(), &text[..end])?;
         }

@@ -5,52 +5,54 @@ ghost use Rattle.cx_text.specs.declared.token.Style.TheVariants as styles;
 ghost use Rattle.cx_text.specs.Printing.{HasSpelling};
 ghost use Rattle.cx_iface.specs.File.{interface};
 
+use crate::common::words;
 use cx_iface::{Access, GType, Group, Interface, print_interface, read_interface};
 use cx_text::{CType, CclFault, Style, tokens};
+use sample_files::{control, diffint, elemca, life2d, waveint};
 use std::alloc::Global;
 use std::process::Abort;
 use std::test::Fail;
 
 /// Texts that are no interface file, and their first fault.
-const FAULTS: &[(&[u8], CclFault)] = &[
-    (b"", CclFault::Unexpected(1)),
-    (b"implements ca\n", CclFault::Unexpected(1)),
+pub const FAULTS: &[(&str, CclFault)] = &[
+    ("", CclFault::Unexpected(1)),
+    ("implements ca\n", CclFault::Unexpected(1)),
     (
-        b"implements: ca\npublic\nINT g TYPE=GF\n",
+        "implements: ca\npublic\nINT g TYPE=GF\n",
         CclFault::Unexpected(3),
     ),
-    (b"public:\nINT g\n", CclFault::Unexpected(2)),
-    (b"implements: ca\nINT g { a b\n", CclFault::Unexpected(2)),
+    ("public:\nINT g\n", CclFault::Unexpected(2)),
+    ("implements: ca\nINT g { a b\n", CclFault::Unexpected(2)),
     (
-        b"implements: ca\nINT g DIM=4 DIM=5\n",
+        "implements: ca\nINT g DIM=4 DIM=5\n",
         CclFault::BadNumber(2),
     ),
     (
-        b"implements: ca\npublic:\nINT g TIMELEVELS=2 TIMELEVELS=2\n",
+        "implements: ca\npublic:\nINT g TIMELEVELS=2 TIMELEVELS=2\n",
         CclFault::Repeated(3),
     ),
     (
-        b"implements: ca\nINT g TYPE=GF DIM=4\n",
+        "implements: ca\nINT g TYPE=GF DIM=4\n",
         CclFault::BadNumber(2),
     ),
     (
-        b"implements: ca\nimplements FUNCTION f(INT x)\nimplements x\n",
+        "implements: ca\nimplements FUNCTION f(INT x)\nimplements x\n",
         CclFault::Repeated(3),
     ),
     (
-        b"implements: ca\n\npublic:\n\nINT abcdefghijklmnopqrstuvwxyz_abcdefghijklmnopqrstuvwxyz_abcdefghijk\n",
+        "implements: ca\n\npublic:\n\nINT abcdefghijklmnopqrstuvwxyz_abcdefghijklmnopqrstuvwxyz_abcdefghijk\n",
         CclFault::Limit(5),
     ),
 ];
 
-/// The interface files of the sample thorns.
-pub const SAMPLES: &[&[u8]] = &[
-    b"implements: ca\npublic:\nCCTK_BYTE cells TYPE=GF DIM=1 { cell } \"cells\"\nCCTK_INT counts TYPE=SCALAR { live } \"live cells\"\n",
-    b"implements: life\npublic:\nCCTK_BYTE cells TYPE=GF DIM=2 { cell } \"cells\"\nCCTK_INT counts TYPE=SCALAR { live } \"live cells\"\n",
-    b"implements: wave\npublic:\nCCTK_INT evolved TYPE=GF DIM=1 TIMELEVELS=3 { phi } \"field\"\nCCTK_INT sums TYPE=SCALAR { total } \"sum\"\n",
-    b"implements: diff\npublic:\nCCTK_INT evolved TYPE=GF DIM=1 TIMELEVELS=1 { u } \"field\"\nCCTK_INT sums TYPE=SCALAR { total } \"sum\"\n",
-    b"implements: control\npublic:\nCCTK_INT counter TYPE=SCALAR { count } \"turns left\"\n",
-    FORMS,
+/// The interface files of the sample thorns, and one with every form.
+pub const FILES: &[(&str, &[u8])] = &[
+    ("ElemCA", elemca::INTERFACE),
+    ("Life2D", life2d::INTERFACE),
+    ("WaveInt", waveint::INTERFACE),
+    ("DiffInt", diffint::INTERFACE),
+    ("Control", control::INTERFACE),
+    ("each form", FORMS),
 ];
 
 /// A file with every form of header, group and line.
@@ -83,46 +85,46 @@ const PLAIN: &[u8] =
 const PRINTED: &[u8] =
     b"uses function f\nIMPLEMENTS : x\nINHERITS : a b c\nFRIEND :\nPRIVATE : CCTK_INT g [ 2 ] TYPE = GF DIM = 3 TIMELEVELS = 1 tags = \"p=\\\"1\\\"\" { u v w } \"t\"\n";
 
-type Form<'a> = (
-    (Access, CType, &'a [u8], Option<u32>),
-    (GType, u8, u8, usize),
-    &'a [&'a [u8]],
-    &'a [u8],
-);
-
-/// The groups of that file: access, type, name and copies; kind, directions, time levels and tokens without effect;
-/// variables; text.
-const GROUPS: &[Form] = &[
-    (
-        (Access::Private, CType::Int, b"first", None),
-        (GType::Scalar, 3, 1, 0),
-        &[b"first"],
-        b"",
-    ),
-    (
-        (Access::Protected, CType::Real, b"second", None),
-        (GType::Gf, 3, 2, 3),
-        &[b"a", b"b", b"c"],
-        b"later",
-    ),
-    (
-        (Access::Public, CType::Int2, b"third", Some(3)),
-        (GType::Array, 2, 1, 13),
-        &[],
-        b"only",
-    ),
-    (
-        (Access::Private, CType::Complex, b"fourth", None),
-        (GType::Scalar, 1, 1, 0),
-        &[b"x", b"y", b"z"],
-        b"",
-    ),
-];
-
-fn fault(alloc: Global, text: &[u8]) -> Result<Option<CclFault>, Fail> {
-    let list = tokens(alloc, text, Style::Ccl)?;
-    Ok(read_interface(alloc, &list).err())
+/// A group: access, type and copies; kind, directions, time levels and how many tokens have no effect; name, variables and text.
+struct Form {
+    declared: (Access, CType, Option<u32>),
+    kind: (GType, u8, u8, usize),
+    name: &'static str,
+    variables: &'static str,
+    text: &'static str,
 }
+
+/// The groups of the file with every form.
+const GROUPS: &[Form] = &[
+    Form {
+        declared: (Access::Private, CType::Int, None),
+        kind: (GType::Scalar, 3, 1, 0),
+        name: "first",
+        variables: " first",
+        text: "",
+    },
+    Form {
+        declared: (Access::Protected, CType::Real, None),
+        kind: (GType::Gf, 3, 2, 3),
+        name: "second",
+        variables: " a b c",
+        text: "later",
+    },
+    Form {
+        declared: (Access::Public, CType::Int2, Some(3)),
+        kind: (GType::Array, 2, 1, 13),
+        name: "third",
+        variables: "",
+        text: "only",
+    },
+    Form {
+        declared: (Access::Private, CType::Complex, None),
+        kind: (GType::Scalar, 1, 1, 0),
+        name: "fourth",
+        variables: " x y z",
+        text: "",
+    },
+];
 
 /// Reads an interface file.
 fn interface(alloc: Global, text: &[u8]) -> Result<Interface, Fail>
@@ -133,47 +135,38 @@ fn interface(alloc: Global, text: &[u8]) -> Result<Interface, Fail>
     Ok(tree)
 }
 
-fn assert_group(rt: &impl Abort, group: &Group, want: &Form) {
-    let (head, kind, variables, text) = want;
-    assert_eq!(rt; (group.access, group.ctype), (head.0, head.1));
-    assert_eq!(rt; group.name.as_slice(), head.2);
-    assert_eq!(rt; group.copies, head.3);
-    assert_eq!(rt;
-        (group.gtype, group.dim, group.levels, group.rest.len()),
-        *kind
+fn assert_group(rt: &impl Abort, alloc: Global, group: &Group, want: &Form) -> Result<(), Fail> {
+    let declared = (group.access, group.ctype, group.copies);
+    assert_eq!(rt; declared, want.declared, "group {}", want.name);
+    let kind = (group.gtype, group.dim, group.levels, group.rest.len());
+    assert_eq!(rt; kind, want.kind, "group {}", want.name);
+    let variables = words(alloc, &group.variables)?;
+    let texts = (
+        group.name.as_slice(),
+        variables.as_slice(),
+        group.text.as_slice(),
     );
-    assert_eq!(rt; group.variables.len(), variables.len());
-    for (variable, name) in group.variables.as_slice().iter().zip(*variables) {
-        assert_eq!(rt; variable.as_slice(), *name);
-    }
-    assert_eq!(rt; group.text.as_slice(), *text);
-}
-
-#[test]
-fn faults_stand_on_these_lines(rt: HostRuntime) -> Result<(), Fail> {
-    for (text, want) in FAULTS {
-        assert_eq!(rt; fault(rt.alloc(), text)?, Some(*want));
-    }
+    let (name, text) = (want.name, want.text);
+    let wanted = (name.as_bytes(), want.variables.as_bytes(), text.as_bytes());
+    assert_eq!(rt; texts, wanted, "group {name}");
     Ok(())
 }
 
 #[test]
 fn each_form_is_read(rt: HostRuntime) -> Result<(), Fail> {
     let tree = interface(rt.alloc(), FORMS)?;
-    assert_eq!(rt; tree.implements.as_slice(), b"all".as_slice());
-    assert_eq!(rt;
-        (tree.inherits.len(), tree.friends.len(), tree.others.len()),
-        (3, 1, 4)
-    );
-    assert_eq!(rt; tree.groups.len(), GROUPS.len());
+    assert_eq!(rt; tree.implements.as_slice(), b"all".as_slice(), "implements");
+    let counts = (tree.inherits.len(), tree.friends.len(), tree.others.len());
+    assert_eq!(rt; counts, (3, 1, 4), "inherits, friends, other lines");
+    assert_eq!(rt; tree.groups.len(), GROUPS.len(), "how many groups");
     for (group, want) in tree.groups.as_slice().iter().zip(GROUPS) {
-        assert_group(&rt, group, want);
+        assert_group(&rt, rt.alloc(), group, want)?;
     }
     Ok(())
 }
 
 /// A file is printed as a text that says the same.
-fn assert_again(rt: &impl Abort, alloc: Global, text: &[u8]) -> Result<(), Fail> {
+fn assert_again(rt: &impl Abort, alloc: Global, name: &str, text: &[u8]) -> Result<(), Fail> {
     let tree = interface(alloc, text)?;
     let printed = print_interface(alloc, &tree)?;
     let again = interface(alloc, printed.as_slice())?;
@@ -181,22 +174,17 @@ fn assert_again(rt: &impl Abort, alloc: Global, text: &[u8]) -> Result<(), Fail>
         format!(in alloc; "{tree:?}")?,
         format!(in alloc; "{again:?}")?,
     );
-    assert_eq!(rt; one, other);
+    assert_eq!(rt; one, other, "{name}");
     Ok(())
 }
 
 #[test]
 fn files_are_printed_and_read_again(rt: HostRuntime) -> Result<(), Fail> {
-    for text in SAMPLES {
-        assert_again(&rt, rt.alloc(), text)?;
+    for (name, text) in FILES {
+        assert_again(&rt, rt.alloc(), name, text)?;
     }
-    Ok(())
-}
-
-#[test]
-fn a_file_is_printed(rt: HostRuntime) -> Result<(), Fail> {
     let tree = interface(rt.alloc(), PLAIN)?;
     let printed = print_interface(rt.alloc(), &tree)?;
-    assert_eq!(rt; printed.as_slice(), PRINTED);
+    assert_eq!(rt; printed.as_slice(), PRINTED, "the plain file");
     Ok(())
 }

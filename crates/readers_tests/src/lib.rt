@@ -3,6 +3,8 @@
 #![tactic(auto)]
 
 #[cfg(test)]
+mod common;
+#[cfg(test)]
 mod configuration_rules;
 #[cfg(test)]
 mod configurations;
@@ -10,6 +12,8 @@ mod configurations;
 mod derivations;
 #[cfg(test)]
 mod expressions;
+#[cfg(test)]
+mod faults;
 #[cfg(test)]
 mod interface_rules;
 #[cfg(test)]

@@ -143,7 +143,7 @@ fn assert_read_as_derived(rt: &impl Abort, alloc: Global, text: &[u8]) -> Result
 #[test]
 fn files_cut_short_are_read_as_they_are_derived(rt: HostRuntime) -> Result<(), Fail> {
     let alloc = rt.alloc();
-    for (text, _, _) in FILES {
+    for (_, text, _, _) in FILES {
         for end in 0..=text.len() {
             assert_read_as_derived(&rt, alloc, &text[..end])?;
         }

@@ -1,178 +1,27 @@
 //! Files of thorns and runs, read and printed.
 
 use cx_text::{Style, print_tokens, tokens};
+use sample_files::{THORN_LIST, control, diffint, elemca, life2d, waveint};
 use std::alloc::Global;
 use std::test::Fail;
 
-/// Interfaces, parameters and schedules of thorns, and how many tokens they have.
-const CCL_FILES: &[(&[u8], usize)] = &[
-    (
-        br#"implements: ca
-public:
-CCTK_BYTE cells TYPE=GF DIM=1 { cell } "cells"
-CCTK_INT counts TYPE=SCALAR { live } "live cells"
-"#,
-        30,
-    ),
-    (
-        br#"restricted:
-INT rule "Wolfram's number" { 0:255 :: "any" } 90
-INT start "the one cell" { 0:* :: "place" } 0
-INT seed "random start" { -1 :: "one cell" 0:* :: "mixed" } -1
-"#,
-        44,
-    ),
-    (
-        br#"STORAGE: cells[1] counts[1]
-schedule ca_init AT INITIAL { LANG: C WRITES: ca::cell(everywhere) } "start"
-schedule ca_step AT EVOL
-{
-  LANG: C
-  SYNC: cells
-  READS: ca::cell(everywhere)
-  WRITES: ca::cell(interior)
-} "one step"
-schedule ca_zero AT EVOL AFTER ca_step { LANG: C WRITES: ca::cell(boundary) } "edge"
-schedule ca_count AT POSTSTEP { LANG: C READS: ca::cell(everywhere) WRITES: ca::live } "count"
-"#,
-        111,
-    ),
-    (
-        br#"implements: life
-public:
-CCTK_BYTE cells TYPE=GF DIM=2 { cell } "cells"
-CCTK_INT counts TYPE=SCALAR { live } "live cells"
-"#,
-        30,
-    ),
-    (
-        br#"restricted:
-INT born { 0:511 } 8
-INT survive { 0:511 } 12
-KEYWORD pattern { "glider" "random" } "glider"
-INT seed { 0:* } 0
-"#,
-        38,
-    ),
-    (
-        br#"STORAGE: cells[1] counts[1]
-schedule life_init AT INITIAL { LANG: C WRITES: life::cell(everywhere) } "start"
-schedule life_step AT EVOL
-{
-  LANG: C
-  SYNC: cells
-  READS: life::cell(everywhere)
-  WRITES: life::cell(interior)
-} "one step"
-schedule life_zero AT EVOL AFTER life_step { LANG: C WRITES: life::cell(boundary) } "edge"
-schedule life_count AT POSTSTEP { LANG: C READS: life::cell(everywhere) WRITES: life::live } "count"
-"#,
-        111,
-    ),
-    (
-        br#"implements: wave
-public:
-CCTK_INT evolved TYPE=GF DIM=1 TIMELEVELS=3 { phi } "field"
-CCTK_INT sums TYPE=SCALAR { total } "sum"
-"#,
-        33,
-    ),
-    (
-        br#"restricted:
-INT factor "in 256ths" { 0:* :: "" } 64
-KEYWORD pattern "start" { "point" "uniform" "alternate" "random" } "point"
-INT amount "height" { *:* :: "" } 8
-INT start "place" { 0:* :: "" } 0
-INT seed "mixing" { 0:* :: "" } 0
-INT edge "boundary value" { *:* :: "" } 0
-BOOLEAN sum "print the sum" { } "no"
-"#,
-        81,
-    ),
-    (
-        br#"STORAGE: evolved[3] sums[1]
-schedule wave_init AT INITIAL
-{ LANG: C WRITES: wave::phi(everywhere) wave::phi_p(everywhere) } "start"
-schedule wave_step AT EVOL
-{
-  LANG: C
-  SYNC: evolved
-  READS: wave::phi_p(everywhere) wave::phi_p_p(interior)
-  WRITES: wave::phi(interior)
-} "one step"
-schedule wave_flat AT EVOL AFTER wave_step
-{ LANG: C READS: wave::phi(interior) WRITES: wave::phi(boundary) } "flat edge"
-if (sum)
-{
-  schedule wave_sum AT ANALYSIS
-  { LANG: C READS: wave::phi(everywhere) WRITES: wave::total } "sum"
-}
-"#,
-        143,
-    ),
-    (
-        br#"implements: diff
-public:
-CCTK_INT evolved TYPE=GF DIM=1 TIMELEVELS=1 { u } "field"
-CCTK_INT sums TYPE=SCALAR { total } "sum"
-"#,
-        33,
-    ),
-    (
-        br#"restricted:
-INT factor "in 256ths" { 0:* :: "" } 64
-KEYWORD pattern "start" { "point" "uniform" "alternate" "random" } "point"
-INT amount "height" { *:* :: "" } 8
-INT start "place" { 0:* :: "" } 0
-INT seed "mixing" { 0:* :: "" } 0
-INT edge "boundary value" { *:* :: "" } 0
-BOOLEAN sum "print the sum" { } "no"
-"#,
-        81,
-    ),
-    (
-        br#"STORAGE: evolved[1] sums[1]
-schedule diff_init AT INITIAL
-{ LANG: C WRITES: diff::u(everywhere) } "start"
-schedule diff_step AT EVOL
-{
-  LANG: C
-  SYNC: evolved
-  READS: diff::u(everywhere)
-  WRITES: diff::u(interior)
-} "one step"
-schedule diff_flat AT EVOL AFTER diff_step
-{ LANG: C READS: diff::u(interior) WRITES: diff::u(boundary) } "flat edge"
-if (sum)
-{
-  schedule diff_sum AT ANALYSIS
-  { LANG: C READS: diff::u(everywhere) WRITES: diff::total } "sum"
-}
-"#,
-        131,
-    ),
-    (
-        br#"implements: control
-public:
-CCTK_INT counter TYPE=SCALAR { count } "turns left"
-"#,
-        17,
-    ),
-    (
-        br#"restricted:
-INT turns { 0:* } 3
-INT drop { 0:* } 1
-"#,
-        21,
-    ),
-    (
-        br#"STORAGE: counter[1]
-schedule control_set AT INITIAL { LANG: C WRITES: control::count } "set"
-schedule control_spin AT EVOL WHILE control::count
-{ LANG: C READS: control::count WRITES: control::count } "spin"
-"#,
-        49,
-    ),
+/// Files of the sample thorns, and how many tokens they have.
+const CCL_FILES: &[(&str, &[u8], usize)] = &[
+    ("ElemCA/interface.ccl", elemca::INTERFACE, 30),
+    ("ElemCA/param.ccl", elemca::PARAM, 44),
+    ("ElemCA/schedule.ccl", elemca::SCHEDULE, 111),
+    ("Life2D/interface.ccl", life2d::INTERFACE, 30),
+    ("Life2D/param.ccl", life2d::PARAM, 38),
+    ("Life2D/schedule.ccl", life2d::SCHEDULE, 111),
+    ("WaveInt/interface.ccl", waveint::INTERFACE, 33),
+    ("WaveInt/param.ccl", waveint::PARAM, 81),
+    ("WaveInt/schedule.ccl", waveint::SCHEDULE, 143),
+    ("DiffInt/interface.ccl", diffint::INTERFACE, 30),
+    ("DiffInt/param.ccl", diffint::PARAM, 81),
+    ("DiffInt/schedule.ccl", diffint::SCHEDULE, 131),
+    ("Control/interface.ccl", control::INTERFACE, 17),
+    ("Control/param.ccl", control::PARAM, 21),
+    ("Control/schedule.ccl", control::SCHEDULE, 49),
 ];
 
 /// A parameter file. Each of its 17 settings is a name, a sign, a value and a LineEnd.
@@ -201,17 +50,6 @@ IO::checkpoint_keep  = 2
 IO::recover          = "autoprobe"
 "#;
 
-/// A list of six thorns, each with its LineEnd.
-const THORN_LIST: &[u8] = br#"# thorns of the box
-!TARGET = $ARR
-CactusPUGH/PUGH
-CactusBase/IOUtil
-Integer/WaveInt
-Integer/DiffInt
-Integer/ElemCA
-Integer/Control
-"#;
-
 /// How many tokens a file in style Ccl has, and whether its printed text has the same.
 fn printed_again(alloc: Global, bytes: &[u8]) -> Result<(usize, bool), Fail> {
     let list = tokens(alloc, bytes, Style::Ccl)?;
@@ -227,13 +65,13 @@ fn printed_again(alloc: Global, bytes: &[u8]) -> Result<(usize, bool), Fail> {
 
 #[test]
 fn files_are_read_and_printed(rt: HostRuntime) -> Result<(), Fail> {
-    for (bytes, count) in CCL_FILES {
-        assert_eq!(rt; printed_again(rt.alloc(), bytes)?, (*count, true));
+    for (name, bytes, count) in CCL_FILES {
+        let found = printed_again(rt.alloc(), bytes)?;
+        assert_eq!(rt; found, (*count, true), "{name}");
     }
-    assert_eq!(rt;
-        tokens(rt.alloc(), PARAMETER_FILE, Style::Par)?.len(),
-        4 * 17
-    );
-    assert_eq!(rt; tokens(rt.alloc(), THORN_LIST, Style::Thorns)?.len(), 2 * 6);
+    let settings = tokens(rt.alloc(), PARAMETER_FILE, Style::Par)?;
+    assert_eq!(rt; settings.len(), 4 * 17, "the parameter file");
+    let thorns = tokens(rt.alloc(), THORN_LIST, Style::Thorns)?;
+    assert_eq!(rt; thorns.len(), 2 * 7, "the list of seven thorns");
     Ok(())
 }

@@ -209,14 +209,6 @@ fn assert_pairs(rt: &impl Abort, alloc: Global, beginning: &[u8]) -> Result<(), 
     Ok(())
 }
 
-#[test]
-fn short_lists_are_read_as_they_are_derived(rt: HostRuntime) -> Result<(), Fail> {
-    for beginning in BEGINNINGS {
-        assert_pairs(&rt, rt.alloc(), beginning)?;
-    }
-    Ok(())
-}
-
 /// Each beginning of a file that is a list of tokens is read as it is derived. Those with the same letters are one.
 fn assert_cut(rt: &impl Abort, alloc: Global, text: &[u8]) -> Result<(), Fail> {
     let mut before = Vec::new(alloc);
@@ -233,9 +225,12 @@ fn assert_cut(rt: &impl Abort, alloc: Global, text: &[u8]) -> Result<(), Fail> {
 }
 
 #[test]
-fn files_cut_short_are_read_as_they_are_derived(rt: HostRuntime) -> Result<(), Fail> {
+fn lists_and_cut_files_are_read_as_they_are_derived(rt: HostRuntime) -> Result<(), Fail> {
+    for beginning in BEGINNINGS {
+        assert_pairs(&rt, rt.alloc(), beginning)?;
+    }
     assert_cut(&rt, rt.alloc(), FORMS)?;
-    for (text, _, _) in SAMPLES {
+    for (_, text, _, _) in SAMPLES {
         assert_cut(&rt, rt.alloc(), text)?;
     }
     Ok(())

@@ -8,6 +8,7 @@ ghost use Rattle.cx_sched.specs.Nodes.{schedule};
 use cx_plan::Region;
 use cx_sched::{Block, Node, Ref, ScheduleFile, Spot, print_schedule, read_schedule};
 use cx_text::{CclFault, List, Style, Text, tokens};
+use sample_files::{control, diffint, elemca, life2d, waveint};
 use std::alloc::Global;
 use std::process::Abort;
 use std::test::Fail;
@@ -41,97 +42,18 @@ const STEP: &[u8] =
     b"GROUP in steps as first if w::on while turns before b c d e after f storage s[3] t sync u v::u again reads v::u_p[0](interior) READS(everywhere) w(boundary) x(everywhere) writes u(everywhere) SYNC(everywhere) rest LANG : C OPTIONS : 2 : x TRIGGERS : u text one step";
 
 /// The files of the sample thorns, and how many nodes and blocks they have at the top.
-pub const SAMPLES: &[(&[u8], usize, usize)] = &[
-    (
-        br#"STORAGE: cells[1] counts[1]
-schedule ca_init AT INITIAL { LANG: C WRITES: ca::cell(everywhere) } "start"
-schedule ca_step AT EVOL
-{
-  LANG: C
-  SYNC: cells
-  READS: ca::cell(everywhere)
-  WRITES: ca::cell(interior)
-} "one step"
-schedule ca_zero AT EVOL AFTER ca_step { LANG: C WRITES: ca::cell(boundary) } "edge"
-schedule ca_count AT POSTSTEP { LANG: C READS: ca::cell(everywhere) WRITES: ca::live } "count"
-"#,
-        5,
-        4,
-    ),
-    (
-        br#"STORAGE: evolved[3] sums[1]
-schedule wave_init AT INITIAL
-{ LANG: C WRITES: wave::phi(everywhere) wave::phi_p(everywhere) } "start"
-schedule wave_step AT EVOL
-{
-  LANG: C
-  SYNC: evolved
-  READS: wave::phi_p(everywhere) wave::phi_p_p(interior)
-  WRITES: wave::phi(interior)
-} "one step"
-schedule wave_flat AT EVOL AFTER wave_step
-{ LANG: C READS: wave::phi(interior) WRITES: wave::phi(boundary) } "flat edge"
-if (sum)
-{
-  schedule wave_sum AT ANALYSIS
-  { LANG: C READS: wave::phi(everywhere) WRITES: wave::total } "sum"
-}
-"#,
-        5,
-        3,
-    ),
-    (
-        br#"STORAGE: counter[1]
-schedule control_set AT INITIAL { LANG: C WRITES: control::count } "set"
-schedule control_spin AT EVOL WHILE control::count
-{ LANG: C READS: control::count WRITES: control::count } "spin"
-"#,
-        3,
-        2,
-    ),
-    (
-        br#"STORAGE: cells[1] counts[1]
-schedule life_init AT INITIAL { LANG: C WRITES: life::cell(everywhere) } "start"
-schedule life_step AT EVOL
-{
-  LANG: C
-  SYNC: cells
-  READS: life::cell(everywhere)
-  WRITES: life::cell(interior)
-} "one step"
-schedule life_zero AT EVOL AFTER life_step { LANG: C WRITES: life::cell(boundary) } "edge"
-schedule life_count AT POSTSTEP { LANG: C READS: life::cell(everywhere) WRITES: life::live } "count"
-"#,
-        5,
-        4,
-    ),
-    (
-        br#"STORAGE: evolved[1] sums[1]
-schedule diff_init AT INITIAL
-{ LANG: C WRITES: diff::u(everywhere) } "start"
-schedule diff_step AT EVOL
-{
-  LANG: C
-  SYNC: evolved
-  READS: diff::u(everywhere)
-  WRITES: diff::u(interior)
-} "one step"
-schedule diff_flat AT EVOL AFTER diff_step
-{ LANG: C READS: diff::u(interior) WRITES: diff::u(boundary) } "flat edge"
-if (sum)
-{
-  schedule diff_sum AT ANALYSIS
-  { LANG: C READS: diff::u(everywhere) WRITES: diff::total } "sum"
-}
-"#,
-        5,
-        3,
-    ),
+pub const SAMPLES: &[(&str, &[u8], usize, usize)] = &[
+    ("ElemCA", elemca::SCHEDULE, 5, 4),
+    ("WaveInt", waveint::SCHEDULE, 5, 3),
+    ("Control", control::SCHEDULE, 3, 2),
+    ("Life2D", life2d::SCHEDULE, 5, 4),
+    ("DiffInt", diffint::SCHEDULE, 5, 3),
 ];
 
 /// Files, and what is printed of them.
-const PRINTED: &[(&[u8], &[u8])] = &[
+const PRINTED: &[(&str, &[u8], &[u8])] = &[
     (
+        "each form",
         FORMS,
         br#"STORAGE : ca :: cells [ 1 ] counts
 schedule GROUP steps AT CCTK_EVOL AFTER ( early ) { }
@@ -146,17 +68,20 @@ schedule GROUP IN steps AS first IF w :: on WHILE turns BEFORE ( b c d e ) AFTER
 "#,
     ),
     (
+        "a group named AT",
         b"schedule GROUP
 AT in { }",
         b"schedule GROUP AT in { }
 ",
     ),
     (
+        "a group named GROUP",
         b"schedule group GROUP IN at AS x { }",
         b"schedule GROUP GROUP IN at AS x { }
 ",
     ),
     (
+        "ifs without braces",
         b"if (a && !(b || c)) if (d) { } else STORAGE: e[1],
 else { }",
         b"if ( a && ! ( b || c ) ) {
@@ -169,6 +94,7 @@ STORAGE : e [ 1 ]
 ",
     ),
     (
+        "lines of one kind apart",
         br#"schedule x AT y { READS: a, b(interior) LANG: C READS READS: c[0] } "\"""#,
         br#"schedule x AT y { LANG : C READS READS : a ( everywhere ) b ( interior ) c [ 0 ] ( everywhere ) } "\""
 "#,
@@ -176,60 +102,52 @@ STORAGE : e [ 1 ]
 ];
 
 /// Texts that are no schedule file, and their first fault.
-const FAULTS: &[(&[u8], CclFault)] = &[
+pub const FAULTS: &[(&str, CclFault)] = &[
+    ("schedule x AT EVOL\nAS a AS b { }\n", CclFault::Repeated(2)),
+    ("if (a { }\n", CclFault::Unexpected(1)),
     (
-        b"schedule x AT EVOL\nAS a AS b { }\n",
-        CclFault::Repeated(2),
-    ),
-    (b"if (a { }\n", CclFault::Unexpected(1)),
-    (
-        b"schedule x AT EVOL IF a\nAS b\nIF c { }\n",
+        "schedule x AT EVOL IF a\nAS b\nIF c { }\n",
         CclFault::Repeated(3),
     ),
     (
-        b"schedule x AT EVOL WHILE a\nWHILE b { }\n",
+        "schedule x AT EVOL WHILE a\nWHILE b { }\n",
         CclFault::Repeated(2),
     ),
     (
-        b"schedule x AT EVOL BEFORE a\nb { }\n",
+        "schedule x AT EVOL BEFORE a\nb { }\n",
         CclFault::Unexpected(2),
     ),
-    (b"schedule GROUP x\nEVOL { }\n", CclFault::Unexpected(2)),
+    ("schedule GROUP x\nEVOL { }\n", CclFault::Unexpected(2)),
     (
-        b"schedule x AT EVOL {\nSYNC: a foo\n: b }\n",
+        "schedule x AT EVOL {\nSYNC: a foo\n: b }\n",
         CclFault::Unexpected(3),
     ),
     (
-        b"schedule x AT EVOL {\nLANG: C foo\n: b }\n",
+        "schedule x AT EVOL {\nLANG: C foo\n: b }\n",
         CclFault::Unexpected(3),
     ),
     (
-        b"schedule x AT EVOL {\nREADS: a(\nedge) }\n",
+        "schedule x AT EVOL {\nREADS: a(\nedge) }\n",
         CclFault::Unexpected(3),
     ),
     (
-        b"schedule x AT EVOL {\nREADS: a[4294967295]\n b[4294967296] }\n",
+        "schedule x AT EVOL {\nREADS: a[4294967295]\n b[4294967296] }\n",
         CclFault::BadNumber(3),
     ),
     (
-        b"\nSTORAGE: a[4294967295]\nSTORAGE: a[\n4294967296]\n",
+        "\nSTORAGE: a[4294967295]\nSTORAGE: a[\n4294967296]\n",
         CclFault::BadNumber(4),
     ),
-    (b"if (a)\n{ STORAGE: b }\n", CclFault::Unexpected(2)),
+    ("if (a)\n{ STORAGE: b }\n", CclFault::Unexpected(2)),
     (
-        b"if (a) STORAGE: b\nelse { }\nelse { }\n",
+        "if (a) STORAGE: b\nelse { }\nelse { }\n",
         CclFault::Unexpected(3),
     ),
     (
-        b"schedule x AT EVOL {\nSYNC: a::\nabcdefghijklmnopqrstuvwxyz_abcdefghijklmnopqrstuvwxyz_abcdefghijk }\n",
+        "schedule x AT EVOL {\nSYNC: a::\nabcdefghijklmnopqrstuvwxyz_abcdefghijklmnopqrstuvwxyz_abcdefghijk }\n",
         CclFault::Limit(3),
     ),
 ];
-
-fn read(alloc: Global, text: &[u8]) -> Result<Result<ScheduleFile, CclFault>, Fail> {
-    let list = tokens(alloc, text, Style::Ccl)?;
-    Ok(read_schedule(alloc, &list))
-}
 
 /// What a text spells that has no fault.
 fn file_of(alloc: Global, text: &[u8]) -> Result<ScheduleFile, Fail>
@@ -374,13 +292,14 @@ fn assert_block(rt: &impl Abort, alloc: Global, block: &Block, want: &[u8]) -> R
     let mut shown = Vec::new(alloc);
     push_head(alloc, &mut shown, block)?;
     push_lines(alloc, &mut shown, block)?;
-    assert_eq!(rt; shown.as_slice(), want);
+    assert_eq!(rt; shown.as_slice(), want, "block {:?}", block.name);
     Ok(())
 }
 
 fn assert_storage(
     rt: &impl Abort,
     alloc: Global,
+    place: &str,
     groups: &List<(Ref, Option<u32>)>,
     want: &[u8],
 ) -> Result<(), Fail> {
@@ -388,99 +307,98 @@ fn assert_storage(
     for (name, levels) in groups.as_slice() {
         push_ref(alloc, &mut shown, name, *levels)?;
     }
-    assert_eq!(rt; shown.as_slice(), want);
+    assert_eq!(rt; shown.as_slice(), want, "STORAGE {place}");
     Ok(())
 }
 
 #[test]
 fn each_form_is_read(rt: HostRuntime) -> Result<(), Fail> {
     let alloc = rt.alloc();
-    let file = read(alloc, FORMS)??;
+    let file = file_of(alloc, FORMS)?;
     let [
         Node::Storage(groups),
         Node::Block(steps),
         Node::Cond { yes, no, .. },
     ] = file.items.as_slice()
     else {
-        panic!(rt; "other nodes");
+        panic!(rt; "other nodes at the top");
     };
-    assert_storage(&rt, alloc, groups, b" ca::cells[1] counts")?;
+    assert_storage(&rt, alloc, "at the top", groups, b" ca::cells[1] counts")?;
     assert_block(&rt, alloc, steps, STEPS)?;
-    assert!(rt; no.is_empty());
+    assert!(rt; no.is_empty(), "the outer IF has no ELSE");
     let [Node::Cond { yes, no, .. }] = yes.as_slice() else {
-        panic!(rt; "another body");
+        panic!(rt; "another body of the outer IF");
     };
     let ([Node::Storage(groups)], [Node::Block(step)]) = (yes.as_slice(), no.as_slice()) else {
-        panic!(rt; "other bodies");
+        panic!(rt; "other bodies of the inner IF");
     };
-    assert_storage(&rt, alloc, groups, b" evens[2]")?;
+    assert_storage(&rt, alloc, "in the inner IF", groups, b" evens[2]")?;
     assert_block(&rt, alloc, step, STEP)
 }
 
-#[test]
-fn files_are_printed(rt: HostRuntime) -> Result<(), Fail> {
-    for (text, want) in PRINTED {
-        let file = file_of(rt.alloc(), text)?;
-        assert_eq!(rt; print_schedule(rt.alloc(), &file)?.as_slice(), *want);
-    }
-    Ok(())
-}
-
-#[test]
-fn sample_files_are_read(rt: HostRuntime) -> Result<(), Fail> {
-    for (text, nodes, blocks) in SAMPLES {
-        assert!(rt; is_printed_again(rt.alloc(), text)?);
-        let file = read(rt.alloc(), text)??;
-        assert_eq!(rt; file.items.len(), *nodes);
-        let mut count: usize = 0;
-        for node in file.items.as_slice() {
-            if matches!(node, Node::Block(_)) {
-                count = count.saturating_add(1);
-            }
+/// How many nodes a file has at its top, and how many of them are blocks.
+fn counts(file: &ScheduleFile) -> (usize, usize) {
+    let mut blocks: usize = 0;
+    for node in file.items.as_slice() {
+        if matches!(node, Node::Block(_)) {
+            blocks = blocks.saturating_add(1);
         }
-        assert_eq!(rt; count, *blocks);
     }
-    Ok(())
+    (file.items.len(), blocks)
 }
 
 #[test]
-fn faults_stand_on_these_lines(rt: HostRuntime) -> Result<(), Fail> {
-    for (text, want) in FAULTS {
-        assert_eq!(rt; read(rt.alloc(), text)?.err(), Some(*want));
+fn files_are_printed_and_read_again(rt: HostRuntime) -> Result<(), Fail> {
+    for (name, text, want) in PRINTED {
+        let file = file_of(rt.alloc(), text)?;
+        let printed = print_schedule(rt.alloc(), &file)?;
+        assert_eq!(rt; printed.as_slice(), *want, "{name}");
+    }
+    for (name, text, nodes, blocks) in SAMPLES {
+        assert!(rt; is_printed_again(rt.alloc(), text)?, "{name}");
+        let file = file_of(rt.alloc(), text)?;
+        assert_eq!(rt; counts(&file), (*nodes, *blocks), "{name}");
     }
     Ok(())
 }
 
-/// A text that repeats another, a line for each, before a last line.
-fn repeated(alloc: Global, line: &[u8], times: usize, last: &[u8]) -> Result<Vec<u8>, Fail> {
+/// A line so many times, and a last line after it.
+fn repeated(alloc: Global, line: &str, times: usize, last: &str) -> Result<Vec<u8>, Fail> {
     let mut text = Vec::new(alloc);
     for _ in 0..times {
-        push(&mut text, line)?;
+        push(&mut text, line.as_bytes())?;
     }
-    push(&mut text, last)?;
+    push(&mut text, last.as_bytes())?;
     Ok(text)
 }
 
 /// What may be repeated so many times, what closes it, and the fault with one more.
-const LIMITS: &[(&[u8], usize, &[u8], CclFault)] = &[
-    (b"if (1)\n", 32, b"STORAGE:\n", CclFault::Limit(34)),
-    (b"STORAGE:\n", 4096, b"", CclFault::Limit(4097)),
+const LIMITS: &[(&str, usize, &str, CclFault)] = &[
+    ("if (1)\n", 32, "STORAGE:\n", CclFault::Limit(34)),
+    ("STORAGE:\n", 4096, "", CclFault::Limit(4097)),
     (
-        b"schedule a AT b { LANG: SYNC: }\n",
+        "schedule a AT b { LANG: SYNC: }\n",
         2048,
-        b"",
+        "",
         CclFault::Limit(2049),
     ),
 ];
+
+/// The fault of a line so many times.
+fn fault_of(alloc: Global, line: &str, times: usize, last: &str) -> Result<Option<CclFault>, Fail> {
+    let text = repeated(alloc, line, times, last)?;
+    let list = tokens(alloc, text.as_slice(), Style::Ccl)?;
+    Ok(read_schedule(alloc, &list).err())
+}
 
 #[test]
 fn limits_hold(rt: HostRuntime) -> Result<(), Fail> {
     let alloc = rt.alloc();
     for (line, times, last, fault) in LIMITS {
-        let text = repeated(alloc, line, *times, last)?;
-        assert!(rt; read(alloc, text.as_slice())?.is_ok());
-        let text = repeated(alloc, line, times.saturating_add(1), last)?;
-        assert_eq!(rt; read(alloc, text.as_slice())?.err(), Some(*fault));
+        let most = fault_of(alloc, line, *times, last)?;
+        let more = fault_of(alloc, line, times.saturating_add(1), last)?;
+        let want = (None, Some(*fault));
+        assert_eq!(rt; (most, more), want, "{times} times {line:?}");
     }
     Ok(())
 }

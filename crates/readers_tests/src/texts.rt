@@ -9,10 +9,16 @@ type Spelling<'a> = (Kind, &'a [u8], u32);
 const END: &[u8] = b"";
 
 /// Texts in each style, and their tokens.
-const TEXTS: &[(Style, &[u8], &[Spelling])] = &[
-    (Style::Ccl, b"", &[]),
-    (Style::Ccl, b" # no token\n \t\r\n\\ \n", &[]),
+const TEXTS: &[(&str, Style, &[u8], &[Spelling])] = &[
+    ("nothing", Style::Ccl, b"", &[]),
     (
+        "comments, blanks and a line that goes on",
+        Style::Ccl,
+        b" # no token\n \t\r\n\\ \n",
+        &[],
+    ),
+    (
+        "words, numbers and quoted texts",
         Style::Ccl,
         b"\n\n_a1 12b # c\n # d\n\n\"x\ny\" 'it\\'s \\n\\\\' e",
         &[
@@ -27,6 +33,7 @@ const TEXTS: &[(Style, &[u8], &[Spelling])] = &[
         ],
     ),
     (
+        "signs",
         Style::Ccl,
         b"a::b<=c:&&&\\ \t\n!d\n",
         &[
@@ -44,6 +51,7 @@ const TEXTS: &[(Style, &[u8], &[Spelling])] = &[
         ],
     ),
     (
+        "a parameter file",
         Style::Par,
         b" !DESC \"open \xff\nIO::x[0]=$parfile!#\n\"\n !y\"\n",
         &[
@@ -59,6 +67,7 @@ const TEXTS: &[(Style, &[u8], &[Spelling])] = &[
         ],
     ),
     (
+        "a list of thorns",
         Style::Thorns,
         b"!TARGET = \xff\nA/\"b\" c=d#e",
         &[
@@ -70,33 +79,32 @@ const TEXTS: &[(Style, &[u8], &[Spelling])] = &[
 ];
 
 /// Texts without tokens, and their first fault.
-const FAULTS: &[(Style, &[u8], TextFault)] = &[
+const FAULTS: &[(Style, &str, TextFault)] = &[
     (
         Style::Ccl,
-        b"implements: ca\npublic:\nCCTK_BYTE cells { cell }\n\"cells\n",
+        "implements: ca\npublic:\nCCTK_BYTE cells { cell }\n\"cells\n",
         TextFault::OpenQuote(4),
     ),
-    (Style::Ccl, b"\"a\\\"", TextFault::OpenQuote(1)),
-    (Style::Ccl, b"a\n\\ b", TextFault::BadByte(2)),
-    (Style::Ccl, b"a\n\x80", TextFault::BadByte(2)),
-    (Style::Par, b"a\x7f", TextFault::BadByte(1)),
-    (Style::Thorns, b"\n\n\x0b", TextFault::BadByte(3)),
+    (Style::Ccl, "\"a\\\"", TextFault::OpenQuote(1)),
+    (Style::Ccl, "a\n\\ b", TextFault::BadByte(2)),
+    (Style::Ccl, "a\n\u{80}", TextFault::BadByte(2)),
+    (Style::Par, "a\x7f", TextFault::BadByte(1)),
+    (Style::Thorns, "\n\n\x0b", TextFault::BadByte(3)),
 ];
 
-fn assert_spelled(rt: &impl Abort, list: &[Token], want: &[Spelling], style: Style) {
-    assert_eq!(rt; list.len(), want.len(), "{style:?}");
-    for (token, (kind, text, line)) in list.iter().zip(want) {
-        assert_eq!(rt; token.kind, *kind, "{style:?}");
-        assert_eq!(rt; token.text.as_slice(), *text, "{style:?}");
-        assert_eq!(rt; token.line, *line, "{style:?}");
+fn assert_spelled(rt: &impl Abort, list: &[Token], want: &[Spelling], name: &str) {
+    assert_eq!(rt; list.len(), want.len(), "how many tokens: {name}");
+    for (place, (token, (kind, text, line))) in list.iter().zip(want).enumerate() {
+        let found = (token.kind, token.text.as_slice(), token.line);
+        assert_eq!(rt; found, (*kind, *text, *line), "token {place}: {name}");
     }
 }
 
 #[test]
 fn texts_have_these_tokens(rt: HostRuntime) -> Result<(), Fail> {
-    for (style, text, want) in TEXTS {
+    for (name, style, text, want) in TEXTS {
         let list = tokens(rt.alloc(), text, *style)?;
-        assert_spelled(&rt, list.as_slice(), want, *style);
+        assert_spelled(&rt, list.as_slice(), want, name);
     }
     Ok(())
 }
@@ -104,12 +112,11 @@ fn texts_have_these_tokens(rt: HostRuntime) -> Result<(), Fail> {
 #[test]
 fn faults_stand_on_these_lines(rt: HostRuntime) -> Result<(), Fail> {
     for (style, text, want) in FAULTS {
-        assert_eq!(rt; tokens(rt.alloc(), text, *style).err(), Some(*want));
+        let fault = tokens(rt.alloc(), text.as_bytes(), *style).err();
+        assert_eq!(rt; fault, Some(*want), "{text:?} as {style:?}");
     }
     let long = vec![in rt.alloc(); b' '; 1_048_577]?;
-    assert_eq!(rt;
-        tokens(rt.alloc(), &long, Style::Par).err(),
-        Some(TextFault::TooLong)
-    );
+    let fault = tokens(rt.alloc(), &long, Style::Par).err();
+    assert_eq!(rt; fault, Some(TextFault::TooLong), "1,048,577 blanks");
     Ok(())
 }

@@ -71,18 +71,20 @@ fn examples_are_read(rt: HostRuntime) -> Result<(), Fail> {
         let Some(records) = read_output(alloc, example.text)? else {
             return Err(Memory.into());
         };
-        assert_eq!(rt; records.len(), 1);
+        assert_eq!(rt; records.len(), 1, "iteration {}", example.iteration);
         assert!(rt;
             records
                 .as_slice()
                 .iter()
-                .all(|record| is_example(record, example))
+                .all(|record| is_example(record, example)),
+            "iteration {}",
+            example.iteration
         );
     }
     Ok(())
 }
 
-// All examples, one after another.
+/// All examples, one after another.
 fn whole_text(alloc: Global) -> Result<Vec<u8>, Memory> {
     let mut text = Vec::new(alloc);
     for example in EXAMPLES {
@@ -97,12 +99,16 @@ fn records_stand_in_order(rt: HostRuntime) -> Result<(), Fail> {
     let Some(records) = read_output(alloc, &whole_text(alloc)?)? else {
         return Err(Memory.into());
     };
-    assert_eq!(rt; records.len(), EXAMPLES.len());
+    assert_eq!(rt; records.len(), EXAMPLES.len(), "all examples");
     for (record, example) in records.as_slice().iter().zip(EXAMPLES) {
-        assert!(rt; is_example(record, example));
+        assert!(rt;
+            is_example(record, example),
+            "iteration {}",
+            example.iteration
+        );
     }
     let none = read_output(alloc, b"")?;
-    assert!(rt; none.is_some_and(|records| records.is_empty()));
+    assert!(rt; none.is_some_and(|records| records.is_empty()), "no bytes");
     Ok(())
 }
 

@@ -5,3 +5,5 @@
 mod examples;
 #[cfg(test)]
 mod printed;
+#[cfg(test)]
+mod splits;

@@ -44,7 +44,7 @@ fn print_record(alloc: Global, record: &Record) -> Result<Text, Memory> {
     }
 }
 
-// A section and a line for each of some iterations.
+/// A section and a line for each of some iterations.
 fn print_run(alloc: Global) -> Result<Text, Memory> {
     let field = Text::from_slice(alloc, b"wave::phi")?;
     let sum = Text::from_slice(alloc, b"wave::total")?;
@@ -64,11 +64,11 @@ fn printed_is_read_and_printed_again(rt: HostRuntime) -> Result<(), Fail> {
     let Some(records) = read_output(alloc, text.as_slice())? else {
         return Err(Memory.into());
     };
-    assert_eq!(rt; records.len(), 6);
+    assert_eq!(rt; records.len(), 6, "how many records");
     let mut again = Text::new(Vec::new(alloc));
     for record in records.as_slice() {
         again.push_slice(print_record(alloc, record)?.as_slice())?;
     }
-    assert_eq!(rt; again.as_slice(), text.as_slice());
+    assert_eq!(rt; again.as_slice(), text.as_slice(), "printed again");
     Ok(())
 }

@@ -4,6 +4,7 @@
 use cx_samples::{program_words, run_words};
 use std::process::ExitCode;
 
+/// Runs what the program's words ask for.
 fn main(rt: HostRuntime) -> ExitCode {
     run_words(&rt, program_words(&rt))
 }

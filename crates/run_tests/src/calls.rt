@@ -2,90 +2,74 @@
 
 use crate::carriers::wire;
 use crate::cuts::CUTS;
-use crate::faults::{FAULTS, IF_AROUND, IF_NOWHERE, PLAIN, SAMPLE_FAULTS};
+use crate::faults::{FAULTS, PLAIN, SAMPLE_FAULTS};
 use crate::jobs::{CA_OUTPUT, RUNS};
-use crate::samples::{BOX, CA, CONTROL, File, GLIDER, HEAT, LIFE, SAMPLES, WAVE};
-use cx_disk::{Disk, MemoryDisk};
+use crate::samples::{BOX, CA, CONTROL, GLIDER, HEAT, LIFE, WAVE};
+use crate::schedules;
+use cx_disk::{Disk, MemoryDisk, OLD_OUTPUT};
 use cx_rule::Meter;
 use cx_run::{FolderShelf, MemoryShelf, MemorySink, Shelf, Sink};
 use cx_samples::answer;
 use cx_text::{List, Memory, Text};
 use cx_turns::SeededTurns;
+use sample_files::{FILES, File};
 use std::alloc::Global;
 use std::fs;
 use std::test::Fail;
 
 const PARAMETER_FILES: &[File] = &[
     File {
-        name: b"life.par",
+        name: "ca.par",
+        bytes: CA,
+    },
+    File {
+        name: "life.par",
         bytes: LIFE,
     },
     File {
-        name: b"wave.par",
+        name: "wave.par",
         bytes: WAVE,
     },
     File {
-        name: b"heat.par",
+        name: "heat.par",
         bytes: HEAT,
     },
     File {
-        name: b"control.par",
+        name: "control.par",
         bytes: CONTROL,
     },
     File {
-        name: b"glider.par",
+        name: "glider.par",
         bytes: GLIDER,
     },
     File {
-        name: b"box.par",
+        name: "box.par",
         bytes: BOX,
     },
     File {
-        name: b"byte.par",
+        name: "byte.par",
         bytes: b"a = 1\nb = \x01\n",
     },
     File {
-        name: b"open.par",
+        name: "open.par",
         bytes: b"a = \"1\nb = 2\n",
     },
     File {
-        name: b"sign.par",
+        name: "sign.par",
         bytes: b"ca::start 3\n",
     },
     File {
-        name: b"index.par",
+        name: "index.par",
         bytes: b"a[1023] = 1\na[1024] = 1\n",
     },
 ];
 
-const USAGE: &[u8] = b"usage: cactus run FILE [--turns SEED]\n\
+const USAGE: &str = "usage: cactus run FILE [--turns SEED]\n\
         \x20      cactus check FILE\n\
         \x20      cactus schedule FILE\n\
         \x20      cactus describe FILE\n\
         \x20      cactus parts FILE\n\
         \x20      cactus make SEED SIZE\n";
-
-const SCHEDULE: &[u8] = b"bin STARTUP\n\
-        bin WRAGH\n\
-        bin PARAMCHECK\n\
-        bin BASEGRID\n\
-        bin INITIAL\n\
-        \x20 call ElemCA::ca_init writes ca::cell(everywhere)\n\
-        bin POSTINITIAL\n\
-        bin PRESTEP\n\
-        bin EVOL\n\
-        \x20 call ElemCA::ca_step reads ca::cell(everywhere) writes ca::cell(interior) sync ca::cell\n\
-        \x20 call ElemCA::ca_zero writes ca::cell(boundary)\n\
-        bin POSTSTEP\n\
-        \x20 call ElemCA::ca_count reads ca::cell(everywhere) writes ca::live(everywhere)\n\
-        bin CHECKPOINT\n\
-        bin ANALYSIS\n\
-        bin TERMINATE\n\
-        bin SHUTDOWN\n\
-        bin CPINITIAL not run\n\
-        bin RECOVER_PARAMETERS not run\n\
-        bin RECOVER_VARIABLES not run\n\
-        bin POST_RECOVER_VARIABLES not run\n";
 
 /// What `describe` prints before the schedule text.
 const KEY_BEGINS: &[u8] = b"thorn Integer/ElemCA ca\n\
@@ -134,9 +118,9 @@ const STARRED_AND_CUT: &[u8] = b"parameter driver::parts_x = \"1\"\n\
 
 /// Words, the status that they give and the text that is printed.
 struct Asked {
-    words: &'static [&'static [u8]],
+    words: &'static [&'static str],
     status: u8,
-    printed: &'static [u8],
+    printed: &'static str,
 }
 
 const ANSWERS: &[Asked] = &[
@@ -146,219 +130,219 @@ const ANSWERS: &[Asked] = &[
         printed: USAGE,
     },
     Asked {
-        words: &[b"run"],
+        words: &["run"],
         status: 1,
         printed: USAGE,
     },
     Asked {
-        words: &[b"run", b"-x"],
+        words: &["run", "-x"],
         status: 1,
         printed: USAGE,
     },
     Asked {
-        words: &[b"check", b""],
+        words: &["check", ""],
         status: 1,
         printed: USAGE,
     },
     Asked {
-        words: &[b"walk", b"ca.par"],
+        words: &["walk", "ca.par"],
         status: 1,
         printed: USAGE,
     },
     Asked {
-        words: &[b"run", b"a", b"--turns", b"1", b"--turns", b"2"],
+        words: &["run", "a", "--turns", "1", "--turns", "2"],
         status: 1,
         printed: USAGE,
     },
     Asked {
-        words: &[b"run", b"--turns", b"1"],
+        words: &["run", "--turns", "1"],
         status: 1,
         printed: USAGE,
     },
     Asked {
-        words: &[b"run", b"ca.par", b"--turns=18446744073709551616"],
+        words: &["run", "ca.par", "--turns=18446744073709551616"],
         status: 1,
         printed: USAGE,
     },
     Asked {
-        words: &[b"check", b"ca.par", b"--turns=1"],
+        words: &["check", "ca.par", "--turns=1"],
         status: 1,
         printed: USAGE,
     },
     Asked {
-        words: &[b"make", b"1", b"7"],
+        words: &["make", "1", "7"],
         status: 1,
         printed: USAGE,
     },
     Asked {
-        words: &[b"make"],
+        words: &["make"],
         status: 1,
         printed: USAGE,
     },
     Asked {
-        words: &[b"make", b"1"],
+        words: &["make", "1"],
         status: 1,
         printed: USAGE,
     },
     Asked {
-        words: &[b"make", b"1", b"1025"],
+        words: &["make", "1", "1025"],
         status: 1,
         printed: USAGE,
     },
     Asked {
-        words: &[b"make", b"1", b"00008"],
+        words: &["make", "1", "00008"],
         status: 1,
         printed: USAGE,
     },
     Asked {
-        words: &[b"make", b"1", b""],
+        words: &["make", "1", ""],
         status: 1,
         printed: USAGE,
     },
     Asked {
-        words: &[b"make", b"1", b"+8"],
+        words: &["make", "1", "+8"],
         status: 1,
         printed: USAGE,
     },
     Asked {
-        words: &[b"make", b"-1", b"8"],
+        words: &["make", "-1", "8"],
         status: 1,
         printed: USAGE,
     },
     Asked {
-        words: &[b"make", b"", b"8"],
+        words: &["make", "", "8"],
         status: 1,
         printed: USAGE,
     },
     Asked {
-        words: &[b"make", b"9223372036854775808", b"8"],
+        words: &["make", "9223372036854775808", "8"],
         status: 1,
         printed: USAGE,
     },
     Asked {
-        words: &[b"make", b"000000000000000000001", b"8"],
+        words: &["make", "000000000000000000001", "8"],
         status: 1,
         printed: USAGE,
     },
     Asked {
-        words: &[b"make", b"1", b"8", b"9"],
+        words: &["make", "1", "8", "9"],
         status: 1,
         printed: USAGE,
     },
     Asked {
-        words: &[b"make", b"1", b"8", b"--turns=1"],
+        words: &["make", "1", "8", "--turns=1"],
         status: 1,
         printed: USAGE,
     },
     Asked {
-        words: &[b"make", b"--turns=1", b"8"],
+        words: &["make", "--turns=1", "8"],
         status: 1,
         printed: USAGE,
     },
     Asked {
-        words: &[b"run", b"no.par"],
+        words: &["run", "no.par"],
         status: 2,
-        printed: b"refused: NoFile no.par\n",
+        printed: "refused: NoFile no.par\n",
     },
     Asked {
-        words: &[b"check", b"no.par"],
+        words: &["check", "no.par"],
         status: 2,
-        printed: b"refused: NoFile no.par\n",
+        printed: "refused: NoFile no.par\n",
     },
     Asked {
-        words: &[b"run", b"byte.par"],
+        words: &["run", "byte.par"],
         status: 2,
-        printed: b"refused: byte.par BadByte 2\n",
+        printed: "refused: byte.par BadByte 2\n",
     },
     Asked {
-        words: &[b"run", b"open.par"],
+        words: &["run", "open.par"],
         status: 2,
-        printed: b"refused: open.par OpenQuote 1\n",
+        printed: "refused: open.par OpenQuote 1\n",
     },
     Asked {
-        words: &[b"run", b"sign.par"],
+        words: &["run", "sign.par"],
         status: 2,
-        printed: b"refused: sign.par Unexpected 1\n",
+        printed: "refused: sign.par Unexpected 1\n",
     },
     Asked {
-        words: &[b"run", b"index.par"],
+        words: &["run", "index.par"],
         status: 2,
-        printed: b"refused: index.par BadNumber 2\n",
+        printed: "refused: index.par BadNumber 2\n",
     },
     Asked {
-        words: &[b"run", b"ca.par"],
+        words: &["run", "ca.par"],
         status: 0,
-        printed: b"done: iteration 2\n",
+        printed: "done: iteration 2\n",
     },
     Asked {
-        words: &[b"run", b"--turns=3", b"ca.par"],
+        words: &["run", "--turns=3", "ca.par"],
         status: 0,
-        printed: b"done: iteration 2\n",
+        printed: "done: iteration 2\n",
     },
     Asked {
-        words: &[b"run", b"ca.par", b"--turns", b"3"],
+        words: &["run", "ca.par", "--turns", "3"],
         status: 0,
-        printed: b"done: iteration 2\n",
+        printed: "done: iteration 2\n",
     },
     Asked {
-        words: &[b"check", b"ca.par"],
+        words: &["check", "ca.par"],
         status: 0,
-        printed: b"accepted\n",
+        printed: "accepted\n",
     },
     Asked {
-        words: &[b"check", b"life.par"],
+        words: &["check", "life.par"],
         status: 0,
-        printed: b"accepted\n",
+        printed: "accepted\n",
     },
     Asked {
-        words: &[b"check", b"wave.par"],
+        words: &["check", "wave.par"],
         status: 0,
-        printed: b"accepted\n",
+        printed: "accepted\n",
     },
     Asked {
-        words: &[b"check", b"heat.par"],
+        words: &["check", "heat.par"],
         status: 0,
-        printed: b"accepted\n",
+        printed: "accepted\n",
     },
     Asked {
-        words: &[b"check", b"control.par"],
+        words: &["check", "control.par"],
         status: 0,
-        printed: b"accepted\n",
+        printed: "accepted\n",
     },
     Asked {
-        words: &[b"check", b"glider.par"],
+        words: &["check", "glider.par"],
         status: 0,
-        printed: b"accepted\n",
+        printed: "accepted\n",
     },
     Asked {
-        words: &[b"check", b"box.par"],
+        words: &["check", "box.par"],
         status: 0,
-        printed: b"accepted\n",
+        printed: "accepted\n",
     },
     Asked {
-        words: &[b"schedule", b"ca.par"],
+        words: &["schedule", "ca.par"],
         status: 0,
-        printed: SCHEDULE,
+        printed: schedules::CA,
     },
 ];
 
 /// Thorns, each with the grids' directions that it has.
-const THORNS: &[&[u8]] = &[b"ElemCA", b"Life2D", b"WaveInt", b"DiffInt"];
+const THORNS: &[&str] = &["ElemCA", "Life2D", "WaveInt", "DiffInt"];
 
 /// Periodicity and ghost widths; none leaves the routines of reach 1 without ghost points.
-const GRIDS: &[&[u8]] = &[
-    b"driver::periodic = no\n",
-    b"driver::periodic = yes\n",
-    b"driver::periodic = yes\ndriver::periodic_x = no\n",
-    b"driver::ghost_size = 2\n",
-    b"driver::ghost_size = 8\ndriver::global_nsize = 40\n",
-    b"driver::ghost_size_x = 3\ndriver::periodic = yes\n",
+const GRIDS: &[&str] = &[
+    "driver::periodic = no\n",
+    "driver::periodic = yes\n",
+    "driver::periodic = yes\ndriver::periodic_x = no\n",
+    "driver::ghost_size = 2\n",
+    "driver::ghost_size = 8\ndriver::global_nsize = 40\n",
+    "driver::ghost_size_x = 3\ndriver::periodic = yes\n",
 ];
 
-pub(crate) fn texts(alloc: Global, words: &[&[u8]]) -> Result<Vec<Text>, Memory> {
+pub(crate) fn texts(alloc: Global, words: &[&str]) -> Result<Vec<Text>, Memory> {
     let mut texts = Vec::new(alloc);
     for word in words {
-        texts.push(Text::from_slice(alloc, word)?)?;
+        texts.push(Text::from_slice(alloc, word.as_bytes())?)?;
     }
     Ok(texts)
 }
@@ -366,7 +350,7 @@ pub(crate) fn texts(alloc: Global, words: &[&[u8]]) -> Result<Vec<Text>, Memory>
 fn push_files(alloc: Global, list: &mut Vec<(Text, Text)>, files: &[File]) -> Result<(), Memory> {
     for file in files {
         list.push((
-            Text::from_slice(alloc, file.name)?,
+            Text::from_slice(alloc, file.name.as_bytes())?,
             Text::from_slice(alloc, file.bytes)?,
         ))?;
     }
@@ -400,7 +384,7 @@ pub(crate) struct Outcome {
 /// What a command comes to over a shelf and a disk, whose output isn't looked at.
 pub(crate) fn answer_over<H: Shelf, D: Disk>(
     rt: &HostRuntime,
-    words: &[&[u8]],
+    words: &[&str],
     shelf: &mut H,
     disk: &mut D,
 ) -> Result<Outcome, Fail> {
@@ -426,19 +410,19 @@ pub(crate) fn answer_over<H: Shelf, D: Disk>(
 /// What a command comes to over a shelf, on this disk.
 pub(crate) fn answer_on(
     rt: &HostRuntime,
-    words: &[&[u8]],
+    words: &[&str],
     shelf: &mut MemoryShelf,
     disk: &mut MemoryDisk,
 ) -> Result<Outcome, Fail> {
     let mut came = answer_over(rt, words, shelf, disk)?;
-    came.output = disk.bytes(8).to_vec(rt.alloc())?;
+    came.output = disk.bytes(OLD_OUTPUT as usize).to_vec(rt.alloc())?;
     Ok(came)
 }
 
 /// What a command comes to over a shelf, on a new disk.
 pub(crate) fn answer_to(
     rt: &HostRuntime,
-    words: &[&[u8]],
+    words: &[&str],
     shelf: &mut MemoryShelf,
 ) -> Result<Outcome, Fail> {
     let alloc = rt.alloc();
@@ -450,26 +434,27 @@ pub(crate) fn answer_to(
 pub(crate) fn shelf_with(
     alloc: Global,
     file: &[u8],
-    more: &[u8],
+    more: &str,
     others: &[File],
 ) -> Result<MemoryShelf, Memory> {
     let mut text = Text::from_slice(alloc, file)?;
-    text.push_slice(more)?;
+    text.push_slice(more.as_bytes())?;
     let mut list = Vec::new(alloc);
     list.push((Text::from_slice(alloc, b"t.par")?, text))?;
     push_files(alloc, &mut list, others)?;
-    push_files(alloc, &mut list, SAMPLES)?;
+    push_files(alloc, &mut list, FILES)?;
     Ok(MemoryShelf::new(List::new(list)))
 }
 
 #[test]
 fn answers(rt: HostRuntime) -> Result<(), Fail> {
     let alloc = rt.alloc();
-    let mut shelf = shelf(alloc, PARAMETER_FILES, SAMPLES)?;
+    let mut shelf = shelf(alloc, PARAMETER_FILES, FILES)?;
     for asked in ANSWERS {
         let came = answer_to(&rt, asked.words, &mut shelf)?;
-        assert_eq!(rt; came.status, asked.status);
-        assert_eq!(rt; came.printed.as_slice(), asked.printed);
+        let found = (came.status, came.printed.as_slice());
+        let want = (asked.status, asked.printed.as_bytes());
+        assert_eq!(rt; found, want, "{:?}", asked.words);
     }
     Ok(())
 }
@@ -477,36 +462,47 @@ fn answers(rt: HostRuntime) -> Result<(), Fail> {
 #[test]
 fn description_of_eight_points(rt: HostRuntime) -> Result<(), Fail> {
     let alloc = rt.alloc();
-    let mut shelf = shelf(alloc, PARAMETER_FILES, SAMPLES)?;
+    let mut shelf = shelf(alloc, PARAMETER_FILES, FILES)?;
     let mut expected = Text::from_slice(alloc, KEY_BEGINS)?;
-    expected.push_slice(SCHEDULE)?;
+    expected.push_slice(schedules::CA.as_bytes())?;
     expected.push_slice(STARRED_AND_CUT)?;
-    let came = answer_to(&rt, &[b"describe", b"ca.par"], &mut shelf)?;
-    assert_eq!(rt; came.status, 0);
-    assert_eq!(rt; came.printed.as_slice(), expected.as_slice());
+    let came = answer_to(&rt, &["describe", "ca.par"], &mut shelf)?;
+    let found = (came.status, came.printed.as_slice());
+    assert_eq!(rt; found, (0, expected.as_slice()), "describe ca.par");
     Ok(())
 }
+
+/// Examples, the schedules that are printed of them, and the first lines of their descriptions.
+const SHOWN: &[(&str, &str, &str)] = &[
+    ("ca.par", schedules::CA, "thorn Integer/ElemCA ca\n"),
+    ("life.par", schedules::LIFE, "thorn Integer/Life2D life\n"),
+    ("wave.par", schedules::WAVE, "thorn Integer/WaveInt wave\n"),
+    ("heat.par", schedules::HEAT, "thorn Integer/DiffInt diff\n"),
+    (
+        "control.par",
+        schedules::CONTROL,
+        "thorn Integer/Control control\n",
+    ),
+    ("glider.par", schedules::LIFE, "thorn Integer/Life2D life\n"),
+    (
+        "box.par",
+        schedules::BOX,
+        "thorn Integer/WaveInt wave\nthorn Integer/DiffInt diff\n\
+        thorn Integer/ElemCA ca\nthorn Integer/Control control\n",
+    ),
+];
 
 #[test]
 fn sample_thorns_are_shown(rt: HostRuntime) -> Result<(), Fail> {
     let alloc = rt.alloc();
-    let files: &[&[u8]] = &[
-        b"ca.par",
-        b"life.par",
-        b"wave.par",
-        b"heat.par",
-        b"control.par",
-        b"glider.par",
-        b"box.par",
-    ];
-    let mut shelf = shelf(alloc, PARAMETER_FILES, SAMPLES)?;
-    for file in files {
-        let schedule = answer_to(&rt, &[b"schedule", file], &mut shelf)?;
-        assert_eq!(rt; schedule.status, 0);
-        assert!(rt; schedule.printed.starts_with(b"bin STARTUP\n"));
-        let description = answer_to(&rt, &[b"describe", file], &mut shelf)?;
-        assert_eq!(rt; description.status, 0);
-        assert!(rt; description.printed.starts_with(b"thorn Integer/"));
+    let mut shelf = shelf(alloc, PARAMETER_FILES, FILES)?;
+    for (file, schedule, thorns) in SHOWN {
+        let came = answer_to(&rt, &["schedule", file], &mut shelf)?;
+        let found = (came.status, came.printed.as_slice());
+        assert_eq!(rt; found, (0, schedule.as_bytes()), "schedule {file}");
+        let came = answer_to(&rt, &["describe", file], &mut shelf)?;
+        let found = (came.status, came.printed.starts_with(thorns.as_bytes()));
+        assert_eq!(rt; found, (0, true), "describe {file}");
     }
     Ok(())
 }
@@ -514,52 +510,40 @@ fn sample_thorns_are_shown(rt: HostRuntime) -> Result<(), Fail> {
 #[test]
 fn grids_that_are_cut(rt: HostRuntime) -> Result<(), Fail> {
     for cut in CUTS {
-        let mut shelf = shelf_with(rt.alloc(), cut.file, b"", cut.others)?;
-        let came = answer_to(&rt, &[cut.word, b"t.par"], &mut shelf)?;
-        assert_eq!(rt; came.printed.as_slice(), cut.printed);
+        let mut shelf = shelf_with(rt.alloc(), cut.file, "", cut.others)?;
+        let came = answer_to(&rt, &[cut.word, "t.par"], &mut shelf)?;
+        assert_eq!(rt; came.printed.as_slice(), cut.printed, "{}", cut.name);
     }
     Ok(())
 }
 
-/// What `check t.par` prints where these files stand before others.
+/// What `check t.par` prints where these files come before others.
 fn checked(rt: &HostRuntime, files: &[File], more: &[File]) -> Result<Vec<u8>, Fail> {
     let mut shelf = shelf(rt.alloc(), files, more)?;
-    Ok(answer_to(rt, &[b"check", b"t.par"], &mut shelf)?.printed)
+    Ok(answer_to(rt, &["check", "t.par"], &mut shelf)?.printed)
 }
 
 #[test]
-fn faults_of_plain_thorns(rt: HostRuntime) -> Result<(), Fail> {
+fn faults_of_plain_and_sample_thorns(rt: HostRuntime) -> Result<(), Fail> {
     for fault in FAULTS {
         let printed = checked(&rt, fault.files, PLAIN)?;
-        assert_eq!(rt; printed.as_slice(), fault.printed);
+        let want = fault.printed;
+        assert_eq!(rt; printed.as_slice(), want.as_bytes(), "{want}");
     }
-    let printed = checked(&rt, &[], PLAIN)?;
-    assert_eq!(rt; printed.as_slice(), b"accepted\n".as_slice());
-    Ok(())
-}
-
-#[test]
-fn faults_of_sample_thorns(rt: HostRuntime) -> Result<(), Fail> {
     for fault in SAMPLE_FAULTS {
-        let printed = checked(&rt, fault.files, SAMPLES)?;
-        assert_eq!(rt; printed.as_slice(), fault.printed);
+        let printed = checked(&rt, fault.files, FILES)?;
+        let want = fault.printed;
+        assert_eq!(rt; printed.as_slice(), want.as_bytes(), "{want}");
     }
     Ok(())
 }
 
-#[test]
-fn if_around_the_only_start(rt: HostRuntime) -> Result<(), Fail> {
-    let refused = checked(&rt, IF_AROUND, SAMPLES)?;
-    assert!(rt; refused.starts_with(b"refused: Unset n"));
-    let accepted = checked(&rt, IF_NOWHERE, SAMPLES)?;
-    assert_eq!(rt; accepted.as_slice(), b"accepted\n".as_slice());
-    Ok(())
-}
+const ACCEPTED: &[u8] = b"accepted\n";
 
 /// The first line of a parameter file of one thorn.
-fn activation(alloc: Global, thorn: &[u8]) -> Result<Text, Memory> {
+fn activation(alloc: Global, thorn: &str) -> Result<Text, Memory> {
     let mut text = Text::from_slice(alloc, b"ActiveThorns = ")?;
-    text.push_slice(thorn)?;
+    text.push_slice(thorn.as_bytes())?;
     text.push_slice(b"\n")?;
     Ok(text)
 }
@@ -571,9 +555,9 @@ fn sample_thorns_on_many_grids(rt: HostRuntime) -> Result<(), Fail> {
         for grid in GRIDS {
             let line = activation(alloc, thorn)?;
             let mut shelf = shelf_with(alloc, line.as_slice(), grid, &[])?;
-            let came = answer_to(&rt, &[b"check", b"t.par"], &mut shelf)?;
-            assert_eq!(rt; came.status, 0);
-            assert_eq!(rt; came.printed.as_slice(), b"accepted\n".as_slice());
+            let came = answer_to(&rt, &["check", "t.par"], &mut shelf)?;
+            let found = (came.status, came.printed.as_slice());
+            assert_eq!(rt; found, (0, ACCEPTED), "{thorn} with {grid:?}");
         }
     }
     Ok(())
@@ -584,15 +568,14 @@ fn runs_of_jobs(rt: HostRuntime) -> Result<(), Fail> {
     let alloc = rt.alloc();
     for run in RUNS {
         let mut shelf = shelf_with(alloc, run.file, run.more, run.others)?;
-        let came = answer_to(&rt, &[b"run", b"t.par"], &mut shelf)?;
-        assert_eq!(rt; came.status, run.status);
-        assert_eq!(rt; came.printed.as_slice(), run.printed);
-        assert_eq!(rt; came.output.as_slice(), run.output);
-        if let Some(points) = run.points {
-            assert_eq!(rt; came.points, points);
-        }
+        let came = answer_to(&rt, &["run", "t.par"], &mut shelf)?;
+        let found = (came.status, came.printed.as_slice(), came.output.as_slice());
+        let want = (run.status, run.printed, run.output);
+        assert_eq!(rt; found, want, "{}", run.name);
+        let points = run.points.unwrap_or(came.points);
+        assert_eq!(rt; came.points, points, "points of {}", run.name);
     }
-    assert_eq!(rt; CA_OUTPUT.len(), 141);
+    assert_eq!(rt; CA_OUTPUT.len(), 141, "the bytes of the automaton's output");
     Ok(())
 }
 
@@ -602,12 +585,10 @@ fn file_that_is_too_long(rt: HostRuntime) -> Result<(), Fail> {
     let name = Text::from_slice(alloc, b"long.par")?;
     let bytes = Text::new(vec![in alloc; b' '; 1_048_577]?);
     let mut shelf = MemoryShelf::new(List::new(vec![in alloc; (name, bytes)]?));
-    let came = answer_to(&rt, &[b"run", b"long.par"], &mut shelf)?;
-    assert_eq!(rt; came.status, 2);
-    assert_eq!(rt;
-        came.printed.as_slice(),
-        b"refused: long.par TooLong\n".as_slice()
-    );
+    let came = answer_to(&rt, &["run", "long.par"], &mut shelf)?;
+    let found = (came.status, came.printed.as_slice());
+    let want = b"refused: long.par TooLong\n".as_slice();
+    assert_eq!(rt; found, (2, want), "1,048,577 bytes");
     Ok(())
 }
 
@@ -617,8 +598,9 @@ fn files_of_the_current_folder(rt: HostRuntime) -> Result<(), Fail> {
     fs::write(&rt, "ca.par", "bytes")?;
     let mut shelf = FolderShelf::new(rt.clone()?);
     let found = shelf.read(alloc, &Text::from_slice(alloc, b"ca.par")?);
-    assert!(rt; matches!(&found, Ok(Some(bytes)) if bytes.as_slice() == b"bytes".as_slice()));
+    let is_found = matches!(&found, Ok(Some(bytes)) if bytes.as_slice() == b"bytes".as_slice());
+    assert!(rt; is_found, "a file that is there");
     let missing = shelf.read(alloc, &Text::from_slice(alloc, b"b.par")?);
-    assert!(rt; matches!(&missing, Ok(None)));
+    assert!(rt; matches!(&missing, Ok(None)), "a file that is missing");
     Ok(())
 }

@@ -4,21 +4,23 @@ use crate::calls::{answer_to, shelf_with, sink, texts};
 use crate::carriers::{failing, wire};
 use crate::devices::{failing_disk, failing_shelf};
 use crate::jobs::CA_OUTPUT;
-use crate::samples::{CA, File};
+use crate::samples::CA;
 use crate::stops::{BOX_FILE, BOX_OUTPUT, BOX_THORNS, EACH};
-use cx_disk::{Disk, MemoryDisk};
+use cx_disk::{Disk, MemoryDisk, OLD_OUTPUT};
 use cx_rule::Meter;
 use cx_run::{MemorySink, Shelf};
 use cx_samples::answer;
 use cx_text::{List, Text};
 use cx_turns::SeededTurns;
+use sample_files::File;
 use std::alloc::Global;
 use std::test::Fail;
 
 /// A job, with how many calls of the disk, the wire and the shelf its run from nothing makes; the sink is called once.
 struct Job {
+    name: &'static str,
     file: &'static [u8],
-    more: &'static [u8],
+    more: &'static str,
     others: &'static [File],
     disk: u64,
     wire: u64,
@@ -33,6 +35,7 @@ struct Job {
 /// a thorn.
 const JOBS: &[Job] = &[
     Job {
+        name: "cells in one part",
         file: CA,
         more: EACH,
         others: &[],
@@ -44,8 +47,9 @@ const JOBS: &[Job] = &[
         output: CA_OUTPUT,
     },
     Job {
+        name: "cells in two parts",
         file: CA,
-        more: b"driver::parts_x = 2\n\
+        more: "driver::parts_x = 2\n\
             IO::checkpoint_every = 1\n\
             IO::recover = \"autoprobe\"\n",
         others: &[],
@@ -57,10 +61,11 @@ const JOBS: &[Job] = &[
         output: CA_OUTPUT,
     },
     Job {
+        name: "a count past its limit",
         file: b"ActiveThorns = \"Control\"\n\
             control::drop = 0\n\
             IO::out_vars = \"control::count\"\n",
-        more: b"IO::recover = \"autoprobe\"\n",
+        more: "IO::recover = \"autoprobe\"\n",
         others: &[],
         disk: 21,
         wire: 0,
@@ -89,7 +94,7 @@ fn run_anew<H: Shelf, D: Disk>(
     out: &mut MemorySink,
 ) -> Result<u8, Fail> {
     let alloc = rt.alloc();
-    let words = texts(alloc, &[b"run", b"t.par"])?;
+    let words = texts(alloc, &["run", "t.par"])?;
     let mut wire = wire(alloc)?;
     let mut turns = SeededTurns::new();
     let mut meter = Meter::new(rt);
@@ -107,7 +112,7 @@ fn run_cut_off<H: Shelf, D: Disk>(
     fail: u64,
 ) -> Result<u8, Fail> {
     let alloc = rt.alloc();
-    let words = texts(alloc, &[b"run", b"t.par"])?;
+    let words = texts(alloc, &["run", "t.par"])?;
     let mut wire = failing(alloc, fail)?;
     let mut turns = SeededTurns::new();
     let mut meter = Meter::new(rt);
@@ -131,7 +136,7 @@ fn both_calls(
         said,
         second,
         printed,
-        output: disk.bytes(8).to_vec(alloc)?,
+        output: disk.bytes(OLD_OUTPUT as usize).to_vec(alloc)?,
     })
 }
 
@@ -193,61 +198,12 @@ fn is_whole(came: &Twice, said: &[u8], job: &Job) -> bool {
         && came.output.as_slice() == job.output
 }
 
-#[test]
-fn disk_that_fails_once(rt: HostRuntime) -> Result<(), Fail> {
-    for job in JOBS {
-        for fail in 0..job.disk {
-            let came = disk_fails(&rt, job, fail)?;
-            assert!(rt; is_whole(&came, b"device: disk\n", job), "call {fail}");
-        }
-        let came = disk_fails(&rt, job, job.disk)?;
-        assert_eq!(rt; came.first, job.status);
-    }
-    Ok(())
-}
-
-#[test]
-fn wire_that_fails_once(rt: HostRuntime) -> Result<(), Fail> {
-    for job in JOBS {
-        for fail in 0..job.wire {
-            let came = wire_fails(&rt, job, fail)?;
-            assert!(rt; is_whole(&came, b"device: wire\n", job), "call {fail}");
-        }
-        let came = wire_fails(&rt, job, job.wire)?;
-        assert_eq!(rt; came.first, job.status);
-    }
-    Ok(())
-}
-
-#[test]
-fn shelf_that_fails_once(rt: HostRuntime) -> Result<(), Fail> {
-    for job in JOBS {
-        for fail in 0..job.shelf {
-            let came = shelf_fails(&rt, job, fail)?;
-            assert!(rt; is_whole(&came, b"device: shelf\n", job), "call {fail}");
-        }
-        let came = shelf_fails(&rt, job, job.shelf)?;
-        assert_eq!(rt; came.first, job.status);
-    }
-    Ok(())
-}
-
-#[test]
-fn sink_that_fails_once(rt: HostRuntime) -> Result<(), Fail> {
-    for job in JOBS {
-        let came = sink_fails(&rt, job, 0)?;
-        assert!(rt; is_whole(&came, b"", job));
-        let came = sink_fails(&rt, job, 1)?;
-        assert_eq!(rt; came.first, job.status);
-    }
-    Ok(())
-}
-
-/// The box with checkpoints of iterations 20 and 40. Its disk's first sync comes behind the mount and a look at each slot, and the list of
-/// thorns is its second file.
-const BOX_JOBS: &[Job] = &[Job {
+/// The box with checkpoints of iterations 20 and 40, with one call of each device that fails: the disk's first sync, after the mount and a
+/// look at each slot; the first message; and the list of thorns, the second file.
+const BOX_JOB: &Job = &Job {
+    name: "the box",
     file: BOX_FILE,
-    more: b"",
+    more: "",
     others: BOX_THORNS,
     disk: 9,
     wire: 0,
@@ -255,28 +211,88 @@ const BOX_JOBS: &[Job] = &[Job {
     status: 0,
     printed: b"done: iteration 40\n",
     output: BOX_OUTPUT,
-}];
+};
+
+/// A device of a call.
+#[derive(Clone, Copy, Debug)]
+enum Device {
+    Disk,
+    Wire,
+    Shelf,
+    Sink,
+}
+
+const DEVICES: &[Device] = &[Device::Disk, Device::Wire, Device::Shelf, Device::Sink];
+
+/// What a first call prints whose device fails.
+fn said(device: Device) -> &'static [u8] {
+    match device {
+        Device::Disk => b"device: disk\n",
+        Device::Wire => b"device: wire\n",
+        Device::Shelf => b"device: shelf\n",
+        Device::Sink => b"",
+    }
+}
+
+/// How many calls of a device the run of a job makes.
+fn calls_of(device: Device, job: &Job) -> u64 {
+    match device {
+        Device::Disk => job.disk,
+        Device::Wire => job.wire,
+        Device::Shelf => job.shelf,
+        Device::Sink => 1,
+    }
+}
+
+/// Over devices of which one fails in one call.
+fn device_fails(rt: &HostRuntime, device: Device, job: &Job, fail: u64) -> Result<Twice, Fail> {
+    match device {
+        Device::Disk => disk_fails(rt, job, fail),
+        Device::Wire => wire_fails(rt, job, fail),
+        Device::Shelf => shelf_fails(rt, job, fail),
+        Device::Sink => sink_fails(rt, job, fail),
+    }
+}
+
+/// The first call of a device after whose failure something else comes than should, or the number of its calls if one more is made.
+fn wrong_call(rt: &HostRuntime, device: Device, job: &Job) -> Result<Option<u64>, Fail> {
+    let calls = calls_of(device, job);
+    for fail in 0..calls {
+        let came = device_fails(rt, device, job, fail)?;
+        if !is_whole(&came, said(device), job) {
+            return Ok(Some(fail));
+        }
+    }
+    let came = device_fails(rt, device, job, calls)?;
+    if came.first != job.status {
+        return Ok(Some(calls));
+    }
+    Ok(None)
+}
 
 #[test]
-fn box_whose_devices_fail(rt: HostRuntime) -> Result<(), Fail> {
-    for job in BOX_JOBS {
-        let came = disk_fails(&rt, job, job.disk)?;
-        assert!(rt; is_whole(&came, b"device: disk\n", job));
-        let came = wire_fails(&rt, job, job.wire)?;
-        assert!(rt; is_whole(&came, b"device: wire\n", job));
-        let came = shelf_fails(&rt, job, job.shelf)?;
-        assert!(rt; is_whole(&came, b"device: shelf\n", job));
+fn devices_that_fail_once(rt: HostRuntime) -> Result<(), Fail> {
+    for device in DEVICES {
+        for job in JOBS {
+            let wrong = wrong_call(&rt, *device, job)?;
+            assert_eq!(rt; wrong, None, "{device:?}, {}", job.name);
+        }
+    }
+    for device in [Device::Disk, Device::Wire, Device::Shelf] {
+        let came = device_fails(&rt, device, BOX_JOB, calls_of(device, BOX_JOB))?;
+        let is_whole = is_whole(&came, said(device), BOX_JOB);
+        assert!(rt; is_whole, "{device:?}, the box");
     }
     Ok(())
 }
 
-// What is within a shelf that would fail doesn't.
+/// What is within a shelf that would fail doesn't.
 #[test]
 fn shelf_that_is_given_back(rt: HostRuntime) -> Result<(), Fail> {
     let alloc = rt.alloc();
     let files = shelf_with(alloc, CA, EACH, &[])?;
     let mut within = failing_shelf(alloc, files, 0)?.into_inner();
-    let came = answer_to(&rt, &[b"run", b"t.par"], &mut within)?;
-    assert_eq!(rt; came.status, 0);
+    let came = answer_to(&rt, &["run", "t.par"], &mut within)?;
+    assert_eq!(rt; came.status, 0, "the shelf within");
     Ok(())
 }

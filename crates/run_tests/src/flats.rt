@@ -15,6 +15,7 @@ use std::test::Fail;
 
 /// A parameter file, and the operations of its run, one after another.
 struct Flat {
+    name: &'static str,
     file: &'static [u8],
     operations: &'static str,
 }
@@ -22,6 +23,7 @@ struct Flat {
 const FLATS: &[Flat] = &[
     // ca_init, ca_step with its SYNC, ca_zero and ca_count are the items 0 to 3.
     Flat {
+        name: "the automaton",
         file: CA,
         operations: "sweep 0, give 3, join 3, skip 10, \
             rotate, sweep 1, post 0, take 0, sweep 2, give 3, join 3, due 2, save, \
@@ -29,6 +31,7 @@ const FLATS: &[Flat] = &[
     },
     // wave_init, wave_step with its SYNC, and wave_flat
     Flat {
+        name: "the wave",
         file: WAVE,
         operations: "sweep 0, skip 8, \
             rotate, sweep 1, post 0, take 0, sweep 2, due 2, save, \
@@ -36,6 +39,7 @@ const FLATS: &[Flat] = &[
     },
     // control_set, and control_spin in its WHILE
     Flat {
+        name: "the count",
         file: CONTROL,
         operations: "apply 0, skip 8, \
             rotate, open, turn 0 3, apply 1, again 2, due 2, save, \
@@ -101,7 +105,7 @@ fn operations_with(
 ) -> Result<List<Op>, Memory>
     requires few { length routines.now ≤ 2 ^ 32 }
 {
-    let mut shelf = shelf_with(alloc, file, b"", &[])?;
+    let mut shelf = shelf_with(alloc, file, "", &[])?;
     let name = Text::from_slice(alloc, b"t.par")?;
     let Ok(job) = make_job(alloc, &mut shelf, &name, routines) else {
         return Err(Memory);
@@ -114,7 +118,8 @@ fn schedules_are_flattened(rt: HostRuntime) -> Result<(), Fail> {
     let alloc = rt.alloc();
     for flat in FLATS {
         let ops = operations(alloc, flat.file)?;
-        assert_eq!(rt; words(alloc, ops.as_slice())?.as_str(), flat.operations);
+        let words = words(alloc, ops.as_slice())?;
+        assert_eq!(rt; words.as_str(), flat.operations, "{}", flat.name);
     }
     Ok(())
 }

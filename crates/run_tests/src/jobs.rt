@@ -1,11 +1,13 @@
 //! Jobs that run, and what comes of them.
-use crate::samples::{BOX, CA, CONTROL, File, GLIDER, HEAT, LIFE, WAVE};
+use crate::samples::{BOX, CA, CONTROL, GLIDER, HEAT, LIFE, WAVE};
+use sample_files::File;
 
 /// A job that runs, and what comes of it.
 pub struct Run {
+    pub name: &'static str,
     /// The parameter file, and more lines behind it.
     pub file: &'static [u8],
-    pub more: &'static [u8],
+    pub more: &'static str,
     /// Files in place of the sample thorns' or beside them.
     pub others: &'static [File],
     pub status: u8,
@@ -133,8 +135,9 @@ const STEP_IF: &[u8] = b"STORAGE: evolved[1] sums[1]\n\
 pub const RUNS: &[Run] = &[
     // The automaton, whatever the cut.
     Run {
+        name: "cells",
         file: CA,
-        more: b"",
+        more: "",
         others: &[],
         status: 0,
         printed: b"done: iteration 2\n",
@@ -142,8 +145,9 @@ pub const RUNS: &[Run] = &[
         points: Some(26),
     },
     Run {
+        name: "cells by settings in another order",
         file: OTHER_ORDER,
-        more: b"",
+        more: "",
         others: &[],
         status: 0,
         printed: b"done: iteration 2\n",
@@ -151,8 +155,9 @@ pub const RUNS: &[Run] = &[
         points: Some(26),
     },
     Run {
+        name: "cells in two parts",
         file: CA,
-        more: b"driver::parts_x = 2\n",
+        more: "driver::parts_x = 2\n",
         others: &[],
         status: 0,
         printed: b"done: iteration 2\n",
@@ -160,8 +165,9 @@ pub const RUNS: &[Run] = &[
         points: Some(28),
     },
     Run {
+        name: "cells in eight parts",
         file: CA,
-        more: b"driver::parts_x = 8\n",
+        more: "driver::parts_x = 8\n",
         others: &[],
         status: 0,
         printed: b"done: iteration 2\n",
@@ -169,8 +175,9 @@ pub const RUNS: &[Run] = &[
         points: Some(40),
     },
     Run {
+        name: "cells in parts of 3 and 5",
         file: CA,
-        more: b"driver::widths_x = \"3 5\"\n",
+        more: "driver::widths_x = \"3 5\"\n",
         others: &[],
         status: 0,
         printed: b"done: iteration 2\n",
@@ -178,8 +185,9 @@ pub const RUNS: &[Run] = &[
         points: Some(28),
     },
     Run {
+        name: "the first row of cells",
         file: FIRST_ROW,
-        more: b"",
+        more: "",
         others: &[],
         status: 0,
         printed: b"done: iteration 0\n",
@@ -190,8 +198,9 @@ pub const RUNS: &[Run] = &[
     },
     // The other examples.
     Run {
+        name: "a glider",
         file: LIFE,
-        more: b"",
+        more: "",
         others: &[],
         status: 0,
         printed: b"done: iteration 4\n",
@@ -199,8 +208,9 @@ pub const RUNS: &[Run] = &[
         points: Some(356),
     },
     Run {
+        name: "a glider in six parts",
         file: LIFE,
-        more: b"driver::parts_x = 2\n\
+        more: "driver::parts_x = 2\n\
             driver::widths_y = \"1 3 4\"\n",
         others: &[],
         status: 0,
@@ -209,8 +219,9 @@ pub const RUNS: &[Run] = &[
         points: Some(424),
     },
     Run {
+        name: "a glider that goes around",
         file: GLIDER,
-        more: b"",
+        more: "",
         others: &[],
         status: 0,
         printed: b"done: iteration 48\n",
@@ -262,8 +273,9 @@ pub const RUNS: &[Run] = &[
         points: Some(7108),
     },
     Run {
+        name: "a wave",
         file: WAVE,
-        more: b"",
+        more: "",
         others: &[],
         status: 0,
         printed: b"done: iteration 1\n",
@@ -276,8 +288,9 @@ pub const RUNS: &[Run] = &[
         points: Some(14),
     },
     Run {
+        name: "heat",
         file: HEAT,
-        more: b"",
+        more: "",
         others: &[],
         status: 0,
         printed: b"done: iteration 10\n",
@@ -328,8 +341,9 @@ pub const RUNS: &[Run] = &[
         points: Some(176),
     },
     Run {
+        name: "a count of turns",
         file: CONTROL,
-        more: b"",
+        more: "",
         others: &[],
         status: 0,
         printed: b"done: iteration 1\n",
@@ -338,8 +352,9 @@ pub const RUNS: &[Run] = &[
         points: Some(6),
     },
     Run {
+        name: "a box of four thorns",
         file: BOX,
-        more: b"",
+        more: "",
         others: &[],
         status: 0,
         printed: b"done: iteration 40\n",
@@ -359,6 +374,7 @@ pub const RUNS: &[Run] = &[
     },
     // A sum that leaves 64 bits, and one whose parts alone do.
     Run {
+        name: "a sum that leaves 64 bits",
         file: b"ActiveThorns = \"WaveInt\"\n\
             Cactus::cctk_itlast = 0\n\
             driver::global_nx = 2\n\
@@ -367,7 +383,7 @@ pub const RUNS: &[Run] = &[
             wave::amount = 9223372036854775807\n\
             wave::sum = yes\n\
             IO::out_vars = \"wave::phi wave::total\"\n",
-        more: b"",
+        more: "",
         others: &[],
         status: 3,
         printed: b"ended: Overflow 0 ANALYSIS/wave_sum\n",
@@ -375,6 +391,7 @@ pub const RUNS: &[Run] = &[
         points: None,
     },
     Run {
+        name: "a sum whose parts alone leave 64 bits",
         file: b"ActiveThorns = \"WaveInt\"\n\
             Cactus::cctk_itlast = 0\n\
             driver::global_nx = 5\n\
@@ -383,9 +400,9 @@ pub const RUNS: &[Run] = &[
             wave::edge = -9223372036854775807\n\
             wave::sum = yes\n\
             IO::out_vars = \"wave::phi wave::total\"\n",
-        more: b"",
+        more: "",
         others: &[File {
-            name: b"arrangements/Integer/WaveInt/schedule.ccl",
+            name: "arrangements/Integer/WaveInt/schedule.ccl",
             bytes: b"STORAGE: evolved[3] sums[1]\n\
                 schedule wave_init AT INITIAL\n\
                 { LANG: C WRITES: wave::phi(everywhere) wave::phi_p(everywhere) } \"start\"\n\
@@ -415,6 +432,7 @@ pub const RUNS: &[Run] = &[
     },
     // Numbers that leave 16 bits, and 64 bits.
     Run {
+        name: "heat that leaves 16 bits",
         file: b"ActiveThorns = \"DiffInt\"\n\
             Cactus::cctk_itlast = 20\n\
             driver::global_nx = 16\n\
@@ -424,9 +442,9 @@ pub const RUNS: &[Run] = &[
             diff::amount = 100\n\
             diff::start = 2\n\
             IO::out_vars = \"diff::u\"\n",
-        more: b"",
+        more: "",
         others: &[File {
-            name: b"arrangements/Integer/DiffInt/interface.ccl",
+            name: "arrangements/Integer/DiffInt/interface.ccl",
             bytes: b"implements: diff\n\
                 public:\n\
                 CCTK_INT2 evolved TYPE=GF DIM=1 { u } \"field\"\n\
@@ -458,6 +476,7 @@ pub const RUNS: &[Run] = &[
         points: None,
     },
     Run {
+        name: "a wave that leaves 64 bits",
         file: b"ActiveThorns = \"WaveInt\"\n\
             Cactus::cctk_itlast = 4\n\
             driver::global_nx = 6\n\
@@ -466,7 +485,7 @@ pub const RUNS: &[Run] = &[
             wave::amount = 5000000000000000000\n\
             wave::start = 2\n\
             IO::out_vars = \"wave::phi\"\n",
-        more: b"",
+        more: "",
         others: &[],
         status: 3,
         printed: b"ended: Overflow 3 EVOL/wave_step\n",
@@ -482,6 +501,7 @@ pub const RUNS: &[Run] = &[
         points: None,
     },
     Run {
+        name: "heat that leaves 64 bits",
         file: b"ActiveThorns = \"DiffInt\"\n\
             Cactus::cctk_itlast = 3\n\
             driver::global_nx = 4\n\
@@ -490,7 +510,7 @@ pub const RUNS: &[Run] = &[
             diff::amount = 1000000\n\
             diff::start = 1\n\
             IO::out_vars = \"diff::u\"\n",
-        more: b"",
+        more: "",
         others: &[],
         status: 3,
         printed: b"ended: Overflow 1 EVOL/diff_step\n",
@@ -501,12 +521,13 @@ pub const RUNS: &[Run] = &[
     },
     // A WHILE past its limit, and one that just keeps it.
     Run {
+        name: "a WHILE past its limit",
         file: b"ActiveThorns = \"Control\"\n\
             Cactus::cctk_itlast = 2\n\
             driver::while_limit = 5\n\
             control::drop = 0\n\
             IO::out_vars = \"control::count\"\n",
-        more: b"",
+        more: "",
         others: &[],
         status: 3,
         printed: b"ended: WhileLimit 1 EVOL/control_spin\n",
@@ -514,12 +535,13 @@ pub const RUNS: &[Run] = &[
         points: None,
     },
     Run {
+        name: "a WHILE that just keeps its limit",
         file: b"ActiveThorns = \"Control\"\n\
             Cactus::cctk_itlast = 2\n\
             driver::while_limit = 5\n\
             control::turns = 5\n\
             IO::out_vars = \"control::count\"\n",
-        more: b"",
+        more: "",
         others: &[],
         status: 0,
         printed: b"done: iteration 2\n",
@@ -530,6 +552,7 @@ pub const RUNS: &[Run] = &[
     },
     // An IF whose scalar is 0, and one whose scalar becomes 0 in the first iteration.
     Run {
+        name: "an IF whose scalar is 0",
         file: b"ActiveThorns = \"Control DiffInt\"\n\
             Cactus::cctk_itlast = 2\n\
             driver::global_nx = 6\n\
@@ -537,14 +560,14 @@ pub const RUNS: &[Run] = &[
             diff::start = 2\n\
             control::turns = 0\n\
             IO::out_vars = \"diff::u\"\n",
-        more: b"",
+        more: "",
         others: &[
             File {
-                name: b"arrangements/Integer/DiffInt/interface.ccl",
+                name: "arrangements/Integer/DiffInt/interface.ccl",
                 bytes: SEEING,
             },
             File {
-                name: b"arrangements/Integer/DiffInt/schedule.ccl",
+                name: "arrangements/Integer/DiffInt/schedule.ccl",
                 bytes: STEP_IF,
             },
         ],
@@ -562,6 +585,7 @@ pub const RUNS: &[Run] = &[
         points: Some(9),
     },
     Run {
+        name: "an IF whose scalar becomes 0",
         file: b"ActiveThorns = \"DiffInt Control\"\n\
             Cactus::cctk_itlast = 2\n\
             driver::global_nx = 6\n\
@@ -569,14 +593,14 @@ pub const RUNS: &[Run] = &[
             diff::start = 2\n\
             control::turns = 2\n\
             IO::out_vars = \"diff::u control::count\"\n",
-        more: b"",
+        more: "",
         others: &[
             File {
-                name: b"arrangements/Integer/DiffInt/interface.ccl",
+                name: "arrangements/Integer/DiffInt/interface.ccl",
                 bytes: SEEING,
             },
             File {
-                name: b"arrangements/Integer/DiffInt/schedule.ccl",
+                name: "arrangements/Integer/DiffInt/schedule.ccl",
                 bytes: STEP_IF,
             },
         ],
@@ -598,6 +622,7 @@ pub const RUNS: &[Run] = &[
     },
     // Three directions, of which one is periodic.
     Run {
+        name: "three directions",
         file: b"ActiveThorns = \"DiffInt\"\n\
             Cactus::cctk_itlast = 2\n\
             driver::global_nx = 4\n\
@@ -611,9 +636,9 @@ pub const RUNS: &[Run] = &[
             diff::seed = 7\n\
             IO::out_vars = \"diff::u\"\n\
             IO::out_every = 2\n",
-        more: b"",
+        more: "",
         others: &[File {
-            name: b"arrangements/Integer/DiffInt/interface.ccl",
+            name: "arrangements/Integer/DiffInt/interface.ccl",
             bytes: b"implements: diff\n\
                 public:\n\
                 CCTK_INT evolved TYPE=GF DIM=3 { u } \"field\"\n\
@@ -645,6 +670,7 @@ pub const RUNS: &[Run] = &[
     },
     // A scalar alone, and nothing.
     Run {
+        name: "a scalar alone",
         file: b"ActiveThorns = \"Life2D\"\n\
             Cactus::cctk_itlast = 3\n\
             driver::global_nsize = 12\n\
@@ -652,7 +678,7 @@ pub const RUNS: &[Run] = &[
             life::pattern = \"random\"\n\
             life::seed = 3\n\
             IO::out_vars = \"life::live\"\n",
-        more: b"",
+        more: "",
         others: &[],
         status: 0,
         printed: b"done: iteration 3\n",
@@ -663,8 +689,9 @@ pub const RUNS: &[Run] = &[
         points: Some(576),
     },
     Run {
+        name: "no output, every 0",
         file: CA,
-        more: b"IO::out_every = 0\n",
+        more: "IO::out_every = 0\n",
         others: &[],
         status: 0,
         printed: b"done: iteration 2\n",
@@ -672,8 +699,9 @@ pub const RUNS: &[Run] = &[
         points: Some(26),
     },
     Run {
+        name: "no output, every -1",
         file: CA,
-        more: b"IO::out_every = -1\n",
+        more: "IO::out_every = -1\n",
         others: &[],
         status: 0,
         printed: b"done: iteration 2\n",
@@ -681,12 +709,13 @@ pub const RUNS: &[Run] = &[
         points: Some(26),
     },
     Run {
+        name: "no output variables",
         file: b"ActiveThorns = \"ElemCA\"\n\
             Cactus::cctk_itlast = 2\n\
             driver::global_nx = 8\n\
             driver::periodic = yes\n\
             ca::start = 3\n",
-        more: b"",
+        more: "",
         others: &[],
         status: 0,
         printed: b"done: iteration 2\n",
@@ -695,8 +724,9 @@ pub const RUNS: &[Run] = &[
     },
     // Checkpoints that are never due.
     Run {
+        name: "checkpoints that are never due",
         file: CA,
-        more: b"IO::checkpoint_every = 0\n\
+        more: "IO::checkpoint_every = 0\n\
             IO::checkpoint_keep = 3\n",
         others: &[],
         status: 0,

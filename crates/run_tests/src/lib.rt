@@ -24,6 +24,8 @@ mod parts;
 #[cfg(test)]
 mod samples;
 #[cfg(test)]
+mod schedules;
+#[cfg(test)]
 mod stops;
 #[cfg(test)]
 mod wires;

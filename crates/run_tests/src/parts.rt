@@ -2,13 +2,14 @@
 
 use crate::calls::{Outcome, answer_to, shelf_with};
 use crate::jobs::CA_OUTPUT;
-use crate::samples::{CA, File};
+use crate::samples::CA;
 use cx_run::MemoryShelf;
+use sample_files::File;
 use std::test::Fail;
 
 /// How a run is cut and how far its parts may lead; how many points are computed, how many values are exchanged, and their sum.
 struct Work {
-    more: &'static [u8],
+    more: &'static str,
     points: u128,
     received: u64,
     sum: u64,
@@ -17,31 +18,31 @@ struct Work {
 /// The automaton of eight points over three iterations.
 const WORKS: &[Work] = &[
     Work {
-        more: b"driver::parts_x = 1\n",
+        more: "driver::parts_x = 1\n",
         points: 26,
         received: 4,
         sum: 0,
     },
     Work {
-        more: b"driver::parts_x = 2\n",
+        more: "driver::parts_x = 2\n",
         points: 28,
         received: 8,
         sum: 1,
     },
     Work {
-        more: b"driver::parts_x = 8\n",
+        more: "driver::parts_x = 8\n",
         points: 40,
         received: 32,
         sum: 8,
     },
     Work {
-        more: b"driver::widths_x = \"3 5\"\n",
+        more: "driver::widths_x = \"3 5\"\n",
         points: 28,
         received: 8,
         sum: 1,
     },
     Work {
-        more: b"driver::parts_x = 2\ndriver::lead = 64\n",
+        more: "driver::parts_x = 2\ndriver::lead = 64\n",
         points: 28,
         received: 8,
         sum: 1,
@@ -49,41 +50,43 @@ const WORKS: &[Work] = &[
 ];
 
 /// Seeds of turns, as words.
-const SEEDS: &[&[u8]] = &[
-    b"--turns=0",
-    b"--turns=1",
-    b"--turns=2",
-    b"--turns=3",
-    b"--turns=4",
-    b"--turns=5",
-    b"--turns=6",
-    b"--turns=7",
-    b"--turns=8",
-    b"--turns=18446744073709551615",
+const SEEDS: &[&str] = &[
+    "--turns=0",
+    "--turns=1",
+    "--turns=2",
+    "--turns=3",
+    "--turns=4",
+    "--turns=5",
+    "--turns=6",
+    "--turns=7",
+    "--turns=8",
+    "--turns=18446744073709551615",
 ];
 
 /// A job of each sample thorn, and cuts of its grid into 2, 3, 7 and 16 parts.
 struct Thorn {
+    name: &'static str,
     file: &'static [u8],
-    cuts: &'static [&'static [u8]],
+    cuts: &'static [&'static str],
 }
 
-const LINES: &[&[u8]] = &[
-    b"driver::parts_x = 2\n",
-    b"driver::parts_x = 3\ndriver::lead = 1\n",
-    b"driver::widths_x = \"1 2 1 5 1 1 5\"\ndriver::lead = 2\n",
-    b"driver::parts_x = 16\n",
+const LINES: &[&str] = &[
+    "driver::parts_x = 2\n",
+    "driver::parts_x = 3\ndriver::lead = 1\n",
+    "driver::widths_x = \"1 2 1 5 1 1 5\"\ndriver::lead = 2\n",
+    "driver::parts_x = 16\n",
 ];
 
-const SHEETS: &[&[u8]] = &[
-    b"driver::parts_y = 2\n",
-    b"driver::parts_x = 3\ndriver::lead = 3\n",
-    b"driver::widths_x = \"1 1 2 1 1 1 1\"\n",
-    b"driver::parts_x = 4\ndriver::parts_y = 4\ndriver::lead = 1\n",
+const SHEETS: &[&str] = &[
+    "driver::parts_y = 2\n",
+    "driver::parts_x = 3\ndriver::lead = 3\n",
+    "driver::widths_x = \"1 1 2 1 1 1 1\"\n",
+    "driver::parts_x = 4\ndriver::parts_y = 4\ndriver::lead = 1\n",
 ];
 
 const THORN_JOBS: &[Thorn] = &[
     Thorn {
+        name: "ElemCA",
         file: b"ActiveThorns = \"ElemCA\"\n\
             Cactus::cctk_itlast = 3\n\
             driver::global_nx = 16\n\
@@ -93,6 +96,7 @@ const THORN_JOBS: &[Thorn] = &[
         cuts: LINES,
     },
     Thorn {
+        name: "Life2D",
         file: b"ActiveThorns = \"Life2D\"\n\
             Cactus::cctk_itlast = 2\n\
             driver::global_nx = 8\n\
@@ -104,6 +108,7 @@ const THORN_JOBS: &[Thorn] = &[
         cuts: SHEETS,
     },
     Thorn {
+        name: "WaveInt",
         file: b"ActiveThorns = \"WaveInt\"\n\
             Cactus::cctk_itlast = 3\n\
             driver::global_nx = 16\n\
@@ -115,6 +120,7 @@ const THORN_JOBS: &[Thorn] = &[
         cuts: LINES,
     },
     Thorn {
+        name: "DiffInt",
         file: b"ActiveThorns = \"DiffInt\"\n\
             Cactus::cctk_itlast = 3\n\
             driver::global_nx = 16\n\
@@ -127,6 +133,7 @@ const THORN_JOBS: &[Thorn] = &[
         cuts: LINES,
     },
     Thorn {
+        name: "Control",
         file: b"ActiveThorns = \"Control\"\n\
             Cactus::cctk_itlast = 1\n\
             driver::global_nx = 16\n\
@@ -150,7 +157,7 @@ const LEAVES: &[u8] = b"ActiveThorns = \"DiffInt\"\n\
 
 /// The field of `LEAVES` in 16 bits.
 pub(crate) const SHORT_FIELD: &[File] = &[File {
-    name: b"arrangements/Integer/DiffInt/interface.ccl",
+    name: "arrangements/Integer/DiffInt/interface.ccl",
     bytes: b"implements: diff\n\
         public:\n\
         CCTK_INT2 evolved TYPE=GF DIM=1 { u } \"field\"\n\
@@ -180,50 +187,60 @@ pub(crate) const LEFT: &[u8] = b"# diff::u iteration 0 size 16\n\
     9000 -12600 14100 -12600 9000 -5000 2100 -600 100 0 0 0 100 -600 2100 -5000\n\
     \n";
 
-const LEADS: &[&[u8]] = &[b"", b"driver::lead = 1\n", b"driver::lead = 8\n"];
+const LEADS: &[&str] = &["", "driver::lead = 1\n", "driver::lead = 8\n"];
 
 /// What a run of `t.par` comes to with turns from a seed.
-fn run_with(rt: &HostRuntime, shelf: &mut MemoryShelf, seed: &[u8]) -> Result<Outcome, Fail> {
-    answer_to(rt, &[b"run", b"t.par", seed], shelf)
+fn run_with(rt: &HostRuntime, shelf: &mut MemoryShelf, seed: &str) -> Result<Outcome, Fail> {
+    answer_to(rt, &["run", "t.par", seed], shelf)
 }
 
 #[test]
 fn work_of_the_automaton(rt: HostRuntime) -> Result<(), Fail> {
     for work in WORKS {
         let mut shelf = shelf_with(rt.alloc(), CA, work.more, &[])?;
-        let came = answer_to(&rt, &[b"run", b"t.par"], &mut shelf)?;
-        assert_eq!(rt; came.output.as_slice(), CA_OUTPUT);
-        assert_eq!(rt; came.points, work.points);
-        assert_eq!(rt; came.received, work.received);
-        assert_eq!(rt; came.sum, work.sum);
+        let came = answer_to(&rt, &["run", "t.par"], &mut shelf)?;
+        assert_eq!(rt; came.output.as_slice(), CA_OUTPUT, "{:?}", work.more);
+        let found = (came.points, came.received, came.sum);
+        let want = (work.points, work.received, work.sum);
+        assert_eq!(rt; found, want, "{:?}", work.more);
     }
     Ok(())
 }
 
-/// In how many runs of a job in parts, of ten sources of turns, the status isn't 0 or the output differs from that of one part.
-fn others(rt: &HostRuntime, file: &[u8], cut: &[u8]) -> Result<u32, Fail> {
-    let mut whole = shelf_with(rt.alloc(), file, b"", &[])?;
-    let mut parts = shelf_with(rt.alloc(), file, cut, &[])?;
-    let one = answer_to(rt, &[b"run", b"t.par"], &mut whole)?;
-    if one.status != 0 {
-        return Ok(1000);
-    }
-    let mut count = 0_u32;
+/// What a job's runs come to, of which each takes its turns from another seed.
+fn runs_by_seeds(
+    rt: &HostRuntime,
+    file: &[u8],
+    more: &str,
+    others: &[File],
+) -> Result<Vec<Outcome>, Fail> {
+    let mut shelf = shelf_with(rt.alloc(), file, more, others)?;
+    let mut runs = Vec::new(rt.alloc());
     for seed in SEEDS {
-        let came = run_with(rt, &mut parts, seed)?;
-        if came.status != 0 || came.output.as_slice() != one.output.as_slice() {
-            count = count.saturating_add(1);
-        }
+        runs.push(run_with(rt, &mut shelf, seed)?)?;
     }
-    Ok(count)
+    Ok(runs)
+}
+
+/// What a job's run in one part comes to.
+fn whole_run(rt: &HostRuntime, thorn: &Thorn) -> Result<Outcome, Fail> {
+    let mut shelf = shelf_with(rt.alloc(), thorn.file, "", &[])?;
+    answer_to(rt, &["run", "t.par"], &mut shelf)
 }
 
 #[test]
 fn sample_thorns_in_parts(rt: HostRuntime) -> Result<(), Fail> {
     for thorn in THORN_JOBS {
+        let name = thorn.name;
+        let one = whole_run(&rt, thorn)?;
+        assert_eq!(rt; one.status, 0, "{name} in one part");
         for cut in thorn.cuts {
-            let count = others(&rt, thorn.file, cut)?;
-            assert_eq!(rt; count, 0);
+            let runs = runs_by_seeds(&rt, thorn.file, cut, &[])?;
+            for (k, came) in runs.iter().enumerate() {
+                let found = (came.status, came.output.as_slice());
+                let want = (0, one.output.as_slice());
+                assert_eq!(rt; found, want, "{name} {cut:?}, turns {k}");
+            }
         }
     }
     Ok(())
@@ -231,16 +248,12 @@ fn sample_thorns_in_parts(rt: HostRuntime) -> Result<(), Fail> {
 
 #[test]
 fn overflow_wherever_other_parts_stand(rt: HostRuntime) -> Result<(), Fail> {
+    let ended = b"ended: Overflow 7 EVOL/diff_step\n".as_slice();
     for lead in LEADS {
-        let mut shelf = shelf_with(rt.alloc(), LEAVES, lead, SHORT_FIELD)?;
-        for seed in SEEDS {
-            let came = run_with(&rt, &mut shelf, seed)?;
-            assert_eq!(rt; came.status, 3);
-            assert_eq!(rt;
-                came.printed.as_slice(),
-                b"ended: Overflow 7 EVOL/diff_step\n".as_slice()
-            );
-            assert_eq!(rt; came.output.as_slice(), LEFT);
+        let runs = runs_by_seeds(&rt, LEAVES, lead, SHORT_FIELD)?;
+        for (k, came) in runs.iter().enumerate() {
+            let found = (came.status, came.printed.as_slice(), came.output.as_slice());
+            assert_eq!(rt; found, (3, ended, LEFT), "{lead:?}, turns {k}");
         }
     }
     Ok(())

@@ -3,9 +3,10 @@
 use crate::calls::{Outcome, answer_on, answer_over, answer_to, shelf_with};
 use crate::jobs::CA_OUTPUT;
 use crate::parts::{LEFT, SHORT_FIELD};
-use crate::samples::{CA, File};
-use cx_disk::{FuseDisk, MemoryDisk};
+use crate::samples::CA;
+use cx_disk::{FuseDisk, MemoryDisk, OLD_OUTPUT};
 use cx_text::{List, Text};
+use sample_files::File;
 use std::alloc::Global;
 use std::test::Fail;
 
@@ -52,7 +53,7 @@ const BOX_REST: &[u8] = b"ActiveThorns = \"PUGH IOUtil\"\n\
     IO::checkpoint_keep = 2\n";
 
 pub(crate) const BOX_THORNS: &[File] = &[File {
-    name: b"ThornList",
+    name: "ThornList",
     bytes: b"# thorns of the box\n\
         !TARGET = $ARR\n\
         CactusPUGH/PUGH\n\
@@ -77,13 +78,13 @@ pub(crate) const BOX_OUTPUT: &[u8] = b"# wave::phi iteration 0 size 40\n\
     \n\
     # wave::total iteration 40 value 200\n";
 
-const RUN: &[&[u8]] = &[b"run", b"t.par"];
+const RUN: &[&str] = &["run", "t.par"];
 
 /// What a run of a job over a disk comes to.
 fn run_on(
     rt: &HostRuntime,
     file: &[u8],
-    more: &[u8],
+    more: &str,
     others: &[File],
     disk: &mut MemoryDisk,
 ) -> Result<Outcome, Fail> {
@@ -95,7 +96,7 @@ fn run_on(
 fn run_stopped(
     rt: &HostRuntime,
     file: &[u8],
-    more: &[u8],
+    more: &str,
     disk: MemoryDisk,
     calls: u64,
     choice: u64,
@@ -113,7 +114,7 @@ fn empty_disk(alloc: Global) -> MemoryDisk {
 /// A disk with the files of another, of which one is cut to a length.
 fn cut_disk(alloc: Global, disk: &MemoryDisk, cut: usize, to: usize) -> Result<MemoryDisk, Fail> {
     let mut files = List::empty(alloc);
-    for file in 0..9 {
+    for file in 0..OLD_OUTPUT as usize + 1 {
         let bytes = disk.bytes(file);
         let kept = if file == cut {
             bytes.get(..to).unwrap_or(bytes)
@@ -128,7 +129,7 @@ fn cut_disk(alloc: Global, disk: &MemoryDisk, cut: usize, to: usize) -> Result<M
 /// The disk that the box leaves.
 fn box_disk(rt: &HostRuntime) -> Result<MemoryDisk, Fail> {
     let mut disk = empty_disk(rt.alloc());
-    run_on(rt, BOX_FILE, b"", BOX_THORNS, &mut disk)?;
+    run_on(rt, BOX_FILE, "", BOX_THORNS, &mut disk)?;
     Ok(disk)
 }
 
@@ -141,60 +142,78 @@ const BOX_SLOTS: &[(usize, &[u8])] = &[
 #[test]
 fn box_with_checkpoints(rt: HostRuntime) -> Result<(), Fail> {
     let mut disk = empty_disk(rt.alloc());
-    let came = run_on(&rt, BOX_FILE, b"", BOX_THORNS, &mut disk)?;
-    assert_eq!(rt; came.status, 0);
-    assert_eq!(rt; came.printed.as_slice(), b"done: iteration 40\n".as_slice());
-    assert_eq!(rt; came.output.as_slice(), BOX_OUTPUT);
-    assert_eq!(rt; came.output.len(), 451);
-    assert_eq!(rt; came.points, 4944);
-    assert_eq!(rt; came.received, 480);
+    let came = run_on(&rt, BOX_FILE, "", BOX_THORNS, &mut disk)?;
+    let found = (came.status, came.printed.as_slice(), came.output.as_slice());
+    let want = (0, b"done: iteration 40\n".as_slice(), BOX_OUTPUT);
+    assert_eq!(rt; found, want, "the run");
+    let found = (came.output.len(), came.points, came.received);
+    assert_eq!(rt; found, (451, 4944, 480), "bytes, points and values");
     for (slot, front) in BOX_SLOTS {
-        assert!(rt; disk.bytes(*slot).starts_with(front));
+        assert!(rt; disk.bytes(*slot).starts_with(front), "slot {slot}");
     }
-    assert_eq!(rt; disk.bytes(2).len(), 0);
+    assert_eq!(rt; disk.bytes(2).len(), 0, "slot 2");
     Ok(())
 }
 
 /// How a run starts on a disk that the box has left, of which one file is cut, or on an empty one.
 struct Start {
+    name: &'static str,
     /// Which file is cut, and to which length from its end.
     cut: Option<(usize, usize)>,
-    more: &'static [u8],
+    more: &'static str,
     status: u8,
     printed: &'static [u8],
+    points: u128,
     output: &'static [u8],
 }
 
 const STARTS: &[Start] = &[
     Start {
+        name: "another job",
         cut: None,
-        more: b"driver::parts_x = 3\nwave::amount = 6\nIO::recover = \"autoprobe\"\n",
+        more: "driver::parts_x = 3\nwave::amount = 6\nIO::recover = \"autoprobe\"\n",
         status: 6,
         printed: b"recovery: OtherJob\n\
             parameter wave::amount = \"5\"\n\
             parameter wave::amount = \"6\"\n",
+        points: 0,
         output: BOX_OUTPUT,
     },
     Start {
+        name: "a damaged slot",
         cut: Some((1, 1)),
-        more: b"driver::parts_x = 3\nwave::amount = 5\nIO::recover = \"autoprobe\"\n",
+        more: "driver::parts_x = 3\nwave::amount = 5\nIO::recover = \"autoprobe\"\n",
         status: 6,
         printed: b"recovery: Damaged 1\n",
+        points: 0,
         output: BOX_OUTPUT,
     },
     Start {
-        cut: Some((8, 441)),
-        more: b"driver::parts_x = 3\nwave::amount = 5\nIO::recover = \"autoprobe\"\n",
+        name: "a short output",
+        cut: Some((OLD_OUTPUT as usize, 441)),
+        more: "driver::parts_x = 3\nwave::amount = 5\nIO::recover = \"autoprobe\"\n",
         status: 6,
         printed: b"recovery: OutputShort 10 300\n",
+        points: 0,
         output: b"# wave::ph",
     },
     // The newest checkpoint, that of iteration 40, has nothing left to do but the output of iteration 40.
     Start {
+        name: "four parts",
         cut: None,
-        more: b"driver::parts_x = 4\nwave::amount = 5\nIO::recover = \"auto\"\n",
+        more: "driver::parts_x = 4\nwave::amount = 5\nIO::recover = \"auto\"\n",
         status: 0,
         printed: b"done: iteration 40\n",
+        points: 0,
+        output: BOX_OUTPUT,
+    },
+    Start {
+        name: "without recovery",
+        cut: None,
+        more: "driver::parts_x = 3\nwave::amount = 5\nIO::recover = \"no\"\n",
+        status: 0,
+        printed: b"done: iteration 40\n",
+        points: 4944,
         output: BOX_OUTPUT,
     },
 ];
@@ -208,57 +227,38 @@ fn starts_from_the_box(rt: HostRuntime) -> Result<(), Fail> {
         let length = left.bytes(file).len();
         let mut disk = cut_disk(alloc, &left, file, length.saturating_sub(less))?;
         let came = run_on(&rt, BOX_REST, start.more, &[], &mut disk)?;
-        assert_eq!(rt; came.status, start.status);
-        assert_eq!(rt; came.printed.as_slice(), start.printed);
-        assert_eq!(rt; came.points, 0);
-        assert_eq!(rt; came.output.as_slice(), start.output);
+        let found = (came.status, came.printed.as_slice(), came.output.as_slice());
+        let want = (start.status, start.printed, start.output);
+        assert_eq!(rt; found, want, "{}", start.name);
+        assert_eq!(rt; came.points, start.points, "points: {}", start.name);
     }
-    Ok(())
-}
-
-#[test]
-fn start_afresh_from_the_box(rt: HostRuntime) -> Result<(), Fail> {
-    let mut disk = box_disk(&rt)?;
-    let came = run_on(
-        &rt,
-        BOX_REST,
-        b"driver::parts_x = 3\nwave::amount = 5\nIO::recover = \"no\"\n",
-        &[],
-        &mut disk,
-    )?;
-    assert_eq!(rt; came.status, 0);
-    assert_eq!(rt; came.points, 4944);
-    assert_eq!(rt; came.output.as_slice(), BOX_OUTPUT);
     Ok(())
 }
 
 #[test]
 fn start_from_nothing(rt: HostRuntime) -> Result<(), Fail> {
     let alloc = rt.alloc();
-    let mut shelf = shelf_with(alloc, CA, b"IO::recover = \"auto\"\n", &[])?;
+    let mut shelf = shelf_with(alloc, CA, "IO::recover = \"auto\"\n", &[])?;
     let refused = answer_to(&rt, RUN, &mut shelf)?;
-    assert_eq!(rt; refused.status, 6);
-    assert_eq!(rt;
-        refused.printed.as_slice(),
-        b"recovery: NoCheckpoint\n".as_slice()
-    );
-    assert_eq!(rt; refused.points, 0);
-    let mut shelf = shelf_with(alloc, CA, b"IO::recover = \"autoprobe\"\n", &[])?;
+    let found = (refused.status, refused.printed.as_slice(), refused.points);
+    let want = b"recovery: NoCheckpoint\n".as_slice();
+    assert_eq!(rt; found, (6, want, 0), "auto");
+    let mut shelf = shelf_with(alloc, CA, "IO::recover = \"autoprobe\"\n", &[])?;
     let came = answer_to(&rt, RUN, &mut shelf)?;
-    assert_eq!(rt; came.status, 0);
-    assert_eq!(rt; came.output.as_slice(), CA_OUTPUT);
+    let found = (came.status, came.output.as_slice());
+    assert_eq!(rt; found, (0, CA_OUTPUT), "autoprobe");
     Ok(())
 }
 
 /// The box in three parts and in four, at leads 0 and 3.
-const BOX_LEADS: &[(&[u8], &[u8])] = &[
+const BOX_LEADS: &[(&str, &str)] = &[
     (
-        b"driver::parts_x = 3\nwave::amount = 5\nIO::recover = \"autoprobe\"\n",
-        b"driver::parts_x = 4\nwave::amount = 5\nIO::recover = \"autoprobe\"\n",
+        "driver::parts_x = 3\nwave::amount = 5\nIO::recover = \"autoprobe\"\n",
+        "driver::parts_x = 4\nwave::amount = 5\nIO::recover = \"autoprobe\"\n",
     ),
     (
-        b"driver::parts_x = 3\nwave::amount = 5\nIO::recover = \"autoprobe\"\ndriver::lead = 3\n",
-        b"driver::parts_x = 4\nwave::amount = 5\nIO::recover = \"autoprobe\"\ndriver::lead = 3\n",
+        "driver::parts_x = 3\nwave::amount = 5\nIO::recover = \"autoprobe\"\ndriver::lead = 3\n",
+        "driver::parts_x = 4\nwave::amount = 5\nIO::recover = \"autoprobe\"\ndriver::lead = 3\n",
     ),
 ];
 
@@ -272,12 +272,7 @@ const WITHIN_BODY: u64 = 44;
 const STOPS: &[(u64, u64)] = &[(0, 22), (1, 23)];
 
 /// A run of the box that goes on behind two that have stopped, by a choice of what a crash leaves and the calls of the second run.
-fn third_run(
-    rt: &HostRuntime,
-    three: &[u8],
-    four: &[u8],
-    stop: (u64, u64),
-) -> Result<Outcome, Fail> {
+fn third_run(rt: &HostRuntime, three: &str, four: &str, stop: (u64, u64)) -> Result<Outcome, Fail> {
     let (choice, calls) = stop;
     let disk = empty_disk(rt.alloc());
     let (first, disk) = run_stopped(rt, BOX_REST, three, disk, WITHIN_BODY, choice)?;
@@ -294,16 +289,16 @@ fn box_that_stops_twice(rt: HostRuntime) -> Result<(), Fail> {
     for (three, four) in BOX_LEADS {
         for stop in STOPS {
             let came = third_run(&rt, three, four, *stop)?;
-            assert_eq!(rt; came.status, 0);
-            assert_eq!(rt; came.output.as_slice(), BOX_OUTPUT);
-            assert_eq!(rt; came.points, 2400);
-            assert_eq!(rt; came.received, 360);
+            let found = (came.status, came.output.as_slice());
+            assert_eq!(rt; found, (0, BOX_OUTPUT), "{four:?} after {stop:?}");
+            let found = (came.points, came.received);
+            assert_eq!(rt; found, (2400, 360), "{four:?} after {stop:?}");
         }
     }
     Ok(())
 }
 
-pub(crate) const EACH: &[u8] = b"IO::checkpoint_every = 1\nIO::recover = \"autoprobe\"\n";
+pub(crate) const EACH: &str = "IO::checkpoint_every = 1\nIO::recover = \"autoprobe\"\n";
 
 /// How many calls a run of the automaton makes on an empty disk, with a checkpoint in each iteration: 19 up to the first piece, three
 /// pieces, 11 for the first checkpoint, 14 for the second one, and the output's sync.
@@ -314,7 +309,8 @@ const MANY_CALLS: u64 = 100;
 
 /// A disk with the files of another.
 fn same_disk(alloc: Global, disk: &MemoryDisk) -> Result<MemoryDisk, Fail> {
-    cut_disk(alloc, disk, 8, disk.bytes(8).len())
+    let output = OLD_OUTPUT as usize;
+    cut_disk(alloc, disk, output, disk.bytes(output).len())
 }
 
 /// The status of a run of the automaton that stops behind so many calls of the disk, and the image of that choice.
@@ -366,43 +362,45 @@ fn stopped_twice(rt: &HostRuntime, calls: u64) -> Result<(u8, Option<u64>), Fail
 #[test]
 fn automaton_that_stops_once(rt: HostRuntime) -> Result<(), Fail> {
     let calls = calls_from(&rt, &empty_disk(rt.alloc()))?;
-    assert!(rt; matches!(calls, Some(AUTOMATON_CALLS)));
+    assert_eq!(rt; calls, Some(AUTOMATON_CALLS), "calls of the disk");
     Ok(())
 }
 
-// Up to the first piece.
+/// The status of a run that stops after so many calls, and whether one that follows can stop anywhere.
+fn stopped_anywhere(rt: &HostRuntime, calls: u64) -> Result<(u8, bool), Fail> {
+    let (stopped, second) = stopped_twice(rt, calls)?;
+    Ok((stopped, second.is_some()))
+}
+
+/// Up to the first piece.
 #[test]
 fn automaton_that_stops_at_its_start_and_again(rt: HostRuntime) -> Result<(), Fail> {
     for calls in 0..20 {
-        let (stopped, second) = stopped_twice(&rt, calls)?;
-        assert_eq!(rt; stopped, 4);
-        assert!(rt; second.is_some(), "behind {calls} calls");
+        let found = stopped_anywhere(&rt, calls)?;
+        assert_eq!(rt; found, (4, true), "after {calls} calls");
     }
     Ok(())
 }
 
-// Up to the second piece.
+/// Up to the second piece.
 #[test]
 fn automaton_that_stops_at_its_first_checkpoint_and_again(rt: HostRuntime) -> Result<(), Fail> {
     for calls in 20..32 {
-        let (stopped, second) = stopped_twice(&rt, calls)?;
-        assert_eq!(rt; stopped, 4);
-        assert!(rt; second.is_some(), "behind {calls} calls");
+        let found = stopped_anywhere(&rt, calls)?;
+        assert_eq!(rt; found, (4, true), "after {calls} calls");
     }
     Ok(())
 }
 
-// Up to its end.
+/// Up to its end.
 #[test]
 fn automaton_that_stops_at_its_second_checkpoint_and_again(rt: HostRuntime) -> Result<(), Fail> {
     for calls in 32..AUTOMATON_CALLS {
-        let (stopped, second) = stopped_twice(&rt, calls)?;
-        assert_eq!(rt; stopped, 4);
-        assert!(rt; second.is_some(), "behind {calls} calls");
+        let found = stopped_anywhere(&rt, calls)?;
+        assert_eq!(rt; found, (4, true), "after {calls} calls");
     }
-    let (stopped, second) = stopped_twice(&rt, AUTOMATON_CALLS)?;
-    assert_eq!(rt; stopped, 0);
-    assert!(rt; second.is_some());
+    let found = stopped_anywhere(&rt, AUTOMATON_CALLS)?;
+    assert_eq!(rt; found, (0, true), "after all its calls");
     Ok(())
 }
 
@@ -421,17 +419,18 @@ const LEAVES: &[u8] = b"ActiveThorns = \"DiffInt\"\n\
 #[test]
 fn overflow_twice(rt: HostRuntime) -> Result<(), Fail> {
     let mut disk = empty_disk(rt.alloc());
-    let first = run_on(&rt, LEAVES, b"", SHORT_FIELD, &mut disk)?;
-    assert_eq!(rt; first.status, 3);
-    assert_eq!(rt; first.output.as_slice(), LEFT);
-    let second = run_on(&rt, LEAVES, b"", SHORT_FIELD, &mut disk)?;
-    assert_eq!(rt; second.status, 3);
-    assert_eq!(rt;
+    let first = run_on(&rt, LEAVES, "", SHORT_FIELD, &mut disk)?;
+    let found = (first.status, first.output.as_slice());
+    assert_eq!(rt; found, (3, LEFT), "the first run");
+    let second = run_on(&rt, LEAVES, "", SHORT_FIELD, &mut disk)?;
+    let found = (
+        second.status,
         second.printed.as_slice(),
-        b"ended: Overflow 7 EVOL/diff_step\n".as_slice()
+        second.output.as_slice(),
     );
-    assert_eq!(rt; second.output.as_slice(), LEFT);
-    assert!(rt; second.points <= 16);
+    let ended = b"ended: Overflow 7 EVOL/diff_step\n".as_slice();
+    assert_eq!(rt; found, (3, ended, LEFT), "the second run");
+    assert!(rt; second.points <= 16, "points of the second run");
     Ok(())
 }
 
@@ -443,7 +442,7 @@ const VALUES: &[u8] = b"\0\0\0\x01\0\0\0\0\0\0\0\x5e\
     \0\0\0\0\0\0\0\0\0\0\0\0\0\0\0\x01\0\0\0\0\0\0\0\0\0\0\0\0\0\0\0\0\
     \0\0\0\0\0\0\0\0\0\0\0\0\0\0\0\x01\0\0\0\0\0\0\0\0\0\0\0\0\0\0\0\0";
 
-const TWO: &[u8] = b"IO::checkpoint_every = 2\ndriver::parts_x = 3\n";
+const TWO: &str = "IO::checkpoint_every = 2\ndriver::parts_x = 3\n";
 
 #[test]
 fn checkpoint_of_the_automaton(rt: HostRuntime) -> Result<(), Fail> {
@@ -451,14 +450,16 @@ fn checkpoint_of_the_automaton(rt: HostRuntime) -> Result<(), Fail> {
     let mut disk = empty_disk(alloc);
     run_on(&rt, CA, TWO, &[], &mut disk)?;
     let mut shelf = shelf_with(alloc, CA, TWO, &[])?;
-    let described = answer_to(&rt, &[b"describe", b"t.par"], &mut shelf)?;
+    let described = answer_to(&rt, &["describe", "t.par"], &mut shelf)?;
     let slot = disk.bytes(0);
-    assert!(rt; slot.starts_with(b"\x01CXCHKPT\x01\0\0\0\0\0\0\0\x02\0\0"));
-    assert!(rt; slot.ends_with(VALUES));
+    let front = b"\x01CXCHKPT\x01\0\0\0\0\0\0\0\x02\0\0".as_slice();
+    assert!(rt; slot.starts_with(front), "the iteration before the key");
+    assert!(rt; slot.ends_with(VALUES), "the values after the key");
     let end = slot.len().saturating_sub(VALUES.len());
     let key = slot.get(21..end).unwrap_or(&[]);
-    assert!(rt; described.printed.starts_with(key));
+    assert!(rt; described.printed.starts_with(key), "the key");
     let rest = described.printed.get(key.len()..).unwrap_or(&[]);
-    assert!(rt; rest.starts_with(b"parameter driver::parts_x = \"3\"\n"));
+    let next = b"parameter driver::parts_x = \"3\"\n".as_slice();
+    assert!(rt; rest.starts_with(next), "what comes after the key");
     Ok(())
 }

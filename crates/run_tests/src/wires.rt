@@ -5,14 +5,14 @@ use crate::carriers::{altering, noting};
 use crate::devices::{FirstTurns, LastTurns};
 use crate::jobs::CA_OUTPUT;
 use crate::samples::CA;
-use cx_disk::MemoryDisk;
+use cx_disk::{MemoryDisk, OLD_OUTPUT};
 use cx_rule::Meter;
 use cx_samples::answer;
 use cx_text::List;
 use cx_turns::{SeededTurns, Turns};
 use std::test::Fail;
 
-const TWO_PARTS: &[u8] = b"driver::parts_x = 2\n";
+const TWO_PARTS: &str = "driver::parts_x = 2\n";
 
 /// The automaton's output where part 1 is told in the first exchange that its right neighbour's cell lives.
 const ALTERED: &[u8] = b"# ca::cell iteration 0 size 8\n\
@@ -28,7 +28,7 @@ const ALTERED: &[u8] = b"# ca::cell iteration 0 size 8\n\
 #[test]
 fn a_value_that_is_altered(rt: HostRuntime) -> Result<(), Fail> {
     let alloc = rt.alloc();
-    let words = texts(alloc, &[b"run", b"t.par"])?;
+    let words = texts(alloc, &["run", "t.par"])?;
     let mut shelf = shelf_with(alloc, CA, TWO_PARTS, &[])?;
     let mut disk = MemoryDisk::new(alloc, List::empty(alloc));
     let mut wire = altering(alloc)?;
@@ -38,15 +38,15 @@ fn a_value_that_is_altered(rt: HostRuntime) -> Result<(), Fail> {
     let status = answer(
         alloc, &words, &mut shelf, &mut disk, &mut wire, &mut turns, &mut out, &mut meter,
     )?;
-    assert_eq!(rt; status, 0);
-    assert_eq!(rt; disk.bytes(8), ALTERED);
+    let found = (status, disk.bytes(OLD_OUTPUT as usize));
+    assert_eq!(rt; found, (0, ALTERED), "the altered value is used");
     Ok(())
 }
 
 /// Whether the automaton's output comes of these turns, and from which part the first message is sent.
 fn first_sender<T: Turns>(rt: &HostRuntime, turns: &mut T) -> Result<(bool, Option<u32>), Fail> {
     let alloc = rt.alloc();
-    let words = texts(alloc, &[b"run", b"t.par"])?;
+    let words = texts(alloc, &["run", "t.par"])?;
     let mut shelf = shelf_with(alloc, CA, TWO_PARTS, &[])?;
     let mut disk = MemoryDisk::new(alloc, List::empty(alloc));
     let mut wire = noting(alloc)?;
@@ -55,7 +55,7 @@ fn first_sender<T: Turns>(rt: &HostRuntime, turns: &mut T) -> Result<(bool, Opti
     let status = answer(
         alloc, &words, &mut shelf, &mut disk, &mut wire, turns, &mut out, &mut meter,
     )?;
-    let right = status == 0 && disk.bytes(8) == CA_OUTPUT;
+    let right = status == 0 && disk.bytes(OLD_OUTPUT as usize) == CA_OUTPUT;
     match wire.notes().as_slice() {
         [] => Ok((right, None)),
         [note, ..] => Ok((right, Some(note.0))),
@@ -65,8 +65,8 @@ fn first_sender<T: Turns>(rt: &HostRuntime, turns: &mut T) -> Result<(bool, Opti
 #[test]
 fn picks_are_followed(rt: HostRuntime) -> Result<(), Fail> {
     let first = first_sender(&rt, &mut FirstTurns)?;
-    assert!(rt; matches!(first, (true, Some(0))));
+    assert!(rt; matches!(first, (true, Some(0))), "part 0 sends first");
     let last = first_sender(&rt, &mut LastTurns)?;
-    assert!(rt; matches!(last, (true, Some(1))));
+    assert!(rt; matches!(last, (true, Some(1))), "part 1 sends first");
     Ok(())
 }

@@ -45,9 +45,12 @@ wave (suc (suc (suc (suc d)))) h = absurd (omega (arith, h))
 
 -- ---- routines
 
-tested : (s : Spec) (params writes : ℕ) → same_name s.thorn s.thorn ≡ true → same_name s.name s.name ≡ true → s.kind ≡ Cell
-    → length s.params ≡ params → params ≤ 4 → length s.writes ≡ writes → writes ≤ 2 → s.cap ≡ most_points
-    → ((g : Shape) (ns : List ℤ) → within_ghosts g 1 ≡ true → has_shape (field_on g field_vars) (item_for s ns) ≡ true)
+tested : (s : Spec) (params writes : ℕ) → same_name s.thorn s.thorn ≡ true
+    → same_name s.name s.name ≡ true → s.kind ≡ Cell
+    → length s.params ≡ params → params ≤ 4 → length s.writes ≡ writes → writes ≤ 2
+    → s.cap ≡ most_points
+    → ((g : Shape) (ns : List ℤ) → within_ghosts g 1 ≡ true
+    → has_shape (field_on g field_vars) (item_for s ns) ≡ true)
     → ((d : ℕ) → d ≤ 3 → value_count d (item_for s []) ≤ 99) → IsTested s
 tested s params writes thorn name kind p p4 w w2 most declared values =
     record {
@@ -62,46 +65,61 @@ tested s params writes thorn name kind p p4 w w2 most declared values =
     }
 
 pub ca_init : IsTested ca_init_spec
-ca_init = tested ca_init_spec 2 1 refl refl refl refl (omega arith) refl (omega arith) refl (λ g ns e. refl) none
+ca_init = tested ca_init_spec 2 1 refl refl refl refl (omega arith) refl (omega arith) refl
+    (λ g ns e. refl) none
 
 pub ca_step : IsTested ca_step_spec
-ca_step = tested ca_step_spec 1 1 refl refl refl refl (omega arith) refl (omega arith) refl (λ g ns e. rw e refl) near
+ca_step = tested ca_step_spec 1 1 refl refl refl refl (omega arith) refl (omega arith) refl
+    (λ g ns e. rw e refl) near
 
 pub ca_zero : IsTested ca_zero_spec
-ca_zero = tested ca_zero_spec 0 1 refl refl refl refl (omega arith) refl (omega arith) refl (λ g ns e. refl) none
+ca_zero = tested ca_zero_spec 0 1 refl refl refl refl (omega arith) refl (omega arith) refl
+    (λ g ns e. refl) none
 
 pub life_init : IsTested life_init_spec
-life_init = tested life_init_spec 2 1 refl refl refl refl (omega arith) refl (omega arith) refl (λ g ns e. refl) none
+life_init = tested life_init_spec 2 1 refl refl refl refl (omega arith) refl (omega arith) refl
+    (λ g ns e. refl) none
 
 pub life_step : IsTested life_step_spec
-life_step = tested life_step_spec 2 1 refl refl refl refl (omega arith) refl (omega arith) refl (λ g ns e. rw e refl) near
+life_step = tested life_step_spec 2 1 refl refl refl refl (omega arith) refl (omega arith) refl
+    (λ g ns e. rw e refl) near
 
 pub life_zero : IsTested life_zero_spec
-life_zero = tested life_zero_spec 0 1 refl refl refl refl (omega arith) refl (omega arith) refl (λ g ns e. refl) none
+life_zero = tested life_zero_spec 0 1 refl refl refl refl (omega arith) refl (omega arith) refl
+    (λ g ns e. refl) none
 
 pub wave_init : IsTested wave_init_spec
-wave_init = tested wave_init_spec 4 2 refl refl refl refl (omega arith) refl (omega arith) refl (λ g ns e. refl) none
+wave_init = tested wave_init_spec 4 2 refl refl refl refl (omega arith) refl (omega arith) refl
+    (λ g ns e. refl) none
 
 pub wave_step : IsTested wave_step_spec
-wave_step = tested wave_step_spec 1 1 refl refl refl refl (omega arith) refl (omega arith) refl (λ g ns e. rw e refl) wave
+wave_step = tested wave_step_spec 1 1 refl refl refl refl (omega arith) refl (omega arith) refl
+    (λ g ns e. rw e refl) wave
 
 pub wave_flat : IsTested wave_flat_spec
-wave_flat = tested wave_flat_spec 0 1 refl refl refl refl (omega arith) refl (omega arith) refl (λ g ns e. refl) here
+wave_flat = tested wave_flat_spec 0 1 refl refl refl refl (omega arith) refl (omega arith) refl
+    (λ g ns e. refl) here
 
 pub wave_copy : IsTested wave_copy_spec
-wave_copy = tested wave_copy_spec 0 1 refl refl refl refl (omega arith) refl (omega arith) refl (λ g ns e. refl) here
+wave_copy = tested wave_copy_spec 0 1 refl refl refl refl (omega arith) refl (omega arith) refl
+    (λ g ns e. refl) here
 
 pub wave_scalar : IsTested wave_scalar_spec
-wave_scalar = tested wave_scalar_spec 1 1 refl refl refl refl (omega arith) refl (omega arith) refl (λ g ns e. refl) none
+wave_scalar = tested wave_scalar_spec 1 1 refl refl refl refl (omega arith) refl (omega arith) refl
+    (λ g ns e. refl) none
 
 pub diff_init : IsTested diff_init_spec
-diff_init = tested diff_init_spec 4 1 refl refl refl refl (omega arith) refl (omega arith) refl (λ g ns e. refl) none
+diff_init = tested diff_init_spec 4 1 refl refl refl refl (omega arith) refl (omega arith) refl
+    (λ g ns e. refl) none
 
 pub diff_step : IsTested diff_step_spec
-diff_step = tested diff_step_spec 1 1 refl refl refl refl (omega arith) refl (omega arith) refl (λ g ns e. rw e refl) near
+diff_step = tested diff_step_spec 1 1 refl refl refl refl (omega arith) refl (omega arith) refl
+    (λ g ns e. rw e refl) near
 
 pub diff_flat : IsTested diff_flat_spec
-diff_flat = tested diff_flat_spec 0 1 refl refl refl refl (omega arith) refl (omega arith) refl (λ g ns e. refl) here
+diff_flat = tested diff_flat_spec 0 1 refl refl refl refl (omega arith) refl (omega arith) refl
+    (λ g ns e. refl) here
 
 pub diff_scalar : IsTested diff_scalar_spec
-diff_scalar = tested diff_scalar_spec 1 1 refl refl refl refl (omega arith) refl (omega arith) refl (λ g ns e. refl) none
+diff_scalar = tested diff_scalar_spec 1 1 refl refl refl refl (omega arith) refl (omega arith) refl
+    (λ g ns e. refl) none

@@ -31,7 +31,12 @@ level_named name = min (count_by is_mark name) 2
 -- what is read or written of the field by a name
 abbrev pub touch_of : Want → Touch
 touch_of want =
-    record { var = record { 0 = 0 }; level = level_named want.name; region = want.region; reach = want.reach }
+    record {
+      var = record { 0 = 0 };
+      level = level_named want.name;
+      region = want.region;
+      reach = want.reach;
+    }
 
 -- a routine's item on the field
 abbrev pub item_for : Spec → List ℤ → Item

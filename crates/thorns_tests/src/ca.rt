@@ -31,14 +31,6 @@ fn first_row(rt: &HostRuntime, seed: i64, start: i64) -> Result<Vec<i64>, Fail> 
     Ok(row)
 }
 
-#[test]
-fn rows_start_by_their_seeds(rt: HostRuntime) -> Result<(), Fail> {
-    for (seed, start, row) in FIRST_ROWS {
-        assert_eq!(rt; first_row(&rt, *seed, *start)?.as_slice(), row.as_slice());
-    }
-    Ok(())
-}
-
 /// The rule's number, and a cell between its neighbours; and the next cell.
 const STEPS: &[(i64, [i64; 3], i64)] = &[
     (90, [0, 0, 1], 1),
@@ -60,14 +52,6 @@ fn next_in_row(rt: &HostRuntime, rule: i64, row: [i64; 3]) -> Result<Option<i64>
     number(rt, &step, &w, &at)
 }
 
-#[test]
-fn rows_step_by_their_rules(rt: HostRuntime) -> Result<(), Fail> {
-    for (rule, row, want) in STEPS {
-        assert_eq!(rt; next_in_row(&rt, *rule, *row)?, Some(*want));
-    }
-    Ok(())
-}
-
 /// A cell of a sheet amid its neighbours; and the next cell by births at 3 and survivals at 2 and 3.
 const LIVES: &[([[i64; 3]; 3], i64)] = &[
     ([[1, 1, 1], [0, 0, 0], [0, 0, 0]], 1),
@@ -87,9 +71,14 @@ fn next_cell(rt: &HostRuntime, rows: [[i64; 3]; 3]) -> Result<Option<i64>, Fail>
 }
 
 #[test]
-fn sheets_step_by_births_and_survivals(rt: HostRuntime) -> Result<(), Fail> {
+fn cells_step_by_their_rules(rt: HostRuntime) -> Result<(), Fail> {
+    for (rule, row, want) in STEPS {
+        let next = next_in_row(&rt, *rule, *row)?;
+        assert_eq!(rt; next, Some(*want), "rule {rule}, row {row:?}");
+    }
     for (rows, want) in LIVES {
-        assert_eq!(rt; next_cell(&rt, *rows)?, Some(*want));
+        let next = next_cell(&rt, *rows)?;
+        assert_eq!(rt; next, Some(*want), "rows {rows:?}");
     }
     Ok(())
 }
@@ -171,23 +160,20 @@ fn a_glider_moves_by_one_cell_in_four_steps(rt: HostRuntime) -> Result<(), Fail>
     for _ in 0..4 {
         sheet = next_sheet(&rt, &sheet)?;
     }
-    assert_eq!(rt; sheet.as_slice(), GLIDER.as_slice());
+    assert_eq!(rt; sheet.as_slice(), GLIDER.as_slice(), "after four steps");
     Ok(())
 }
 
 #[test]
-fn sheets_start_at_random_by_their_seeds(rt: HostRuntime) -> Result<(), Fail> {
+fn cells_start_by_their_seeds(rt: HostRuntime) -> Result<(), Fail> {
+    for (seed, start, want) in FIRST_ROWS {
+        let row = first_row(&rt, *seed, *start)?;
+        assert_eq!(rt; row.as_slice(), want.as_slice(), "{seed} {start}");
+    }
     let sheet = first_sheet(&rt, 1, -1)?;
     let row = sheet.get(..8).unwrap_or(&[]);
-    assert_eq!(rt; row, [1, 0, 1, 1, 0, 0, 1, 1].as_slice());
-    Ok(())
-}
-
-#[test]
-fn edges_are_0(rt: HostRuntime) -> Result<(), Fail> {
-    let row = unread(&rt, &CaZero::new(rt.alloc())?)?;
-    let sheet = unread(&rt, &LifeZero::new(rt.alloc())?)?;
-    assert_eq!(rt; (row, sheet), (Some(0), Some(0)));
+    let want = [1, 0, 1, 1, 0, 0, 1, 1];
+    assert_eq!(rt; row, want.as_slice(), "a sheet's first row, seed -1");
     Ok(())
 }
 
@@ -202,9 +188,13 @@ fn counted(rt: &HostRuntime, value: i64) -> Result<[Option<i64>; 2], Fail> {
 }
 
 #[test]
-fn counts_look_at_cells(rt: HostRuntime) -> Result<(), Fail> {
+fn edges_are_0_and_counts_look_at_cells(rt: HostRuntime) -> Result<(), Fail> {
+    let row = unread(&rt, &CaZero::new(rt.alloc())?)?;
+    let sheet = unread(&rt, &LifeZero::new(rt.alloc())?)?;
+    assert_eq!(rt; (row, sheet), (Some(0), Some(0)), "edges");
     for value in CELLS {
-        assert_eq!(rt; counted(&rt, *value)?, [Some(*value); 2]);
+        let found = counted(&rt, *value)?;
+        assert_eq!(rt; found, [Some(*value); 2], "the counts of a cell {value}");
     }
     Ok(())
 }

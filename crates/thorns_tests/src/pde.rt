@@ -44,7 +44,8 @@ fn starts(rt: &HostRuntime, x: u8, params: [i64; 4]) -> Result<[Option<i64>; 2],
 #[test]
 fn fields_start_by_their_patterns(rt: HostRuntime) -> Result<(), Fail> {
     for (x, params, want) in STARTS {
-        assert_eq!(rt; starts(&rt, *x, *params)?, [*want, *want]);
+        let found = starts(&rt, *x, *params)?;
+        assert_eq!(rt; found, [*want, *want], "point {x}, parameters {params:?}");
     }
     Ok(())
 }
@@ -57,8 +58,10 @@ fn a_wave_starts_at_two_levels(rt: HostRuntime) -> Result<(), Fail> {
     let at = in_ring(alloc, 1, &[2, 8, 0, 0])?;
     let mut out = Cells::new(alloc, 2)?;
     let mut meter = Meter::new(&rt);
-    assert_eq!(rt; wave.point(&w, &at, &mut out, &mut meter), Ok(()));
-    assert_eq!(rt; (out.get(0), out.get(1), meter.count()), (-8, -8, 1));
+    let done = wave.point(&w, &at, &mut out, &mut meter);
+    assert_eq!(rt; done, Ok(()), "wave_init at a point");
+    let found = (out.get(0), out.get(1), meter.count());
+    assert_eq!(rt; found, (-8, -8, 1), "both levels, and one point computed");
     Ok(())
 }
 
@@ -84,14 +87,6 @@ fn waved(rt: &HostRuntime, row: [i64; 3], before: i64, factor: i64) -> Result<Op
     number(rt, &wave, &w, &at)
 }
 
-#[test]
-fn waves_step_exactly(rt: HostRuntime) -> Result<(), Fail> {
-    for (row, before, factor, want) in WAVES {
-        assert_eq!(rt; waved(&rt, *row, *before, *factor)?, *want);
-    }
-    Ok(())
-}
-
 /// The values to the left, at and to the right of a point, and the factor; and the next value.
 const HEATS: &[([i64; 3], i64, Option<i64>)] = &[
     ([0, 100, 1], 64, Some(50)),
@@ -109,14 +104,6 @@ fn heated(rt: &HostRuntime, row: [i64; 3], factor: i64) -> Result<Option<i64>, F
     let w = beside(rt.alloc(), row)?;
     let at = in_ring(rt.alloc(), 0, &[factor])?;
     number(rt, &heat, &w, &at)
-}
-
-#[test]
-fn heat_spreads_exactly(rt: HostRuntime) -> Result<(), Fail> {
-    for (row, factor, want) in HEATS {
-        assert_eq!(rt; heated(&rt, *row, *factor)?, *want);
-    }
-    Ok(())
 }
 
 /// Numbers that are handed on as they are.
@@ -137,15 +124,6 @@ fn heat_reads(rt: &HostRuntime, value: i64) -> Result<[Option<i64>; 2], Fail> {
     Ok([flat, sum])
 }
 
-#[test]
-fn edges_and_sums_read_a_number(rt: HostRuntime) -> Result<(), Fail> {
-    for value in NUMBERS {
-        assert_eq!(rt; wave_reads(&rt, *value)?, [Some(*value); 3]);
-        assert_eq!(rt; heat_reads(&rt, *value)?, [Some(*value); 2]);
-    }
-    Ok(())
-}
-
 /// What the edges take from their parameter, and how many turns are set.
 fn set_by_parameters(rt: &HostRuntime, param: i64) -> Result<[Option<i64>; 3], Fail> {
     let wave = taken(rt, &WaveScalar::new(rt.alloc())?, param)?;
@@ -155,9 +133,14 @@ fn set_by_parameters(rt: &HostRuntime, param: i64) -> Result<[Option<i64>; 3], F
 }
 
 #[test]
-fn edges_and_turns_are_set_by_parameters(rt: HostRuntime) -> Result<(), Fail> {
-    for param in NUMBERS {
-        assert_eq!(rt; set_by_parameters(&rt, *param)?, [Some(*param); 3]);
+fn edges_sums_and_turns_hand_numbers_on(rt: HostRuntime) -> Result<(), Fail> {
+    for number in NUMBERS {
+        let waves = wave_reads(&rt, *number)?;
+        assert_eq!(rt; waves, [Some(*number); 3], "a wave reads {number}");
+        let heat = heat_reads(&rt, *number)?;
+        assert_eq!(rt; heat, [Some(*number); 2], "heat reads {number}");
+        let set = set_by_parameters(&rt, *number)?;
+        assert_eq!(rt; set, [Some(*number); 3], "the parameter {number}");
     }
     Ok(())
 }
@@ -181,9 +164,18 @@ fn spun(rt: &HostRuntime, count: i64, drop: i64) -> Result<Option<i64>, Fail> {
 }
 
 #[test]
-fn turns_are_dropped(rt: HostRuntime) -> Result<(), Fail> {
+fn waves_heat_and_turns_step_exactly(rt: HostRuntime) -> Result<(), Fail> {
+    for (row, before, factor, want) in WAVES {
+        let found = waved(&rt, *row, *before, *factor)?;
+        assert_eq!(rt; found, *want, "wave {row:?} {before}, factor {factor}");
+    }
+    for (row, factor, want) in HEATS {
+        let found = heated(&rt, *row, *factor)?;
+        assert_eq!(rt; found, *want, "heat {row:?}, factor {factor}");
+    }
     for (count, drop, want) in SPINS {
-        assert_eq!(rt; spun(&rt, *count, *drop)?, *want);
+        let found = spun(&rt, *count, *drop)?;
+        assert_eq!(rt; found, *want, "{count} turns, {drop} dropped");
     }
     Ok(())
 }

@@ -15,8 +15,9 @@ const MIXED: [u64; 3] = [
 #[test]
 fn seeds_mix_as_published(rt: HostRuntime) {
     let mixed = [mix(1234567, 1), mix(1234567, 2), mix(1234567, 3)];
-    assert_eq!(rt; mixed, MIXED);
-    assert_eq!(rt; [bit(-2, 0), bit(-2, 1), bit(90, 4)], [0, 1, 1]);
+    assert_eq!(rt; mixed, MIXED, "the first three outputs");
+    let bits = [bit(-2, 0), bit(-2, 1), bit(90, 4)];
+    assert_eq!(rt; bits, [0, 1, 1], "bits of -2 and of 90");
 }
 
 #[test]
@@ -29,10 +30,8 @@ fn a_window_keeps_its_reads_apart(rt: HostRuntime) -> Result<(), Fail> {
     w.add_read(1);
     w.put(0, here, 7);
     w.put(1, before, -3);
-    assert_eq!(rt;
-        [w.value(0, here), w.value(1, here), w.value(1, before)],
-        [7, 0, -3]
-    );
+    let values = [w.value(0, here), w.value(1, here), w.value(1, before)];
+    assert_eq!(rt; values, [7, 0, -3], "one read's value and two of another's");
     Ok(())
 }
 
@@ -43,7 +42,8 @@ fn a_window_takes_all_its_values(rt: HostRuntime) -> Result<(), Fail> {
     w.add_read(1);
     w.fill(&[4, 5, 6]);
     let behind = Point { x: 1, y: 0, z: 0 };
-    assert_eq!(rt; [w.here(0), w.value(0, behind)], [5, 6]);
+    let values = [w.here(0), w.value(0, behind)];
+    assert_eq!(rt; values, [5, 6], "the point and the next one");
     Ok(())
 }
 
@@ -57,12 +57,13 @@ fn a_place_has_its_parameters(rt: HostRuntime) -> Result<(), Fail> {
     };
     let params = List::new(vec![in rt.alloc(); 8, -1]?);
     let place = Place::new(Point { x: 3, y: 1, z: 0 }, &shape, 6, &params);
-    assert_eq!(rt; (place.index(), place.param(1)), (8, -1));
+    let found = (place.index(), place.param(1));
+    assert_eq!(rt; found, (8, -1), "a place's number and its second parameter");
     let mut cells = Cells::new(rt.alloc(), 2)?;
     cells.set(1, 4);
-    assert_eq!(rt; (cells.get(0), cells.get(1)), (0, 4));
+    assert_eq!(rt; (cells.get(0), cells.get(1)), (0, 4), "two cells");
     let mut meter = Meter::new(&rt);
     meter.add(5);
-    assert_eq!(rt; meter.count(), 5);
+    assert_eq!(rt; meter.count(), 5, "what is counted");
     Ok(())
 }

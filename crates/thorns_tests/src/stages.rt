@@ -128,6 +128,7 @@ fn staged_numbers_are_set_at_once(rt: HostRuntime) -> Result<(), Fail> {
     let routine: Box<dyn Routine> = Box::new(alloc, CaStep::new(alloc)?)?;
     let found = staged(&rt, &routine)?.unwrap_or(Vec::new(alloc));
     // 101 gives 1 by 110; then what is staged as it is, between the edges.
-    assert_eq!(rt; found.as_slice(), [1, 1, 5, 6, 7, 8, 0].as_slice());
+    let want = [1, 1, 5, 6, 7, 8, 0];
+    assert_eq!(rt; found.as_slice(), want.as_slice(), "a row of cells");
     Ok(())
 }

@@ -160,7 +160,7 @@ type Row = (
 
 /// Sweeps worked out by hand.
 const BY_HAND: &[Row] = &[
-    // 110 is 64 + 32 + 8 + 4 + 2: cells 110, 101, 011, 010 and 001 give 1, and 111, 100 and 000 give 0.
+    // 110 is 0b0110_1110: cells 110, 101, 011, 010 and 001 give 1, and 111, 100 and 000 give 0.
     // 101 1, 011 1, 111 0, 110 1, 100 0, between two edges that stay.
     (
         CA_STEP,
@@ -324,8 +324,8 @@ fn sweeps_give_what_is_worked_out_by_hand(rt: HostRuntime) -> Result<(), Fail> {
     for (routine, grid, params, levels, outcome, want) in BY_HAND {
         let numbers = joined(&rt, *grid, levels)?;
         let (found, shown) = came(&rt, *routine, *grid, params, &numbers)?;
-        assert_eq!(rt; found, *outcome, "{routine:?}");
-        assert_eq!(rt; shown.as_slice(), *want, "{routine:?}");
+        assert_eq!(rt; found, *outcome, "{routine:?} {grid:?} {params:?}");
+        assert_eq!(rt; shown.as_slice(), *want, "{routine:?} {grid:?} {params:?}");
     }
     Ok(())
 }
@@ -636,11 +636,8 @@ fn stepped(rt: &HostRuntime, width: u8, seed: u64) -> Result<[Outcome; 5], Fail>
 fn cells_step_alike_at_each_width(rt: HostRuntime) -> Result<(), Fail> {
     for width in WIDTHS {
         for seed in 1..4 {
-            assert_eq!(rt;
-                stepped(&rt, *width, seed)?,
-                [Outcome::Agrees; 5],
-                "{width}"
-            );
+            let found = stepped(&rt, *width, seed)?;
+            assert_eq!(rt; found, [Outcome::Agrees; 5], "width {width}, seed {seed}");
         }
     }
     Ok(())

@@ -5,10 +5,12 @@ use Rattle.core_tests.proofs.runs.to_end.Goals as goal
 pub pick-k-requires : goal.pick-k-requires
 pick-k-requires g c =
     subst (λ n. 0 < n) (sym c.enabled.ensures)
-    (some_event g.W.Wire.tells c.args.job.now _ _ c.events.invariant.there (c.core_stands.ensures g.W.Wire.tells _) (c.is_going.ensures.0 c.events-test.true))
+    (some_event g.W.Wire.tells c.args.job.now _ _ c.events.invariant.there
+    (c.core_stands.ensures g.W.Wire.tells _) (c.is_going.ensures.0 c.events-test.true))
 
 pub events-smaller-in-Part : goal.events-smaller-in-Part
-events-smaller-in-Part g c = less_left _ _ _ _ _ _ _ c.events.invariant.there c.in_ok-step.ensures.does
+events-smaller-in-Part g c =
+    less_left _ _ _ _ _ _ _ c.events.invariant.there c.in_ok-step.ensures.does
 
 pub events-preserved-in-Part : goal.events-preserved-in-Part
 events-preserved-in-Part g c =
@@ -26,7 +28,8 @@ push_text-requires-clause-piece g c =
     piece_there _ _ _ _ _ _ _ c.events.invariant.there c.in_ok-step.ensures.does c.in-Section.is
 
 pub events-smaller-in_ok-push_text-in-Section : goal.events-smaller-in_ok-push_text-in-Section
-events-smaller-in_ok-push_text-in-Section g c = less_left _ _ _ _ _ _ _ c.events.invariant.there c.in_ok-step.ensures.does
+events-smaller-in_ok-push_text-in-Section g c =
+    less_left _ _ _ _ _ _ _ c.events.invariant.there c.in_ok-step.ensures.does
 
 pub events-preserved-in_ok-push_text-in-Section : goal.events-preserved-in_ok-push_text-in-Section
 events-preserved-in_ok-push_text-in-Section g c =
@@ -36,7 +39,8 @@ events-preserved-in_ok-push_text-in-Section g c =
     }
 
 pub events-smaller-in-Save : goal.events-smaller-in-Save
-events-smaller-in-Save g c = less_left _ _ _ _ _ _ _ c.events.invariant.there c.in_ok-step.ensures.does
+events-smaller-in-Save g c =
+    less_left _ _ _ _ _ _ _ c.events.invariant.there c.in_ok-step.ensures.does
 
 pub events-preserved-in-Save : goal.events-preserved-in-Save
 events-preserved-in-Save g c =

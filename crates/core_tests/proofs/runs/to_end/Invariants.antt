@@ -9,7 +9,8 @@ invariant-events g l =
     let rules = map (λ r. (goal.Routine-dyn g (r.vtable, r.value)).rule r.value) l.routines in
     record {
       there : IsRunning (IsTrue g.W.Wire.tells) l.job rules
-          (stands_at l.core (g.W.Wire.queue l.wire) l.meter (g.W.Wire.received l.wire) (g.W.Wire.sum l.wire));
+          (stands_at l.core (g.W.Wire.queue l.wire) l.meter (g.W.Wire.received l.wire)
+          (g.W.Wire.sum l.wire));
       parts : g.W.Wire.parts l.wire ≡ g.W.Wire.parts l.fn.wire;
     }
 

@@ -5,4 +5,6 @@ use Rattle.cx_ascii.proofs.rows.push_rows.Given as goal
 
 abbrev pub invariant-rows : goal.invariant-rows
 invariant-rows l =
-    (l.rest ≡ drop (l.width * l.counter) l.values) × (l.text ≡ l.initial.text ++ flat_map (row_in l.width l.values) (range_with_len 0 l.counter))
+    (l.rest ≡ drop (l.width * l.counter) l.values)
+    × (l.text ≡ l.initial.text
+    ++ flat_map (row_in l.width l.values) (range_with_len 0 l.counter))

@@ -4,4 +4,5 @@ use Rattle.cx_ascii.specs.Output.{size_of}
 use Rattle.cx_ascii.proofs.rows.push_sizes.Given as goal
 
 abbrev pub invariant-sizes : goal.invariant-sizes
-invariant-sizes l = l.text ≡ l.initial.text ++ flat_map (size_of l.shape) (range_with_len 0 l.direction)
+invariant-sizes l = l.text
+    ≡ l.initial.text ++ flat_map (size_of l.shape) (range_with_len 0 l.direction)

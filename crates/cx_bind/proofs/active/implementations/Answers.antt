@@ -7,5 +7,8 @@ use Rattle.cx_bind.proofs.active.implementations.Goals as goal
 
 pub providers-preserved : goal.providers-preserved
 providers-preserved c =
-    one_had implements c.args.providers.now c.providers.provider-index c.provider-item.result c.providers.names c.insert.new.self (is_implemented c.args.providers.now) c.providers-test.true c.provider-item.is c.providers.invariant
-    (λ o. c.in_ok-insert.ensures.names o ∙ ap (λ n. has c.providers.names o || same_name n o) c.as_slice.ensures)
+    one_had implements c.args.providers.now c.providers.provider-index c.provider-item.result
+    c.providers.names c.insert.new.self (is_implemented c.args.providers.now)
+    c.providers-test.true c.provider-item.is c.providers.invariant
+    (λ o. c.in_ok-insert.ensures.names o
+    ∙ ap (λ n. has c.providers.names o || same_name n o) c.as_slice.ensures)

@@ -4,4 +4,5 @@ use Rattle.cx_bind.specs.Faults.{is_active}
 use Rattle.cx_bind.proofs.active.thorn_names.Given as goal
 
 abbrev pub invariant-providers : goal.invariant-providers
-invariant-providers l = (o : List ℕ) → (has l.names o || is_active (drop l.provider-index l.providers) o) ≡ is_active l.providers o
+invariant-providers l = (o : List ℕ)
+    → (has l.names o || is_active (drop l.provider-index l.providers) o) ≡ is_active l.providers o

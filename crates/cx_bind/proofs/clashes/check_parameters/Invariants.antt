@@ -10,5 +10,7 @@ abbrev pub invariant-knowns : goal.invariant-knowns
 invariant-knowns l = record {
   names : l.names ≡ map parameter_name (take l.known-index l.knowns);
   globals : l.globals ≡ global_names (take l.known-index l.knowns);
-  again : option_map (λ k. TwoParameters k.full) (first_again_behind clash (take l.known-index l.knowns) (drop l.known-index l.knowns)) ≡ two_parameters l.knowns;
+  again : option_map (λ k. TwoParameters k.full)
+      (first_again_behind clash (take l.known-index l.knowns) (drop l.known-index l.knowns))
+      ≡ two_parameters l.knowns;
 }

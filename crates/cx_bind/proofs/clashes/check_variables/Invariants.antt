@@ -9,5 +9,7 @@ use Rattle.cx_bind.proofs.clashes.check_variables.Given as goal
 abbrev pub invariant-infos : goal.invariant-infos
 invariant-infos l = record {
   names : l.names ≡ map variable_name (take l.info-index l.infos);
-  again : option_map (λ v. TwoVariables v.full) (first_again_behind is_same_variable (take l.info-index l.infos) (drop l.info-index l.infos)) ≡ two_variables l.infos;
+  again : option_map (λ v. TwoVariables v.full)
+      (first_again_behind is_same_variable (take l.info-index l.infos) (drop l.info-index l.infos))
+      ≡ two_variables l.infos;
 }

@@ -8,4 +8,6 @@ use Rattle.cx_bind.proofs.needs.check_capabilities.Goals as goal
 
 pub returns : goal.returns
 returns c =
-    subst (λ o. Tells Memory o c.check_provided.result) (capabilities_alike (has c.in_ok-provided.provided) (is_provided c.args.thorns.now) c.in_ok-provided.ensures c.args.thorns.now) c.check_provided.ensures
+    subst (λ o. Tells Memory o c.check_provided.result)
+    (capabilities_alike (has c.in_ok-provided.provided) (is_provided c.args.thorns.now)
+    c.in_ok-provided.ensures c.args.thorns.now) c.check_provided.ensures

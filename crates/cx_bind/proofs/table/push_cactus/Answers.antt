@@ -7,4 +7,8 @@ use Rattle.cx_bind.proofs.table.push_cactus.Goals as goal
 pub returns : goal.returns
 returns c =
     let rows : List Param = cactus_parameters c.args.n in
-    joined c.args.table.now c.push_int.new.table c.push_terminate.new.table (take 1 rows) (drop 1 rows) c.in_ok-push_int.ensures (joined c.push_int.new.table c.push_text.new.table c.push_terminate.new.table (take 1 (drop 1 rows)) (drop 2 rows) c.in_ok-push_text.ensures (c.in_ok-push_terminate.ensures))
+    joined c.args.table.now c.push_int.new.table c.push_terminate.new.table (take 1 rows)
+    (drop 1 rows) c.in_ok-push_int.ensures
+    (joined c.push_int.new.table c.push_text.new.table c.push_terminate.new.table
+    (take 1 (drop 1 rows)) (drop 2 rows) c.in_ok-push_text.ensures
+    (c.in_ok-push_terminate.ensures))

@@ -7,4 +7,9 @@ use Rattle.cx_bind.proofs.table.push_checkpoint.Goals as goal
 pub returns : goal.returns
 returns c =
     let rows : List Param = checkpoint_parameters c.args.n in
-    joined c.args.table.now c.push_int.new.table c.push_text.new.table (take 1 rows) (drop 1 rows) c.in_ok-push_int.ensures (joined c.push_int.new.table c.push_int-2.new.table c.push_text.new.table (take 1 (drop 1 rows)) (drop 2 rows) c.in_ok-push_int-2.ensures (joined c.push_int-2.new.table c.push_flag.new.table c.push_text.new.table (take 1 (drop 2 rows)) (drop 3 rows) c.in_ok-push_flag.ensures (c.in_ok-push_text.ensures)))
+    joined c.args.table.now c.push_int.new.table c.push_text.new.table (take 1 rows) (drop 1 rows)
+    c.in_ok-push_int.ensures
+    (joined c.push_int.new.table c.push_int-2.new.table c.push_text.new.table
+    (take 1 (drop 1 rows)) (drop 2 rows) c.in_ok-push_int-2.ensures
+    (joined c.push_int-2.new.table c.push_flag.new.table c.push_text.new.table
+    (take 1 (drop 2 rows)) (drop 3 rows) c.in_ok-push_flag.ensures (c.in_ok-push_text.ensures)))

@@ -5,4 +5,7 @@ use Rattle.cx_bind.proofs.table.push_mode.Goals as goal
 
 pub returns : goal.returns
 returns c =
-    c.in_ok-push_keyword.ensures ∙ ap (λ words. c.args.table.now ++ parameter c.args.n (codes "IO") Keyword (codes "recover") words (codes "no") ∷ []) c.in_ok-words.ensures
+    c.in_ok-push_keyword.ensures
+    ∙ ap (λ words. c.args.table.now
+    ++ parameter c.args.n (codes "IO") Keyword (codes "recover") words (codes "no") ∷ [])
+    c.in_ok-words.ensures

@@ -7,4 +7,7 @@ use Rattle.cx_bind.proofs.table.push_output.Goals as goal
 pub returns : goal.returns
 returns c =
     let rows : List Param = output_parameters c.args.n in
-    joined c.args.table.now c.push_text.new.table c.push_int.new.table (take 1 rows) (drop 1 rows) c.in_ok-push_text.ensures (joined c.push_text.new.table c.push_text-2.new.table c.push_int.new.table (take 1 (drop 1 rows)) (drop 2 rows) c.in_ok-push_text-2.ensures (c.in_ok-push_int.ensures))
+    joined c.args.table.now c.push_text.new.table c.push_int.new.table (take 1 rows) (drop 1 rows)
+    c.in_ok-push_text.ensures
+    (joined c.push_text.new.table c.push_text-2.new.table c.push_int.new.table
+    (take 1 (drop 1 rows)) (drop 2 rows) c.in_ok-push_text-2.ensures (c.in_ok-push_int.ensures))

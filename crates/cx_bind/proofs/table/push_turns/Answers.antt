@@ -7,4 +7,5 @@ use Rattle.cx_bind.proofs.table.push_turns.Goals as goal
 pub returns : goal.returns
 returns c =
     let rows : List Param = turn_parameters c.args.n in
-    joined c.args.table.now c.push_int.new.table c.push_int-2.new.table (take 1 rows) (drop 1 rows) c.in_ok-push_int.ensures (c.in_ok-push_int-2.ensures)
+    joined c.args.table.now c.push_int.new.table c.push_int-2.new.table (take 1 rows) (drop 1 rows)
+    c.in_ok-push_int.ensures (c.in_ok-push_int-2.ensures)

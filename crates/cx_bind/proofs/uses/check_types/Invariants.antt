@@ -5,4 +5,8 @@ use Rattle.cx_bind.specs.Faults.{wrong_type_by}
 use Rattle.cx_bind.proofs.uses.check_types.Given as goal
 
 abbrev pub invariant-loop-thorn : goal.invariant-loop-thorn
-invariant-loop-thorn l = first_of_each (λ t. first_of_each (λ d. wrong_type_by l.table t d (shared_by d.scope)) t.params) (drop l.thorn-index l.thorns) ≡ first_of_each (λ t. first_of_each (λ d. wrong_type_by l.table t d (shared_by d.scope)) t.params) l.thorns
+invariant-loop-thorn l =
+    first_of_each (λ t. first_of_each (λ d. wrong_type_by l.table t d (shared_by d.scope)) t.params)
+    (drop l.thorn-index l.thorns)
+    ≡ first_of_each (λ t. first_of_each (λ d. wrong_type_by l.table t d (shared_by d.scope))
+    t.params) l.thorns

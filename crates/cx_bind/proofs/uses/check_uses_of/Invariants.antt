@@ -5,4 +5,6 @@ use Rattle.cx_bind.specs.Faults.{no_parameter_by}
 use Rattle.cx_bind.proofs.uses.check_uses_of.Given as goal
 
 abbrev pub invariant-loop-decl : goal.invariant-loop-decl
-invariant-loop-decl l = first_of_each (λ d. no_parameter_by l.table l.thorn d (shared_by d.scope)) (drop l.decl-index l.decls) ≡ first_of_each (λ d. no_parameter_by l.table l.thorn d (shared_by d.scope)) l.decls
+invariant-loop-decl l = first_of_each (λ d. no_parameter_by l.table l.thorn d (shared_by d.scope))
+    (drop l.decl-index l.decls)
+    ≡ first_of_each (λ d. no_parameter_by l.table l.thorn d (shared_by d.scope)) l.decls

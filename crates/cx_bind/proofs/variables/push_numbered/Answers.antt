@@ -5,4 +5,6 @@ use Rattle.cx_bind.proofs.variables.push_numbered.Goals as goal
 
 pub copies-preserved : goal.copies-preserved
 copies-preserved c =
-    one_numbered (λ k. info_of c.args.thorn.now c.args.group.now c.args.name.now (Some k)) c.args.infos.now c.copies.k c.copies.invariant c.in_ok-info_of.ensures c.in_ok-push.ensures.ok
+    one_numbered (λ k. info_of c.args.thorn.now c.args.group.now c.args.name.now (Some k))
+    c.args.infos.now c.copies.k c.copies.invariant c.in_ok-info_of.ensures
+    c.in_ok-push.ensures.ok

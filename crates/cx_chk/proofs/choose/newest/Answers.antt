@@ -3,6 +3,7 @@ use Rattle.std.specs.Prelude.{Option, IfSome}
 use Rattle.cx_disk.proofs.Moments.{quiet_more}
 use Rattle.cx_chk.specs.Slots.{header_of, newest_below, newer}
 use Rattle.cx_chk.proofs.Choosing.{newest_step, newer_known}
+use Rattle.cx_disk.specs.Files.{slot_count}
 use Rattle.cx_chk.proofs.choose.newest.Goals as goal
 
 pub look-preserved : goal.look-preserved
@@ -15,19 +16,27 @@ look-preserved g c =
       count = h.count ∙ inv.count;
       faults = let a = inv.faults in let b = h.cause.later in omega arith;
       quiet = λ tells. quiet_more (inv.quiet tells) (h.quiet tells);
-      known = subst (λ (b : Option (ℕ × ℕ)). IfSome b (λ f. f.0 < c.look.slot + 1)) (sym c.newer_of-best.ensures) (newer_known c.look.slot c.look.best c.in_ok-found.found inv.known);
+      known = subst (λ (b : Option (ℕ × ℕ)). IfSome b (λ f. f.0 < c.look.slot + 1))
+          (sym c.newer_of-best.ensures)
+          (newer_known c.look.slot c.look.best c.in_ok-found.found inv.known);
       newest = λ tells.
           let seen = (g.D.Disk.view c.args.disk.now).seen in
-          let found : c.in_ok-found.found ≡ header_of (seen c.look.slot) = c.in_ok-found.ensures.value tells ∙ ap header_of ((inv.quiet tells).same c.look.slot) in
-          c.newer_of-best.ensures ∙ ap (λ b. newer b c.look.slot c.in_ok-found.found) (inv.newest tells) ∙ ap (λ f. newer (newest_below c.look.slot seen) c.look.slot f) found ∙ sym (newest_step c.look.slot seen);
+          let found : c.in_ok-found.found ≡ header_of (seen c.look.slot) =
+          c.in_ok-found.ensures.value tells
+          ∙ ap header_of ((inv.quiet tells).same c.look.slot) in
+          c.newer_of-best.ensures
+          ∙ ap (λ b. newer b c.look.slot c.in_ok-found.found) (inv.newest tells)
+          ∙ ap (λ f. newer (newest_below c.look.slot seen) c.look.slot f) found
+          ∙ sym (newest_step c.look.slot seen);
     }
 
 pub returns-clause-newest : goal.returns-clause-newest
 returns-clause-newest g c = λ tells.
-    let eight : c.look.slot ≡ 8 = omega arith in
-    c.look.invariant.newest tells ∙ ap (λ (k : ℕ). newest_below k (g.D.Disk.view c.args.disk.now).seen) eight
+    let eight : c.look.slot ≡ slot_count = omega arith in
+    c.look.invariant.newest tells
+    ∙ ap (λ (k : ℕ). newest_below k (g.D.Disk.view c.args.disk.now).seen) eight
 
 pub returns-clause-known : goal.returns-clause-known
 returns-clause-known g c =
-    let eight : c.look.slot ≡ 8 = omega arith in
+    let eight : c.look.slot ≡ slot_count = omega arith in
     subst (λ (k : ℕ). IfSome c.look.best (λ f. f.0 < k)) eight c.look.invariant.known

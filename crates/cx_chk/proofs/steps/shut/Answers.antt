@@ -9,21 +9,33 @@ use Rattle.cx_chk.proofs.steps.shut.Goals as goal
 
 pub returns-in_err-put-in-Some-clause-after : goal.returns-in_err-put-in-Some-clause-after
 returns-in_err-put-in-Some-clause-after g c = λ tells.
-    let is : header_of ((g.D.Disk.view c.args.disk.now).seen c.args.slot) ≡ Some c.in-Some.field-0 = sym (c.in_ok-header.ensures.value tells) ∙ c.in-Some.is in
-    gate_down c.args.slot (g.D.Disk.view c.args.disk.now) (g.D.Disk.view c.header.new.disk) (c.header.ensures.quiet tells) (c.requires.settled tells) (g.D.Disk.view c.put.new.disk) c.in-Some.field-0 is (c.put.ensures.after tells)
+    let is : header_of ((g.D.Disk.view c.args.disk.now).seen c.args.slot) ≡ Some c.in-Some.field-0 =
+    sym (c.in_ok-header.ensures.value tells) ∙ c.in-Some.is in
+    gate_down c.args.slot (g.D.Disk.view c.args.disk.now) (g.D.Disk.view c.header.new.disk)
+    (c.header.ensures.quiet tells) (c.requires.settled tells) (g.D.Disk.view c.put.new.disk)
+    c.in-Some.field-0 is (c.put.ensures.after tells)
 
 pub returns-in_err-trim-in-None-clause-after : goal.returns-in_err-trim-in-None-clause-after
 returns-in_err-trim-in-None-clause-after g c = λ tells.
-    let is : header_of ((g.D.Disk.view c.args.disk.now).seen c.args.slot) ≡ None = sym (c.in_ok-header.ensures.value tells) ∙ c.in-None.is in
-    emptied c.args.slot (g.D.Disk.view c.args.disk.now) (g.D.Disk.view c.header.new.disk) (c.header.ensures.quiet tells) (c.requires.settled tells) (g.D.Disk.view c.trim.new.disk) is (c.trim.ensures.after tells)
+    let is : header_of ((g.D.Disk.view c.args.disk.now).seen c.args.slot) ≡ None =
+    sym (c.in_ok-header.ensures.value tells) ∙ c.in-None.is in
+    emptied c.args.slot (g.D.Disk.view c.args.disk.now) (g.D.Disk.view c.header.new.disk)
+    (c.header.ensures.quiet tells) (c.requires.settled tells) (g.D.Disk.view c.trim.new.disk) is
+    (c.trim.ensures.after tells)
 
 pub returns-in_ok-put-in-Some-clause-after : goal.returns-in_ok-put-in-Some-clause-after
 returns-in_ok-put-in-Some-clause-after g c = λ tells.
-    let is : header_of ((g.D.Disk.view c.args.disk.now).seen c.args.slot) ≡ Some c.in-Some.field-0 = sym (c.in_ok-header.ensures.value tells) ∙ c.in-Some.is in
-    let first = gate_down c.args.slot (g.D.Disk.view c.args.disk.now) (g.D.Disk.view c.header.new.disk) (c.header.ensures.quiet tells) (c.requires.settled tells) (g.D.Disk.view c.put.new.disk) c.in-Some.field-0 is (c.put.ensures.after tells) in
+    let is : header_of ((g.D.Disk.view c.args.disk.now).seen c.args.slot) ≡ Some c.in-Some.field-0 =
+    sym (c.in_ok-header.ensures.value tells) ∙ c.in-Some.is in
+    let first = gate_down c.args.slot (g.D.Disk.view c.args.disk.now)
+    (g.D.Disk.view c.header.new.disk) (c.header.ensures.quiet tells) (c.requires.settled tells)
+    (g.D.Disk.view c.put.new.disk) c.in-Some.field-0 is (c.put.ensures.after tells) in
     let done = c.in_ok-put-in-Some.ensures.done tells in
-    cut_behind c.args.slot _ (g.D.Disk.view c.args.disk.now) (g.D.Disk.view c.put.new.disk) (g.D.Disk.view c.cut.new.self)
-    (drop 1 ((g.D.Disk.view c.header.new.disk).seen c.args.slot)) first (λ d now. done.settled d now ∙ done.changed) (stepped_call (c.cut.ensures.others tells) (c.cut.ensures.after tells))
+    cut_behind c.args.slot _ (g.D.Disk.view c.args.disk.now) (g.D.Disk.view c.put.new.disk)
+    (g.D.Disk.view c.cut.new.self)
+    (drop 1 ((g.D.Disk.view c.header.new.disk).seen c.args.slot)) first
+    (λ d now. done.settled d now ∙ done.changed)
+    (stepped_call (c.cut.ensures.others tells) (c.cut.ensures.after tells))
 
 pub returns-in_ok-put-in-Some-clause-shut : goal.returns-in_ok-put-in-Some-clause-shut
 returns-in_ok-put-in-Some-clause-shut g c = λ tells.
@@ -35,7 +47,12 @@ returns-in_ok-put-in-Some-clause-shut g c = λ tells.
 
 pub returns-in_ok-trim-in-None-clause-after : goal.returns-in_ok-trim-in-None-clause-after
 returns-in_ok-trim-in-None-clause-after g c = λ tells.
-    let is : header_of ((g.D.Disk.view c.args.disk.now).seen c.args.slot) ≡ None = sym (c.in_ok-header.ensures.value tells) ∙ c.in-None.is in
-    let first = emptied c.args.slot (g.D.Disk.view c.args.disk.now) (g.D.Disk.view c.header.new.disk) (c.header.ensures.quiet tells) (c.requires.settled tells) (g.D.Disk.view c.trim.new.disk) is (c.trim.ensures.after tells) in
+    let is : header_of ((g.D.Disk.view c.args.disk.now).seen c.args.slot) ≡ None =
+    sym (c.in_ok-header.ensures.value tells) ∙ c.in-None.is in
+    let first = emptied c.args.slot (g.D.Disk.view c.args.disk.now)
+    (g.D.Disk.view c.header.new.disk) (c.header.ensures.quiet tells) (c.requires.settled tells)
+    (g.D.Disk.view c.trim.new.disk) is (c.trim.ensures.after tells) in
     let done = c.in_ok-trim-in-None.ensures.done tells in
-    gate_first c.args.slot _ (g.D.Disk.view c.args.disk.now) (g.D.Disk.view c.trim.new.disk) (g.D.Disk.view c.put-in-None.new.disk) first (λ d now. done.settled d now ∙ done.changed) (c.put-in-None.ensures.after tells)
+    gate_first c.args.slot _ (g.D.Disk.view c.args.disk.now) (g.D.Disk.view c.trim.new.disk)
+    (g.D.Disk.view c.put-in-None.new.disk) first (λ d now. done.settled d now ∙ done.changed)
+    (c.put-in-None.ensures.after tells)

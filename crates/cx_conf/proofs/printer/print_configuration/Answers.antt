@@ -8,5 +8,7 @@ use Rattle.cx_conf.proofs.printer.print_configuration.Goals as goal
 
 pub returns-clause-again : goal.returns-clause-again
 returns-clause-again c =
-    let text : c.in_ok-text.text ≡ printed (configuration_tokens c.args.tree.now) = c.in_ok-text.ensures ∙ ap printed c.in_ok-tokens.ensures in
-    subst (λ (bytes : List ℕ). TextSpells Ccl configuration.derives bytes c.args.tree.now) (sym text) (printed_text c.args.tree.now c.requires)
+    let text : c.in_ok-text.text ≡ printed (configuration_tokens c.args.tree.now) =
+    c.in_ok-text.ensures ∙ ap printed c.in_ok-tokens.ensures in
+    subst (λ (bytes : List ℕ). TextSpells Ccl configuration.derives bytes c.args.tree.now)
+    (sym text) (printed_text c.args.tree.now c.requires)

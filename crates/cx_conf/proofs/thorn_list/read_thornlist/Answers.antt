@@ -5,8 +5,14 @@ use Rattle.cx_conf.proofs.thorn_list.read_thornlist.Goals as goal
 
 pub returns-clause-answers : goal.returns-clause-answers
 returns-clause-answers c =
-    rw (c.finish.ensures, c.as_slice-tokens.ensures) (answers thorn_list_good refl (λ x. x) c.args.tokens.now c.whole-answer.new.reader.rest.now c.whole-answer.result (rw (← c.as_slice-tokens.ensures, ← c.new-reader.ensures) c.whole-answer.ensures))
+    rw (c.finish.ensures, c.as_slice-tokens.ensures)
+    (answers thorn_list_good refl (λ x. x)
+    c.args.tokens.now c.whole-answer.new.reader.rest.now c.whole-answer.result
+    (rw (← c.as_slice-tokens.ensures, ← c.new-reader.ensures) c.whole-answer.ensures))
 
 pub returns-clause-only : goal.returns-clause-only
 returns-clause-only c =
-    rw (c.finish.ensures, c.as_slice-tokens.ensures) (answers_only thorn_list_good refl (λ x. x) c.args.tokens.now c.whole-answer.new.reader.rest.now c.whole-answer.result (rw (← c.as_slice-tokens.ensures, ← c.new-reader.ensures) c.whole-answer.ensures))
+    rw (c.finish.ensures, c.as_slice-tokens.ensures)
+    (answers_only thorn_list_good refl (λ x. x)
+    c.args.tokens.now c.whole-answer.new.reader.rest.now c.whole-answer.result
+    (rw (← c.as_slice-tokens.ensures, ← c.new-reader.ensures) c.whole-answer.ensures))

@@ -8,7 +8,12 @@ use Rattle.cx_config.proofs.reading.interface_file.Goals as goal
 pub returns-clause-follows : goal.returns-clause-follows
 returns-clause-follows g c = laws.file_passed_from g.H.Shelf styles.Ccl interface c.args.name.now
     c.args.shelf.now c.required_tokens.new.shelf
-    c.in_ok-tokens.tokens c.read_interface.result c.named_tree.result c.in_ok-tokens.ensures.follows c.read_interface.ensures.answers c.named_tree.ensures
+    c.in_ok-tokens.tokens c.read_interface.result c.named_tree.result c.in_ok-tokens.ensures.follows
+    c.read_interface.ensures.answers c.named_tree.ensures
 
 pub returns-clause-read : goal.returns-clause-read
-returns-clause-read g c = tree_read interface HasNames c.args.name.now c.in_ok-tokens.tokens c.read_interface.result c.named_tree.result (λ i spelled. interface_named c.in_ok-tokens.tokens i c.in_ok-tokens.ensures.spelled spelled) c.read_interface.ensures.answers c.named_tree.ensures
+returns-clause-read g c =
+    tree_read interface HasNames c.args.name.now c.in_ok-tokens.tokens c.read_interface.result
+    c.named_tree.result (λ i spelled.
+    interface_named c.in_ok-tokens.tokens i c.in_ok-tokens.ensures.spelled spelled)
+    c.read_interface.ensures.answers c.named_tree.ensures

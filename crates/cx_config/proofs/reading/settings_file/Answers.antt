@@ -5,6 +5,8 @@ use Rattle.cx_config.proofs.ReadingLaws as laws
 use Rattle.cx_config.proofs.reading.settings_file.Goals as goal
 
 pub returns : goal.returns
-returns g c = laws.file_passed_from g.H.Shelf styles.Par (parameter_file (base_of c.args.name.now)).derives c.args.name.now
+returns g c = laws.file_passed_from g.H.Shelf styles.Par
+    (parameter_file (base_of c.args.name.now)).derives c.args.name.now
     c.args.shelf.now c.required_tokens.new.shelf
-    c.in_ok-tokens.tokens c.read_parfile.result c.named_tree.result c.in_ok-tokens.ensures.follows (rw c.in_ok-base.ensures at c.read_parfile.ensures.answers) c.named_tree.ensures
+    c.in_ok-tokens.tokens c.read_parfile.result c.named_tree.result c.in_ok-tokens.ensures.follows
+    (rw c.in_ok-base.ensures at c.read_parfile.ensures.answers) c.named_tree.ensures

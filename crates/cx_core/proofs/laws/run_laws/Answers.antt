@@ -14,7 +14,8 @@ pub returns : goal.returns
 returns c = λ told rules b begins.
     let ready = c.requires in
     let r = run_of c.args.job.now rules b in
-    let run = run_is c.args.job.now ready.whole ready.shapes ready.interior ready.cut c.flat_is_run.ensures c.all_ways.ensures c.operation_needs_met.ensures rules b begins in
+    let run = run_is c.args.job.now ready.whole ready.shapes ready.interior ready.cut
+    c.flat_is_run.ensures c.all_ways.ensures c.operation_needs_met.ensures rules b begins in
     record {
       cut = run.cut;
       some_part = some_part r run;

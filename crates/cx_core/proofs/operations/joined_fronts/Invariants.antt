@@ -1,15 +1,15 @@
 use Rattle.std.specs.Prelude.{◌≡◌, ◌<◌}
 use Rattle.cx_gather.specs.Boards.{front}
 use Rattle.cx_parts.specs.Holding.{joined}
-use Rattle.cx_parts.specs.Work.{sum_over}
 use Rattle.cx_core.specs.Moving.{all_fronts}
 use Rattle.cx_core.proofs.operations.joined_fronts.Given as goal
+use Rattle.cx_network.specs.Machine.{sum_below}
 
 -- the numbers of the first parts are joined
 abbrev pub invariant-parts : goal.invariant-parts
 invariant-parts l = record {
   some : 0 < l.a;
   kind : l.number.kind ≡ (front l.boards 0 l.to).kind;
-  points : l.number.points ≡ sum_over l.a (λ b. (front l.boards b l.to).points);
+  points : l.number.points ≡ sum_below l.a (λ b. (front l.boards b l.to).points);
   number : l.number.number ≡ joined (front l.boards 0 l.to).kind (all_fronts l.boards l.to l.a);
 }

@@ -10,71 +10,135 @@ use Rattle.cx_core.proofs.operations.operate.Goals as goal
 pub post-requires-clause-can : goal.post-requires-clause-can
 post-requires-clause-can g c =
     let can = c.requires.can in
-    can_post c.args.job.now can.checked c.args.cut.now can.cut_is c.args.part can.part c.args.patch.now can.patch c.in-Post.dir c.in-Post.vars
+    can_post c.args.job.now can.checked c.args.cut.now can.cut_is c.args.part can.part
+    c.args.patch.now can.patch c.in-Post.dir c.in-Post.vars
     (subst (IsOperation (setup_of c.args.job.now)) c.in-Post.is can.operation)
 
 pub take-requires-clause-can : goal.take-requires-clause-can
 take-requires-clause-can g c =
     let can = c.requires.can in
-    can_take c.args.job.now can.checked c.args.cut.now can.cut_is c.args.part can.part c.args.patch.now can.patch c.in-Take.dir c.in-Take.vars c.in-Take.field-2
+    can_take c.args.job.now can.checked c.args.cut.now can.cut_is c.args.part can.part
+    c.args.patch.now can.patch c.in-Take.dir c.in-Take.vars c.in-Take.field-2
     (subst (IsOperation (setup_of c.args.job.now)) c.in-Take.is can.operation)
 
 pub take-requires-clause-there : goal.take-requires-clause-there
-take-requires-clause-there g c = subst (λ o. Asks c.args.job.now c.args.cut.now c.args.part o (holdings c.args.patch.now c.args.boards.now c.args.gathering.now (g.W.Wire.queue c.args.wire.now) c.args.meter.now (g.W.Wire.received c.args.wire.now) (g.W.Wire.sum c.args.wire.now))) c.in-Take.is c.requires.can.asks
+take-requires-clause-there g c =
+    subst (λ o. Asks c.args.job.now c.args.cut.now c.args.part o
+    (holdings c.args.patch.now c.args.boards.now c.args.gathering.now
+    (g.W.Wire.queue c.args.wire.now) c.args.meter.now (g.W.Wire.received c.args.wire.now)
+    (g.W.Wire.sum c.args.wire.now))) c.in-Take.is c.requires.can.asks
 
 pub sweep-requires-clause-cut : goal.sweep-requires-clause-cut
-sweep-requires-clause-cut g c = in_cut c.args.job.now c.args.cut.now c.args.part c.args.op.now (holdings c.args.patch.now c.args.boards.now c.args.gathering.now (g.W.Wire.queue c.args.wire.now) c.args.meter.now (g.W.Wire.received c.args.wire.now) (g.W.Wire.sum c.args.wire.now)) c.requires.can
+sweep-requires-clause-cut g c =
+    in_cut c.args.job.now c.args.cut.now c.args.part c.args.op.now
+    (holdings c.args.patch.now c.args.boards.now c.args.gathering.now
+    (g.W.Wire.queue c.args.wire.now) c.args.meter.now (g.W.Wire.received c.args.wire.now)
+    (g.W.Wire.sum c.args.wire.now)) c.requires.can
 
 pub apply-requires-clause-cut : goal.apply-requires-clause-cut
-apply-requires-clause-cut g c = in_cut c.args.job.now c.args.cut.now c.args.part c.args.op.now (holdings c.args.patch.now c.args.boards.now c.args.gathering.now (g.W.Wire.queue c.args.wire.now) c.args.meter.now (g.W.Wire.received c.args.wire.now) (g.W.Wire.sum c.args.wire.now)) c.requires.can
+apply-requires-clause-cut g c =
+    in_cut c.args.job.now c.args.cut.now c.args.part c.args.op.now
+    (holdings c.args.patch.now c.args.boards.now c.args.gathering.now
+    (g.W.Wire.queue c.args.wire.now) c.args.meter.now (g.W.Wire.received c.args.wire.now)
+    (g.W.Wire.sum c.args.wire.now)) c.requires.can
 
 pub test_loop-requires : goal.test_loop-requires
 test_loop-requires g c =
     let can = c.requires.can in
     record {
-      scalar = subst (λ o. CanTest o c.args.patch.now) c.in-Turn.is (can_test c.args.job.now can.checked c.args.patch.now can.patch.patch c.args.op.now can.operation);
+      scalar = subst (λ o. CanTest o c.args.patch.now) c.in-Turn.is
+          (can_test c.args.job.now can.checked c.args.patch.now can.patch.patch c.args.op.now
+          can.operation);
     }
 
 pub returns-in_ok-sweep-in-Sweep-clause-operates : goal.returns-in_ok-sweep-in-Sweep-clause-operates
 returns-in_ok-sweep-in-Sweep-clause-operates g c = λ r of rules cut frame.
-    swept r c.args.part c.args.at.now.count c.round-iteration.result c.in-Sweep.item c.args.at.now.place c.args.op.now (holdings c.args.patch.now c.args.boards.now c.args.gathering.now (g.W.Wire.queue c.args.wire.now) c.args.meter.now (g.W.Wire.received c.args.wire.now) (g.W.Wire.sum c.args.wire.now))
-    (holdings c.sweep.new.patch c.args.boards.now c.args.gathering.now (g.W.Wire.queue c.args.wire.now) c.sweep.new.meter (g.W.Wire.received c.args.wire.now) (g.W.Wire.sum c.args.wire.now)) c.in_ok-sweep-in-Sweep.field-0
-    c.in-Sweep.is c.round-iteration.ensures (c.in_ok-sweep-in-Sweep.ensures.turns r c.args.part of rules frame) c.in_ok-sweep-in-Sweep.ensures.frame refl
+    swept r c.args.part c.args.at.now.count c.round-iteration.result c.in-Sweep.item
+    c.args.at.now.place c.args.op.now
+    (holdings c.args.patch.now c.args.boards.now c.args.gathering.now
+    (g.W.Wire.queue c.args.wire.now) c.args.meter.now (g.W.Wire.received c.args.wire.now)
+    (g.W.Wire.sum c.args.wire.now))
+    (holdings c.sweep.new.patch c.args.boards.now c.args.gathering.now
+    (g.W.Wire.queue c.args.wire.now) c.sweep.new.meter (g.W.Wire.received c.args.wire.now)
+    (g.W.Wire.sum c.args.wire.now)) c.in_ok-sweep-in-Sweep.field-0
+    c.in-Sweep.is c.round-iteration.ensures
+    (c.in_ok-sweep-in-Sweep.ensures.turns r c.args.part of rules frame)
+    c.in_ok-sweep-in-Sweep.ensures.frame refl
 
 pub returns-in_ok-apply-in-Apply-clause-operates : goal.returns-in_ok-apply-in-Apply-clause-operates
 returns-in_ok-apply-in-Apply-clause-operates g c = λ r of rules cut frame.
-    applied r c.args.part c.args.at.now.count c.round-iteration.result c.in-Apply.item c.args.at.now.place c.args.op.now (holdings c.args.patch.now c.args.boards.now c.args.gathering.now (g.W.Wire.queue c.args.wire.now) c.args.meter.now (g.W.Wire.received c.args.wire.now) (g.W.Wire.sum c.args.wire.now))
-    (holdings c.apply.new.patch c.args.boards.now c.args.gathering.now (g.W.Wire.queue c.args.wire.now) c.apply.new.meter (g.W.Wire.received c.args.wire.now) (g.W.Wire.sum c.args.wire.now)) c.in_ok-apply-in-Apply.field-0
-    c.in-Apply.is c.round-iteration.ensures (c.in_ok-apply-in-Apply.ensures.turns r c.args.part of rules frame) c.in_ok-apply-in-Apply.ensures.frame refl
+    applied r c.args.part c.args.at.now.count c.round-iteration.result c.in-Apply.item
+    c.args.at.now.place c.args.op.now
+    (holdings c.args.patch.now c.args.boards.now c.args.gathering.now
+    (g.W.Wire.queue c.args.wire.now) c.args.meter.now (g.W.Wire.received c.args.wire.now)
+    (g.W.Wire.sum c.args.wire.now))
+    (holdings c.apply.new.patch c.args.boards.now c.args.gathering.now
+    (g.W.Wire.queue c.args.wire.now) c.apply.new.meter (g.W.Wire.received c.args.wire.now)
+    (g.W.Wire.sum c.args.wire.now)) c.in_ok-apply-in-Apply.field-0
+    c.in-Apply.is c.round-iteration.ensures
+    (c.in_ok-apply-in-Apply.ensures.turns r c.args.part of rules frame)
+    c.in_ok-apply-in-Apply.ensures.frame refl
 
 pub returns-in_ok-give-in-Give-clause-operates : goal.returns-in_ok-give-in-Give-clause-operates
 returns-in_ok-give-in-Give-clause-operates g c = λ r of rules cut frame.
-    offered r c.args.part c.args.at.now.count c.in-Give.item c.args.at.now.place c.args.op.now (holdings c.args.patch.now c.args.boards.now c.args.gathering.now (g.W.Wire.queue c.args.wire.now) c.args.meter.now (g.W.Wire.received c.args.wire.now) (g.W.Wire.sum c.args.wire.now))
-    (holdings c.args.patch.now c.give-in-Give.new.self c.args.gathering.now (g.W.Wire.queue c.args.wire.now) c.args.meter.now (g.W.Wire.received c.args.wire.now) (g.W.Wire.sum c.args.wire.now))
-    c.args.job.now of frame c.in-Give.is c.give.result c.give.ensures.kind c.give.ensures.points (c.give.ensures.number r c.args.part of frame)
+    offered r c.args.part c.args.at.now.count c.in-Give.item c.args.at.now.place c.args.op.now
+    (holdings c.args.patch.now c.args.boards.now c.args.gathering.now
+    (g.W.Wire.queue c.args.wire.now) c.args.meter.now (g.W.Wire.received c.args.wire.now)
+    (g.W.Wire.sum c.args.wire.now))
+    (holdings c.args.patch.now c.give-in-Give.new.self c.args.gathering.now
+    (g.W.Wire.queue c.args.wire.now) c.args.meter.now (g.W.Wire.received c.args.wire.now)
+    (g.W.Wire.sum c.args.wire.now))
+    c.args.job.now of frame c.in-Give.is c.give.result c.give.ensures.kind c.give.ensures.points
+    (c.give.ensures.number r c.args.part of frame)
     c.in_ok-give-in-Give.ensures.ok refl
 
 pub returns-in_ok-join-in-Join-clause-operates : goal.returns-in_ok-join-in-Join-clause-operates
 returns-in_ok-join-in-Join-clause-operates g c = λ r of rules cut frame.
-    joined_all r c.args.part c.args.at.now.count c.round-iteration.result c.in-Join.item c.args.at.now.place c.args.op.now (holdings c.args.patch.now c.args.boards.now c.args.gathering.now (g.W.Wire.queue c.args.wire.now) c.args.meter.now (g.W.Wire.received c.args.wire.now) (g.W.Wire.sum c.args.wire.now))
-    (holdings c.join.new.patch c.join.new.boards c.args.gathering.now (g.W.Wire.queue c.args.wire.now) c.args.meter.now (g.W.Wire.received c.args.wire.now) (g.W.Wire.sum c.args.wire.now)) c.in_ok-join-in-Join.field-0
+    joined_all r c.args.part c.args.at.now.count c.round-iteration.result c.in-Join.item
+    c.args.at.now.place c.args.op.now
+    (holdings c.args.patch.now c.args.boards.now c.args.gathering.now
+    (g.W.Wire.queue c.args.wire.now) c.args.meter.now (g.W.Wire.received c.args.wire.now)
+    (g.W.Wire.sum c.args.wire.now))
+    (holdings c.join.new.patch c.join.new.boards c.args.gathering.now
+    (g.W.Wire.queue c.args.wire.now) c.args.meter.now (g.W.Wire.received c.args.wire.now)
+    (g.W.Wire.sum c.args.wire.now)) c.in_ok-join-in-Join.field-0
     c.in-Join.is c.round-iteration.ensures (c.in_ok-join-in-Join.ensures r of cut) refl
 
 pub returns-in_ok-post-in-Post-clause-operates : goal.returns-in_ok-post-in-Post-clause-operates
 returns-in_ok-post-in-Post-clause-operates g c = λ r of rules cut frame.
-    sent r c.args.part c.args.at.now.count 0 c.args.at.now.place c.args.op.now (holdings c.args.patch.now c.args.boards.now c.args.gathering.now (g.W.Wire.queue c.args.wire.now) c.args.meter.now (g.W.Wire.received c.args.wire.now) (g.W.Wire.sum c.args.wire.now))
-    (holdings c.args.patch.now c.args.boards.now c.args.gathering.now (g.W.Wire.queue c.post.new.wire) c.args.meter.now (g.W.Wire.received c.post.new.wire) (g.W.Wire.sum c.post.new.wire))
-    c.in-Post.dir c.in-Post.vars c.in-Post.is (λ n e. c.in_ok-post-in-Post.ensures.sent r n cut frame e) c.in_ok-post-in-Post.ensures.sum c.in_ok-post-in-Post.ensures.received refl
+    sent r c.args.part c.args.at.now.count 0 c.args.at.now.place c.args.op.now
+    (holdings c.args.patch.now c.args.boards.now c.args.gathering.now
+    (g.W.Wire.queue c.args.wire.now) c.args.meter.now (g.W.Wire.received c.args.wire.now)
+    (g.W.Wire.sum c.args.wire.now))
+    (holdings c.args.patch.now c.args.boards.now c.args.gathering.now
+    (g.W.Wire.queue c.post.new.wire) c.args.meter.now (g.W.Wire.received c.post.new.wire)
+    (g.W.Wire.sum c.post.new.wire))
+    c.in-Post.dir c.in-Post.vars c.in-Post.is
+    (λ n e. c.in_ok-post-in-Post.ensures.sent r n cut frame e)
+    c.in_ok-post-in-Post.ensures.sum c.in_ok-post-in-Post.ensures.received refl
 
 pub returns-in_ok-take-in-Take-clause-operates : goal.returns-in_ok-take-in-Take-clause-operates
 returns-in_ok-take-in-Take-clause-operates g c = λ r of rules cut frame.
     let e = c.in_ok-take-in-Take.ensures in
-    took r c.args.part c.args.at.now.count 0 c.args.at.now.place c.args.op.now (holdings c.args.patch.now c.args.boards.now c.args.gathering.now (g.W.Wire.queue c.args.wire.now) c.args.meter.now (g.W.Wire.received c.args.wire.now) (g.W.Wire.sum c.args.wire.now))
-    (holdings c.take.new.patch c.args.boards.now c.args.gathering.now (g.W.Wire.queue c.take.new.wire) c.args.meter.now (g.W.Wire.received c.take.new.wire) (g.W.Wire.sum c.take.new.wire))
-    c.in-Take.dir c.in-Take.vars c.in-Take.field-2 c.in-Take.is e.frame (λ mails h. e.filled r mails cut frame h) (e.queues r cut) (e.received r cut) (λ t mails h. e.sum t r mails cut h) refl
+    took r c.args.part c.args.at.now.count 0 c.args.at.now.place c.args.op.now
+    (holdings c.args.patch.now c.args.boards.now c.args.gathering.now
+    (g.W.Wire.queue c.args.wire.now) c.args.meter.now (g.W.Wire.received c.args.wire.now)
+    (g.W.Wire.sum c.args.wire.now))
+    (holdings c.take.new.patch c.args.boards.now c.args.gathering.now
+    (g.W.Wire.queue c.take.new.wire) c.args.meter.now (g.W.Wire.received c.take.new.wire)
+    (g.W.Wire.sum c.take.new.wire))
+    c.in-Take.dir c.in-Take.vars c.in-Take.field-2 c.in-Take.is e.frame
+    (λ mails h. e.filled r mails cut frame h) (e.queues r cut) (e.received r cut)
+    (λ t mails h. e.sum t r mails cut h) refl
 
 pub returns-in_ok-test_loop-in-Turn-clause-operates : goal.returns-in_ok-test_loop-in-Turn-clause-operates
 returns-in_ok-test_loop-in-Turn-clause-operates g c = λ r of rules cut frame.
-    loop_tested r c.args.part c.args.at.now.count 0 0 c.args.at.now.place c.args.op.now (holdings c.args.patch.now c.args.boards.now c.args.gathering.now (g.W.Wire.queue c.args.wire.now) c.args.meter.now (g.W.Wire.received c.args.wire.now) (g.W.Wire.sum c.args.wire.now))
-    (holdings c.args.patch.now c.args.boards.now c.args.gathering.now (g.W.Wire.queue c.args.wire.now) c.args.meter.now (g.W.Wire.received c.args.wire.now) (g.W.Wire.sum c.args.wire.now)) c.in_ok-test_loop-in-Turn.field-0
-    c.in-Turn.scalar c.in-Turn.path c.in-Turn.field-2 c.in-Turn.is (c.in_ok-test_loop-in-Turn.ensures r c.in-Turn.field-2 of.setup) refl
+    loop_tested r c.args.part c.args.at.now.count 0 0 c.args.at.now.place c.args.op.now
+    (holdings c.args.patch.now c.args.boards.now c.args.gathering.now
+    (g.W.Wire.queue c.args.wire.now) c.args.meter.now (g.W.Wire.received c.args.wire.now)
+    (g.W.Wire.sum c.args.wire.now))
+    (holdings c.args.patch.now c.args.boards.now c.args.gathering.now
+    (g.W.Wire.queue c.args.wire.now) c.args.meter.now (g.W.Wire.received c.args.wire.now)
+    (g.W.Wire.sum c.args.wire.now)) c.in_ok-test_loop-in-Turn.field-0
+    c.in-Turn.scalar c.in-Turn.path c.in-Turn.field-2 c.in-Turn.is
+    (c.in_ok-test_loop-in-Turn.ensures r c.in-Turn.field-2 of.setup) refl

@@ -14,7 +14,9 @@ parts-preserved c =
     record {
       count = omega (arith, grown, one, c.parts.invariant.count);
       patches =
-          subst (ArePatches c.args.job.now c.args.cut.now (option_copied c.args.state)) (sym {A = List PatchValue} more)
-          (patch_more c.args.job.now c.args.cut.now (option_copied c.args.state) c.parts.patches.items c.parts.k c.in_ok-first_patch.field-0
+          subst (ArePatches c.args.job.now c.args.cut.now (option_copied c.args.state))
+          (sym {A = List PatchValue} more)
+          (patch_more c.args.job.now c.args.cut.now (option_copied c.args.state)
+          c.parts.patches.items c.parts.k c.in_ok-first_patch.field-0
           c.parts.invariant.count c.parts.invariant.patches c.in_ok-first_patch.ensures);
     }

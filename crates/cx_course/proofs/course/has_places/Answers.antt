@@ -3,4 +3,5 @@ use Rattle.cx_course.proofs.PlaceLaws.{has_places}
 use Rattle.cx_course.proofs.course.has_places.Goals as goal
 
 pub returns : goal.returns
-returns c = λ key rules. has_places (setup_of c.args.job.now) rules (c.run_continues.ensures rules) key
+returns c = λ key rules.
+    has_places (setup_of c.args.job.now) rules (c.run_continues.ensures rules) key

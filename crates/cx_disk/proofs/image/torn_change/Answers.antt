@@ -10,4 +10,6 @@ pub returns-in-Wrote : goal.returns-in-Wrote
 returns-in-Wrote c = rw (c.in-Wrote.is, ← c.as_slice.ensures) c.torn_write.ensures
 
 pub returns-in-StoppedWrite : goal.returns-in-StoppedWrite
-returns-in-StoppedWrite c = rw (c.in-StoppedWrite.is, ← c.as_slice-in-StoppedWrite.ensures) c.torn_write-in-StoppedWrite.ensures
+returns-in-StoppedWrite c =
+    rw (c.in-StoppedWrite.is, ← c.as_slice-in-StoppedWrite.ensures)
+    c.torn_write-in-StoppedWrite.ensures

@@ -1,5 +1,6 @@
 -- what was driven is driven here, and each moment so far is of the run
 use Rattle.std.proofs.Common.{◌≡◌, ◌≤◌, map, IsTrue}
+use Rattle.cx_disk.specs.Files.{count_with}
 use Rattle.cx_plan.specs.Setups.{setup_of}
 use Rattle.cx_core.specs.Left.{steps_left}
 use Rattle.cx_core.specs.Steps.{stands_at}
@@ -28,7 +29,7 @@ invariant-turns g l =
       going : IsGoing s l.keep is;
       parts : g.W.Wire.parts l.wire ≡ g.W.Wire.parts l.initial.wire;
       mounted : IsTrue (g.D.Disk.mounted l.disk);
-      files : g.D.Disk.file_count l.disk ≡ 9;
+      files : g.D.Disk.file_count l.disk ≡ count_with 0;
       folders : g.D.Disk.folders l.disk ≡ g.D.Disk.folders l.initial.disk;
       disk_later : g.D.Disk.faults l.initial.disk ≤ g.D.Disk.faults l.disk;
       wire_later : g.W.Wire.faults l.initial.wire ≤ g.W.Wire.faults l.wire;

@@ -6,4 +6,5 @@ use Rattle.cx_plan.specs.Lookups.{bin_names}
 use Rattle.cx_entries.proofs.bins.bin_of.Given as goal
 
 abbrev pub invariant-loop-bin : goal.invariant-loop-bin
-invariant-loop-bin l = (k : ℕ) → k < l.bin → same_name (plain l.name) (get_or bin_names k []) ≡ false
+invariant-loop-bin l = (k : ℕ) → k < l.bin
+    → same_name (plain l.name) (get_or bin_names k []) ≡ false

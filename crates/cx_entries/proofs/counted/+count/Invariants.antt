@@ -5,4 +5,6 @@ use Rattle.cx_entries.proofs.CountedLaws.{Passed}
 use Rattle.cx_entries.proofs.counted.+count.Given as goal
 
 abbrev pub invariant-push_nodes-nodes : goal.invariant-push_nodes-nodes
-invariant-push_nodes-nodes g l = Passed l.thorn (g.L.Lookup.finds l.names) (seen l.fn.counted) (seen l.counted) l.nodes (drop l.node-index l.nodes)
+invariant-push_nodes-nodes g l =
+    Passed l.thorn (g.L.Lookup.finds l.names) (seen l.fn.counted) (seen l.counted) l.nodes
+    (drop l.node-index l.nodes)

@@ -7,4 +7,5 @@ use Rattle.cx_entries.proofs.NameLaws.{told}
 use Rattle.cx_entries.proofs.names.check_names.Given as goal
 
 abbrev pub invariant-entries : goal.invariant-entries
-invariant-entries l = Sofar (told (map seen_entry l.entries)) (names_fault (map seen_entry l.entries)) (map seen_entry l.entries) l.entry-index l.keys
+invariant-entries l = Sofar (told (map seen_entry l.entries))
+    (names_fault (map seen_entry l.entries)) (map seen_entry l.entries) l.entry-index l.keys

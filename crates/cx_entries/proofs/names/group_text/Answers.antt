@@ -10,10 +10,12 @@ pub returns-in-Some : goal.returns-in-Some
 returns-in-Some c =
     let xs = c.args.entries.now in
     group-some xs c.args.name.now c.as_slice-in-Some.result.now c.in-Some.entry.now
-    (ap (λ (n : List ℕ). find (λ e. is_group n (seen_entry e)) xs) (sym c.as_slice.ensures) ∙ (sym c.first_block.ensures ∙ ap option_copied c.in-Some.is)) c.as_slice-in-Some.ensures
+    (ap (λ (n : List ℕ). find (λ e. is_group n (seen_entry e)) xs) (sym c.as_slice.ensures)
+    ∙ (sym c.first_block.ensures ∙ ap option_copied c.in-Some.is)) c.as_slice-in-Some.ensures
 
 pub returns-in-None : goal.returns-in-None
 returns-in-None c =
     let xs = c.args.entries.now in
     group-none xs c.args.name.now c.as_slice-in-None.result.now
-    (ap (λ (n : List ℕ). find (λ e. is_group n (seen_entry e)) xs) (sym c.as_slice.ensures) ∙ (sym c.first_block.ensures ∙ ap option_copied c.in-None.is)) c.as_slice-in-None.ensures
+    (ap (λ (n : List ℕ). find (λ e. is_group n (seen_entry e)) xs) (sym c.as_slice.ensures)
+    ∙ (sym c.first_block.ensures ∙ ap option_copied c.in-None.is)) c.as_slice-in-None.ensures

@@ -8,4 +8,8 @@ use Rattle.cx_entries.specs.Seen.{seen_entry}
 use Rattle.cx_entries.proofs.nesting.inside_pairs.Given as goal
 
 abbrev pub invariant-entries : goal.invariant-entries
-invariant-entries l = (a b : ℕ) → (pair_before l.pairs.items a b || list_any (λ e. puts_inside (texts l.groups) e a b) (map seen_entry (drop l.entry-index l.entries))) ≡ list_any (λ e. puts_inside (texts l.groups) e a b) (map seen_entry l.entries)
+invariant-entries l = (a b : ℕ)
+    → (pair_before l.pairs.items a b
+    || list_any (λ e. puts_inside (texts l.groups) e a b)
+    (map seen_entry (drop l.entry-index l.entries)))
+    ≡ list_any (λ e. puts_inside (texts l.groups) e a b) (map seen_entry l.entries)

@@ -3,4 +3,6 @@ use Rattle.std.specs.Prelude.{slice_get}
 use Rattle.cx_entries.proofs.nesting.names_of.Given as goal
 
 abbrev pub invariant-numbers : goal.invariant-numbers
-invariant-numbers l = l.names ≡ filter_map (λ k. slice_get (map (λ name. name.now) l.groups) k) (take l.number-index l.numbers)
+invariant-numbers l = l.names
+    ≡ filter_map (λ k. slice_get (map (λ name. name.now) l.groups) k)
+    (take l.number-index l.numbers)

@@ -11,7 +11,8 @@ pub returns-in-Ok-InOrder : goal.returns-in-Ok-InOrder
 returns-in-Ok-InOrder c =
     let es = map seen_entry c.args.entries.now in
     let ts = texts c.args.groups.now in
-    let least : IsLeastOrder (contains_at es) (numbers (length ts)) c.in-Ok-InOrder.nested = search rules in
+    let least : IsLeastOrder (contains_at es) (numbers (length ts)) c.in-Ok-InOrder.nested =
+    search rules in
     nested-order es ts c.in-Ok-InOrder.nested c.requires.names least
 
 pub returns-in-Ok : goal.returns-in-Ok
@@ -22,6 +23,7 @@ returns-in-Ok c =
     let cycle : IsCycle (contains_at es) ks = search rules in
     nested-cycle es ts c.in-Ok.names ks c.requires.names
     (c.in-Ok.ensures
-    ∙ ap (λ gs. filter_map (λ k. slice_get (map (λ name. name.now) gs) k) c.as_slice.result.now) c.deref.ensures.value
+    ∙ ap (λ gs. filter_map (λ k. slice_get (map (λ name. name.now) gs) k) c.as_slice.result.now)
+    c.deref.ensures.value
     ∙ ap (λ ks. filter_map (λ k. slice_get ts k) ks) c.as_slice.ensures)
     cycle

@@ -7,4 +7,5 @@ pub returns : goal.returns
 returns c =
     let size = length-map c.args.groups.now (λ name. name.now) in
     let past = c.if-number-groups.false in
-    name-past (map (λ name. name.now) c.args.groups.now) c.args.names.now c.args.number (omega (arith, size, past))
+    name-past (map (λ name. name.now) c.args.groups.now) c.args.names.now c.args.number
+    (omega (arith, size, past))

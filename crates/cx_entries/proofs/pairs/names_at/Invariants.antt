@@ -7,4 +7,6 @@ use Rattle.cx_entries.proofs.OnceLaws.{come}
 use Rattle.cx_entries.proofs.pairs.names_at.Given as goal
 
 abbrev pub invariant-members : goal.invariant-members
-invariant-members l = come bytes_eq l.names (map key_name (drop l.number (entries_of (map seen_entry l.entries) l.members))) ≡ come bytes_eq [] (map key_name (entries_of (map seen_entry l.entries) l.members))
+invariant-members l = come bytes_eq l.names
+    (map key_name (drop l.number (entries_of (map seen_entry l.entries) l.members)))
+    ≡ come bytes_eq [] (map key_name (entries_of (map seen_entry l.entries) l.members))

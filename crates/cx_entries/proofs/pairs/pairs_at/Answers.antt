@@ -8,11 +8,14 @@ use Rattle.cx_entries.proofs.pairs.pairs_at.Goals as goal
 pub members-preserved : goal.members-preserved
 members-preserved c = λ a b.
     let es = entries_of (map seen_entry c.args.entries.now) c.args.members.now in
-    said-next c.args.names.now es c.members.number (seen_entry c.entry_at-entry.result.now) a b (pair_before c.members.pairs.items a b) (pair_before c.push_entry.new.pairs.items a b) c.entry_at-entry.ensures (c.members.invariant a b) (c.in_ok-push_entry.ensures a b)
+    said-next c.args.names.now es c.members.number (seen_entry c.entry_at-entry.result.now) a b
+    (pair_before c.members.pairs.items a b) (pair_before c.push_entry.new.pairs.items a b)
+    c.entry_at-entry.ensures (c.members.invariant a b) (c.in_ok-push_entry.ensures a b)
 
 pub returns : goal.returns
 returns c = λ a b.
     let es = entries_of (map seen_entry c.args.entries.now) c.args.members.now in
     let size = length-lent c.args.entries.now c.args.members.now c.requires in
     let past = c.members-test.false in
-    said-all c.args.names.now es c.members.number (omega (arith, size, past)) a b (pair_before c.members.pairs.items a b) (c.members.invariant a b)
+    said-all c.args.names.now es c.members.number (omega (arith, size, past)) a b
+    (pair_before c.members.pairs.items a b) (c.members.invariant a b)

@@ -7,4 +7,9 @@ use Rattle.cx_entries.specs.Seen.{seen_entry}
 use Rattle.cx_entries.proofs.pairs.pairs_at.Given as goal
 
 abbrev pub invariant-members : goal.invariant-members
-invariant-members l = (a b : ℕ) → pair_before l.pairs.items a b ≡ (says_before l.names (slice_get (take l.number (entries_of (map seen_entry l.entries) l.members)) a) b || says_after l.names (slice_get (take l.number (entries_of (map seen_entry l.entries) l.members)) b) a)
+invariant-members l = (a b : ℕ)
+    → pair_before l.pairs.items a b
+    ≡ (says_before l.names (slice_get
+    (take l.number (entries_of (map seen_entry l.entries) l.members)) a) b
+    || says_after l.names (slice_get
+    (take l.number (entries_of (map seen_entry l.entries) l.members)) b) a)

@@ -6,4 +6,7 @@ use Rattle.cx_entries.specs.Members.{has_number}
 use Rattle.cx_entries.proofs.pairs.push_after.Given as goal
 
 abbrev pub invariant-others : goal.invariant-others
-invariant-others l = (a b : ℕ) → (pair_before l.pairs.items a b || (has_number l.names (drop l.other-index l.others) a && b == l.number)) ≡ (pair_before l.fn.pairs.items a b || (has_number l.names l.others a && b == l.number))
+invariant-others l = (a b : ℕ)
+    → (pair_before l.pairs.items a b
+    || (has_number l.names (drop l.other-index l.others) a && b == l.number))
+    ≡ (pair_before l.fn.pairs.items a b || (has_number l.names l.others a && b == l.number))

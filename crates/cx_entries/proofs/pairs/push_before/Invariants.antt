@@ -6,4 +6,7 @@ use Rattle.cx_entries.specs.Members.{has_number}
 use Rattle.cx_entries.proofs.pairs.push_before.Given as goal
 
 abbrev pub invariant-others : goal.invariant-others
-invariant-others l = (a b : ℕ) → (pair_before l.pairs.items a b || (a == l.number && has_number l.names (drop l.other-index l.others) b)) ≡ (pair_before l.fn.pairs.items a b || (a == l.number && has_number l.names l.others b))
+invariant-others l = (a b : ℕ)
+    → (pair_before l.pairs.items a b
+    || (a == l.number && has_number l.names (drop l.other-index l.others) b))
+    ≡ (pair_before l.fn.pairs.items a b || (a == l.number && has_number l.names l.others b))

@@ -6,4 +6,6 @@ use Rattle.cx_entries.proofs.place_orders.names_of.Goals as goal
 
 pub numbers-preserved : goal.numbers-preserved
 numbers-preserved c =
-    names-more (entries_of (map seen_entry c.args.entries.now) c.args.members.now) c.args.numbers.now c.numbers.number-index c.numbers.names c.push_name.new.names c.numbers-test.true c.in_ok-push_name.ensures c.numbers.invariant
+    names-more (entries_of (map seen_entry c.args.entries.now) c.args.members.now)
+    c.args.numbers.now c.numbers.number-index c.numbers.names c.push_name.new.names
+    c.numbers-test.true c.in_ok-push_name.ensures c.numbers.invariant

@@ -4,4 +4,5 @@ use Rattle.cx_entries.specs.Seen.{seen_entry}
 use Rattle.cx_entries.proofs.place_orders.names_of.Given as goal
 
 abbrev pub invariant-numbers : goal.invariant-numbers
-invariant-numbers l = l.names ≡ names_in (entries_of (map seen_entry l.entries) l.members) (take l.number-index l.numbers)
+invariant-numbers l = l.names
+    ≡ names_in (entries_of (map seen_entry l.entries) l.members) (take l.number-index l.numbers)

@@ -15,8 +15,10 @@ order_at-requires-clause-differ c =
     let size = c.len-place-end.ensures in
     let below = c.places-test.true in
     let within : c.places.place < length c.args.members.now = omega (arith, size, below) in
-    let D : List ℕ → Type 0 = λ r. once bytes_eq (map key_name (entries_of es r)) ≡ map key_name (entries_of es r) in
-    subst D (sym c.row.ensures) (differ-at es c.args.members.now c.requires.members c.requires.names c.places.place within)
+    let D : List ℕ → Type 0 =
+    λ r. once bytes_eq (map key_name (entries_of es r)) ≡ map key_name (entries_of es r) in
+    subst D (sym c.row.ensures)
+    (differ-at es c.args.members.now c.requires.members c.requires.names c.places.place within)
 
 pub returns-in_err-order : goal.returns-in_err-order
 returns-in_err-order c =
@@ -24,9 +26,12 @@ returns-in_err-order c =
     let size = c.len-place-end.ensures in
     let below = c.places-test.true in
     let within : c.places.place < length c.args.members.now = omega (arith, size, below) in
-    let p = err_from_is_err_and c.from_residual-in_err-order.result c.from_residual-in_err-order.ensures.1 in
+    let p = err_from_is_err_and c.from_residual-in_err-order.result
+    c.from_residual-in_err-order.ensures.1 in
     rw (p.1, p.2)
-    (told-at es (entries_of es c.row.result.now) (place es c.places.place) c.in_err-order.field-0.0 (ap (entries_of es) c.row.ensures ∙ c.requires.members.entries c.places.place within) c.in_err-order.ensures)
+    (told-at es (entries_of es c.row.result.now) (place es c.places.place) c.in_err-order.field-0.0
+    (ap (entries_of es) c.row.ensures ∙ c.requires.members.entries c.places.place within)
+    c.in_err-order.ensures)
 
 pub places-preserved : goal.places-preserved
 places-preserved c =
@@ -35,7 +40,8 @@ places-preserved c =
     let below = c.places-test.true in
     let within : c.places.place < length c.args.members.now = omega (arith, size, below) in
     let T : List ℕ → Type 0 = λ r. IsOrdered (entries_of es r) (Ok c.in_ok-order.order) in
-    sofar-next es c.args.members.now c.requires.members c.places.place c.places.orders c.push_row.new.self c.in_ok-order.order within
+    sofar-next es c.args.members.now c.requires.members c.places.place c.places.orders
+    c.push_row.new.self c.in_ok-order.order within
     (subst T c.row.ensures c.in_ok-order.ensures)
     (c.in_ok-push_row.ensures ∙ ap (λ r. c.places.orders ++ r ∷ []) c.into_vec.ensures)
     c.places.invariant

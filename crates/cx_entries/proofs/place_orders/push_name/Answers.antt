@@ -9,4 +9,5 @@ pub returns : goal.returns
 returns c =
     let size = length-lent c.args.entries.now c.args.members.now c.requires in
     let past = c.if-number-members.false in
-    no-name (entries_of (map seen_entry c.args.entries.now) c.args.members.now) c.args.number c.args.names.now (omega (arith, size, past))
+    no-name (entries_of (map seen_entry c.args.entries.now) c.args.members.now)
+    c.args.number c.args.names.now (omega (arith, size, past))

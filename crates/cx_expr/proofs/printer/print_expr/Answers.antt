@@ -8,5 +8,7 @@ use Rattle.cx_expr.proofs.printer.print_expr.Goals as goal
 
 pub returns-clause-again : goal.returns-clause-again
 returns-clause-again c =
-    let text : c.in_ok-text.text ≡ printed (expr_line c.args.e.now) = c.in_ok-text.ensures ∙ ap printed c.in_ok-tokens.ensures in
-    subst (λ (bytes : List ℕ). TextSpells Ccl expression.derives bytes c.args.e.now) (sym text) (printed_text c.args.e.now c.requires)
+    let text : c.in_ok-text.text ≡ printed (expr_line c.args.e.now) =
+    c.in_ok-text.ensures ∙ ap printed c.in_ok-tokens.ensures in
+    subst (λ (bytes : List ℕ). TextSpells Ccl expression.derives bytes c.args.e.now) (sym text)
+    (printed_text c.args.e.now c.requires)

@@ -35,7 +35,11 @@ decreases-compared l = 16 * length l.reader.now.rest.now + 7
 
 abbrev pub invariant-more-more : goal.invariant-more-more
 invariant-more-more l = record {
-  so_far : SoFar (is_among (signs_of l.level)) (joined (signs_of l.level) (under l.level (operand l.depth l.signs))) l.left l.reader.rest.now ((loop (is_among (signs_of l.level)) (joined (signs_of l.level) (under l.level (operand l.depth l.signs))) l.fn.first).reads l.fn.reader.rest.now);
+  so_far : SoFar (is_among (signs_of l.level))
+      (joined (signs_of l.level) (under l.level (operand l.depth l.signs))) l.left l.reader.rest.now
+      ((loop (is_among (signs_of l.level))
+      (joined (signs_of l.level) (under l.level (operand l.depth l.signs))) l.fn.first).reads
+      l.fn.reader.rest.now);
   fewer : length l.reader.rest.now ≤ length l.fn.reader.rest.now;
 }
 

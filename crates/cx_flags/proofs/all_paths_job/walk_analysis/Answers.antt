@@ -5,5 +5,6 @@ use Rattle.cx_flags.proofs.all_paths_job.walk_analysis.Goals as goal
 pub returns : goal.returns
 returns c =
     on_ok c.output_if_any.result _ _
-    (λ l. leads-analysis c.args.job.now c.args.table.now c.walk_bin.new.table c.walk_bin.new.table c.in_ok-walk_bin.ensures l)
+    (λ l. leads-analysis c.args.job.now c.args.table.now c.walk_bin.new.table c.walk_bin.new.table
+    c.in_ok-walk_bin.ensures l)
     c.output_if_any.ensures

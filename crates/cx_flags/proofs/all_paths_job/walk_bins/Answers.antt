@@ -4,7 +4,9 @@ use Rattle.cx_flags.proofs.all_paths_job.walk_bins.Goals as goal
 
 pub bins-preserved : goal.bins-preserved
 bins-preserved c =
-    passing_bins-next bin_number c.args.job.now c.args.bins.now c.bins.bin-index _ c.args.table.now c.bins.table c.walk_bin.new.table c.bins-test.true c.in_ok-walk_bin.ensures c.bins.invariant
+    passing_bins-next bin_number c.args.job.now c.args.bins.now c.bins.bin-index _ c.args.table.now
+    c.bins.table c.walk_bin.new.table c.bins-test.true c.in_ok-walk_bin.ensures c.bins.invariant
 
 pub returns : goal.returns
-returns c = passing_bins-all bin_number c.args.job.now c.args.bins.now c.bins.bin-index c.args.table.now c.bins.table c.bins-test.false c.bins.invariant
+returns c = passing_bins-all bin_number c.args.job.now c.args.bins.now c.bins.bin-index
+    c.args.table.now c.bins.table c.bins-test.false c.bins.invariant

@@ -6,4 +6,5 @@ use Rattle.cx_flags.proofs.all_paths_job.walk_bins.Given as goal
 
 abbrev pub invariant-bins : goal.invariant-bins
 invariant-bins l =
-    PassingBins l.job (map bin_number l.bins) (map bin_number (drop l.bin-index l.bins)) l.fn.table l.table
+    PassingBins l.job (map bin_number l.bins) (map bin_number (drop l.bin-index l.bins))
+    l.fn.table l.table

@@ -11,5 +11,8 @@ pub returns : goal.returns
 returns c =
     let job = c.args.job.now in
     let behind = c.walk_bin.new.table in
-    let body = subst (λ (cells : List LevelFlags). Leads job (Path (bin (setup_of job) CHECKPOINT)) cells behind) c.in_ok-behind.ensures c.in_ok-walk_bin.ensures in
+    let body =
+    subst (λ (cells : List LevelFlags).
+    Leads job (Path (bin (setup_of job) CHECKPOINT)) cells behind)
+    c.in_ok-behind.ensures c.in_ok-walk_bin.ensures in
     leads-checkpoint job c.args.table.now behind c.meet.new.self body c.meet.ensures

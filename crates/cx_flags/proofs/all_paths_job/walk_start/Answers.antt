@@ -5,5 +5,6 @@ use Rattle.cx_flags.proofs.all_paths_job.walk_start.Goals as goal
 pub returns : goal.returns
 returns c =
     on_ok c.walk_analysis.result _ _
-    (λ l. leads-start c.args.job.now c.args.table.now c.walk_bins.new.table c.walk_analysis.new.table c.in_ok-walk_bins.ensures l)
+    (λ l. leads-start c.args.job.now c.args.table.now c.walk_bins.new.table
+    c.walk_analysis.new.table c.in_ok-walk_bins.ensures l)
     c.walk_analysis.ensures

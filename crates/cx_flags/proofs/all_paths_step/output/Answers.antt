@@ -5,4 +5,6 @@ use Rattle.cx_flags.proofs.all_paths_step.output.Goals as goal
 
 pub returns : goal.returns
 returns c =
-    on_ok c.unless_unmet.result _ _ (λ none. leads-still c.args.job.now Outputs c.args.table.now c.requires tt (sym c.unmet_of_output.ensures ∙ none) (λ F. refl)) c.unless_unmet.ensures
+    on_ok c.unless_unmet.result _ _
+    (λ none. leads-still c.args.job.now Outputs c.args.table.now c.requires tt
+    (sym c.unmet_of_output.ensures ∙ none) (λ F. refl)) c.unless_unmet.ensures

@@ -8,7 +8,8 @@ use Rattle.cx_flags.proofs.PathLaws.{Passing}
 use Rattle.cx_flags.proofs.all_paths_tree.+tree.Given as goal
 
 abbrev pub invariant-walk_trees-trees : goal.invariant-walk_trees-trees
-invariant-walk_trees-trees l = All (IsTree l.job) l.trees → Passing l.job l.trees (drop l.tree-index l.trees) l.fn.table l.table
+invariant-walk_trees-trees l = All (IsTree l.job) l.trees
+    → Passing l.job l.trees (drop l.tree-index l.trees) l.fn.table l.table
 
 abbrev pub invariant-walk_while-turns : goal.invariant-walk_while-turns
 invariant-walk_while-turns l = IsBelow l.table l.fn.table

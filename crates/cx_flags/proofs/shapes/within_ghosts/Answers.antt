@@ -5,9 +5,13 @@ use Rattle.cx_flags.proofs.shapes.within_ghosts.Goals as goal
 
 pub returns-then-not-is_within : goal.returns-then-not-is_within
 returns-then-not-is_within c =
-    sym (not_all_of_range (λ d. int_le (pos c.args.reach) (along c.args.shape.now.ghost_ d)) c.args.shape.now.dims c.loop-direction.direction c.loop-direction-test.true (sym c.is_within.ensures ∙ c.if-not-is_within.true))
+    sym (not_all_of_range (λ d. int_le (pos c.args.reach) (along c.args.shape.now.ghost_ d))
+    c.args.shape.now.dims c.loop-direction.direction c.loop-direction-test.true
+    (sym c.is_within.ensures ∙ c.if-not-is_within.true))
 
 pub returns : goal.returns
 returns c =
-    sym (all_of_range (λ d. int_le (pos c.args.reach) (along c.args.shape.now.ghost_ d)) c.args.shape.now.dims 0
-    (λ k low high. let below : k < c.loop-direction.direction = omega arith in c.loop-direction.invariant k below))
+    sym (all_of_range (λ d. int_le (pos c.args.reach) (along c.args.shape.now.ghost_ d))
+    c.args.shape.now.dims 0
+    (λ k low high. let below : k < c.loop-direction.direction = omega arith in
+    c.loop-direction.invariant k below))

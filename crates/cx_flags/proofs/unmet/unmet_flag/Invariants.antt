@@ -7,5 +7,8 @@ use Rattle.cx_flags.proofs.unmet.unmet_flag.Given as goal
 
 abbrev pub invariant-flags : goal.invariant-flags
 invariant-flags l =
-    first_unmet_of (setup_of l.job) (flags_in l.table) (map (λ f. record { place = l.place; var = l.variable; level = l.level; flag = f }) (drop l.flag-index l.flags))
-    ≡ first_unmet_of (setup_of l.job) (flags_in l.table) (map (λ f. record { place = l.place; var = l.variable; level = l.level; flag = f }) l.flags)
+    first_unmet_of (setup_of l.job) (flags_in l.table)
+    (map (λ f. record { place = l.place; var = l.variable; level = l.level; flag = f })
+    (drop l.flag-index l.flags))
+    ≡ first_unmet_of (setup_of l.job) (flags_in l.table)
+    (map (λ f. record { place = l.place; var = l.variable; level = l.level; flag = f }) l.flags)

@@ -12,7 +12,9 @@ returns-in-Some c =
     let set = flags_in c.args.table.now in
     let test = is_unmet setup set in
     let F = needs_of_read setup c.args.item.now in
-    first_here test F c.args.reads.now c.reads.read-index _ (seen c.in-Some.unmet) (first_unmet_of setup set (flat_map F c.args.reads.now)) c.reads-test.true c.in-Some.ensures c.reads.invariant
+    first_here test F c.args.reads.now c.reads.read-index _ (seen c.in-Some.unmet)
+    (first_unmet_of setup set (flat_map F c.args.reads.now))
+    c.reads-test.true c.in-Some.ensures c.reads.invariant
 
 pub reads-preserved : goal.reads-preserved
 reads-preserved c =
@@ -20,4 +22,6 @@ reads-preserved c =
     let set = flags_in c.args.table.now in
     let test = is_unmet setup set in
     let F = needs_of_read setup c.args.item.now in
-    first_later test F c.args.reads.now c.reads.read-index _ (first_unmet_of setup set (flat_map F c.args.reads.now)) c.reads-test.true c.in_default.ensures c.reads.invariant
+    first_later test F c.args.reads.now c.reads.read-index _
+    (first_unmet_of setup set (flat_map F c.args.reads.now))
+    c.reads-test.true c.in_default.ensures c.reads.invariant

@@ -9,5 +9,7 @@ use Rattle.cx_flags.proofs.unmet.unmet_of_reads.Given as goal
 
 abbrev pub invariant-reads : goal.invariant-reads
 invariant-reads l =
-    first_unmet_of (setup_of l.job) (flags_in l.table) (flat_map (needs_of_read (setup_of l.job) l.item) (drop l.read-index l.reads))
-    ≡ first_unmet_of (setup_of l.job) (flags_in l.table) (flat_map (needs_of_read (setup_of l.job) l.item) l.reads)
+    first_unmet_of (setup_of l.job) (flags_in l.table)
+    (flat_map (needs_of_read (setup_of l.job) l.item) (drop l.read-index l.reads))
+    ≡ first_unmet_of (setup_of l.job) (flags_in l.table)
+    (flat_map (needs_of_read (setup_of l.job) l.item) l.reads)

@@ -8,5 +8,8 @@ use Rattle.cx_flags.proofs.unmet.unmet_of_sync.Given as goal
 
 abbrev pub invariant-variables : goal.invariant-variables
 invariant-variables l =
-    first_unmet_of (setup_of l.job) (flags_in l.table) (map (λ v. record { place = l.path; var = v; level = 0; flag = I }) (drop l.variable-index l.variables))
-    ≡ first_unmet_of (setup_of l.job) (flags_in l.table) (map (λ v. record { place = l.path; var = v; level = 0; flag = I }) l.variables)
+    first_unmet_of (setup_of l.job) (flags_in l.table)
+    (map (λ v. record { place = l.path; var = v; level = 0; flag = I })
+    (drop l.variable-index l.variables))
+    ≡ first_unmet_of (setup_of l.job) (flags_in l.table)
+    (map (λ v. record { place = l.path; var = v; level = 0; flag = I }) l.variables)

@@ -11,11 +11,15 @@ returns-in-Some c =
     let setup = setup_of c.args.job.now in
     let set = flags_in c.args.table.now in
     let F = output_needs setup in
-    first_here (is_unmet setup set) F c.args.variables.now c.variables.variable-index _ (seen c.in-Some.unmet) (first_unmet_of setup set (flat_map F c.args.variables.now)) c.variables-test.true c.in-Some.ensures c.variables.invariant
+    first_here (is_unmet setup set) F c.args.variables.now c.variables.variable-index _
+    (seen c.in-Some.unmet) (first_unmet_of setup set (flat_map F c.args.variables.now))
+    c.variables-test.true c.in-Some.ensures c.variables.invariant
 
 pub variables-preserved : goal.variables-preserved
 variables-preserved c =
     let setup = setup_of c.args.job.now in
     let set = flags_in c.args.table.now in
     let F = output_needs setup in
-    first_later (is_unmet setup set) F c.args.variables.now c.variables.variable-index _ (first_unmet_of setup set (flat_map F c.args.variables.now)) c.variables-test.true c.in_default.ensures c.variables.invariant
+    first_later (is_unmet setup set) F c.args.variables.now c.variables.variable-index _
+    (first_unmet_of setup set (flat_map F c.args.variables.now))
+    c.variables-test.true c.in_default.ensures c.variables.invariant

@@ -9,5 +9,7 @@ use Rattle.cx_flags.proofs.unmet.unmet_of_variables.Given as goal
 
 abbrev pub invariant-variables : goal.invariant-variables
 invariant-variables l =
-    first_unmet_of (setup_of l.job) (flags_in l.table) (flat_map (output_needs (setup_of l.job)) (drop l.variable-index l.variables))
-    ≡ first_unmet_of (setup_of l.job) (flags_in l.table) (flat_map (output_needs (setup_of l.job)) l.variables)
+    first_unmet_of (setup_of l.job) (flags_in l.table)
+    (flat_map (output_needs (setup_of l.job)) (drop l.variable-index l.variables))
+    ≡ first_unmet_of (setup_of l.job) (flags_in l.table)
+    (flat_map (output_needs (setup_of l.job)) l.variables)

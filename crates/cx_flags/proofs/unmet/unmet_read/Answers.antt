@@ -11,5 +11,13 @@ returns-in-Some c =
     let set = flags_in c.args.table.now in
     let read = c.args.read.now in
     c.unmet_flag.ensures
-    ∙ ap (λ path. first_unmet_of setup set (map (λ f. record { place = path; var = read.var; level = read.level; flag = f }) c.in-Some.flags.now)) c.as_slice.ensures
-    ∙ ap (λ o. first_unmet_of setup set (map (λ f. record { place = c.args.item.now.path; var = read.var; level = read.level; flag = f }) (flags_or_none o))) c.in-Some.ensures
+    ∙ ap (λ path. first_unmet_of setup set
+    (map (λ f. record { place = path; var = read.var; level = read.level; flag = f })
+    c.in-Some.flags.now)) c.as_slice.ensures
+    ∙ ap (λ o. first_unmet_of setup set
+    (map (λ f. record {
+      place = c.args.item.now.path;
+      var = read.var;
+      level = read.level;
+      flag = f;
+    }) (flags_or_none o))) c.in-Some.ensures

@@ -7,4 +7,5 @@ use Rattle.cx_flat.proofs.operations.push_bins.Given as goal
 
 abbrev pub invariant-bins : goal.invariant-bins
 invariant-bins l =
-    l.ops.items ++ bins_code (setup_of l.job) (map bin_number (drop l.bin-index l.bins)) ≡ l.fn.ops.items ++ bins_code (setup_of l.job) (map bin_number l.bins)
+    l.ops.items ++ bins_code (setup_of l.job) (map bin_number (drop l.bin-index l.bins))
+    ≡ l.fn.ops.items ++ bins_code (setup_of l.job) (map bin_number l.bins)

@@ -6,4 +6,5 @@ use Rattle.cx_gather.proofs.gathering.fresh_pieces.Goals as goal
 
 pub vars-preserved : goal.vars-preserved
 vars-preserved c =
-    rw (map-range_with_len_more (fresh_piece (setup_of c.args.job.now)) 0 c.vars.v c.vars.v (omega arith)) (search rules)
+    rw (map-range_with_len_more (fresh_piece (setup_of c.args.job.now)) 0 c.vars.v c.vars.v
+    (omega arith)) (search rules)

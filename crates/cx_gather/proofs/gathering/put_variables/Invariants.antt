@@ -1,10 +1,13 @@
 use Rattle.std.proofs.Common.{◌≡◌}
-use Rattle.cx_gather.specs.Checkpoints.{level_count, before, levels_in}
+use Rattle.cx_gather.specs.Checkpoints.{before, levels_in}
 use Rattle.cx_gather.specs.Gathering.{put_all}
-use Rattle.cx_gather.proofs.FilledLaws.{filled}
+use Rattle.cx_parts.proofs.FilledLaws.{filled}
 use Rattle.cx_gather.proofs.gathering.put_variables.Given as goal
+use Rattle.cx_plan.specs.Whole.{level_count}
 
 abbrev pub invariant-vars : goal.invariant-vars
 invariant-vars l =
     (l.place ≡ before level_count l.vars l.v)
-    × (l.all.items ≡ filled l.place (put_all l.patch (levels_in l.vars l.patch.numbers) l.initial.all.items) l.initial.all.items)
+    × (l.all.items ≡ filled l.place
+    (put_all l.patch (levels_in l.vars l.patch.numbers) l.initial.all.items)
+    l.initial.all.items)

@@ -1,8 +1,11 @@
 use Rattle.std.proofs.Common.{◌≡◌}
-use Rattle.cx_gather.specs.Checkpoints.{scalar_count, before, scalars_in}
-use Rattle.cx_gather.proofs.FilledLaws.{filled}
+use Rattle.cx_gather.specs.Checkpoints.{before, scalars_in}
+use Rattle.cx_parts.proofs.FilledLaws.{filled}
 use Rattle.cx_gather.proofs.gathering.set_scalars.Given as goal
+use Rattle.cx_plan.specs.Whole.{scalar_count}
 
 abbrev pub invariant-vars : goal.invariant-vars
 invariant-vars l =
-    (l.place ≡ before scalar_count l.vars l.v) × (l.scalars.items ≡ filled l.place (scalars_in l.vars l.patch.numbers) l.initial.scalars.items)
+    (l.place ≡ before scalar_count l.vars l.v)
+    × (l.scalars.items ≡ filled l.place (scalars_in l.vars l.patch.numbers)
+    l.initial.scalars.items)

@@ -6,5 +6,9 @@ use Rattle.cx_gather.proofs.rows.put_level_at.Goals as goal
 
 pub returns : goal.returns
 returns c =
-    let e = c.index_mut-level.ensures.value ∙ any_default c.args.all.now.items c.args.at c.index_mut-level.result.now [] c.requires.at in
-    ap (set c.args.all.now.items c.args.at) (c.put_level.ensures ∙ ap (put c.args.patch.now (level_of c.args.patch.now.numbers c.args.v c.args.number)) e)
+    let e = c.index_mut-level.ensures.value
+    ∙ any_default c.args.all.now.items c.args.at c.index_mut-level.result.now []
+    c.requires.at in
+    ap (set c.args.all.now.items c.args.at)
+    (c.put_level.ensures ∙ ap
+    (put c.args.patch.now (level_of c.args.patch.now.numbers c.args.v c.args.number)) e)

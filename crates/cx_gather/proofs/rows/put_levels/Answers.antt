@@ -7,6 +7,8 @@ pub put_level_at-requires-clause-room : goal.put_level_at-requires-clause-room
 put_level_at-requires-clause-room c =
     let m : c.levels.number < c.args.levels = omega (arith, c.levels-test.true) in
     let r = c.requires.room in
-    ap length (ap (λ (ls : List (List ℤ)). slice_index_or ls (c.args.from + c.levels.number) []) c.levels.invariant
-    ∙ put_later c.args.patch.now c.args.v c.args.from c.args.all.now.items c.levels.number c.levels.number (omega arith))
+    ap length (ap (λ (ls : List (List ℤ)). slice_index_or ls (c.args.from + c.levels.number) [])
+    c.levels.invariant
+    ∙ put_later c.args.patch.now c.args.v c.args.from c.args.all.now.items c.levels.number
+    c.levels.number (omega arith))
     ∙ c.requires.points (c.args.from + c.levels.number) [] (omega (arith, r, m))

@@ -5,4 +5,5 @@ use Rattle.cx_gather.proofs.scattering.fill_levels.Given as goal
 
 abbrev pub invariant-levels : goal.invariant-levels
 invariant-levels l =
-    l.patch ≡ with_numbers l.initial.patch (levels_filled l.initial.patch l.v l.from l.level l.all l.initial.patch.numbers)
+    l.patch ≡ with_numbers l.initial.patch
+    (levels_filled l.initial.patch l.v l.from l.level l.all l.initial.patch.numbers)

@@ -3,4 +3,5 @@ use Rattle.cx_gather.proofs.FillLaws.{ScatteredTo}
 use Rattle.cx_gather.proofs.scattering.scatter.Given as goal
 
 abbrev pub invariant-vars : goal.invariant-vars
-invariant-vars l = ScatteredTo (setup_of l.job) l.checkpoint l.initial.patch l.patch l.scalars l.levels l.v
+invariant-vars l = ScatteredTo (setup_of l.job)
+    l.checkpoint l.initial.patch l.patch l.scalars l.levels l.v

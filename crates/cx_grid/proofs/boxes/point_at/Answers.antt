@@ -17,9 +17,12 @@ returns-clause-value c =
     let gy = simp to_z-of_z at c.gap-2.ensures.value in
     let cx = rw (gx, gy) at c.coordinates-x.ensures.value in
     same_point
-    (to_z-of_z w32 _ fx ∙ simp to_z-of_z at c.moved.ensures.value ∙ ap (λ r. c.args.b.now.low.x +ℤ pos r.0) cx)
-    (to_z-of_z w32 _ fy ∙ simp to_z-of_z at c.moved-2.ensures.value ∙ ap (λ r. c.args.b.now.low.y +ℤ pos r.1) cx)
-    (to_z-of_z w32 _ fz ∙ simp to_z-of_z at c.moved-3.ensures.value ∙ ap (λ r. c.args.b.now.low.z +ℤ pos r.2) cx)
+    (to_z-of_z w32 _ fx ∙ simp to_z-of_z at c.moved.ensures.value
+    ∙ ap (λ r. c.args.b.now.low.x +ℤ pos r.0) cx)
+    (to_z-of_z w32 _ fy ∙ simp to_z-of_z at c.moved-2.ensures.value
+    ∙ ap (λ r. c.args.b.now.low.y +ℤ pos r.1) cx)
+    (to_z-of_z w32 _ fz ∙ simp to_z-of_z at c.moved-3.ensures.value
+    ∙ ap (λ r. c.args.b.now.low.z +ℤ pos r.2) cx)
 
 pub returns-clause-inside : goal.returns-clause-inside
 returns-clause-inside c =

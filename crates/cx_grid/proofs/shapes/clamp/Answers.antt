@@ -26,7 +26,8 @@ returns-clause-value c =
 
 pub returns-clause-interior : goal.returns-clause-interior
 returns-clause-interior c wide =
-    ap (is_boundary c.args.shape.now) (returns-clause-value c) ∙ interior c.args.shape.now c.args.p c.requires wide
+    ap (is_boundary c.args.shape.now) (returns-clause-value c)
+    ∙ interior c.args.shape.now c.args.p c.requires wide
 
 pub returns-clause-near : goal.returns-clause-near
 returns-clause-near c wide =

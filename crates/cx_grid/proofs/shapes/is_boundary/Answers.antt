@@ -22,5 +22,6 @@ returns c =
     let z = simp to_z-of_z at c.is_in_face-z.ensures in
     c.any_of.ensures
     ∙ same_any {a = c.is_in_face-x.result} {b = c.is_in_face-y.result} {c = c.is_in_face-z.result}
-    {x = in_face c.args.shape.now 0 c.args.p.x} {y = in_face c.args.shape.now 1 c.args.p.y} {z = in_face c.args.shape.now 2 c.args.p.z}
+    {x = in_face c.args.shape.now 0 c.args.p.x} {y = in_face c.args.shape.now 1 c.args.p.y}
+    {z = in_face c.args.shape.now 2 c.args.p.z}
     x y z

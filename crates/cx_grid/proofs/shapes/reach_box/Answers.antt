@@ -12,4 +12,12 @@ returns-clause-few c =
     let hy : SFits w32 c.above_highest-2.result = search rules in
     let hz : SFits w32 c.above_highest-3.result = search rules in
     let small : c.args.reach < 256 = omega arith in
-    simp to_z-of_z (rw (c.lowest.ensures.value, c.lowest-2.ensures.value, c.lowest-3.ensures.value, c.above_highest.ensures.value, c.above_highest-2.ensures.value, c.above_highest-3.ensures.value) (reach_few c.args.dims c.args.reach small))
+    simp to_z-of_z
+    (rw (
+      c.lowest.ensures.value,
+      c.lowest-2.ensures.value,
+      c.lowest-3.ensures.value,
+      c.above_highest.ensures.value,
+      c.above_highest-2.ensures.value,
+      c.above_highest-3.ensures.value,
+    ) (reach_few c.args.dims c.args.reach small))

@@ -6,4 +6,5 @@ pub returns-then-contains-clause-left : goal.returns-then-contains-clause-left
 returns-then-contains-clause-left c = rw (first_index c.args.b.now) refl
 
 pub returns-else-contains-clause-left : goal.returns-else-contains-clause-left
-returns-else-contains-clause-left c = sym (no_points c.args.b.now (sym c.contains.ensures.value ∙ c.if-contains.false))
+returns-else-contains-clause-left c =
+    sym (no_points c.args.b.now (sym c.contains.ensures.value ∙ c.if-contains.false))

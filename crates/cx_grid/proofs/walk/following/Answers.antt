@@ -10,7 +10,9 @@ returns-in-Some-clause-left c =
     let pz : SFits w32 c.args.p.z = search rules in
     let nx : SFits w32 c.in-Some.x = search rules in
     let x = simp to_z-of_z at c.in-Some.ensures.some in
-    simp to_z-of_z (rw x.0 (left_next c.args.b.now c.args.p _ c.requires (next_x c.args.b.now c.args.p c.requires)))
+    simp to_z-of_z
+    (rw x.0 (left_next c.args.b.now c.args.p _ c.requires
+    (next_x c.args.b.now c.args.p c.requires)))
 
 pub returns-in-Some-next_below-clause-left : goal.returns-in-Some-next_below-clause-left
 returns-in-Some-next_below-clause-left c =
@@ -22,7 +24,9 @@ returns-in-Some-next_below-clause-left c =
     let ny : SFits w32 c.in-Some-next_below.y = search rules in
     let x = simp to_z-of_z at c.in_default.ensures.none in
     let y = simp to_z-of_z at c.in-Some-next_below.ensures.some in
-    simp to_z-of_z (rw y.0 (left_next c.args.b.now c.args.p _ c.requires (next_y c.args.b.now c.args.p c.requires x)))
+    simp to_z-of_z
+    (rw y.0 (left_next c.args.b.now c.args.p _ c.requires
+    (next_y c.args.b.now c.args.p c.requires x)))
 
 pub returns-in_err-z-clause-left : goal.returns-in_err-z-clause-left
 returns-in_err-z-clause-left c =
@@ -35,7 +39,9 @@ returns-in_err-z-clause-left c =
     let x = simp to_z-of_z at c.in_default.ensures.none in
     let y = simp to_z-of_z at c.in_default-next_below.ensures.none in
     let z = simp to_z-of_z at c.in_err-z.ensures.none in
-    rw c.from_residual.ensures (left_last c.args.b.now c.args.p c.requires (next_none c.args.b.now c.args.p c.requires x y z))
+    rw c.from_residual.ensures
+    (left_last c.args.b.now c.args.p c.requires
+    (next_none c.args.b.now c.args.p c.requires x y z))
 
 pub returns-clause-next : goal.returns-clause-next
 returns-clause-next c =
@@ -60,4 +66,6 @@ returns-clause-left c =
     let x = simp to_z-of_z at c.in_default.ensures.none in
     let y = simp to_z-of_z at c.in_default-next_below.ensures.none in
     let z = simp to_z-of_z at c.in_ok-z.ensures.some in
-    simp to_z-of_z (rw z.0 (left_next c.args.b.now c.args.p _ c.requires (next_z c.args.b.now c.args.p c.requires x y)))
+    simp to_z-of_z
+    (rw z.0 (left_next c.args.b.now c.args.p _ c.requires
+    (next_z c.args.b.now c.args.p c.requires x y)))

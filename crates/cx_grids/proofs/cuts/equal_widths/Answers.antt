@@ -5,6 +5,8 @@ use Rattle.cx_grids.proofs.cuts.equal_widths.Goals as goal
 
 pub returns : goal.returns
 returns c =
-    told_as c.even.result (even c.in_ok-points.points c.in_ok-parts.parts) (equal_widths c.args.dims c.args.values.now c.args.direction)
-    (as_equal_widths c.args.dims c.args.values.now c.args.direction c.in_ok-points.points c.in_ok-parts.parts c.in_ok-points.ensures c.in_ok-parts.ensures.value)
+    told_as c.even.result (even c.in_ok-points.points c.in_ok-parts.parts)
+    (equal_widths c.args.dims c.args.values.now c.args.direction)
+    (as_equal_widths c.args.dims c.args.values.now c.args.direction c.in_ok-points.points
+    c.in_ok-parts.parts c.in_ok-points.ensures c.in_ok-parts.ensures.value)
     c.even.ensures.value

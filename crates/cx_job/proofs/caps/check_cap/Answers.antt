@@ -7,5 +7,7 @@ use Rattle.cx_job.proofs.caps.check_cap.Goals as goal
 pub returns : goal.returns
 returns c =
     subst (λ o. Tells faults.Memory o c.check_spec.result)
-    (sym (its_object c.args.specs.now (λ s. s.now) c.args.points c.args.item.now c.index-specs-object.result c.if-object-specs.false c.index-specs-object.is))
+    (sym (its_object c.args.specs.now (λ s. s.now)
+    c.args.points c.args.item.now c.index-specs-object.result c.if-object-specs.false
+    c.index-specs-object.is))
     c.check_spec.ensures

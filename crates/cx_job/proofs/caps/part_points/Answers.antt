@@ -1,8 +1,8 @@
 use Rattle.std.proofs.Common.{◌∙◌, ap}
 use Rattle.cx_grid.specs.Boxes.{point_count}
-use Rattle.cx_grids.specs.Stored.{in_64_bits}
 use Rattle.cx_job.proofs.CapLaws.{held_part}
 use Rattle.cx_job.proofs.caps.part_points.Goals as goal
+use Rattle.cx_text.specs.Numbers.{in_64_bits}
 
 pub returns : goal.returns
 returns c =

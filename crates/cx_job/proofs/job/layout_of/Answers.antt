@@ -4,5 +4,6 @@ use Rattle.cx_job.proofs.job.layout_of.Goals as goal
 
 pub returns-in_err-stored_infos : goal.returns-in_err-stored_infos
 returns-in_err-stored_infos c =
-    let p = err_from_is_err_and c.from_residual-in_err-stored_infos.result c.from_residual-in_err-stored_infos.ensures.1 in
+    let p = err_from_is_err_and c.from_residual-in_err-stored_infos.result
+    c.from_residual-in_err-stored_infos.ensures.1 in
     rw p.1 tt

@@ -13,10 +13,12 @@ texts_of-requires c =
 
 pub returns-in_err-texts : goal.returns-in_err-texts
 returns-in_err-texts c =
-    let p = err_from_is_err_and c.from_residual-in_err-texts.result c.from_residual-in_err-texts.ensures.1 in
+    let p = err_from_is_err_and c.from_residual-in_err-texts.result
+    c.from_residual-in_err-texts.ensures.1 in
     rw p.1 tt
 
 pub returns-in_err-run_of : goal.returns-in_err-run_of
 returns-in_err-run_of c =
-    let p = err_from_is_err_and c.from_residual-in_err-run_of.result c.from_residual-in_err-run_of.ensures.1 in
+    let p = err_from_is_err_and c.from_residual-in_err-run_of.result
+    c.from_residual-in_err-run_of.ensures.1 in
     rw p.1 tt

@@ -4,4 +4,5 @@ use Rattle.cx_job.proofs.keys.push_directions.Goals as goal
 
 pub directions-preserved : goal.directions-preserved
 directions-preserved c =
-    one_number_more (direction_line c.args.shape.now) c.args.text.now c.directions.direction c.directions.invariant c.in_ok-push_direction.ensures
+    one_number_more (direction_line c.args.shape.now)
+    c.args.text.now c.directions.direction c.directions.invariant c.in_ok-push_direction.ensures

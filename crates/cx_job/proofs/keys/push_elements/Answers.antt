@@ -4,4 +4,5 @@ use Rattle.cx_job.proofs.keys.push_elements.Goals as goal
 
 pub elements-preserved : goal.elements-preserved
 elements-preserved c =
-    one_index_more (parameter_line c.args.values.now c.args.param.now) c.args.text.now c.elements.k c.elements.invariant c.in_ok-push_element.ensures
+    one_index_more (parameter_line c.args.values.now c.args.param.now)
+    c.args.text.now c.elements.k c.elements.invariant c.in_ok-push_element.ensures

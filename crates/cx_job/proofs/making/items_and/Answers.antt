@@ -9,34 +9,52 @@ use Rattle.cx_job.proofs.making.items_and.Goals as goal
 pub run_count-run-requires : goal.run_count-run-requires
 run_count-run-requires c =
     let plan = c.requires.planned in
-    record { few = few_runs c.args.ordered.plan (not_large (input_of c.args.bound.now plan.files c.args.values.now) c.args.ordered plan.plan) }
+    record {
+      few = few_runs c.args.ordered.plan
+          (not_large (input_of c.args.bound.now plan.files c.args.values.now)
+          c.args.ordered plan.plan);
+    }
 
 pub returns-in_err-job-clause-made : goal.returns-in_err-job-clause-made
 returns-in_err-job-clause-made c =
     let specs = map (λ s. s.now) c.args.specs.now in
-    let p = err_from_is_err_and c.from_residual-in_err-job.result c.from_residual-in_err-job.ensures.1 in
+    let p = err_from_is_err_and c.from_residual-in_err-job.result
+    c.from_residual-in_err-job.ensures.1 in
     rw (p.1, p.2)
-    (over_limits specs c.args.bound.now c.args.values.now c.args.ordered c.args.out_vars c.match_items.new.ordered c.run_count-run.result c.in_ok-items.items c.in_ok-items.ensures.others c.run_count-run.ensures
+    (over_limits specs c.args.bound.now c.args.values.now c.args.ordered c.args.out_vars
+    c.match_items.new.ordered c.run_count-run.result c.in_ok-items.items
+    c.in_ok-items.ensures.others c.run_count-run.ensures
     c.in_err-job.field-0.0 c.in_ok-items.ensures.items c.in_err-job.ensures)
 
 pub cut_and-requires : goal.cut_and-requires
 cut_and-requires c =
     let specs = map (λ s. s.now) c.args.specs.now in
-    whole_of specs c.args.bound.now c.args.values.now c.args.ordered c.args.out_vars c.match_items.new.ordered c.run_count-run.result c.in_ok-items.items c.in_ok-items.ensures.others c.run_count-run.ensures
-    c.in_ok-job.job c.in_ok-items.ensures.items c.in_ok-job.ensures c.requires.planned c.requires.read c.requires.written
+    whole_of specs c.args.bound.now c.args.values.now c.args.ordered c.args.out_vars
+    c.match_items.new.ordered c.run_count-run.result c.in_ok-items.items
+    c.in_ok-items.ensures.others c.run_count-run.ensures
+    c.in_ok-job.job c.in_ok-items.ensures.items c.in_ok-job.ensures c.requires.planned
+    c.requires.read c.requires.written
 
 pub returns-clause-made : goal.returns-clause-made
 returns-clause-made c =
     let specs = map (λ s. s.now) c.args.specs.now in
-    items_made specs c.args.bound.now c.args.values.now c.args.ordered c.args.out_vars c.match_items.new.ordered c.run_count-run.result c.in_ok-items.items c.in_ok-items.ensures.others c.run_count-run.ensures
-    c.in_ok-job.job c.cut_and.result c.in_ok-items.ensures.items c.in_ok-job.ensures c.cut_and.ensures
+    items_made specs c.args.bound.now c.args.values.now c.args.ordered c.args.out_vars
+    c.match_items.new.ordered c.run_count-run.result c.in_ok-items.items
+    c.in_ok-items.ensures.others c.run_count-run.ensures
+    c.in_ok-job.job c.cut_and.result c.in_ok-items.ensures.items c.in_ok-job.ensures
+    c.cut_and.ensures
 
 pub returns-clause-ready : goal.returns-clause-ready
 returns-clause-ready c =
     let specs = map (λ s. s.now) c.args.specs.now in
     ready_of specs c.in_ok-job.job c.cut_and.result
-    (whole_of specs c.args.bound.now c.args.values.now c.args.ordered c.args.out_vars c.match_items.new.ordered c.run_count-run.result c.in_ok-items.items c.in_ok-items.ensures.others c.run_count-run.ensures
-    c.in_ok-job.job c.in_ok-items.ensures.items c.in_ok-job.ensures c.requires.planned c.requires.read c.requires.written)
-    (run_of specs c.args.bound.now c.args.values.now c.args.ordered c.args.out_vars c.match_items.new.ordered c.run_count-run.result c.in_ok-items.items c.in_ok-items.ensures.others c.run_count-run.ensures
+    (whole_of specs c.args.bound.now c.args.values.now c.args.ordered c.args.out_vars
+    c.match_items.new.ordered c.run_count-run.result c.in_ok-items.items
+    c.in_ok-items.ensures.others c.run_count-run.ensures
+    c.in_ok-job.job c.in_ok-items.ensures.items c.in_ok-job.ensures c.requires.planned
+    c.requires.read c.requires.written)
+    (run_of specs c.args.bound.now c.args.values.now c.args.ordered c.args.out_vars
+    c.match_items.new.ordered c.run_count-run.result c.in_ok-items.items
+    c.in_ok-items.ensures.others c.run_count-run.ensures
     c.in_ok-job.job c.in_ok-items.ensures.items c.in_ok-job.ensures c.requires.planned)
     c.cut_and.ensures

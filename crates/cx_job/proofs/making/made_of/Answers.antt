@@ -16,5 +16,9 @@ returns-clause-made c =
     let schedules = c.args.configured.schedules in
     let settings = c.args.configured.settings.list in
     let bound = c.in_ok-bound.bound in
-    yields_pass (Is (unless (option_map faults.Bind (bind_fault thorns)) thorns)) (ValuesAnd specs schedules settings) bound c.plan_and.result c.in_ok-bound.ensures
-    (yields_pass (Is (unless (option_map faults.Value (assign_fault bound settings)) (assigned bound settings))) (PlanAnd specs bound schedules) c.in_ok-values.values c.plan_and.result c.in_ok-values.ensures c.plan_and.ensures.made)
+    yields_pass (Is (unless (option_map faults.Bind (bind_fault thorns)) thorns))
+    (ValuesAnd specs schedules settings) bound c.plan_and.result c.in_ok-bound.ensures
+    (yields_pass
+    (Is (unless (option_map faults.Value (assign_fault bound settings))
+    (assigned bound settings))) (PlanAnd specs bound schedules)
+    c.in_ok-values.values c.plan_and.result c.in_ok-values.ensures c.plan_and.ensures.made)

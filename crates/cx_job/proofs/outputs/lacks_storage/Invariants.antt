@@ -4,4 +4,6 @@ use Rattle.cx_job.specs.Outputs.{is_missing}
 use Rattle.cx_job.proofs.outputs.lacks_storage.Given as goal
 
 abbrev pub invariant-places : goal.invariant-places
-invariant-places l = list_any (is_missing l.storage l.named) (enumerate_from l.number (drop l.number l.places)) ≡ list_any (is_missing l.storage l.named) (enumerate_from 0 l.places)
+invariant-places l = list_any (is_missing l.storage l.named)
+    (enumerate_from l.number (drop l.number l.places))
+    ≡ list_any (is_missing l.storage l.named) (enumerate_from 0 l.places)

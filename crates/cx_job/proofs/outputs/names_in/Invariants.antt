@@ -4,4 +4,5 @@ use Rattle.cx_job.specs.Outputs.{is_name}
 use Rattle.cx_job.proofs.outputs.names_in.Given as goal
 
 abbrev pub invariant-parts : goal.invariant-parts
-invariant-parts l = l.names ++ filter is_name (map (λ x. x.now) (drop l.part-index l.parts)) ≡ filter is_name (map (λ x. x.now) l.parts)
+invariant-parts l = l.names ++ filter is_name (map (λ x. x.now) (drop l.part-index l.parts))
+    ≡ filter is_name (map (λ x. x.now) l.parts)

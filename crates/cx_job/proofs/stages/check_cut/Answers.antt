@@ -18,9 +18,12 @@ pub check_parts-requires-clause-whole : goal.check_parts-requires-clause-whole
 check_parts-requires-clause-whole c =
     let job = c.args.job.now in
     subst IsWhole (sym c.in_ok-cut.ensures.value)
-    (is_whole (parts_of job.shape job.cut) c.requires.shape (unmapped (cut_fault (parts_of job.shape job.cut)) c.in_ok-cut.ensures.told))
+    (is_whole (parts_of job.shape job.cut) c.requires.shape
+    (unmapped (cut_fault (parts_of job.shape job.cut)) c.in_ok-cut.ensures.told))
 
 pub returns : goal.returns
 returns c =
     let job = c.args.job.now in
-    told_second (option_map faults.Cut (cut_fault (parts_of job.shape job.cut))) (part_limits (map (λ s. s.now) c.args.specs.now) job) c.check_parts.result c.in_ok-cut.ensures.told c.check_parts.ensures
+    told_second (option_map faults.Cut (cut_fault (parts_of job.shape job.cut)))
+    (part_limits (map (λ s. s.now) c.args.specs.now) job)
+    c.check_parts.result c.in_ok-cut.ensures.told c.check_parts.ensures

@@ -12,5 +12,7 @@ returns c =
     let specs = map (λ s. s.now) c.args.specs.now in
     let items : c.first_items-items.result.now ≡ items_run job = search rules in
     let points = c.greatest_part.ensures ∙ ap greatest_part c.requires.cut in
-    subst (λ n. Tells faults.Memory (first_of_each (cap_fault specs n) (items_run job)) c.check_caps.result) points
-    (subst (λ xs. Tells faults.Memory (first_of_each (cap_fault specs c.greatest_part.result) xs) c.check_caps.result) items c.check_caps.ensures)
+    subst (λ n. Tells faults.Memory (first_of_each (cap_fault specs n) (items_run job))
+    c.check_caps.result) points
+    (subst (λ xs. Tells faults.Memory (first_of_each (cap_fault specs c.greatest_part.result) xs)
+    c.check_caps.result) items c.check_caps.ensures)

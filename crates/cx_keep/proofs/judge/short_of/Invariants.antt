@@ -10,5 +10,6 @@ invariant-each g l = record {
   count : g.D.Disk.file_count l.disk ≡ g.D.Disk.file_count l.fn.disk;
   faults : g.D.Disk.faults l.fn.disk ≤ g.D.Disk.faults l.disk;
   quiet : g.D.Disk.tells → IsQuiet (g.D.Disk.view l.fn.disk) (g.D.Disk.view l.disk);
-  short : g.D.Disk.tells → short_from l.output (drop l.output l.lengths) (g.D.Disk.view l.fn.disk).seen ≡ short_from 0 l.lengths (g.D.Disk.view l.fn.disk).seen;
+  short : g.D.Disk.tells → short_from l.output (drop l.output l.lengths)
+      (g.D.Disk.view l.fn.disk).seen ≡ short_from 0 l.lengths (g.D.Disk.view l.fn.disk).seen;
 }

@@ -7,7 +7,9 @@ use Rattle.cx_least.proofs.candidates.blocker.Goals as goal
 
 pub returns-then-is_left-clause-found : goal.returns-then-is_left-clause-found
 returns-then-is_left-clause-found c =
-    c.taken.invariant.fewer c.in-Some.last c.args.number (links-last c.taken.before c.args.number c.in-Some.last (sym c.last_of.ensures ∙ c.in-Some.is))
+    c.taken.invariant.fewer c.in-Some.last c.args.number
+    (links-last c.taken.before c.args.number c.in-Some.last
+    (sym c.last_of.ensures ∙ c.in-Some.is))
 
 pub taken-preserved : goal.taken-preserved
 taken-preserved c =
@@ -18,6 +20,10 @@ taken-preserved c =
     let h = subst (λ n. at < n) (sym c.taken.invariant.same) c.requires in
     record {
       same = ap length c.pop.ensures ∙ length-set rows at _ ∙ c.taken.invariant.same;
-      kept = λ a b left. ap (λ r. links r b a) c.pop.ensures ∙ links-pop_other rows at l h is b a (differ c.args.marks.now l a (sym c.is_left.ensures ∙ c.if-is_left.false) left) ∙ c.taken.invariant.kept a b left;
-      fewer = λ a b t. c.taken.invariant.fewer a b (links-pop_fewer rows at l h is b a (ap (λ r. links r b a) (sym c.pop.ensures) ∙ t));
+      kept = λ a b left. ap (λ r. links r b a) c.pop.ensures
+          ∙ links-pop_other rows at l h is b a
+          (differ c.args.marks.now l a (sym c.is_left.ensures ∙ c.if-is_left.false) left)
+          ∙ c.taken.invariant.kept a b left;
+      fewer = λ a b t. c.taken.invariant.fewer a b
+          (links-pop_fewer rows at l h is b a (ap (λ r. links r b a) (sym c.pop.ensures) ∙ t));
     }

@@ -7,5 +7,6 @@ use Rattle.cx_least.proofs.candidates.next_free.Goals as goal
 pub blocker-requires : goal.blocker-requires
 blocker-requires c =
     let x = c.in-Some.number in
-    let there = subst (λ ks. has ks x ≡ true) (sym c.in-Some.ensures.removed) (has-first x c.pop_first.new.self) in
+    let there = subst (λ ks. has ks x ≡ true) (sym c.in-Some.ensures.removed)
+    (has-first x c.pop_first.new.self) in
     subst (λ n. x < n) (sym c.taken.invariant.same) (c.requires x (c.taken.invariant.less x there))

@@ -10,7 +10,8 @@ invariant-taken l =
       kept : (a b : ℕ) → is_left l.marks a ≡ true → links l.before b a ≡ links l.fn.before b a;
       fewer : (a b : ℕ) → links l.before b a ≡ true → links l.fn.before b a ≡ true;
       less : (k : ℕ) → has l.candidates k ≡ true → has l.fn.candidates k ≡ true;
-      blocked : (k : ℕ) → has l.fn.candidates k ≡ true → (has l.candidates k ≡ true) ⊎ IsBlocked l.marks l.fn.before k;
+      blocked : (k : ℕ) → has l.fn.candidates k ≡ true
+          → (has l.candidates k ≡ true) ⊎ IsBlocked l.marks l.fn.before k;
     }
 
 abbrev pub decreases-taken : goal.decreases-taken

@@ -8,4 +8,7 @@ returns c =
     let told = c.in_ok-walk_back.ensures in
     let cut = c.cycle_of-cycle.ensures in
     let least = c.least_place-place in
-    turned-front (λ a b. links c.args.before.now b a) walk.last walk.path.items c.cycle_of-cycle.result.items c.deref.result.now c.rotate_left.new.self.items cut.0 least.result told.chain told.once cut.1 cut.2 cut.3 c.deref.ensures.value least.ensures.within least.ensures.least c.rotate_left.ensures.items
+    turned-front (λ a b. links c.args.before.now b a)
+    walk.last walk.path.items c.cycle_of-cycle.result.items c.deref.result.now
+    c.rotate_left.new.self.items cut.0 least.result told.chain told.once cut.1 cut.2 cut.3
+    c.deref.ensures.value least.ensures.within least.ensures.least c.rotate_left.ensures.items

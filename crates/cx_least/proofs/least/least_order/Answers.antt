@@ -12,7 +12,9 @@ pub placed-init : goal.placed-init
 placed-init c =
     let e = c.in_ok-sorting.ensures in
     let s = c.in_ok-sorting.sorting in
-    begin (pair_before c.args.pairs.now) c.args.count s.graph.before s.graph.after s.marks.items s.candidates s.order.items e.marks e.before_length e.after_length e.before e.after e.candidates e.order
+    begin (pair_before c.args.pairs.now)
+    c.args.count s.graph.before s.graph.after s.marks.items s.candidates s.order.items e.marks
+    e.before_length e.after_length e.before e.after e.candidates e.order
 
 pub next_free-requires : goal.next_free-requires
 next_free-requires c = λ k there.
@@ -28,11 +30,26 @@ placed-preserved c =
     let e = c.in-Some.ensures in
     let x = c.in-Some.next in
     let cut = c.next_free.new.candidates in
-    let N : List Bool → Type 0 = λ marks. Next s.graph.before c.next_free.new.before marks s.candidates cut x in
-    let n : N s.marks.items = subst N c.deref.ensures.value (record { same = e.length; kept = e.kept; fewer = e.fewer; found = e.found; free = e.free; less = e.less; above = e.above; blocked = e.blocked }) in
-    let O : List ℕ → Type 0 = λ order. State B c.args.count c.next_free.new.before s.graph.after (set s.marks.items x true) c.insert_all.new.candidates order in
+    let N : List Bool → Type 0 =
+    λ marks. Next s.graph.before c.next_free.new.before marks s.candidates cut x in
+    let n : N s.marks.items =
+    subst N c.deref.ensures.value
+    (record {
+      same = e.length;
+      kept = e.kept;
+      fewer = e.fewer;
+      found = e.found;
+      free = e.free;
+      less = e.less;
+      above = e.above;
+      blocked = e.blocked;
+    }) in
+    let O : List ℕ → Type 0 =
+    λ order. State B c.args.count c.next_free.new.before s.graph.after
+    (set s.marks.items x true) c.insert_all.new.candidates order in
     subst O (sym c.in_ok-push.ensures.items)
-    (step B c.args.count s.graph.before c.next_free.new.before s.graph.after s.marks.items s.candidates cut c.insert_all.new.candidates s.order.items x c.placed.invariant n
+    (step B c.args.count s.graph.before c.next_free.new.before s.graph.after s.marks.items
+    s.candidates cut c.insert_all.new.candidates s.order.items x c.placed.invariant n
     (λ k. c.in_ok-insert_all.ensures k ∙ ap (λ numbers. has cut k || has numbers k) c.row.ensures))
 
 pub placed-smaller : goal.placed-smaller
@@ -42,9 +59,22 @@ placed-smaller c =
     let e = c.in-Some.ensures in
     let x = c.in-Some.next in
     let cut = c.next_free.new.candidates in
-    let N : List Bool → Type 0 = λ marks. Next s.graph.before c.next_free.new.before marks s.candidates cut x in
-    let n : N s.marks.items = subst N c.deref.ensures.value (record { same = e.length; kept = e.kept; fewer = e.fewer; found = e.found; free = e.free; less = e.less; above = e.above; blocked = e.blocked }) in
-    fewer-left B c.args.count s.graph.before c.next_free.new.before s.graph.after s.marks.items s.candidates cut c.insert_all.new.candidates s.order.items x c.placed.invariant n
+    let N : List Bool → Type 0 =
+    λ marks. Next s.graph.before c.next_free.new.before marks s.candidates cut x in
+    let n : N s.marks.items =
+    subst N c.deref.ensures.value
+    (record {
+      same = e.length;
+      kept = e.kept;
+      fewer = e.fewer;
+      found = e.found;
+      free = e.free;
+      less = e.less;
+      above = e.above;
+      blocked = e.blocked;
+    }) in
+    fewer-left B c.args.count s.graph.before c.next_free.new.before s.graph.after s.marks.items
+    s.candidates cut c.insert_all.new.candidates s.order.items x c.placed.invariant n
     (λ k. c.in_ok-insert_all.ensures k ∙ ap (λ numbers. has cut k || has numbers k) c.row.ensures)
 
 pub returns-in-None : goal.returns-in-None
@@ -53,7 +83,8 @@ returns-in-None c =
     let B = pair_before c.args.pairs.now in
     let L : List ℕ → Type 0 = λ order. IsLeastOrder B (numbers c.args.count) order in
     subst L (sym c.new-in-None.ensures)
-    (finish B c.args.count s.graph.before s.graph.after s.marks.items s.candidates s.order.items c.placed.invariant
+    (finish B c.args.count s.graph.before s.graph.after s.marks.items s.candidates s.order.items
+    c.placed.invariant
     (λ k. ap (λ marks. is_left marks k) (sym c.deref-2.ensures.value) ∙ c.in-None.ensures.none k))
 
 pub cycle_from-requires-clause-blocked : goal.cycle_from-requires-clause-blocked
@@ -61,13 +92,18 @@ cycle_from-requires-clause-blocked c =
     let s = c.placed.sorting in
     let B = pair_before c.args.pairs.now in
     let e = c.in_default.ensures in
-    let M : List Bool → Type 0 = λ marks. (k : ℕ) → is_left marks k ≡ true → IsBlocked marks c.next_free.new.before k in
-    let K : List Bool → Type 0 = λ marks. (a b : ℕ) → is_left marks a ≡ true → links c.next_free.new.before b a ≡ links s.graph.before b a in
-    let A : List Bool → Type 0 = λ marks. (k : ℕ) → has s.candidates k ≡ true → IsBlocked marks s.graph.before k in
+    let M : List Bool → Type 0 = λ marks. (k : ℕ) → is_left marks k ≡ true
+    → IsBlocked marks c.next_free.new.before k in
+    let K : List Bool → Type 0 = λ marks. (a b : ℕ) → is_left marks a ≡ true
+    → links c.next_free.new.before b a ≡ links s.graph.before b a in
+    let A : List Bool → Type 0 = λ marks. (k : ℕ) → has s.candidates k ≡ true
+    → IsBlocked marks s.graph.before k in
     subst M (sym c.deref-in-Some-first_left.ensures.value)
-    (stuck B c.args.count s.graph.before c.next_free.new.before s.graph.after s.marks.items s.candidates s.order.items c.placed.invariant
+    (stuck B c.args.count s.graph.before c.next_free.new.before s.graph.after s.marks.items
+    s.candidates s.order.items c.placed.invariant
     (subst K c.deref.ensures.value e.kept)
-    (subst A c.deref.ensures.value (λ k there. nowhere c.next_free.new.candidates k e.none (e.blocked k there))))
+    (subst A c.deref.ensures.value
+    (λ k there. nowhere c.next_free.new.candidates k e.none (e.blocked k there))))
 
 pub returns : goal.returns
 returns c =
@@ -76,5 +112,7 @@ returns c =
     let I : List ℕ → Type 0 = λ xs. IsCycle B xs in
     subst I (sym c.new-in-Some-first_left.ensures)
     (cycle-more (λ a b. links c.next_free.new.before b a) B
-    (λ a b h. (and_parts (B a b) (ltb a c.args.count && ltb b c.args.count) (c.placed.invariant.first_sound a b (c.in_default.ensures.fewer a b h))).0)
-    c.in_ok-cycle_from-in-Some-first_left.field-0.items c.in_ok-cycle_from-in-Some-first_left.ensures)
+    (λ a b h. (and_parts (B a b) (ltb a c.args.count && ltb b c.args.count)
+    (c.placed.invariant.first_sound a b (c.in_default.ensures.fewer a b h))).0)
+    c.in_ok-cycle_from-in-Some-first_left.field-0.items
+    c.in_ok-cycle_from-in-Some-first_left.ensures)

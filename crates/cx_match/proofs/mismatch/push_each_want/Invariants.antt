@@ -5,4 +5,7 @@ use Rattle.cx_match.specs.Lookups.{world_of}
 use Rattle.cx_match.proofs.mismatch.push_each_want.Given as goal
 
 abbrev pub invariant-wants : goal.invariant-wants
-invariant-wants l = l.text ≡ l.fn.text ++ flat_map (λ want. want_text (world_of l.lookup) want (touch_of (world_of l.lookup) l.lookup.thorn want)) (take l.want-index l.wants)
+invariant-wants l = l.text
+    ≡ l.fn.text ++ flat_map
+    (λ want. want_text (world_of l.lookup) want (touch_of (world_of l.lookup) l.lookup.thorn want))
+    (take l.want-index l.wants)

@@ -5,5 +5,6 @@ use Rattle.cx_network.proofs.OrderLaws.{all_orders}
 pub returns : goal.returns
 returns g c =
     let x = c.args.network.now in
-    all_orders (g.N.Network.net x) (g.N.Network.script x) (g.N.Network.agrees x) (g.N.Network.gives x) (g.N.Network.books x)
+    all_orders (g.N.Network.net x) (g.N.Network.script x) (g.N.Network.agrees x)
+    (g.N.Network.gives x) (g.N.Network.books x)
     (g.N.Network.fits x) (g.N.Network.ends x)

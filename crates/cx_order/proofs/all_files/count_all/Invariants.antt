@@ -5,4 +5,5 @@ use Rattle.cx_order.proofs.FileLaws.{Sofar}
 use Rattle.cx_order.proofs.all_files.count_all.Given as goal
 
 abbrev pub invariant-thorns : goal.invariant-thorns
-invariant-thorns l = Sofar (λ n name index. thorn_finds l.values n name index) l.thorns l.files l.number (seen l.counted)
+invariant-thorns l = Sofar (λ n name index. thorn_finds l.values n name index)
+    l.thorns l.files l.number (seen l.counted)

@@ -22,17 +22,26 @@ bins-preserved c =
       size = omega (arith, size, ap length pushed, length-append bins (last ∷ []));
       known =
           λ w told b s at.
-          let B : ℕ → Summary → Type 0 = λ b s. IsSummary w (bin_name b) (bin_forest es (orders_by es c.args.placed.now.orders) b) s in
-          elim (get-push bins last s b (ap (λ (ss : List Summary). slice_get ss b) (sym pushed) ∙ at)) [
+          let B : ℕ → Summary → Type 0 =
+          λ b s. IsSummary w (bin_name b)
+          (bin_forest es (orders_by es c.args.placed.now.orders) b) s in
+          elim (get-push bins last s b
+          (ap (λ (ss : List Summary). slice_get ss b) (sym pushed) ∙ at)) [
             | inl there ↦ c.bins.invariant.known w told b s there
             | inr new ↦ (let same : c.bins.bin ≡ b = (let e = new.0 in omega (arith, e, size)) in
                 let P : ℕ → Type 0 = λ b. B b s in
                 subst P same
                 (subst (B c.bins.bin) new.1
-                (bin-known w es c.args.placed.now c.requires.placed c.in_ok-table.table.items c.bins.bin last c.in_ok-table.ensures.size c.bins-test.true (c.in_ok-table.ensures.known w told)
+                (bin-known w es c.args.placed.now c.requires.placed c.in_ok-table.table.items
+                c.bins.bin last c.in_ok-table.ensures.size c.bins-test.true
+                (c.in_ok-table.ensures.known w told)
                 (λ path inside known.
-                let I : List Summary → Type 0 = λ table. AreInside w es c.args.placed.now.inside table path inside (numbers_at c.args.placed.now c.bins.bin) in
-                c.in_ok-place_summary.ensures w path inside told (subst I (sym c.deref.ensures.value) known)))))
+                let I : List Summary
+                → Type 0 = λ table.
+                AreInside w es c.args.placed.now.inside table path inside
+                (numbers_at c.args.placed.now c.bins.bin) in
+                c.in_ok-place_summary.ensures w path inside told
+                (subst I (sym c.deref.ensures.value) known)))))
           ];
     }
 
@@ -43,4 +52,5 @@ returns c =
     let low = c.bins-test.false in
     let high = c.bins.auto.bin-end in
     let whole : length c.bins.bins.items ≡ bin_count = omega (arith, size, low, high) in
-    all-bins w (map seen_entry c.args.entries.now) c.args.placed.now.orders c.bins.bins.items whole (c.bins.invariant.known w told)
+    all-bins w (map seen_entry c.args.entries.now) c.args.placed.now.orders c.bins.bins.items whole
+    (c.bins.invariant.known w told)

@@ -13,5 +13,9 @@ use Rattle.cx_order.proofs.all_places.bin_summaries.Given as goal
 abbrev pub invariant-bins : goal.invariant-bins
 invariant-bins l = record {
   size : length l.bins.items ≡ l.bin;
-  known : (w : World) → l.meanings ≡ map (meaning w) (map seen_entry l.entries) → (b : ℕ) (s : Summary) → slice_get l.bins.items b ≡ Some s → IsSummary w (bin_name b) (bin_forest (map seen_entry l.entries) (orders_by (map seen_entry l.entries) l.placed.orders) b) s;
+  known : (w : World) → l.meanings ≡ map (meaning w) (map seen_entry l.entries)
+      → (b : ℕ) (s : Summary) → slice_get l.bins.items b ≡ Some s
+      → IsSummary w (bin_name b)
+      (bin_forest (map seen_entry l.entries) (orders_by (map seen_entry l.entries) l.placed.orders)
+      b) s;
 }

@@ -15,10 +15,14 @@ returns c =
     IfOk-weaker c.entry_summary.result _ _
     (λ s known. λ w path e f told at inside.
     let es = map seen_entry c.args.entries.now in
-    let same = mapped-at seen_entry c.args.entries.now c.args.number c.index-entries-number.result e c.index-entries-number.is at in
-    let P : Entry → Type 0 = λ e. IsInside w (path_of path e) f (option_copied c.inside_at.result) → IsSummary w path (Then e (path_of path e) f Done) s in
+    let same = mapped-at seen_entry c.args.entries.now c.args.number c.index-entries-number.result e
+    c.index-entries-number.is at in
+    let P : Entry → Type 0 = λ e. IsInside w (path_of path e) f (option_copied c.inside_at.result)
+    → IsSummary w path (Then e (path_of path e) f Done) s in
     let I : Option Summary → Type 0 = λ o. IsInside w (path_of path e) f o in
     subst P same
-    (known w path f (let M : Entry → Type 0 = λ e. c.index-meanings-number.result ≡ meaning w e in subst M (sym same) (meaning-at w es c.args.meanings.now c.args.number c.index-meanings-number.result e told c.index-meanings-number.is at)))
+    (known w path f (let M : Entry → Type 0 = λ e. c.index-meanings-number.result ≡ meaning w e in
+    subst M (sym same) (meaning-at w es c.args.meanings.now c.args.number
+    c.index-meanings-number.result e told c.index-meanings-number.is at)))
     (subst I (sym c.inside_at.ensures) inside))
     c.entry_summary.ensures

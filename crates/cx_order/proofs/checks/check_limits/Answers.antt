@@ -14,11 +14,16 @@ returns-in_err-check_limit c =
     let sizes = c.plan_sizes-sizes.ensures w 0 0 forests are in
     let p = err_from_is_err_and c.from_residual.result c.from_residual.ensures.1 in
     rw (p.1, p.2)
-    (first-of-two (over (codes "depth") (greatest_depth ts) 32) (over (codes "nodes") (all_nodes ts) 4096) Memory c.in_err-check_limit.field-0.0 (c.in_err-check_limit.ensures (greatest_depth ts) sizes.depth))
+    (first-of-two (over (codes "depth") (greatest_depth ts) 32)
+    (over (codes "nodes") (all_nodes ts) 4096) Memory c.in_err-check_limit.field-0.0
+    (c.in_err-check_limit.ensures (greatest_depth ts) sizes.depth))
 
 pub returns : goal.returns
 returns c =
     λ w forests are.
     let ts = bin_trees w 0 forests in
     let sizes = c.plan_sizes-sizes.ensures w 0 0 forests are in
-    second-of-two (over (codes "depth") (greatest_depth ts) 32) (over (codes "nodes") (all_nodes ts) 4096) c.check_limit-2.result (c.in_ok-check_limit.ensures (greatest_depth ts) sizes.depth) (c.check_limit-2.ensures (all_nodes ts) sizes.nodes)
+    second-of-two (over (codes "depth") (greatest_depth ts) 32)
+    (over (codes "nodes") (all_nodes ts) 4096) c.check_limit-2.result
+    (c.in_ok-check_limit.ensures (greatest_depth ts) sizes.depth)
+    (c.check_limit-2.ensures (all_nodes ts) sizes.nodes)

@@ -16,8 +16,10 @@ returns-in_err-check_entries c =
     let fs = forests_in (map seen_entry c.args.entries.now) c.args.placed.now in
     let P : List Summary → Type 0 = λ bins. AreBinSummaries w 0 fs bins in
     let bins = subst P (sym c.deref.ensures.value) (c.in_ok-bins.ensures w told) in
-    let p = err_from_is_err_and c.from_residual-in_err-check_entries.result c.from_residual-in_err-check_entries.ensures.1 in
-    rw (p.1, p.2) (first-of-two (entry_fault w fs) (limit_fault (bin_trees w 0 fs)) Memory c.in_err-check_entries.field-0.0 (c.in_err-check_entries.ensures w fs bins))
+    let p = err_from_is_err_and c.from_residual-in_err-check_entries.result
+    c.from_residual-in_err-check_entries.ensures.1 in
+    rw (p.1, p.2) (first-of-two (entry_fault w fs) (limit_fault (bin_trees w 0 fs))
+    Memory c.in_err-check_entries.field-0.0 (c.in_err-check_entries.ensures w fs bins))
 
 pub returns : goal.returns
 returns c =
@@ -26,4 +28,5 @@ returns c =
     let P : List Summary → Type 0 = λ bins. AreBinSummaries w 0 fs bins in
     let bins = subst P (sym c.deref.ensures.value) (c.in_ok-bins.ensures w told) in
     let bins_then = subst P (sym c.deref-2.ensures.value) (c.in_ok-bins.ensures w told) in
-    second-of-two (entry_fault w fs) (limit_fault (bin_trees w 0 fs)) c.check_limits.result (c.in_ok-check_entries.ensures w fs bins) (c.check_limits.ensures w fs bins_then)
+    second-of-two (entry_fault w fs) (limit_fault (bin_trees w 0 fs)) c.check_limits.result
+    (c.in_ok-check_entries.ensures w fs bins) (c.check_limits.ensures w fs bins_then)

@@ -9,4 +9,5 @@ use Rattle.cx_order.proofs.order_files.checked_meanings.Goals as goal
 pub returns-clause-meanings : goal.returns-clause-meanings
 returns-clause-meanings c =
     c.in_ok-without_faults.ensures ∙ ap (map meaning_or_none) c.in_ok-meanings.ensures
-    ∙ map-map meaning_or_none (meaning (world_of c.args.context.now)) (map seen_entry c.args.entries.now)
+    ∙ map-map meaning_or_none (meaning (world_of c.args.context.now))
+    (map seen_entry c.args.entries.now)

@@ -15,9 +15,12 @@ pub returns-in_err-counted-clause-only : goal.returns-in_err-counted-clause-only
 returns-in_err-counted-clause-only c =
     let p = err_from_is_err_and c.from_residual.result c.from_residual.ensures.1 in
     let e = c.in_err-counted.field-0.0 in
-    let F : List ScheduleFile → Type 0 = λ files. (e ≡ faults.Memory) ⊎ IsFault (input_of c.args.bound.now files c.args.values.now) e in
+    let F : List ScheduleFile
+    → Type 0 = λ files. (e ≡ faults.Memory)
+    ⊎ IsFault (input_of c.args.bound.now files c.args.values.now) e in
     rw (p.1, p.2)
-    (λ plan is. memory-alone (input_of c.args.bound.now c.args.files.now c.args.values.now) plan e is (subst F c.as_slice.ensures c.in_err-counted.ensures.fault))
+    (λ plan is. memory-alone (input_of c.args.bound.now c.args.files.now c.args.values.now)
+    plan e is (subst F c.as_slice.ensures c.in_err-counted.ensures.fault))
 
 pub returns-clause-only : goal.returns-clause-only
 returns-clause-only c =
@@ -25,9 +28,15 @@ returns-clause-only c =
     let counted = c.in_ok-counted.counted in
     let lines = c.as_slice-2.result.now in
     let entries = c.as_slice-3.result.now in
-    let F : List ScheduleFile → Type 0 = λ files. AreEntries (input_of c.args.bound.now files c.args.values.now) (seen counted) in
+    let F : List ScheduleFile
+    → Type 0 = λ files. AreEntries (input_of c.args.bound.now files c.args.values.now)
+    (seen counted) in
     let L : List Line → Type 0 = λ ls. AreEntries input (seen_as ls counted.entries.items) in
     let E : List Entry → Type 0 = λ es. AreEntries input (seen_as lines es) in
-    let are : AreEntries input (seen_as lines entries) = subst E (sym c.as_slice-3.ensures.value) (subst L (sym c.as_slice-2.ensures.value) (subst F c.as_slice.ensures c.in_ok-counted.ensures.fits)) in
+    let are : AreEntries input (seen_as lines entries) =
+    subst E (sym c.as_slice-3.ensures.value)
+    (subst L (sym c.as_slice-2.ensures.value)
+    (subst F c.as_slice.ensures c.in_ok-counted.ensures.fits)) in
     only-answer input c.planned.result
-    (planned-answers c.args.bound.now c.args.files.now c.args.values.now (seen_as lines entries) c.planned.result are c.planned.ensures.plan c.planned.ensures.fault)
+    (planned-answers c.args.bound.now c.args.files.now c.args.values.now (seen_as lines entries)
+    c.planned.result are c.planned.ensures.plan c.planned.ensures.fault)

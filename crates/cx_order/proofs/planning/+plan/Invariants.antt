@@ -8,8 +8,10 @@ use Rattle.cx_order.proofs.planning.+plan.Given as goal
 abbrev pub invariant-plan_members-members : goal.invariant-plan_members-members
 invariant-plan_members-members l =
     Passed (world_in l.source) (suc l.around) l.fn.made l.made l.trees.items
-    (row_with l.nesting (entries_in l.source) (orders_in l.source) l.path (entries_of (entries_in l.source) l.members))
-    (row_with l.nesting (entries_in l.source) (orders_in l.source) l.path (entries_of (entries_in l.source) (drop l.index-index l.members)))
+    (row_with l.nesting (entries_in l.source) (orders_in l.source) l.path
+    (entries_of (entries_in l.source) l.members))
+    (row_with l.nesting (entries_in l.source) (orders_in l.source) l.path
+    (entries_of (entries_in l.source) (drop l.index-index l.members)))
 
 abbrev pub decreases-plan_place : goal.decreases-plan_place
 decreases-plan_place l = 4 * l.nesting

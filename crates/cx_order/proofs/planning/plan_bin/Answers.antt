@@ -18,9 +18,13 @@ returns c =
     let path = c.in_ok-path.path in
     let places = c.len-places.result in
     let mid : Made = record { items = c.args.made.now.items; text = c.push_bin.new.text } in
-    bin-made (world_in s) b (bin_forest es (orders_in s) b) (contents_at places es rows path (Some b)) c.args.made.now mid c.plan_place.new.made c.in_ok-trees.trees.items (Seq c.new.result)
+    bin-made (world_in s) b (bin_forest es (orders_in s) b)
+    (contents_at places es rows path (Some b))
+    c.args.made.now mid c.plan_place.new.made c.in_ok-trees.trees.items (Seq c.new.result)
     refl c.in_ok-push_bin.ensures
-    (ap (λ n. contents_at n es rows path (Some b)) (c.len-places.ensures ∙ c.requires.source.placed.member_rows)
-    ∙ (ap (λ path. contents_at (place_count es) es rows path (Some b)) (c.in_ok-path.ensures ∙ c.bin_name.ensures)
+    (ap (λ n. contents_at n es rows path (Some b))
+    (c.len-places.ensures ∙ c.requires.source.placed.member_rows)
+    ∙ (ap (λ path. contents_at (place_count es) es rows path (Some b))
+    (c.in_ok-path.ensures ∙ c.bin_name.ensures)
     ∙ sym (bin_contents es rows (place_count es) (bin_name b) b c.requires.bin)))
     c.in_ok-trees.ensures (ap (λ ts. Seq ts) c.new.ensures)

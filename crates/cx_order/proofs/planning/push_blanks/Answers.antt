@@ -11,5 +11,8 @@ pub blanks-preserved : goal.blanks-preserved
 blanks-preserved c =
     let k = c.blanks.counter in
     let old = c.args.text.now in
-    let done : c.push_slice.new.self ≡ c.blanks.text ++ codes "  " = c.in_ok-push_slice.ensures.ok in
-    done ∙ (ap (λ t. t ++ codes "  ") c.blanks.invariant ∙ (append_assoc old (blanks k) (codes "  ") ∙ ap (λ t. old ++ t) (one_more k ∙ ap blanks (sym (add-one k)))))
+    let done : c.push_slice.new.self ≡ c.blanks.text ++ codes "  " =
+    c.in_ok-push_slice.ensures.ok in
+    done ∙ (ap (λ t. t ++ codes "  ") c.blanks.invariant
+    ∙ (append_assoc old (blanks k) (codes "  ")
+    ∙ ap (λ t. old ++ t) (one_more k ∙ ap blanks (sym (add-one k)))))

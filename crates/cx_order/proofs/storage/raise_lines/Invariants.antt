@@ -4,4 +4,5 @@ use Rattle.cx_order.proofs.StorageLaws.{Sofar}
 use Rattle.cx_order.proofs.storage.raise_lines.Given as goal
 
 abbrev pub invariant-lines : goal.invariant-lines
-invariant-lines l = Sofar l.bound (sight_in l.scope) l.fn.stored l.stored l.lines (drop l.line-index l.lines)
+invariant-lines l = Sofar l.bound (sight_in l.scope) l.fn.stored l.stored l.lines
+    (drop l.line-index l.lines)

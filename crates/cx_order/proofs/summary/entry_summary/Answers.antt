@@ -10,5 +10,6 @@ returns c =
     λ w path f is inside.
     let e = seen_entry c.args.entry.now in
     one-entry w path (path_of path e) e f c.args.meaning.now _ (option_copied c.args.inside) is
-    (λ k. c.entry_sizes.ensures (path_of path e) k (trees w k f) (c.sizes_in.ensures w (path_of path e) f k inside))
+    (λ k. c.entry_sizes.ensures (path_of path e) k (trees w k f)
+    (c.sizes_in.ensures w (path_of path e) f k inside))
     (c.in_ok-first_fault.ensures path) inside

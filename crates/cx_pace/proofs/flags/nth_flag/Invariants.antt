@@ -4,4 +4,5 @@ use Rattle.cx_pace.specs.Events.{places_of}
 use Rattle.cx_pace.proofs.flags.nth_flag.Given as goal
 
 abbrev pub invariant-flags : goal.invariant-flags
-invariant-flags l = slice_get (places_of l.place (drop l.place l.flags)) l.left ≡ slice_get (places_of 0 l.flags) l.number
+invariant-flags l = slice_get (places_of l.place (drop l.place l.flags)) l.left
+    ≡ slice_get (places_of 0 l.flags) l.number

@@ -5,4 +5,5 @@ use Rattle.cx_pace.proofs.flags.set_after.Goals as goal
 
 pub returns-else-alone-clause-count : goal.returns-else-alone-clause-count
 returns-else-alone-clause-count c =
-    same_count c.set_flags.new.flags.items (can_go c.args.standings.now) (length c.args.standings.now.parts) c.set_flags.ensures.value
+    same_count c.set_flags.new.flags.items (can_go c.args.standings.now)
+    (length c.args.standings.now.parts) c.set_flags.ensures.value

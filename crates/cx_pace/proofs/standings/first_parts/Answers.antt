@@ -6,5 +6,7 @@ use Rattle.cx_pace.proofs.standings.first_parts.Goals as goal
 
 pub parts-preserved : goal.parts-preserved
 parts-preserved c = λ job whole e.
-    replicate_more c.parts.counter (standing_at (first_place (setup_of job) c.args.from)) _ c.parts.parts.items c.push.new.self.items
-    (c.parts.invariant job whole e) c.in_ok-push.ensures.items (ap standing_at (c.first_place.ensures job whole e))
+    replicate_more c.parts.counter (standing_at (first_place (setup_of job) c.args.from))
+    _ c.parts.parts.items c.push.new.self.items
+    (c.parts.invariant job whole e) c.in_ok-push.ensures.items
+    (ap standing_at (c.first_place.ensures job whole e))

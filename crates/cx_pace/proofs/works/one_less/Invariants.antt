@@ -3,4 +3,6 @@ use Rattle.cx_pace.specs.Steps.{one_less}
 use Rattle.cx_pace.proofs.works.one_less.Given as goal
 
 abbrev pub invariant-parts : goal.invariant-parts
-invariant-parts l = l.part-items ≡ map one_less (take l.part-index l.initial.part-items) ++ drop l.part-index l.initial.part-items
+invariant-parts l = l.part-items
+    ≡ map one_less (take l.part-index l.initial.part-items)
+    ++ drop l.part-index l.initial.part-items

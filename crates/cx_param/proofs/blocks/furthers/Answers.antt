@@ -6,13 +6,16 @@ pub turns-init : goal.turns-init
 turns-init c = begun
 
 pub turns-preserved : goal.turns-preserved
-turns-preserved c = turned further_short c.turns.invariant c.at_sign.ensures c.turns-test.true c.in_ok-further.ensures
+turns-preserved c = turned further_short c.turns.invariant c.at_sign.ensures c.turns-test.true
+    c.in_ok-further.ensures
 
 pub turns-smaller : goal.turns-smaller
 turns-smaller c = fewer further_short c.in_ok-further.ensures
 
 pub returns-in_err-further : goal.returns-in_err-further
-returns-in_err-further c = stopped _ _ _ _ further_short c.turns.invariant c.at_sign.ensures c.turns-test.true c.in_err-further.ensures c.from_residual.ensures.1
+returns-in_err-further c =
+    stopped _ _ _ _ further_short c.turns.invariant c.at_sign.ensures c.turns-test.true
+    c.in_err-further.ensures c.from_residual.ensures.1
 
 pub returns : goal.returns
 returns c = ended_at further_short c.turns.invariant c.at_sign.ensures c.turns-test.false

@@ -6,13 +6,18 @@ pub turns-init : goal.turns-init
 turns-init c = begun
 
 pub turns-preserved : goal.turns-preserved
-turns-preserved c = turned (more_text_short c.args.ptype) c.turns.invariant c.at_sign.ensures c.turns-test.true c.in_ok-more_text.ensures
+turns-preserved c = turned (more_text_short c.args.ptype)
+    c.turns.invariant c.at_sign.ensures c.turns-test.true c.in_ok-more_text.ensures
 
 pub turns-smaller : goal.turns-smaller
 turns-smaller c = fewer (more_text_short c.args.ptype) c.in_ok-more_text.ensures
 
 pub returns-in_err-more_text : goal.returns-in_err-more_text
-returns-in_err-more_text c = stopped _ _ _ _ (more_text_short c.args.ptype) c.turns.invariant c.at_sign.ensures c.turns-test.true c.in_err-more_text.ensures c.from_residual.ensures.1
+returns-in_err-more_text c =
+    stopped _ _ _ _ (more_text_short c.args.ptype)
+    c.turns.invariant c.at_sign.ensures c.turns-test.true c.in_err-more_text.ensures
+    c.from_residual.ensures.1
 
 pub returns : goal.returns
-returns c = ended_at (more_text_short c.args.ptype) c.turns.invariant c.at_sign.ensures c.turns-test.false
+returns c = ended_at (more_text_short c.args.ptype)
+    c.turns.invariant c.at_sign.ensures c.turns-test.false

@@ -6,13 +6,16 @@ pub turns-init : goal.turns-init
 turns-init c = begun
 
 pub turns-preserved : goal.turns-preserved
-turns-preserved c = turned more_printed_short c.turns.invariant c.at_in_line.ensures c.turns-test.true c.in_ok-more_printed.ensures
+turns-preserved c = turned more_printed_short c.turns.invariant c.at_in_line.ensures
+    c.turns-test.true c.in_ok-more_printed.ensures
 
 pub turns-smaller : goal.turns-smaller
 turns-smaller c = fewer more_printed_short c.in_ok-more_printed.ensures
 
 pub returns-in_err-more_printed : goal.returns-in_err-more_printed
-returns-in_err-more_printed c = stopped _ _ _ _ more_printed_short c.turns.invariant c.at_in_line.ensures c.turns-test.true c.in_err-more_printed.ensures c.from_residual.ensures.1
+returns-in_err-more_printed c =
+    stopped _ _ _ _ more_printed_short c.turns.invariant c.at_in_line.ensures c.turns-test.true
+    c.in_err-more_printed.ensures c.from_residual.ensures.1
 
 pub returns : goal.returns
 returns c = ended_at more_printed_short c.turns.invariant c.at_in_line.ensures c.turns-test.false

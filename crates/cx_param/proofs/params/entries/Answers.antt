@@ -6,13 +6,16 @@ pub turns-init : goal.turns-init
 turns-init c = begun
 
 pub turns-preserved : goal.turns-preserved
-turns-preserved c = turned entry_short c.turns.invariant c.at_entry.ensures c.turns-test.true c.in_ok-entry.ensures
+turns-preserved c = turned entry_short c.turns.invariant c.at_entry.ensures c.turns-test.true
+    c.in_ok-entry.ensures
 
 pub turns-smaller : goal.turns-smaller
 turns-smaller c = fewer entry_short c.in_ok-entry.ensures
 
 pub returns-in_err-entry : goal.returns-in_err-entry
-returns-in_err-entry c = stopped _ _ _ _ entry_short c.turns.invariant c.at_entry.ensures c.turns-test.true c.in_err-entry.ensures c.from_residual.ensures.1
+returns-in_err-entry c =
+    stopped _ _ _ _ entry_short c.turns.invariant c.at_entry.ensures c.turns-test.true
+    c.in_err-entry.ensures c.from_residual.ensures.1
 
 pub returns : goal.returns
 returns c = ended_at entry_short c.turns.invariant c.at_entry.ensures c.turns-test.false

@@ -4,4 +4,5 @@ use Rattle.cx_parfile.specs.Printed.{setting_line}
 use Rattle.cx_parfile.proofs.printer.setting_lines.Given as goal
 
 abbrev pub invariant-loop-setting : goal.invariant-loop-setting
-invariant-loop-setting l = l.tokens ≡ l.fn.tokens ++ flat_map setting_line (take l.setting-index l.settings)
+invariant-loop-setting l =
+    l.tokens ≡ l.fn.tokens ++ flat_map setting_line (take l.setting-index l.settings)

@@ -10,4 +10,6 @@ returns c =
     let keyword = c.in_ok-push_word.ensures.ok in
     let slice = c.as_slice.ensures in
     let value = c.in_ok-value.ensures in
-    rw (all, keyword, slice, value) (append_assoc c.args.tokens.now (word ACTIVETHORNS ∷ []) (value_tokens (joined c.args.thorns.now)))
+    rw (all, keyword, slice, value)
+    (append_assoc c.args.tokens.now (word ACTIVETHORNS ∷ [])
+    (value_tokens (joined c.args.thorns.now)))

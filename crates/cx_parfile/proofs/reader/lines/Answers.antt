@@ -6,13 +6,17 @@ pub lines-init : goal.lines-init
 lines-init c = begun
 
 pub lines-preserved : goal.lines-preserved
-lines-preserved c = turned (line_short c.args.base.now) c.lines.invariant c.at_word.ensures c.lines-test.true c.in_ok-line.ensures
+lines-preserved c = turned (line_short c.args.base.now)
+    c.lines.invariant c.at_word.ensures c.lines-test.true c.in_ok-line.ensures
 
 pub lines-smaller : goal.lines-smaller
 lines-smaller c = fewer (line_short c.args.base.now) c.in_ok-line.ensures
 
 pub returns-in_err-line : goal.returns-in_err-line
-returns-in_err-line c = stopped _ _ _ _ (line_short c.args.base.now) c.lines.invariant c.at_word.ensures c.lines-test.true c.in_err-line.ensures c.from_residual.ensures.1
+returns-in_err-line c = stopped _ _ _ _ (line_short c.args.base.now)
+    c.lines.invariant c.at_word.ensures c.lines-test.true c.in_err-line.ensures
+    c.from_residual.ensures.1
 
 pub returns : goal.returns
-returns c = ended_at (line_short c.args.base.now) c.lines.invariant c.at_word.ensures c.lines-test.false
+returns c = ended_at (line_short c.args.base.now)
+    c.lines.invariant c.at_word.ensures c.lines-test.false

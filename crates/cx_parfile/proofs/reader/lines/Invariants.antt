@@ -6,7 +6,8 @@ use Rattle.cx_text.proofs.Loops.{SoFar}
 use Rattle.cx_parfile.proofs.reader.lines.Given as goal
 
 abbrev pub invariant-lines : goal.invariant-lines
-invariant-lines l = SoFar is_word (line l.base) l.read l.reader.rest.now ((loop is_word (line l.base) l.fn.read).reads l.fn.reader.rest.now)
+invariant-lines l = SoFar is_word (line l.base) l.read l.reader.rest.now
+    ((loop is_word (line l.base) l.fn.read).reads l.fn.reader.rest.now)
 
 abbrev pub decreases-lines : goal.decreases-lines
 decreases-lines l = length l.reader.rest.now

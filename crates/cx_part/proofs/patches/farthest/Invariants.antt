@@ -7,4 +7,5 @@ use Rattle.cx_part.proofs.ReachLaws.{AllBefore}
 use Rattle.cx_part.proofs.patches.farthest.Given as goal
 
 abbrev pub invariant-items : goal.invariant-items
-invariant-items l = AllBefore (λ (x : Item). All (λ (r : Touch). r.reach ≤ l.most) x.reads) l.items l.item-index
+invariant-items l = AllBefore (λ (x : Item). All (λ (r : Touch). r.reach ≤ l.most) x.reads)
+    l.items l.item-index

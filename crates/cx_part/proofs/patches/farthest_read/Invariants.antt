@@ -5,4 +5,5 @@ use Rattle.cx_part.proofs.ReachLaws.{AllBefore}
 use Rattle.cx_part.proofs.patches.farthest_read.Given as goal
 
 abbrev pub invariant-reads : goal.invariant-reads
-invariant-reads l = (l.others ≤ l.most) × AllBefore (λ (r : Touch). r.reach ≤ l.most) l.reads l.read-index
+invariant-reads l = (l.others ≤ l.most)
+    × AllBefore (λ (r : Touch). r.reach ≤ l.most) l.reads l.read-index

@@ -9,5 +9,9 @@ use Rattle.cx_reached.proofs.told.done_matches.Goals as goal
 pub returns : goal.returns
 returns c = λ told rules b begins.
     done_matches (IsTrue told) (run_of c.args.job.now rules b)
-    (run_is c.args.job.now c.requires.whole c.requires.shapes c.requires.interior c.requires.cut c.flat_is_run.ensures c.all_ways.ensures c.operation_needs_met.ensures rules b begins)
-    (undivided_from (setup_of c.args.job.now) rules b) (runs_from c.args.job.now c.requires.whole c.requires.shapes c.requires.interior c.requires.cut c.flat_is_run.ensures c.all_ways.ensures c.operation_needs_met.ensures rules b begins)
+    (run_is c.args.job.now c.requires.whole c.requires.shapes c.requires.interior c.requires.cut
+    c.flat_is_run.ensures c.all_ways.ensures c.operation_needs_met.ensures rules b begins)
+    (undivided_from (setup_of c.args.job.now) rules b)
+    (runs_from c.args.job.now c.requires.whole c.requires.shapes c.requires.interior
+    c.requires.cut c.flat_is_run.ensures c.all_ways.ensures c.operation_needs_met.ensures rules
+    b begins)

@@ -8,5 +8,6 @@ use Rattle.cx_reduce.proofs.walk.partial.Given as goal
 
 abbrev pub invariant-rows : goal.invariant-rows
 invariant-rows l =
-    (l.number ≡ running_over l.kind l.patch.owned (number_at l.patch l.v l.level) (l.row * extent l.patch.owned 0))
+    (l.number ≡ running_over l.kind l.patch.owned (number_at l.patch l.v l.level)
+    (l.row * extent l.patch.owned 0))
     × IsBounded (l.row * extent l.patch.owned 0) l.number

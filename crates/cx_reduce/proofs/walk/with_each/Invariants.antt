@@ -6,4 +6,5 @@ use Rattle.cx_reduce.proofs.walk.with_each.Given as goal
 
 abbrev pub invariant-values : goal.invariant-values
 invariant-values l =
-    (l.so_far ≡ fold (one_more l.kind) l.fn.number (take l.value-index l.row)) × (l.passed ≡ l.fn.points + l.value-index) × IsBounded l.passed l.so_far
+    (l.so_far ≡ fold (one_more l.kind) l.fn.number (take l.value-index l.row))
+    × (l.passed ≡ l.fn.points + l.value-index) × IsBounded l.passed l.so_far

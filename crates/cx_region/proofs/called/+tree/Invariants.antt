@@ -6,4 +6,5 @@ use Rattle.cx_region.specs.Marks.{Marks}
 use Rattle.cx_region.proofs.called.+tree.Given as goal
 
 abbrev pub invariant-mark_trees-trees : goal.invariant-mark_trees-trees
-invariant-mark_trees-trees l = Marks (flat_map called (take l.tree-index l.trees)) l.fn.marks l.marks
+invariant-mark_trees-trees l =
+    Marks (flat_map called (take l.tree-index l.trees)) l.fn.marks l.marks

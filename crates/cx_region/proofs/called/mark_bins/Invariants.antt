@@ -6,4 +6,6 @@ use Rattle.cx_region.specs.Marks.{Marks}
 use Rattle.cx_region.proofs.called.mark_bins.Given as goal
 
 abbrev pub invariant-loop-number : goal.invariant-loop-number
-invariant-loop-number l = Marks (flat_map (λ b. called (bin (setup_of l.job) b)) (range_with_len 0 l.number)) l.fn.marks l.marks
+invariant-loop-number l =
+    Marks (flat_map (λ b. called (bin (setup_of l.job) b)) (range_with_len 0 l.number))
+    l.fn.marks l.marks

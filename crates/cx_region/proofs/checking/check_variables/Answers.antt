@@ -7,7 +7,8 @@ pub numbers-init : goal.numbers-init
 numbers-init c = λ v f below. absurd (omega arith)
 
 pub numbers-preserved : goal.numbers-preserved
-numbers-preserved c = one-more (setup_of c.args.job.now) c.numbers.number c.numbers.invariant c.in_ok-check_flags.ensures
+numbers-preserved c = one-more (setup_of c.args.job.now)
+    c.numbers.number c.numbers.invariant c.in_ok-check_flags.ensures
 
 pub returns : goal.returns
 returns c =

@@ -13,7 +13,8 @@ pub returns-in-Some-clause-goes : goal.returns-in-Some-clause-goes
 returns-in-Some-clause-goes c =
     let job = c.args.job.now in
     let Q = Path (bin (setup_of job) (bin_number c.args.bin)) in
-    let g : GoesBy job Settled c.args.followed Q c.args.ways.items c.follow_tree.result = search rules in
+    let g : GoesBy job Settled c.args.followed Q c.args.ways.items c.follow_tree.result =
+    search rules in
     goes-all job c.args.followed Q c.args.ways.items c.follow_tree.result g
 
 pub returns-in-None-clause-goes : goal.returns-in-None-clause-goes

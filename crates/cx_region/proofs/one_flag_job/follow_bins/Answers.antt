@@ -7,14 +7,19 @@ pub bins-preserved : goal.bins-preserved
 bins-preserved c =
     record {
       some = c.in_ok-now.ensures.some;
-      passed = passed-bin bin_number c.args.job.now c.args.followed c.args.bins.now c.bins.bin-index _ c.args.ways.items c.bins.now.items c.in_ok-now.now.items c.bins-test.true c.in_ok-now.ensures.goes c.bins.invariant.passed;
+      passed = passed-bin bin_number c.args.job.now c.args.followed c.args.bins.now c.bins.bin-index
+          _ c.args.ways.items c.bins.now.items c.in_ok-now.now.items c.bins-test.true
+          c.in_ok-now.ensures.goes c.bins.invariant.passed;
     }
 
 pub returns-in_err-now-clause-goes : goal.returns-in_err-now-clause-goes
 returns-in_err-now-clause-goes c =
     let p = err_from_is_err_and c.from_residual.result c.from_residual.ensures.1 in
     rw (p.1, p.2)
-    (stop-bin bin_number c.args.job.now c.args.followed c.args.bins.now c.bins.bin-index _ c.args.ways.items c.bins.now.items c.in_err-now.field-0.0 c.bins-test.true c.in_err-now.ensures.goes c.bins.invariant.passed)
+    (stop-bin bin_number c.args.job.now c.args.followed c.args.bins.now c.bins.bin-index _
+    c.args.ways.items c.bins.now.items c.in_err-now.field-0.0 c.bins-test.true
+    c.in_err-now.ensures.goes c.bins.invariant.passed)
 
 pub returns-clause-goes : goal.returns-clause-goes
-returns-clause-goes c = passed-all_bins bin_number c.args.job.now c.args.followed c.args.bins.now c.bins.bin-index c.args.ways.items c.bins.now c.bins-test.false c.bins.invariant.passed
+returns-clause-goes c = passed-all_bins bin_number c.args.job.now c.args.followed c.args.bins.now
+    c.bins.bin-index c.args.ways.items c.bins.now c.bins-test.false c.bins.invariant.passed

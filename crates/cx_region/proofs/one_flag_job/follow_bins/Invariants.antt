@@ -11,5 +11,7 @@ abbrev pub invariant-bins : goal.invariant-bins
 invariant-bins l =
     record {
       some : 1 ≤ length l.now.items;
-      passed : Passed l.job Settled l.followed (PathOfBins (setup_of l.job) (map bin_number l.bins)) (PathOfBins (setup_of l.job) (map bin_number (drop l.bin-index l.bins))) l.fn.ways.items l.now.items;
+      passed : Passed l.job Settled l.followed (PathOfBins (setup_of l.job) (map bin_number l.bins))
+          (PathOfBins (setup_of l.job) (map bin_number (drop l.bin-index l.bins)))
+          l.fn.ways.items l.now.items;
     }

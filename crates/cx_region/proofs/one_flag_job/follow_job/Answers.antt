@@ -9,8 +9,11 @@ returns-in_err-first c =
 
 pub returns-in_err-follow_all : goal.returns-in_err-follow_all
 returns-in_err-follow_all c =
-    let p = err_from_is_err_and c.from_residual-in_err-follow_all.result c.from_residual-in_err-follow_all.ensures.1 in
-    rw (p.1, p.2) (follows-stop c.args.job.now c.args.followed c.in_ok-first.first.items c.in_err-follow_all.field-0.0 c.in_ok-first.ensures c.in_err-follow_all.ensures)
+    let p = err_from_is_err_and c.from_residual-in_err-follow_all.result
+    c.from_residual-in_err-follow_all.ensures.1 in
+    rw (p.1, p.2) (follows-stop c.args.job.now c.args.followed c.in_ok-first.first.items
+    c.in_err-follow_all.field-0.0 c.in_ok-first.ensures c.in_err-follow_all.ensures)
 
 pub returns : goal.returns
-returns c = follows-ok c.args.job.now c.args.followed c.in_ok-first.first.items c.in_ok-follow_all.field-0.items c.in_ok-first.ensures c.in_ok-follow_all.ensures
+returns c = follows-ok c.args.job.now c.args.followed c.in_ok-first.first.items
+    c.in_ok-follow_all.field-0.items c.in_ok-first.ensures c.in_ok-follow_all.ensures

@@ -7,4 +7,7 @@ use Rattle.cx_region.proofs.one_flag_job.follow_taken.Goals as goal
 
 pub returns-clause-goes : goal.returns-clause-goes
 returns-clause-goes c =
-    goes-behind-letter c.args.job.now c.args.followed c.args.letter (Path (bin (setup_of c.args.job.now) (bin_number c.args.bin))) c.args.ways.now c.in_ok-taken.taken.items c.follow_bin.result c.in_ok-taken.ensures c.follow_bin.ensures.goes
+    goes-behind-letter c.args.job.now c.args.followed c.args.letter
+    (Path (bin (setup_of c.args.job.now) (bin_number c.args.bin)))
+    c.args.ways.now c.in_ok-taken.taken.items c.follow_bin.result c.in_ok-taken.ensures
+    c.follow_bin.ensures.goes

@@ -8,9 +8,12 @@ use Rattle.cx_region.proofs.one_flag_job.is_empty.Goals as goal
 
 pub returns-in-Some-Seq : goal.returns-in-Some-Seq
 returns-in-Some-Seq c =
-    let at : c.in-Some-Seq.field-0.now ≡ bin (setup_of c.args.job.now) (bin_number c.args.bin) = search rules in
-    empty-told (bin (setup_of c.args.job.now) (bin_number c.args.bin)) c.in-Some-Seq.trees c.is_empty.result (sym at ∙ c.in-Some-Seq.field-0-is)
-    (λ e. sym c.in-Some-Seq.trees-is ∙ c.is_empty.ensures.0 e) (λ e. c.is_empty.ensures.1 (c.in-Some-Seq.trees-is ∙ e))
+    let at : c.in-Some-Seq.field-0.now ≡ bin (setup_of c.args.job.now) (bin_number c.args.bin) =
+    search rules in
+    empty-told (bin (setup_of c.args.job.now) (bin_number c.args.bin))
+    c.in-Some-Seq.trees c.is_empty.result (sym at ∙ c.in-Some-Seq.field-0-is)
+    (λ e. sym c.in-Some-Seq.trees-is ∙ c.is_empty.ensures.0 e)
+    (λ e. c.is_empty.ensures.1 (c.in-Some-Seq.trees-is ∙ e))
 
 pub returns-in-None : goal.returns-in-None
 returns-in-None c =

@@ -6,4 +6,5 @@ use Rattle.cx_region.proofs.witnesses.covers_one.Given as goal
 
 abbrev pub invariant-loop-level : goal.invariant-loop-level
 invariant-loop-level l =
-    (k : ℕ) → k < l.level → (flags_in l.way.flags l.followed.variable k l.followed.flag || is_cleared_on l.followed l.ways k) ≡ true
+    (k : ℕ) → k < l.level → (flags_in l.way.flags l.followed.variable k l.followed.flag
+    || is_cleared_on l.followed l.ways k) ≡ true

@@ -9,4 +9,5 @@ returns c =
     let x = c.args.followed in
     let mid = c.keep_all.new.kept.items in
     joins-both x c.args.first.items c.args.second.items mid c.keep_all-2.new.kept.items
-    (subst (λ (ws : List Witness). Joins x ws c.args.first.items mid) c.new-kept.ensures.items c.in_ok-keep_all.ensures) c.in_ok-keep_all-2.ensures
+    (subst (λ (ws : List Witness). Joins x ws c.args.first.items mid)
+    c.new-kept.ensures.items c.in_ok-keep_all.ensures) c.in_ok-keep_all-2.ensures

@@ -19,7 +19,13 @@ pub ways-preserved : goal.ways-preserved
 ways-preserved c =
     let x = c.args.followed in
     let some : 1 ≤ length c.ways.kept.items =
-    omega (arith, c.ways.kept.ok.0, some_of (vec_len c.ways.kept) (sym c.is_empty.ensures ∙ c.if-is_empty.false)) in
+    omega (
+      arith,
+      c.ways.kept.ok.0,
+      some_of (vec_len c.ways.kept) (sym c.is_empty.ensures ∙ c.if-is_empty.false),
+    ) in
     let covers : covers_one x c.ways.kept.items c.in-Some.way ≡ true =
-    sym (ap (λ (ws : List Witness). covers_one x ws c.in-Some.way) c.deref.ensures.value) ∙ sym c.covers_one.ensures ∙ c.if-not-covers_one.false in
-    joins-left x c.args.kept.now.items c.ways.yielded c.ways.kept.items c.in-Some.way some covers c.ways.invariant
+    sym (ap (λ (ws : List Witness). covers_one x ws c.in-Some.way) c.deref.ensures.value)
+    ∙ sym c.covers_one.ensures ∙ c.if-not-covers_one.false in
+    joins-left x c.args.kept.now.items c.ways.yielded c.ways.kept.items c.in-Some.way some covers
+    c.ways.invariant

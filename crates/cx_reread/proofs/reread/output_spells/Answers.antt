@@ -4,5 +4,9 @@ use Rattle.cx_reread.proofs.reread.output_spells.Goals as goal
 pub returns : goal.returns
 returns c = λ rules.
     is_reread c.args.job.now c.requires.whole
-    (record { sections = c.printed.ensures.sections; lines = c.printed.ensures.lines; joined = c.printed.ensures.joined }) rules
+    (record {
+      sections = c.printed.ensures.sections;
+      lines = c.printed.ensures.lines;
+      joined = c.printed.ensures.joined;
+    }) rules
     (c.run_keeps_states.ensures rules)

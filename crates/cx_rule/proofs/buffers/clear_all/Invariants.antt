@@ -4,4 +4,5 @@ use Rattle.cx_rule.proofs.buffers.clear_all.Given as goal
 
 abbrev pub invariant-buffers : goal.invariant-buffers
 invariant-buffers l =
-    l.buffer-items ≡ map no_numbers (take l.buffer-index l.initial.buffer-items) ++ drop l.buffer-index l.initial.buffer-items
+    l.buffer-items ≡ map no_numbers (take l.buffer-index l.initial.buffer-items)
+    ++ drop l.buffer-index l.initial.buffer-items

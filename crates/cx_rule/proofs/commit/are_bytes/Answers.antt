@@ -9,5 +9,8 @@ values-preserved c =
     let k = c.values.value-index in
     let n = get_or values k (pos 0) in
     let fits : SFits w64 n = search rules in
-    let same : c.cast_unsigned-bits.result ≡ of_z w64 n = c.cast_unsigned-bits.ensures ∙ ap (of_z w64) (to_z-of_z w64 n fits) in
-    ap (λ m. ltb (bit_or c.values.bits m) 256) same ∙ bytes_more c.values.bits values k n (pos 0) c.values-test.true refl fits c.values.invariant
+    let same : c.cast_unsigned-bits.result ≡ of_z w64 n =
+    c.cast_unsigned-bits.ensures ∙ ap (of_z w64) (to_z-of_z w64 n fits) in
+    ap (λ m. ltb (bit_or c.values.bits m) 256) same
+    ∙ bytes_more c.values.bits values k n (pos 0)
+    c.values-test.true refl fits c.values.invariant

@@ -11,19 +11,26 @@ use Rattle.cx_rule.proofs.commit.fits_rows.Goals as goal
 pub returns-then-not-fits_row : goal.returns-then-not-fits_row
 returns-then-not-fits_row c =
     let b = c.args.b.now in
-    let test = fits_at b c.args.zone.now c.args.values.now (to_z w64 (of_z w64 c.args.low)) (to_z w64 (of_z w64 c.args.high)) in
-    let below : c.rows.row < row_count b = omega (arith, c.rows-test.true, c.row_count-row-end.ensures) in
-    let step = row_tested b test c.rows.row (row_room (extent b 0) (extent b 1) (extent b 2) c.rows.row below) in
+    let test = fits_at b c.args.zone.now c.args.values.now (to_z w64 (of_z w64 c.args.low))
+    (to_z w64 (of_z w64 c.args.high)) in
+    let below : c.rows.row < row_count b =
+    omega (arith, c.rows-test.true, c.row_count-row-end.ensures) in
+    let step = row_tested b test c.rows.row
+    (row_room (extent b 0) (extent b 1) (extent b 2) c.rows.row below) in
     let one = c.fits_row.ensures in
     let rest = list_all test (rest_of_points b ((c.rows.row + 1) * extent b 0)) in
-    rw (to_z-of_z w64 _ c.ranges.low, to_z-of_z w64 _ c.ranges.high) at (sym (sym c.rows.invariant ∙ step ∙ ap (λ t. t && rest) (sym one ∙ c.if-not-fits_row.true)))
+    rw (to_z-of_z w64 _ c.ranges.low, to_z-of_z w64 _ c.ranges.high) at
+    (sym (sym c.rows.invariant ∙ step ∙ ap (λ t. t && rest) (sym one ∙ c.if-not-fits_row.true)))
 
 pub rows-preserved : goal.rows-preserved
 rows-preserved c =
     let b = c.args.b.now in
-    let test = fits_at b c.args.zone.now c.args.values.now (to_z w64 (of_z w64 c.args.low)) (to_z w64 (of_z w64 c.args.high)) in
-    let below : c.rows.row < row_count b = omega (arith, c.rows-test.true, c.row_count-row-end.ensures) in
-    let step = row_tested b test c.rows.row (row_room (extent b 0) (extent b 1) (extent b 2) c.rows.row below) in
+    let test = fits_at b c.args.zone.now c.args.values.now (to_z w64 (of_z w64 c.args.low))
+    (to_z w64 (of_z w64 c.args.high)) in
+    let below : c.rows.row < row_count b =
+    omega (arith, c.rows-test.true, c.row_count-row-end.ensures) in
+    let step = row_tested b test c.rows.row
+    (row_room (extent b 0) (extent b 1) (extent b 2) c.rows.row below) in
     let one = c.fits_row.ensures in
     let rest = list_all test (rest_of_points b ((c.rows.row + 1) * extent b 0)) in
     sym (ap (λ t. t && rest) (sym one ∙ c.if-not-fits_row.false)) ∙ sym step ∙ c.rows.invariant
@@ -31,6 +38,10 @@ rows-preserved c =
 pub returns : goal.returns
 returns c =
     let b = c.args.b.now in
-    let test = fits_at b c.args.zone.now c.args.values.now (to_z w64 (of_z w64 c.args.low)) (to_z w64 (of_z w64 c.args.high)) in
-    let k : c.rows.row ≡ row_count b = omega (arith, c.rows-test.false, c.rows.auto.row-end, c.row_count-row-end.ensures) in
-    rw (to_z-of_z w64 _ c.ranges.low, to_z-of_z w64 _ c.ranges.high) at (sym (sym c.rows.invariant ∙ tested_none b test (c.rows.row * extent b 0) (rows_all b c.rows.row k)))
+    let test = fits_at b c.args.zone.now c.args.values.now (to_z w64 (of_z w64 c.args.low))
+    (to_z w64 (of_z w64 c.args.high)) in
+    let k : c.rows.row ≡ row_count b =
+    omega (arith, c.rows-test.false, c.rows.auto.row-end, c.row_count-row-end.ensures) in
+    rw (to_z-of_z w64 _ c.ranges.low, to_z-of_z w64 _ c.ranges.high) at
+    (sym (sym c.rows.invariant
+    ∙ tested_none b test (c.rows.row * extent b 0) (rows_all b c.rows.row k)))

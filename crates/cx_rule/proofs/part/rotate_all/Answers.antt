@@ -6,9 +6,12 @@ use Rattle.cx_rule.proofs.part.rotate_all.Goals as goal
 
 pub variables-preserved : goal.variables-preserved
 variables-preserved c =
-    let within : c.variables.levels-index < length c.deref_mut-levels-items.result.now = omega arith in
-    ap (set c.variables.levels-items c.variables.levels-index) (c.rotate.ensures ∙ ap rotated_levels (sym c.levels-item.is))
-    ∙ map_over_more rotated_levels c.deref_mut-levels-items.result.now c.variables.levels-items c.variables.levels-index c.levels-item.result within c.variables.invariant c.levels-item.is
+    let within : c.variables.levels-index < length c.deref_mut-levels-items.result.now =
+    omega arith in
+    ap (set c.variables.levels-items c.variables.levels-index)
+    (c.rotate.ensures ∙ ap rotated_levels (sym c.levels-item.is))
+    ∙ map_over_more rotated_levels c.deref_mut-levels-items.result.now c.variables.levels-items
+    c.variables.levels-index c.levels-item.result within c.variables.invariant c.levels-item.is
 
 pub returns : goal.returns
 returns c = grind (arith, common_steps)

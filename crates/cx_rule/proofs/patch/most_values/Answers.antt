@@ -6,5 +6,7 @@ use Rattle.cx_rule.proofs.patch.most_values.Goals as goal
 pub items-preserved : goal.items-preserved
 items-preserved c =
     let h : c.items.item-index < length c.args.items.now = search rules in
-    let e = rw (← c.item-item.is) at (capped_next (value_count c.args.dims) c.args.items.now c.items.item-index c.item-item.result h) in
+    let e = rw (← c.item-item.is) at
+    (capped_next (value_count c.args.dims)
+    c.args.items.now c.items.item-index c.item-item.result h) in
     c.larger-most.ensures ∙ rw (c.items.invariant, c.values.ensures, c.as_slice.ensures) (sym e)

@@ -6,7 +6,8 @@ use Rattle.cx_rule.proofs.rows.stage_runs.Given as goal
 
 abbrev pub invariant-runs : goal.invariant-runs
 invariant-runs g l =
-    IsWalked l.initial.patch g.R.PointRule.law l.item l.iteration l.zone.all l.at l.low l.patch l.initial.meter l.meter
+    IsWalked l.initial.patch g.R.PointRule.law l.item l.iteration l.zone.all l.at l.low l.patch
+    l.initial.meter l.meter
 
 abbrev pub decreases-runs : goal.decreases-runs
 decreases-runs g l = point_count l.zone.all - l.at

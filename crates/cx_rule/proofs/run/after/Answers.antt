@@ -13,7 +13,8 @@ returns-then-x-b c =
     let x = rw (to_z-of_z px) at c.moved-x.ensures in
     let l = rw (to_z-of_z rx, to_z-of_z hx) at c.if-x-b.true in
     rw (to_z-of_z rx, to_z-of_z py, to_z-of_z pz, x)
-    (after_x c.args.b.now c.args.p c.args.count c.requires.inside c.requires.some c.requires.row (omega (arith, ints, l, x)))
+    (after_x c.args.b.now c.args.p c.args.count c.requires.inside c.requires.some c.requires.row
+    (omega (arith, ints, l, x)))
 
 pub returns-then-y-b : goal.returns-then-y-b
 returns-then-y-b c =
@@ -29,9 +30,11 @@ returns-then-y-b c =
     let y = rw (to_z-of_z py) at c.next_up-y.ensures in
     let over = rw (to_z-of_z rx, to_z-of_z hx) at c.if-x-b.false in
     let l = rw (to_z-of_z ry, to_z-of_z hy) at c.if-y-b.true in
-    let ends : c.args.b.now.high.x ≡ (c.args.p.x +ℤ pos c.args.count) = omega (arith, ints, over, x, c.requires.row) in
+    let ends : c.args.b.now.high.x ≡ (c.args.p.x +ℤ pos c.args.count) =
+    omega (arith, ints, over, x, c.requires.row) in
     rw (to_z-of_z lx, to_z-of_z ry, to_z-of_z pz, y)
-    (after_y c.args.b.now c.args.p c.args.count c.requires.inside c.requires.some c.requires.row ends (omega (arith, ints, l, y)))
+    (after_y c.args.b.now c.args.p c.args.count c.requires.inside c.requires.some c.requires.row
+    ends (omega (arith, ints, l, y)))
 
 pub returns : goal.returns
 returns c =
@@ -50,7 +53,10 @@ returns c =
     let z = rw (to_z-of_z pz) at c.next_up.ensures in
     let over = rw (to_z-of_z rx, to_z-of_z hx) at c.if-x-b.false in
     let above = rw (to_z-of_z ry, to_z-of_z hy) at c.if-y-b.false in
-    let ends : c.args.b.now.high.x ≡ (c.args.p.x +ℤ pos c.args.count) = omega (arith, ints, over, x, c.requires.row) in
-    let top : c.args.b.now.high.y ≡ (c.args.p.y +ℤ pos 1) = omega (arith, ints, above, y, c.requires.inside.y.below) in
+    let ends : c.args.b.now.high.x ≡ (c.args.p.x +ℤ pos c.args.count) =
+    omega (arith, ints, over, x, c.requires.row) in
+    let top : c.args.b.now.high.y ≡ (c.args.p.y +ℤ pos 1) =
+    omega (arith, ints, above, y, c.requires.inside.y.below) in
     rw (to_z-of_z lx, to_z-of_z ly, to_z-of_z rz, z)
-    (after_z c.args.b.now c.args.p c.args.count c.requires.inside c.requires.some c.requires.row ends top)
+    (after_z c.args.b.now c.args.p c.args.count c.requires.inside c.requires.some c.requires.row
+    ends top)

@@ -24,7 +24,8 @@ returns-clause-some c =
     let rx : SFits w32 c.lesser.result = search rules in
     let least = rw (to_z-of_z nx, to_z-of_z gx, to_z-of_z bx, to_z-of_z ex) at c.lesser.ensures in
     let cx : SFits w32 c.args.c = search rules in
-    let before = rw (to_z-of_z nx, to_z-of_z gx, to_z-of_z bx, to_z-of_z cx) at c.if-behind-c.false in
+    let before = rw (to_z-of_z nx, to_z-of_z gx, to_z-of_z bx, to_z-of_z cx)
+    at c.if-behind-c.false in
     rw (to_z-of_z rx) (omega (arith, ints, clamps, least, before, c.requires.some))
 
 pub returns-clause-most : goal.returns-clause-most
@@ -47,4 +48,5 @@ returns-clause-along c = λ i l.
     let least = rw (to_z-of_z nx, to_z-of_z gx, to_z-of_z bx, to_z-of_z ex) at c.lesser.ensures in
     let cx : SFits w32 c.args.c = search rules in
     let from = rw (to_z-of_z gx, to_z-of_z cx) at c.if-c-ghosts.false in
-    inner_along c.args.n c.args.ghosts c.args.c c.lesser.result i (omega (arith, ints, from)) (omega (arith, ints, clamps, least)) (rw (to_z-of_z rx) at l)
+    inner_along c.args.n c.args.ghosts c.args.c c.lesser.result i (omega (arith, ints, from))
+    (omega (arith, ints, clamps, least)) (rw (to_z-of_z rx) at l)

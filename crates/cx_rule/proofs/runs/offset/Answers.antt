@@ -11,4 +11,5 @@ returns c =
     let n : SFits w32 c.min.result = search rules in
     let a = rw (to_z-of_z w32 _ c.ranges.c, to_z-of_z w32 _ x) at c.max.ensures.value in
     let b = rw (to_z-of_z w32 _ m, to_z-of_z w32 _ y, a) at c.min.ensures.value in
-    offset_is c.args.b.now c.args.c c.gap.result c.requires.x (rw (to_z-of_z w32 _ x, to_z-of_z w32 _ n, b) at c.gap.ensures)
+    offset_is c.args.b.now c.args.c c.gap.result c.requires.x
+    (rw (to_z-of_z w32 _ x, to_z-of_z w32 _ n, b) at c.gap.ensures)

@@ -4,7 +4,9 @@ use Rattle.cx_rule.proofs.RunLaws.{row_room}
 use Rattle.cx_rule.proofs.runs.row_start.Goals as goal
 
 pub returns-clause-room : goal.returns-clause-room
-returns-clause-room c = rw c.width.ensures (row_room (extent c.args.b.now 0) (extent c.args.b.now 1) (extent c.args.b.now 2) c.args.row c.requires.row)
+returns-clause-room c = rw c.width.ensures
+    (row_room (extent c.args.b.now 0) (extent c.args.b.now 1) (extent c.args.b.now 2)
+    c.args.row c.requires.row)
 
 pub returns-clause-first : goal.returns-clause-first
 returns-clause-first c = rw c.width.ensures (mul-mod_left c.args.row (extent c.args.b.now 0))

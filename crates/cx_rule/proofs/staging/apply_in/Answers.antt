@@ -7,4 +7,5 @@ pub returns-clause-sizes : goal.returns-clause-sizes
 returns-clause-sizes g c =
     map-set_same length c.args.all.now.items c.args.count c.apply.new.out []
     (c.apply.ensures.room ∙ ap length c.index_mut-cells.ensures.value
-    ∙ ap length (get_or_default c.args.all.now.items c.args.count c.index_mut-cells.result.now [] c.requires.count))
+    ∙ ap length (get_or_default c.args.all.now.items c.args.count c.index_mut-cells.result.now []
+    c.requires.count))

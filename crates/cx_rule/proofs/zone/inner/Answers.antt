@@ -21,4 +21,29 @@ returns c =
     let hz : SFits w32 c.args.b.now.high.z = search rules in
     let rz : SFits w32 c.inner_low-3.result = search rules in
     let sz : SFits w32 c.inner_high-3.result = search rules in
-    rw (to_z-of_z rx, to_z-of_z sx, to_z-of_z ry, to_z-of_z sy, to_z-of_z rz, to_z-of_z sz, c.inner_low.ensures, c.inner_high.ensures, c.inner_low-2.ensures, c.inner_high-2.ensures, c.inner_low-3.ensures, c.inner_high-3.ensures, to_z-of_z gx, to_z-of_z nx, to_z-of_z lx, to_z-of_z hx, to_z-of_z gy, to_z-of_z ny, to_z-of_z ly, to_z-of_z hy, to_z-of_z gz, to_z-of_z nz, to_z-of_z lz, to_z-of_z hz) refl
+    rw (
+      to_z-of_z rx,
+      to_z-of_z sx,
+      to_z-of_z ry,
+      to_z-of_z sy,
+      to_z-of_z rz,
+      to_z-of_z sz,
+      c.inner_low.ensures,
+      c.inner_high.ensures,
+      c.inner_low-2.ensures,
+      c.inner_high-2.ensures,
+      c.inner_low-3.ensures,
+      c.inner_high-3.ensures,
+      to_z-of_z gx,
+      to_z-of_z nx,
+      to_z-of_z lx,
+      to_z-of_z hx,
+      to_z-of_z gy,
+      to_z-of_z ny,
+      to_z-of_z ly,
+      to_z-of_z hy,
+      to_z-of_z gz,
+      to_z-of_z nz,
+      to_z-of_z lz,
+      to_z-of_z hz,
+    ) refl

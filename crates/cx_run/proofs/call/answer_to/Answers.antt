@@ -6,10 +6,14 @@ use Rattle.cx_run.proofs.call.answer_to.Goals as goal
 
 pub returns-in-Ok-clause-explained : goal.returns-in-Ok-clause-explained
 returns-in-Ok-clause-explained g c =
-    asked.with_job _ (request c.in-Some.command c.in-Some.file.now c.in-Some.seed) c.in-Ok.job c.done.result (sym c.in-Some.ensures) c.in-Ok.ensures.spared c.in-Ok.ensures.made c.in-Ok.ensures.ready
+    asked.with_job _ (request c.in-Some.command c.in-Some.file.now c.in-Some.seed)
+    c.in-Ok.job c.done.result (sym c.in-Some.ensures)
+    c.in-Ok.ensures.spared c.in-Ok.ensures.made c.in-Ok.ensures.ready
     c.done.ensures.comes
 
 pub returns-in-Err-clause-explained : goal.returns-in-Err-clause-explained
 returns-in-Err-clause-explained g c =
-    asked.with_fault _ (request c.in-Some.command c.in-Some.file.now c.in-Some.seed) c.in-Err.fault c.answer_of.result (sym c.in-Some.ensures) c.in-Err.ensures.spared c.in-Err.ensures.made c.answer_of.ensures
+    asked.with_fault _ (request c.in-Some.command c.in-Some.file.now c.in-Some.seed)
+    c.in-Err.fault c.answer_of.result (sym c.in-Some.ensures)
+    c.in-Err.ensures.spared c.in-Err.ensures.made c.answer_of.ensures
     (record { disk = refl; quiet = λ told. quiet_at_start _; wire = refl; meter = refl })

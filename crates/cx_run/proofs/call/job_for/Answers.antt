@@ -14,7 +14,10 @@ returns-in_err-name-clause-made g c =
       same = c.args.shelf.now ≡ c.args.shelf.now;
       old = now;
       new = now;
-      faults = record { old = g.H.Shelf.faults c.args.shelf.now; new = g.H.Shelf.faults c.args.shelf.now };
+      faults = record {
+        old = g.H.Shelf.faults c.args.shelf.now;
+        new = g.H.Shelf.faults c.args.shelf.now;
+      };
     } in
     rw (p.1, p.2) (wanting_for lent c.args.command c.args.file.now _ refl (omega arith))
 
@@ -26,13 +29,17 @@ returns-in_err-name-clause-spared g c =
       same = c.args.shelf.now ≡ c.args.shelf.now;
       old = now;
       new = now;
-      faults = record { old = g.H.Shelf.faults c.args.shelf.now; new = g.H.Shelf.faults c.args.shelf.now };
+      faults = record {
+        old = g.H.Shelf.faults c.args.shelf.now;
+        new = g.H.Shelf.faults c.args.shelf.now;
+      };
     } in
     spares_shelf lent c.args.command refl
 
 pub returns-in-Some-clause-made : goal.returns-in-Some-clause-made
 returns-in-Some-clause-made g c =
-    made_on _ c.args.command (c.in-Some.seed, c.in-Some.size) _ c.args.file.now _ c.made_job.result (sym c.in-Some.ensures) c.in_ok-name.ensures c.made_job.ensures.made
+    made_on _ c.args.command (c.in-Some.seed, c.in-Some.size) _ c.args.file.now _ c.made_job.result
+    (sym c.in-Some.ensures) c.in_ok-name.ensures c.made_job.ensures.made
 
 pub returns-in-Some-clause-spared : goal.returns-in-Some-clause-spared
 returns-in-Some-clause-spared g c =
@@ -42,13 +49,17 @@ returns-in-Some-clause-spared g c =
       same = c.args.shelf.now ≡ c.args.shelf.now;
       old = now;
       new = now;
-      faults = record { old = g.H.Shelf.faults c.args.shelf.now; new = g.H.Shelf.faults c.args.shelf.now };
+      faults = record {
+        old = g.H.Shelf.faults c.args.shelf.now;
+        new = g.H.Shelf.faults c.args.shelf.now;
+      };
     } in
     spares_shelf lent c.args.command refl
 
 pub returns-clause-made : goal.returns-clause-made
 returns-clause-made g c =
-    lent_on _ c.args.command _ c.args.file.now _ c.make_job.result (sym c.in-None.ensures) c.in_ok-name.ensures c.make_job.ensures.made
+    lent_on _ c.args.command _ c.args.file.now _ c.make_job.result (sym c.in-None.ensures)
+    c.in_ok-name.ensures c.make_job.ensures.made
 
 pub returns-clause-spared : goal.returns-clause-spared
 returns-clause-spared g c =
@@ -57,9 +68,14 @@ returns-clause-spared g c =
       same = c.make_job.new.shelf ≡ c.args.shelf.now;
       old = g.H.Shelf.held c.args.shelf.now;
       new = g.H.Shelf.held c.make_job.new.shelf;
-      faults = record { old = g.H.Shelf.faults c.args.shelf.now; new = g.H.Shelf.faults c.make_job.new.shelf };
+      faults = record {
+        old = g.H.Shelf.faults c.args.shelf.now;
+        new = g.H.Shelf.faults c.make_job.new.shelf;
+      };
     } in
     lent_spared lent c.args.command (sym c.in-None.ensures)
 
 pub returns-clause-ready : goal.returns-clause-ready
-returns-clause-ready g c = ready_of _ c.make_job.result c.make_job.ensures.whole c.make_job.ensures.sound c.make_job.ensures.cut c.make_job.ensures.fit c.make_job.ensures.few_cells
+returns-clause-ready g c =
+    ready_of _ c.make_job.result c.make_job.ensures.whole c.make_job.ensures.sound
+    c.make_job.ensures.cut c.make_job.ensures.fit c.make_job.ensures.few_cells

@@ -5,4 +5,5 @@ use Rattle.cx_run.proofs.cut_texts.push_cut_lines.Goals as goal
 
 pub directions-preserved : goal.directions-preserved
 directions-preserved c =
-    one_number_more (cut_line (parts_of c.args.job.now.shape c.args.job.now.cut)) c.args.text.now c.directions.direction c.directions.invariant c.in_ok-push_cut_line.ensures
+    one_number_more (cut_line (parts_of c.args.job.now.shape c.args.job.now.cut))
+    c.args.text.now c.directions.direction c.directions.invariant c.in_ok-push_cut_line.ensures

@@ -5,5 +5,7 @@ use Rattle.cx_run.proofs.cut_texts.push_point.Goals as goal
 
 pub directions-preserved : goal.directions-preserved
 directions-preserved c =
-    one_number_more (coordinate_text c.args.p) c.args.text.now c.directions.direction c.directions.invariant
-    (c.in_ok-push_number.ensures ∙ ap (λ n. c.directions.text ++ number_text n) (c.from.ensures ∙ c.coordinate.ensures))
+    one_number_more (coordinate_text c.args.p)
+    c.args.text.now c.directions.direction c.directions.invariant
+    (c.in_ok-push_number.ensures
+    ∙ ap (λ n. c.directions.text ++ number_text n) (c.from.ensures ∙ c.coordinate.ensures))

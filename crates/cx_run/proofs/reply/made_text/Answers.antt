@@ -7,6 +7,10 @@ use Rattle.cx_run.proofs.reply.made_text.Goals as goal
 
 pub returns : goal.returns
 returns c =
-    let same : to_z w64 (of_z w64 c.args.live) ≡ c.args.live = to_z-of_z w64 c.args.live c.ranges.live in
-    joined _ _ _ (done_text c.args.iteration) (summary c.args.seed c.args.size c.args.output c.args.live) c.in_ok-push_slice.ensures.ok c.in_ok-text.ensures
-    (c.as_slice.ensures ∙ c.in_ok-line.ensures ∙ ap (λ (n : ℤ). summary c.args.seed c.args.size c.args.output n) same)
+    let same : to_z w64 (of_z w64 c.args.live) ≡ c.args.live =
+    to_z-of_z w64 c.args.live c.ranges.live in
+    joined _ _ _ (done_text c.args.iteration)
+    (summary c.args.seed c.args.size c.args.output c.args.live)
+    c.in_ok-push_slice.ensures.ok c.in_ok-text.ensures
+    (c.as_slice.ensures ∙ c.in_ok-line.ensures
+    ∙ ap (λ (n : ℤ). summary c.args.seed c.args.size c.args.output n) same)

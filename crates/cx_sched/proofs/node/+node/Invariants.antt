@@ -28,7 +28,8 @@ decreases-body l = 8 * length l.reader.now.rest.now + 3
 
 abbrev pub invariant-nodes-nodes : goal.invariant-nodes-nodes
 invariant-nodes-nodes l = record {
-  so_far : SoFar is_node (node (body l.depth)) l.read l.reader.rest.now ((loop is_node (node (body l.depth)) l.fn.read).reads l.fn.reader.rest.now);
+  so_far : SoFar is_node (node (body l.depth)) l.read l.reader.rest.now
+      ((loop is_node (node (body l.depth)) l.fn.read).reads l.fn.reader.rest.now);
   fewer : length l.reader.rest.now ≤ length l.fn.reader.rest.now;
 }
 

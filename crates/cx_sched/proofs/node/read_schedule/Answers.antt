@@ -4,8 +4,14 @@ use Rattle.cx_sched.proofs.node.read_schedule.Goals as goal
 
 pub returns-clause-answers : goal.returns-clause-answers
 returns-clause-answers c =
-    rw (c.finish.ensures, c.as_slice-tokens.ensures) (answers file_good file_end (λ x. x) c.args.tokens.now c.whole-answer.new.reader.rest.now c.whole-answer.result (rw (← c.as_slice-tokens.ensures, ← c.new-reader.ensures) c.whole-answer.ensures))
+    rw (c.finish.ensures, c.as_slice-tokens.ensures)
+    (answers file_good file_end (λ x. x)
+    c.args.tokens.now c.whole-answer.new.reader.rest.now c.whole-answer.result
+    (rw (← c.as_slice-tokens.ensures, ← c.new-reader.ensures) c.whole-answer.ensures))
 
 pub returns-clause-only : goal.returns-clause-only
 returns-clause-only c =
-    rw (c.finish.ensures, c.as_slice-tokens.ensures) (answers_only file_good file_end (λ x. x) c.args.tokens.now c.whole-answer.new.reader.rest.now c.whole-answer.result (rw (← c.as_slice-tokens.ensures, ← c.new-reader.ensures) c.whole-answer.ensures))
+    rw (c.finish.ensures, c.as_slice-tokens.ensures)
+    (answers_only file_good file_end (λ x. x)
+    c.args.tokens.now c.whole-answer.new.reader.rest.now c.whole-answer.result
+    (rw (← c.as_slice-tokens.ensures, ← c.new-reader.ensures) c.whole-answer.ensures))

@@ -8,5 +8,7 @@ use Rattle.cx_sched.proofs.printer.print_schedule.Goals as goal
 
 pub returns-clause-again : goal.returns-clause-again
 returns-clause-again c =
-    let text : c.in_ok-text.text ≡ printed (file_tokens c.args.file.now) = c.in_ok-text.ensures ∙ ap printed c.in_ok-tokens.ensures in
-    subst (λ (bytes : List ℕ). TextSpells Ccl schedule.derives bytes c.args.file.now) (sym text) (printed_text c.args.file.now c.requires)
+    let text : c.in_ok-text.text ≡ printed (file_tokens c.args.file.now) =
+    c.in_ok-text.ensures ∙ ap printed c.in_ok-tokens.ensures in
+    subst (λ (bytes : List ℕ). TextSpells Ccl schedule.derives bytes c.args.file.now) (sym text)
+    (printed_text c.args.file.now c.requires)

@@ -6,13 +6,16 @@ pub groups-init : goal.groups-init
 groups-init c = begun
 
 pub groups-preserved : goal.groups-preserved
-groups-preserved c = turned more_stores_short c.groups.invariant c.at_word.ensures c.groups-test.true c.in_ok-more_stores.ensures
+groups-preserved c = turned more_stores_short c.groups.invariant c.at_word.ensures
+    c.groups-test.true c.in_ok-more_stores.ensures
 
 pub groups-smaller : goal.groups-smaller
 groups-smaller c = fewer more_stores_short c.in_ok-more_stores.ensures
 
 pub returns-in_err-more_stores : goal.returns-in_err-more_stores
-returns-in_err-more_stores c = stopped _ _ _ _ more_stores_short c.groups.invariant c.at_word.ensures c.groups-test.true c.in_err-more_stores.ensures c.from_residual.ensures.1
+returns-in_err-more_stores c =
+    stopped _ _ _ _ more_stores_short c.groups.invariant c.at_word.ensures c.groups-test.true
+    c.in_err-more_stores.ensures c.from_residual.ensures.1
 
 pub returns : goal.returns
 returns c = ended_at more_stores_short c.groups.invariant c.at_word.ensures c.groups-test.false

@@ -8,5 +8,12 @@ pub returns : goal.returns
 returns c =
     let all : length c.args.thorns.now ≤ c.thorns.thorn-index = omega arith in
     c.in_ok-push_copy-4.ensures
-    ∙ ap (λ names. names ++ codes "IO" ∷ []) (c.in_ok-push_copy-3.ensures ∙ ap (λ names. names ++ codes "driver" ∷ []) (c.in_ok-push_copy-2.ensures ∙ ap (λ names. names ++ codes "Cactus" ∷ []) (c.thorns.invariant ∙ ap (λ ts. map (λ (t : Thorn). t.interface.implements) ts) (take_all c.thorns.thorn-index c.args.thorns.now all))))
-    ∙ three_more (map (λ (t : Thorn). t.interface.implements) c.args.thorns.now) (codes "Cactus") (codes "driver") (codes "IO")
+    ∙ ap (λ names. names ++ codes "IO" ∷ [])
+    (c.in_ok-push_copy-3.ensures
+    ∙ ap (λ names. names ++ codes "driver" ∷ [])
+    (c.in_ok-push_copy-2.ensures
+    ∙ ap (λ names. names ++ codes "Cactus" ∷ [])
+    (c.thorns.invariant ∙ ap (λ ts. map (λ (t : Thorn). t.interface.implements) ts)
+    (take_all c.thorns.thorn-index c.args.thorns.now all))))
+    ∙ three_more (map (λ (t : Thorn). t.interface.implements) c.args.thorns.now) (codes "Cactus")
+    (codes "driver") (codes "IO")

@@ -5,7 +5,11 @@ use Rattle.cx_scope.proofs.names.push_variables.Goals as goal
 
 pub groups-preserved : goal.groups-preserved
 groups-preserved c =
-    one_flat (variables_in (c.args.number, c.args.thorn.now)) c.args.named.now c.args.groups.now c.groups.place c.index-groups-place.result c.groups-test.true c.index-groups-place.is c.groups.invariant refl c.in_ok-push_variables_in.ensures
+    one_flat (variables_in (c.args.number, c.args.thorn.now))
+    c.args.named.now c.args.groups.now c.groups.place c.index-groups-place.result
+    c.groups-test.true c.index-groups-place.is c.groups.invariant refl
+    c.in_ok-push_variables_in.ensures
 
 pub returns : goal.returns
-returns c = all_flat (variables_in (c.args.number, c.args.thorn.now)) c.args.named.now c.args.groups.now c.groups.place (omega arith) c.groups.invariant
+returns c = all_flat (variables_in (c.args.number, c.args.thorn.now))
+    c.args.named.now c.args.groups.now c.groups.place (omega arith) c.groups.invariant

@@ -9,5 +9,10 @@ use Rattle.cx_scope.proofs.scope.group_of.Goals as goal
 
 pub returns : goal.returns
 returns c =
-    let A : List Thorn → Type 0 = λ ts. Answers Memory (group_of ts (sight_in c.in_ok-scope.scope) c.args.thorn c.args.name.now) c.group_of.result in
-    by_sight c.args.bound.now (λ sight. group_of c.args.bound.now sight c.args.thorn c.args.name.now) (sight_in c.in_ok-scope.scope) c.group_of.result c.in_ok-scope.ensures.tells (subst A c.in_ok-scope.ensures.thorns c.group_of.ensures)
+    let A : List Thorn → Type 0 =
+    λ ts. Answers Memory (group_of ts (sight_in c.in_ok-scope.scope)
+    c.args.thorn c.args.name.now) c.group_of.result in
+    by_sight c.args.bound.now
+    (λ sight. group_of c.args.bound.now sight c.args.thorn c.args.name.now)
+    (sight_in c.in_ok-scope.scope) c.group_of.result c.in_ok-scope.ensures.tells
+    (subst A c.in_ok-scope.ensures.thorns c.group_of.ensures)

@@ -9,5 +9,10 @@ use Rattle.cx_scope.proofs.scope.resolve.Goals as goal
 
 pub returns : goal.returns
 returns c =
-    let A : List Thorn → Type 0 = λ ts. Answers Memory (resolve ts (sight_in c.in_ok-scope.scope) c.args.storage.now c.args.thorn c.args.name.now) c.resolve.result in
-    by_sight c.args.bound.now (λ sight. resolve c.args.bound.now sight c.args.storage.now c.args.thorn c.args.name.now) (sight_in c.in_ok-scope.scope) c.resolve.result c.in_ok-scope.ensures.tells (subst A c.in_ok-scope.ensures.thorns c.resolve.ensures)
+    let A : List Thorn → Type 0 =
+    λ ts. Answers Memory (resolve ts (sight_in c.in_ok-scope.scope)
+    c.args.storage.now c.args.thorn c.args.name.now) c.resolve.result in
+    by_sight c.args.bound.now
+    (λ sight. resolve c.args.bound.now sight c.args.storage.now c.args.thorn c.args.name.now)
+    (sight_in c.in_ok-scope.scope) c.resolve.result c.in_ok-scope.ensures.tells
+    (subst A c.in_ok-scope.ensures.thorns c.resolve.ensures)

@@ -6,18 +6,31 @@ use Rattle.cx_scope.proofs.sought.find_variable.Goals as goal
 pub levels-init : goal.levels-init
 levels-init c = record {
   left =
-      (let L : List ℕ → Type 0 = λ base. Left (sight_of c.args.tables.now) c.args.thorn c.args.tiers.now c.args.tables.now.variables c.args.name.now 0 base in
-      subst L (sym c.as_slice-base.ensures) (begins (sight_of c.args.tables.now) c.args.thorn c.args.tiers.now c.args.tables.now.variables c.args.name.now));
+      (let L : List ℕ → Type 0 =
+      λ base. Left (sight_of c.args.tables.now)
+      c.args.thorn c.args.tiers.now c.args.tables.now.variables c.args.name.now 0 base in
+      subst L (sym c.as_slice-base.ensures)
+      (begins (sight_of c.args.tables.now)
+      c.args.thorn c.args.tiers.now c.args.tables.now.variables c.args.name.now));
   within = (let same = ap length c.as_slice-base.ensures in omega (arith, same));
 }
 
 pub returns-in-None : goal.returns-in-None
 returns-in-None c =
-    sym (ends_empty (sight_of c.args.tables.now) c.args.thorn c.args.tiers.now c.args.tables.now.variables c.args.name.now c.levels.level c.levels.base.now c.levels.invariant.left (sym c.variable_at.ensures ∙ c.in_default.is) (sym c.in-None.ensures))
+    sym (ends_empty (sight_of c.args.tables.now)
+    c.args.thorn c.args.tiers.now c.args.tables.now.variables c.args.name.now c.levels.level
+    c.levels.base.now c.levels.invariant.left (sym c.variable_at.ensures ∙ c.in_default.is)
+    (sym c.in-None.ensures))
 
 pub levels-preserved : goal.levels-preserved
 levels-preserved c = record {
-  left = goes_on (sight_of c.args.tables.now) c.args.thorn c.args.tiers.now c.args.tables.now.variables c.args.name.now c.levels.level c.levels.base.now c.in-Some-without_suffix.shorter.now c.levels.invariant.left (sym c.variable_at.ensures ∙ c.in_default.is) (sym c.in-Some-without_suffix.ensures);
-  within = (let less = gets_shorter (sight_of c.args.tables.now) c.args.thorn c.args.tiers.now c.args.tables.now.variables c.args.name.now c.levels.base.now c.in-Some-without_suffix.shorter.now (sym c.in-Some-without_suffix.ensures) in
+  left = goes_on (sight_of c.args.tables.now)
+      c.args.thorn c.args.tiers.now c.args.tables.now.variables c.args.name.now c.levels.level
+      c.levels.base.now c.in-Some-without_suffix.shorter.now c.levels.invariant.left
+      (sym c.variable_at.ensures ∙ c.in_default.is) (sym c.in-Some-without_suffix.ensures);
+  within =
+      (let less = gets_shorter (sight_of c.args.tables.now)
+      c.args.thorn c.args.tiers.now c.args.tables.now.variables c.args.name.now c.levels.base.now
+      c.in-Some-without_suffix.shorter.now (sym c.in-Some-without_suffix.ensures) in
       let before = c.levels.invariant.within in omega (arith, less, before));
 }

@@ -12,7 +12,8 @@ returns-then-is_at c =
     let n = λ (g : NamedGroup). same_name c.args.name.now.name g.name in
     let at : Option ℕ → Type 0 = λ next. Ahead p n c.args.tables.now.groups next in
     let is = c.is_at.ensures in
-    meets p n (has_its_name c.args.tables.now c.args.thorn c.args.tier c.args.name.now) c.args.tables.now.groups c.in-Some.place (subst at c.in-Some.is c.same.invariant)
+    meets p n (has_its_name c.args.tables.now c.args.thorn c.args.tier c.args.name.now)
+    c.args.tables.now.groups c.in-Some.place (subst at c.in-Some.is c.same.invariant)
     (at_place p (slice_get c.args.tables.now.groups c.in-Some.place) _ _ is c.if-is_at.true)
 
 pub same-smaller : goal.same-smaller
@@ -20,9 +21,13 @@ same-smaller c =
     let p = has_group c.args.tables.now c.args.thorn c.args.tier c.args.name.now in
     let n = λ (g : NamedGroup). same_name c.args.name.now.name g.name in
     let at : Option ℕ → Type 0 = λ next. Ahead p n c.args.tables.now.groups next in
-    let nearer_than : Option ℕ → Type 0 = λ next. left n c.args.tables.now.groups c.next-next.result < left n c.args.tables.now.groups next in
+    let nearer_than : Option ℕ
+    → Type 0 = λ next. left n c.args.tables.now.groups c.next-next.result
+    < left n c.args.tables.now.groups next in
     subst nearer_than (sym c.in-Some.is)
-    (nearer p n (has_its_name c.args.tables.now c.args.thorn c.args.tier c.args.name.now) c.args.tables.now.groups c.in-Some.place c.next-next.result (subst at c.in-Some.is c.same.invariant)
+    (nearer p n (has_its_name c.args.tables.now c.args.thorn c.args.tier c.args.name.now)
+    c.args.tables.now.groups c.in-Some.place c.next-next.result
+    (subst at c.in-Some.is c.same.invariant)
     (λ g got same. same_next c.args.name.now.name g.name _ _ _ same (c.next-next.ensures g got)))
 
 pub same-preserved : goal.same-preserved
@@ -31,7 +36,9 @@ same-preserved c =
     let n = λ (g : NamedGroup). same_name c.args.name.now.name g.name in
     let at : Option ℕ → Type 0 = λ next. Ahead p n c.args.tables.now.groups next in
     let is = c.is_at.ensures in
-    goes_on p n (has_its_name c.args.tables.now c.args.thorn c.args.tier c.args.name.now) c.args.tables.now.groups c.in-Some.place c.next-next.result (subst at c.in-Some.is c.same.invariant)
+    goes_on p n (has_its_name c.args.tables.now c.args.thorn c.args.tier c.args.name.now)
+    c.args.tables.now.groups c.in-Some.place c.next-next.result
+    (subst at c.in-Some.is c.same.invariant)
     (at_place p (slice_get c.args.tables.now.groups c.in-Some.place) _ _ is c.if-is_at.false)
     (λ g got same. same_next c.args.name.now.name g.name _ _ _ same (c.next-next.ensures g got))
 
@@ -40,4 +47,5 @@ returns c =
     let p = has_group c.args.tables.now c.args.thorn c.args.tier c.args.name.now in
     let n = λ (g : NamedGroup). same_name c.args.name.now.name g.name in
     let at : Option ℕ → Type 0 = λ next. Ahead p n c.args.tables.now.groups next in
-    ends p n (has_its_name c.args.tables.now c.args.thorn c.args.tier c.args.name.now) c.args.tables.now.groups (subst at c.in_default.is c.same.invariant)
+    ends p n (has_its_name c.args.tables.now c.args.thorn c.args.tier c.args.name.now)
+    c.args.tables.now.groups (subst at c.in_default.is c.same.invariant)

@@ -7,7 +7,8 @@ grows : (n : ℕ) (bs : List ℕ) → n ≤ decimal_from n bs
 grows n [] = omega arith
 grows n (b ∷ bs) = let h = grows (n * 10 + (b - 48)) bs in omega (arith, h)
 
-at : (n : ℕ) (ds : List ℕ) (i : ℕ) → i < length ds → decimal_from n (drop i ds) ≡ decimal_from (n * 10 + (get_or ds i 0 - 48)) (drop (i + 1) ds)
+at : (n : ℕ) (ds : List ℕ) (i : ℕ) → i < length ds
+    → decimal_from n (drop i ds) ≡ decimal_from (n * 10 + (get_or ds i 0 - 48)) (drop (i + 1) ds)
 at n ds i lt = rw (add-one, drop-cons ds i 0) refl
 
 pub returns-then-digit-high : goal.returns-then-digit-high
@@ -20,4 +21,10 @@ returns-then-digit-high c =
     let same = c.loop-byte.invariant.0 in
     let d = c.from-digit.ensures in
     let k = c.saturating_sub.ensures in
-    elim c.then-digit-high.branch [ then-digit-high-via-then-digit-high w ↦ let t = w.if-digit-high in omega (arith, e, h, same, d, k, t) | then-digit-high-via-else-digit-high+then-value-high w ↦ let t = w.if-digit-high in let v = w.if-value-high in omega (arith, e, h, same, d, k, t, v) ]
+    elim c.then-digit-high.branch [
+      | then-digit-high-via-then-digit-high w ↦ let t = w.if-digit-high in
+          omega (arith, e, h, same, d, k, t)
+      | then-digit-high-via-else-digit-high+then-value-high w
+          ↦ let t = w.if-digit-high in let v = w.if-value-high in
+          omega (arith, e, h, same, d, k, t, v)
+    ]

@@ -6,7 +6,8 @@ pub returns-then-bytes-gt-MAX_TEXT-clause-one : goal.returns-then-bytes-gt-MAX_T
 returns-then-bytes-gt-MAX_TEXT-clause-one c = one_reading c.args.bytes.now c.args.style
 
 pub returns-clause-only_tokens : goal.returns-clause-only_tokens
-returns-clause-only_tokens c = only_tokens c.args.bytes.now c.args.style c.read.result c.read.ensures
+returns-clause-only_tokens c =
+    only_tokens c.args.bytes.now c.args.style c.read.result c.read.ensures
 
 pub returns-clause-only_fault : goal.returns-clause-only_fault
 returns-clause-only_fault c = only_fault c.args.bytes.now c.args.style c.read.result c.read.ensures

@@ -1,4 +1,5 @@
--- How a `Boxed` holds its value, so that a type may reach itself through one: its shape is the shape of that value.
+-- How a `Boxed` holds its value, so that a type may reach itself through one: its shape is the
+-- shape of that value.
 use mathlib.Core.Path.{refl}
 use mathlib.Core.Former.{Former, this, const, pair, via}
 use base.Stored.{gnil}
@@ -31,8 +32,10 @@ the_weighed w = w
 
 -- the one field: a pointer, an allocator and the value
 abbrev in_field : Former {0}
-in_field = via (pair (const (Ptr × Global)) this) Inside (λ X whole. ((whole.place.ptr, whole.place.alloc), whole.place.value))
-    (λ X parts. record { place = record { ptr = parts.0.0; alloc = parts.0.1; value = parts.1 } }) (λ X whole. refl) (λ X parts. refl)
+in_field = via (pair (const (Ptr × Global)) this) Inside
+    (λ X whole. ((whole.place.ptr, whole.place.alloc), whole.place.value))
+    (λ X parts. record { place = record { ptr = parts.0.0; alloc = parts.0.1; value = parts.1 } })
+    (λ X whole. refl) (λ X parts. refl)
 
 -- the same box round another value
 abbrev holding : {X Y : Type 0} → Box X Global → Y → Box Y Global
@@ -45,17 +48,29 @@ module _ (R S : RattleType) (h : R.Denot → S.Denot) where
   box_places : Alike R S h → Alike (boxed_row R) (boxed_row S) (λ b. holding b (h b.value))
   unfolding part_of
   box_places alike = record {
-    mir_same = λ i. (boxed_row (one_value R (alike.mir_same i) (λ _. ftrue) (λ _ _. nothing) gnil)).mir;
-    own_same = λ b i. (boxed_row (one_value R (alike.mir_same i) (alike.own_same b.value i) (alike.shr_same b.value i) gnil)).own_val (holding b tt);
-    shr_same = λ b i. (boxed_row (one_value R (alike.mir_same i) (alike.own_same b.value i) (alike.shr_same b.value i) gnil)).shr_at (holding b tt);
+    mir_same =
+        λ i. (boxed_row (one_value R (alike.mir_same i) (λ _. ftrue) (λ _ _. nothing) gnil)).mir;
+    own_same =
+        λ b i.
+        (boxed_row (one_value R (alike.mir_same i) (alike.own_same b.value i)
+        (alike.shr_same b.value i) gnil)).own_val (holding b tt);
+    shr_same =
+        λ b i.
+        (boxed_row (one_value R (alike.mir_same i) (alike.own_same b.value i)
+        (alike.shr_same b.value i) gnil)).shr_at (holding b tt);
   }
 
-  pub the_places : Alike R S h → Alike (B.the_row R) (B.the_row S) ((the_former this).map R.Denot S.Denot h)
+  pub the_places : Alike R S h
+      → Alike (B.the_row R) (B.the_row S) ((the_former this).map R.Denot S.Denot h)
   the_places alike =
-      view_places in_field this view (λ X Y k u. refl) (λ X u. refl) R.Denot S.Denot h (B.the_row R).coded (B.the_row S).coded
-      (invariant R.Denot) (invariant S.Denot) (λ u p q. refl) (λ u p q. refl) (λ u e. tt) (λ u e. tt)
+      view_places in_field this view (λ X Y k u. refl) (λ X u. refl) R.Denot S.Denot h
+      (B.the_row R).coded (B.the_row S).coded
+      (invariant R.Denot) (invariant S.Denot) (λ u p q. refl) (λ u p q. refl) (λ u e. tt)
+      (λ u e. tt)
       (over (V.the_row R)) (over (V.the_row S))
-      (struct_places (V.the_type R) (V.the_type S) ((λ b. holding b (h b.value)), tt) _ (λ d. refl) refl (laid _ _ _ (box_places alike), tt))
+      (struct_places (V.the_type R) (V.the_type S) ((λ b. holding b (h b.value)), tt) _ (λ d. refl)
+      refl (laid _ _ _ (box_places alike), tt))
 
-  pub the_codes_placed : Recodes R S h → Recodes (B.the_row R) (B.the_row S) ((the_former this).map R.Denot S.Denot h)
+  pub the_codes_placed : Recodes R S h
+      → Recodes (B.the_row R) (B.the_row S) ((the_former this).map R.Denot S.Denot h)
   the_codes_placed recodes value = recodes value

@@ -1,4 +1,5 @@
--- How a `List` holds its values, so that a type may reach itself through one: its shape is the list of their shapes.
+-- How a `List` holds its values, so that a type may reach itself through one: its shape is the list
+-- of their shapes.
 use mathlib.Core.Path.{◌≡◌, refl, sym}
 use mathlib.Core.List.{List as ListOf, []}
 use mathlib.Core.Former.{Former, this, list, via, children}
@@ -33,20 +34,28 @@ the_empty = []
 abbrev pub the_items : (X : Type 0) → ListOf X → ListOf X
 the_items X values = values
 
-pub the_items_listed : (X : Type 0) (values : ListOf X) → listed _ (children (the_former this) X values) ≡ the_items X values
+pub the_items_listed : (X : Type 0) (values : ListOf X)
+    → listed _ (children (the_former this) X values) ≡ the_items X values
 the_items_listed X values = list-listed X values
 
 -- the one field holds them as a `Vec` does
 abbrev in_field : Former {0}
-in_field = via (vec.the_former this Global) Inside (λ X whole. whole.items) (λ X field. record { items = field }) (λ X whole. refl) (λ X field. refl)
+in_field = via (vec.the_former this Global) Inside (λ X whole. whole.items)
+    (λ X field. record { items = field }) (λ X whole. refl) (λ X field. refl)
 
 module _ (R S : RattleType) (h : R.Denot → S.Denot) where
-  pub the_places : Alike R S h → Alike (L.the_row R) (L.the_row S) ((the_former this).map R.Denot S.Denot h)
+  pub the_places : Alike R S h
+      → Alike (L.the_row R) (L.the_row S) ((the_former this).map R.Denot S.Denot h)
   the_places alike =
-      view_places in_field (list this) view (λ X Y k u. refl) (λ X u. refl) R.Denot S.Denot h (L.the_row R).coded (L.the_row S).coded
-      (invariant R.Denot) (invariant S.Denot) (λ u p q. refl) (λ u p q. refl) (λ u e. tt) (λ u e. tt)
+      view_places in_field (list this) view (λ X Y k u. refl) (λ X u. refl) R.Denot S.Denot h
+      (L.the_row R).coded (L.the_row S).coded
+      (invariant R.Denot) (invariant S.Denot) (λ u p q. refl) (λ u p q. refl) (λ u e. tt)
+      (λ u e. tt)
       (over (V.the_row R)) (over (V.the_row S))
-      (struct_places (V.the_type R) (V.the_type S) (vec.mapped h, tt) _ (λ d. refl) refl (laid _ _ _ (vec.the_places heap.the_row ghosts R S h alike), tt))
+      (struct_places (V.the_type R) (V.the_type S) (vec.mapped h, tt) _ (λ d. refl) refl
+      (laid _ _ _ (vec.the_places heap.the_row ghosts R S h alike), tt))
 
-  pub the_codes_placed : Recodes R S h → Recodes (L.the_row R) (L.the_row S) ((the_former this).map R.Denot S.Denot h)
-  the_codes_placed recodes values = sym (code_map R.coded.code S.coded.code h (λ x. sym (recodes x)) values)
+  pub the_codes_placed : Recodes R S h
+      → Recodes (L.the_row R) (L.the_row S) ((the_former this).map R.Denot S.Denot h)
+  the_codes_placed recodes values =
+      sym (code_map R.coded.code S.coded.code h (λ x. sym (recodes x)) values)

@@ -10,5 +10,8 @@ cells-preserved c =
     let m : SFits w64 (cell_at c.args.cells.now (c.cells.i + 1)) = search rules in
     let r : SFits w64 (cell_at c.args.cells.now (c.cells.i + 2)) = search rules in
     let e = rw (to_z-of_z l, to_z-of_z m, to_z-of_z r) at c.next_cell.ensures in
-    let h : c.cells.i < length c.cells.next_cells = search rules in
-    (search rules, one_more (next_at (to_z w64 (of_z w64 c.args.rule)) c.args.cells.now) c.cells.next_cells c.cells.i _ h (to_z-of_z v ∙ e) c.cells.invariant.1)
+    let h : c.cells.i < length c.cells.next_cells = search rules in (
+      search rules,
+      one_more (next_at (to_z w64 (of_z w64 c.args.rule)) c.args.cells.now)
+          c.cells.next_cells c.cells.i _ h (to_z-of_z v ∙ e) c.cells.invariant.1,
+    )

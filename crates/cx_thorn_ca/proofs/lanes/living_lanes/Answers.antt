@@ -25,15 +25,25 @@ returns c =
     let s15 : SFits w64 (cell_at c.args.cells.now (c.args.i + 15)) = search rules in
     let first : c.args.i ≡ c.args.i + 0 = omega arith in
     let v =
-    marked (cell_at c.args.cells.now (c.args.i)) ∷ marked (cell_at c.args.cells.now (c.args.i + 1)) ∷ marked (cell_at c.args.cells.now (c.args.i + 2))
-    ∷ marked (cell_at c.args.cells.now (c.args.i + 3)) ∷ marked (cell_at c.args.cells.now (c.args.i + 4)) ∷ marked (cell_at c.args.cells.now (c.args.i + 5))
-    ∷ marked (cell_at c.args.cells.now (c.args.i + 6)) ∷ marked (cell_at c.args.cells.now (c.args.i + 7)) ∷ marked (cell_at c.args.cells.now (c.args.i + 8))
-    ∷ marked (cell_at c.args.cells.now (c.args.i + 9)) ∷ marked (cell_at c.args.cells.now (c.args.i + 10)) ∷ marked (cell_at c.args.cells.now (c.args.i + 11))
-    ∷ marked (cell_at c.args.cells.now (c.args.i + 12)) ∷ marked (cell_at c.args.cells.now (c.args.i + 13)) ∷ marked (cell_at c.args.cells.now (c.args.i + 14))
+    marked (cell_at c.args.cells.now (c.args.i)) ∷ marked (cell_at c.args.cells.now (c.args.i + 1))
+    ∷ marked (cell_at c.args.cells.now (c.args.i + 2))
+    ∷ marked (cell_at c.args.cells.now (c.args.i + 3))
+    ∷ marked (cell_at c.args.cells.now (c.args.i + 4))
+    ∷ marked (cell_at c.args.cells.now (c.args.i + 5))
+    ∷ marked (cell_at c.args.cells.now (c.args.i + 6))
+    ∷ marked (cell_at c.args.cells.now (c.args.i + 7))
+    ∷ marked (cell_at c.args.cells.now (c.args.i + 8))
+    ∷ marked (cell_at c.args.cells.now (c.args.i + 9))
+    ∷ marked (cell_at c.args.cells.now (c.args.i + 10))
+    ∷ marked (cell_at c.args.cells.now (c.args.i + 11))
+    ∷ marked (cell_at c.args.cells.now (c.args.i + 12))
+    ∷ marked (cell_at c.args.cells.now (c.args.i + 13))
+    ∷ marked (cell_at c.args.cells.now (c.args.i + 14))
     ∷ marked (cell_at c.args.cells.now (c.args.i + 15)) ∷ [] in
     record {
       long = refl;
-      each = one_more_lane (λ k. lane v k ≡ alive_of (cell_at c.args.cells.now (c.args.i + k))) (marked_is _ s15)
+      each = one_more_lane (λ k. lane v k ≡ alive_of (cell_at c.args.cells.now (c.args.i + k)))
+          (marked_is _ s15)
           (by_fifteen (λ k. lane v k ≡ alive_of (cell_at c.args.cells.now (c.args.i + k)))
           (marked_is _ s0 ∙ ap (λ k. alive_of (cell_at c.args.cells.now k)) first)
           (marked_is _ s1) (marked_is _ s2) (marked_is _ s3) (marked_is _ s4) (marked_is _ s5)

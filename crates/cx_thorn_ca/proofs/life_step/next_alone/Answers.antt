@@ -10,5 +10,9 @@ cells-preserved c =
     let n : SFits w64 c.counts.result = search rules in
     let k = rw (to_z-of_z m) at c.counts.ensures in
     let e = rw (to_z-of_z n, k, c.beside.ensures.value) at c.bit.ensures in
-    let h : c.cells.i < length c.cells.next_cells = search rules in
-    (search rules, one_more (next_alone (to_z w64 (of_z w64 c.args.survive)) (to_z w64 (of_z w64 c.args.born)) c.args.cells.now) c.cells.next_cells c.cells.i _ h (to_z-of_z v ∙ e) c.cells.invariant.1)
+    let h : c.cells.i < length c.cells.next_cells = search rules in (
+      search rules,
+      one_more
+          (next_alone (to_z w64 (of_z w64 c.args.survive)) (to_z w64 (of_z w64 c.args.born))
+          c.args.cells.now) c.cells.next_cells c.cells.i _ h (to_z-of_z v ∙ e) c.cells.invariant.1,
+    )

@@ -7,6 +7,8 @@ pub fourteens-preserved : goal.fourteens-preserved
 fourteens-preserved c = (
   search rules,
   search rules,
-  λ rule bits. c.put_pairs.ensures.cells (next_at rule c.args.cells.now) (c.fourteens.invariant.2 rule bits)
-      (λ k l. pair_cells rule c.args.table.now c.args.cells.now _ c.fourteens.i k bits c.living_bits-bits.ensures l),
+  λ rule bits. c.put_pairs.ensures.cells (next_at rule c.args.cells.now)
+      (c.fourteens.invariant.2 rule bits)
+      (λ k l. pair_cells rule c.args.table.now c.args.cells.now _ c.fourteens.i k bits
+      c.living_bits-bits.ensures l),
 )

@@ -8,7 +8,8 @@ bits-preserved c =
     let v : SFits w64 c.pair_bit.result = search rules in
     let h : c.bits.k < length c.bits.table = search rules in (
       search rules,
-      one_more (pair_bit (to_z w64 (of_z w64 c.args.rule))) c.bits.table c.bits.k _ h (to_z-of_z v ∙ c.pair_bit.ensures) c.bits.invariant.1,
+      one_more (pair_bit (to_z w64 (of_z w64 c.args.rule))) c.bits.table c.bits.k _ h
+          (to_z-of_z v ∙ c.pair_bit.ensures) c.bits.invariant.1,
     )
 
 pub returns-clause-bits : goal.returns-clause-bits

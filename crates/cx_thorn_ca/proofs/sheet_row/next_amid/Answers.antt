@@ -8,5 +8,6 @@ returns-clause-cells c =
     let born : SFits w64 c.args.born = search rules in
     let bits = rw (to_z-of_z survive, to_z-of_z born) at c.put_life_bits.ensures.bits in
     λ i l.
-    let near : i < length c.put_blocks-done.new.next_cells = omega (arith, l, c.put_blocks-done.ensures.room) in
+    let near : i < length c.put_blocks-done.new.next_cells =
+    omega (arith, l, c.put_blocks-done.ensures.room) in
     c.put_rest.ensures.cells i near ∙ counted_is_next c.args.survive c.args.born _ _ _ _ i bits

@@ -8,6 +8,7 @@ bits-preserved c =
     let v : SFits w64 c.life_bit.result = search rules in
     let h : c.bits.k < length c.bits.table = search rules in (
       search rules,
-      one_more (life_bit (to_z w64 (of_z w64 c.args.survive)) (to_z w64 (of_z w64 c.args.born))) c.bits.table c.bits.k _ h
+      one_more (life_bit (to_z w64 (of_z w64 c.args.survive)) (to_z w64 (of_z w64 c.args.born)))
+          c.bits.table c.bits.k _ h
           (to_z-of_z v ∙ c.life_bit.ensures) c.bits.invariant.1,
     )

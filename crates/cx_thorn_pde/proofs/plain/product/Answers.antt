@@ -9,5 +9,6 @@ overflow_mul-result c =
 
 pub returns : goal.returns
 returns c =
-    let fits : FitsSigned w64 (c.args.factor *ℤ c.args.bend) = product_fits _ _ c.requires.factor c.requires.low c.requires.high in
+    let fits : FitsSigned w64 (c.args.factor *ℤ c.args.bend) =
+    product_fits _ _ c.requires.factor c.requires.low c.requires.high in
     rw (to_z-of_z c.ranges.factor, to_z-of_z c.ranges.bend) (to_z-of_z fits)

@@ -7,6 +7,9 @@ use Rattle.cx_values.proofs.given.all_given.Given as goal
 
 abbrev pub invariant-settings : goal.invariant-settings
 invariant-settings l = record {
-  given : l.given ≡ flat_map (given_by l.params (place_of l.names)) (take l.setting-index l.settings);
-  left : settings_fault l.params (place_of l.names) l.dir (take l.setting-index l.settings) (drop l.setting-index l.settings) ≡ settings_fault l.params (place_of l.names) l.dir [] l.settings;
+  given : l.given ≡ flat_map (given_by l.params (place_of l.names))
+      (take l.setting-index l.settings);
+  left : settings_fault l.params (place_of l.names) l.dir (take l.setting-index l.settings)
+      (drop l.setting-index l.settings)
+      ≡ settings_fault l.params (place_of l.names) l.dir [] l.settings;
 }

@@ -5,4 +5,6 @@ use Rattle.cx_values.specs.Special.{text_by}
 use Rattle.cx_values.proofs.settings.text_set.Given as goal
 
 abbrev pub invariant-loop-setting : goal.invariant-loop-setting
-invariant-loop-setting l = first_of_each (text_by l.params (place_of l.names) l.place) (drop l.setting-index l.settings) ≡ first_of_each (text_by l.params (place_of l.names) l.place) l.settings
+invariant-loop-setting l =
+    first_of_each (text_by l.params (place_of l.names) l.place) (drop l.setting-index l.settings)
+    ≡ first_of_each (text_by l.params (place_of l.names) l.place) l.settings

@@ -8,4 +8,6 @@ slots-init c = λ name. ap (λ table. place_of table name) c.new-places.ensures
 
 pub slots-preserved : goal.slots-preserved
 slots-preserved c =
-    slot_more c.args.slots.now c.slots.place c.index-slots-place.result c.as_slice.result.now c.slots.places c.add_name.new.places c.slots-test.true c.index-slots-place.is c.as_slice.ensures c.slots.invariant c.in_ok-add_name.ensures
+    slot_more c.args.slots.now c.slots.place c.index-slots-place.result c.as_slice.result.now
+    c.slots.places c.add_name.new.places c.slots-test.true c.index-slots-place.is
+    c.as_slice.ensures c.slots.invariant c.in_ok-add_name.ensures

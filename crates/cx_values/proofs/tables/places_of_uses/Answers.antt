@@ -8,4 +8,6 @@ uses-init c = λ name. ap (λ table. place_of table name) c.new-places.ensures
 
 pub uses-preserved : goal.uses-preserved
 uses-preserved c =
-    use_more c.args.uses.now c.uses.one-index c.one-item.result c.as_slice.result.now c.uses.places c.add_name.new.places c.uses-test.true c.one-item.is c.as_slice.ensures c.uses.invariant c.in_ok-add_name.ensures
+    use_more c.args.uses.now c.uses.one-index c.one-item.result c.as_slice.result.now c.uses.places
+    c.add_name.new.places c.uses-test.true c.one-item.is c.as_slice.ensures c.uses.invariant
+    c.in_ok-add_name.ensures

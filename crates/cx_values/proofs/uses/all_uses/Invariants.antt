@@ -5,4 +5,5 @@ use Rattle.cx_values.specs.Assigned.{uses_of}
 use Rattle.cx_values.proofs.uses.all_uses.Given as goal
 
 abbrev pub invariant-thorns : goal.invariant-thorns
-invariant-thorns l = l.all ≡ map (uses_of l.params (place_of l.names)) (enumerate_from 0 (take l.number l.thorns))
+invariant-thorns l = l.all
+    ≡ map (uses_of l.params (place_of l.names)) (enumerate_from 0 (take l.number l.thorns))

@@ -9,5 +9,6 @@ returns c =
     let setup = setup_of c.args.job.now in
     record {
       whole = λ scalars way. in_order setup scalars (at_place 0 0) (most_operations setup) way;
-      continued = λ n scalars way. in_order setup scalars (at_place (analysis_place setup) n) (most_after setup n) way;
+      continued = λ n scalars way.
+          in_order setup scalars (at_place (analysis_place setup) n) (most_after setup n) way;
     }

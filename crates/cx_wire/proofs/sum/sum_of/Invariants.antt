@@ -1,6 +1,7 @@
 use Rattle.std.proofs.Common.{◌≡◌, ◌%◌, ◌^◌, ◌+◌, drop}
-use Rattle.cx_wire.specs.Received.{sum_of}
 use Rattle.cx_wire.proofs.sum.sum_of.Given as goal
+use Rattle.cx_text.specs.Numbers.{word_sum}
 
 abbrev pub invariant-values : goal.invariant-values
-invariant-values l = (l.sum + sum_of (drop l.value-index l.values)) % 2 ^ 64 ≡ sum_of l.values % 2 ^ 64
+invariant-values l = (l.sum + word_sum (drop l.value-index l.values)) % 2 ^ 64
+    ≡ word_sum l.values % 2 ^ 64

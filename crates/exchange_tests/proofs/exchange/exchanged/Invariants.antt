@@ -5,4 +5,5 @@ use Rattle.exchange_tests.proofs.exchange.exchanged.Given as goal
 
 abbrev pub invariant-rounds : goal.invariant-rounds
 invariant-rounds l =
-    AreParts l.cut (part_count l.cut) l.patches.items × EmptyFrom l.cut 0 (told_queue l.wire) × (l.wire.parts ≡ part_count l.cut)
+    AreParts l.cut (part_count l.cut) l.patches.items × EmptyFrom l.cut 0 (told_queue l.wire)
+    × (l.wire.parts ≡ part_count l.cut)

@@ -8,7 +8,9 @@ pub post-requires-clause-can : goal.post-requires-clause-can
 post-requires-clause-can c =
     rw c.in_ok-names.ensures
     (can c.args.cut.now c.requires.whole c.args.k c.requires.part c.index.result.now
-    (part_at c.args.cut.now (part_count c.args.cut.now) c.args.patches.now.items c.requires.parts c.args.k c.requires.part c.index.result.now c.index.ensures)
+    (part_at c.args.cut.now (part_count c.args.cut.now)
+    c.args.patches.now.items c.requires.parts c.args.k c.requires.part c.index.result.now
+    c.index.ensures)
     c.args.dir c.requires.dir)
 
 pub returns-clause-posted : goal.returns-clause-posted

@@ -6,5 +6,8 @@ use Rattle.front_tests.proofs.region.a_wave_without_exchange_is_not.Goals as goa
 
 pub is_sound-requires : goal.is_sound-requires
 is_sound-requires g c =
-    let none = fits-at c.nothing-between.result nothing 1 1 c.nothing-between.ensures fits-nothing in
-    step-whole c.in_ok-first.first c.in_ok-evol.evol (Call 1) c.nothing-between.result 1 1 1 1 c.in_ok-first.ensures c.in_ok-evol.ensures (fits-call 1 (omega arith)) none (omega arith) (omega arith) (omega arith)
+    let none = fits-at c.nothing-between.result nothing 1 1 c.nothing-between.ensures
+    fits-nothing in
+    step-whole c.in_ok-first.first c.in_ok-evol.evol (Call 1)
+    c.nothing-between.result 1 1 1 1 c.in_ok-first.ensures c.in_ok-evol.ensures
+    (fits-call 1 (omega arith)) none (omega arith) (omega arith) (omega arith)

@@ -4,7 +4,8 @@ use Rattle.front_tests.proofs.RegionSampleLaws.{whiles-next}
 use Rattle.front_tests.proofs.region.nested.Goals as goal
 
 pub layers-preserved : goal.layers-preserved
-layers-preserved c = whiles-next c.layers.counter c.args.work c.layers.tree c.in_ok-next.next c.layers.invariant c.in_ok-next.ensures
+layers-preserved c = whiles-next c.layers.counter c.args.work c.layers.tree c.in_ok-next.next
+    c.layers.invariant c.in_ok-next.ensures
 
 pub returns : goal.returns
 returns c =

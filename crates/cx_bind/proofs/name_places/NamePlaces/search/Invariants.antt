@@ -1,8 +1,8 @@
 use Rattle.std.proofs.Common.{◌≡◌}
 use Rattle.std.specs.Map.{lookup}
 use Rattle.std.specs.Str.{bytes_eq}
-use Rattle.cx_bind.specs.NameSets.{folded}
 use Rattle.cx_bind.proofs.name_places.NamePlaces.search.Given as goal
+use Rattle.cx_text.specs.Bytes.{folded}
 
 abbrev pub invariant-names : goal.invariant-names
 invariant-names l =

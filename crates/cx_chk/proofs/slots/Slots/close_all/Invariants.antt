@@ -2,6 +2,7 @@ use Rattle.std.proofs.Common.{◌≡◌, ◌≤◌, ◌<◌, ℕ, IsTrue}
 use Rattle.std.specs.Prelude.{None}
 use Rattle.cx_disk.specs.Disk.{Files, LeavesOnly}
 use Rattle.cx_chk.specs.Slots.{SlotsSettled, IsWithinClosing, header_of}
+use Rattle.cx_disk.specs.Files.{slot_count}
 use Rattle.cx_chk.proofs.slots.Slots.close_all.Given as goal
 
 abbrev pub invariant-each : goal.invariant-each
@@ -10,9 +11,14 @@ invariant-each g l = record {
   folders : g.D.Disk.folders l.disk ≡ g.D.Disk.folders l.fn.disk;
   count : g.D.Disk.file_count l.disk ≡ g.D.Disk.file_count l.fn.disk;
   faults : g.D.Disk.faults l.fn.disk ≤ g.D.Disk.faults l.disk;
-  crash : g.D.Disk.tells → (c : Files) → (g.D.Disk.view l.disk).images c → IsWithinClosing (g.D.Disk.view l.fn.disk) c;
-  moments : g.D.Disk.tells → LeavesOnly (g.D.Disk.view l.fn.disk) (g.D.Disk.view l.disk) (IsWithinClosing (g.D.Disk.view l.fn.disk));
-  seen : g.D.Disk.tells → (file : ℕ) → 8 ≤ file → (g.D.Disk.view l.disk).seen file ≡ (g.D.Disk.view l.fn.disk).seen file;
+  crash : g.D.Disk.tells → (c : Files) → (g.D.Disk.view l.disk).images c
+      → IsWithinClosing (g.D.Disk.view l.fn.disk) c;
+  moments : g.D.Disk.tells
+      → LeavesOnly (g.D.Disk.view l.fn.disk) (g.D.Disk.view l.disk)
+      (IsWithinClosing (g.D.Disk.view l.fn.disk));
+  seen : g.D.Disk.tells → (file : ℕ) → slot_count ≤ file
+      → (g.D.Disk.view l.disk).seen file ≡ (g.D.Disk.view l.fn.disk).seen file;
   settled : g.D.Disk.tells → SlotsSettled (g.D.Disk.view l.disk);
-  closed : g.D.Disk.tells → (slot : ℕ) → slot < l.slot → header_of ((g.D.Disk.view l.disk).seen slot) ≡ None;
+  closed : g.D.Disk.tells → (slot : ℕ) → slot < l.slot
+      → header_of ((g.D.Disk.view l.disk).seen slot) ≡ None;
 }

@@ -18,6 +18,7 @@ returns-clause-begins c = λ told rules queue first empty small.
     let core : Cores = record {
       pace = c.in_ok-new.field-0;
       patches = c.in_ok-patches.patches.items;
+      items = c.in_ok-items.items.items;
       given = c.in_ok-boards.boards;
       buffers = c.in_ok-gathering.gathering;
       met = out.Going;
@@ -34,8 +35,11 @@ returns-clause-begins c = λ told rules queue first empty small.
       pace = c.in_ok-new.ensures;
       count = c.in_ok-patches.ensures.count;
       patches = c.in_ok-patches.ensures.patches;
-      parts = c.count.result;
-      parts_are = c.count.ensures.value;
+      parts = c.count-parts.result;
+      parts_are = c.count-parts.ensures.value;
+      begins = c.first_iteration.result;
+      begins_is = c.first_iteration.ensures;
+      items = c.in_ok-items.ensures;
       given = c.in_ok-boards.ensures;
       key = c.in_ok-copy.field-0;
       buffers = c.in_ok-gathering.ensures;
@@ -44,5 +48,6 @@ returns-clause-begins c = λ told rules queue first empty small.
       length_is = c.length_in.ensures;
     } in
     begins_at (IsTrue told) (run_of job rules b) (undivided_from (setup_of job) rules b)
-    (c.run_laws.ensures told rules b (can_begin (setup_of job) state c.requires.state)) core (is_fresh job rules c.in_ok-cut.cut core state made)
+    (c.run_laws.ensures told rules b (can_begin (setup_of job) state c.requires.state)) core
+    (is_fresh job rules c.in_ok-cut.cut core state made)
     queue empty first small

@@ -7,42 +7,55 @@ use Rattle.cx_core.proofs.machine.Core.step.Goals as goal
 
 pub returns-in_ok-go-in-Part-clause-does : goal.returns-in_ok-go-in-Part-clause-does
 returns-in_ok-go-in-Part-clause-does g c = λ b begins first at.
-    part_does _ c.args.job.now _ c.run_laws.ensures c.args.self.now _ _ c.args.k b begins first at c.in-Part.part
-    (subst (λ (s : Cores). slice_get (events s.pace) c.args.k ≡ Some (next.Part c.in-Part.part)) c.self.view_is (c.event.ensures ∙ ap Some c.in-Part.is))
+    part_does _ c.args.job.now _ c.run_laws.ensures c.args.self.now _ _ c.args.k b begins first at
+    c.in-Part.part
+    (subst (λ (s : Cores). slice_get (events s.pace) c.args.k ≡ Some (next.Part c.in-Part.part))
+    c.self.view_is (c.event.ensures ∙ ap Some c.in-Part.is))
     _ _ _ (c.in_ok-go-in-Part.ensures.goes b begins first)
 
 pub returns-in-Write-clause-does : goal.returns-in-Write-clause-does
 returns-in-Write-clause-does g c = λ b begins first at.
     write_does _ c.args.job.now _ c.run_laws.ensures c.args.self.now _ _ c.args.k b begins first at
-    (subst (λ (s : Cores). slice_get (events s.pace) c.args.k ≡ Some next.Write) c.self.view_is (c.event.ensures ∙ ap Some c.in-Write.is))
+    (subst (λ (s : Cores). slice_get (events s.pace) c.args.k ≡ Some next.Write) c.self.view_is
+    (c.event.ensures ∙ ap Some c.in-Write.is))
     _ _ c.write.ensures
 
 pub returns-in_ok-end-in-End-clause-does : goal.returns-in_ok-end-in-End-clause-does
 returns-in_ok-end-in-End-clause-does g c = λ b begins first at.
     end_does _ c.args.job.now _ c.run_laws.ensures c.args.self.now _ _ c.args.k b begins first at
-    (subst (λ (s : Cores). slice_get (events s.pace) c.args.k ≡ Some next.End) c.self.view_is (c.event.ensures ∙ ap Some c.in-End.is))
+    (subst (λ (s : Cores). slice_get (events s.pace) c.args.k ≡ Some next.End) c.self.view_is
+    (c.event.ensures ∙ ap Some c.in-End.is))
     _ c.in_ok-end-in-End.ensures
 
 pub go-requires-clause-part : goal.go-requires-clause-part
 go-requires-clause-part g c =
-    part_there _ c.args.job.now _ c.run_laws.ensures c.args.self.now _ _ c.args.k c.requires.there c.in-Part.part
-    (subst (λ (s : Cores). slice_get (events s.pace) c.args.k ≡ Some (next.Part c.in-Part.part)) c.self.view_is (c.event.ensures ∙ ap Some c.in-Part.is))
+    part_there _ c.args.job.now _ c.run_laws.ensures c.args.self.now _ _ c.args.k c.requires.there
+    c.in-Part.part
+    (subst (λ (s : Cores). slice_get (events s.pace) c.args.k ≡ Some (next.Part c.in-Part.part))
+    c.self.view_is (c.event.ensures ∙ ap Some c.in-Part.is))
 
 pub go-requires-clause-going : goal.go-requires-clause-going
 go-requires-clause-going g c =
-    part_goes _ c.args.job.now _ c.run_laws.ensures c.args.self.now _ _ c.args.k c.requires.there c.in-Part.part
-    (subst (λ (s : Cores). slice_get (events s.pace) c.args.k ≡ Some (next.Part c.in-Part.part)) c.self.view_is (c.event.ensures ∙ ap Some c.in-Part.is))
+    part_goes _ c.args.job.now _ c.run_laws.ensures c.args.self.now _ _ c.args.k c.requires.there
+    c.in-Part.part
+    (subst (λ (s : Cores). slice_get (events s.pace) c.args.k ≡ Some (next.Part c.in-Part.part))
+    c.self.view_is (c.event.ensures ∙ ap Some c.in-Part.is))
 
 pub write-requires-clause-going : goal.write-requires-clause-going
 write-requires-clause-going g c =
     writes_next _ c.args.job.now _ c.run_laws.ensures c.args.self.now _ _ c.args.k c.requires.there
-    (subst (λ (s : Cores). slice_get (events s.pace) c.args.k ≡ Some next.Write) c.self.view_is (c.event.ensures ∙ ap Some c.in-Write.is))
+    (subst (λ (s : Cores). slice_get (events s.pace) c.args.k ≡ Some next.Write) c.self.view_is
+    (c.event.ensures ∙ ap Some c.in-Write.is))
 
 pub write-requires-clause-can : goal.write-requires-clause-can
 write-requires-clause-can g c =
-    can_be_written _ c.args.job.now _ c.run_laws.ensures c.args.self.now _ _ c.args.k c.requires.there
-    (subst (λ (s : Cores). slice_get (events s.pace) c.args.k ≡ Some next.Write) c.self.view_is (c.event.ensures ∙ ap Some c.in-Write.is))
+    can_be_written _ c.args.job.now _ c.run_laws.ensures c.args.self.now _ _ c.args.k
+    c.requires.there
+    (subst (λ (s : Cores). slice_get (events s.pace) c.args.k ≡ Some next.Write) c.self.view_is
+    (c.event.ensures ∙ ap Some c.in-Write.is))
 
 pub go-requires-clause-parts : goal.go-requires-clause-parts
 go-requires-clause-parts g c =
-    subst (λ n. n ≤ g.W.Wire.parts c.args.wire.now) (sym (parts_same _ c.args.job.now _ c.run_laws.ensures c.args.self.now _ _ c.args.k c.requires.there)) c.requires.parts
+    subst (λ n. n ≤ g.W.Wire.parts c.args.wire.now)
+    (sym (parts_same _ c.args.job.now _ c.run_laws.ensures c.args.self.now _ _ c.args.k
+    c.requires.there)) c.requires.parts

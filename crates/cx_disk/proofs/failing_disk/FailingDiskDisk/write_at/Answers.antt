@@ -9,23 +9,37 @@ use Rattle.cx_disk.proofs.failing_disk.FailingDiskDisk.write_at.Goals as goal
 
 pub returns-then-fails-clause-after : goal.returns-then-fails-clause-after
 returns-then-fails-clause-after c =
-    let is : c.stop_write.new.self ≡ noted c.args.self.now.disk (stopped_write c.args.file c.args.at c.args.bytes.now) =
-    c.in_ok-stop_write.ensures.ok ∙ ap (λ (f : Failing). noted f.disk (stopped_write c.args.file c.args.at c.args.bytes.now)) c.self.view_is
-    ∙ ap (λ (d : History). noted d (stopped_write c.args.file c.args.at c.args.bytes.now)) (disk_same c.fails.result c.args.self.now c.fails.new.self c.fails.ensures.new) in
-    passes_noted (Changes (Torn c.args.at (length c.args.bytes.now)) c.args.file) c.args.self.now.disk c.stop_write.new.self _ is (λ seen images d left. left)
+    let is : c.stop_write.new.self
+    ≡ noted c.args.self.now.disk (stopped_write c.args.file c.args.at c.args.bytes.now) =
+    c.in_ok-stop_write.ensures.ok
+    ∙ ap (λ (f : Failing). noted f.disk (stopped_write c.args.file c.args.at c.args.bytes.now))
+    c.self.view_is
+    ∙ ap (λ (d : History). noted d (stopped_write c.args.file c.args.at c.args.bytes.now))
+    (disk_same c.fails.result c.args.self.now c.fails.new.self c.fails.ensures.new) in
+    passes_noted (Changes (Torn c.args.at (length c.args.bytes.now)) c.args.file)
+    c.args.self.now.disk c.stop_write.new.self _ is (λ seen images d left. left)
 
 pub returns-then-fails-clause-stopped : goal.returns-then-fails-clause-stopped
 returns-then-fails-clause-stopped c =
-    let is : c.stop_write.new.self ≡ noted c.args.self.now.disk (stopped_write c.args.file c.args.at c.args.bytes.now) =
-    c.in_ok-stop_write.ensures.ok ∙ ap (λ (f : Failing). noted f.disk (stopped_write c.args.file c.args.at c.args.bytes.now)) c.self.view_is
-    ∙ ap (λ (d : History). noted d (stopped_write c.args.file c.args.at c.args.bytes.now)) (disk_same c.fails.result c.args.self.now c.fails.new.self c.fails.ensures.new) in
-    subst (λ (b : List ℕ). Torn c.args.at (length c.args.bytes.now) (reading c.args.self.now.disk c.args.file) b)
+    let is : c.stop_write.new.self
+    ≡ noted c.args.self.now.disk (stopped_write c.args.file c.args.at c.args.bytes.now) =
+    c.in_ok-stop_write.ensures.ok
+    ∙ ap (λ (f : Failing). noted f.disk (stopped_write c.args.file c.args.at c.args.bytes.now))
+    c.self.view_is
+    ∙ ap (λ (d : History). noted d (stopped_write c.args.file c.args.at c.args.bytes.now))
+    (disk_same c.fails.result c.args.self.now c.fails.new.self c.fails.ensures.new) in
+    subst (λ (b : List ℕ). Torn c.args.at (length c.args.bytes.now)
+    (reading c.args.self.now.disk c.args.file) b)
     (sym (reading_own c.args.self.now.disk c.stop_write.new.self _ is))
     (torn_same c.args.at (length c.args.bytes.now) (reading c.args.self.now.disk c.args.file))
 
 pub returns-then-fails-clause-others : goal.returns-then-fails-clause-others
 returns-then-fails-clause-others c = λ other ne.
-    let is : c.stop_write.new.self ≡ noted c.args.self.now.disk (stopped_write c.args.file c.args.at c.args.bytes.now) =
-    c.in_ok-stop_write.ensures.ok ∙ ap (λ (f : Failing). noted f.disk (stopped_write c.args.file c.args.at c.args.bytes.now)) c.self.view_is
-    ∙ ap (λ (d : History). noted d (stopped_write c.args.file c.args.at c.args.bytes.now)) (disk_same c.fails.result c.args.self.now c.fails.new.self c.fails.ensures.new) in
+    let is : c.stop_write.new.self
+    ≡ noted c.args.self.now.disk (stopped_write c.args.file c.args.at c.args.bytes.now) =
+    c.in_ok-stop_write.ensures.ok
+    ∙ ap (λ (f : Failing). noted f.disk (stopped_write c.args.file c.args.at c.args.bytes.now))
+    c.self.view_is
+    ∙ ap (λ (d : History). noted d (stopped_write c.args.file c.args.at c.args.bytes.now))
+    (disk_same c.fails.result c.args.self.now c.fails.new.self c.fails.ensures.new) in
     reading_others c.args.self.now.disk c.stop_write.new.self _ other is ne

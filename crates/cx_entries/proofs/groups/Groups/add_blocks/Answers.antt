@@ -16,17 +16,26 @@ entries-preserved c =
     let there = texts c.entries.self in
     elim c.if-entry.branch [
       | then-entry+in_ok-add b ↦ (
-          let N : Groups → Type 0 = λ g. come same_name (texts g) (block_names (drop (i + 1) xs)) ≡ w in
+          let N : Groups → Type 0 =
+          λ g. come same_name (texts g) (block_names (drop (i + 1) xs)) ≡ w in
           let T : Groups → Type 0 = λ g. IsTied g in
           record {
             tied = subst T (sym b.self-is) b.in_ok-add.ensures.tied;
-            names = subst N (sym b.self-is) (come-next there (texts b.add.new.self) x.block.now.name (block_names (drop i xs)) (block_names (drop (i + 1) xs)) w (block-yes xs i x c.entries-test.true c.entry-item.is b.if-entry.true) b.in_ok-add.ensures.names c.entries.invariant.names);
+            names = subst N (sym b.self-is)
+                (come-next there (texts b.add.new.self) x.block.now.name (block_names (drop i xs))
+                (block_names (drop (i + 1) xs)) w
+                (block-yes xs i x c.entries-test.true c.entry-item.is b.if-entry.true)
+                b.in_ok-add.ensures.names c.entries.invariant.names);
           })
       | else-entry b ↦ (
-          let N : Groups → Type 0 = λ g. come same_name (texts g) (block_names (drop (i + 1) xs)) ≡ w in
+          let N : Groups → Type 0 =
+          λ g. come same_name (texts g) (block_names (drop (i + 1) xs)) ≡ w in
           let T : Groups → Type 0 = λ g. IsTied g in
           record {
             tied = subst T (sym b.self-is) c.entries.invariant.tied;
-            names = subst N (sym b.self-is) (come-same there (block_names (drop i xs)) (block_names (drop (i + 1) xs)) w (block-no xs i x c.entries-test.true c.entry-item.is b.if-entry.false) c.entries.invariant.names);
+            names = subst N (sym b.self-is)
+                (come-same there (block_names (drop i xs)) (block_names (drop (i + 1) xs)) w
+                (block-no xs i x c.entries-test.true c.entry-item.is b.if-entry.false)
+                c.entries.invariant.names);
           })
     ]

@@ -10,5 +10,9 @@ abbrev pub invariant-entries : goal.invariant-entries
 invariant-entries l =
     record {
       tied : IsTied l.self;
-      names : texts l.self ++ once_behind same_name (texts l.self) (map (λ e. e.block.name) (filter (λ e. e.block.group) (map seen_entry (drop l.entry-index l.entries)))) ≡ texts l.fn.self ++ once_behind same_name (texts l.fn.self) (map (λ e. e.block.name) (filter (λ e. e.block.group) (map seen_entry l.entries)));
+      names : texts l.self ++ once_behind same_name (texts l.self)
+          (map (λ e. e.block.name)
+          (filter (λ e. e.block.group) (map seen_entry (drop l.entry-index l.entries))))
+          ≡ texts l.fn.self ++ once_behind same_name (texts l.fn.self)
+          (map (λ e. e.block.name) (filter (λ e. e.block.group) (map seen_entry l.entries)));
     }

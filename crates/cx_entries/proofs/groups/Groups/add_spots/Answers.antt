@@ -16,17 +16,26 @@ entries-preserved c =
     let there = texts c.entries.self in
     elim c.match-entry.branch [
       | in-Inside+in_ok-add-in-Inside b ↦ (
-          let N : Groups → Type 0 = λ g. come same_name (texts g) (spot_names (drop (i + 1) xs)) ≡ w in
+          let N : Groups → Type 0 =
+          λ g. come same_name (texts g) (spot_names (drop (i + 1) xs)) ≡ w in
           let T : Groups → Type 0 = λ g. IsTied g in
           record {
             tied = subst T (sym b.self-is) b.in_ok-add-in-Inside.ensures.tied;
-            names = subst N (sym b.self-is) (come-next there (texts b.add.new.self) b.in-Inside.name (spot_names (drop i xs)) (spot_names (drop (i + 1) xs)) w (spot-inside xs i x c.entries-test.true c.entry-item.is b.in-Inside.name b.in-Inside.is) b.in_ok-add-in-Inside.ensures.names c.entries.invariant.names);
+            names = subst N (sym b.self-is)
+                (come-next there (texts b.add.new.self) b.in-Inside.name (spot_names (drop i xs))
+                (spot_names (drop (i + 1) xs)) w
+                (spot-inside xs i x c.entries-test.true c.entry-item.is b.in-Inside.name
+                b.in-Inside.is) b.in_ok-add-in-Inside.ensures.names c.entries.invariant.names);
           })
       | in-At b ↦ (
-          let N : Groups → Type 0 = λ g. come same_name (texts g) (spot_names (drop (i + 1) xs)) ≡ w in
+          let N : Groups → Type 0 =
+          λ g. come same_name (texts g) (spot_names (drop (i + 1) xs)) ≡ w in
           let T : Groups → Type 0 = λ g. IsTied g in
           record {
             tied = subst T (sym b.self-is) c.entries.invariant.tied;
-            names = subst N (sym b.self-is) (come-same there (spot_names (drop i xs)) (spot_names (drop (i + 1) xs)) w (spot-at xs i x c.entries-test.true c.entry-item.is b.in-At.field-0 b.in-At.is) c.entries.invariant.names);
+            names = subst N (sym b.self-is)
+                (come-same there (spot_names (drop i xs)) (spot_names (drop (i + 1) xs)) w
+                (spot-at xs i x c.entries-test.true c.entry-item.is b.in-At.field-0 b.in-At.is)
+                c.entries.invariant.names);
           })
     ]

@@ -4,4 +4,5 @@ use Rattle.cx_entries.specs.Seen.{seen_entry}
 use Rattle.cx_entries.proofs.groups.Groups.inside.Given as goal
 
 abbrev pub invariant-entries : goal.invariant-entries
-invariant-entries l = l.inside.items ≡ map (inside_of (texts l.self)) (map seen_entry (take l.entry-index l.entries))
+invariant-entries l = l.inside.items
+    ≡ map (inside_of (texts l.self)) (map seen_entry (take l.entry-index l.entries))

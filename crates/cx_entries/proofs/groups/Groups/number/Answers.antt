@@ -2,10 +2,10 @@ use Rattle.std.proofs.Common.{◌≡◌, ◌∙◌, ap, subst, ℕ, Option}
 use Rattle.std.specs.Prelude.{IfOk}
 use Rattle.std.specs.List.{position}
 use Rattle.std.specs.Str.{bytes_eq}
-use Rattle.cx_entries.specs.Keys.{folded}
 use Rattle.cx_entries.specs.Members.{texts}
 use Rattle.cx_entries.proofs.OnceLaws.{position-map}
 use Rattle.cx_entries.proofs.groups.Groups.number.Goals as goal
+use Rattle.cx_text.specs.Bytes.{folded}
 
 pub returns-clause-number : goal.returns-clause-number
 returns-clause-number c =

@@ -7,4 +7,6 @@ use Rattle.cx_entries.proofs.keys.Keys.insert_entry.Goals as goal
 
 pub returns-in-None-clause-new : goal.returns-in-None-clause-new
 returns-in-None-clause-new c =
-    ap not (sym (no-key (entry_name (seen_entry c.args.entry.now)) _ c.args.self.now (sym c.in_ok-place.ensures ∙ ap (option_map (λ bytes. bytes.items)) c.in-None.is)))
+    ap not
+    (sym (no-key (entry_name (seen_entry c.args.entry.now)) _ c.args.self.now
+    (sym c.in_ok-place.ensures ∙ ap (option_map (λ bytes. bytes.items)) c.in-None.is)))

@@ -8,10 +8,13 @@ pub variables-preserved : goal.variables-preserved
 variables-preserved c =
     let all = c.args.variables.now in
     let i = c.variables.variable-index in
-    passed-next exchanged c.args.self.now c.variables.self c.exchange_one.new.self all (drop i all) (drop (i + 1) all) _ exchanges-run (drop_more all i _ c.variables-test.true) c.exchange_one.ensures c.variables.invariant
+    passed-next exchanged c.args.self.now c.variables.self c.exchange_one.new.self all (drop i all)
+    (drop (i + 1) all) _ exchanges-run (drop_more all i _ c.variables-test.true)
+    c.exchange_one.ensures c.variables.invariant
 
 pub returns : goal.returns
 returns c =
     let all = c.args.variables.now in
     let i = c.variables.variable-index in
-    passed-all exchanged c.args.self.now c.variables.self all (drop i all) exchanges-run (drop_all i all c.variables-test.false) c.variables.invariant
+    passed-all exchanged c.args.self.now c.variables.self all (drop i all) exchanges-run
+    (drop_all i all c.variables-test.false) c.variables.invariant

@@ -5,4 +5,5 @@ use Rattle.cx_flags.proofs.TableLaws.{Passed}
 use Rattle.cx_flags.proofs.flag_table.FlagTable.exchange.Given as goal
 
 abbrev pub invariant-variables : goal.invariant-variables
-invariant-variables l = Passed exchanged l.fn.self l.self l.variables (drop l.variable-index l.variables)
+invariant-variables l = Passed exchanged l.fn.self l.self l.variables
+    (drop l.variable-index l.variables)

@@ -10,7 +10,11 @@ loop-place-preserved c =
     let first = c.args.self.now in
     let p = c.loop-place.place - 1 in
     let put = c.put.ensures ∙ ap (set c.loop-place.self p) c.newer-flags.ensures in
-    subst (λ cells. Rotating setup first cells p) (sym put) (rotating-next setup first c.loop-place.self c.loop-place.place c.loop-place-test.true c.loop-place.invariant)
+    subst (λ cells. Rotating setup first cells p) (sym put)
+    (rotating-next setup first c.loop-place.self c.loop-place.place c.loop-place-test.true
+    c.loop-place.invariant)
 
 pub returns : goal.returns
-returns c = rotating-all (setup_of c.args.job.now) c.args.self.now c.loop-place.self c.loop-place.place c.loop-place-test.false c.loop-place.invariant
+returns c = rotating-all (setup_of c.args.job.now)
+    c.args.self.now c.loop-place.self c.loop-place.place c.loop-place-test.false
+    c.loop-place.invariant

@@ -6,4 +6,5 @@ use Rattle.cx_flags.proofs.TableLaws.{Passed}
 use Rattle.cx_flags.proofs.flag_table.FlagTable.write_all.Given as goal
 
 abbrev pub invariant-writes : goal.invariant-writes
-invariant-writes l = Passed (all_written (setup_of l.job)) l.fn.self l.self l.writes (drop l.write-index l.writes)
+invariant-writes l = Passed (all_written (setup_of l.job)) l.fn.self l.self l.writes
+    (drop l.write-index l.writes)

@@ -12,6 +12,12 @@ pairs-preserved c =
     record {
       before_length = told.before_length;
       after_length = told.after_length;
-      before = λ a b. told.before a b ∙ ap (λ t. t || ((eqb p.0 a && eqb p.1 b) && (ltb a n && ltb b n))) (c.pairs.invariant.before a b) ∙ pair_more pairs i (ltb a n && ltb b n) a b c.pairs-test.true;
-      after = λ a b. told.after a b ∙ ap (λ t. t || ((eqb p.0 a && eqb p.1 b) && (ltb a n && ltb b n))) (c.pairs.invariant.after a b) ∙ pair_more pairs i (ltb a n && ltb b n) a b c.pairs-test.true;
+      before = λ a b. told.before a b
+          ∙ ap (λ t. t || ((eqb p.0 a && eqb p.1 b) && (ltb a n && ltb b n)))
+          (c.pairs.invariant.before a b)
+          ∙ pair_more pairs i (ltb a n && ltb b n) a b c.pairs-test.true;
+      after = λ a b. told.after a b
+          ∙ ap (λ t. t || ((eqb p.0 a && eqb p.1 b) && (ltb a n && ltb b n)))
+          (c.pairs.invariant.after a b)
+          ∙ pair_more pairs i (ltb a n && ltb b n) a b c.pairs-test.true;
     }

@@ -9,6 +9,8 @@ invariant-pairs l =
     record {
       before_length : length l.graph.before ≡ l.count;
       after_length : length l.graph.after ≡ l.count;
-      before : (a b : ℕ) → links l.graph.before b a ≡ (pair_before (take l.first-index l.pairs) a b && (ltb a l.count && ltb b l.count));
-      after : (a b : ℕ) → links l.graph.after a b ≡ (pair_before (take l.first-index l.pairs) a b && (ltb a l.count && ltb b l.count));
+      before : (a b : ℕ) → links l.graph.before b a
+          ≡ (pair_before (take l.first-index l.pairs) a b && (ltb a l.count && ltb b l.count));
+      after : (a b : ℕ) → links l.graph.after a b
+          ≡ (pair_before (take l.first-index l.pairs) a b && (ltb a l.count && ltb b l.count));
     }

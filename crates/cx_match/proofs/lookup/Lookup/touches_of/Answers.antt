@@ -6,5 +6,8 @@ use Rattle.cx_match.proofs.lookup.Lookup.touches_of.Goals as goal
 
 pub wants-preserved : goal.wants-preserved
 wants-preserved c =
-    had_one (touch_of (world_of c.args.self.now) c.args.self.now.thorn) c.args.wants.now c.wants.want-index c.want-item.result c.in-Some.touch c.wants.touches c.push.new.self
-    c.wants-test.true c.want-item.is (sym c.in_ok-touch.ensures ∙ c.in-Some.is) c.wants.invariant c.in_ok-push-in-Some.ensures.ok
+    had_one (touch_of (world_of c.args.self.now) c.args.self.now.thorn)
+    c.args.wants.now c.wants.want-index c.want-item.result c.in-Some.touch c.wants.touches
+    c.push.new.self
+    c.wants-test.true c.want-item.is (sym c.in_ok-touch.ensures ∙ c.in-Some.is)
+    c.wants.invariant c.in_ok-push-in-Some.ensures.ok

@@ -4,4 +4,5 @@ use Rattle.cx_match.proofs.MatchLaws.{Sofar}
 use Rattle.cx_match.proofs.matching.Routines.matched_items.Given as goal
 
 abbrev pub invariant-items : goal.invariant-items
-invariant-items l = Sofar (world_in l.self) l.self.values.now (map (λ s. s.now) l.self.specs.now) l.run l.fn.items (length l.yielded) l.matched
+invariant-items l = Sofar (world_in l.self) l.self.values.now (map (λ s. s.now) l.self.specs.now)
+    l.run l.fn.items (length l.yielded) l.matched

@@ -6,5 +6,6 @@ use Rattle.cx_names.proofs.name_list.NameList.has.Goals as goal
 pub returns : goal.returns
 returns c =
     c.contains.ensures
-    ∙ found (λ v. v.items) c.in_ok-key.key c.self.inside.table.keys c.args.name.now c.self.inside.names.items c.in_ok-key.ensures c.self.invariant
+    ∙ found (λ v. v.items) c.in_ok-key.key c.self.inside.table.keys c.args.name.now
+    c.self.inside.names.items c.in_ok-key.ensures c.self.invariant
     ∙ ap (λ ns. among ns c.args.name.now) c.self.view_is

@@ -9,4 +9,7 @@ use Rattle.cx_order.proofs.context.Context.meant.Goals as goal
 pub returns : goal.returns
 returns c =
     let self = c.args.self.now in
-    subst (λ (thorns : List Thorn). Answers Memory (resolve thorns (sight_in self.scope.now) self.storage.now c.args.thorn c.args.name.now) c.resolve.result) c.requires.scope c.resolve.ensures
+    subst (λ (thorns : List Thorn).
+    Answers Memory (resolve thorns (sight_in self.scope.now)
+    self.storage.now c.args.thorn c.args.name.now) c.resolve.result)
+    c.requires.scope c.resolve.ensures

@@ -10,12 +10,14 @@ nth_flag-requires c = rw c.as_slice.ensures.value c.requires
 pub returns-in-Some : goal.returns-in-Some
 returns-in-Some c = λ p h.
     part_event p c.args.self.now h c.args.k c.in-Some.part c.if-k-self.true
-    (sym c.in-Some.is ∙ c.nth_flag.ensures ∙ ap (λ xs. slice_get (places_of 0 xs) c.args.k) c.as_slice.ensures.value)
+    (sym c.in-Some.is ∙ c.nth_flag.ensures
+    ∙ ap (λ xs. slice_get (places_of 0 xs) c.args.k) c.as_slice.ensures.value)
 
 pub returns-in-None : goal.returns-in-None
 returns-in-None c = λ p h.
     absurd (no_part_event p c.args.self.now h c.args.k c.if-k-self.true
-    (sym c.in-None.is ∙ c.nth_flag.ensures ∙ ap (λ xs. slice_get (places_of 0 xs) c.args.k) c.as_slice.ensures.value))
+    (sym c.in-None.is ∙ c.nth_flag.ensures
+    ∙ ap (λ xs. slice_get (places_of 0 xs) c.args.k) c.as_slice.ensures.value))
 
 pub returns-then-k-self-2 : goal.returns-then-k-self-2
 returns-then-k-self-2 c = λ p h. writer_event p c.args.self.now h c.args.k c.if-k-self-2.true

@@ -4,9 +4,11 @@ use Rattle.cx_pace.proofs.FlagLaws.{few_flags, get_inside}
 use Rattle.cx_pace.proofs.pace.Pace.event.Goals as goal
 
 pub event-requires : goal.event-requires
-event-requires c = few_flags c.self.inside.flags.parts.items (can_go c.self.inside.standings) (length c.self.inside.standings.parts) c.self.invariant.parts c.self.invariant.few
+event-requires c = few_flags c.self.inside.flags.parts.items (can_go c.self.inside.standings)
+    (length c.self.inside.standings.parts) c.self.invariant.parts c.self.invariant.few
 
 pub unreachable-requires : goal.unreachable-requires
 unreachable-requires c =
     get_inside (events c.args.self.now) c.args.k c.requires
-    (rw (← c.self.view_is) (sym (c.event.ensures c.self.inside.standings c.self.invariant) ∙ c.in-None.is))
+    (rw (← c.self.view_is) (sym (c.event.ensures c.self.inside.standings c.self.invariant)
+    ∙ c.in-None.is))

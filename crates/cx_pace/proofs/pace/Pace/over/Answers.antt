@@ -6,5 +6,6 @@ use Rattle.cx_pace.proofs.pace.Pace.over.Goals as goal
 
 pub renew-requires : goal.renew-requires
 renew-requires c =
-    same_count c.self.inside.flags.parts.items (can_go c.self.inside.standings) (length c.self.inside.standings.parts) c.self.invariant.parts
+    same_count c.self.inside.flags.parts.items (can_go c.self.inside.standings)
+    (length c.self.inside.standings.parts) c.self.invariant.parts
     ∙ sym (ap (λ (p : Paces). length p.parts) c.end.ensures)

@@ -8,5 +8,7 @@ use Rattle.cx_pace.proofs.pace.Pace.wrote.Goals as goal
 
 pub renew-requires : goal.renew-requires
 renew-requires c =
-    same_count c.self.inside.flags.parts.items (can_go c.self.inside.standings) (length c.self.inside.standings.parts) c.self.invariant.parts
-    ∙ sym (ap (λ (p : Paces). length p.parts) c.write.ensures ∙ length-map c.self.inside.standings.parts one_less)
+    same_count c.self.inside.flags.parts.items (can_go c.self.inside.standings)
+    (length c.self.inside.standings.parts) c.self.invariant.parts
+    ∙ sym (ap (λ (p : Paces). length p.parts) c.write.ensures
+    ∙ length-map c.self.inside.standings.parts one_less)

@@ -10,17 +10,24 @@ returns-clause-ok c =
     let fits : SFits w64 c.args.scalar = search rules in
     λ scalars asked.
     c.set_hind.ensures
-    ∙ ap (λ q. with_hind q c.other_hind-other.result) (c.in_ok-go_on.ensures.ok scalars (λ v e. asked v e ∙ sym (to_z-of_z w64 c.args.scalar fits)))
-    ∙ ap (with_hind (gone_on (setup_of c.args.job.now) c.args.self.now c.args.k scalars)) c.other_hind-other.ensures
+    ∙ ap (λ q. with_hind q c.other_hind-other.result)
+    (c.in_ok-go_on.ensures.ok scalars
+    (λ v e. asked v e ∙ sym (to_z-of_z w64 c.args.scalar fits)))
+    ∙ ap (with_hind (gone_on (setup_of c.args.job.now) c.args.self.now c.args.k scalars))
+    c.other_hind-other.ensures
 
 pub returns-clause-alone : goal.returns-clause-alone
 returns-clause-alone c =
     let fits : SFits w64 c.args.scalar = search rules in
     let new = c.set_hind.ensures
-    ∙ ap (λ q. with_hind q c.other_hind-other.result) (c.in_ok-go_on.ensures.ok (λ v. c.args.scalar) (λ v e. sym (to_z-of_z w64 c.args.scalar fits)))
-    ∙ ap (with_hind (gone_on (setup_of c.args.job.now) c.args.self.now c.args.k (λ v. c.args.scalar))) c.other_hind-other.ensures in
+    ∙ ap (λ q. with_hind q c.other_hind-other.result)
+    (c.in_ok-go_on.ensures.ok (λ v. c.args.scalar)
+    (λ v e. sym (to_z-of_z w64 c.args.scalar fits)))
+    ∙ ap (with_hind (gone_on (setup_of c.args.job.now) c.args.self.now c.args.k
+    (λ v. c.args.scalar))) c.other_hind-other.ensures in
     λ told.
     let all = c.is_alone.ensures told in
-    alone_by (setup_of c.args.job.now) c.args.self.now c.set_hind.new.self c.args.k (λ v. c.args.scalar) c.other_hind-other.result c.is_stop-stop.result
+    alone_by (setup_of c.args.job.now) c.args.self.now c.set_hind.new.self c.args.k
+    (λ v. c.args.scalar) c.other_hind-other.result c.is_stop-stop.result
     c.requires.part c.other_hind-other.ensures all.0 new
     (sym c.work_count.ensures ∙ all.1 ∙ c.work_count-known.ensures) c.is_stop-stop.ensures.1 all.2

@@ -7,4 +7,11 @@ use Rattle.cx_pace.proofs.standings.Standings.next.Goals as goal
 pub op_at-requires : goal.op_at-requires
 op_at-requires c =
     let below = going_place c.args.self.now c.args.k c.requires.going in
-    omega (arith, below, c.pc.ensures, ap (λ (s : Standing). s.place.pc) c.part.ensures, ap length c.as_slice.ensures, ap (λ (p : Paces). length p.ops) c.self.view_is)
+    omega (
+      arith,
+      below,
+      c.pc.ensures,
+      ap (λ (s : Standing). s.place.pc) c.part.ensures,
+      ap length c.as_slice.ensures,
+      ap (λ (p : Paces). length p.ops) c.self.view_is,
+    )

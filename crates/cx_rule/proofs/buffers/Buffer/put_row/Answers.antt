@@ -28,8 +28,10 @@ returns c =
     let at = c.args.at in
     let values = c.args.values.now in
     let d = max c.self.inside.end at in
-    let m : c.max-self-inside.result ≡ max d (at + length values) = omega (arith, c.max-self-inside.ensures, c.end_of-end.ensures) in
+    let m : c.max-self-inside.result ≡ max d (at + length values) =
+    omega (arith, c.max-self-inside.ensures, c.end_of-end.ensures) in
     rw (← c.self.view_is, c.put_row.ensures) (
-    counted_put at d c.max-self-inside.result c.set_zeros.new.self values (omega arith) m (omega (arith, h, n, c.set_zeros.ensures.count))
+    counted_put at d c.max-self-inside.result c.set_zeros.new.self values (omega arith) m
+    (omega (arith, h, n, c.set_zeros.ensures.count))
     ∙ ap (λ ns. put_from at ns values) c.set_zeros.ensures.value
     )

@@ -25,8 +25,10 @@ set-requires c =
 pub returns : goal.returns
 returns c =
     let at = c.args.at in
-    let m : at < c.max-self-inside.result = omega (arith, c.max-self-inside.ensures, c.end_of-end.ensures) in
+    let m : at < c.max-self-inside.result =
+    omega (arith, c.max-self-inside.ensures, c.end_of-end.ensures) in
     rw (← c.self.view_is, c.set.ensures, to_z-of_z w64 _ c.ranges.value) (
     counted_set c.max-self-inside.result at c.set_zeros.new.self c.args.value m
-    ∙ ap (λ ns. slice_set ns at c.args.value) (rw (← c.max-self-inside.ensures) at c.set_zeros.ensures.value)
+    ∙ ap (λ ns. slice_set ns at c.args.value)
+    (rw (← c.max-self-inside.ensures) at c.set_zeros.ensures.value)
     )

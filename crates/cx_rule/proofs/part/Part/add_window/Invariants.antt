@@ -10,5 +10,6 @@ use Rattle.cx_rule.proofs.part.Part.add_window.Given as goal
 abbrev pub invariant-offsets : goal.invariant-offsets
 invariant-offsets l =
     l.w ≡ with_window l.fn.w l.read.reach
-    (shown_to (λ i. values_in l.self l.read.var l.read.level (shifted l.p (point_in (reach_box l.self.shape.dims l.read.reach) i)))
+    (shown_to (λ i. values_in l.self l.read.var l.read.level
+    (shifted l.p (point_in (reach_box l.self.shape.dims l.read.reach) i)))
     (volume_of l.self.shape.dims l.read.reach) l.i)

@@ -10,7 +10,8 @@ returns-then-not-fit-clause-sets c =
     let p = with_buffers c.args.self.now c.args.staged.now 0 in
     let x = c.args.item.now in
     let fit = rw c.as_slice.ensures at c.fit.ensures.value in
-    let e = sym c.if-not-fit.true ∙ fit ∙ levels_tested (setup_in p) p.local c.args.zone.now x.writes p.staged c.requires.writes in
+    let e = sym c.if-not-fit.true ∙ fit
+    ∙ levels_tested (setup_in p) p.local c.args.zone.now x.writes p.staged c.requires.writes in
     (levels_none p x c.args.zone.now e, refl)
 
 pub returns-clause-sets : goal.returns-clause-sets
@@ -18,8 +19,10 @@ returns-clause-sets c =
     let p = with_buffers c.args.self.now c.args.staged.now 0 in
     let x = c.args.item.now in
     let fit = rw c.as_slice.ensures at c.fit.ensures.value in
-    let e = sym c.if-not-fit.false ∙ fit ∙ levels_tested (setup_in p) p.local c.args.zone.now x.writes p.staged c.requires.writes in (
-      levels_put p c.args.zone.now c.args.staged.now (length x.writes) 0 x.writes c.args.self.now.numbers,
+    let e = sym c.if-not-fit.false ∙ fit
+    ∙ levels_tested (setup_in p) p.local c.args.zone.now x.writes p.staged c.requires.writes in (
+      levels_put p c.args.zone.now c.args.staged.now (length x.writes)
+          0 x.writes c.args.self.now.numbers,
       levels_some p x c.args.zone.now e,
       rw (c.as_slice-2.ensures, c.fit.ensures.same) at c.put_levels.ensures.value,
     )

@@ -7,4 +7,5 @@ use Rattle.cx_rule.proofs.part.Part.copy.Goals as goal
 pub vars-preserved : goal.vars-preserved
 vars-preserved c =
     let h : c.vars.v-index < length c.args.vars.now = search rules in
-    vars_more (λ v. numbers_in c.args.b.now (values_in c.args.self.now v 0)) c.args.vars.now c.vars.v-index _ _ h c.vars.invariant c.in_ok-copy_box.ensures
+    vars_more (λ v. numbers_in c.args.b.now (values_in c.args.self.now v 0))
+    c.args.vars.now c.vars.v-index _ _ h c.vars.invariant c.in_ok-copy_box.ensures

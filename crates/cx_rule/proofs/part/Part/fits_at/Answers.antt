@@ -13,21 +13,32 @@ use Rattle.cx_rule.proofs.part.Part.fits_at.Goals as goal
 
 pub number-requires-clause-at : goal.number-requires-clause-at
 number-requires-clause-at c =
-    let below : c.writes.k < length c.args.staged.now = omega (arith, c.writes-test.true, c.requires.writes) in
-    rw (buffer_length c.args.self.now.local c.args.staged.now c.requires.buffers c.writes.k below) c.requires.place
+    let below : c.writes.k < length c.args.staged.now =
+    omega (arith, c.writes-test.true, c.requires.writes) in
+    rw (buffer_length c.args.self.now.local c.args.staged.now c.requires.buffers c.writes.k below)
+    c.requires.place
 
 pub returns-then-not-fits : goal.returns-then-not-fits
 returns-then-not-fits c =
-    let touch : Touch = record { var = record { 0 = 0 }; level = 0; region = Interior; reach = 0 } in
+    let touch : Touch = record { var = record { 0 = 0 }; level = 0; region = Interior; reach = 0 }
+    in
     let setup = setup_in c.args.self.now in
     let ws = c.args.writes.now in
     let ns = numbers_staged c.args.staged.now (length ws) c.args.at in
     let k = c.writes.k in
     let within : k < length ws = omega (arith, c.writes-test.true) in
-    let long : k < length ns = omega (arith, within, staged_length c.args.staged.now (length ws) c.args.at c.requires.writes) in
+    let long : k < length ns =
+    omega (
+      arith,
+      within,
+      staged_length c.args.staged.now (length ws)
+          c.args.at c.requires.writes,
+    ) in
     let step = fit_step setup ws ns k touch within long in
     let r : SFits w64 c.number.result = search rules in
-    let n : get_or ns k (pos 0) ≡ c.number.result = staged_number c.args.staged.now (length ws) c.args.at k (pos 0) within c.requires.writes ∙ sym c.number.ensures in
+    let n : get_or ns k (pos 0) ≡ c.number.result =
+    staged_number c.args.staged.now (length ws) c.args.at k (pos 0) within c.requires.writes
+    ∙ sym c.number.ensures in
     let f = rw (c.info.ensures.value, to_z-of_z w64 _ r) at c.fits.ensures in
     let one = ap (fits (variable setup (get_or ws k touch).var).ctype) n ∙ sym f in
     let rest = all_fit setup (drop (k + 1) ws) (drop (k + 1) ns) in
@@ -35,16 +46,25 @@ returns-then-not-fits c =
 
 pub writes-preserved : goal.writes-preserved
 writes-preserved c =
-    let touch : Touch = record { var = record { 0 = 0 }; level = 0; region = Interior; reach = 0 } in
+    let touch : Touch = record { var = record { 0 = 0 }; level = 0; region = Interior; reach = 0 }
+    in
     let setup = setup_in c.args.self.now in
     let ws = c.args.writes.now in
     let ns = numbers_staged c.args.staged.now (length ws) c.args.at in
     let k = c.writes.k in
     let within : k < length ws = omega (arith, c.writes-test.true) in
-    let long : k < length ns = omega (arith, within, staged_length c.args.staged.now (length ws) c.args.at c.requires.writes) in
+    let long : k < length ns =
+    omega (
+      arith,
+      within,
+      staged_length c.args.staged.now (length ws)
+          c.args.at c.requires.writes,
+    ) in
     let step = fit_step setup ws ns k touch within long in
     let r : SFits w64 c.number.result = search rules in
-    let n : get_or ns k (pos 0) ≡ c.number.result = staged_number c.args.staged.now (length ws) c.args.at k (pos 0) within c.requires.writes ∙ sym c.number.ensures in
+    let n : get_or ns k (pos 0) ≡ c.number.result =
+    staged_number c.args.staged.now (length ws) c.args.at k (pos 0) within c.requires.writes
+    ∙ sym c.number.ensures in
     let f = rw (c.info.ensures.value, to_z-of_z w64 _ r) at c.fits.ensures in
     let one = ap (fits (variable setup (get_or ws k touch).var).ctype) n ∙ sym f in
     let rest = all_fit setup (drop (k + 1) ws) (drop (k + 1) ns) in

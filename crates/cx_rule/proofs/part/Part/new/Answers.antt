@@ -8,4 +8,6 @@ pub zero_levels-requires-clause-small : goal.zero_levels-requires-clause-small
 zero_levels-requires-clause-small c = local_small _ _ _ c.requires
 
 pub invariant_of-result : goal.invariant_of-result
-invariant_of-result c = rw (c.in_ok-zero_levels.ensures, c.in_ok-copies.ensures, c.as_slice.ensures, c.as_slice-2.ensures) (new_patch_is _ _ _ _ c.requires)
+invariant_of-result c = rw
+    (c.in_ok-zero_levels.ensures, c.in_ok-copies.ensures, c.as_slice.ensures, c.as_slice-2.ensures)
+    (new_patch_is _ _ _ _ c.requires)

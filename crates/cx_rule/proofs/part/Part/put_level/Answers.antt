@@ -25,7 +25,9 @@ take_zone-requires-clause-room c =
 pub invariant_of-self : goal.invariant_of-self
 invariant_of-self c =
     let g = rw (← c.self.view_is) at c.requires.level in
-    rw c.take_zone.ensures.levels (patch_by_sizes _ _ c.self.invariant (same_sizes c.self.inside.numbers.items c.args.v c.args.level _
+    rw c.take_zone.ensures.levels
+    (patch_by_sizes _ _ c.self.invariant
+    (same_sizes c.self.inside.numbers.items c.args.v c.args.level _
     (length-map-range_with_len _ 0 _ ∙ sym (grid_size _ c.args.v c.args.level c.self.invariant g))))
 
 pub returns-clause-patch : goal.returns-clause-patch

@@ -12,4 +12,9 @@ set_at-requires-clause-at c =
     rw (grid_count _ c.args.v c.args.level c.requires.level) b
 
 pub returns : goal.returns
-returns c = rw (c.set_at.ensures, c.index_of-at.ensures.value, c.local.ensures.value, to_z-of_z w64 c.args.value c.ranges.value) refl
+returns c = rw (
+  c.set_at.ensures,
+  c.index_of-at.ensures.value,
+  c.local.ensures.value,
+  to_z-of_z w64 c.args.value c.ranges.value,
+) refl

@@ -21,7 +21,9 @@ set_number-requires-clause-at c =
 
 pub invariant_of-self : goal.invariant_of-self
 invariant_of-self c =
-    rw (c.set_number.ensures, to_z-of_z w64 c.args.value c.ranges.value) (written_patch _ c.args.v c.args.level c.args.at c.args.value c.self.invariant)
+    rw (c.set_number.ensures, to_z-of_z w64 c.args.value c.ranges.value)
+    (written_patch _ c.args.v c.args.level c.args.at c.args.value c.self.invariant)
 
 pub returns : goal.returns
-returns c = rw (← c.self.view_is, c.set_number.ensures, to_z-of_z w64 c.args.value c.ranges.value) refl
+returns c = rw (← c.self.view_is, c.set_number.ensures, to_z-of_z w64 c.args.value c.ranges.value)
+    refl

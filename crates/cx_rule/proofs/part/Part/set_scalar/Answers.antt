@@ -15,4 +15,5 @@ pub returns : goal.returns
 returns c =
     rw (c.set_at.ensures, to_z-of_z w64 c.args.value c.ranges.value)
     (ap (λ ns. with_numbers c.args.self.now (with_level c.args.self.now.numbers c.args.v 0 ns))
-    (one_set (level_of c.args.self.now.numbers c.args.v 0) c.args.value (scalar_size c.args.self.now c.args.v c.local.ensures.patch c.requires)))
+    (one_set (level_of c.args.self.now.numbers c.args.v 0) c.args.value
+    (scalar_size c.args.self.now c.args.v c.local.ensures.patch c.requires)))

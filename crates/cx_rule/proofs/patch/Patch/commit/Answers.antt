@@ -11,7 +11,9 @@ returns-in_err-commit c =
     let p = err_from_is_err_and c.from_residual.result c.from_residual.ensures.1 in
     let e = c.in_err-commit.ensures.sets.1 in
     rw (← c.self.view_is, p.1) (
-      sym (room_free c.args.item.now.kind c.self.inside.part c.self.inside.staged 0 c.self.inside.window.room c.args.item.now c.args.zone.now) ∙ c.in_err-commit.ensures.sets.0,
+      sym (room_free c.args.item.now.kind c.self.inside.part c.self.inside.staged 0
+          c.self.inside.window.room c.args.item.now c.args.zone.now)
+          ∙ c.in_err-commit.ensures.sets.0,
       rw (e, c.in_err-commit.ensures.kept) refl,
     )
 
@@ -19,7 +21,8 @@ pub invariant_of-self-2 : goal.invariant_of-self-2
 invariant_of-self-2 c =
     let e = c.in_ok-commit.ensures.sets.2 in
     let same = cleared_same c.self.inside.staged c.commit.new.staged c.commit.ensures.sizes in
-    rw (e, c.clear.ensures, same) (buffers_moved _ _ _ _ (buffers_kept _ _ _ c.self.invariant _ (cleared_sizes _)))
+    rw (e, c.clear.ensures, same)
+    (buffers_moved _ _ _ _ (buffers_kept _ _ _ c.self.invariant _ (cleared_sizes _)))
 
 pub returns : goal.returns
 returns c =
@@ -27,6 +30,8 @@ returns c =
     let same = cleared_same c.self.inside.staged c.commit.new.staged c.commit.ensures.sizes in
     rw (← c.self.view_is) (
       c.in_ok-commit.ensures.sets.0,
-      sym (room_free c.args.item.now.kind c.self.inside.part c.self.inside.staged 0 c.self.inside.window.room c.args.item.now c.args.zone.now) ∙ c.in_ok-commit.ensures.sets.1,
+      sym (room_free c.args.item.now.kind c.self.inside.part c.self.inside.staged 0
+          c.self.inside.window.room c.args.item.now c.args.zone.now)
+          ∙ c.in_ok-commit.ensures.sets.1,
       rw (e, c.clear.ensures, same) refl,
     )

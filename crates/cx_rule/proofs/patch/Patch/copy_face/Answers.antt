@@ -5,4 +5,5 @@ use Rattle.cx_rule.proofs.patch.Patch.copy_face.Goals as goal
 pub returns : goal.returns
 returns c =
     let e = rw (c.face-layers.ensures.value, c.as_slice.ensures) at c.in_ok-values.ensures in
-    c.new.ensures ∙ e ∙ ap (λ p. box_numbers p (face_in p c.args.dir c.args.side) c.args.vars.now) c.self.view_is
+    c.new.ensures ∙ e ∙ ap (λ p. box_numbers p (face_in p c.args.dir c.args.side) c.args.vars.now)
+    c.self.view_is

@@ -13,11 +13,13 @@ leave_open-requires-clause-room c =
     omega (arith, e, n, m)
 
 pub returns-clause-patch : goal.returns-clause-patch
-returns-clause-patch c = rw (← c.self.view_is) (buffered _ _ _ _ c.local.ensures.patch c.self.invariant)
+returns-clause-patch c =
+    rw (← c.self.view_is) (buffered _ _ _ _ c.local.ensures.patch c.self.invariant)
 
 pub returns-clause-left : goal.returns-clause-left
 returns-clause-left c =
     let e = rw c.local.ensures.value at c.index_of-at.ensures.value in
     rw (← c.self.view_is)
-    (leaves_open c.self.inside.part c.self.inside.staged c.leave_open.new.self c.self.inside.window.room c.args.low c.args.count
+    (leaves_open c.self.inside.part c.self.inside.staged c.leave_open.new.self
+    c.self.inside.window.room c.args.low c.args.count
     c.index_of-at.result e c.leave_open.ensures.left c.leave_open.ensures.level)

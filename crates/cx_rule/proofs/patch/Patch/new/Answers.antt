@@ -9,4 +9,5 @@ pub count-requires-clause-small : goal.count-requires-clause-small
 count-requires-clause-small c = local_small _ _ _ c.requires
 
 pub invariant_of-result : goal.invariant_of-result
-invariant_of-result c = rw (c.in_ok-zeros.ensures, c.count.ensures, c.in_ok-new.ensures) (new_buffers _ _ _ c.in_ok-cells_up_to.ensures)
+invariant_of-result c = rw (c.in_ok-zeros.ensures, c.count.ensures, c.in_ok-new.ensures)
+    (new_buffers _ _ _ c.in_ok-cells_up_to.ensures)

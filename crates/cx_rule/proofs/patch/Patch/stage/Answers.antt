@@ -11,8 +11,15 @@ set-requires-clause-at c =
 
 pub invariant_of-self : goal.invariant_of-self
 invariant_of-self c =
-    rw c.set.ensures (buffers_kept _ _ _ c.self.invariant _ (buffer_sizes_kept _ c.args.k c.index_of-at.result _))
+    rw c.set.ensures (buffers_kept _ _ _ c.self.invariant _
+    (buffer_sizes_kept _ c.args.k c.index_of-at.result _))
 
 pub returns : goal.returns
 returns c =
-    rw (← c.self.view_is, c.set.ensures, to_z-of_z w64 c.args.value c.ranges.value, c.index_of-at.ensures.value, c.local.ensures.value) refl
+    rw (
+      ← c.self.view_is,
+      c.set.ensures,
+      to_z-of_z w64 c.args.value c.ranges.value,
+      c.index_of-at.ensures.value,
+      c.local.ensures.value,
+    ) refl

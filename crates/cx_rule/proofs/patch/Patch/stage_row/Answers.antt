@@ -21,7 +21,13 @@ invariant_of-self c =
     let e = rw c.local.ensures.value at c.index_of-at.ensures.value in
     let n = row_end c.self.inside.part.local c.args.low (length c.args.values.now) low high in
     let m = buffer_size _ _ _ c.self.invariant c.args.k h in
-    rw c.put_row.ensures (buffers_kept _ _ _ c.self.invariant _ (row_sizes_kept _ c.args.k c.index_of-at.result c.args.values.now (omega (arith, e, n, m))))
+    rw c.put_row.ensures (buffers_kept _ _ _ c.self.invariant _
+    (row_sizes_kept _ c.args.k c.index_of-at.result c.args.values.now (omega (arith, e, n, m))))
 
 pub returns : goal.returns
-returns c = rw (← c.self.view_is, c.put_row.ensures, c.index_of-at.ensures.value, c.local.ensures.value) refl
+returns c = rw (
+  ← c.self.view_is,
+  c.put_row.ensures,
+  c.index_of-at.ensures.value,
+  c.local.ensures.value,
+) refl

@@ -8,5 +8,9 @@ use Rattle.cx_scope.proofs.scope.Scope.group_of.Goals as goal
 
 pub returns : goal.returns
 returns c =
-    let A : View → Type 0 = λ view. Answers Memory (group_of (thorns_in view) (sight_in view) c.args.thorn c.args.name.now) c.group_members.result in
-    subst A c.self.view_is (grouped c.self.inside.bound.now c.self.inside.tables c.self.invariant c.args.thorn c.args.name.now c.group_members.result c.group_members.ensures)
+    let A : View → Type 0 =
+    λ view. Answers Memory
+    (group_of (thorns_in view) (sight_in view) c.args.thorn c.args.name.now)
+    c.group_members.result in
+    subst A c.self.view_is (grouped c.self.inside.bound.now c.self.inside.tables c.self.invariant
+    c.args.thorn c.args.name.now c.group_members.result c.group_members.ensures)

@@ -6,13 +6,17 @@ pub names-init : goal.names-init
 names-init c = begun
 
 pub names-preserved : goal.names-preserved
-names-preserved c = turned more_names_short c.names.invariant c.at_comma_or_word.ensures c.names-test.true c.in_ok-more_names.ensures
+names-preserved c = turned more_names_short c.names.invariant c.at_comma_or_word.ensures
+    c.names-test.true c.in_ok-more_names.ensures
 
 pub names-smaller : goal.names-smaller
 names-smaller c = fewer more_names_short c.in_ok-more_names.ensures
 
 pub returns-in_err-more_names : goal.returns-in_err-more_names
-returns-in_err-more_names c = stopped _ _ _ _ more_names_short c.names.invariant c.at_comma_or_word.ensures c.names-test.true c.in_err-more_names.ensures c.from_residual.ensures.1
+returns-in_err-more_names c =
+    stopped _ _ _ _ more_names_short c.names.invariant c.at_comma_or_word.ensures c.names-test.true
+    c.in_err-more_names.ensures c.from_residual.ensures.1
 
 pub returns : goal.returns
-returns c = ended_at more_names_short c.names.invariant c.at_comma_or_word.ensures c.names-test.false
+returns c = ended_at more_names_short c.names.invariant c.at_comma_or_word.ensures
+    c.names-test.false

@@ -5,7 +5,8 @@ use Rattle.cx_text.proofs.Loops.{SoFar}
 use Rattle.cx_text.proofs.reader.Reader.names_after.Given as goal
 
 abbrev pub invariant-names : goal.invariant-names
-invariant-names l = SoFar is_comma_or_word more_names l.names l.self.rest.now ((loop is_comma_or_word more_names l.fn.names).reads l.fn.self.rest.now)
+invariant-names l = SoFar is_comma_or_word more_names l.names l.self.rest.now
+    ((loop is_comma_or_word more_names l.fn.names).reads l.fn.self.rest.now)
 
 abbrev pub decreases-names : goal.decreases-names
 decreases-names l = length l.self.rest.now

@@ -7,4 +7,5 @@ pub returns-clause-numbers : goal.returns-clause-numbers
 returns-clause-numbers c =
     let fits : SFits w64 c.param.result = search rules in
     let cells = rw (to_z-of_z fits) at c.next_row.ensures.cells in
-    ca_row (seen_row c.args.row.now) c.param.result _ _ _ c.requires.fits c.param.ensures c.along.ensures c.requires.count cells
+    ca_row (seen_row c.args.row.now)
+    c.param.result _ _ _ c.requires.fits c.param.ensures c.along.ensures c.requires.count cells

@@ -23,7 +23,9 @@ returns-clause-numbers c =
     }
     in
     on_ok_weaker c.next_row.result
-    (heat_row (seen_row c.args.row.now) c.param.result c.rows_around-around.result _ _ around itself c.param.ensures c.requires.count)
+    (heat_row (seen_row c.args.row.now)
+    c.param.result c.rows_around-around.result _ _ around itself c.param.ensures
+    c.requires.count)
     (rw (to_z-of_z fits) at c.next_row.ensures.numbers)
 
 pub returns-clause-overflow : goal.returns-clause-overflow
@@ -45,5 +47,6 @@ returns-clause-overflow c =
     }
     in
     on_err_weaker c.next_row.result
-    (heat_lacks (seen_row c.args.row.now) c.param.result c.rows_around-around.result _ around itself c.param.ensures c.requires.count)
+    (heat_lacks (seen_row c.args.row.now)
+    c.param.result c.rows_around-around.result _ around itself c.param.ensures c.requires.count)
     (rw (to_z-of_z fits) at c.next_row.ensures.overflow)

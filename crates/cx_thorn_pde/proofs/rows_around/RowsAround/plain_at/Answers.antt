@@ -7,5 +7,7 @@ use Rattle.cx_thorn_pde.proofs.rows_around.RowsAround.plain_at.Goals as goal
 pub returns : goal.returns
 returns c =
     let f : SFits w64 c.next_plain.result = search rules in
-    let same : c.next_plain.result ≡ next_of (pos c.args.factor) (number_at c.args.self.now.before c.args.i) (star_at c.args.self.now c.args.i) = search rules in
+    let same : c.next_plain.result
+    ≡ next_of (pos c.args.factor) (number_at c.args.self.now.before c.args.i)
+    (star_at c.args.self.now c.args.i) = search rules in
     rw (to_z-of_z f) (fits c.next_plain.result f ∙ ap in_64_bits same)

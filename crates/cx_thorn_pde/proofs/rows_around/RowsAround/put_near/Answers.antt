@@ -6,5 +6,6 @@ pub places-preserved : goal.places-preserved
 places-preserved c =
     let fits : SFits w64 c.plain_at.result = search rules in (
       search rules,
-      one_more _ c.places.out c.places.i _ (search rules) (ap Some (to_z-of_z fits) ∙ c.plain_at.ensures) c.places.invariant.1,
+      one_more _ c.places.out c.places.i _ (search rules)
+          (ap Some (to_z-of_z fits) ∙ c.plain_at.ensures) c.places.invariant.1,
     )

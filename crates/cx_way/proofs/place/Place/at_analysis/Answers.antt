@@ -14,5 +14,7 @@ returns c =
     let place = analysis_place (setup_of job) in
     let there : landed c.args.ops.now ≡ place = ap landed is ∙ lands (setup_of job) in
     let few : place < 2 ^ 31 = analysis_small job whole in
-    let here : c.landing_place.result ≡ place = c.landing_place.ensures (omega (arith, there, few)) ∙ there in
-    ap (seen c.landing_place.result c.args.iteration) c.new.ensures ∙ ap (λ n. at_place n c.args.iteration) here
+    let here : c.landing_place.result ≡ place =
+    c.landing_place.ensures (omega (arith, there, few)) ∙ there in
+    ap (seen c.landing_place.result c.args.iteration) c.new.ensures.items
+    ∙ ap (λ n. at_place n c.args.iteration) here

@@ -9,4 +9,5 @@ returns-clause-taken c =
     let rest = rw c.number-at.ensures.value at c.take_from-mail.ensures.rest in
     let front = rw c.number-at.ensures.value at c.take_from-mail.ensures.front in
     rw (← c.self.view_is)
-    (one_less (IsTrue true) c.self.inside.parts _ _ c.self.invariant.full c.args.from c.args.to f o _ _ rest front)
+    (one_less (IsTrue true)
+    c.self.inside.parts _ _ c.self.invariant.full c.args.from c.args.to f o _ _ rest front)

@@ -8,5 +8,7 @@ returns-clause-sent c =
     let o = rw (← c.self.view_is) at c.requires.to in
     rw (← c.self.view_is)
     (if_sent c.add_to.result
-    (λ e. one_more (IsTrue true) c.self.inside.parts _ _ c.self.invariant.full c.args.from c.args.to f o c.args.mail (rw c.number-at.ensures.value at e))
+    (λ e. one_more (IsTrue true)
+    c.self.inside.parts _ _ c.self.invariant.full c.args.from c.args.to f o c.args.mail
+    (rw c.number-at.ensures.value at e))
     c.add_to.ensures.ok)

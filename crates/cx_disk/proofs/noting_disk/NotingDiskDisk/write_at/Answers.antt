@@ -1,0 +1,21 @@
+use Rattle.std.proofs.Common.{length, refl}
+use Rattle.std.proofs.lemmas.Result.{err_from_is_err_and}
+use Rattle.cx_disk.specs.Disk.{Changes, Torn}
+use Rattle.cx_disk.specs.Memory.{reading, view_of}
+use Rattle.cx_disk.specs.MemoryLaws.{torn_same}
+use Rattle.cx_disk.proofs.Memory.{passes_alone}
+use Rattle.cx_disk.proofs.noting_disk.NotingDiskDisk.write_at.Goals as goal
+
+pub returns-in_err-note-clause-stopped : goal.returns-in_err-note-clause-stopped
+returns-in_err-note-clause-stopped c =
+    let p = err_from_is_err_and c.from_residual.result c.from_residual.ensures.1 in
+    rw p.1 (torn_same c.args.at (length c.args.bytes.now) (reading c.args.self.now c.args.file))
+
+pub returns-in_err-note-clause-after : goal.returns-in_err-note-clause-after
+returns-in_err-note-clause-after c =
+    passes_alone (Changes (Torn c.args.at (length c.args.bytes.now)) c.args.file)
+    (view_of c.args.self.now)
+    (λ files. record {
+      this = torn_same c.args.at (length c.args.bytes.now) (files c.args.file);
+      others = λ other ne. refl;
+    })

@@ -1,0 +1,5 @@
+//! Tests of the faults' messages.
+#![tactic(auto)]
+
+#[cfg(test)]
+mod messages;

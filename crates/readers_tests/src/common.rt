@@ -1,0 +1,14 @@
+//! Words for what the readers give.
+
+use cx_text::{List, Memory, Text};
+use std::alloc::Global;
+
+/// Names, each after a blank.
+pub(crate) fn words(alloc: Global, names: &List<Text>) -> Result<Text, Memory> {
+    let mut words = Text::new(Vec::new(alloc));
+    for name in names.as_slice() {
+        words.push_slice(b" ")?;
+        words.push_slice(name.as_slice())?;
+    }
+    Ok(words)
+}

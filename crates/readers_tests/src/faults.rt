@@ -1,0 +1,76 @@
+//! The first faults of all kinds of files, with their lines.
+
+use crate::{configurations, interfaces, parameter_files, params, schedules};
+use cx_conf::{read_configuration, read_thornlist};
+use cx_iface::read_interface;
+use cx_param::read_params;
+use cx_parfile::read_parfile;
+use cx_sched::read_schedule;
+use cx_text::{CclFault, Style, Text, tokens};
+use std::alloc::Global;
+use std::process::Abort;
+use std::test::Fail;
+
+/// What a text is read as.
+#[derive(Clone, Copy, Debug)]
+enum Kind {
+    Interface,
+    Params,
+    Schedule,
+    Configuration,
+    ThornList,
+    ParameterFile,
+}
+
+/// Each reader's texts that have a fault.
+const FAULTS: &[(Kind, &[(&str, CclFault)])] = &[
+    (Kind::Interface, interfaces::FAULTS),
+    (Kind::Params, params::FAULTS),
+    (Kind::Schedule, schedules::FAULTS),
+    (Kind::Configuration, configurations::FAULTS),
+    (Kind::ThornList, configurations::LIST_FAULTS),
+    (Kind::ParameterFile, parameter_files::FAULTS),
+];
+
+fn style_of(kind: Kind) -> Style {
+    match kind {
+        Kind::ThornList => Style::Thorns,
+        Kind::ParameterFile => Style::Par,
+        _ => Style::Ccl,
+    }
+}
+
+/// The first fault of a text.
+fn fault_of(alloc: Global, kind: Kind, text: &str) -> Result<Option<CclFault>, Fail> {
+    let list = tokens(alloc, text.as_bytes(), style_of(kind))?;
+    let base = Text::from_slice(alloc, b"box")?;
+    Ok(match kind {
+        Kind::Interface => read_interface(alloc, &list).err(),
+        Kind::Params => read_params(alloc, &list).err(),
+        Kind::Schedule => read_schedule(alloc, &list).err(),
+        Kind::Configuration => read_configuration(alloc, &list).err(),
+        Kind::ThornList => read_thornlist(alloc, &list).err(),
+        Kind::ParameterFile => read_parfile(alloc, &list, &base).err(),
+    })
+}
+
+fn assert_faults(
+    rt: &impl Abort,
+    alloc: Global,
+    kind: Kind,
+    faults: &[(&str, CclFault)],
+) -> Result<(), Fail> {
+    for (text, want) in faults {
+        let fault = fault_of(alloc, kind, text)?;
+        assert_eq!(rt; fault, Some(*want), "{text:?} as {kind:?}");
+    }
+    Ok(())
+}
+
+#[test]
+fn faults_stand_on_these_lines(rt: HostRuntime) -> Result<(), Fail> {
+    for (kind, faults) in FAULTS {
+        assert_faults(&rt, rt.alloc(), *kind, faults)?;
+    }
+    Ok(())
+}
