@@ -1,7 +1,7 @@
 //! The program: what the words ask of a parameter file in the current folder.
 #![tactic(auto)]
 
-use cx_samples::{program_words, run_words};
+use cx_program::{program_words, run_words};
 use std::process::ExitCode;
 
 /// Runs what the program's words ask for.

@@ -4,10 +4,10 @@ use Rattle.cx_plan.specs.Setups.{Setup, setup_of}
 use Rattle.cx_plan.specs.declared.job.Job.{Job}
 use Rattle.cx_plan.specs.declared.variable.VarId.{VarId}
 use Rattle.cx_rule.specs.Routine.{Rule}
-use Rattle.cx_gather.specs.Gathering.{HasPiece}
+use Rattle.cx_core_buffers.specs.Gathering.{HasPiece}
 use Rattle.cx_wire.specs.Messages.{Sent}
-use Rattle.cx_parts.specs.Beginnings.{Beginning, Afresh, From, IsBeginning, run_of}
-use Rattle.cx_parts.specs.Totals.{undivided_from}
+use Rattle.law_parts.specs.Beginnings.{Beginning, Afresh, From, IsBeginning, run_of}
+use Rattle.law_parts.specs.Totals.{undivided_from}
 use Rattle.cx_core.specs.declared.answers.Event.{Event}
 use Rattle.cx_core.specs.declared.answers.Event.TheVariants.{Section}
 use Rattle.cx_core.specs.declared.answers.Outcome.TheVariants.{Going}

@@ -3,7 +3,7 @@
 ghost use Rattle.std.specs.Prelude.{◌≡◌, ◌≤◌, ◌↔◌, IsTrue, length, map, IfOk};
 ghost use Rattle.cx_cut.specs.Cuts.{part_count};
 ghost use Rattle.cx_cut.specs.Faults.{parts_of};
-ghost use Rattle.cx_gather.specs.Gathering.{HasPiece};
+ghost use Rattle.cx_core_buffers.specs.Gathering.{HasPiece};
 ghost use Rattle.cx_model.specs.States.{number_count};
 ghost use Rattle.cx_plan.specs.Lookups.{variable};
 ghost use Rattle.cx_plan.specs.Setups.{setup_of};

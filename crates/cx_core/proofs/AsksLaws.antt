@@ -15,17 +15,17 @@ use Rattle.cx_flat.specs.declared.op.Op.TheVariants as op
 use Rattle.cx_flat.specs.Code.{op_at, code}
 use Rattle.cx_ghost.specs.Takes.{needed, BeginsWith}
 use Rattle.cx_wire.specs.Messages.{Sent as SentMail}
-use Rattle.cx_parts.specs.Operations.{NamesWell, is_reduction}
-use Rattle.cx_parts.specs.Runs.{Run, parts_in, cut_of}
-use Rattle.cx_parts.proofs.CountLaws.{sum_same}
-use Rattle.cx_parts.proofs.WholeRun.{names_at}
-use Rattle.cx_part.specs.Frames.{IsPatchOf}
-use Rattle.cx_part.specs.Jobs.{IsChecked, IsCutOf, IsOperation}
-use Rattle.cx_part.proofs.OwnedLaws.{owned_few}
-use Rattle.cx_gather.specs.Boards.{front}
-use Rattle.cx_gather.specs.Checkpoints.{HoldsState}
-use Rattle.cx_gather.specs.Gathering.{HasPiece}
-use Rattle.cx_pace.specs.Paces.{op_of}
+use Rattle.law_parts.specs.Operations.{NamesWell, is_reduction}
+use Rattle.law_parts.specs.Runs.{Run, parts_in, cut_of}
+use Rattle.law_parts.proofs.CountLaws.{sum_same}
+use Rattle.law_parts.proofs.WholeRun.{names_at}
+use Rattle.cx_core_part.specs.Frames.{IsPatchOf}
+use Rattle.cx_core_part.specs.Jobs.{IsChecked, IsCutOf, IsOperation}
+use Rattle.cx_core_part.proofs.OwnedLaws.{owned_few}
+use Rattle.cx_core_buffers.specs.Boards.{front}
+use Rattle.cx_core_buffers.specs.Checkpoints.{HoldsState}
+use Rattle.cx_core_buffers.specs.Gathering.{HasPiece}
+use Rattle.cx_core_events.specs.Paces.{op_of}
 use Rattle.cx_core.specs.Cores.{Cores}
 use Rattle.cx_core.specs.Moving.{Holdings, HasFronts, Asks, CanOperate}
 use Rattle.cx_core.specs.Steps.{Counts}

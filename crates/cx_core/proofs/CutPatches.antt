@@ -15,12 +15,12 @@ use Rattle.cx_cut.proofs.AxisFacts.{start_more, start_le}
 use Rattle.cx_cut.proofs.Boxed.{place_below}
 use Rattle.cx_field.specs.Patches.{PatchValue, IsPart, number_count, unstaged}
 use Rattle.cx_field.proofs.PartLaws.{local_box, local_small}
-use Rattle.cx_parts.specs.Holding.{IsHeld}
-use Rattle.cx_parts.specs.Runs.{Run, parts_in, cut_of}
-use Rattle.cx_parts.proofs.WholeRun.{IsRun, shape}
-use Rattle.cx_part.specs.Frames.{IsPatchOf}
-use Rattle.cx_parts.proofs.FilledLaws.{same_list}
-use Rattle.cx_gather.proofs.PieceLaws.{IsPartOf}
+use Rattle.law_parts.specs.Holding.{IsHeld}
+use Rattle.law_parts.specs.Runs.{Run, parts_in, cut_of}
+use Rattle.law_parts.proofs.WholeRun.{IsRun, shape}
+use Rattle.cx_core_part.specs.Frames.{IsPatchOf}
+use Rattle.law_parts.proofs.FilledLaws.{same_list}
+use Rattle.cx_core_buffers.proofs.PieceLaws.{IsPartOf}
 
 -- what a part owns of a direction
 record Span (n g low high : ℤ) : Type 0 where

@@ -5,18 +5,18 @@ use Rattle.std.proofs.lemmas.List.{length-map}
 use Rattle.std.proofs.lemmas.List.Elements.{All-from_recursion}
 use Rattle.std.proofs.lemmas.Bool.{cases_eq}
 use Rattle.cx_flat.specs.Flats.{Control}
-use Rattle.cx_network.specs.Machine.{Net, World, Can, IsNext}
-use Rattle.cx_network.specs.Machine as network
-use Rattle.cx_parts.specs.Holding.{Held}
-use Rattle.cx_parts.specs.Moves.{Message, Channel}
-use Rattle.cx_parts.specs.Nets.{net, within_lead}
-use Rattle.cx_parts.specs.Runs.{Run, Oracle, parts_in}
-use Rattle.cx_pace.specs.declared.standing.Next.{Next}
-use Rattle.cx_pace.specs.declared.standing.Next.TheVariants.{Part, Write, End}
-use Rattle.cx_pace.specs.Paces.{Paces}
-use Rattle.cx_pace.specs.Events.{can_go, places_of, parts_going, writer_by, writer_going, events, all_in, all_stand}
-use Rattle.cx_pace.specs.Shows.{TellsEvents}
-use Rattle.cx_reached.specs.Going.{GoesOn}
+use Rattle.law_network.specs.Machine.{Net, World, Can, IsNext}
+use Rattle.law_network.specs.Machine as network
+use Rattle.law_parts.specs.Holding.{Held}
+use Rattle.law_parts.specs.Moves.{Message, Channel}
+use Rattle.law_parts.specs.Nets.{net, within_lead}
+use Rattle.law_parts.specs.Runs.{Run, Oracle, parts_in}
+use Rattle.cx_core_events.specs.declared.standing.Next.{Next}
+use Rattle.cx_core_events.specs.declared.standing.Next.TheVariants.{Part, Write, End}
+use Rattle.cx_core_events.specs.Paces.{Paces}
+use Rattle.cx_core_events.specs.Events.{can_go, places_of, parts_going, writer_by, writer_going, events, all_in, all_stand}
+use Rattle.cx_core_events.specs.Shows.{TellsEvents}
+use Rattle.law_reached.specs.Going.{GoesOn}
 use Rattle.cx_core.specs.Steps.{rank, Rises, AreEnabled}
 
 -- ---- lists

@@ -2,14 +2,14 @@
 use Rattle.std.proofs.Common.{◌≡◌, ℕ, zero, suc, ◌-◌, ◌<◌, List, [], ◌∷◌, length, take, drop, slice_get, Some, None, arith, refl, sym, ap, subst}
 use Rattle.std.specs.List.{AllZip}
 use Rattle.std.proofs.lemmas.List.{get_or-map}
-use Rattle.cx_gather.specs.Gathering.{Buffers}
-use Rattle.cx_pace.specs.declared.standing.Standing.{Standing}
-use Rattle.cx_pace.specs.declared.standing.Work.{Work}
-use Rattle.cx_pace.specs.Paces.{Paces, part_of, no_part}
-use Rattle.cx_pace.specs.Steps.{one_less, wrote_one}
-use Rattle.cx_parts.specs.Moves.{Message, Sent, Given, Handed}
-use Rattle.cx_parts.specs.Nets.{piece_levels}
-use Rattle.cx_parts.specs.Runs.{Run}
+use Rattle.cx_core_buffers.specs.Gathering.{Buffers}
+use Rattle.cx_core_events.specs.declared.standing.Standing.{Standing}
+use Rattle.cx_core_events.specs.declared.standing.Work.{Work}
+use Rattle.cx_core_events.specs.Paces.{Paces, part_of, no_part}
+use Rattle.cx_core_events.specs.Steps.{one_less, wrote_one}
+use Rattle.law_parts.specs.Moves.{Message, Sent, Given, Handed}
+use Rattle.law_parts.specs.Nets.{piece_levels}
+use Rattle.law_parts.specs.Runs.{Run}
 use Rattle.cx_core.specs.Shows.{HoldsFor, HoldsWork}
 
 none_some : {X : Type 0} (y : X) → None ≡ Some y → ⊥

@@ -6,10 +6,10 @@ use Rattle.std.specs.Int.{int_min, int_max}
 use Rattle.cx_plan.specs.declared.item.ItemKind.{ItemKind}
 use Rattle.cx_plan.specs.declared.item.ItemKind.TheVariants.{Cell, Scalar, Sum, Least, Greatest, Count}
 use Rattle.cx_reduce.specs.Partials.{Reduced, IsReduction, joined_by, joined as both}
-use Rattle.cx_gather.specs.Boards.{Given, front}
-use Rattle.cx_parts.specs.Holding.{joined}
+use Rattle.cx_core_buffers.specs.Boards.{Given, front}
+use Rattle.law_parts.specs.Holding.{joined}
 use Rattle.cx_core.specs.Moving.{all_fronts}
-use Rattle.cx_network.specs.Machine.{sum_below}
+use Rattle.law_network.specs.Machine.{sum_below}
 
 fold_behind : {X Y : Type 0} (f : Y → X → Y) (a : Y) (xs : List X) (x : X)
     → fold f a (xs ++ x ∷ []) ≡ f (fold f a xs) x

@@ -4,22 +4,22 @@ use Rattle.std.specs.Prelude.{slice_get, All}
 use Rattle.std.proofs.lemmas.Bool.{cases_lt}
 use Rattle.std.proofs.lemmas.List.Elements.{All-head, All-tail}
 use Rattle.cx_model.specs.Traces.{Trace}
-use Rattle.cx_network.specs.Machine.{World, Can, CanMove, IsNext, After, IsWork, begun, wrote_at, over_at}
-use Rattle.cx_network.specs.Machine as network
-use Rattle.cx_network.specs.Together.{Marks, AreWorks, IsNextMark, AreTogether, Waits, PartsGather}
-use Rattle.cx_network.proofs.TogetherLaws.{parts_gather}
+use Rattle.law_network.specs.Machine.{World, Can, CanMove, IsNext, After, IsWork, begun, wrote_at, over_at}
+use Rattle.law_network.specs.Machine as network
+use Rattle.law_network.specs.Together.{Marks, AreWorks, IsNextMark, AreTogether, Waits, PartsGather}
+use Rattle.law_network.proofs.TogetherLaws.{parts_gather}
 use Rattle.cx_wire.specs.Messages.{Sent as SentMail}
 use Rattle.cx_flat.specs.declared.op.Op.{Op}
 use Rattle.cx_flat.specs.declared.op.Op.TheVariants.{Sweep, Apply, Give, Join, Post, Take, Test, Open, Turn, Again, Rotate, Due, Written, Skip, Next, Piece, Save, Halt}
-use Rattle.cx_parts.specs.Holding.{Held}
-use Rattle.cx_parts.specs.Laws.{IsReachedState}
-use Rattle.cx_parts.specs.Moves.{Message, Channel, Wire, op_posts, faces_by, is_there, sender, buffer_of}
-use Rattle.cx_parts.specs.Nets.{net, within_lead}
-use Rattle.cx_parts.specs.Runs.{Run, Oracle, parts_in, next_op, guided, undivided}
-use Rattle.cx_parts.specs.Truths.{truth, script, mail_at, Agrees, Books}
+use Rattle.law_parts.specs.Holding.{Held}
+use Rattle.law_parts.specs.Laws.{IsReachedState}
+use Rattle.law_parts.specs.Moves.{Message, Channel, Wire, op_posts, faces_by, is_there, sender, buffer_of}
+use Rattle.law_parts.specs.Nets.{net, within_lead}
+use Rattle.law_parts.specs.Runs.{Run, Oracle, parts_in, next_op, guided, undivided}
+use Rattle.law_parts.specs.Truths.{truth, script, mail_at, Agrees, Books}
 use Rattle.cx_model.specs.Turns.{values_of}
-use Rattle.cx_part.specs.Exchanges.{ShowsQueue}
-use Rattle.cx_pace.specs.Shows.{IsNextSave}
+use Rattle.cx_core_part.specs.Exchanges.{ShowsQueue}
+use Rattle.cx_core_events.specs.Shows.{IsNextSave}
 use Rattle.cx_core.specs.declared.answers.Event.{Event}
 use Rattle.cx_core.specs.declared.answers.Event.TheVariants as events
 use Rattle.cx_core.specs.Hands.{StepsTo, LiesAhead}

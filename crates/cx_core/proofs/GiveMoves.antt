@@ -9,15 +9,15 @@ use Rattle.cx_reduce.specs.Partials.{Reduced}
 use Rattle.cx_cut.specs.Cuts.{owned}
 use Rattle.cx_flat.specs.declared.op.Op.TheVariants as op
 use Rattle.cx_flat.specs.Flats.{control_after}
-use Rattle.cx_network.specs.Machine.{taken_now, queue_after}
-use Rattle.cx_network.proofs.Put.{put_same, put_other}
+use Rattle.law_network.specs.Machine.{taken_now, queue_after}
+use Rattle.law_network.proofs.Put.{put_same, put_other}
 use Rattle.cx_wire.specs.Messages.{Sent as SentMail}
-use Rattle.cx_parts.specs.Moves.{Given, Wire, Board, op_wants, op_posts, faces_by, number_by, held_values, Moves}
-use Rattle.cx_parts.specs.Nets.{points_of, values_of_op}
-use Rattle.cx_parts.specs.Runs.{Run, parts_in, cut_of}
-use Rattle.cx_pace.specs.Events.{work_of}
-use Rattle.cx_gather.specs.Boards.{queue as waiting, Gives}
-use Rattle.cx_gather.specs.Gathering.{HasRoom}
+use Rattle.law_parts.specs.Moves.{Given, Wire, Board, op_wants, op_posts, faces_by, number_by, held_values, Moves}
+use Rattle.law_parts.specs.Nets.{points_of, values_of_op}
+use Rattle.law_parts.specs.Runs.{Run, parts_in, cut_of}
+use Rattle.cx_core_events.specs.Events.{work_of}
+use Rattle.cx_core_buffers.specs.Boards.{queue as waiting, Gives}
+use Rattle.cx_core_buffers.specs.Gathering.{HasRoom}
 use Rattle.cx_core.specs.Cores.{Cores}
 use Rattle.cx_core.specs.Shows.{ShowsGiven, kinds_by, kinds_given, kinds_joined, kind_of}
 use Rattle.cx_core.specs.Steps.{Counts}

@@ -13,24 +13,24 @@ use Rattle.cx_cut.specs.Faults.{parts_of}
 use Rattle.cx_flat.specs.declared.op.Op.{Op}
 use Rattle.cx_flat.specs.declared.op.Op.TheVariants as op
 use Rattle.cx_flat.specs.Code.{code}
-use Rattle.cx_network.specs.Machine.{Part, After}
-use Rattle.cx_way.specs.Steps.{IsReached, IsTested}
+use Rattle.law_network.specs.Machine.{Part, After}
+use Rattle.cx_core_place.specs.Steps.{IsReached, IsTested}
 use Rattle.cx_wire.specs.Messages.{Sent as SentMail}
-use Rattle.cx_parts.specs.Beginnings.{Beginning, Afresh, From, IsBeginning, run_of}
-use Rattle.cx_parts.specs.Nets.{net, within_lead}
-use Rattle.cx_parts.specs.Runs.{Run, cut_of}
-use Rattle.cx_parts.proofs.WholeRun.{IsRun, job_run, shape}
-use Rattle.cx_part.specs.Frames.{IsPatchOf}
-use Rattle.cx_part.specs.Jobs.{IsChecked, IsCutOf, IsRunOf}
-use Rattle.cx_part.specs.Tests.{CanTest, tested_number}
-use Rattle.cx_part.proofs.AskLaws.{can_test}
-use Rattle.cx_part.proofs.MoveLaws.{is_run, by_rules}
-use Rattle.cx_gather.specs.Boards.{Given}
-use Rattle.cx_gather.specs.Gathering.{Buffers}
-use Rattle.cx_pace.specs.Paces.{Paces, part_of, op_of}
-use Rattle.cx_pace.specs.Events.{can_go}
-use Rattle.cx_pace.specs.Shows.{SameWay}
-use Rattle.cx_pace.specs.Steps.{moved_on, met_by}
+use Rattle.law_parts.specs.Beginnings.{Beginning, Afresh, From, IsBeginning, run_of}
+use Rattle.law_parts.specs.Nets.{net, within_lead}
+use Rattle.law_parts.specs.Runs.{Run, cut_of}
+use Rattle.law_parts.proofs.WholeRun.{IsRun, job_run, shape}
+use Rattle.cx_core_part.specs.Frames.{IsPatchOf}
+use Rattle.cx_core_part.specs.Jobs.{IsChecked, IsCutOf, IsRunOf}
+use Rattle.cx_core_part.specs.Tests.{CanTest, tested_number}
+use Rattle.cx_core_part.proofs.AskLaws.{can_test}
+use Rattle.cx_core_part.proofs.MoveLaws.{is_run, by_rules}
+use Rattle.cx_core_buffers.specs.Boards.{Given}
+use Rattle.cx_core_buffers.specs.Gathering.{Buffers}
+use Rattle.cx_core_events.specs.Paces.{Paces, part_of, op_of}
+use Rattle.cx_core_events.specs.Events.{can_go}
+use Rattle.cx_core_events.specs.Shows.{SameWay}
+use Rattle.cx_core_events.specs.Steps.{moved_on, met_by}
 use Rattle.cx_core.specs.declared.answers.Outcome.{Outcome}
 use Rattle.cx_core.specs.Cores.{Cores, items_of}
 use Rattle.cx_core.specs.Moving.{Holdings, Operates, CanOperate, MoveLaws, MovesOn, followed}

@@ -18,19 +18,19 @@ use Rattle.cx_flat.specs.declared.op.Op.{Op}
 use Rattle.cx_flat.specs.declared.op.Op.TheVariants.{Sweep, Apply, Give, Join, Post, Take, Test, Open, Turn, Again, Rotate, Due, Written, Skip, Next, Piece, Save, Halt}
 use Rattle.cx_flat.specs.Flats.{Flat}
 use Rattle.cx_field.specs.Patches.{PatchValue}
-use Rattle.cx_network.specs.Machine.{World}
-use Rattle.cx_gather.specs.Gathering.{Buffers, HasPiece, piece_of}
-use Rattle.cx_gather.specs.Pieces.{HoldsPiece}
-use Rattle.cx_parts.specs.Ends.{EndsBy}
-use Rattle.cx_parts.specs.Holding.{Held}
-use Rattle.cx_parts.specs.Moves.{Message, Channel}
-use Rattle.cx_parts.specs.Nets.{only_level}
-use Rattle.cx_parts.specs.Runs.{Run, Oracle, cut_of, parts_in, next_op, undivided, op_of, notes_of, guided, last_of}
-use Rattle.cx_parts.specs.Truths.{entries_of}
-use Rattle.cx_part.specs.Exchanges.{ShowsMessage, ShowsQueue}
-use Rattle.cx_reached.specs.Endings.{end_met_by, EndsAsRun}
-use Rattle.cx_reached.specs.Sums.{TotalsMatch}
-use Rattle.cx_reached.specs.Works.{MakesWork, works_of, handed_out}
+use Rattle.law_network.specs.Machine.{World}
+use Rattle.cx_core_buffers.specs.Gathering.{Buffers, HasPiece, piece_of}
+use Rattle.cx_core_buffers.specs.Pieces.{HoldsPiece}
+use Rattle.law_parts.specs.Ends.{EndsBy}
+use Rattle.law_parts.specs.Holding.{Held}
+use Rattle.law_parts.specs.Moves.{Message, Channel}
+use Rattle.law_parts.specs.Nets.{only_level}
+use Rattle.law_parts.specs.Runs.{Run, Oracle, cut_of, parts_in, next_op, undivided, op_of, notes_of, guided, last_of}
+use Rattle.law_parts.specs.Truths.{entries_of}
+use Rattle.cx_core_part.specs.Exchanges.{ShowsMessage, ShowsQueue}
+use Rattle.law_reached.specs.Endings.{end_met_by, EndsAsRun}
+use Rattle.law_reached.specs.Sums.{TotalsMatch}
+use Rattle.law_reached.specs.Works.{MakesWork, works_of, handed_out}
 use Rattle.cx_core.specs.declared.answers.Outcome.TheVariants as out
 use Rattle.cx_core.specs.Cores.{outcome_of}
 use Rattle.cx_core.specs.Hands.{whole_piece, ended_as, number_in, HasScalar, HasScalarIn, IsDone, Tells}

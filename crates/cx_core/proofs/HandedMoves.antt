@@ -5,15 +5,15 @@ use Rattle.std.specs.Option.{option_to_list}
 use Rattle.std.proofs.lemmas.Bool.{cases_lt, cases_eq, and_parts}
 use Rattle.std.proofs.lemmas.List.{append_cancel_left, take-append-le}
 use Rattle.std.proofs.Math.Seq.{take-append-add, take-length}
-use Rattle.cx_network.proofs.Put.{put_same, put_other}
+use Rattle.law_network.proofs.Put.{put_same, put_other}
 use Rattle.cx_wire.specs.Messages.{Sent as SentMail}
-use Rattle.cx_parts.specs.Moves.{Message}
-use Rattle.cx_parts.specs.Runs.{Run, Oracle, parts_in, next_op}
-use Rattle.cx_pace.specs.declared.standing.Work.{Work}
-use Rattle.cx_pace.specs.Paces.{part_of, op_of}
-use Rattle.cx_pace.specs.Events.{work_of, same_buffer, is_room, has_room, goes_on, is_near, is_ready}
-use Rattle.cx_pace.specs.Steps.{works_after, handed_after}
-use Rattle.cx_pace.specs.Shows.{works_before, work_there}
+use Rattle.law_parts.specs.Moves.{Message}
+use Rattle.law_parts.specs.Runs.{Run, Oracle, parts_in, next_op}
+use Rattle.cx_core_events.specs.declared.standing.Work.{Work}
+use Rattle.cx_core_events.specs.Paces.{part_of, op_of}
+use Rattle.cx_core_events.specs.Events.{work_of, same_buffer, is_room, has_room, goes_on, is_near, is_ready}
+use Rattle.cx_core_events.specs.Steps.{works_after, handed_after}
+use Rattle.cx_core_events.specs.Shows.{works_before, work_there}
 use Rattle.cx_core.specs.Cores.{Cores}
 use Rattle.cx_core.specs.Shows.{HoldsWork}
 use Rattle.cx_core.specs.Steps.{Counts}

@@ -4,9 +4,9 @@ use Rattle.std.specs.Prelude.{ℤ, slice_index_or, slice_set}
 use Rattle.cx_plan.specs.declared.item.Item.{Item}
 use Rattle.cx_plan.specs.declared.variable.VarId.{VarId}
 use Rattle.cx_plan.specs.Setups.{Setup}
-use Rattle.cx_part.specs.Copies.{copies_at}
-use Rattle.cx_pace.specs.Paces.{Paces, no_part, iteration_of}
-use Rattle.cx_pace.specs.Steps.{moved_on}
+use Rattle.cx_core_part.specs.Copies.{copies_at}
+use Rattle.cx_core_events.specs.Paces.{Paces, no_part, iteration_of}
+use Rattle.cx_core_events.specs.Steps.{moved_on}
 use Rattle.cx_core.specs.Cores.{items_in, items_of}
 
 map_set : {A B : Type 0} (f : A → B) (xs : List A) (k : ℕ) (x : A)

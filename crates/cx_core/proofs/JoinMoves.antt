@@ -18,21 +18,21 @@ use Rattle.cx_flat.specs.declared.op.Op.{Op}
 use Rattle.cx_flat.specs.declared.op.Op.TheVariants as op
 use Rattle.cx_flat.specs.Flats.{control_after}
 use Rattle.cx_flat.specs.Ways.{Paired, is_receiving}
-use Rattle.cx_network.specs.Machine.{taken_now, queue_after}
-use Rattle.cx_network.proofs.Put.{put_same, put_other}
+use Rattle.law_network.specs.Machine.{taken_now, queue_after}
+use Rattle.law_network.proofs.Put.{put_same, put_other}
 use Rattle.cx_wire.specs.Messages.{Sent as SentMail}
-use Rattle.cx_parts.specs.Holding.{joined, join_turn}
-use Rattle.cx_parts.specs.Moves.{Message, Given, Sent, Handed, Wire, Board, is_there, op_wants, op_posts, faces_by, number_by, held_values, given_number, all_given, Gives, Moves}
-use Rattle.cx_parts.specs.Nets.{points_of, values_of_op}
-use Rattle.cx_parts.specs.Runs.{Run, Oracle, parts_in, cut_of}
-use Rattle.cx_parts.proofs.PairLaws.{are_there}
-use Rattle.cx_parts.proofs.Ways.{scalars_at, op_there, pair_there, first_quiet}
-use Rattle.cx_part.specs.Frames.{IsPatchOf}
-use Rattle.cx_gather.specs.Boards.{queue as waiting, Takes, front, no_number}
-use Rattle.cx_gather.specs.Gathering.{HasRoom}
-use Rattle.cx_pace.specs.Events.{work_of}
-use Rattle.cx_pace.specs.Steps.{moved_on, met_by}
-use Rattle.cx_reached.specs.Endings.{end_met_by}
+use Rattle.law_parts.specs.Holding.{joined, join_turn}
+use Rattle.law_parts.specs.Moves.{Message, Given, Sent, Handed, Wire, Board, is_there, op_wants, op_posts, faces_by, number_by, held_values, given_number, all_given, Gives, Moves}
+use Rattle.law_parts.specs.Nets.{points_of, values_of_op}
+use Rattle.law_parts.specs.Runs.{Run, Oracle, parts_in, cut_of}
+use Rattle.law_parts.proofs.PairLaws.{are_there}
+use Rattle.law_parts.proofs.Ways.{scalars_at, op_there, pair_there, first_quiet}
+use Rattle.cx_core_part.specs.Frames.{IsPatchOf}
+use Rattle.cx_core_buffers.specs.Boards.{queue as waiting, Takes, front, no_number}
+use Rattle.cx_core_buffers.specs.Gathering.{HasRoom}
+use Rattle.cx_core_events.specs.Events.{work_of}
+use Rattle.cx_core_events.specs.Steps.{moved_on, met_by}
+use Rattle.law_reached.specs.Endings.{end_met_by}
 use Rattle.cx_core.specs.Cores.{Cores, outcome_of}
 use Rattle.cx_core.specs.Moving.{all_fronts}
 use Rattle.cx_core.specs.Shows.{ShowsGiven, kinds_by, kinds_given, kinds_joined, kind_of}

@@ -8,13 +8,13 @@ use Rattle.cx_flat.specs.Code.{op_at, code}
 use Rattle.cx_flat.specs.Flats.{Control, control_after, is_halt}
 use Rattle.cx_flat.specs.Ways.{key, Less, WaysEnd}
 use Rattle.cx_flat.proofs.WayLaws.{less_never}
-use Rattle.cx_way.specs.Steps.{IsReached, PlacesFit}
-use Rattle.cx_pace.specs.declared.standing.Standing.{Standing}
-use Rattle.cx_pace.specs.declared.standing.Work.{Work}
-use Rattle.cx_pace.specs.Paces.{Paces, part_of, no_part, op_of, iteration_of, is_before, are_in_order}
-use Rattle.cx_pace.specs.Events.{can_go, goes_on, is_ahead, is_near, is_ready, has_room, work_of}
-use Rattle.cx_pace.specs.Steps.{advanced, handed_after, works_after, moved_on, met_by, one_less, wrote_one, over_now}
-use Rattle.cx_pace.proofs.OrderLaws.{told_less}
+use Rattle.cx_core_place.specs.Steps.{IsReached, PlacesFit}
+use Rattle.cx_core_events.specs.declared.standing.Standing.{Standing}
+use Rattle.cx_core_events.specs.declared.standing.Work.{Work}
+use Rattle.cx_core_events.specs.Paces.{Paces, part_of, no_part, op_of, iteration_of, is_before, are_in_order}
+use Rattle.cx_core_events.specs.Events.{can_go, goes_on, is_ahead, is_near, is_ready, has_room, work_of}
+use Rattle.cx_core_events.specs.Steps.{advanced, handed_after, works_after, moved_on, met_by, one_less, wrote_one, over_now}
+use Rattle.cx_core_events.proofs.OrderLaws.{told_less}
 use Rattle.cx_core.specs.Left.{place_rank, rank_limit, places_left, stop_left, going_left, steps_left}
 use Rattle.cx_core.proofs.PlaceRanks.{place_rises, rank_small, rank_rises}
 

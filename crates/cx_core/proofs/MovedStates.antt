@@ -10,27 +10,27 @@ use Rattle.cx_rule.specs.States.{scalar_of}
 use Rattle.cx_model.specs.declared.ends.End.{End}
 use Rattle.cx_flat.specs.declared.op.Op.{Op}
 use Rattle.cx_flat.specs.Flats.{Control, Flat}
-use Rattle.cx_network.specs.Machine.{Net, World, Part, CanMove, After, put, taken_now, queue_after, moved, met}
-use Rattle.cx_network.proofs.Put.{put_same, put_other, at_put}
+use Rattle.law_network.specs.Machine.{Net, World, Part, CanMove, After, put, taken_now, queue_after, moved, met}
+use Rattle.law_network.proofs.Put.{put_same, put_other, at_put}
 use Rattle.cx_field.specs.Patches.{PatchValue}
 use Rattle.cx_field.specs.Sweeps.{RoseWithin}
 use Rattle.cx_wire.specs.Messages.{Sent as SentMail}
 use Rattle.cx_wire.specs.Received.{counted, counted_twice}
-use Rattle.cx_parts.specs.Holding.{Held}
-use Rattle.cx_parts.specs.Laws.{IsReachedState}
-use Rattle.cx_parts.specs.Moves.{Message, Channel, Wire, Board, Moves}
-use Rattle.cx_parts.specs.Nets.{net, within_lead, points_of, taken_sum, values_of_op}
-use Rattle.cx_parts.proofs.WholeRun.{IsRun}
-use Rattle.cx_parts.specs.Runs.{Run, Oracle, parts_in, next_op, guided, last_of}
-use Rattle.cx_part.specs.Exchanges.{ShowsQueue}
-use Rattle.cx_gather.specs.Boards.{queue as waiting}
-use Rattle.cx_gather.specs.Gathering.{HasRoom}
-use Rattle.cx_pace.specs.Paces.{part_of}
-use Rattle.cx_pace.specs.Events.{can_go}
-use Rattle.cx_pace.specs.Steps.{moved_on, met_by}
-use Rattle.cx_pace.specs.Shows.{ShowsPace, PaceTells, SameWay}
-use Rattle.cx_reached.specs.Endings.{end_met_by}
-use Rattle.cx_reached.specs.Sums.{TakenAddsUp, sum_taken_now}
+use Rattle.law_parts.specs.Holding.{Held}
+use Rattle.law_parts.specs.Laws.{IsReachedState}
+use Rattle.law_parts.specs.Moves.{Message, Channel, Wire, Board, Moves}
+use Rattle.law_parts.specs.Nets.{net, within_lead, points_of, taken_sum, values_of_op}
+use Rattle.law_parts.proofs.WholeRun.{IsRun}
+use Rattle.law_parts.specs.Runs.{Run, Oracle, parts_in, next_op, guided, last_of}
+use Rattle.cx_core_part.specs.Exchanges.{ShowsQueue}
+use Rattle.cx_core_buffers.specs.Boards.{queue as waiting}
+use Rattle.cx_core_buffers.specs.Gathering.{HasRoom}
+use Rattle.cx_core_events.specs.Paces.{part_of}
+use Rattle.cx_core_events.specs.Events.{can_go}
+use Rattle.cx_core_events.specs.Steps.{moved_on, met_by}
+use Rattle.cx_core_events.specs.Shows.{ShowsPace, PaceTells, SameWay}
+use Rattle.law_reached.specs.Endings.{end_met_by}
+use Rattle.law_reached.specs.Sums.{TakenAddsUp, sum_taken_now}
 use Rattle.cx_core.specs.declared.answers.Outcome.{Outcome}
 use Rattle.cx_core.specs.Cores.{Cores, outcome_of}
 use Rattle.cx_core.specs.Shows.{ShowsPart, ShowsGiven, HoldsWork, MetAt, OverAs, Shows, kinds_given, kinds_joined, kinds_by, kind_of}

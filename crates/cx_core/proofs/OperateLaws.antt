@@ -10,15 +10,15 @@ use Rattle.cx_flat.specs.declared.op.Op.{Op}
 use Rattle.cx_flat.specs.declared.op.Op.TheVariants as op
 use Rattle.cx_flat.specs.Flats.{Control}
 use Rattle.cx_wire.specs.Received.{counted}
-use Rattle.cx_gather.specs.Boards.{Gives}
-use Rattle.cx_parts.specs.Moves.{Message, Channel, number_by, held_values, Filled}
-use Rattle.cx_parts.specs.Nets.{values_of_op}
-use Rattle.cx_parts.specs.Runs.{Run, cut_of}
-use Rattle.cx_part.specs.Exchanges.{Posts, Takes, ShowsTaken, sum_taken}
+use Rattle.cx_core_buffers.specs.Boards.{Gives}
+use Rattle.law_parts.specs.Moves.{Message, Channel, number_by, held_values, Filled}
+use Rattle.law_parts.specs.Nets.{values_of_op}
+use Rattle.law_parts.specs.Runs.{Run, cut_of}
+use Rattle.cx_core_part.specs.Exchanges.{Posts, Takes, ShowsTaken, sum_taken}
 use Rattle.cx_cut.specs.Cuts.{Parts}
 use Rattle.cx_cut.specs.Faults.{parts_of}
-use Rattle.cx_part.specs.Frames.{KeepsFrame, IsPatchOf, IsInCut}
-use Rattle.cx_part.specs.Jobs.{IsRunOf}
+use Rattle.cx_core_part.specs.Frames.{KeepsFrame, IsPatchOf, IsInCut}
+use Rattle.cx_core_part.specs.Jobs.{IsRunOf}
 use Rattle.cx_core.specs.declared.answers.Outcome.{Outcome}
 use Rattle.cx_core.specs.Moving.{Holdings, CanOperate, Operates, Turns, LoopTests, Joins}
 

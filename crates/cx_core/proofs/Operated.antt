@@ -11,17 +11,17 @@ use Rattle.cx_field.specs.Sweeps.{RoseWithin}
 use Rattle.cx_flat.specs.declared.op.Op.{Op}
 use Rattle.cx_flat.specs.declared.op.Op.TheVariants as op
 use Rattle.cx_flat.specs.Flats.{is_halt}
-use Rattle.cx_network.specs.Machine.{taken_now}
+use Rattle.law_network.specs.Machine.{taken_now}
 use Rattle.cx_wire.specs.Messages.{Sent as SentMail}
-use Rattle.cx_parts.specs.Holding.{joined, join_turn}
-use Rattle.cx_parts.specs.Moves.{Filled}
-use Rattle.cx_parts.specs.Nets.{points_of}
-use Rattle.cx_parts.specs.Runs.{Run, parts_in, cut_of}
-use Rattle.cx_part.specs.Frames.{IsPatchOf, KeepsFrame}
-use Rattle.cx_part.specs.Items.{computed}
-use Rattle.cx_part.proofs.FrameLaws.{still_of}
-use Rattle.cx_pace.specs.Steps.{moved_on, met_by}
-use Rattle.cx_reached.specs.Endings.{end_met_by}
+use Rattle.law_parts.specs.Holding.{joined, join_turn}
+use Rattle.law_parts.specs.Moves.{Filled}
+use Rattle.law_parts.specs.Nets.{points_of}
+use Rattle.law_parts.specs.Runs.{Run, parts_in, cut_of}
+use Rattle.cx_core_part.specs.Frames.{IsPatchOf, KeepsFrame}
+use Rattle.cx_core_part.specs.Items.{computed}
+use Rattle.cx_core_part.proofs.FrameLaws.{still_of}
+use Rattle.cx_core_events.specs.Steps.{moved_on, met_by}
+use Rattle.law_reached.specs.Endings.{end_met_by}
 use Rattle.cx_core.specs.declared.answers.Outcome.{Outcome}
 use Rattle.cx_core.specs.Cores.{Cores, outcome_of}
 use Rattle.cx_core.specs.Moving.{Holdings, Operates, all_fronts}

@@ -9,12 +9,12 @@ use Rattle.cx_model.specs.Turns.{values_of}
 use Rattle.cx_cut.specs.Cuts.{Parts, local}
 use Rattle.cx_cut.specs.Faults.{parts_of}
 use Rattle.cx_field.specs.Patches.{PatchValue, with_numbers}
-use Rattle.cx_gather.specs.Checkpoints.{state_of}
-use Rattle.cx_gather.specs.Gathering.{scattered}
-use Rattle.cx_part.specs.Frames.{IsPatchOf}
-use Rattle.cx_parts.specs.Beginnings.{Afresh, run_of}
-use Rattle.cx_parts.specs.Holding.{state_in}
-use Rattle.cx_parts.specs.Nets.{held_first}
+use Rattle.cx_core_buffers.specs.Checkpoints.{state_of}
+use Rattle.cx_core_buffers.specs.Gathering.{scattered}
+use Rattle.cx_core_part.specs.Frames.{IsPatchOf}
+use Rattle.law_parts.specs.Beginnings.{Afresh, run_of}
+use Rattle.law_parts.specs.Holding.{state_in}
+use Rattle.law_parts.specs.Nets.{held_first}
 use Rattle.cx_core.specs.Starts.{HasFirst, ArePatches, filled_first}
 
 none_some : {X : Type 0} (y : X) → None ≡ Some y → ⊥

@@ -11,11 +11,11 @@ use Rattle.cx_ascii.specs.Output.{section, line}
 use Rattle.cx_cut.specs.Cuts.{IsCut}
 use Rattle.cx_cut.proofs.Tiled.{tiles}
 use Rattle.cx_flat.specs.declared.op.Op.TheVariants.{Piece}
-use Rattle.cx_gather.specs.Gathering.{Buffers, piece_of, HasPiece}
-use Rattle.cx_gather.specs.Pieces.{HoldsPiece}
-use Rattle.cx_parts.specs.Moves.{Message}
-use Rattle.cx_parts.specs.Nets.{only_level, IsGathered, IsTextOf, WritesAt}
-use Rattle.cx_parts.specs.Runs.{Run, cut_of, parts_in}
+use Rattle.cx_core_buffers.specs.Gathering.{Buffers, piece_of, HasPiece}
+use Rattle.cx_core_buffers.specs.Pieces.{HoldsPiece}
+use Rattle.law_parts.specs.Moves.{Message}
+use Rattle.law_parts.specs.Nets.{only_level, IsGathered, IsTextOf, WritesAt}
+use Rattle.law_parts.specs.Runs.{Run, cut_of, parts_in}
 use Rattle.cx_core.specs.Texts.{text_of_piece}
 
 module _ (tells : Type 0) (t : tells) (r : Run) (cut : IsCut (cut_of r))

@@ -16,22 +16,22 @@ use Rattle.cx_field.specs.Patches.{PatchValue, unstaged}
 use Rattle.cx_flat.specs.declared.op.Op.TheVariants as op
 use Rattle.cx_flat.specs.Code.{op_at, code}
 use Rattle.cx_flat.specs.Flats.{control_after}
-use Rattle.cx_network.specs.Machine.{taken_now}
+use Rattle.law_network.specs.Machine.{taken_now}
 use Rattle.cx_wire.specs.Messages.{Sent as SentMail}
-use Rattle.cx_parts.specs.Holding.{IsHeld, number_at}
-use Rattle.cx_parts.specs.Operations.{NamesWell}
-use Rattle.cx_parts.specs.Moves.{Message, Given, Sent, Handed, Wire, Board, op_wants, op_posts, op_hands, piece_by, state_by, held_values, Moves}
-use Rattle.cx_parts.specs.Nets.{points_of, values_of_op}
-use Rattle.cx_parts.specs.Runs.{Run, parts_in, cut_of}
-use Rattle.cx_parts.proofs.WholeRun.{names_at}
-use Rattle.cx_gather.specs.Gathering.{Buffers, HasRoom, HasPiece, piece_of, piece_put, with_piece, with_state}
-use Rattle.cx_gather.specs.Pieces.{HoldsPiece, HoldsPart}
-use Rattle.cx_gather.proofs.CheckpointLaws.{info}
-use Rattle.cx_gather.proofs.PieceLaws.{IsPartOf, piece_holds, piece_stays, state_holds, state_stays, state_room}
-use Rattle.cx_gather.proofs.PieceOps.{piece_among}
-use Rattle.cx_gather.proofs.RoomLaws.{piece_room, state_kept}
-use Rattle.cx_pace.specs.declared.standing.Work.{Work}
-use Rattle.cx_pace.specs.Events.{work_of, same_buffer}
+use Rattle.law_parts.specs.Holding.{IsHeld, number_at}
+use Rattle.law_parts.specs.Operations.{NamesWell}
+use Rattle.law_parts.specs.Moves.{Message, Given, Sent, Handed, Wire, Board, op_wants, op_posts, op_hands, piece_by, state_by, held_values, Moves}
+use Rattle.law_parts.specs.Nets.{points_of, values_of_op}
+use Rattle.law_parts.specs.Runs.{Run, parts_in, cut_of}
+use Rattle.law_parts.proofs.WholeRun.{names_at}
+use Rattle.cx_core_buffers.specs.Gathering.{Buffers, HasRoom, HasPiece, piece_of, piece_put, with_piece, with_state}
+use Rattle.cx_core_buffers.specs.Pieces.{HoldsPiece, HoldsPart}
+use Rattle.cx_core_buffers.proofs.CheckpointLaws.{info}
+use Rattle.cx_core_buffers.proofs.PieceLaws.{IsPartOf, piece_holds, piece_stays, state_holds, state_stays, state_room}
+use Rattle.cx_core_buffers.proofs.PieceOps.{piece_among}
+use Rattle.cx_core_buffers.proofs.RoomLaws.{piece_room, state_kept}
+use Rattle.cx_core_events.specs.declared.standing.Work.{Work}
+use Rattle.cx_core_events.specs.Events.{work_of, same_buffer}
 use Rattle.cx_core.specs.Cores.{Cores}
 use Rattle.cx_core.specs.Shows.{HoldsFor, HoldsWork, kinds_by}
 use Rattle.cx_core.specs.Steps.{Counts}

@@ -11,7 +11,7 @@ use Rattle.cx_flat.specs.Code.{op_at, code}
 use Rattle.cx_flat.specs.Flats.{Opened, Control, last_turns, turned_on, closed, to, next, leaves_loop, control_after, is_halt}
 use Rattle.cx_flat.specs.Ways.{key, opened_key, Less, Scalars, way_from, Rises, WayEnds, WaysEnd}
 use Rattle.cx_flat.proofs.AtLaws.{halt_is}
-use Rattle.cx_way.specs.Steps.{IsReached, starts, continues, follows, PlacesFit, most_open}
+use Rattle.cx_core_place.specs.Steps.{IsReached, starts, continues, follows, PlacesFit, most_open}
 use Rattle.cx_core.specs.Left.{key_base, key_length, place_rank, rank_limit}
 use Rattle.cx_core.proofs.RankLaws.{Below, rank_below, rank_less}
 

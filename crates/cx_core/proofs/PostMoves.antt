@@ -11,18 +11,18 @@ use Rattle.cx_cut.specs.Neighbours.{partner}
 use Rattle.cx_field.specs.Patches.{PatchValue}
 use Rattle.cx_flat.specs.declared.op.Op.TheVariants as op
 use Rattle.cx_flat.specs.Flats.{control_after}
-use Rattle.cx_network.specs.Machine.{taken_now, queue_after}
+use Rattle.law_network.specs.Machine.{taken_now, queue_after}
 use Rattle.cx_wire.specs.Messages.{Sent as SentMail}
-use Rattle.cx_parts.specs.Moves.{Message, Sent, Channel, Wire, Board, sender, receiver, is_there, face_head, op_wants, op_posts, faces_by, number_by, held_values, Moves}
-use Rattle.cx_parts.specs.Nets.{points_of, values_of_op}
-use Rattle.cx_parts.specs.Operations.{NamesWell, IsExchange}
-use Rattle.cx_parts.specs.Runs.{Run, cut_of, parts_in}
-use Rattle.cx_parts.proofs.PairLaws.{are_there}
-use Rattle.cx_parts.proofs.WholeRun.{law, names_at, shape}
-use Rattle.cx_part.specs.Exchanges.{ShowsMessage, ShowsQueue, Posts, posted_to}
-use Rattle.cx_pace.specs.Events.{work_of}
-use Rattle.cx_pace.specs.Steps.{moved_on}
-use Rattle.cx_gather.specs.Gathering.{HasRoom}
+use Rattle.law_parts.specs.Moves.{Message, Sent, Channel, Wire, Board, sender, receiver, is_there, face_head, op_wants, op_posts, faces_by, number_by, held_values, Moves}
+use Rattle.law_parts.specs.Nets.{points_of, values_of_op}
+use Rattle.law_parts.specs.Operations.{NamesWell, IsExchange}
+use Rattle.law_parts.specs.Runs.{Run, cut_of, parts_in}
+use Rattle.law_parts.proofs.PairLaws.{are_there}
+use Rattle.law_parts.proofs.WholeRun.{law, names_at, shape}
+use Rattle.cx_core_part.specs.Exchanges.{ShowsMessage, ShowsQueue, Posts, posted_to}
+use Rattle.cx_core_events.specs.Events.{work_of}
+use Rattle.cx_core_events.specs.Steps.{moved_on}
+use Rattle.cx_core_buffers.specs.Gathering.{HasRoom}
 use Rattle.cx_core.specs.Cores.{Cores}
 use Rattle.cx_core.specs.Shows.{ShowsPart, kinds_by}
 use Rattle.cx_core.specs.Steps.{Counts}

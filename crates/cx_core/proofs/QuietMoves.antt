@@ -8,21 +8,21 @@ use Rattle.cx_rule.specs.States.{State, scalar_of}
 use Rattle.cx_flat.specs.declared.op.Op.{Op}
 use Rattle.cx_flat.specs.declared.op.Op.TheVariants as op
 use Rattle.cx_flat.specs.Ways.{Paired}
-use Rattle.cx_network.specs.Machine.{put, taken_now, queue_after, sum_below}
-use Rattle.cx_network.proofs.Put.{at_put}
+use Rattle.law_network.specs.Machine.{put, taken_now, queue_after, sum_below}
+use Rattle.law_network.proofs.Put.{at_put}
 use Rattle.cx_wire.specs.Messages.{Sent as SentMail}
 use Rattle.cx_wire.specs.Received.{counted, counted_none}
-use Rattle.cx_parts.specs.Moves.{Message, Channel, Wire, Board, sender, receiver, is_there, op_wants, op_posts, op_hands, held_values, piece_by, state_by}
-use Rattle.cx_parts.specs.Nets.{values_of_op, values_sum}
-use Rattle.cx_parts.specs.Runs.{Run, parts_in, next_op}
-use Rattle.cx_parts.proofs.Ways.{scalars_at, op_there, pair_there}
-use Rattle.cx_part.specs.Exchanges.{ShowsQueue}
-use Rattle.cx_gather.specs.Boards.{Given, queue as waiting}
-use Rattle.cx_pace.specs.declared.standing.Standing.{Standing}
-use Rattle.cx_pace.specs.Paces.{Paces, part_of, op_of, iteration_of, no_part}
-use Rattle.cx_pace.specs.Events.{work_of}
-use Rattle.cx_pace.specs.Steps.{moved_on, works_after, handed_after}
-use Rattle.cx_reached.specs.Sums.{sum_taken_now}
+use Rattle.law_parts.specs.Moves.{Message, Channel, Wire, Board, sender, receiver, is_there, op_wants, op_posts, op_hands, held_values, piece_by, state_by}
+use Rattle.law_parts.specs.Nets.{values_of_op, values_sum}
+use Rattle.law_parts.specs.Runs.{Run, parts_in, next_op}
+use Rattle.law_parts.proofs.Ways.{scalars_at, op_there, pair_there}
+use Rattle.cx_core_part.specs.Exchanges.{ShowsQueue}
+use Rattle.cx_core_buffers.specs.Boards.{Given, queue as waiting}
+use Rattle.cx_core_events.specs.declared.standing.Standing.{Standing}
+use Rattle.cx_core_events.specs.Paces.{Paces, part_of, op_of, iteration_of, no_part}
+use Rattle.cx_core_events.specs.Events.{work_of}
+use Rattle.cx_core_events.specs.Steps.{moved_on, works_after, handed_after}
+use Rattle.law_reached.specs.Sums.{sum_taken_now}
 use Rattle.cx_core.specs.Cores.{Cores}
 use Rattle.cx_core.specs.Shows.{ShowsGiven, HoldsWork, kinds_given, kinds_joined, kinds_by, kind_of}
 use Rattle.cx_core.specs.Steps.{Counts}

@@ -12,18 +12,18 @@ use Rattle.cx_field.specs.Sweeps.{RoseWithin}
 use Rattle.cx_flat.specs.declared.op.Op.{Op}
 use Rattle.cx_flat.specs.declared.op.Op.TheVariants as op
 use Rattle.cx_flat.specs.Flats.{control_after}
-use Rattle.cx_network.specs.Machine.{taken_now}
+use Rattle.law_network.specs.Machine.{taken_now}
 use Rattle.cx_wire.specs.Messages.{Sent as SentMail}
-use Rattle.cx_parts.specs.Holding.{Held}
-use Rattle.cx_parts.specs.Moves.{Message, Channel, Wire, Board, op_wants, op_posts, op_hands, Gives, Moves, turn_state}
-use Rattle.cx_parts.specs.Nets.{points_of, values_of_op}
-use Rattle.cx_parts.specs.Runs.{Run, cut_of}
-use Rattle.cx_part.specs.Frames.{IsPatchOf}
-use Rattle.cx_part.specs.Items.{computed}
-use Rattle.cx_pace.specs.Events.{work_of}
-use Rattle.cx_pace.specs.Steps.{moved_on, met_by}
-use Rattle.cx_reached.specs.Endings.{end_met_by}
-use Rattle.cx_gather.specs.Gathering.{HasRoom}
+use Rattle.law_parts.specs.Holding.{Held}
+use Rattle.law_parts.specs.Moves.{Message, Channel, Wire, Board, op_wants, op_posts, op_hands, Gives, Moves, turn_state}
+use Rattle.law_parts.specs.Nets.{points_of, values_of_op}
+use Rattle.law_parts.specs.Runs.{Run, cut_of}
+use Rattle.cx_core_part.specs.Frames.{IsPatchOf}
+use Rattle.cx_core_part.specs.Items.{computed}
+use Rattle.cx_core_events.specs.Events.{work_of}
+use Rattle.cx_core_events.specs.Steps.{moved_on, met_by}
+use Rattle.law_reached.specs.Endings.{end_met_by}
+use Rattle.cx_core_buffers.specs.Gathering.{HasRoom}
 use Rattle.cx_core.specs.Cores.{Cores, outcome_of}
 use Rattle.cx_core.specs.Shows.{kinds_by}
 use Rattle.cx_core.specs.Steps.{Counts}

@@ -7,10 +7,10 @@ use Rattle.cx_rule.specs.Routine.{Rule}
 use Rattle.cx_cut.specs.Cuts.{part_count}
 use Rattle.cx_cut.specs.Faults.{parts_of}
 use Rattle.cx_wire.specs.Messages.{Sent as SentMail}
-use Rattle.cx_pace.specs.declared.standing.Next.TheVariants as next
-use Rattle.cx_pace.specs.Events.{can_go, events, writer_going}
-use Rattle.cx_parts.specs.Beginnings.{Beginning, IsBeginning, run_of}
-use Rattle.cx_parts.specs.Totals.{undivided_from}
+use Rattle.cx_core_events.specs.declared.standing.Next.TheVariants as next
+use Rattle.cx_core_events.specs.Events.{can_go, events, writer_going}
+use Rattle.law_parts.specs.Beginnings.{Beginning, IsBeginning, run_of}
+use Rattle.law_parts.specs.Totals.{undivided_from}
 use Rattle.cx_core.specs.declared.answers.Event.{Event}
 use Rattle.cx_core.specs.declared.answers.Event.TheVariants as event
 use Rattle.cx_core.specs.Cores.{Cores}

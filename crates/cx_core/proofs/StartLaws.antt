@@ -22,23 +22,23 @@ use Rattle.cx_cut.specs.Faults.{parts_of}
 use Rattle.cx_flat.specs.declared.op.Op.{Op}
 use Rattle.cx_flat.specs.Code.{code}
 use Rattle.cx_reduce.specs.Partials.{Reduced}
-use Rattle.cx_network.specs.Machine.{begun, sum_below}
-use Rattle.cx_gather.specs.Boards.{Given, none_given, queue as waiting}
-use Rattle.cx_gather.specs.Gathering.{fresh, fresh_piece, HasRoom}
-use Rattle.cx_gather.proofs.PieceLaws.{holds_is_state}
-use Rattle.cx_pace.specs.Paces.{Paces, part_of}
-use Rattle.cx_pace.specs.Shows.{ShowsPace, first_paces}
-use Rattle.cx_pace.specs.declared.standing.Work.{Work}
-use Rattle.cx_part.specs.Exchanges.{ShowsQueue}
-use Rattle.cx_pace.specs.Steps.{first_place, all_at, standing_at}
-use Rattle.cx_part.specs.Copies.{copies_at}
-use Rattle.cx_part.specs.Frames.{IsPatchOf}
-use Rattle.cx_parts.proofs.CountLaws.{sum_none, sum_same}
-use Rattle.cx_parts.specs.Beginnings.{Beginning, Afresh, From, IsBeginning, run_of}
-use Rattle.cx_parts.specs.Moves.{Message}
-use Rattle.cx_parts.specs.Nets.{net, within_lead, held_first, taken_sum}
-use Rattle.cx_parts.specs.Runs.{Run, cut_of, parts_in}
-use Rattle.cx_parts.specs.Truths.{truth}
+use Rattle.law_network.specs.Machine.{begun, sum_below}
+use Rattle.cx_core_buffers.specs.Boards.{Given, none_given, queue as waiting}
+use Rattle.cx_core_buffers.specs.Gathering.{fresh, fresh_piece, HasRoom}
+use Rattle.cx_core_buffers.proofs.PieceLaws.{holds_is_state}
+use Rattle.cx_core_events.specs.Paces.{Paces, part_of}
+use Rattle.cx_core_events.specs.Shows.{ShowsPace, first_paces}
+use Rattle.cx_core_events.specs.declared.standing.Work.{Work}
+use Rattle.cx_core_part.specs.Exchanges.{ShowsQueue}
+use Rattle.cx_core_events.specs.Steps.{first_place, all_at, standing_at}
+use Rattle.cx_core_part.specs.Copies.{copies_at}
+use Rattle.cx_core_part.specs.Frames.{IsPatchOf}
+use Rattle.law_parts.proofs.CountLaws.{sum_none, sum_same}
+use Rattle.law_parts.specs.Beginnings.{Beginning, Afresh, From, IsBeginning, run_of}
+use Rattle.law_parts.specs.Moves.{Message}
+use Rattle.law_parts.specs.Nets.{net, within_lead, held_first, taken_sum}
+use Rattle.law_parts.specs.Runs.{Run, cut_of, parts_in}
+use Rattle.law_parts.specs.Truths.{truth}
 use Rattle.cx_core.specs.declared.answers.Outcome.TheVariants as out
 use Rattle.cx_core.specs.Cores.{Cores, items_in, items_of}
 use Rattle.cx_core.specs.Laws.{RunLaws}

@@ -6,17 +6,17 @@ use Rattle.cx_plan.specs.declared.variable.VarId.{VarId}
 use Rattle.cx_model.specs.declared.ends.End.{End}
 use Rattle.cx_model.specs.declared.ends.End.TheVariants as ends
 use Rattle.cx_model.specs.Traces.{Trace}
-use Rattle.cx_network.specs.Machine.{Can, CanMove}
-use Rattle.cx_network.specs.Machine as network
+use Rattle.law_network.specs.Machine.{Can, CanMove}
+use Rattle.law_network.specs.Machine as network
 use Rattle.cx_wire.specs.Messages.{Sent as SentMail}
-use Rattle.cx_pace.specs.declared.standing.Next.{Next}
-use Rattle.cx_pace.specs.declared.standing.Next.TheVariants as next
-use Rattle.cx_pace.specs.Paces.{Paces, part_of}
-use Rattle.cx_pace.specs.Events.{can_go, events, lies_ahead}
-use Rattle.cx_pace.specs.Steps.{moved_on, met_by}
-use Rattle.cx_way.specs.Steps.{IsReached}
-use Rattle.cx_parts.specs.Nets.{net, within_lead}
-use Rattle.cx_parts.specs.Runs.{Run, last_of}
+use Rattle.cx_core_events.specs.declared.standing.Next.{Next}
+use Rattle.cx_core_events.specs.declared.standing.Next.TheVariants as next
+use Rattle.cx_core_events.specs.Paces.{Paces, part_of}
+use Rattle.cx_core_events.specs.Events.{can_go, events, lies_ahead}
+use Rattle.cx_core_events.specs.Steps.{moved_on, met_by}
+use Rattle.cx_core_place.specs.Steps.{IsReached}
+use Rattle.law_parts.specs.Nets.{net, within_lead}
+use Rattle.law_parts.specs.Runs.{Run, last_of}
 use Rattle.cx_core.specs.declared.answers.Event.TheVariants as event
 use Rattle.cx_core.specs.declared.answers.Outcome.TheVariants as out
 use Rattle.cx_core.specs.Cores.{Cores, outcome_of, enabled_in, ahead_in}

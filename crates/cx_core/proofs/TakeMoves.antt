@@ -12,28 +12,28 @@ use Rattle.cx_flat.specs.declared.op.Op.{Op}
 use Rattle.cx_flat.specs.declared.op.Op.TheVariants as op
 use Rattle.cx_flat.specs.Flats.{control_after}
 use Rattle.cx_flat.specs.Ways.{Paired, is_receiving}
-use Rattle.cx_network.specs.Machine.{taken_now, queue_after}
-use Rattle.cx_network.specs.Agreement.{Fits, takes}
-use Rattle.cx_network.proofs.Steps.{found}
+use Rattle.law_network.specs.Machine.{taken_now, queue_after}
+use Rattle.law_network.specs.Agreement.{Fits, takes}
+use Rattle.law_network.proofs.Steps.{found}
 use Rattle.cx_model.specs.Turns.{values_of}
 use Rattle.cx_wire.specs.Messages.{Sent as SentMail}
 use Rattle.cx_wire.specs.Received.{counted}
 use Rattle.cx_ghost.specs.Takes.{needed, IsFace, BeginsWith}
-use Rattle.cx_parts.specs.Moves.{Sent, Wire, Board, is_there, takes_from, face_head, op_wants, op_posts, faces_by, number_by, held_values, Filled, Moves}
-use Rattle.cx_parts.specs.Nets.{points_of, values_of_op}
-use Rattle.cx_parts.specs.Runs.{Run, parts_in, cut_of, undivided}
-use Rattle.cx_parts.specs.Truths.{script, Agrees, GivesAt, Books}
-use Rattle.cx_parts.proofs.FitLaws.{lead_fits}
-use Rattle.cx_parts.proofs.MutualLaws.{partners_mutual}
-use Rattle.cx_parts.proofs.PairLaws.{are_there}
-use Rattle.cx_parts.proofs.Ways.{scalars_at, op_there, pair_there, first_quiet, IsMutual}
-use Rattle.cx_parts.proofs.WholeRun.{law, names_at, shape}
-use Rattle.cx_parts.specs.Operations.{NamesWell, IsExchange}
-use Rattle.cx_part.specs.Exchanges.{ShowsMessage, ShowsQueue, ShowsTaken, Takes, sum_taken}
-use Rattle.cx_part.specs.Frames.{IsPatchOf}
-use Rattle.cx_pace.specs.Events.{work_of}
-use Rattle.cx_pace.specs.Steps.{moved_on}
-use Rattle.cx_gather.specs.Gathering.{HasRoom}
+use Rattle.law_parts.specs.Moves.{Sent, Wire, Board, is_there, takes_from, face_head, op_wants, op_posts, faces_by, number_by, held_values, Filled, Moves}
+use Rattle.law_parts.specs.Nets.{points_of, values_of_op}
+use Rattle.law_parts.specs.Runs.{Run, parts_in, cut_of, undivided}
+use Rattle.law_parts.specs.Truths.{script, Agrees, GivesAt, Books}
+use Rattle.law_parts.proofs.FitLaws.{lead_fits}
+use Rattle.law_parts.proofs.MutualLaws.{partners_mutual}
+use Rattle.law_parts.proofs.PairLaws.{are_there}
+use Rattle.law_parts.proofs.Ways.{scalars_at, op_there, pair_there, first_quiet, IsMutual}
+use Rattle.law_parts.proofs.WholeRun.{law, names_at, shape}
+use Rattle.law_parts.specs.Operations.{NamesWell, IsExchange}
+use Rattle.cx_core_part.specs.Exchanges.{ShowsMessage, ShowsQueue, ShowsTaken, Takes, sum_taken}
+use Rattle.cx_core_part.specs.Frames.{IsPatchOf}
+use Rattle.cx_core_events.specs.Events.{work_of}
+use Rattle.cx_core_events.specs.Steps.{moved_on}
+use Rattle.cx_core_buffers.specs.Gathering.{HasRoom}
 use Rattle.cx_core.specs.Cores.{Cores}
 use Rattle.cx_core.specs.Shows.{kinds_by}
 use Rattle.cx_core.specs.Steps.{Counts}

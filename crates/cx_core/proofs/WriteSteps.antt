@@ -8,11 +8,11 @@ use Rattle.cx_plan.specs.Setups.{Setup}
 use Rattle.cx_model.specs.Runs.{greatest_output}
 use Rattle.cx_model.specs.Traces.{Trace}
 use Rattle.cx_wire.specs.Messages.{Sent as SentMail}
-use Rattle.cx_pace.specs.declared.standing.Standing.{Standing}
-use Rattle.cx_pace.specs.declared.standing.Work.{Work}
-use Rattle.cx_pace.specs.declared.standing.Next.TheVariants as next
-use Rattle.cx_pace.specs.Events.{events, all_in, all_stand, is_some_work}
-use Rattle.cx_parts.specs.Runs.{Run}
+use Rattle.cx_core_events.specs.declared.standing.Standing.{Standing}
+use Rattle.cx_core_events.specs.declared.standing.Work.{Work}
+use Rattle.cx_core_events.specs.declared.standing.Next.TheVariants as next
+use Rattle.cx_core_events.specs.Events.{events, all_in, all_stand, is_some_work}
+use Rattle.law_parts.specs.Runs.{Run}
 use Rattle.cx_core.specs.declared.answers.Event.{Event}
 use Rattle.cx_core.specs.declared.answers.Event.TheVariants as event
 use Rattle.cx_core.specs.Cores.{Cores}

@@ -14,30 +14,30 @@ use Rattle.cx_model.specs.Traces.{Trace, Entry, Wrote, Saved}
 use Rattle.cx_flat.specs.declared.op.Op.{Op}
 use Rattle.cx_flat.specs.declared.op.Op.TheVariants.{Sweep, Apply, Give, Join, Post, Take, Test, Open, Turn, Again, Rotate, Due, Written, Skip, Next, Piece, Save, Halt}
 use Rattle.cx_flat.specs.Flats.{Control, Flat}
-use Rattle.cx_network.specs.Machine.{Net, World, Can, After, IsNext, CanEnd, fronts, end_of, wrote_at, over_at, left}
-use Rattle.cx_network.specs.Machine as network
-use Rattle.cx_gather.specs.Gathering.{Buffers, HasPiece, HasRoom, piece_of, with_name}
-use Rattle.cx_gather.specs.Pieces.{HoldsPiece, HoldsPart}
-use Rattle.cx_gather.proofs.PieceLaws.{state_is}
+use Rattle.law_network.specs.Machine.{Net, World, Can, After, IsNext, CanEnd, fronts, end_of, wrote_at, over_at, left}
+use Rattle.law_network.specs.Machine as network
+use Rattle.cx_core_buffers.specs.Gathering.{Buffers, HasPiece, HasRoom, piece_of, with_name}
+use Rattle.cx_core_buffers.specs.Pieces.{HoldsPiece, HoldsPart}
+use Rattle.cx_core_buffers.proofs.PieceLaws.{state_is}
 use Rattle.cx_cut.proofs.Tiled.{tiles}
 use Rattle.cx_wire.specs.Messages.{Sent as SentMail}
-use Rattle.cx_pace.specs.declared.standing.Standing.{Standing}
-use Rattle.cx_pace.specs.declared.standing.Work.{Work}
-use Rattle.cx_pace.specs.declared.standing.Next.{Next as PaceEvent}
-use Rattle.cx_pace.specs.declared.standing.Next.TheVariants as next
-use Rattle.cx_pace.specs.Paces.{part_of, no_part}
-use Rattle.cx_pace.specs.Events.{work_of, events, all_in, writer_going, writer_by, all_stand, parts_going, is_some_work}
-use Rattle.cx_pace.specs.Shows.{ShowsPace, TellsEvents, KeepsPace, work_there}
-use Rattle.cx_pace.specs.Steps.{one_less, wrote_one, over_now}
-use Rattle.cx_parts.specs.Holding.{Held}
-use Rattle.cx_parts.specs.Moves.{Message, Channel}
-use Rattle.cx_parts.specs.Nets.{net, within_lead, only_level, piece_levels, WritesAt}
-use Rattle.cx_parts.specs.Runs.{Run, Oracle, cut_of, parts_in, next_op, guided, last_of, undivided, op_of, notes_of}
-use Rattle.cx_parts.specs.Truths.{entries_of}
-use Rattle.cx_parts.proofs.Sweeps.{all_at}
-use Rattle.cx_reached.specs.Endings.{end_met_by}
-use Rattle.cx_reached.specs.Going.{GoesOn, EndStands}
-use Rattle.cx_reached.specs.Works.{MakesWork, handed_out}
+use Rattle.cx_core_events.specs.declared.standing.Standing.{Standing}
+use Rattle.cx_core_events.specs.declared.standing.Work.{Work}
+use Rattle.cx_core_events.specs.declared.standing.Next.{Next as PaceEvent}
+use Rattle.cx_core_events.specs.declared.standing.Next.TheVariants as next
+use Rattle.cx_core_events.specs.Paces.{part_of, no_part}
+use Rattle.cx_core_events.specs.Events.{work_of, events, all_in, writer_going, writer_by, all_stand, parts_going, is_some_work}
+use Rattle.cx_core_events.specs.Shows.{ShowsPace, TellsEvents, KeepsPace, work_there}
+use Rattle.cx_core_events.specs.Steps.{one_less, wrote_one, over_now}
+use Rattle.law_parts.specs.Holding.{Held}
+use Rattle.law_parts.specs.Moves.{Message, Channel}
+use Rattle.law_parts.specs.Nets.{net, within_lead, only_level, piece_levels, WritesAt}
+use Rattle.law_parts.specs.Runs.{Run, Oracle, cut_of, parts_in, next_op, guided, last_of, undivided, op_of, notes_of}
+use Rattle.law_parts.specs.Truths.{entries_of}
+use Rattle.law_parts.proofs.Sweeps.{all_at}
+use Rattle.law_reached.specs.Endings.{end_met_by}
+use Rattle.law_reached.specs.Going.{GoesOn, EndStands}
+use Rattle.law_reached.specs.Works.{MakesWork, handed_out}
 use Rattle.cx_core.specs.declared.answers.Event.{Event}
 use Rattle.cx_core.specs.declared.answers.Event.TheVariants as event
 use Rattle.cx_core.specs.declared.answers.Outcome.{Outcome}

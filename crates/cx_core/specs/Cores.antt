@@ -6,12 +6,12 @@ use Rattle.cx_plan.specs.Setups.{Setup}
 use Rattle.cx_model.specs.declared.ends.End.{End}
 use Rattle.cx_model.specs.declared.ends.End.TheVariants as ends
 use Rattle.cx_field.specs.Patches.{PatchValue}
-use Rattle.cx_gather.specs.Boards.{Given}
-use Rattle.cx_gather.specs.Gathering.{Buffers}
-use Rattle.cx_pace.specs.declared.standing.Standing.{Standing}
-use Rattle.cx_pace.specs.Events.{events, lies_ahead}
-use Rattle.cx_pace.specs.Paces.{Paces}
-use Rattle.cx_part.specs.Copies.{copies_at}
+use Rattle.cx_core_buffers.specs.Boards.{Given}
+use Rattle.cx_core_buffers.specs.Gathering.{Buffers}
+use Rattle.cx_core_events.specs.declared.standing.Standing.{Standing}
+use Rattle.cx_core_events.specs.Events.{events, lies_ahead}
+use Rattle.cx_core_events.specs.Paces.{Paces}
+use Rattle.cx_core_part.specs.Copies.{copies_at}
 use Rattle.cx_core.specs.declared.answers.Outcome.{Outcome}
 use Rattle.cx_core.specs.declared.answers.Outcome.TheVariants.{Done, Overflow, WhileLimit, OutputLimit}
 

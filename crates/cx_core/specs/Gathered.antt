@@ -2,12 +2,12 @@
 -- while a checkpoint is to come.
 use Rattle.std.specs.Prelude.{ℕ, ◌≡◌, Bool, true, false, List, [], Some}
 use Rattle.cx_model.specs.Traces.{Trace}
-use Rattle.cx_network.specs.Together.{AreTogether}
+use Rattle.law_network.specs.Together.{AreTogether}
 use Rattle.cx_wire.specs.Messages.{Sent as SentMail}
 use Rattle.cx_flat.specs.declared.op.Op.{Op}
 use Rattle.cx_flat.specs.declared.op.Op.TheVariants.{Sweep, Apply, Give, Join, Post, Take, Test, Open, Turn, Again, Rotate, Due, Written, Skip, Next, Piece, Save, Halt}
-use Rattle.cx_parts.specs.Nets.{net, within_lead}
-use Rattle.cx_parts.specs.Runs.{Run, Oracle, next_op, guided}
+use Rattle.law_parts.specs.Nets.{net, within_lead}
+use Rattle.law_parts.specs.Runs.{Run, Oracle, next_op, guided}
 use Rattle.cx_core.specs.declared.answers.Event.{Event}
 use Rattle.cx_core.specs.declared.answers.Event.TheVariants as events
 use Rattle.cx_core.specs.Cores.{Cores}

@@ -8,20 +8,20 @@ use Rattle.cx_rule.specs.States.{State, level_of, scalar_of}
 use Rattle.cx_rule.specs.Meter.{raised}
 use Rattle.cx_model.specs.Runs.{output_of, greatest_output}
 use Rattle.cx_model.specs.Traces.{Entry, Wrote, Saved, Trace, Goes, Ends, Outcome as TraceOutcome}
-use Rattle.cx_network.specs.Machine.{World, left}
-use Rattle.cx_network.specs.Machine as network
+use Rattle.law_network.specs.Machine.{World, left}
+use Rattle.law_network.specs.Machine as network
 use Rattle.cx_field.specs.Patches.{PatchValue, IsScalar}
 use Rattle.cx_wire.specs.Received.{counted}
 use Rattle.cx_chk.specs.declared.checkpoint.Checkpoint.{Checkpoint}
-use Rattle.cx_gather.specs.Checkpoints.{HoldsState, state_of}
-use Rattle.cx_gather.specs.Gathering.{HasPiece, piece_of}
-use Rattle.cx_pace.specs.Shows.{IsBehindSave, SameWay}
-use Rattle.cx_parts.specs.Holding.{Held}
-use Rattle.cx_parts.specs.Moves.{Message, Channel}
-use Rattle.cx_parts.specs.Nets.{net, within_lead}
-use Rattle.cx_parts.specs.Runs.{Run, Oracle, cut_of, undivided, guided}
-use Rattle.cx_parts.specs.Work.{work, carried_count, total_sum}
-use Rattle.cx_reached.specs.Works.{works_of, handed_out}
+use Rattle.cx_core_buffers.specs.Checkpoints.{HoldsState, state_of}
+use Rattle.cx_core_buffers.specs.Gathering.{HasPiece, piece_of}
+use Rattle.cx_core_events.specs.Shows.{IsBehindSave, SameWay}
+use Rattle.law_parts.specs.Holding.{Held}
+use Rattle.law_parts.specs.Moves.{Message, Channel}
+use Rattle.law_parts.specs.Nets.{net, within_lead}
+use Rattle.law_parts.specs.Runs.{Run, Oracle, cut_of, undivided, guided}
+use Rattle.law_parts.specs.Work.{work, carried_count, total_sum}
+use Rattle.law_reached.specs.Works.{works_of, handed_out}
 use Rattle.cx_core.specs.declared.answers.Event.{Event}
 use Rattle.cx_core.specs.declared.answers.Event.TheVariants.{Part, Section, Save, End}
 use Rattle.cx_core.specs.declared.answers.Outcome.{Outcome}

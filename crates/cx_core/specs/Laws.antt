@@ -8,14 +8,14 @@ use Rattle.cx_cut.specs.Cuts.{IsCut}
 use Rattle.cx_flat.specs.declared.op.Op.TheVariants.{Piece}
 use Rattle.cx_flat.specs.Code.{op_at, code}
 use Rattle.cx_flat.specs.Ways.{WaysEnd}
-use Rattle.cx_way.specs.Steps.{PlacesFit}
-use Rattle.cx_pace.specs.Shows.{PaceTells}
-use Rattle.cx_parts.specs.Laws.{StepsKeep}
-use Rattle.cx_parts.specs.Runs.{Run, cut_of, parts_in, undivided}
-use Rattle.cx_reached.specs.Endings.{EndIsTheRuns}
-use Rattle.cx_reached.specs.Going.{StatesGoOn, KeepsWay}
-use Rattle.cx_reached.specs.Sums.{DoneMatches, TakenAddsUp}
-use Rattle.cx_reached.specs.Works.{BookIsLength, OneWay, WorksInOrder}
+use Rattle.cx_core_place.specs.Steps.{PlacesFit}
+use Rattle.cx_core_events.specs.Shows.{PaceTells}
+use Rattle.law_parts.specs.Laws.{StepsKeep}
+use Rattle.law_parts.specs.Runs.{Run, cut_of, parts_in, undivided}
+use Rattle.law_reached.specs.Endings.{EndIsTheRuns}
+use Rattle.law_reached.specs.Going.{StatesGoOn, KeepsWay}
+use Rattle.law_reached.specs.Sums.{DoneMatches, TakenAddsUp}
+use Rattle.law_reached.specs.Works.{BookIsLength, OneWay, WorksInOrder}
 
 pub record RunLaws (tells : Type 0) (r : Run) (trace : Trace) : Type 0 where
   pub cut : IsCut (cut_of r)

@@ -4,9 +4,9 @@ use Rattle.cx_plan.specs.Setups.{Setup}
 use Rattle.cx_flat.specs.Code.{code}
 use Rattle.cx_flat.specs.Flats.{Control}
 use Rattle.cx_flat.specs.Ways.{key}
-use Rattle.cx_way.specs.Steps.{most_open}
-use Rattle.cx_pace.specs.declared.standing.Standing.{Standing}
-use Rattle.cx_pace.specs.Paces.{Paces, part_of}
+use Rattle.cx_core_place.specs.Steps.{most_open}
+use Rattle.cx_core_events.specs.declared.standing.Standing.{Standing}
+use Rattle.cx_core_events.specs.Paces.{Paces, part_of}
 
 -- above each number of a place's key, and how many numbers a key has at most
 unfoldable pub key_base : Setup → ℕ

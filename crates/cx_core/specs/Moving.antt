@@ -19,29 +19,29 @@ use Rattle.cx_flat.specs.Flats.{Control}
 use Rattle.cx_flat.specs.Laws.{FlatIsRun}
 use Rattle.cx_flat.specs.Places.{OperationsMet}
 use Rattle.cx_flat.specs.Ways.{WaysEnd}
-use Rattle.cx_network.specs.Machine.{After, Part, sum_below}
+use Rattle.law_network.specs.Machine.{After, Part, sum_below}
 use Rattle.cx_wire.specs.Messages.{Sent as SentMail}
 use Rattle.cx_wire.specs.Received.{counted}
-use Rattle.cx_gather.specs.Boards.{Given, IsReady, front, Gives, Takes as Joined}
-use Rattle.cx_gather.specs.Gathering.{Buffers, HasPiece, with_piece, with_state}
-use Rattle.cx_gather.specs.Checkpoints.{HoldsState}
+use Rattle.cx_core_buffers.specs.Boards.{Given, IsReady, front, Gives, Takes as Joined}
+use Rattle.cx_core_buffers.specs.Gathering.{Buffers, HasPiece, with_piece, with_state}
+use Rattle.cx_core_buffers.specs.Checkpoints.{HoldsState}
 use Rattle.cx_ghost.specs.Takes.{needed, BeginsWith}
 use Rattle.cx_ghost.specs.declared.faults.PostFault.{PostFault}
 use Rattle.cx_ghost.specs.declared.faults.PostFault.TheVariants as posts
-use Rattle.cx_parts.specs.Beginnings.{Beginning, IsBeginning, run_of}
-use Rattle.cx_parts.specs.Holding.{joined, join_turn}
-use Rattle.cx_parts.specs.Moves.{Message, Channel, number_by, held_values, Filled, turn_state}
-use Rattle.cx_parts.specs.Nets.{net, within_lead, points_of, values_of_op}
-use Rattle.cx_parts.specs.Operations.{IsCurrent}
-use Rattle.cx_parts.specs.Runs.{Run, cut_of, parts_in}
-use Rattle.cx_part.specs.Exchanges.{Posts, Takes, ShowsTaken, sum_taken}
-use Rattle.cx_part.specs.Frames.{IsPatchOf, KeepsFrame}
-use Rattle.cx_part.specs.Items.{computed}
-use Rattle.cx_part.specs.Jobs.{IsChecked, IsCutOf, IsOperation}
-use Rattle.cx_pace.specs.Shows.{PaceTells, SameWay}
-use Rattle.cx_pace.specs.Steps.{moved_on, met_by}
-use Rattle.cx_reached.specs.Endings.{end_met_by}
-use Rattle.cx_reached.specs.Sums.{TakenAddsUp}
+use Rattle.law_parts.specs.Beginnings.{Beginning, IsBeginning, run_of}
+use Rattle.law_parts.specs.Holding.{joined, join_turn}
+use Rattle.law_parts.specs.Moves.{Message, Channel, number_by, held_values, Filled, turn_state}
+use Rattle.law_parts.specs.Nets.{net, within_lead, points_of, values_of_op}
+use Rattle.law_parts.specs.Operations.{IsCurrent}
+use Rattle.law_parts.specs.Runs.{Run, cut_of, parts_in}
+use Rattle.cx_core_part.specs.Exchanges.{Posts, Takes, ShowsTaken, sum_taken}
+use Rattle.cx_core_part.specs.Frames.{IsPatchOf, KeepsFrame}
+use Rattle.cx_core_part.specs.Items.{computed}
+use Rattle.cx_core_part.specs.Jobs.{IsChecked, IsCutOf, IsOperation}
+use Rattle.cx_core_events.specs.Shows.{PaceTells, SameWay}
+use Rattle.cx_core_events.specs.Steps.{moved_on, met_by}
+use Rattle.law_reached.specs.Endings.{end_met_by}
+use Rattle.law_reached.specs.Sums.{TakenAddsUp}
 use Rattle.cx_core.specs.declared.answers.CoreFault.{CoreFault}
 use Rattle.cx_core.specs.declared.answers.CoreFault.TheVariants as faults
 use Rattle.cx_core.specs.declared.answers.Outcome.{Outcome}

@@ -8,24 +8,24 @@ use Rattle.cx_plan.specs.Lookups.{item}
 use Rattle.cx_rule.specs.States.{State, level_of}
 use Rattle.cx_cut.specs.Cuts.{owned}
 use Rattle.cx_model.specs.declared.ends.End.{End}
-use Rattle.cx_network.specs.Machine.{World}
+use Rattle.law_network.specs.Machine.{World}
 use Rattle.cx_field.specs.Patches.{PatchValue}
 use Rattle.cx_reduce.specs.Partials.{Reduced}
 use Rattle.cx_wire.specs.Messages.{Sent as SentMail}
 use Rattle.cx_flat.specs.declared.op.Op.{Op}
 use Rattle.cx_flat.specs.declared.op.Op.TheVariants.{Give}
-use Rattle.cx_parts.specs.Holding.{Held}
-use Rattle.cx_parts.specs.Moves.{Message, Sent, Given, Handed, Channel, Wire, Board}
-use Rattle.cx_parts.specs.Runs.{Run, Oracle, cut_of, parts_in, next_op, guided, last_of}
-use Rattle.cx_part.specs.Exchanges.{ShowsQueue}
-use Rattle.cx_part.specs.Frames.{IsPatchOf}
-use Rattle.cx_gather.specs.Boards.{queue as waiting}
-use Rattle.cx_gather.specs.Gathering.{Buffers, HasRoom}
-use Rattle.cx_gather.specs.Pieces.{HoldsPiece, HoldsPart}
-use Rattle.cx_pace.specs.declared.standing.Work.{Work}
-use Rattle.cx_pace.specs.Paces.{part_of}
-use Rattle.cx_pace.specs.Shows.{ShowsPace}
-use Rattle.cx_reached.specs.Endings.{end_met_by}
+use Rattle.law_parts.specs.Holding.{Held}
+use Rattle.law_parts.specs.Moves.{Message, Sent, Given, Handed, Channel, Wire, Board}
+use Rattle.law_parts.specs.Runs.{Run, Oracle, cut_of, parts_in, next_op, guided, last_of}
+use Rattle.cx_core_part.specs.Exchanges.{ShowsQueue}
+use Rattle.cx_core_part.specs.Frames.{IsPatchOf}
+use Rattle.cx_core_buffers.specs.Boards.{queue as waiting}
+use Rattle.cx_core_buffers.specs.Gathering.{Buffers, HasRoom}
+use Rattle.cx_core_buffers.specs.Pieces.{HoldsPiece, HoldsPart}
+use Rattle.cx_core_events.specs.declared.standing.Work.{Work}
+use Rattle.cx_core_events.specs.Paces.{part_of}
+use Rattle.cx_core_events.specs.Shows.{ShowsPace}
+use Rattle.law_reached.specs.Endings.{end_met_by}
 use Rattle.cx_core.specs.declared.answers.Outcome.{Outcome}
 use Rattle.cx_core.specs.declared.answers.Outcome.TheVariants.{Going}
 use Rattle.cx_core.specs.Cores.{Cores, outcome_of}

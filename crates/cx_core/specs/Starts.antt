@@ -11,11 +11,11 @@ use Rattle.cx_field.specs.Patches.{PatchValue, with_numbers}
 use Rattle.cx_rule.specs.Routine.{Rule}
 use Rattle.cx_cut.specs.Cuts.{Parts, IsCut}
 use Rattle.cx_cut.specs.Faults.{parts_of}
-use Rattle.cx_gather.specs.Checkpoints.{HoldsState, state_of}
-use Rattle.cx_gather.specs.Gathering.{scattered}
-use Rattle.cx_part.specs.Frames.{IsPatchOf}
-use Rattle.cx_parts.specs.Beginnings.{Beginning, Afresh, From, run_of}
-use Rattle.cx_parts.specs.Nets.{held_first}
+use Rattle.cx_core_buffers.specs.Checkpoints.{HoldsState, state_of}
+use Rattle.cx_core_buffers.specs.Gathering.{scattered}
+use Rattle.cx_core_part.specs.Frames.{IsPatchOf}
+use Rattle.law_parts.specs.Beginnings.{Beginning, Afresh, From, run_of}
+use Rattle.law_parts.specs.Nets.{held_first}
 
 -- a whole job with shapes, whose grid has interior points, that the region check accepts, and whose
 -- widths cut its grid

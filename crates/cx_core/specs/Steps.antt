@@ -4,19 +4,19 @@ use Rattle.cx_plan.specs.declared.job.Job.{Job}
 use Rattle.cx_plan.specs.Setups.{setup_of}
 use Rattle.cx_rule.specs.Meter.{raised}
 use Rattle.cx_rule.specs.Routine.{Rule}
-use Rattle.cx_network.specs.Machine.{World, Can, After, left, begun}
-use Rattle.cx_network.specs.Machine as network
+use Rattle.law_network.specs.Machine.{World, Can, After, left, begun}
+use Rattle.law_network.specs.Machine as network
 use Rattle.cx_wire.specs.Messages.{Sent as SentMail}
 use Rattle.cx_wire.specs.Received.{counted}
 use Rattle.cx_flat.specs.declared.op.Op.{Op}
 use Rattle.cx_flat.specs.declared.op.Op.TheVariants as ops
-use Rattle.cx_parts.specs.Beginnings.{Beginning, IsBeginning, run_of}
-use Rattle.cx_parts.specs.Holding.{Held}
-use Rattle.cx_parts.specs.Laws.{IsReachedState}
-use Rattle.cx_parts.specs.Moves.{Message, Channel}
-use Rattle.cx_parts.specs.Nets.{net, within_lead, taken_sum}
-use Rattle.cx_parts.specs.Runs.{Run, Oracle, parts_in, next_op, guided}
-use Rattle.cx_parts.specs.Truths.{truth}
+use Rattle.law_parts.specs.Beginnings.{Beginning, IsBeginning, run_of}
+use Rattle.law_parts.specs.Holding.{Held}
+use Rattle.law_parts.specs.Laws.{IsReachedState}
+use Rattle.law_parts.specs.Moves.{Message, Channel}
+use Rattle.law_parts.specs.Nets.{net, within_lead, taken_sum}
+use Rattle.law_parts.specs.Runs.{Run, Oracle, parts_in, next_op, guided}
+use Rattle.law_parts.specs.Truths.{truth}
 use Rattle.cx_core.specs.declared.answers.Event.{Event}
 use Rattle.cx_core.specs.declared.answers.Event.TheVariants.{Part, Section, Save, End}
 use Rattle.cx_core.specs.Cores.{Cores, items_of}

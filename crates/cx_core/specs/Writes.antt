@@ -3,9 +3,9 @@ use Rattle.std.specs.Prelude.{ℕ, ◌+◌, ◌≡◌, Bool, nat_le, length, Opt
 use Rattle.cx_plan.specs.declared.variable.VarId.{VarId}
 use Rattle.cx_plan.specs.Setups.{Setup}
 use Rattle.cx_model.specs.Runs.{greatest_output}
-use Rattle.cx_gather.specs.Gathering.{Buffers, HasPiece, piece_of, with_name}
-use Rattle.cx_pace.specs.declared.standing.Work.{Work}
-use Rattle.cx_pace.specs.Steps.{wrote_one, over_now}
+use Rattle.cx_core_buffers.specs.Gathering.{Buffers, HasPiece, piece_of, with_name}
+use Rattle.cx_core_events.specs.declared.standing.Work.{Work}
+use Rattle.cx_core_events.specs.Steps.{wrote_one, over_now}
 use Rattle.cx_core.specs.declared.answers.Event.{Event}
 use Rattle.cx_core.specs.declared.answers.Event.TheVariants.{Section, Save, End}
 use Rattle.cx_core.specs.declared.answers.Outcome.{Outcome}

@@ -2,23 +2,23 @@
 ghost use Rattle.std.specs.Prelude.{Bool, IsTrue, List, ◌≡◌, ◌<◌, ℕ};
 ghost use Rattle.cx_plan.specs.Setups.{setup_of};
 ghost use Rattle.cx_rule.specs.Routine.{Rule};
-ghost use Rattle.cx_parts.specs.Beginnings.{Beginning, IsBeginning, run_of};
-ghost use Rattle.cx_parts.specs.Totals.{undivided_from};
+ghost use Rattle.law_parts.specs.Beginnings.{Beginning, IsBeginning, run_of};
+ghost use Rattle.law_parts.specs.Totals.{undivided_from};
 ghost use Rattle.cx_core.specs.Gathered.{CoresGather};
 ghost use Rattle.cx_core.specs.Hands.{Stands};
 ghost use Rattle.cx_core.specs.Laws.{RunLaws};
 ghost use Rattle.cx_core.specs.Starts.{IsReady};
 ghost use Rattle.cx_core.specs.Steps.{Counts, IsAt, Standing};
 
+use cx_core_events::pace_tells;
+use cx_core_place::places_fit;
 use cx_flat::{all_ways, flat_is_run, operation_needs_met};
-use cx_pace::pace_tells;
-use cx_parts::each_event_keeps;
 use cx_plan::Job;
-use cx_reached::{
+use law_parts::each_event_keeps;
+use law_reached::{
     book_is_length, done_matches, each_event_keeps_way, each_state_goes_on, end_is_the_runs,
     one_way, taken_adds_up, works_in_order,
 };
-use cx_way::places_fit;
 
 /// What the laws say of each run of a job. It does nothing that shows; its clause is the law.
 pub(crate) fn run_laws(job: &Job)

@@ -1,15 +1,15 @@
 //! The core, and what it lends.
 ghost use Rattle.std.specs.Prelude.{◌≡◌, ◌<◌, length};
-ghost use Rattle.cx_gather.specs.Gathering.{piece_of};
+ghost use Rattle.cx_core_buffers.specs.Gathering.{piece_of};
 ghost use Rattle.cx_core.specs.Cores.{ahead_in, enabled_in};
 ghost use Rattle.cx_core.specs.Hands.{last_number, HasScalar};
 
 use crate::answers::Outcome;
 use cx_chk::Checkpoint;
+use cx_core_buffers::{Boards, Gathering};
+use cx_core_events::Pace;
+use cx_core_part::Items;
 use cx_field::Patch;
-use cx_gather::{Boards, Gathering};
-use cx_pace::Pace;
-use cx_part::Items;
 use cx_plan::VarId;
 use cx_text::List;
 use std::marker::Model;

@@ -8,24 +8,24 @@ ghost use Rattle.cx_cut.specs.Cuts.{part_count};
 ghost use Rattle.cx_cut.specs.Faults.{parts_of};
 ghost use Rattle.cx_field.specs.Patches.{IsScalar};
 ghost use Rattle.cx_flat.specs.declared.op.Op.TheVariants as ops;
-ghost use Rattle.cx_gather.specs.Boards.{front};
-ghost use Rattle.cx_parts.specs.Holding.{joined};
-ghost use Rattle.cx_parts.specs.Runs.{Run, cut_of, parts_in};
-ghost use Rattle.cx_part.specs.Copies.{copies_at};
-ghost use Rattle.cx_part.specs.Frames.{IsPatchFor, IsPatchOf, IsInCut, KeepsFrame};
-ghost use Rattle.cx_part.specs.Jobs.{IsChecked, IsOperation, IsRunOf};
+ghost use Rattle.cx_core_buffers.specs.Boards.{front};
+ghost use Rattle.law_parts.specs.Holding.{joined};
+ghost use Rattle.law_parts.specs.Runs.{Run, cut_of, parts_in};
+ghost use Rattle.cx_core_part.specs.Copies.{copies_at};
+ghost use Rattle.cx_core_part.specs.Frames.{IsPatchFor, IsPatchOf, IsInCut, KeepsFrame};
+ghost use Rattle.cx_core_part.specs.Jobs.{IsChecked, IsOperation, IsRunOf};
 ghost use Rattle.cx_core.specs.Moving.{AreFronts, CanOperate, HasFronts, Joins, LoopTests, Operates, Turns, all_fronts, fault_of, holdings};
 ghost use Rattle.cx_core.specs.declared.answers.CoreFault.TheVariants as faults;
 ghost use Rattle.cx_core.specs.declared.answers.Outcome.TheVariants as outcomes;
 
 use crate::answers::{CoreFault, Outcome};
+use cx_core_buffers::{Boards, Gathering};
+use cx_core_events::Standing;
+use cx_core_part::Items;
 use cx_cut::Cut;
 use cx_field::Patch;
 use cx_flat::Op;
-use cx_gather::{Boards, Gathering};
 use cx_ghost::{PostFault, TakeFault};
-use cx_pace::Standing;
-use cx_part::Items;
 use cx_plan::{Job, VarId};
 use cx_reduce::{Partial, join as join_numbers};
 use cx_rule::{Meter, Routine};
@@ -86,7 +86,7 @@ pub(crate) fn sweep(
         → IfOk result (Turns r k
         (ops.Sweep item) iteration patch.old patch.new meter.old meter.new) }
 {
-    match cx_part::sweep(job, items, routines, item, patch, iteration, meter) {
+    match cx_core_part::sweep(job, items, routines, item, patch, iteration, meter) {
         Ok(()) => Ok(None),
         Err(_) => Ok(Some(overflow(alloc, job, item, iteration)?)),
     }
@@ -116,7 +116,7 @@ pub(crate) fn apply(
         → IfOk result (Turns r k
         (ops.Apply item) iteration patch.old patch.new meter.old meter.new) }
 {
-    match cx_part::apply(job, items, routines, item, patch, iteration, meter) {
+    match cx_core_part::apply(job, items, routines, item, patch, iteration, meter) {
         Ok(()) => Ok(None),
         Err(_) => Ok(Some(overflow(alloc, job, item, iteration)?)),
     }
@@ -157,7 +157,7 @@ pub(crate) fn join(
         (Joins r part item iteration boards.old boards.new patch.old patch.new) }
 {
     let number = joined_fronts(cut, boards, part);
-    match cx_part::join(job, item, patch, number) {
+    match cx_core_part::join(job, item, patch, number) {
         Ok(()) => {
             boards.take(part);
             Ok(None)
@@ -225,16 +225,16 @@ pub(crate) fn operate<W: Wire>(
         Op::Sweep(item) => Ok(sweep(alloc, job, items, routines, *item, patch, iteration, meter)?),
         Op::Apply(item) => Ok(apply(alloc, job, items, routines, *item, patch, iteration, meter)?),
         Op::Give(item) => {
-            boards.give(part, cx_part::give(job, *item, patch))?;
+            boards.give(part, cx_core_part::give(job, *item, patch))?;
             Ok(None)
         }
         Op::Join(item) => Ok(join(alloc, job, cut, boards, part, *item, patch, iteration)?),
         Op::Post(dir, vars) => {
-            cx_part::post(alloc, patch, cut, part, *dir, vars, at.count, wire)?;
+            cx_core_part::post(alloc, patch, cut, part, *dir, vars, at.count, wire)?;
             Ok(None)
         }
         Op::Take(dir, vars, _) => {
-            cx_part::take(patch, cut, part, *dir, vars, wire)?;
+            cx_core_part::take(patch, cut, part, *dir, vars, wire)?;
             Ok(None)
         }
         Op::Turn(scalar, path, _) => Ok(test_loop(alloc, job, at, *scalar, path, patch)?),

@@ -8,11 +8,11 @@ ghost use Rattle.cx_cut.specs.Cuts.{part_count};
 ghost use Rattle.cx_cut.specs.Faults.{parts_of};
 ghost use Rattle.cx_field.specs.Patches.{PatchValue};
 ghost use Rattle.cx_wire.specs.Messages.{Sent};
-ghost use Rattle.cx_parts.specs.Beginnings.{run_of};
-ghost use Rattle.cx_parts.specs.Nets.{held_first};
-ghost use Rattle.cx_part.specs.Copies.{copies_at};
-ghost use Rattle.cx_part.specs.Jobs.{IsCutOf};
-ghost use Rattle.cx_part.specs.Frames.{IsPatchOf};
+ghost use Rattle.law_parts.specs.Beginnings.{run_of};
+ghost use Rattle.law_parts.specs.Nets.{held_first};
+ghost use Rattle.cx_core_part.specs.Copies.{copies_at};
+ghost use Rattle.cx_core_part.specs.Jobs.{IsCutOf};
+ghost use Rattle.cx_core_part.specs.Frames.{IsPatchOf};
 ghost use Rattle.cx_core.specs.Starts.{IsReady, CanBegin, AreEmpty, begins_in, first_iteration, iteration_in, length_in, ArePatches, HasFirst, filled_first};
 ghost use Rattle.cx_core.specs.Steps.{Counts, Begins};
 ghost use Rattle.cx_core.specs.declared.answers.Outcome.TheVariants as outcomes;
@@ -21,12 +21,12 @@ use crate::answers::Outcome;
 use crate::laws::run_laws;
 use crate::machine::Core;
 use cx_chk::Checkpoint;
+use cx_core_buffers::{Boards, Gathering, scatter};
+use cx_core_events::Pace;
+use cx_core_part::Items;
 use cx_cut::{Cut, cut};
 use cx_field::Patch;
 use cx_flat::flatten;
-use cx_gather::{Boards, Gathering, scatter};
-use cx_pace::Pace;
-use cx_part::Items;
 use cx_plan::{Job, VarId};
 use cx_text::Memory;
 use std::alloc::Global;
@@ -165,7 +165,7 @@ fn first_patch(
     ensures { IfOk result
         (HasFirst job.now cut.now (option_copied state.entry) k) }
 {
-    let mut patch = cx_part::start(alloc, job, cut, k)?;
+    let mut patch = cx_core_part::start(alloc, job, cut, k)?;
     fill(job, state, &mut patch);
     Ok(patch)
 }

@@ -3,9 +3,9 @@ ghost use Rattle.std.specs.Prelude.{◌≡◌, ◌<◌, ◌+◌, ◌∷◌, ℕ,
 ghost use Rattle.cx_plan.specs.Setups.{setup_of};
 ghost use Rattle.cx_plan.specs.Whole.{IsWhole, IsVariable};
 ghost use Rattle.cx_model.specs.Runs.{greatest_output};
-ghost use Rattle.cx_gather.specs.Gathering.{HasPiece};
-ghost use Rattle.cx_pace.specs.Events.{writer_going};
-ghost use Rattle.cx_pace.specs.declared.standing.Next.TheVariants as next;
+ghost use Rattle.cx_core_buffers.specs.Gathering.{HasPiece};
+ghost use Rattle.cx_core_events.specs.Events.{writer_going};
+ghost use Rattle.cx_core_events.specs.declared.standing.Next.TheVariants as next;
 ghost use Rattle.cx_model.specs.States.{number_count};
 ghost use Rattle.cx_plan.specs.Lookups.{variable};
 ghost use Rattle.cx_core.specs.Texts.{text_of_piece};

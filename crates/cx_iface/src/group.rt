@@ -9,8 +9,8 @@ ghost use Rattle.cx_iface.specs.Groups.{group_name_of, group_name, copies, more_
 
 use crate::attributes::{Attributes, read_attributes, small};
 use crate::{Access, GType, Group};
-use cx_names::NameList;
 use cx_text::{CType, List, MAX_NAME, Mark, Reader, Stop, Text, Why};
+use cx_text_names::NameList;
 use std::alloc::Global;
 
 /// The variables of a group, and its description.

@@ -19,7 +19,7 @@ use Rattle.cx_rule.specs.Jobs.{HasRoutine, FitItem, FitJob}
 use Rattle.cx_rule.specs.declared.spec.Spec.{Spec}
 use Rattle.cx_rule.proofs.CutParts.{part_is}
 use Rattle.cx_rule.proofs.PartLaws.{local_small}
-use Rattle.cx_grids.proofs.NoneLaws.{some_none}
+use Rattle.cx_job_values.proofs.NoneLaws.{some_none}
 use Rattle.cx_job.specs.Caps.{part_points, greatest_part, too_large, cap_fault, caps_fault}
 use Rattle.cx_job.specs.JobLimits.{run_count}
 use Rattle.cx_job.specs.LocalCells.{greatest}

@@ -23,8 +23,8 @@ use Rattle.cx_rule.specs.Jobs.{of_touch, of_want, HasRoutine}
 use Rattle.cx_job.specs.Jobs.{job_of}
 use Rattle.cx_job.specs.JobLimits.{run_count}
 use Rattle.cx_job.specs.Making.{Matches}
-use Rattle.cx_match.specs.Matching.{thorn_number, level_of, touch_by, touch_of, param_number, is_for, all_matched}
-use Rattle.cx_grids.proofs.NoneLaws.{no_some, some_same, both_first}
+use Rattle.cx_job_items.specs.Matching.{thorn_number, level_of, touch_by, touch_of, param_number, is_for, all_matched}
+use Rattle.cx_job_values.proofs.NoneLaws.{no_some, some_same, both_first}
 use Rattle.cx_job.proofs.MatchedLaws.{answered_below, IsMatched, as_many_matched, matched_at}
 use Rattle.cx_job.proofs.TouchLaws.{some_keep, as_many_some, is_offer}
 use Rattle.cx_job.proofs.RunLaws.{called_of_plan}

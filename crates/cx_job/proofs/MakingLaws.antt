@@ -21,8 +21,8 @@ use Rattle.cx_rule.specs.declared.spec.Spec.{Spec}
 use Rattle.cx_disk.specs.Cause.{HasCause}
 use Rattle.cx_job.specs.declared.fault.JobFault.{JobFault}
 use Rattle.cx_job.specs.declared.fault.JobFault.TheVariants as faults
-use Rattle.cx_config.specs.declared.configuring.Configured.{Configured}
-use Rattle.cx_config.specs.Shelf.{Held}
+use Rattle.cx_job_files.specs.declared.configuring.Configured.{Configured}
+use Rattle.cx_job_files.specs.Shelf.{Held}
 use Rattle.cx_cut.specs.Faults.{parts_of, cut_fault}
 use Rattle.cx_cut.specs.declared.faults.CutFault.{CutFault}
 use Rattle.cx_job.specs.LocalCells.{local_cells, items_run}
@@ -30,16 +30,16 @@ use Rattle.cx_job.specs.Caps.{greatest_part, too_large, cap_fault, caps_fault}
 use Rattle.cx_job.specs.Jobs.{job_of}
 use Rattle.cx_job.specs.Outputs.{output_variables}
 use Rattle.cx_job.specs.JobLimits.{over, writes_fault, reads_fault, parameters_fault, each_limit, item_limits, points_fault, cells_fault, grid_limits, key_limit, limit_fault, run_count}
-use Rattle.cx_config.specs.declared.fault.ConfigFault.{ConfigFault}
-use Rattle.cx_config.specs.declared.fault.ConfigFault.TheVariants as configs
-use Rattle.cx_config.specs.Reading.{Follows}
-use Rattle.cx_config.proofs.Settled.{same_fault}
-use Rattle.cx_match.specs.declared.fault.MatchFault.{MatchFault}
-use Rattle.cx_match.specs.declared.fault.MatchFault.TheVariants as matches
+use Rattle.cx_job_files.specs.declared.fault.ConfigFault.{ConfigFault}
+use Rattle.cx_job_files.specs.declared.fault.ConfigFault.TheVariants as configs
+use Rattle.cx_job_files.specs.Reading.{Follows}
+use Rattle.cx_job_files.proofs.Settled.{same_fault}
+use Rattle.cx_job_items.specs.declared.fault.MatchFault.{MatchFault}
+use Rattle.cx_job_items.specs.declared.fault.MatchFault.TheVariants as matches
 use Rattle.cx_job.specs.Faults.{config_fault, match_fault}
 use Rattle.cx_text.specs.Telling.{Stage, Then, Tells}
-use Rattle.cx_config.specs.Stages.{Is, unless, or_fault}
-use Rattle.cx_config.specs.Configuring.{Configures}
+use Rattle.cx_job_files.specs.Stages.{Is, unless, or_fault}
+use Rattle.cx_job_files.specs.Configuring.{Configures}
 use Rattle.cx_job.specs.Making.{Orders, Matches, Accepts, CutAnd, part_limits, cut_limits, within_cut, LimitsAnd, ItemsAnd, OutputsAnd, PlanAnd, ValuesAnd, MadeOf, Made, Makes, Yields, output_ids, within_limits}
 use Rattle.cx_job.proofs.OnlyJob.{Comes, only_job, only_fault}
 use Rattle.cx_text.specs.Numbers.{in_64_bits}

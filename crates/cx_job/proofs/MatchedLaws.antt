@@ -6,12 +6,12 @@ use Rattle.cx_plan.specs.declared.item.Item.{Item}
 use Rattle.cx_values.specs.declared.values.Values.{Values}
 use Rattle.cx_order.specs.Meanings.{World}
 use Rattle.cx_rule.specs.declared.spec.Spec.{Spec}
-use Rattle.cx_match.specs.declared.matching.Offer.{Offer}
-use Rattle.cx_config.specs.Stages.{or_fault}
-use Rattle.cx_match.specs.declared.fault.MatchFault.{MatchFault}
+use Rattle.cx_job_items.specs.declared.matching.Offer.{Offer}
+use Rattle.cx_job_files.specs.Stages.{or_fault}
+use Rattle.cx_job_items.specs.declared.fault.MatchFault.{MatchFault}
 use Rattle.cx_job.specs.declared.fault.JobFault.{JobFault}
 use Rattle.cx_job.specs.Faults.{match_fault}
-use Rattle.cx_match.specs.Matching.{thorn_number, offer, fits, completed, mismatch, matched_by, routine_number, spec_at, with_routine, matched, matched_if_run, all_matched}
+use Rattle.cx_job_items.specs.Matching.{thorn_number, offer, fits, completed, mismatch, matched_by, routine_number, spec_at, with_routine, matched, matched_if_run, all_matched}
 use Rattle.cx_job.proofs.MeantLaws.{err_ok}
 
 -- ---- lists

@@ -12,7 +12,7 @@ use Rattle.cx_scope.specs.Names.{named_groups, named_variables}
 use Rattle.cx_scope.specs.Sight.{Sight, seen}
 use Rattle.cx_scope.specs.Naming.{Level, variable_named, group_named}
 use Rattle.cx_scope.specs.Resolving.{ref_text, var_id, level_fault, unless_fault, stored, members_at, group_levels, levels, resolve}
-use Rattle.cx_grids.proofs.NoneLaws.{some_none, first_none, second_none}
+use Rattle.cx_job_values.proofs.NoneLaws.{some_none, first_none, second_none}
 use Rattle.cx_job.proofs.SupportedLaws.{none_in}
 
 -- a level of a variable that is stored

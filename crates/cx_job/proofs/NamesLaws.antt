@@ -18,9 +18,9 @@ use Rattle.cx_bind.specs.Variables.{variable_infos}
 use Rattle.cx_scope.specs.declared.fault.ScopeFault.{ScopeFault}
 use Rattle.cx_scope.specs.declared.fault.ScopeFault.TheVariants.{NotScalar, NotGrid}
 use Rattle.cx_scope.specs.Resolving.{ref_text}
-use Rattle.cx_entries.specs.Counted.{Entry}
+use Rattle.cx_order_entries.specs.Counted.{Entry}
 use Rattle.cx_order.specs.Meanings.{World, Levels, scalar_in, is_scalar, meant, one_scalar, tested, all_grid, all_joined, once_each, synced, touch, touches_of, touches, and_then, meaning_or_none, unless_group}
-use Rattle.cx_grids.specs.Stored.{stored_infos}
+use Rattle.cx_job_values.specs.Stored.{stored_infos}
 use Rattle.cx_job.proofs.SupportedLaws.{none_in, first_of, others_of, in_all}
 use Rattle.cx_job.proofs.StoredLaws.{as_many_stored, stored_at}
 use Rattle.cx_job.proofs.MeantLaws.{IsKept, err_ok, resolved_kept}

@@ -3,11 +3,11 @@ use Rattle.std.proofs.Common.{◌≡◌, List, ℕ, Result, Ok, Err, inl, inr}
 use Rattle.std.specs.Prelude.{◌⊎◌, IsErrAnd, MatchResult}
 use Rattle.cx_plan.specs.declared.job.Job.{Job}
 use Rattle.cx_rule.specs.declared.spec.Spec.{Spec}
-use Rattle.cx_config.specs.Shelf.{Held}
-use Rattle.cx_config.specs.Stages.{Raised}
-use Rattle.cx_config.specs.Configuring.{Configures}
-use Rattle.cx_config.proofs.Settled.{Settled, same_fault, then_settled, raised_settled}
-use Rattle.cx_config.proofs.OnlyFiles.{configures_settled}
+use Rattle.cx_job_files.specs.Shelf.{Held}
+use Rattle.cx_job_files.specs.Stages.{Raised}
+use Rattle.cx_job_files.specs.Configuring.{Configures}
+use Rattle.cx_job_files.proofs.Settled.{Settled, same_fault, then_settled, raised_settled}
+use Rattle.cx_job_files.proofs.OnlyFiles.{configures_settled}
 use Rattle.cx_job.specs.declared.fault.JobFault.{JobFault}
 use Rattle.cx_job.specs.declared.fault.JobFault.TheVariants as faults
 use Rattle.cx_job.specs.Faults.{config_fault}

@@ -25,12 +25,12 @@ use Rattle.cx_region.proofs.OnlyFaults.{no-shape-fault}
 use Rattle.cx_rule.specs.declared.spec.Spec.{Spec}
 use Rattle.cx_job.specs.declared.fault.JobFault.{JobFault}
 use Rattle.cx_job.specs.declared.fault.JobFault.TheVariants as faults
-use Rattle.cx_config.specs.declared.configuring.Configured.{Configured}
+use Rattle.cx_job_files.specs.declared.configuring.Configured.{Configured}
 use Rattle.cx_job.specs.Faults.{match_fault}
 use Rattle.cx_job.specs.Jobs.{job_of}
-use Rattle.cx_match.proofs.OnlyMatched.{all-same}
-use Rattle.cx_config.specs.Stages.{Is, unless, or_fault}
-use Rattle.cx_config.proofs.Settled.{Settled, same_fault, settled_is, then_settled}
+use Rattle.cx_job_items.proofs.OnlyMatched.{all-same}
+use Rattle.cx_job_files.specs.Stages.{Is, unless, or_fault}
+use Rattle.cx_job_files.proofs.Settled.{Settled, same_fault, settled_is, then_settled}
 use Rattle.cx_job.specs.JobLimits.{run_count}
 use Rattle.cx_job.specs.Making.{Orders, Matches, Accepts, CutAnd, within_cut, LimitsAnd, ItemsAnd, OutputsAnd, PlanAnd, ValuesAnd, MadeOf, output_ids, within_limits, without_witness}
 

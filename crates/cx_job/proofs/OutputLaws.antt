@@ -19,7 +19,7 @@ use Rattle.cx_text.specs.Telling.{Answers}
 use Rattle.cx_scope.specs.Names.{named_group, named_copy, copies_of, variables_in, variables_of, named_variables}
 use Rattle.cx_scope.proofs.NameLaws.{few}
 use Rattle.cx_values.proofs.Along.{one_numbered}
-use Rattle.cx_match.proofs.AllLaws.{Given, given_fault}
+use Rattle.cx_job_items.proofs.AllLaws.{Given, given_fault}
 use Rattle.cx_values.specs.declared.values.Values.{Values}
 use Rattle.cx_job.specs.declared.groups.GroupPlace.{GroupPlace}
 use Rattle.cx_job.specs.declared.groups.FullGroup.{FullGroup}

@@ -12,7 +12,7 @@ use Rattle.cx_scope.specs.declared.fault.ScopeFault.TheVariants.{NotFound, NoSto
 use Rattle.cx_values.specs.declared.values.Values.{Values}
 use Rattle.cx_values.specs.Assigned.{slot}
 use Rattle.cx_job.specs.Outputs.{output_names, output_variables}
-use Rattle.cx_grids.specs.Stored.{stored_infos, point_count, owned_cells}
+use Rattle.cx_job_values.specs.Stored.{stored_infos, point_count, owned_cells}
 
 abbrev out_vars : List ℕ → Values
 out_vars text = record {

@@ -12,14 +12,14 @@ use Rattle.cx_scope.specs.Sight.{Sight}
 use Rattle.cx_scope.specs.Resolving.{group_of}
 use Rattle.cx_order.specs.declared.ordered.Ordered.{Ordered}
 use Rattle.cx_order.specs.declared.fault.OrderFault.TheVariants.{Limit}
-use Rattle.cx_entries.specs.Counted.{Line}
+use Rattle.cx_order_entries.specs.Counted.{Line}
 use Rattle.cx_order.specs.Files.{Input}
 use Rattle.cx_order.specs.Meanings.{World}
 use Rattle.cx_plan.specs.Lookups.{bin_count}
 use Rattle.cx_order.specs.Plans.{Forest, calls, bin_forest, forests, bin_trees, over}
 use Rattle.cx_order.specs.Storage.{has_variable, granted, declared_levels, given, given_by, storage}
 use Rattle.cx_order.specs.Ordering.{IsPlan, planned, world}
-use Rattle.cx_grids.proofs.NoneLaws.{some_none, first_none, second_none}
+use Rattle.cx_job_values.proofs.NoneLaws.{some_none, first_none, second_none}
 use Rattle.cx_plan.specs.Lists.{greatest}
 
 -- ---- trees

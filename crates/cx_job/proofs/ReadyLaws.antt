@@ -27,16 +27,16 @@ use Rattle.cx_job.specs.LocalCells.{local_cells}
 use Rattle.cx_job.specs.Caps.{caps_fault}
 use Rattle.cx_job.specs.Jobs.{job_of}
 use Rattle.cx_job.specs.Outputs.{output_variables}
-use Rattle.cx_match.specs.Matching.{all_matched}
+use Rattle.cx_job_items.specs.Matching.{all_matched}
 use Rattle.cx_text.specs.Telling.{Answers}
-use Rattle.cx_match.specs.declared.fault.MatchFault.TheVariants as matches
-use Rattle.cx_config.specs.NamesAndLevels.{AreRead}
-use Rattle.cx_match.specs.declared.fault.MatchFault.{MatchFault}
+use Rattle.cx_job_items.specs.declared.fault.MatchFault.TheVariants as matches
+use Rattle.cx_job_files.specs.NamesAndLevels.{AreRead}
+use Rattle.cx_job_items.specs.declared.fault.MatchFault.{MatchFault}
 use Rattle.cx_job.specs.Faults.{match_fault}
-use Rattle.cx_config.specs.Stages.{Is, or_fault}
+use Rattle.cx_job_files.specs.Stages.{Is, or_fault}
 use Rattle.cx_job.specs.Making.{Orders, Matches, CutAnd, part_limits, cut_limits, LimitsAnd, ItemsAnd, OutputsAnd, PlanAnd, Yields, IsReady, IsPlanned, output_ids, within_limits}
 use Rattle.cx_job.proofs.MakingLaws.{yields_halt, yields_pass, yields_ok, unless_ok}
-use Rattle.cx_grids.proofs.NoneLaws.{first_none, second_none}
+use Rattle.cx_job_values.proofs.NoneLaws.{first_none, second_none}
 use Rattle.cx_job.proofs.WholeJobs.{is_whole, not_over}
 use Rattle.cx_job.proofs.FitLaws.{fits}
 use Rattle.cx_job.proofs.CapLaws.{IsRunWith, job_fits}

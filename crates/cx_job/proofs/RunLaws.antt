@@ -11,7 +11,7 @@ use Rattle.cx_plan.specs.Regions.{run_items}
 use Rattle.cx_plan.specs.declared.variable.VarId.{VarId}
 use Rattle.cx_plan.specs.declared.tree.Tree.{Tree, Seq, Call, Sync}
 use Rattle.cx_plan.specs.declared.tree.Schedule.{Schedule}
-use Rattle.cx_entries.specs.Counted.{Entry}
+use Rattle.cx_order_entries.specs.Counted.{Entry}
 use Rattle.cx_order.specs.Meanings.{World, names_of}
 use Rattle.cx_order.specs.declared.ordered.Ordered.{Ordered}
 use Rattle.cx_order.specs.Files.{Input}

@@ -17,8 +17,8 @@ use Rattle.cx_bind.specs.declared.thorns.Thorn.{Thorn}
 use Rattle.cx_bind.specs.declared.thorns.BindFault.TheVariants.{TwoVariables}
 use Rattle.cx_bind.specs.Faults.{is_same_variable, two_variables}
 use Rattle.cx_bind.specs.Variables.{variable_infos}
-use Rattle.cx_grids.specs.Stored.{stored_info, stored_infos}
-use Rattle.cx_grids.proofs.NoneLaws.{some_none}
+use Rattle.cx_job_values.specs.Stored.{stored_info, stored_infos}
+use Rattle.cx_job_values.proofs.NoneLaws.{some_none}
 use Rattle.cx_job.proofs.OutputLaws.{as_long}
 
 -- ---- elements that are the same as none before

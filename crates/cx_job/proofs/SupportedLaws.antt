@@ -15,7 +15,7 @@ use Rattle.cx_bind.specs.Binding.{needs_fault, names_fault, kinds_fault, bind_fa
 use Rattle.cx_bind.specs.Faults.{is_unsupported_type, is_unsupported_kind, is_unsupported_group, is_unsupported_parameter, unsupported_of, unsupported, two_dims, no_parameter, wrong_type, two_variables, over}
 use Rattle.cx_bind.specs.Parameters.{known}
 use Rattle.cx_bind.specs.Variables.{OwnedGroup, Variable, groups_of, owned_groups, copies, variables_in, variables, is_scalar, variable_info, variable_infos}
-use Rattle.cx_grids.proofs.NoneLaws.{some_none, first_none, second_none}
+use Rattle.cx_job_values.proofs.NoneLaws.{some_none, first_none, second_none}
 
 -- ---- lists
 

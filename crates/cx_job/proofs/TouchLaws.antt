@@ -11,16 +11,16 @@ use Rattle.cx_plan.specs.declared.variable.VarId.{VarId}
 use Rattle.cx_bind.specs.Variables.{variable_infos}
 use Rattle.cx_scope.specs.declared.fault.ScopeFault.{ScopeFault}
 use Rattle.cx_values.specs.declared.values.Values.{Values}
-use Rattle.cx_entries.specs.Counted.{Entry}
+use Rattle.cx_order_entries.specs.Counted.{Entry}
 use Rattle.cx_order.specs.Meanings.{World, Levels, meant}
 use Rattle.cx_order.specs.Plans.{Forest, Done, Then, item_of, forest_items}
 use Rattle.cx_rule.specs.declared.spec.Spec.{Spec}
 use Rattle.cx_rule.specs.declared.spec.Want.{Want}
-use Rattle.cx_match.specs.declared.matching.Offer.{Offer}
-use Rattle.cx_match.specs.Matching as matching
-use Rattle.cx_match.specs.Matching.{ref_in, thorn_number, only_level, level_of, touch_by, touch_of, with_first, all_some, numbers_of, offer_by, offer}
-use Rattle.cx_grids.specs.Stored.{stored_infos}
-use Rattle.cx_grids.proofs.NoneLaws.{no_some, some_same}
+use Rattle.cx_job_items.specs.declared.matching.Offer.{Offer}
+use Rattle.cx_job_items.specs.Matching as matching
+use Rattle.cx_job_items.specs.Matching.{ref_in, thorn_number, only_level, level_of, touch_by, touch_of, with_first, all_some, numbers_of, offer_by, offer}
+use Rattle.cx_job_values.specs.Stored.{stored_infos}
+use Rattle.cx_job_values.proofs.NoneLaws.{no_some, some_same}
 use Rattle.cx_job.proofs.SupportedLaws.{none_in, first_of, in_all}
 use Rattle.cx_job.proofs.MeantLaws.{IsKept, resolved_kept}
 use Rattle.cx_job.proofs.MatchedLaws.{IsMatched}

@@ -8,7 +8,7 @@ use Rattle.cx_plan.specs.declared.variable.VarId.{VarId}
 use Rattle.cx_plan.specs.declared.job.Job.{Job}
 use Rattle.cx_plan.specs.declared.tree.Tree.{Tree, Seq, Seq', Call, Sync, If, While, Row_of-Tree, end_of-Tree, more_of-Tree, items-the_row-Tree, items_hidden-the_row-Tree-0}
 use mathlib.Core.Former.{Count}
-use Rattle.cx_entries.specs.Counted.{Entry}
+use Rattle.cx_order_entries.specs.Counted.{Entry}
 use Rattle.cx_order.specs.Meanings.{World, names_of}
 use Rattle.cx_order.specs.Plans.{Forest, Done, Then, calls, trees, bin_trees, forest_items, item_of, sync_tree, call_tree, with_while, with_if, wrapped}
 use Rattle.cx_job.proofs.SupportedLaws.{none_in, first_of, others_of}

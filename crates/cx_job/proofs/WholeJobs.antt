@@ -31,20 +31,20 @@ use Rattle.cx_rule.specs.declared.spec.Spec.{Spec}
 use Rattle.cx_job.specs.declared.fault.JobFault.TheVariants.{Limit}
 use Rattle.cx_job.specs.JobLimits.{over, writes_fault, reads_fault, parameters_fault, item_limits, points_fault, cells_fault, grid_limits, key_limit, limit_fault, run_count}
 use Rattle.cx_job.specs.Jobs.{job_of}
-use Rattle.cx_config.specs.NamesAndLevels.{AreRead}
+use Rattle.cx_job_files.specs.NamesAndLevels.{AreRead}
 use Rattle.cx_job.specs.Outputs.{output_variables}
-use Rattle.cx_grids.specs.Stored.{stored_infos}
-use Rattle.cx_grids.specs.Grids.{number_at}
+use Rattle.cx_job_values.specs.Stored.{stored_infos}
+use Rattle.cx_job_values.specs.Grids.{number_at}
 use Rattle.cx_job.specs.Making.{Matches}
-use Rattle.cx_grids.proofs.NoneLaws.{some_none, first_none, second_none}
-use Rattle.cx_grids.proofs.LimitLaws.{lies_within, natural_lies_within, has_shape}
+use Rattle.cx_job_values.proofs.NoneLaws.{some_none, first_none, second_none}
+use Rattle.cx_job_values.proofs.LimitLaws.{lies_within, natural_lies_within, has_shape}
 use Rattle.cx_job.proofs.WrittenLaws.{outputs_stored, outputs_rise}
 use Rattle.cx_job.proofs.StoredLaws.{as_many_stored, each_stored, names_kept, stored_differ}
 use Rattle.cx_job.proofs.SupportedLaws.{no_two_variables, one_level, few_variables as few_declared}
 use Rattle.cx_job.proofs.TreeLaws.{bins_whole}
 use Rattle.cx_job.proofs.NamesLaws.{are_names}
 use Rattle.cx_job.proofs.MeantLaws.{all_none}
-use Rattle.cx_match.specs.Matching.{all_matched}
+use Rattle.cx_job_items.specs.Matching.{all_matched}
 use Rattle.cx_job.proofs.MatchedLaws.{answered_below, IsMatched, as_many_matched, matched_or_kept}
 use Rattle.cx_job.proofs.TouchLaws.{matched_whole, planned_whole}
 use Rattle.cx_job.proofs.RunLaws.{called_of_plan}
@@ -200,6 +200,7 @@ module _ (thorns : List Thorn) (files : List ScheduleFile) (values : Values) (ru
         outputs = written_stored;
         steers = All-nil (IsSteer (setup_of job));
         weight = tt;
+        weight_factor = omega arith;
         outputs_rise = written_rise;
         variables_limit = few_variables;
         itlast_limit = iterations.1;

@@ -22,7 +22,7 @@ use Rattle.cx_job.specs.declared.groups.FullGroup.{FullGroup}
 use Rattle.cx_job.specs.declared.outputs.Named.{Named}
 use Rattle.cx_job.proofs.OutputLaws.{as_long, all_placed, meaning}
 use Rattle.cx_job.specs.Outputs.{named_by, is_of, is_stored, is_missing, lacks_storage, output_of, outputs, is_written, named_ids, group_places, full_groups, output_names, ids_or_fault, output_variables}
-use Rattle.cx_grids.specs.Stored.{stored_info, stored_infos}
+use Rattle.cx_job_values.specs.Stored.{stored_info, stored_infos}
 use Rattle.cx_job.proofs.StoredLaws.{as_many_stored}
 
 -- ---- lists

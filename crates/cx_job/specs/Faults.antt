@@ -1,8 +1,8 @@
 -- The faults of the layers below, as a job's.
-use Rattle.cx_config.specs.declared.fault.ConfigFault.{ConfigFault}
-use Rattle.cx_config.specs.declared.fault.ConfigFault.TheVariants as configs
-use Rattle.cx_match.specs.declared.fault.MatchFault.{MatchFault}
-use Rattle.cx_match.specs.declared.fault.MatchFault.TheVariants as matches
+use Rattle.cx_job_files.specs.declared.fault.ConfigFault.{ConfigFault}
+use Rattle.cx_job_files.specs.declared.fault.ConfigFault.TheVariants as configs
+use Rattle.cx_job_items.specs.declared.fault.MatchFault.{MatchFault}
+use Rattle.cx_job_items.specs.declared.fault.MatchFault.TheVariants as matches
 use Rattle.cx_job.specs.declared.fault.JobFault.{JobFault}
 use Rattle.cx_job.specs.declared.fault.JobFault.TheVariants as faults
 

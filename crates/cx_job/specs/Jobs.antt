@@ -11,10 +11,10 @@ use Rattle.cx_job.specs.declared.job.Run.{Run}
 use Rattle.cx_job.specs.declared.job.Layout.{Layout}
 use Rattle.cx_job.specs.declared.job.Texts.{Texts}
 use Rattle.cx_job.specs.declared.job.Parts.{Parts}
-use Rattle.cx_grids.specs.Grids.{shape_of, cuts_of}
+use Rattle.cx_job_values.specs.Grids.{shape_of, cuts_of}
 use Rattle.cx_job.specs.Keys.{key, starred_lines}
-use Rattle.cx_grids.specs.RunNumbers.{itlast, while_limit, lead, out_every, checkpoint_every, keep, on_end, out_dir, checkpoint_dir, recover_of}
-use Rattle.cx_grids.specs.Stored.{stored_infos}
+use Rattle.cx_job_values.specs.RunNumbers.{itlast, while_limit, lead, out_every, checkpoint_every, keep, on_end, out_dir, checkpoint_dir, recover_of}
+use Rattle.cx_job_values.specs.Stored.{stored_infos}
 
 -- the numbers, the flags and the texts of a run
 abbrev pub run_of : Values → Run

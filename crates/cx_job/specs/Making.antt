@@ -32,19 +32,19 @@ use Rattle.cx_disk.specs.Cause.{HasCause}
 use Rattle.cx_job.specs.declared.fault.JobFault.{JobFault}
 use Rattle.cx_job.specs.declared.fault.JobFault.TheVariants as faults
 use Rattle.cx_job.specs.declared.stages.Contents.{Contents}
-use Rattle.cx_config.specs.declared.configuring.Configured.{Configured}
-use Rattle.cx_config.specs.declared.shelf.Shelf.{Ghosts}
-use Rattle.cx_config.specs.Shelf.{Held}
+use Rattle.cx_job_files.specs.declared.configuring.Configured.{Configured}
+use Rattle.cx_job_files.specs.declared.shelf.Shelf.{Ghosts}
+use Rattle.cx_job_files.specs.Shelf.{Held}
 use Rattle.cx_text.specs.Telling.{Stage, Then}
-use Rattle.cx_config.specs.Stages.{Is, unless, or_fault, Raised}
-use Rattle.cx_config.specs.Configuring.{Configures}
+use Rattle.cx_job_files.specs.Stages.{Is, unless, or_fault, Raised}
+use Rattle.cx_job_files.specs.Configuring.{Configures}
 use Rattle.cx_job.specs.Faults.{config_fault, match_fault}
 use Rattle.cx_job.specs.Jobs.{job_of}
 use Rattle.cx_cut.specs.Faults.{parts_of, cut_fault}
 use Rattle.cx_job.specs.JobLimits.{over, run_count, limit_fault}
 use Rattle.cx_job.specs.LocalCells.{local_cells}
 use Rattle.cx_job.specs.Caps.{caps_fault}
-use Rattle.cx_match.specs.Matching.{all_matched}
+use Rattle.cx_job_items.specs.Matching.{all_matched}
 use Rattle.cx_job.specs.Outputs.{output_variables}
 
 -- an answer is what the stage comes to, unless memory is wanting

@@ -15,7 +15,7 @@ use Rattle.cx_scope.specs.declared.fault.ScopeFault.{ScopeFault}
 use Rattle.cx_scope.specs.declared.fault.ScopeFault.TheVariants.{NotFound, NoStorage}
 use Rattle.cx_scope.specs.Resolving.{var_id}
 use Rattle.cx_values.specs.declared.values.Values.{Values}
-use Rattle.cx_grids.specs.Grids.{text_at}
+use Rattle.cx_job_values.specs.Grids.{text_at}
 use Rattle.cx_job.specs.declared.groups.GroupPlace.{GroupPlace}
 use Rattle.cx_job.specs.declared.groups.FullGroup.{FullGroup}
 use Rattle.cx_job.specs.declared.outputs.Named.{Named}

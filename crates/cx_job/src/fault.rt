@@ -6,13 +6,13 @@ ghost use Rattle.cx_values.specs.declared.fault.ValueFault.TheVariants as values
 ghost use Rattle.cx_order.specs.declared.fault.OrderFault.TheVariants as orders;
 ghost use Rattle.cx_region.specs.declared.fault.RegionFault.TheVariants as regions;
 ghost use Rattle.cx_cut.specs.declared.faults.CutFault.TheVariants as cuts;
-ghost use Rattle.cx_config.specs.Stages.{IsOf};
+ghost use Rattle.cx_job_files.specs.Stages.{IsOf};
 ghost use Rattle.cx_job.specs.declared.fault.JobFault.TheVariants as faults;
 
 use cx_bind::BindFault;
-use cx_config::ConfigFault;
 use cx_cut::CutFault;
-use cx_match::MatchFault;
+use cx_job_files::ConfigFault;
+use cx_job_items::MatchFault;
 use cx_order::OrderFault;
 use cx_region::RegionFault;
 use cx_text::{CclFault, Memory, OrDash, Text, TextFault};

@@ -3,13 +3,13 @@
 ghost use Rattle.std.specs.Prelude.{◌≡◌, ◌≤◌, ◌^◌, IfOk};
 ghost use Rattle.cx_grid.specs.Boxes.{point_count};
 ghost use Rattle.cx_grid.specs.Grid.{IsShape, whole};
-ghost use Rattle.cx_grids.specs.Grids.{shape_of};
+ghost use Rattle.cx_job_values.specs.Grids.{shape_of};
 ghost use Rattle.cx_job.specs.Jobs.{run_of, layout_of, texts_of, parts_of, job_with, job_of};
 
 use crate::keys::{key, starred_lines};
 use cx_bind::Bound;
 use cx_grid::Shape;
-use cx_grids::{
+use cx_job_values::{
     checkpoint_dir, checkpoint_every, cuts_of, itlast, keep, lead, on_end, out_dir, out_every,
     recover_of, shape_of, stored_infos, while_limit,
 };

@@ -9,7 +9,7 @@ ghost use Rattle.cx_bind.specs.Variables.{copies};
 use crate::lines::{direction_line, parameter_line, thorn_line, variable_line};
 use cx_bind::{Bound, Param, Thorn};
 use cx_grid::Shape;
-use cx_match::is_starred;
+use cx_job_items::is_starred;
 use cx_plan::VarInfo;
 use cx_text::{List, Memory, Text};
 use cx_values::Values;

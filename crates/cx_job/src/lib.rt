@@ -14,7 +14,7 @@ mod making;
 mod outputs;
 mod stages;
 
-pub use cx_config::{FolderShelf, MemoryShelf, Shelf, ShelfFault};
+pub use cx_job_files::{FolderShelf, MemoryShelf, Shelf, ShelfFault};
 pub use fault::JobFault;
 pub use lines::direction_letter;
 pub use making::make_job;

@@ -9,7 +9,7 @@ ghost use Rattle.cx_text.specs.Numbers.{in_64_bits};
 
 use crate::JobFault;
 use cx_grid::Shape;
-use cx_grids::{owned_cells, point_count};
+use cx_job_values::{owned_cells, point_count};
 use cx_plan::{Item, VarInfo};
 use cx_text::{List, Memory, Text};
 use std::alloc::Global;

@@ -14,7 +14,7 @@ use crate::counting::run_count;
 use crate::limits::first_items;
 use cx_cut::Cut;
 use cx_grid::{Box3, count, reach_box};
-use cx_grids::grid_levels;
+use cx_job_values::grid_levels;
 use cx_plan::{Item, Job};
 
 /// How far the second number is above the first.

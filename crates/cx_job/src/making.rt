@@ -12,7 +12,7 @@ ghost use Rattle.cx_rule.specs.Jobs.{FitJob};
 ghost use Rattle.cx_bind.specs.Binding.{bind_fault};
 ghost use Rattle.cx_bind.specs.Variables.{variable_infos};
 ghost use Rattle.cx_job.specs.Outputs.{output_variables};
-ghost use Rattle.cx_config.specs.NamesAndLevels.{AreRead};
+ghost use Rattle.cx_job_files.specs.NamesAndLevels.{AreRead};
 ghost use Rattle.cx_job.specs.Making.{Made, MakesFrom, MadeOf, PlanAnd, ItemsAnd, Yields, IsReady, IsPlanned};
 
 use crate::counting::run_count;
@@ -21,7 +21,7 @@ use crate::stages::{
     Contents, assign_all, bind_all, cut_and, match_items, order_all, output_ids, within_limits,
 };
 use cx_bind::Bound;
-use cx_config::{Configured, Shelf, configure};
+use cx_job_files::{Configured, Shelf, configure};
 use cx_order::Ordered;
 use cx_plan::{Job, VarId};
 use cx_rule::{Routine, Spec};

@@ -9,7 +9,7 @@ ghost use Rattle.cx_job.specs.Outputs.{is_between, is_name, output_names, named_
 
 use crate::groups::{FullGroups, GroupPlace, group_places};
 use cx_bind::Bound;
-use cx_grids::{stored_levels, text_copy};
+use cx_job_values::{stored_levels, text_copy};
 use cx_plan::{VarId, VarInfo};
 use cx_scope::ScopeFault;
 use cx_text::{List, Memory, Text, same_name};

@@ -13,14 +13,14 @@ use Rattle.cx_sched.specs.declared.tree.Node as node
 use Rattle.cx_sched.specs.declared.tree.ScheduleFile.{ScheduleFile}
 use Rattle.cx_bind.specs.declared.thorns.Thorn.{Thorn}
 use Rattle.cx_order.specs.declared.fault.OrderFault.{OrderFault}
-use Rattle.cx_entries.specs.declared.counted.Line.{Line as LentLine}
-use Rattle.cx_entries.specs.declared.counted.Entry.{Entry as LentEntry}
-use Rattle.cx_entries.specs.declared.counted.Counted.{Counted as LentCounted}
-use Rattle.cx_entries.specs.Counted.{Line, Entry, Counted, line, nothing, joined, taken, one_counted, each, counted_of}
-use Rattle.cx_entries.specs.Seen.{seen, seen_line, seen_entry}
+use Rattle.cx_order_entries.specs.declared.counted.Line.{Line as LentLine}
+use Rattle.cx_order_entries.specs.declared.counted.Entry.{Entry as LentEntry}
+use Rattle.cx_order_entries.specs.declared.counted.Counted.{Counted as LentCounted}
+use Rattle.cx_order_entries.specs.Counted.{Line, Entry, Counted, line, nothing, joined, taken, one_counted, each, counted_of}
+use Rattle.cx_order_entries.specs.Seen.{seen, seen_line, seen_entry}
 use Rattle.cx_order.specs.Blocks.{by_thorn}
 use Rattle.cx_order.specs.Files.{counted_from}
-use Rattle.cx_entries.proofs.CountedLaws.{and_then-nothing, joined-assoc}
+use Rattle.cx_order_entries.proofs.CountedLaws.{and_then-nothing, joined-assoc}
 use Rattle.cx_text.specs.Numbers.{is_not_zero}
 
 unmapped : {X Y : Type 0} (P : Y → Type 0) (f : X → Y) (xs : List X) → All P (map f xs)

@@ -12,14 +12,14 @@ use Rattle.std.proofs.lemmas.Slice.Eq.{bytes_eq-Decides}
 use Rattle.cx_text.specs.Lexemes.{same_name}
 use Rattle.cx_sched.specs.declared.tree.Spot.{Spot}
 use Rattle.cx_sched.specs.declared.tree.Spot.TheVariants.{At, Inside}
-use Rattle.cx_entries.specs.declared.placement.Placed.{Placed}
-use Rattle.cx_entries.specs.Counted.{Entry}
-use Rattle.cx_entries.specs.Entries.{Bin, Group, stands_at, entries_at}
-use Rattle.cx_least.specs.Links.{row}
-use Rattle.cx_entries.specs.PlaceNumbers.{group_names, group_number, place, place_count, row_or_none, orders_by}
+use Rattle.cx_order_entries.specs.declared.placement.Placed.{Placed}
+use Rattle.cx_order_entries.specs.Counted.{Entry}
+use Rattle.cx_order_entries.specs.Entries.{Bin, Group, stands_at, entries_at}
+use Rattle.cx_order_least.specs.Links.{row}
+use Rattle.cx_order_entries.specs.PlaceNumbers.{group_names, group_number, place, place_count, row_or_none, orders_by}
 use Rattle.cx_plan.specs.Lookups.{bin_count}
-use Rattle.cx_entries.specs.Members.{entries_of}
-use Rattle.cx_entries.specs.Placement.{IsPlaced, contained}
+use Rattle.cx_order_entries.specs.Members.{entries_of}
+use Rattle.cx_order_entries.specs.Placement.{IsPlaced, contained}
 use Rattle.cx_order.specs.Plans.{Done, in_order, contents}
 use Rattle.cx_order.specs.PlanSteps.{ordered, inside_of, row_with, contents_at}
 

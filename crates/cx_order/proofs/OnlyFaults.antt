@@ -4,15 +4,15 @@ use Rattle.cx_plan.specs.Lists.{or_else}
 use Rattle.cx_scope.specs.Sight.{Sight}
 use Rattle.cx_order.specs.declared.ordered.Ordered.{Ordered}
 use Rattle.cx_order.specs.declared.fault.OrderFault.{OrderFault}
-use Rattle.cx_entries.specs.Counted.{Counted}
+use Rattle.cx_order_entries.specs.Counted.{Counted}
 use Rattle.cx_order.specs.Files.{Input, all_counted}
-use Rattle.cx_entries.specs.Entries.{names_fault}
-use Rattle.cx_entries.specs.PlaceNumbers.{Orders, AreLeast}
-use Rattle.cx_entries.specs.Cycles.{NoGroupCycle}
+use Rattle.cx_order_entries.specs.Entries.{names_fault}
+use Rattle.cx_order_entries.specs.PlaceNumbers.{Orders, AreLeast}
+use Rattle.cx_order_entries.specs.Cycles.{NoGroupCycle}
 use Rattle.cx_order.specs.Plans.{limit_fault}
 use Rattle.cx_order.specs.Faults.{from_entry}
 use Rattle.cx_order.specs.Ordering.{planned, scope_fault, entries_fault, AreEntries, AreOrders, IsEntryFault, IsOfGroups, IsOfEntries, IsScopeFault, IsLimitFault, IsFault, of_expression, of_entry, of_groups, of_entries, of_scope, of_limit, without_cycle}
-use Rattle.cx_entries.proofs.OnlyOrders.{no-entry-cycle}
+use Rattle.cx_order_entries.proofs.OnlyOrders.{no-entry-cycle}
 use Rattle.cx_order.proofs.OnlyPlan.{one-counted, same, none-and-some, ok-and-err}
 
 err-is : (r : Result Counted OrderFault) (a b : OrderFault) → r ≡ Err a → r ≡ Err b → a ≡ b

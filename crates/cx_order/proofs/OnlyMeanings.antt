@@ -19,9 +19,9 @@ use Rattle.cx_scope.specs.declared.fault.ScopeFault.{ScopeFault}
 use Rattle.cx_scope.specs.Sight.{Sight, IsSightOf}
 use Rattle.cx_order.specs.declared.fault.OrderFault.TheVariants.{Scope}
 use Rattle.cx_order.specs.declared.meaning.Meaning.{Meaning}
-use Rattle.cx_entries.specs.Counted.{Entry, Line}
-use Rattle.cx_entries.specs.Entries.{Place, Bin, Group, stands_at, entries_at}
-use Rattle.cx_entries.specs.PlaceNumbers.{Orders, place_count}
+use Rattle.cx_order_entries.specs.Counted.{Entry, Line}
+use Rattle.cx_order_entries.specs.Entries.{Place, Bin, Group, stands_at, entries_at}
+use Rattle.cx_order_entries.specs.PlaceNumbers.{Orders, place_count}
 use Rattle.cx_plan.specs.Lookups.{bin_count}
 use Rattle.cx_order.specs.Storage.{error_of, line_fault, storage_fault, given, given_by, storage}
 use Rattle.cx_order.specs.Files.{thorn_name}

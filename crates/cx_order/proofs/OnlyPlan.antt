@@ -11,11 +11,11 @@ use Rattle.cx_scope.specs.Sight.{Sight, IsSightOf}
 use Rattle.cx_order.specs.declared.ordered.Ordered.{Ordered}
 use Rattle.cx_order.specs.declared.fault.OrderFault.{OrderFault}
 use Rattle.cx_order.specs.declared.fault.OrderFault.TheVariants.{Memory}
-use Rattle.cx_entries.specs.Counted.{Counted, Entry, Line}
+use Rattle.cx_order_entries.specs.Counted.{Counted, Entry, Line}
 use Rattle.cx_order.specs.Files.{Input, input_of, all_counted}
-use Rattle.cx_entries.specs.Entries.{names_fault}
-use Rattle.cx_entries.specs.PlaceNumbers.{Orders, AreLeast}
-use Rattle.cx_entries.specs.Cycles.{NoGroupCycle}
+use Rattle.cx_order_entries.specs.Entries.{names_fault}
+use Rattle.cx_order_entries.specs.PlaceNumbers.{Orders, AreLeast}
+use Rattle.cx_order_entries.specs.Cycles.{NoGroupCycle}
 use Rattle.cx_order.specs.Storage.{storage, storage_fault}
 use Rattle.cx_order.specs.Meanings.{World, meaning}
 use Rattle.cx_order.specs.Plans.{Forest, forests, forest_items, entry_fault, bin_trees, limit_fault}
@@ -24,7 +24,7 @@ use Rattle.cx_order.specs.Faults.{from_entry}
 use Rattle.cx_order.specs.Ordering.{planned, scope_fault, entries_fault, AreEntries, AreOrders, IsPlan, IsFault, of_expression, of_entry, of_groups, of_entries, of_scope, of_limit, OrderAnswers}
 use Rattle.cx_order.proofs.FileLaws.{counted-below}
 use Rattle.cx_order.proofs.OrderingLaws.{memory-or, same-ordered}
-use Rattle.cx_entries.proofs.OnlyOrders.{same-orders, no-entry-cycle}
+use Rattle.cx_order_entries.proofs.OnlyOrders.{same-orders, no-entry-cycle}
 use Rattle.cx_order.proofs.OnlySights.{Each, IsThere}
 use Rattle.cx_order.proofs.OnlyMeanings.{each-of, Grows, forests-grow, same-fault, same-items, same-trees, same-text, same-meaning, same-storage, same-storage-fault}
 

@@ -11,21 +11,21 @@ use Rattle.cx_order.specs.declared.ordered.Ordered.{Ordered}
 use Rattle.cx_order.specs.declared.planning.Planned.{Planned}
 use Rattle.cx_order.specs.declared.fault.OrderFault.{OrderFault}
 use Rattle.cx_order.specs.declared.fault.OrderFault.TheVariants.{Memory}
-use Rattle.cx_entries.specs.declared.fault.EntryFault.{EntryFault}
-use Rattle.cx_entries.specs.declared.fault.EntryFault.TheVariants as entries
-use Rattle.cx_entries.specs.declared.fault.PlaceFault.{PlaceFault}
-use Rattle.cx_entries.specs.declared.fault.PlaceFault.TheVariants as places
-use Rattle.cx_entries.specs.declared.fault.PlaceFault.TheVariants.{GroupCycle, Cycle}
+use Rattle.cx_order_entries.specs.declared.fault.EntryFault.{EntryFault}
+use Rattle.cx_order_entries.specs.declared.fault.EntryFault.TheVariants as entries
+use Rattle.cx_order_entries.specs.declared.fault.PlaceFault.{PlaceFault}
+use Rattle.cx_order_entries.specs.declared.fault.PlaceFault.TheVariants as places
+use Rattle.cx_order_entries.specs.declared.fault.PlaceFault.TheVariants.{GroupCycle, Cycle}
 use Rattle.cx_order.specs.Faults.{from_entry, from_place}
-use Rattle.cx_entries.specs.Entries.{bin_fault, names_fault}
-use Rattle.cx_entries.specs.Counted.{Counted}
+use Rattle.cx_order_entries.specs.Entries.{bin_fault, names_fault}
+use Rattle.cx_order_entries.specs.Counted.{Counted}
 use Rattle.cx_order.specs.Files.{Input, input_of, all_counted}
-use Rattle.cx_entries.specs.PlaceNumbers.{Orders, AreLeast}
-use Rattle.cx_entries.specs.Cycles.{NoGroupCycle}
+use Rattle.cx_order_entries.specs.PlaceNumbers.{Orders, AreLeast}
+use Rattle.cx_order_entries.specs.Cycles.{NoGroupCycle}
 use Rattle.cx_order.specs.Storage.{storage, storage_fault}
 use Rattle.cx_order.specs.Meanings.{World}
 use Rattle.cx_order.specs.Plans.{Forest, forests, entry_fault, limit_fault, bin_trees}
-use Rattle.cx_entries.specs.Placement.{ArePlaced}
+use Rattle.cx_order_entries.specs.Placement.{ArePlaced}
 use Rattle.cx_order.specs.PlanSteps.{IsPlanOf}
 use Rattle.cx_order.specs.Ordering.{AreEntries, AreOrders, IsPlan, IsFault, IsFaultFrom, of_entry, of_groups, of_entries, of_scope, of_limit, planned}
 

@@ -8,12 +8,12 @@ use Rattle.cx_plan.specs.declared.item.Item.{Item}
 use Rattle.cx_order.specs.declared.meaning.Meaning.{Meaning}
 use Rattle.cx_order.specs.declared.planning.Made.{Made}
 use Rattle.cx_plan.specs.Lookups.{bin_name, run_bin_count}
-use Rattle.cx_entries.specs.Counted.{Entry}
+use Rattle.cx_order_entries.specs.Counted.{Entry}
 use Rattle.cx_order.specs.Meanings.{World, names_of}
 use Rattle.cx_order.specs.Plans.{Forest, Done, Then, calls, trees, forest_items, sync_tree, call_tree, item_of, wrapped, path_of, bin_trees}
 use Rattle.cx_order.specs.Texts.{blanks, entry_text, line_feed, forest_text, bin_text, bins_text, schedule_text}
-use Rattle.cx_entries.specs.PlaceNumbers.{Orders}
-use Rattle.cx_entries.specs.Members.{entries_of}
+use Rattle.cx_order_entries.specs.PlaceNumbers.{Orders}
+use Rattle.cx_order_entries.specs.Members.{entries_of}
 use Rattle.cx_order.specs.PlanSteps.{inside_of, row_with, Makes, Works, MakesBin, MakesBins, HasRoom, calls_of}
 
 -- ---- how many items there are

@@ -14,12 +14,12 @@ use Rattle.cx_scope.specs.declared.fault.ScopeFault.TheVariants.{NotFound}
 use Rattle.cx_scope.specs.Sight.{Sight}
 use Rattle.cx_order.specs.declared.fault.OrderFault.{OrderFault}
 use Rattle.cx_order.specs.declared.fault.OrderFault.TheVariants.{Scope}
-use Rattle.cx_entries.specs.declared.fault.EntryFault.TheVariants.{TwoNames, UnknownBin}
-use Rattle.cx_entries.specs.Counted.{Counted, Entry, nothing}
+use Rattle.cx_order_entries.specs.declared.fault.EntryFault.TheVariants.{TwoNames, UnknownBin}
+use Rattle.cx_order_entries.specs.Counted.{Counted, Entry, nothing}
 use Rattle.cx_order.specs.Files.{Input, all_counted}
-use Rattle.cx_entries.specs.Entries.{Bin, Group, entries_at, entry_name, bin_fault, names_fault}
-use Rattle.cx_entries.specs.PlaceNumbers.{Orders}
-use Rattle.cx_entries.specs.Cycles.{IsGroupCycle}
+use Rattle.cx_order_entries.specs.Entries.{Bin, Group, entries_at, entry_name, bin_fault, names_fault}
+use Rattle.cx_order_entries.specs.PlaceNumbers.{Orders}
+use Rattle.cx_order_entries.specs.Cycles.{IsGroupCycle}
 use Rattle.cx_order.specs.Ordering.{planned, scope_fault}
 
 abbrev bare : List ℕ → Ref

@@ -15,10 +15,10 @@ use Rattle.cx_scope.specs.Sight.{Sight}
 use Rattle.cx_scope.specs.Resolving.{group_of}
 use Rattle.cx_order.specs.declared.fault.OrderFault.{OrderFault}
 use Rattle.cx_order.specs.declared.fault.OrderFault.TheVariants.{Scope, Memory}
-use Rattle.cx_entries.specs.declared.counted.Line.{Line as LentLine}
-use Rattle.cx_entries.specs.Counted.{Line}
+use Rattle.cx_order_entries.specs.declared.counted.Line.{Line as LentLine}
+use Rattle.cx_order_entries.specs.Counted.{Line}
 use Rattle.cx_order.specs.Files.{thorn_name}
-use Rattle.cx_entries.specs.Seen.{seen_line}
+use Rattle.cx_order_entries.specs.Seen.{seen_line}
 use Rattle.cx_order.specs.Storage.{error_of, line_fault, storage_fault, granted, declared_levels, given, given_by, storage}
 
 -- ---- the greater of two

@@ -8,7 +8,7 @@ use Rattle.cx_order.specs.declared.fault.OrderFault.{OrderFault}
 use Rattle.cx_order.specs.declared.fault.OrderFault.TheVariants.{Scope}
 use Rattle.cx_order.specs.declared.meaning.Meaning.{Meaning}
 use Rattle.cx_order.specs.declared.summary.Summary.{Summary}
-use Rattle.cx_entries.specs.Counted.{Entry}
+use Rattle.cx_order_entries.specs.Counted.{Entry}
 use Rattle.cx_order.specs.Storage.{error_of}
 use Rattle.cx_order.specs.Meanings.{World, meaning, meaning_or_none, names_of}
 use Rattle.cx_order.specs.Plans.{Forest, Done, Then, forest_fault, trees, calls, wrapped, sync_tree, call_tree}

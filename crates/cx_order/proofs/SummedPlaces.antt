@@ -7,27 +7,27 @@ use Rattle.std.proofs.lemmas.Bool.{and_from, eqb-false}
 use Rattle.std.proofs.lemmas.List.{get_or-set_same, get_or-set_other, length-set, length-map, drop_more, drop_all}
 use Rattle.std.proofs.lemmas.Option.{slice_get-map, slice_get_cases, slice_get_within, slice_get-get_or, get_or_from_slice_get}
 use Rattle.cx_text.specs.Lexemes.{same_name}
-use Rattle.cx_entries.specs.declared.placement.Placed.{Placed}
+use Rattle.cx_order_entries.specs.declared.placement.Placed.{Placed}
 use Rattle.cx_order.specs.declared.summary.Summary.{Summary}
-use Rattle.cx_entries.specs.Counted.{Entry}
-use Rattle.cx_entries.specs.Entries.{Bin, Group, entries_at, is_group}
-use Rattle.cx_least.specs.Links.{has, row}
+use Rattle.cx_order_entries.specs.Counted.{Entry}
+use Rattle.cx_order_entries.specs.Entries.{Bin, Group, entries_at, is_group}
+use Rattle.cx_order_least.specs.Links.{has, row}
 use Rattle.cx_scope.specs.declared.fault.ScopeFault.{ScopeFault}
 use Rattle.cx_order.specs.declared.meaning.Meaning.{Meaning}
 use Rattle.cx_order.specs.Meanings.{World, meaning}
-use Rattle.cx_entries.specs.Members.{entries_of}
-use Rattle.cx_entries.specs.Placement.{IsPlaced, contained, name_of_group, group_inside}
-use Rattle.cx_entries.specs.PlaceNumbers.{group_names, group_number, place, place_count, orders_by}
+use Rattle.cx_order_entries.specs.Members.{entries_of}
+use Rattle.cx_order_entries.specs.Placement.{IsPlaced, contained, name_of_group, group_inside}
+use Rattle.cx_order_entries.specs.PlaceNumbers.{group_names, group_number, place, place_count, orders_by}
 use Rattle.cx_plan.specs.Lookups.{bin_count}
-use Rattle.cx_least.specs.Orders.{IsOrder, numbers}
+use Rattle.cx_order_least.specs.Orders.{IsOrder, numbers}
 use Rattle.cx_order.specs.Plans.{Forest, Done, Then, path_of, row_of, contents, bin_forest, forests}
 use Rattle.cx_order.specs.Summaries.{IsSummary, IsInside, numbers_at, inside_at, AreInside, AreGroupSummaries, AreBinSummaries}
 use Rattle.std.proofs.lemmas.List.Quantifiers.{position-Some}
 use Rattle.cx_order.specs.PlanSteps.{inside_of, contents_at}
 use Rattle.cx_order.proofs.MemberLaws.{bin_contents, group_contents, members_ordered}
-use Rattle.cx_least.proofs.Nestings.{has-later, whole-length, whole-has, at-below, order-behind}
-use Rattle.cx_least.proofs.Rest.{same_or_not}
-use Rattle.cx_least.proofs.CandidateLaws.{has-first, has-All}
+use Rattle.cx_order_least.proofs.Nestings.{has-later, whole-length, whole-has, at-below, order-behind}
+use Rattle.cx_order_least.proofs.Rest.{same_or_not}
+use Rattle.cx_order_least.proofs.CandidateLaws.{has-first, has-All}
 use Rattle.cx_scope.proofs.ReachLaws.{or-left, or-right, or-cases}
 use Rattle.std.proofs.lemmas.Bool.Decides.{nat_tests}
 

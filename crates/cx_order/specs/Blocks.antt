@@ -3,9 +3,9 @@ use Rattle.std.specs.Prelude.{◌≡◌, ◌⊎◌, ℕ, List, Result, Ok, Err}
 use Rattle.cx_expr.specs.declared.tree.ExprFault.{ExprFault}
 use Rattle.cx_order.specs.declared.fault.OrderFault.{OrderFault}
 use Rattle.cx_order.specs.declared.fault.OrderFault.TheVariants.{Expr, Memory}
-use Rattle.cx_entries.specs.declared.counted.Counted.{Counted as LentCounted}
-use Rattle.cx_entries.specs.Counted.{Counted, joined}
-use Rattle.cx_entries.specs.Seen.{seen}
+use Rattle.cx_order_entries.specs.declared.counted.Counted.{Counted as LentCounted}
+use Rattle.cx_order_entries.specs.Counted.{Counted, joined}
+use Rattle.cx_order_entries.specs.Seen.{seen}
 
 -- what is told of a thorn's file, a fault with the thorn's name
 abbrev pub by_thorn : {X : Type 0} → List ℕ → Result X ExprFault → Result X OrderFault

@@ -1,8 +1,8 @@
 -- The faults of entries and of places, among those of a schedule.
-use Rattle.cx_entries.specs.declared.fault.EntryFault.{EntryFault}
-use Rattle.cx_entries.specs.declared.fault.EntryFault.TheVariants as entries
-use Rattle.cx_entries.specs.declared.fault.PlaceFault.{PlaceFault}
-use Rattle.cx_entries.specs.declared.fault.PlaceFault.TheVariants as places
+use Rattle.cx_order_entries.specs.declared.fault.EntryFault.{EntryFault}
+use Rattle.cx_order_entries.specs.declared.fault.EntryFault.TheVariants as entries
+use Rattle.cx_order_entries.specs.declared.fault.PlaceFault.{PlaceFault}
+use Rattle.cx_order_entries.specs.declared.fault.PlaceFault.TheVariants as places
 use Rattle.cx_order.specs.declared.fault.OrderFault.{OrderFault}
 use Rattle.cx_order.specs.declared.fault.OrderFault.TheVariants.{UnknownBin, TwoNames, GroupCycle, Cycle, Memory}
 

@@ -6,7 +6,7 @@ use Rattle.cx_bind.specs.declared.thorns.Thorn.{Thorn}
 use Rattle.cx_values.specs.declared.values.Values.{Values}
 use Rattle.cx_values.specs.Assigned.{thorn_finds}
 use Rattle.cx_order.specs.declared.fault.OrderFault.{OrderFault}
-use Rattle.cx_entries.specs.Counted.{Counted, nothing, joined, counted_of}
+use Rattle.cx_order_entries.specs.Counted.{Counted, nothing, joined, counted_of}
 use Rattle.cx_order.specs.Blocks.{by_thorn}
 
 -- what names mean in a thorn's expressions

@@ -15,7 +15,7 @@ use Rattle.cx_scope.specs.declared.fault.ScopeFault.TheVariants.{NotScalar, NotG
 use Rattle.cx_scope.specs.Sight.{Sight}
 use Rattle.cx_scope.specs.Resolving.{resolve, ref_text}
 use Rattle.cx_order.specs.declared.meaning.Meaning.{Meaning}
-use Rattle.cx_entries.specs.Counted.{Entry}
+use Rattle.cx_order_entries.specs.Counted.{Entry}
 use Rattle.cx_plan.specs.Regions.{same_variable}
 
 -- the thorns, what they see, and the stored levels

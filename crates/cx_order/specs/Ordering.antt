@@ -9,12 +9,12 @@ use Rattle.cx_scope.specs.Sight.{Sight, IsSightOf}
 use Rattle.cx_order.specs.declared.ordered.Ordered.{Ordered}
 use Rattle.cx_order.specs.declared.fault.OrderFault.{OrderFault}
 use Rattle.cx_order.specs.declared.fault.OrderFault.TheVariants.{Expr, UnknownBin, TwoNames, GroupCycle, Cycle, Scope, Limit, Memory}
-use Rattle.cx_entries.specs.Counted.{Counted, Entry}
+use Rattle.cx_order_entries.specs.Counted.{Counted, Entry}
 use Rattle.cx_order.specs.Files.{Input, input_of, all_counted}
 use Rattle.cx_order.specs.Faults.{from_entry}
-use Rattle.cx_entries.specs.Entries.{bin_fault, names_fault}
-use Rattle.cx_entries.specs.PlaceNumbers.{Orders, AreLeast}
-use Rattle.cx_entries.specs.Cycles.{IsGroupCycle, NoGroupCycle, IsEntryCycle}
+use Rattle.cx_order_entries.specs.Entries.{bin_fault, names_fault}
+use Rattle.cx_order_entries.specs.PlaceNumbers.{Orders, AreLeast}
+use Rattle.cx_order_entries.specs.Cycles.{IsGroupCycle, NoGroupCycle, IsEntryCycle}
 use Rattle.cx_order.specs.Storage.{storage, storage_fault}
 use Rattle.cx_order.specs.Meanings.{World}
 use Rattle.cx_order.specs.Plans.{forests, forest_items, entry_fault, bin_trees, limit_fault}

@@ -3,19 +3,19 @@ use Rattle.std.specs.Prelude.{◌≡◌, ℕ, zero, suc, ◌<◌, ◌≤◌, ◌
 use Rattle.std.specs.List.{flat_map}
 use Rattle.cx_plan.specs.declared.item.Item.{Item}
 use Rattle.cx_plan.specs.declared.tree.Tree.{Tree, Seq}
-use Rattle.cx_entries.specs.declared.placement.Placed.{Placed}
+use Rattle.cx_order_entries.specs.declared.placement.Placed.{Placed}
 use Rattle.cx_order.specs.declared.planning.Source.{Source}
 use Rattle.cx_order.specs.declared.planning.Made.{Made}
 use Rattle.cx_order.specs.declared.planning.Member.{Member}
 use Rattle.cx_order.specs.declared.planning.Planned.{Planned}
 use Rattle.cx_plan.specs.Lookups.{bin_name, run_bin_count}
-use Rattle.cx_entries.specs.Counted.{Entry}
-use Rattle.cx_entries.specs.Members.{entries_of}
-use Rattle.cx_entries.specs.Seen.{seen_entry}
-use Rattle.cx_entries.specs.Entries.{Group, entries_at}
-use Rattle.cx_least.specs.Links.{row}
-use Rattle.cx_entries.specs.PlaceNumbers.{Orders, orders_by, place, place_count}
-use Rattle.cx_entries.specs.Placement.{IsPlaced, contained}
+use Rattle.cx_order_entries.specs.Counted.{Entry}
+use Rattle.cx_order_entries.specs.Members.{entries_of}
+use Rattle.cx_order_entries.specs.Seen.{seen_entry}
+use Rattle.cx_order_entries.specs.Entries.{Group, entries_at}
+use Rattle.cx_order_least.specs.Links.{row}
+use Rattle.cx_order_entries.specs.PlaceNumbers.{Orders, orders_by, place, place_count}
+use Rattle.cx_order_entries.specs.Placement.{IsPlaced, contained}
 use Rattle.cx_order.specs.Meanings.{World, names_of}
 use Rattle.cx_order.specs.Plans.{Forest, Done, most_nodes, row_of, contents, trees, forest_items, calls, work_tree, item_of, bin_trees, bin_forest, forests}
 use Rattle.cx_order.specs.Worlds.{world_of}

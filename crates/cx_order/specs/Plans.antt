@@ -10,9 +10,9 @@ use Rattle.cx_plan.specs.declared.tree.Tree.{Tree, Seq, Call, Sync, If, While}
 use Rattle.cx_order.specs.declared.fault.OrderFault.{OrderFault}
 use Rattle.cx_order.specs.declared.fault.OrderFault.TheVariants.{Scope, Limit}
 use Rattle.cx_plan.specs.Lookups.{bin_name}
-use Rattle.cx_entries.specs.Counted.{Entry}
-use Rattle.cx_entries.specs.Entries.{Place, Bin, Group, entries_at, entry_name}
-use Rattle.cx_entries.specs.PlaceNumbers.{Orders, place_count}
+use Rattle.cx_order_entries.specs.Counted.{Entry}
+use Rattle.cx_order_entries.specs.Entries.{Place, Bin, Group, entries_at, entry_name}
+use Rattle.cx_order_entries.specs.PlaceNumbers.{Orders, place_count}
 use Rattle.cx_plan.specs.Lookups.{bin_count}
 use Rattle.cx_order.specs.Storage.{error_of}
 use Rattle.cx_order.specs.declared.meaning.Meaning.{Meaning}

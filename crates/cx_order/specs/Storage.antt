@@ -11,7 +11,7 @@ use Rattle.cx_scope.specs.Sight.{Sight}
 use Rattle.cx_scope.specs.Resolving.{group_of}
 use Rattle.cx_order.specs.declared.fault.OrderFault.{OrderFault}
 use Rattle.cx_order.specs.declared.fault.OrderFault.TheVariants.{Scope}
-use Rattle.cx_entries.specs.Counted.{Line}
+use Rattle.cx_order_entries.specs.Counted.{Line}
 use Rattle.cx_order.specs.Files.{thorn_name}
 
 abbrev pub error_of : {X E : Type 0} → Result X E → Option E

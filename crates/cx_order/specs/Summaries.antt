@@ -5,14 +5,14 @@ use Rattle.cx_order.specs.declared.fault.OrderFault.{OrderFault}
 use Rattle.cx_order.specs.declared.fault.OrderFault.TheVariants.{Scope}
 use Rattle.cx_order.specs.declared.summary.Found.{Found}
 use Rattle.cx_order.specs.declared.summary.Summary.{Summary}
-use Rattle.cx_entries.specs.declared.placement.Placed.{Placed}
+use Rattle.cx_order_entries.specs.declared.placement.Placed.{Placed}
 use Rattle.cx_plan.specs.Lookups.{bin_name}
-use Rattle.cx_entries.specs.Counted.{Entry}
-use Rattle.cx_least.specs.Links.{has, row}
+use Rattle.cx_order_entries.specs.Counted.{Entry}
+use Rattle.cx_order_least.specs.Links.{has, row}
 use Rattle.cx_order.specs.Meanings.{World, meaning}
 use Rattle.cx_order.specs.declared.meaning.Meaning.{Meaning}
 use Rattle.cx_scope.specs.declared.fault.ScopeFault.{ScopeFault}
-use Rattle.cx_entries.specs.Members.{entries_of}
+use Rattle.cx_order_entries.specs.Members.{entries_of}
 use Rattle.cx_plan.specs.Lookups.{bin_count}
 use Rattle.cx_order.specs.PlanSteps.{contents_at, forests_in}
 use Rattle.cx_order.specs.Plans.{Forest, Done, Then, path_of, row_of, forest_fault, trees}

@@ -7,7 +7,7 @@ use Rattle.cx_plan.specs.declared.variable.VarInfo.{VarInfo}
 use Rattle.cx_plan.specs.declared.item.Touch.{Touch}
 use Rattle.cx_bind.specs.Variables.{variable_infos}
 use Rattle.cx_plan.specs.Lookups.{bin_name, run_bin_count}
-use Rattle.cx_entries.specs.Counted.{Entry}
+use Rattle.cx_order_entries.specs.Counted.{Entry}
 use Rattle.cx_order.specs.declared.meaning.Meaning.{Meaning}
 use Rattle.cx_order.specs.Meanings.{World, names_of}
 use Rattle.cx_order.specs.Plans.{Forest, Done, Then}

@@ -2,7 +2,7 @@
 use Rattle.std.specs.Prelude.{◌≡◌, ◌<◌, length}
 use Rattle.cx_scope.specs.Closures.{thorns_in, sight_in}
 use Rattle.cx_order.specs.declared.context.Context.{Context}
-use Rattle.cx_entries.specs.declared.counted.Entry.{Entry}
+use Rattle.cx_order_entries.specs.declared.counted.Entry.{Entry}
 use Rattle.cx_order.specs.Meanings.{World}
 
 abbrev pub world_of : Context → World

@@ -7,7 +7,7 @@ ghost use Rattle.cx_order.specs.Files.{all_counted, counted_in, input_of};
 use crate::fault::OrderFault;
 use crate::files::push_file;
 use cx_bind::{Bound, Thorn};
-use cx_entries::Counted;
+use cx_order_entries::Counted;
 use cx_sched::ScheduleFile;
 use cx_values::Values;
 use std::alloc::Global;

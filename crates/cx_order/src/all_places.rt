@@ -1,15 +1,15 @@
 //! What is known of all places. Each is looked at once.
 
 ghost use Rattle.std.specs.Prelude.{◌≡◌, ◌<◌, length, option_copied, IfOk};
-ghost use Rattle.cx_entries.specs.Placement.{IsPlaced};
-ghost use Rattle.cx_entries.specs.PlaceNumbers.{place_count};
-ghost use Rattle.cx_entries.specs.Seen.{seen_entries};
+ghost use Rattle.cx_order_entries.specs.Placement.{IsPlaced};
+ghost use Rattle.cx_order_entries.specs.PlaceNumbers.{place_count};
+ghost use Rattle.cx_order_entries.specs.Seen.{seen_entries};
 ghost use Rattle.cx_order.specs.Summaries.{numbers_at, inside_at, IsPlaceSummary, AreOfGroups, AreOfBins, IsNumberSummary};
 
 use crate::meaning::Meaning;
 use crate::planning::picked_numbers;
 use crate::summary::{Summary, entry_summary};
-use cx_entries::{BINS, Entry, Placed};
+use cx_order_entries::{BINS, Entry, Placed};
 use cx_scope::ScopeFault;
 use cx_text::Memory;
 use std::alloc::Global;

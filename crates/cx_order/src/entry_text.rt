@@ -4,13 +4,13 @@ ghost use Rattle.std.specs.Prelude.{◌≡◌, ◌++◌, codes, OnOk};
 ghost use Rattle.std.specs.List.{flat_map};
 ghost use Rattle.cx_plan.specs.Names.{full_name};
 ghost use Rattle.cx_order.specs.Files.{thorn_name};
-ghost use Rattle.cx_entries.specs.Seen.{seen_entry};
+ghost use Rattle.cx_order_entries.specs.Seen.{seen_entry};
 ghost use Rattle.cx_order.specs.Texts.{level_name, touch_text, touches_text, name_text, test_text, sync_text, head_text, text_by};
 ghost use Rattle.cx_order.specs.Worlds.{world_of};
 
 use crate::context::Context;
 use crate::meaning::Meaning;
-use cx_entries::Entry;
+use cx_order_entries::Entry;
 use cx_plan::{Touch, VarId, level_text, region_text};
 use cx_text::{Memory, Text};
 

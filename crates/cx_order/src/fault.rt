@@ -4,8 +4,8 @@ ghost use Rattle.std.specs.Prelude.{◌≡◌};
 ghost use Rattle.cx_order.specs.declared.fault.OrderFault.TheVariants as faults;
 ghost use Rattle.cx_order.specs.Faults.{from_entry, from_place};
 
-use cx_entries::{EntryFault, PlaceFault};
 use cx_expr::ExprFault;
+use cx_order_entries::{EntryFault, PlaceFault};
 use cx_scope::ScopeFault;
 use cx_text::{List, Listed, Memory, OrDash, Text};
 use std::alloc::{AllocError, AllocFailed};

@@ -2,13 +2,13 @@
 
 ghost use Rattle.std.specs.Prelude.{◌≡◌, ◌⊎◌, IfOk};
 ghost use Rattle.cx_order.specs.declared.fault.OrderFault.TheVariants as faults;
-ghost use Rattle.cx_entries.specs.Counted.{counted_of};
+ghost use Rattle.cx_order_entries.specs.Counted.{counted_of};
 ghost use Rattle.cx_order.specs.Blocks.{by_thorn, AddsOr};
 
 use crate::copies::copy_fault;
 use crate::fault::OrderFault;
-use cx_entries::{Counted, Uncounted, push_nodes};
 use cx_expr::{ExprFault, Lookup};
+use cx_order_entries::{Counted, Uncounted, push_nodes};
 use cx_sched::ScheduleFile;
 use cx_text::{Memory, Text};
 use std::alloc::Global;

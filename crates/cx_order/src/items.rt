@@ -4,13 +4,13 @@ ghost use Rattle.std.specs.Prelude.{◌≡◌, IfOk};
 ghost use Rattle.cx_order.specs.Files.{thorn_name};
 ghost use Rattle.cx_order.specs.Meanings.{names_of};
 ghost use Rattle.cx_order.specs.Plans.{item_of};
-ghost use Rattle.cx_entries.specs.Seen.{seen_entry};
+ghost use Rattle.cx_order_entries.specs.Seen.{seen_entry};
 ghost use Rattle.cx_order.specs.Worlds.{world_of};
 
 use crate::context::Context;
 use crate::meaning::Meaning;
 use cx_bind::Thorn;
-use cx_entries::Entry;
+use cx_order_entries::Entry;
 use cx_plan::{Item, ItemKind, Touch};
 use cx_text::{List, Memory, Text};
 use std::alloc::Global;

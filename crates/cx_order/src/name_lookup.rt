@@ -7,13 +7,13 @@ ghost use Rattle.cx_scope.specs.Resolving.{ref_text};
 ghost use Rattle.cx_text.specs.Telling.{Answers};
 ghost use Rattle.cx_scope.specs.declared.fault.ScopeFault.TheVariants as faults;
 ghost use Rattle.cx_order.specs.Meanings.{is_scalar, meant, one_scalar, tested, all_grid, all_joined, synced, touch, touches, unless_group, meaning, meaning_or_none};
-ghost use Rattle.cx_entries.specs.Seen.{seen_entry, seen_entries};
+ghost use Rattle.cx_order_entries.specs.Seen.{seen_entry, seen_entries};
 ghost use Rattle.cx_order.specs.Worlds.{world_of, IsOfBound, HasThorn};
 ghost use Rattle.cx_plan.specs.Regions.{same_variable};
 
 use crate::context::Context;
 use crate::meaning::Meaning;
-use cx_entries::Entry;
+use cx_order_entries::Entry;
 use cx_plan::{Region, Touch, VarId};
 use cx_sched::{Block, Ref};
 use cx_scope::{ScopeFault, ref_text};

@@ -3,14 +3,14 @@
 ghost use Rattle.std.specs.Prelude.{◌≡◌, ◌⊎◌, ◌<◌, length, map, None, Some, All, IfOk, IfErr, MatchResult};
 ghost use Rattle.cx_order.specs.declared.ordered.Ordered.{Ordered};
 ghost use Rattle.cx_order.specs.declared.fault.OrderFault.TheVariants as faults;
-ghost use Rattle.cx_entries.specs.Entries.{names_fault};
+ghost use Rattle.cx_order_entries.specs.Entries.{names_fault};
 ghost use Rattle.cx_order.specs.Files.{input_of};
 ghost use Rattle.cx_order.specs.Meanings.{names_of};
 ghost use Rattle.cx_order.specs.Ordering.{AreEntries, IsPlan, IsFault, OrderAnswers, IsFaultFrom, IsPlanFrom};
-ghost use Rattle.cx_entries.specs.Placement.{IsPlaced};
+ghost use Rattle.cx_order_entries.specs.Placement.{IsPlaced};
 ghost use Rattle.cx_order.specs.PlanSteps.{forests_in};
 ghost use Rattle.cx_order.specs.Plans.{entry_fault, limit_fault, bin_trees, plan_fault};
-ghost use Rattle.cx_entries.specs.Seen.{seen, seen_as, seen_entries};
+ghost use Rattle.cx_order_entries.specs.Seen.{seen, seen_as, seen_entries};
 ghost use Rattle.cx_order.specs.Worlds.{world_of, IsOfBound, HasThorn};
 
 use crate::Ordered;
@@ -23,7 +23,7 @@ use crate::name_lookup::{meanings, without_faults};
 use crate::planning::{Planned, Source, plan};
 use crate::storage::stored_levels;
 use cx_bind::Bound;
-use cx_entries::{Counted, Entry, Line, Placed, check_bins, check_names, place_entries};
+use cx_order_entries::{Counted, Entry, Line, Placed, check_bins, check_names, place_entries};
 use cx_sched::ScheduleFile;
 use cx_scope::Scope;
 use cx_text::List;

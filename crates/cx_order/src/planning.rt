@@ -2,11 +2,11 @@
 
 ghost use Rattle.std.specs.Prelude.{◌≡◌, suc, ◌+◌, ◌<◌, ◌≤◌, ◌∷◌, [], ◌++◌, filter_map, length, slice_get, codes, All, Some, IfOk, IfSome, OnOk, ◌^◌, nat_lt, if◌then◌else◌};
 ghost use Rattle.cx_plan.specs.Lookups.{bin_count, run_bin_count};
-ghost use Rattle.cx_entries.specs.PlaceNumbers.{place_count};
-ghost use Rattle.cx_entries.specs.Members.{entries_of};
+ghost use Rattle.cx_order_entries.specs.PlaceNumbers.{place_count};
+ghost use Rattle.cx_order_entries.specs.Members.{entries_of};
 ghost use Rattle.cx_order.specs.Plans.{most_nodes, path_of, item_of, call_tree, calls};
 ghost use Rattle.cx_order.specs.Texts.{blanks};
-ghost use Rattle.cx_entries.specs.Seen.{seen_entry};
+ghost use Rattle.cx_order_entries.specs.Seen.{seen_entry};
 ghost use Rattle.cx_order.specs.Worlds.{world_of};
 ghost use Rattle.cx_order.specs.PlanSteps.{bin_forest_of, world_in, entries_in, IsSource, IsMember, ordered, Makes, Works, MakesBin, MakesBins, IsPlanOf, HasRoom, calls_of, numbers_of, IsNamed, entry_line, member_of, bin_line, forests_of, items_of, contents_of, place_of};
 
@@ -15,7 +15,7 @@ use crate::entry_text::push_entry_text;
 use crate::items::item_of;
 use crate::meaning::Meaning;
 use crate::tree_parts::{call_tree, group_tree, wrapped_tree};
-use cx_entries::{BINS, Entry, Placed, bin_name, entry_name, join_names};
+use cx_order_entries::{BINS, Entry, Placed, bin_name, entry_name, join_names};
 use cx_plan::{Bin, Item, Schedule, Tree};
 use cx_text::{List, Memory, Text};
 use std::alloc::{AllocError, Global};

@@ -7,12 +7,12 @@ ghost use Rattle.cx_scope.specs.declared.fault.ScopeFault.TheVariants as scope_f
 ghost use Rattle.cx_order.specs.declared.fault.OrderFault.TheVariants as faults;
 ghost use Rattle.cx_text.specs.Telling.{Tells};
 ghost use Rattle.cx_order.specs.Files.{thorn_name};
-ghost use Rattle.cx_entries.specs.Seen.{seen_line};
+ghost use Rattle.cx_order_entries.specs.Seen.{seen_line};
 ghost use Rattle.cx_order.specs.Storage.{line_fault, storage_fault, granted, given, given_by, storage, IsRaised, stored_by};
 
 use crate::fault::OrderFault;
 use cx_bind::Bound;
-use cx_entries::Line;
+use cx_order_entries::Line;
 use cx_plan::{VarId, VarInfo};
 use cx_scope::{Scope, ScopeFault};
 use cx_text::{List, Text};

@@ -2,17 +2,17 @@
 
 ghost use Rattle.std.specs.Prelude.{◌≡◌, ℕ, List, ◌++◌, codes, option_map, option_copied, IfOk};
 ghost use Rattle.cx_order.specs.declared.fault.OrderFault.TheVariants as faults;
-ghost use Rattle.cx_entries.specs.Counted as blocks;
-ghost use Rattle.cx_entries.specs.Entries.{entry_name};
+ghost use Rattle.cx_order_entries.specs.Counted as blocks;
+ghost use Rattle.cx_order_entries.specs.Entries.{entry_name};
 ghost use Rattle.cx_order.specs.Meanings.{World};
 ghost use Rattle.cx_order.specs.Plans.{Forest, Done, Then, path_of, trees};
-ghost use Rattle.cx_entries.specs.Seen.{seen_entry};
+ghost use Rattle.cx_order_entries.specs.Seen.{seen_entry};
 ghost use Rattle.cx_order.specs.TreeSizes.{AreSizes};
 ghost use Rattle.cx_order.specs.Summaries.{told, fault_in, IsSummary, IsInside, first_found, IsEntrySummary};
 
 use crate::meaning::Meaning;
 use crate::sizes::{Sizes, entry_sizes};
-use cx_entries::{Entry, entry_name};
+use cx_order_entries::{Entry, entry_name};
 use cx_scope::ScopeFault;
 use cx_text::{Memory, Text};
 use std::alloc::Global;

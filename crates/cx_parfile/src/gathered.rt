@@ -5,8 +5,8 @@ ghost use Rattle.cx_parfile.specs.Values.{thorns_in, activate_all};
 
 use crate::value::activate_thorns;
 use crate::{Setting, Settings};
-use cx_names::NameList;
 use cx_text::{List, Memory};
+use cx_text_names::NameList;
 use std::alloc::Global;
 use std::marker::Model;
 

@@ -6,8 +6,8 @@ ghost use Rattle.cx_parfile.specs.Values.{is_name_byte, is_name, is_colon, is_em
 ghost use Rattle.cx_parfile.specs.ParFile.{is_long, name_with};
 
 use crate::reader::Name;
-use cx_names::NameList;
 use cx_text::{MAX_NAME, Memory, Text};
+use cx_text_names::NameList;
 use std::alloc::{AllocError, Global};
 
 /// Whether all bytes are letters, digits or underscores.

@@ -78,6 +78,7 @@ pub record IsWhole (job : Job) : Type 0 where
   pub outputs : All (λ v. IsStored job v 0) job.out_vars
   pub steers : All (IsSteer (setup_of job)) job.steers
   pub weight : IfSome job.weight (IsStoredGrid job)
+  pub weight_factor : job.weight_factor ≤ 2 ^ 20
   pub outputs_rise : AllPairs (λ (a b : VarId). a.0 < b.0) job.out_vars
   pub variables_limit : length job.vars ≤ 256
   pub itlast_limit : job.itlast ≤ 1000000

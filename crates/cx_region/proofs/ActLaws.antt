@@ -15,12 +15,12 @@ use Rattle.cx_plan.specs.Regions.{Flags, Act, Turns, Syncs, Tests, Rotates, Need
 use Rattle.cx_plan.specs.Paths.{Mark, Letter, Meets, letter_i, letter_y, letter_n, letter_w, letter_x, Then, Just, Loop, Path, PathIn, PathOfBins, PathOfAnalysis, PathOfCheckpoint, PathOfStart, PathOfIteration, PathOfIterations, PathOfJob, or_go_on, first_unmet, Sound}
 use Rattle.cx_plan.specs.Whole.{IsWhole, IsTree, IsRow}
 use Rattle.cx_region.specs.declared.witness.Followed.{Followed}
-use Rattle.cx_flags.specs.Agreeing.{IsAct}
-use Rattle.cx_flags.specs.AllPaths.{outputs_if}
-use Rattle.cx_flags.specs.Unmet.{first_unmet_of}
+use Rattle.cx_region_flags.specs.Agreeing.{IsAct}
+use Rattle.cx_region_flags.specs.AllPaths.{outputs_if}
+use Rattle.cx_region_flags.specs.Unmet.{first_unmet_of}
 use Rattle.cx_region.specs.Witnesses.{same_flag, is_followed, AreMet}
 use Rattle.cx_region.specs.OneFlag.{IsAlwaysMet}
-use Rattle.cx_flags.proofs.AgreeLaws.{needs_stored}
+use Rattle.cx_region_flags.proofs.AgreeLaws.{needs_stored}
 use Rattle.cx_region.proofs.OneFlagTreeLaws.{same-seq}
 use Rattle.cx_region.proofs.OneFlagJobLaws.{same-analysis, same-empty, same-either}
 

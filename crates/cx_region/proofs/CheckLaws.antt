@@ -13,11 +13,11 @@ use Rattle.cx_plan.specs.Paths.{Sound, IsUnset}
 use Rattle.cx_plan.specs.Whole.{IsWhole}
 use Rattle.cx_region.specs.declared.fault.RegionFault.{RegionFault}
 use Rattle.cx_region.specs.declared.fault.RegionFault.TheVariants.{Memory}
-use Rattle.cx_flags.specs.declared.unmet.Unmet.{Unmet}
+use Rattle.cx_region_flags.specs.declared.unmet.Unmet.{Unmet}
 use Rattle.cx_region.specs.Checks.{unset, IsUnsetFault, Checks, Finds}
 use Rattle.cx_region.specs.OneFlag.{IsAlwaysMet}
 use Rattle.cx_region.specs.Shapes.{no_shape, first_shapeless, shape_fault}
-use Rattle.cx_flags.specs.Unmet.{seen}
+use Rattle.cx_region_flags.specs.Unmet.{seen}
 use Rattle.cx_region.proofs.ActLaws.{flag_at, sound-of-all}
 use Rattle.cx_region.proofs.WholeLaws.{shapes_from_none}
 

@@ -6,7 +6,7 @@ use Rattle.std.proofs.lemmas.List.Elements.{All-head, All-tail}
 use Rattle.std.proofs.lemmas.List.FromFn.{get_or-range_with_len, length-range_with_len}
 use Rattle.cx_region.specs.declared.witness.Witness.{Witness}
 use Rattle.cx_region.specs.declared.witness.Followed.{Followed}
-use Rattle.cx_flags.specs.Cells.{flags_in}
+use Rattle.cx_region_flags.specs.Cells.{flags_in}
 use Rattle.cx_region.specs.Witnesses.{IsAmong, is_cleared_on, covers_one, covers, Joins}
 use Rattle.cx_region.proofs.WitnessLaws.{cleared-from, cleared-to}
 

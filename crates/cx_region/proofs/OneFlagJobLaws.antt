@@ -14,13 +14,13 @@ use Rattle.cx_region.specs.declared.witness.Witness.{Witness}
 use Rattle.cx_region.specs.declared.witness.Followed.{Followed}
 use Rattle.cx_region.specs.declared.witness.WitnessStop.{WitnessStop}
 use Rattle.cx_region.specs.declared.witness.WitnessStop.TheVariants.{Unset, Memory}
-use Rattle.cx_flags.specs.Cells.{none_set}
-use Rattle.cx_flags.specs.AllPaths.{PathOfAllIterations, outputs_if}
+use Rattle.cx_region_flags.specs.Cells.{none_set}
+use Rattle.cx_region_flags.specs.AllPaths.{PathOfAllIterations, outputs_if}
 use Rattle.cx_region.specs.Witnesses.{StopsAt, with_letter, IsAmong, IsCovered, covers, Joins, GoOn, Stop, Goes}
-use Rattle.cx_flags.specs.Unmet.{seen}
+use Rattle.cx_region_flags.specs.Unmet.{seen}
 use Rattle.cx_region.specs.OneFlag.{IsAlwaysMet, Follows}
-use Rattle.cx_flags.proofs.AgreeLaws.{agrees-first}
-use Rattle.cx_flags.proofs.StoredLaws.{cleared_at_first}
+use Rattle.cx_region_flags.proofs.AgreeLaws.{agrees-first}
+use Rattle.cx_region_flags.proofs.StoredLaws.{cleared_at_first}
 use Rattle.cx_region.proofs.WitnessLaws.{Same, goes-from, goes-nothing, goes-letter, goes-join, goes-stop-first, goes-stop-second, goes-stop-from}
 use Rattle.cx_region.proofs.OneFlagLaws.{Passed, passed-then, goes-same, goes-behind, goes-behind-letter, Again, AnyTimes, IsHead, head-next, stop-turn, goes-settled}
 use Rattle.cx_region.proofs.OneFlagTreeLaws.{some_path, goes-seq, empty-seq}

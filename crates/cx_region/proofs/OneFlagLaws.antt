@@ -14,11 +14,11 @@ use Rattle.cx_region.specs.declared.witness.Witness.{Witness}
 use Rattle.cx_region.specs.declared.witness.Followed.{Followed}
 use Rattle.cx_region.specs.declared.witness.WitnessStop.{WitnessStop}
 use Rattle.cx_region.specs.declared.witness.WitnessStop.TheVariants.{Unset, Memory}
-use Rattle.cx_flags.specs.AllPaths.{flags_after, Branch, Turning}
-use Rattle.cx_flags.specs.Unmet.{seen}
+use Rattle.cx_region_flags.specs.AllPaths.{flags_after, Branch, Turning}
+use Rattle.cx_region_flags.specs.Unmet.{seen}
 use Rattle.cx_region.specs.Witnesses.{GoesOn, StopsAt, with_letter, AreMet, IsAmong, IsClearedOn, IsCovered, covers, Joins, GoOn, Stop, Goes}
 use Rattle.cx_region.specs.OneFlag.{Come, GoOnBy, GoesBy}
-use Rattle.cx_flags.proofs.SureLaws.{flags_after-append}
+use Rattle.cx_region_flags.proofs.SureLaws.{flags_after-append}
 use Rattle.cx_region.proofs.JoinLaws.{joins-some}
 use Rattle.cx_region.proofs.WitnessLaws.{Same, are_met-append, goes_on-then, goes_on-from, stops-behind, stops-from, goes-from, goes-then, goes-letter, goes-join, covered-more, covered-by, goes-stop-first, goes-stop-second, goes-stop-from}
 

@@ -11,7 +11,7 @@ use Rattle.cx_plan.specs.Paths.{Mark, Meets, letter_n, letter_x, Then, Just, Loo
 use Rattle.cx_region.specs.declared.witness.Witness.{Witness}
 use Rattle.cx_region.specs.declared.witness.Followed.{Followed}
 use Rattle.cx_region.specs.declared.witness.WitnessStop.{WitnessStop}
-use Rattle.cx_flags.specs.AllPaths.{Branch, Turning, PathOfTrees}
+use Rattle.cx_region_flags.specs.AllPaths.{Branch, Turning, PathOfTrees}
 use Rattle.cx_region.specs.Witnesses.{Stop}
 use Rattle.cx_region.specs.OneFlag.{GoOnBy, GoesBy}
 use Rattle.cx_region.specs.declared.one_flag_tree.Rounds.{Rounds}

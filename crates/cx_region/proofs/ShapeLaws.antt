@@ -8,7 +8,7 @@ use Rattle.cx_plan.specs.Lookups.{item, no_item}
 use Rattle.cx_plan.specs.Regions.{has_shape, run_items}
 use Rattle.cx_region.specs.Marks.{is_among_items}
 use Rattle.cx_region.specs.Shapes.{lacks_shape, first_shapeless}
-use Rattle.cx_flags.proofs.RangeLaws.{none_of_range, first_of_range}
+use Rattle.cx_region_flags.proofs.RangeLaws.{none_of_range, first_of_range}
 
 pub lacking : (setup : Setup) (k : ℕ) (x : Item) (called : Bool) → k < length setup.items
     → x ≡ get_or setup.items k x → called ≡ is_among_items (run_items setup) k

@@ -18,18 +18,18 @@ use Rattle.cx_plan.specs.Lookups.{item, is_scalar, levels_of}
 use Rattle.cx_plan.specs.Regions.{Flags, Act, Turns, Syncs, Tests, Rotates, Outputs, Need, needs, leaves, is_met, is_B, is_G, is_among, has_boundary, after_scalar, after_write, written, all_written, same_variable}
 use Rattle.cx_plan.specs.Paths.{Meets, Just, or_go_on}
 use Rattle.cx_plan.specs.Whole.{IsWhole, IsStored}
-use Rattle.cx_flags.specs.declared.flags.LevelFlags.{LevelFlags}
+use Rattle.cx_region_flags.specs.declared.flags.LevelFlags.{LevelFlags}
 use Rattle.cx_region.specs.declared.witness.Witness.{Witness}
 use Rattle.cx_region.specs.declared.witness.Followed.{Followed}
 use Rattle.cx_region.specs.declared.witness.WitnessStop.{WitnessStop}
 use Rattle.cx_region.specs.declared.witness.WitnessStop.TheVariants.{Unset, Memory}
-use Rattle.cx_flags.specs.Agreeing.{IsAct}
-use Rattle.cx_flags.specs.Cells.{none_set, flag_of, place, flags_in, Holds}
-use Rattle.cx_flags.specs.AllPaths.{flags_after}
-use Rattle.cx_flags.specs.Unmet.{seen, first_unmet_of}
+use Rattle.cx_region_flags.specs.Agreeing.{IsAct}
+use Rattle.cx_region_flags.specs.Cells.{none_set, flag_of, place, flags_in, Holds}
+use Rattle.cx_region_flags.specs.AllPaths.{flags_after}
+use Rattle.cx_region_flags.specs.Unmet.{seen, first_unmet_of}
 use Rattle.cx_region.specs.Witnesses.{Comes, IsTaken, Takes, same_flag, is_followed, AreMet, IsAmong, IsClearedOn, IsCovered, GoOn, Stop}
-use Rattle.cx_flags.proofs.TableLaws.{flag-none}
-use Rattle.cx_flags.proofs.AgreeLaws.{agrees-leaves, IsStoredNeed, needs_stored, unmet-same}
+use Rattle.cx_region_flags.proofs.TableLaws.{flag-none}
+use Rattle.cx_region_flags.proofs.AgreeLaws.{agrees-leaves, IsStoredNeed, needs_stored, unmet-same}
 use Rattle.cx_region.proofs.WitnessLaws.{stored_few}
 
 -- ---- one way

@@ -14,7 +14,7 @@ use Rattle.cx_plan.specs.Regions.{run_items, has_shape, HasShapes}
 use Rattle.cx_plan.specs.Whole.{IsWhole, IsTree, IsRow}
 use Rattle.cx_region.specs.Marks.{is_among_items}
 use Rattle.cx_region.specs.Shapes.{lacks_shape, first_shapeless}
-use Rattle.cx_flags.proofs.RangeLaws.{none_of_range}
+use Rattle.cx_region_flags.proofs.RangeLaws.{none_of_range}
 
 abbrev IsThere : Job → ℕ → Type 0
 IsThere job k = k < length job.items

@@ -15,13 +15,13 @@ use Rattle.cx_region.specs.declared.witness.Witness.{Witness}
 use Rattle.cx_region.specs.declared.witness.Followed.{Followed}
 use Rattle.cx_region.specs.declared.witness.WitnessStop.{WitnessStop}
 use Rattle.cx_region.specs.declared.witness.WitnessStop.TheVariants.{Unset, Memory}
-use Rattle.cx_flags.specs.Agreeing.{Agrees}
-use Rattle.cx_flags.specs.Cells.{flags_in}
-use Rattle.cx_flags.specs.AllPaths.{flags_after}
-use Rattle.cx_flags.specs.Unmet.{seen, first_unmet_of}
+use Rattle.cx_region_flags.specs.Agreeing.{Agrees}
+use Rattle.cx_region_flags.specs.Cells.{flags_in}
+use Rattle.cx_region_flags.specs.AllPaths.{flags_after}
+use Rattle.cx_region_flags.specs.Unmet.{seen, first_unmet_of}
 use Rattle.cx_region.specs.Witnesses.{letters_of, GoesOn, StopsAt, with_letter, AreMet, IsAmong, IsClearedOn, IsCovered, is_cleared_on, covers_one, covers, Joins, GoOn, Stop}
-use Rattle.cx_flags.proofs.RangeLaws.{not_all_of_range}
-use Rattle.cx_flags.proofs.SureLaws.{flags_after-append}
+use Rattle.cx_region_flags.proofs.RangeLaws.{not_all_of_range}
+use Rattle.cx_region_flags.proofs.SureLaws.{flags_after-append}
 
 -- ---- marks, one list after another
 

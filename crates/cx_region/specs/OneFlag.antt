@@ -14,7 +14,7 @@ use Rattle.cx_region.specs.declared.witness.Followed.{Followed}
 use Rattle.cx_region.specs.declared.witness.Witness.{Witness}
 use Rattle.cx_region.specs.declared.witness.WitnessStop.{WitnessStop}
 use Rattle.cx_region.specs.declared.witness.WitnessStop.TheVariants.{Unset, Memory}
-use Rattle.cx_flags.specs.Unmet.{seen}
+use Rattle.cx_region_flags.specs.Unmet.{seen}
 use Rattle.cx_region.specs.Witnesses.{GoesOn, AreMet, IsAmong, GoOn, Stop}
 
 -- a letter, and then this

@@ -16,10 +16,10 @@ use Rattle.cx_region.specs.declared.witness.Step.TheVariants.{Turn, Exchange, Te
 use Rattle.cx_region.specs.declared.witness.Followed.{Followed}
 use Rattle.cx_region.specs.declared.witness.WitnessStop.{WitnessStop}
 use Rattle.cx_region.specs.declared.witness.WitnessStop.TheVariants.{Unset, Memory}
-use Rattle.cx_flags.specs.Cells.{flags_in, none_set_of, Holds}
-use Rattle.cx_flags.specs.Agreeing.{Agrees, IsAct}
-use Rattle.cx_flags.specs.AllPaths.{flags_after, Only}
-use Rattle.cx_flags.specs.Unmet.{seen, first_unmet_of}
+use Rattle.cx_region_flags.specs.Cells.{flags_in, none_set_of, Holds}
+use Rattle.cx_region_flags.specs.Agreeing.{Agrees, IsAct}
+use Rattle.cx_region_flags.specs.AllPaths.{flags_after, Only}
+use Rattle.cx_region_flags.specs.Unmet.{seen, first_unmet_of}
 
 abbrev pub act_of : Step → Act
 act_of (Turn k) = Turns k

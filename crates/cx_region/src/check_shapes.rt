@@ -12,8 +12,8 @@ ghost use Rattle.cx_plan.specs.Lists.{is_marked};
 
 use crate::RegionFault;
 use crate::called::called_items;
-use cx_flags::{full_name, has_shape};
 use cx_plan::{Item, Job, Touch};
+use cx_region_flags::{full_name, has_shape};
 use cx_text::{Memory, Text};
 use std::alloc::Global;
 

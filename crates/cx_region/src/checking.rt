@@ -6,14 +6,14 @@ ghost use Rattle.cx_plan.specs.Setups.{setup_of};
 ghost use Rattle.cx_plan.specs.Whole.{IsWhole};
 ghost use Rattle.cx_region.specs.Checks.{unset, Checks, Finds};
 ghost use Rattle.cx_region.specs.OneFlag.{IsAlwaysMet, AreAlwaysMet};
-ghost use Rattle.cx_flags.specs.Unmet.{seen};
+ghost use Rattle.cx_region_flags.specs.Unmet.{seen};
 
 use crate::RegionFault;
 use crate::check_shapes::check_shapes;
 use crate::one_flag_job::follow_job;
 use crate::witness::{Followed, WitnessStop};
-use cx_flags::{Stop, Unmet, full_name, walk_job};
 use cx_plan::{Flag, Job, VarId};
+use cx_region_flags::{Stop, Unmet, full_name, walk_job};
 use cx_text::{Memory, Text};
 use std::alloc::Global;
 

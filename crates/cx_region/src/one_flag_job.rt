@@ -7,15 +7,15 @@ ghost use Rattle.cx_plan.specs.Lookups.{is_empty};
 ghost use Rattle.cx_plan.specs.Paths.{Meets, letter_i, Just, PathOfBins, PathOfAnalysis, PathOfCheckpoint, PathOfStart, PathOfIteration, PathOfJob};
 ghost use Rattle.cx_plan.specs.Regions.{Rotates};
 ghost use Rattle.cx_plan.specs.Whole.{IsWhole};
-ghost use Rattle.cx_flags.specs.AllPaths.{tree_in, PathOfBin, PathOfOutput, PathOfAllIterations};
+ghost use Rattle.cx_region_flags.specs.AllPaths.{tree_in, PathOfBin, PathOfOutput, PathOfAllIterations};
 ghost use Rattle.cx_region.specs.Witnesses.{start_of, Goes};
 ghost use Rattle.cx_region.specs.OneFlag.{Behind, Follows};
 
 use crate::one_flag_tree::{Rounds, Search, copies_with_letter, follow_tree};
 use crate::witness::{Followed, Step, Witness, WitnessStop};
 use crate::witnesses::{covers, join, take_all, with_letter};
-use cx_flags::tree_of;
 use cx_plan::{Bin, Job, Tree};
+use cx_region_flags::tree_of;
 use cx_text::Memory;
 use std::alloc::Global;
 

@@ -3,8 +3,8 @@
 ghost use Rattle.std.specs.Prelude.{◌≡◌, ◌≤◌, length, map, IfOk, All};
 ghost use Rattle.cx_plan.specs.Paths.{Path};
 ghost use Rattle.cx_plan.specs.Whole.{IsWhole, IsTree};
-ghost use Rattle.cx_flags.specs.Agreeing.{IsAct};
-ghost use Rattle.cx_flags.specs.AllPaths.{Branch, Turning, PathOfTrees};
+ghost use Rattle.cx_region_flags.specs.Agreeing.{IsAct};
+ghost use Rattle.cx_region_flags.specs.AllPaths.{Branch, Turning, PathOfTrees};
 ghost use Rattle.cx_region.specs.Witnesses.{act_of, with_letter, AllTake, Joins};
 ghost use Rattle.cx_region.specs.OneFlag.{Behind, GoesBy, GoesOnBy};
 ghost use Rattle.cx_region.specs.declared.one_flag_tree.Rounds.TheVariants as kinds;

@@ -3,16 +3,16 @@
 ghost use Rattle.std.specs.Prelude.{◌≡◌, ◌≤◌, length, option_map, not, IfOk, OnOk};
 ghost use Rattle.cx_grid.specs.Grid.{IsShape};
 ghost use Rattle.cx_plan.specs.Whole.{IsWhole};
-ghost use Rattle.cx_flags.specs.Agreeing.{IsAct, Leaves};
-ghost use Rattle.cx_flags.specs.AllPaths.{Only};
-ghost use Rattle.cx_flags.specs.Cells.{flags_in};
-ghost use Rattle.cx_flags.specs.Unmet.{seen, unmet_at};
+ghost use Rattle.cx_region_flags.specs.Agreeing.{IsAct, Leaves};
+ghost use Rattle.cx_region_flags.specs.AllPaths.{Only};
+ghost use Rattle.cx_region_flags.specs.Cells.{flags_in};
+ghost use Rattle.cx_region_flags.specs.Unmet.{seen, unmet_at};
 ghost use Rattle.cx_region.specs.Witnesses.{act_of, start_of, with_letter, Takes, Comes};
 
-use cx_flags::{
+use cx_plan::{Flag, Job, VarId};
+use cx_region_flags::{
     FlagTable, Unmet, unmet_of_item, unmet_of_output, unmet_of_sync, unmet_of_test, write_item,
 };
-use cx_plan::{Flag, Job, VarId};
 use cx_text::{Memory, Text};
 use std::alloc::{AllocFailed, Global};
 

@@ -1,11 +1,11 @@
 -- What a call comes to for the words that it was given.
 use Rattle.std.proofs.Common.{◌≡◌, ◌≢◌, ◌⊎◌, ◌∙◌, Option, Some, None, Result, Ok, Err, inl, inr, refl, sym, ap, subst, arith}
 use Rattle.cx_plan.specs.declared.job.Job.{Job}
-use Rattle.cx_config.specs.Shelf.{Held}
+use Rattle.cx_job_files.specs.Shelf.{Held}
 use Rattle.cx_job.specs.Making.{IsReady, without_witness}
 use Rattle.cx_job.specs.declared.fault.JobFault.{JobFault}
 use Rattle.cx_job.specs.declared.fault.JobFault.TheVariants as faults
-use Rattle.cx_drive.specs.Lent.{HasRisen}
+use Rattle.cx_run_loop.specs.Lent.{HasRisen}
 use Rattle.cx_run.specs.Answers.{answer_of}
 use Rattle.cx_run.specs.Calls.{Lent, Call, Makes, TellsFiles, SparesShelf, IsStill, shelf_for}
 use Rattle.cx_run.specs.Causes.{ComesTo, FollowsFault, Follows, IsAsked, Explains, MakesAs}

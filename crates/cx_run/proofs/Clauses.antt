@@ -9,18 +9,18 @@ use Rattle.cx_chk.specs.declared.checkpoint.Checkpoint.{Checkpoint}
 use Rattle.cx_keep.specs.Tests.{begun, begun_from}
 use Rattle.cx_disk.specs.Files.{slot_count}
 use Rattle.cx_chk.specs.Slots.{newest_below}
-use Rattle.cx_course.specs.Starts.{begun_with}
+use Rattle.law_course.specs.Starts.{begun_with}
 use Rattle.cx_disk.specs.Disk.{Files}
 use Rattle.cx_keep.specs.declared.fault.BeginFault.TheVariants.{NoCheckpoint}
 use Rattle.cx_plan.specs.declared.job.Recover.{Recover}
 use Rattle.cx_plan.specs.declared.job.Recover.TheVariants.{No, Auto, Autoprobe}
 use Rattle.cx_keep.specs.declared.fault.BeginFault.{BeginFault}
-use Rattle.cx_course.specs.Beginnings.{run_from}
+use Rattle.law_course.specs.Beginnings.{run_from}
 use Rattle.cx_job.specs.declared.fault.JobFault.{JobFault}
 use Rattle.cx_job.specs.declared.fault.JobFault.TheVariants as faults
 use Rattle.cx_job.specs.Making.{without_witness}
-use Rattle.cx_drive.specs.Lent.{HasRisen}
-use Rattle.cx_drive.specs.Drives.{HasWholeOutput, LeavesTrails, StartsWell}
+use Rattle.cx_run_loop.specs.Lent.{HasRisen}
+use Rattle.cx_run_loop.specs.Drives.{HasWholeOutput, LeavesTrails, StartsWell}
 use Rattle.cx_run.specs.Answers.{answer_of, status_of, text_of, Says, WasSaid}
 use Rattle.cx_run.specs.Calls.{Lent, Work, Call, Runs, IsRun, AreTold, IsStill, driven}
 use Rattle.cx_run.specs.Causes.{HasCome, HasRun, Comes, ComesTo, Follows, Explains}

@@ -8,12 +8,12 @@ use Rattle.cx_plan.specs.Whole.{IsWhole}
 use Rattle.cx_plan.specs.declared.job.Job.{Job}
 use Rattle.cx_rule.specs.Jobs.{FitJob}
 use Rattle.cx_rule.specs.declared.spec.Spec.{Spec}
-use Rattle.cx_config.specs.Shelf.{Held, looked_up}
+use Rattle.cx_job_files.specs.Shelf.{Held, looked_up}
 use Rattle.cx_job.specs.LocalCells.{local_cells}
 use Rattle.cx_job.specs.Making.{IsReady, Made, Makes as MakesWith}
 use Rattle.cx_job.specs.declared.fault.JobFault.{JobFault}
 use Rattle.cx_job.specs.declared.fault.JobFault.TheVariants as faults
-use Rattle.cx_made.specs.Files.{made_files}
+use Rattle.cx_run_made.specs.Files.{made_files}
 use Rattle.cx_run.specs.Calls.{Lent, SparesShelf, made_from, shelf_for, shelf_of}
 use Rattle.cx_run.specs.Causes.{MakesOn}
 use Rattle.cx_run.specs.declared.words.Command.{Command}

@@ -5,7 +5,7 @@ use Rattle.cx_model.specs.declared.ends.End.{End}
 use Rattle.cx_model.specs.declared.ends.End.TheVariants as ends
 use Rattle.cx_job.specs.declared.fault.JobFault.{JobFault}
 use Rattle.cx_keep.specs.declared.fault.BeginFault.{BeginFault}
-use Rattle.cx_drive.specs.Drives.{IsRefused}
+use Rattle.cx_run_loop.specs.Drives.{IsRefused}
 use Rattle.cx_run.specs.Answers.{status_of, text_of, answer_of, Said, WasSaid, IsStatus, IsStatusFor}
 use Rattle.cx_run.specs.Calls.{Lent, Work, Call, Makes, TellsFiles, Runs, IsStill, driven}
 use Rattle.cx_run.specs.Causes.{HasRun, IsSummed, Comes, Follows, Explains}

@@ -13,22 +13,22 @@ use Rattle.cx_plan.specs.declared.job.Job.{Job}
 use Rattle.cx_plan.specs.declared.variable.VarId.{VarId}
 use Rattle.cx_rule.specs.States.{scalar_of}
 use Rattle.cx_rule.specs.declared.spec.Spec.{Spec}
-use Rattle.cx_made.specs.Summaries.{live_variable}
-use Rattle.cx_made.proofs.ScalarLaws.{named_is_stored}
+use Rattle.cx_run_made.specs.Summaries.{live_variable}
+use Rattle.cx_run_made.proofs.ScalarLaws.{named_is_stored}
 use Rattle.cx_model.specs.Runs.{undivided_run}
 use Rattle.cx_model.specs.Traces.{Trace}
 use Rattle.cx_model.specs.declared.ends.End.{End}
 use Rattle.cx_model.specs.declared.ends.End.TheVariants as ends
-use Rattle.cx_course.specs.Beginnings.{run_from}
-use Rattle.cx_course.specs.Starts.{BeginsOn, TrailsBegin}
+use Rattle.law_course.specs.Beginnings.{run_from}
+use Rattle.law_course.specs.Starts.{BeginsOn, TrailsBegin}
 use Rattle.cx_job.specs.Making.{IsReady}
 use Rattle.cx_core.specs.Cores.{Cores}
 use Rattle.cx_core.specs.Hands.{last_number}
 use Rattle.cx_core.specs.Starts.{IsReady as CanStart}
 use Rattle.cx_core.specs.declared.answers.Outcome.TheVariants as outcomes
-use Rattle.cx_drive.specs.Drives.{Drive, Drives, HasEnded, HasScalarsOf, Comes as DriveComes}
-use Rattle.cx_drive.specs.declared.fault.DriveFault.{DriveFault}
-use Rattle.cx_drive.specs.declared.fault.DriveFault.TheVariants as stops
+use Rattle.cx_run_loop.specs.Drives.{Drive, Drives, HasEnded, HasScalarsOf, Comes as DriveComes}
+use Rattle.cx_run_loop.specs.declared.fault.DriveFault.{DriveFault}
+use Rattle.cx_run_loop.specs.declared.fault.DriveFault.TheVariants as stops
 use Rattle.cx_run.specs.Answers.{AnswersRun, answer_at, answer_for, answer_with, done_by, end_in, summed}
 use Rattle.cx_run.specs.Calls.{Work, IsStill, Runs, driven, live_by}
 use Rattle.cx_run.specs.Causes.{HasCome, HasRun, LiveIs, IsSummed, Comes, ComesTo, WereTrails}

@@ -5,7 +5,7 @@ use Rattle.cx_disk.specs.Disk.{Files, SameFiles}
 use Rattle.cx_plan.specs.declared.job.Job.{Job}
 use Rattle.cx_keep.specs.Resuming.{AreTrails}
 use Rattle.cx_keep.specs.Keeping.{output_file}
-use Rattle.cx_drive.specs.Drives.{Drive, course, newest, IsNotBelow, KeepsTrail, LeavesTrails}
+use Rattle.cx_run_loop.specs.Drives.{Drive, course, newest, IsNotBelow, KeepsTrail, LeavesTrails}
 use Rattle.cx_run.specs.Calls.{Work, IsStill, driven}
 
 not_below_itself : (n : Option ℕ) → IsNotBelow n n

@@ -7,14 +7,14 @@ use Rattle.cx_job.specs.declared.fault.JobFault.{JobFault}
 use Rattle.cx_job.specs.declared.fault.JobFault.TheVariants as faults
 use Rattle.cx_core.specs.declared.answers.Outcome.{Outcome}
 use Rattle.cx_core.specs.declared.answers.Outcome.TheVariants as outcomes
-use Rattle.cx_drive.specs.Lent.{HasRisen}
-use Rattle.cx_drive.specs.declared.fault.DriveFault.{DriveFault}
-use Rattle.cx_drive.specs.declared.fault.DriveFault.TheVariants as stops
+use Rattle.cx_run_loop.specs.Lent.{HasRisen}
+use Rattle.cx_run_loop.specs.declared.fault.DriveFault.{DriveFault}
+use Rattle.cx_run_loop.specs.declared.fault.DriveFault.TheVariants as stops
 use Rattle.cx_core.specs.Cores.{Cores}
 use Rattle.cx_core.specs.Hands.{last_number}
 use Rattle.cx_plan.specs.Setups.{setup_of}
 use Rattle.cx_plan.specs.declared.job.Job.{Job}
-use Rattle.cx_made.specs.Summaries.{live_variable}
+use Rattle.cx_run_made.specs.Summaries.{live_variable}
 use Rattle.cx_run.specs.Calls.{Lent, Runs, live_by}
 use Rattle.cx_run.specs.declared.words.Command.{Command}
 use Rattle.cx_run.specs.declared.words.Command.TheVariants.{Make}

@@ -8,14 +8,14 @@ use Rattle.cx_plan.specs.declared.job.Job.{Job}
 use Rattle.cx_rule.specs.Routine.{Rule}
 use Rattle.cx_rule.specs.declared.spec.Spec.{Spec}
 use Rattle.cx_plan.specs.declared.variable.VarId.{VarId}
-use Rattle.cx_config.specs.Shelf.{Held, looked_up}
-use Rattle.cx_config.specs.declared.shelf.Shelf.{Ghosts as ShelfGhosts}
+use Rattle.cx_job_files.specs.Shelf.{Held, looked_up}
+use Rattle.cx_job_files.specs.declared.shelf.Shelf.{Ghosts as ShelfGhosts}
 use Rattle.cx_job.specs.Making.{Made}
 use Rattle.cx_job.specs.declared.fault.JobFault.{JobFault}
-use Rattle.cx_drive.specs.Lent.{Count, LentDisk, LentWire, lent_disk, lent_wire}
-use Rattle.cx_drive.specs.Drives.{Drive}
+use Rattle.cx_run_loop.specs.Lent.{Count, LentDisk, LentWire, lent_disk, lent_wire}
+use Rattle.cx_run_loop.specs.Drives.{Drive}
 use Rattle.cx_run.specs.Words.{Request, asked}
-use Rattle.cx_made.specs.Files.{made_files}
+use Rattle.cx_run_made.specs.Files.{made_files}
 use Rattle.cx_run.specs.declared.sink.Sink.{Ghosts as SinkGhosts}
 use Rattle.cx_run.specs.declared.words.Command.{Command}
 use Rattle.cx_run.specs.declared.words.Command.TheVariants.{Run, Make, Check, Schedule, Describe, Parts}

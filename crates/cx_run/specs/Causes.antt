@@ -16,16 +16,16 @@ use Rattle.cx_keep.specs.Tests.{begun}
 use Rattle.cx_keep.specs.Keeping.{output_file}
 use Rattle.cx_keep.specs.Resuming.{AreTrails}
 use Rattle.cx_keep.specs.Trails.{NewestIs}
-use Rattle.cx_course.specs.Beginnings.{run_from}
-use Rattle.cx_course.specs.Starts.{BeginsOn}
-use Rattle.cx_course.specs.Works.{LastIs}
+use Rattle.law_course.specs.Beginnings.{run_from}
+use Rattle.law_course.specs.Starts.{BeginsOn}
+use Rattle.law_course.specs.Works.{LastIs}
 use Rattle.cx_job.specs.Making.{Made, Makes as MakesWith}
 use Rattle.cx_job.specs.declared.fault.JobFault.{JobFault}
-use Rattle.cx_drive.specs.Lent.{HasRisen}
-use Rattle.cx_drive.specs.Drives.{Drive, course, AreTold, StartsWell, HasWholeOutput, HasWorked, IsRefused, LeavesTrails}
+use Rattle.cx_run_loop.specs.Lent.{HasRisen}
+use Rattle.cx_run_loop.specs.Drives.{Drive, course, AreTold, StartsWell, HasWholeOutput, HasWorked, IsRefused, LeavesTrails}
 use Rattle.cx_run.specs.Answers.{answer_of}
-use Rattle.cx_config.specs.Shelf.{Held}
-use Rattle.cx_made.specs.Summaries.{live_variable}
+use Rattle.cx_job_files.specs.Shelf.{Held}
+use Rattle.cx_run_made.specs.Summaries.{live_variable}
 use Rattle.cx_run.specs.Calls.{Lent, Work, Call, IsStill, Runs, SparesShelf, driven, live_by, shelf_for}
 use Rattle.cx_run.specs.Texts.{command_text}
 use Rattle.cx_run.specs.Words.{Request, asked}

@@ -10,11 +10,11 @@ use Rattle.cx_chk.specs.declared.checkpoint.Checkpoint.{Checkpoint}
 use Rattle.cx_keep.specs.Tests.{begun}
 use Rattle.cx_keep.specs.declared.fault.BeginFault.{BeginFault}
 use Rattle.cx_keep.specs.declared.fault.BeginFault.TheVariants.{NoCheckpoint}
-use Rattle.cx_course.specs.Beginnings.{run_from}
+use Rattle.law_course.specs.Beginnings.{run_from}
 use Rattle.cx_job.specs.Making.{without_witness}
 use Rattle.cx_job.specs.declared.fault.JobFault.{JobFault}
-use Rattle.cx_drive.specs.Lent.{HasRisen}
-use Rattle.cx_drive.specs.Drives.{StartsWell, HasWholeOutput, HasWorked, LeavesTrails}
+use Rattle.cx_run_loop.specs.Lent.{HasRisen}
+use Rattle.cx_run_loop.specs.Drives.{StartsWell, HasWholeOutput, HasWorked, LeavesTrails}
 use Rattle.cx_run.specs.Answers.{text_of, Says, WasSaid}
 use Rattle.cx_run.specs.Calls.{Lent, Work, Call, Makes, TellsFiles, Runs, IsRun, AreTold, IsStill, SparesShelf, driven}
 use Rattle.cx_run.specs.Causes.{HasLast, LiveIs, Explains, WereTrails}

@@ -7,7 +7,7 @@ use Rattle.cx_model.specs.declared.ends.End.TheVariants as ends
 use Rattle.cx_cut.specs.Faults.{parts_of}
 use Rattle.cx_keep.specs.declared.fault.BeginFault.{BeginFault}
 use Rattle.cx_keep.specs.declared.fault.BeginFault.TheVariants as begins
-use Rattle.cx_made.specs.Summaries.{summary}
+use Rattle.cx_run_made.specs.Summaries.{summary}
 use Rattle.cx_run.specs.CutTexts.{cut_lines, parts_text}
 use Rattle.cx_run.specs.FaultWords.{spaced, or_dash}
 use Rattle.cx_run.specs.declared.words.Command.{Command}

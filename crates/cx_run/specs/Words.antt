@@ -3,7 +3,7 @@ use Rattle.std.specs.Prelude.{ℕ, ◌-◌, ◌^◌, Bool, not, false, ◌==◌,
 use Rattle.std.specs.List.{starts_with}
 use Rattle.cx_text.specs.Digits.{natural_in}
 use Rattle.cx_plan.specs.Lists.{or_else}
-use Rattle.cx_made.specs.Files.{file_name}
+use Rattle.cx_run_made.specs.Files.{file_name}
 use Rattle.cx_run.specs.declared.words.Command.{Command}
 use Rattle.cx_run.specs.declared.words.Command.TheVariants.{Run, Make, Check, Schedule, Describe, Parts}
 

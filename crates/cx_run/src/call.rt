@@ -5,9 +5,9 @@ ghost use Rattle.cx_grid.specs.Grid.{HasInterior};
 ghost use Rattle.cx_plan.specs.Whole.{IsWhole};
 ghost use Rattle.cx_core.specs.Starts.{AreEmpty};
 ghost use Rattle.cx_core.specs.declared.answers.Outcome.{Outcome};
-ghost use Rattle.cx_drive.specs.Drives.{LendsScalars};
+ghost use Rattle.cx_run_loop.specs.Drives.{LendsScalars};
 ghost use Rattle.cx_job.specs.Making.{IsReady};
-ghost use Rattle.cx_made.specs.Files.{made_files};
+ghost use Rattle.cx_run_made.specs.Files.{made_files};
 ghost use Rattle.cx_run.specs.Answers.{AnswersRun, IsTextFor, answer_with};
 ghost use Rattle.cx_run.specs.Calls.{SparesShelf, called_with, lent_shelf, lent_sink, made_from, shelf_for, shelf_of, work_on};
 ghost use Rattle.cx_run.specs.Causes.{ComesTo, Explains, MakesOn};
@@ -20,16 +20,16 @@ use crate::sink::Sink;
 use crate::texts::{describe, schedule_text};
 use crate::words::{Command, request_of};
 use cx_core::Core;
-use cx_course::trails_begin;
 use cx_disk::Disk;
-use cx_drive::{DriveFault, drive};
 use cx_job::{JobFault, MemoryShelf, Shelf, make_job};
-use cx_made::made_files;
 use cx_plan::Job;
 use cx_rule::{Meter, Routine};
+use cx_run_loop::{DriveFault, drive};
+use cx_run_made::made_files;
 use cx_text::{List, Memory, Text};
 use cx_turns::Turns;
 use cx_wire::Wire;
+use law_course::trails_begin;
 use std::alloc::Global;
 
 /// Does what the words of the command line ask, prints the answer on `out`, and gives the program's status.
@@ -47,10 +47,10 @@ use std::alloc::Global;
 /// `--turns=SEED` before or behind FILE, one to twenty digits below 2^64: the source of turns begins anew from SEED, or from 0.
 ///
 /// `make` takes a SEED of one to twenty digits below 2^63 and a SIZE of one to four digits from 8 to 1024. Its files are those of
-/// `made_files` of cx_made, which the shelf doesn't see: the shelf is left alone. It goes on as `run made.par` does. Where the run is
+/// `made_files` of cx_run_made, which the shelf doesn't see: the shelf is left alone. It goes on as `run made.par` does. Where the run is
 /// done it tells how many points there are, how long the output is, and how many cells live in the last state.
 ///
-/// A run goes by `drive` of cx_drive: the grid is cut into parts, which exchange messages by the wire, in the order that `turns`
+/// A run goes by `drive` of cx_run_loop: the grid is cut into parts, which exchange messages by the wire, in the order that `turns`
 /// picks; the output goes into the file `OLD_OUTPUT` of the disk, and checkpoints into its slots. By the job's `IO::recover` it begins afresh
 /// or goes on from the newest checkpoint. Where the shelf, the disk and the wire tell what they hold, and each image of the disk is a
 /// trail of the job at the start, or old checkpoints are given up, then at status 0 and 3 the output is that of the undivided run, also

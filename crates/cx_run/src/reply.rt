@@ -3,8 +3,8 @@ ghost use Rattle.std.specs.Prelude.{◌≡◌, ◌≢◌, ◌++◌, ◌≤◌, �
 ghost use Rattle.std.specs.Fmt.{decimal};
 ghost use Rattle.cx_core.specs.declared.answers.Outcome.{Outcome};
 ghost use Rattle.cx_core.specs.Hands.{last_number};
-ghost use Rattle.cx_drive.specs.Drives.{LendsScalars};
-ghost use Rattle.cx_made.specs.Summaries.{live_variable};
+ghost use Rattle.cx_run_loop.specs.Drives.{LendsScalars};
+ghost use Rattle.cx_run_made.specs.Summaries.{live_variable};
 ghost use Rattle.cx_plan.specs.Setups.{setup_of};
 ghost use Rattle.cx_plan.specs.Whole.{IsWhole};
 ghost use Rattle.cx_run.specs.Answers.{answer_at, answer_for, answer_of, done_by, end_in, summed, Says, IsCutOff, WasSaid};
@@ -17,12 +17,12 @@ use crate::fault_words::{push_name, push_number, refused_text};
 use crate::sink::Sink;
 use crate::words::Command;
 use cx_core::{Core, Outcome};
-use cx_drive::DriveFault;
 use cx_job::JobFault;
 use cx_keep::BeginFault;
-use cx_made::{live_variable, summary};
 use cx_model::End;
 use cx_plan::Job;
+use cx_run_loop::DriveFault;
+use cx_run_made::{live_variable, summary};
 use cx_text::{Memory, Text};
 use std::alloc::Global;
 

@@ -1,22 +1,22 @@
 //! Each fault's message, which a Rust program that calls a crate prints, has the words that the top call prints.
 
 use cx_bind::BindFault;
-use cx_config::ConfigFault;
 use cx_core::CoreFault;
 use cx_cut::CutFault;
 use cx_disk::DiskFault;
-use cx_drive::DriveFault;
-use cx_entries::{EntryFault, PlaceFault};
 use cx_expr::ExprFault;
 use cx_ghost::{PostFault, TakeFault};
 use cx_job::JobFault;
+use cx_job_files::ConfigFault;
+use cx_job_items::MatchFault;
 use cx_keep::BeginFault;
-use cx_match::MatchFault;
 use cx_order::OrderFault;
+use cx_order_entries::{EntryFault, PlaceFault};
 use cx_plan::Flag;
 use cx_region::RegionFault;
 use cx_rule::Overflow;
 use cx_run::{Answer, ShelfFault, SinkFault};
+use cx_run_loop::DriveFault;
 use cx_scope::ScopeFault;
 use cx_text::{CclFault, List, Memory, Text, TextFault};
 use cx_values::ValueFault;

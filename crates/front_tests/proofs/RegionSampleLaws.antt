@@ -253,6 +253,7 @@ sample-whole a b m n d e one two few low high =
           ((omega arith, omega arith), tt);
       steers = All-nil (IsSteer (setup_of job));
       weight = tt;
+      weight_factor = omega arith;
       outputs_rise = pairs-of-one (λ (v w : VarId). v.0 < w.0) wave;
       variables_limit = omega arith;
       itlast_limit = omega arith;

@@ -1,6 +1,6 @@
 //! Numbers with pairs, and their least orders or cycles, worked out by hand.
 
-use cx_least::{Sorted, least_order};
+use cx_order_least::{Sorted, least_order};
 use cx_text::List;
 use std::alloc::Global;
 use std::test::Fail;

@@ -122,6 +122,7 @@ sample-whole r =
       outputs = All-nil (λ v. IsStored job v 0);
       steers = All-nil (IsSteer (setup_of job));
       weight = tt;
+      weight_factor = omega arith;
       outputs_rise = pairs-none (λ (v w : VarId). v.0 < w.0);
       variables_limit = omega arith;
       itlast_limit = omega arith;

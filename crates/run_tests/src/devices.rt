@@ -1,7 +1,7 @@
 //! Devices that fail in one call, and sources of turns that always pick alike.
 
-use cx_config::FailingShelf;
 use cx_disk::{FailingDisk, MemoryDisk};
+use cx_job_files::FailingShelf;
 use cx_run::MemoryShelf;
 use cx_text::{List, Memory};
 use cx_turns::Turns;

@@ -1,7 +1,7 @@
 use Rattle.std.proofs.Common.{sym}
 use Rattle.std.specs.Prelude.{IsTrue}
-use Rattle.cx_parts.specs.Beginnings.{run_of}
-use Rattle.cx_parts.specs.Totals.{undivided_from}
+use Rattle.law_parts.specs.Beginnings.{run_of}
+use Rattle.law_parts.specs.Totals.{undivided_from}
 use Rattle.cx_plan.specs.Setups.{setup_of}
 use Rattle.cx_core.proofs.StepLaws.{enabled_list, some_before, some_event}
 use Rattle.cx_core.proofs.HandLaws.{scalar_there, tells_all}

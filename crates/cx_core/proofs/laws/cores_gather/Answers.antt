@@ -1,7 +1,7 @@
 use Rattle.std.proofs.Common.{IsTrue}
 use Rattle.cx_plan.specs.Setups.{setup_of}
-use Rattle.cx_parts.specs.Beginnings.{run_of}
-use Rattle.cx_parts.specs.Totals.{undivided_from}
+use Rattle.law_parts.specs.Beginnings.{run_of}
+use Rattle.law_parts.specs.Totals.{undivided_from}
 use Rattle.cx_core.proofs.GatherLaws as laws
 use Rattle.cx_core.proofs.laws.cores_gather.Goals as goal
 

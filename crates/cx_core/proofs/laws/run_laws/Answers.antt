@@ -1,11 +1,11 @@
 use Rattle.std.proofs.Common.{sym, subst}
 use Rattle.cx_flat.specs.Ways.{WaysEnd}
-use Rattle.cx_way.specs.Steps.{PlacesFit}
-use Rattle.cx_parts.specs.Beginnings.{run_of}
-use Rattle.cx_parts.proofs.FitLaws.{some_part}
-use Rattle.cx_parts.proofs.WholeRun.{names, true_states}
+use Rattle.cx_core_place.specs.Steps.{PlacesFit}
+use Rattle.law_parts.specs.Beginnings.{run_of}
+use Rattle.law_parts.proofs.FitLaws.{some_part}
+use Rattle.law_parts.proofs.WholeRun.{names, true_states}
 use Rattle.cx_flat.specs.declared.op.Op.TheVariants.{Piece}
-use Rattle.cx_reached.proofs.JobRuns.{run_is}
+use Rattle.law_reached.proofs.JobRuns.{run_is}
 use Rattle.cx_core.proofs.StartLaws.{setup_same}
 use Rattle.cx_core.proofs.OutLaws.{outputs_among}
 use Rattle.cx_core.proofs.laws.run_laws.Goals as goal

@@ -2,10 +2,10 @@ use Rattle.std.proofs.Common.{rules, refl, sym, ap, subst, ◌≡◌, ◌<◌, �
 use Rattle.std.specs.Prelude.{slice_set}
 use Rattle.std.proofs.lemmas.Int.{to_z-of_z}
 use Rattle.cx_plan.specs.Setups.{setup_of}
-use Rattle.cx_part.specs.Copies.{copies_at}
-use Rattle.cx_way.specs.Steps.{IsTested}
-use Rattle.cx_pace.specs.Paces.{Paces, iteration_of, op_of}
-use Rattle.cx_pace.specs.Steps.{moved_on}
+use Rattle.cx_core_part.specs.Copies.{copies_at}
+use Rattle.cx_core_place.specs.Steps.{IsTested}
+use Rattle.cx_core_events.specs.Paces.{Paces, iteration_of, op_of}
+use Rattle.cx_core_events.specs.Steps.{moved_on}
 use Rattle.cx_core.specs.Cores.{Cores, items_of}
 use Rattle.cx_core.specs.Moving.{followed}
 use Rattle.cx_core.proofs.GoLaws.{with_pace}

@@ -7,11 +7,11 @@ use Rattle.cx_rule.specs.States.{scalar_of}
 use Rattle.cx_field.specs.Patches.{PatchValue}
 use Rattle.cx_cut.specs.Cuts.{Parts, part_count}
 use Rattle.cx_flat.specs.declared.op.Op.{Op}
-use Rattle.cx_way.specs.Steps.{IsReached, IsTested}
-use Rattle.cx_part.specs.Tests.{CanTest, tested_number}
-use Rattle.cx_pace.specs.declared.standing.Standing.{Standing}
-use Rattle.cx_pace.specs.Paces.{iteration_of, op_of, part_of}
-use Rattle.cx_part.specs.Copies.{copies_at}
+use Rattle.cx_core_place.specs.Steps.{IsReached, IsTested}
+use Rattle.cx_core_part.specs.Tests.{CanTest, tested_number}
+use Rattle.cx_core_events.specs.declared.standing.Standing.{Standing}
+use Rattle.cx_core_events.specs.Paces.{iteration_of, op_of, part_of}
+use Rattle.cx_core_part.specs.Copies.{copies_at}
 use Rattle.cx_core.specs.Cores.{Cores, items_of}
 use Rattle.cx_core.specs.Moving.{CanOperate, Operates, holdings}
 use Rattle.cx_core.proofs.ItemLaws.{its_items, items_there}

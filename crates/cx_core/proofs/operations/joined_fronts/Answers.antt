@@ -1,7 +1,7 @@
 use Rattle.std.proofs.Common.{◌+◌, ◌≤◌, ◌^◌, ◌∙◌, sym, subst, arith}
 use Rattle.cx_cut.specs.Cuts.{part_count}
 use Rattle.cx_reduce.specs.Partials.{Reduced}
-use Rattle.cx_gather.specs.Boards.{front}
+use Rattle.cx_core_buffers.specs.Boards.{front}
 use Rattle.cx_core.proofs.FrontNumbers.{points_within, more_kind, more_points, more_number}
 use Rattle.cx_core.proofs.operations.joined_fronts.Goals as goal
 

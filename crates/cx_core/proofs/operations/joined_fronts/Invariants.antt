@@ -1,9 +1,9 @@
 use Rattle.std.specs.Prelude.{◌≡◌, ◌<◌}
-use Rattle.cx_gather.specs.Boards.{front}
-use Rattle.cx_parts.specs.Holding.{joined}
+use Rattle.cx_core_buffers.specs.Boards.{front}
+use Rattle.law_parts.specs.Holding.{joined}
 use Rattle.cx_core.specs.Moving.{all_fronts}
 use Rattle.cx_core.proofs.operations.joined_fronts.Given as goal
-use Rattle.cx_network.specs.Machine.{sum_below}
+use Rattle.law_network.specs.Machine.{sum_below}
 
 -- the numbers of the first parts are joined
 abbrev pub invariant-parts : goal.invariant-parts

@@ -1,8 +1,8 @@
 use Rattle.std.proofs.Common.{refl, subst}
 use Rattle.cx_plan.specs.Setups.{setup_of}
-use Rattle.cx_part.specs.Jobs.{IsOperation}
-use Rattle.cx_part.specs.Tests.{CanTest}
-use Rattle.cx_part.proofs.AskLaws.{can_post, can_take, can_test}
+use Rattle.cx_core_part.specs.Jobs.{IsOperation}
+use Rattle.cx_core_part.specs.Tests.{CanTest}
+use Rattle.cx_core_part.proofs.AskLaws.{can_post, can_take, can_test}
 use Rattle.cx_core.specs.Moving.{Asks, holdings}
 use Rattle.cx_core.proofs.OperateLaws.{in_cut, swept, applied, offered, joined_all, sent, took, loop_tested}
 use Rattle.cx_core.proofs.operations.operate.Goals as goal

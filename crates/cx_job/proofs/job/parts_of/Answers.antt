@@ -3,7 +3,7 @@ use Rattle.std.proofs.Common.{sym, subst}
 use Rattle.std.proofs.lemmas.Result.{err_from_is_err_and}
 use Rattle.cx_grid.specs.Grid.{IsShape}
 use Rattle.cx_job.specs.declared.job.Layout.{Layout}
-use Rattle.cx_grids.proofs.LimitLaws.{has_shape}
+use Rattle.cx_job_values.proofs.LimitLaws.{has_shape}
 use Rattle.cx_job.proofs.job.parts_of.Goals as goal
 
 pub texts_of-requires : goal.texts_of-requires

@@ -4,7 +4,7 @@ use Rattle.cx_bind.specs.Binding.{bind_fault}
 use Rattle.cx_values.specs.Faults.{assign_fault}
 use Rattle.cx_values.specs.Assigned.{assigned}
 use Rattle.cx_job.specs.declared.fault.JobFault.TheVariants as faults
-use Rattle.cx_config.specs.Stages.{Is, unless}
+use Rattle.cx_job_files.specs.Stages.{Is, unless}
 use Rattle.cx_job.specs.Making.{PlanAnd, ValuesAnd}
 use Rattle.cx_job.proofs.MakingLaws.{yields_pass}
 use Rattle.cx_job.proofs.making.made_of.Goals as goal

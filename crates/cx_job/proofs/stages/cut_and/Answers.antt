@@ -1,7 +1,7 @@
 use Rattle.std.proofs.Common.{sym, subst, map}
 use Rattle.std.proofs.lemmas.Result.{err_from_is_err_and}
 use Rattle.cx_plan.specs.Whole.{IsWhole}
-use Rattle.cx_config.specs.Stages.{Is}
+use Rattle.cx_job_files.specs.Stages.{Is}
 use Rattle.cx_job.specs.Making.{Accepts, cut_limits, within_cut}
 use Rattle.cx_job.proofs.MakingLaws.{yields_halt, unless_ok}
 use Rattle.cx_job.proofs.stages.cut_and.Goals as goal

@@ -4,7 +4,7 @@ use Rattle.cx_expr.specs.Known.{Names}
 use Rattle.cx_values.specs.declared.values.Values.{Values}
 use Rattle.cx_values.specs.Assigned.{thorn_finds}
 use Rattle.cx_order.specs.declared.fault.OrderFault.TheVariants.{Memory}
-use Rattle.cx_entries.specs.Seen.{seen}
+use Rattle.cx_order_entries.specs.Seen.{seen}
 use Rattle.cx_order.specs.Files.{counted_from}
 use Rattle.cx_order.proofs.FileLaws.{seen-nothing, sofar-none, sofar-next, sofar-told, sofar-all, lines-below, entries-below}
 use Rattle.cx_order.proofs.all_files.count_all.Goals as goal

@@ -1,6 +1,6 @@
 -- what counts of the thorns that were passed, with that of the rest, is what counts of all
 use Rattle.cx_values.specs.Assigned.{thorn_finds}
-use Rattle.cx_entries.specs.Seen.{seen}
+use Rattle.cx_order_entries.specs.Seen.{seen}
 use Rattle.cx_order.proofs.FileLaws.{Sofar}
 use Rattle.cx_order.proofs.all_files.count_all.Given as goal
 

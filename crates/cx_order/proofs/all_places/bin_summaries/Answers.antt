@@ -3,10 +3,10 @@ use Rattle.std.proofs.Common.{◌≡◌, ◌∙◌, inl, inr, ℕ, List, [], ◌
 use Rattle.std.specs.List.{slice_get}
 use Rattle.cx_order.specs.declared.summary.Summary.{Summary}
 use Rattle.cx_plan.specs.Lookups.{bin_name}
-use Rattle.cx_entries.specs.PlaceNumbers.{orders_by}
+use Rattle.cx_order_entries.specs.PlaceNumbers.{orders_by}
 use Rattle.cx_plan.specs.Lookups.{bin_count}
 use Rattle.cx_order.specs.Plans.{bin_forest}
-use Rattle.cx_entries.specs.Seen.{seen_entry}
+use Rattle.cx_order_entries.specs.Seen.{seen_entry}
 use Rattle.cx_order.specs.Summaries.{IsSummary, AreInside, numbers_at}
 use Rattle.cx_order.proofs.SummedPlaces.{get-push, bin-known, all-bins}
 use Rattle.cx_order.proofs.all_places.bin_summaries.Goals as goal

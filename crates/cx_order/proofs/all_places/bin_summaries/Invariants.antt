@@ -4,9 +4,9 @@ use Rattle.std.specs.List.{slice_get}
 use Rattle.cx_order.specs.declared.summary.Summary.{Summary}
 use Rattle.cx_plan.specs.Lookups.{bin_name}
 use Rattle.cx_order.specs.Meanings.{World, meaning}
-use Rattle.cx_entries.specs.PlaceNumbers.{orders_by}
+use Rattle.cx_order_entries.specs.PlaceNumbers.{orders_by}
 use Rattle.cx_order.specs.Plans.{bin_forest}
-use Rattle.cx_entries.specs.Seen.{seen_entry}
+use Rattle.cx_order_entries.specs.Seen.{seen_entry}
 use Rattle.cx_order.specs.Summaries.{IsSummary}
 use Rattle.cx_order.proofs.all_places.bin_summaries.Given as goal
 

@@ -1,6 +1,6 @@
 -- A group is looked at behind those that it contains.
 use Rattle.std.proofs.Common.{◌≡◌, ◌∙◌, ℕ, map, drop, length, ap, subst, arith}
-use Rattle.cx_entries.specs.Seen.{seen_entry}
+use Rattle.cx_order_entries.specs.Seen.{seen_entry}
 use Rattle.cx_order.specs.Summaries.{AreGroupSummaries}
 use Rattle.cx_order.proofs.SummedPlaces.{as-many, place-below, no-groups, next-turn}
 use Rattle.cx_order.proofs.all_places.group_summaries.Goals as goal

@@ -2,8 +2,8 @@
 use Rattle.std.proofs.Common.{◌≡◌, map, sym, subst, Option, option_copied}
 use Rattle.std.proofs.lemmas.Result.{IfOk-weaker}
 use Rattle.cx_order.specs.declared.summary.Summary.{Summary}
-use Rattle.cx_entries.specs.Counted.{Entry}
-use Rattle.cx_entries.specs.Seen.{seen_entry}
+use Rattle.cx_order_entries.specs.Counted.{Entry}
+use Rattle.cx_order_entries.specs.Seen.{seen_entry}
 use Rattle.cx_order.specs.Meanings.{meaning}
 use Rattle.cx_order.specs.Plans.{Done, Then, path_of}
 use Rattle.cx_order.specs.Summaries.{IsSummary, IsInside}

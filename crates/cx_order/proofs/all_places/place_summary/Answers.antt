@@ -1,9 +1,9 @@
 -- From the last entry on, each stands before those that are known.
 use Rattle.std.proofs.Common.{◌≡◌, ℕ, List, map, drop, length, Option, sym, subst, arith}
 use Rattle.std.proofs.lemmas.List.{length-map, drop_all}
-use Rattle.cx_entries.specs.Members.{entries_of}
+use Rattle.cx_order_entries.specs.Members.{entries_of}
 use Rattle.cx_order.specs.Plans.{row_of, path_of}
-use Rattle.cx_entries.specs.Seen.{seen_entry}
+use Rattle.cx_order_entries.specs.Seen.{seen_entry}
 use Rattle.cx_order.specs.Summaries.{IsSummary, IsInside, AreInside, inside_at}
 use Rattle.cx_order.proofs.SummedPlaces.{before-has, before-within, within-some, row-before}
 use Rattle.cx_order.proofs.all_places.place_summary.Goals as goal

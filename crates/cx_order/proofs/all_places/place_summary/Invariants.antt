@@ -1,10 +1,10 @@
 -- what is known of the entries from a number on
 use Rattle.std.proofs.Common.{◌≡◌, ℕ, List, map, drop}
-use Rattle.cx_entries.specs.Counted.{Entry}
+use Rattle.cx_order_entries.specs.Counted.{Entry}
 use Rattle.cx_order.specs.Meanings.{World, meaning}
-use Rattle.cx_entries.specs.Members.{entries_of}
+use Rattle.cx_order_entries.specs.Members.{entries_of}
 use Rattle.cx_order.specs.Plans.{Forest, row_of}
-use Rattle.cx_entries.specs.Seen.{seen_entry}
+use Rattle.cx_order_entries.specs.Seen.{seen_entry}
 use Rattle.cx_order.specs.Summaries.{IsSummary, AreInside}
 use Rattle.cx_order.proofs.all_places.place_summary.Given as goal
 

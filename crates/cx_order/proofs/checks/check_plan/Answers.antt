@@ -5,7 +5,7 @@ use Rattle.cx_order.specs.declared.fault.OrderFault.TheVariants.{Memory}
 use Rattle.cx_order.specs.declared.summary.Summary.{Summary}
 use Rattle.cx_order.specs.PlanSteps.{forests_in}
 use Rattle.cx_order.specs.Plans.{entry_fault, bin_trees, limit_fault}
-use Rattle.cx_entries.specs.Seen.{seen_entry}
+use Rattle.cx_order_entries.specs.Seen.{seen_entry}
 use Rattle.cx_order.specs.Summaries.{AreBinSummaries}
 use Rattle.cx_order.proofs.CheckLaws.{first-of-two, second-of-two}
 use Rattle.cx_order.proofs.checks.check_plan.Goals as goal

@@ -1,6 +1,6 @@
 use Rattle.std.proofs.Common.{◌≡◌, map, take}
 use Rattle.cx_order.specs.Meanings.{meaning}
-use Rattle.cx_entries.specs.Seen.{seen_entry}
+use Rattle.cx_order_entries.specs.Seen.{seen_entry}
 use Rattle.cx_order.specs.Worlds.{world_of}
 use Rattle.cx_order.proofs.name_lookup.meanings.Given as goal
 

@@ -2,7 +2,7 @@
 use Rattle.std.proofs.Common.{◌∙◌, map, ap}
 use Rattle.std.proofs.lemmas.Simd.{map-map}
 use Rattle.cx_order.specs.Meanings.{meaning, meaning_or_none}
-use Rattle.cx_entries.specs.Seen.{seen_entry}
+use Rattle.cx_order_entries.specs.Seen.{seen_entry}
 use Rattle.cx_order.specs.Worlds.{world_of}
 use Rattle.cx_order.proofs.order_files.checked_meanings.Goals as goal
 

@@ -1,10 +1,10 @@
 -- A fault of bins, or of names where there is none of bins.
 use Rattle.std.proofs.Common.{◌≡◌, ◌⊎◌, subst, List, Some, None}
 use Rattle.std.proofs.lemmas.Result.{err_from_is_err_and}
-use Rattle.cx_entries.specs.declared.counted.Entry.{Entry}
-use Rattle.cx_entries.specs.declared.fault.EntryFault.TheVariants.{Memory}
-use Rattle.cx_entries.specs.Entries.{bin_fault, names_fault}
-use Rattle.cx_entries.specs.Seen.{seen, seen_entries}
+use Rattle.cx_order_entries.specs.declared.counted.Entry.{Entry}
+use Rattle.cx_order_entries.specs.declared.fault.EntryFault.TheVariants.{Memory}
+use Rattle.cx_order_entries.specs.Entries.{bin_fault, names_fault}
+use Rattle.cx_order_entries.specs.Seen.{seen, seen_entries}
 use Rattle.cx_order.specs.Files.{Input, input_of}
 use Rattle.cx_order.proofs.OrderingLaws.{bin-fault, name-fault}
 use Rattle.cx_order.proofs.order_files.counted_entries.Goals as goal

@@ -2,11 +2,11 @@
 use Rattle.std.proofs.Common.{◌≡◌, ◌⊎◌, sym, subst, List}
 use Rattle.std.proofs.lemmas.Result.{err_from_is_err_and}
 use Rattle.cx_sched.specs.declared.tree.ScheduleFile.{ScheduleFile}
-use Rattle.cx_entries.specs.declared.counted.Line.{Line}
-use Rattle.cx_entries.specs.declared.counted.Entry.{Entry}
+use Rattle.cx_order_entries.specs.declared.counted.Line.{Line}
+use Rattle.cx_order_entries.specs.declared.counted.Entry.{Entry}
 use Rattle.cx_order.specs.declared.fault.OrderFault.TheVariants as faults
 use Rattle.cx_order.specs.Files.{Input, input_of}
-use Rattle.cx_entries.specs.Seen.{seen, seen_as}
+use Rattle.cx_order_entries.specs.Seen.{seen, seen_as}
 use Rattle.cx_order.specs.Ordering.{AreEntries, IsFault}
 use Rattle.cx_order.proofs.OnlyPlan.{memory-alone, only-answer, planned-answers}
 use Rattle.cx_order.proofs.order_files.order.Goals as goal

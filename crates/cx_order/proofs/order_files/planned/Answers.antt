@@ -1,10 +1,10 @@
 use Rattle.std.proofs.Common.{map}
 use Rattle.std.proofs.lemmas.Result.{err_from_is_err_and}
 use Rattle.cx_scope.specs.Closures.{sight_in}
-use Rattle.cx_entries.specs.PlaceNumbers.{orders_by}
+use Rattle.cx_order_entries.specs.PlaceNumbers.{orders_by}
 use Rattle.cx_order.specs.Meanings.{World}
 use Rattle.cx_order.specs.PlanSteps.{forests_in}
-use Rattle.cx_entries.specs.Seen.{seen_as, seen_entry}
+use Rattle.cx_order_entries.specs.Seen.{seen_as, seen_entry}
 use Rattle.cx_order.proofs.LimitLaws.{limit-items}
 use Rattle.cx_order.proofs.OrderingLaws.{memory-or, placed-fault, storage-fault, entry-fault, is-plan}
 use Rattle.cx_order.proofs.order_files.planned.Goals as goal

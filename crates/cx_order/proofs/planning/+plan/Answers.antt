@@ -1,9 +1,9 @@
 use Rattle.std.proofs.Common.{◌≡◌, ◌∙◌, sym, ap, subst, refl, ℕ, suc, ◌+◌, ◌++◌, ◌∷◌, [], List, drop, add-one, true, rules}
 use Rattle.cx_plan.specs.declared.tree.Tree.{Tree, Seq}
 use Rattle.cx_order.specs.declared.planning.Made.{Made}
-use Rattle.cx_entries.specs.Members.{entries_of}
+use Rattle.cx_order_entries.specs.Members.{entries_of}
 use Rattle.cx_order.specs.Plans.{Done, Then, path_of, sync_tree, wrapped}
-use Rattle.cx_entries.specs.Seen.{seen_entry}
+use Rattle.cx_order_entries.specs.Seen.{seen_entry}
 use Rattle.cx_order.specs.PlanSteps.{world_in, entries_in, orders_in, inside_of, row_with, contents_at, Makes, Works}
 use Rattle.cx_order.proofs.PlanLaws.{Passed, passed-next, room-next, room-inside, makes-member, works-group, if_ok, row-next}
 use Rattle.cx_order.proofs.MemberLaws.{group_contents}

@@ -1,6 +1,6 @@
 -- what is there, with the rest, is what all entries make
 use Rattle.std.proofs.Common.{suc, drop, ◌+◌, ◌*◌}
-use Rattle.cx_entries.specs.Members.{entries_of}
+use Rattle.cx_order_entries.specs.Members.{entries_of}
 use Rattle.cx_order.specs.PlanSteps.{world_in, entries_in, orders_in, row_with}
 use Rattle.cx_order.proofs.PlanLaws.{Passed}
 use Rattle.cx_order.proofs.planning.+plan.Given as goal

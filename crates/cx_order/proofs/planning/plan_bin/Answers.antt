@@ -2,7 +2,7 @@ use Rattle.std.proofs.Common.{◌∙◌, sym, ap, refl, Some}
 use Rattle.cx_plan.specs.declared.tree.Tree.{Seq}
 use Rattle.cx_order.specs.declared.planning.Made.{Made}
 use Rattle.cx_plan.specs.Lookups.{bin_name}
-use Rattle.cx_entries.specs.PlaceNumbers.{place_count}
+use Rattle.cx_order_entries.specs.PlaceNumbers.{place_count}
 use Rattle.cx_order.specs.Plans.{bin_forest}
 use Rattle.cx_order.specs.PlanSteps.{world_in, entries_in, orders_in, contents_at}
 use Rattle.cx_order.proofs.PlanLaws.{bin-made}

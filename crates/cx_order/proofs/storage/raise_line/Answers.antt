@@ -2,7 +2,7 @@ use Rattle.std.proofs.Common.{◌≡◌, ◌⊎◌, ◌∙◌, ap, sym, max, get
 use Rattle.cx_scope.specs.declared.fault.ScopeFault.TheVariants as scope_faults
 use Rattle.cx_scope.specs.Closures.{sight_in}
 use Rattle.cx_scope.specs.Resolving.{group_of}
-use Rattle.cx_entries.specs.Seen.{seen_line}
+use Rattle.cx_order_entries.specs.Seen.{seen_line}
 use Rattle.cx_order.proofs.StorageLaws.{line-ok, line-levels, line-err}
 use Rattle.cx_order.proofs.storage.raise_line.Goals as goal
 

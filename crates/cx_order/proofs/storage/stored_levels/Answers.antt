@@ -1,7 +1,7 @@
 use Rattle.std.proofs.Common.{◌≡◌, ◌∙◌, ap, length, replicate, drop, map}
 use Rattle.cx_bind.specs.Variables.{variable_infos}
 use Rattle.cx_scope.specs.Closures.{sight_in}
-use Rattle.cx_entries.specs.Seen.{seen_line}
+use Rattle.cx_order_entries.specs.Seen.{seen_line}
 use Rattle.cx_order.proofs.StorageLaws.{all-written, from-none}
 use Rattle.cx_order.proofs.storage.stored_levels.Goals as goal
 

@@ -1,7 +1,7 @@
 -- The sizes by those of the contents, the first fault by the fault of the contents.
 use Rattle.std.proofs.Common.{option_copied}
 use Rattle.cx_order.specs.Plans.{path_of, trees}
-use Rattle.cx_entries.specs.Seen.{seen_entry}
+use Rattle.cx_order_entries.specs.Seen.{seen_entry}
 use Rattle.cx_order.proofs.SummaryLaws.{one-entry}
 use Rattle.cx_order.proofs.summary.entry_summary.Goals as goal
 

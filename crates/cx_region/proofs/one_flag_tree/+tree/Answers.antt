@@ -5,7 +5,7 @@ use Rattle.cx_plan.specs.Regions.{Turns, Syncs}
 use Rattle.cx_plan.specs.Paths.{Meets, Path, Just}
 use Rattle.cx_plan.specs.Whole.{IsTree, IsStoredGrid}
 use Rattle.cx_region.specs.Witnesses.{act_of}
-use Rattle.cx_flags.proofs.PathLaws.{in-seq, in-if, in-while, in-call, in-sync, tree-at}
+use Rattle.cx_region_flags.proofs.PathLaws.{in-seq, in-if, in-while, in-call, in-sync, tree-at}
 use Rattle.cx_region.proofs.OneFlagLaws.{goes-weaker, by-behind-letter, goes-branch, stop-branch-test, stop-branch-work, join-some, head-first, stop-while-test, stop-while-work, while-next, while-ends, once-ends, stop-once-test, stop-once-work, stop-once-again}
 use Rattle.cx_region.proofs.OneFlagTreeLaws.{goes-seq, goes-call, goes-sync, goes-if, goes-while, passed-tree, stop-tree, passed-all}
 use Rattle.cx_region.proofs.JoinLaws.{joins-some}

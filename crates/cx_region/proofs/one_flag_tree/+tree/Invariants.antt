@@ -4,8 +4,8 @@ use Rattle.std.proofs.Common.{◌≤◌, length, drop}
 use Rattle.std.specs.List.{All}
 use Rattle.cx_plan.specs.Paths.{Path}
 use Rattle.cx_plan.specs.Whole.{IsTree}
-use Rattle.cx_flags.specs.AllPaths.{PathOfTrees}
-use Rattle.cx_flags.specs.Agreeing.{IsAct}
+use Rattle.cx_region_flags.specs.AllPaths.{PathOfTrees}
+use Rattle.cx_region_flags.specs.Agreeing.{IsAct}
 use Rattle.cx_region.specs.Witnesses.{act_of}
 use Rattle.cx_region.proofs.OneFlagLaws.{Passed, AnyTimes, OneTurn, LastTest, IsHead}
 use Rattle.cx_region.proofs.LevelLaws.{set_everywhere}

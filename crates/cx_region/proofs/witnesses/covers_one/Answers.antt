@@ -1,7 +1,7 @@
 use Rattle.std.proofs.Common.{◌≡◌, ◌<◌, ◌||◌, Bool, true, false, not, sym, ◌∙◌, rules}
-use Rattle.cx_flags.specs.Cells.{flags_in}
+use Rattle.cx_region_flags.specs.Cells.{flags_in}
 use Rattle.cx_region.specs.Witnesses.{is_cleared_on}
-use Rattle.cx_flags.proofs.RangeLaws.{not_all_of_range}
+use Rattle.cx_region_flags.proofs.RangeLaws.{not_all_of_range}
 use Rattle.cx_region.proofs.witnesses.covers_one.Goals as goal
 
 neither : (a b : Bool) → not a ≡ true → b ≡ false → (a || b) ≡ false

@@ -1,6 +1,6 @@
 -- the ways that were passed have all taken the step
 use Rattle.std.proofs.Common.{◌≡◌, length}
-use Rattle.cx_flags.specs.Agreeing.{IsAct}
+use Rattle.cx_region_flags.specs.Agreeing.{IsAct}
 use Rattle.cx_region.specs.Witnesses.{act_of}
 use Rattle.cx_region.proofs.StepLaws.{AllTaken}
 use Rattle.cx_region.proofs.witnesses.take_all.Given as goal

@@ -1,6 +1,6 @@
 use Rattle.std.proofs.Common.{◌≡◌, refl, sym, arith}
 use Rattle.std.proofs.lemmas.Result.{err_from_is_err_and}
-use Rattle.cx_config.specs.Shelf.{Held}
+use Rattle.cx_job_files.specs.Shelf.{Held}
 use Rattle.cx_run.specs.Calls.{Lent}
 use Rattle.cx_run.proofs.MadeLaws.{lent_on, lent_spared, made_on, ready_of, spares_shelf, wanting_for}
 use Rattle.cx_run.proofs.call.job_for.Goals as goal

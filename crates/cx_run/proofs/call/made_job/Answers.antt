@@ -1,6 +1,6 @@
 use Rattle.std.proofs.Common.{refl, arith}
 use Rattle.std.proofs.lemmas.Result.{err_from_is_err_and}
-use Rattle.cx_made.specs.Files.{made_files}
+use Rattle.cx_run_made.specs.Files.{made_files}
 use Rattle.cx_run.specs.Calls.{shelf_of}
 use Rattle.cx_run.proofs.MadeLaws.{same_files, wanting}
 use Rattle.cx_run.proofs.call.made_job.Goals as goal

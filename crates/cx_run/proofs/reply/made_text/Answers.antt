@@ -1,6 +1,6 @@
 use Rattle.std.proofs.Common.{◌≡◌, ◌∙◌, ℤ, ap, to_z, of_z, w64}
 use Rattle.std.proofs.lemmas.Int.{to_z-of_z}
-use Rattle.cx_made.specs.Summaries.{summary}
+use Rattle.cx_run_made.specs.Summaries.{summary}
 use Rattle.cx_run.specs.Texts.{done_text}
 use Rattle.cx_run.proofs.Ends.{joined}
 use Rattle.cx_run.proofs.reply.made_text.Goals as goal

@@ -2,8 +2,8 @@ use Rattle.std.proofs.Common.{refl}
 use Rattle.std.specs.Prelude.{IsTrue}
 use Rattle.std.specs.Option.{option_copied}
 use Rattle.cx_plan.specs.Setups.{setup_of}
-use Rattle.cx_parts.specs.Beginnings.{run_of}
-use Rattle.cx_parts.specs.Totals.{undivided_from}
+use Rattle.law_parts.specs.Beginnings.{run_of}
+use Rattle.law_parts.specs.Totals.{undivided_from}
 use Rattle.cx_core.specs.declared.answers.Outcome.TheVariants as out
 use Rattle.cx_core.specs.Cores.{Cores}
 use Rattle.cx_core.specs.Starts.{begins_in}

@@ -1,6 +1,6 @@
 use Rattle.std.proofs.Common.{◌≡◌, ◌≤◌, Some, slice_get, ap, subst, sym, ◌∙◌}
-use Rattle.cx_pace.specs.declared.standing.Next.TheVariants as next
-use Rattle.cx_pace.specs.Events.{events}
+use Rattle.cx_core_events.specs.declared.standing.Next.TheVariants as next
+use Rattle.cx_core_events.specs.Events.{events}
 use Rattle.cx_core.specs.Cores.{Cores}
 use Rattle.cx_core.proofs.RunningLaws.{part_goes, part_there, parts_same, writes_next, can_be_written, part_does, write_does, end_does}
 use Rattle.cx_core.proofs.machine.Core.step.Goals as goal

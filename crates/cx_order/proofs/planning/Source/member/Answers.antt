@@ -4,8 +4,8 @@ use Rattle.std.specs.Option.{option_map}
 use Rattle.std.proofs.lemmas.List.{get_or-map, length-map}
 use Rattle.std.proofs.lemmas.Option.{slice_get-get_or, slice_get-map}
 use Rattle.cx_order.specs.Meanings.{names_of}
-use Rattle.cx_entries.specs.Placement.{contained}
-use Rattle.cx_entries.specs.Seen.{seen_entry}
+use Rattle.cx_order_entries.specs.Placement.{contained}
+use Rattle.cx_order_entries.specs.Seen.{seen_entry}
 use Rattle.cx_order.specs.PlanSteps.{world_in, entries_in, IsSource}
 use Rattle.cx_order.proofs.MemberLaws.{contained_within}
 use Rattle.cx_order.proofs.planning.Source.member.Goals as goal

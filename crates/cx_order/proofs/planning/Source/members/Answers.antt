@@ -2,9 +2,9 @@ use Rattle.std.proofs.Common.{◌∙◌, sym, ap, subst, ℕ, ◌<◌, List, len
 use Rattle.std.specs.Prelude.{IfSome}
 use Rattle.std.specs.List.{filter_map, slice_get}
 use Rattle.std.proofs.lemmas.List.{length-map}
-use Rattle.cx_least.specs.Links.{row}
-use Rattle.cx_entries.specs.PlaceNumbers.{place_count}
-use Rattle.cx_entries.specs.Seen.{seen_entry}
+use Rattle.cx_order_least.specs.Links.{row}
+use Rattle.cx_order_entries.specs.PlaceNumbers.{place_count}
+use Rattle.cx_order_entries.specs.Seen.{seen_entry}
 use Rattle.cx_order.specs.PlanSteps.{entries_in, ordered}
 use Rattle.cx_order.proofs.MemberLaws.{members_ordered, members_within}
 use Rattle.cx_order.proofs.planning.Source.members.Goals as goal

@@ -1,5 +1,0 @@
-use Rattle.cx_chain.proofs.NamedLaws.{chained}
-use Rattle.cx_chain.proofs.chains.full_names_chain.Goals as goal
-
-pub returns : goal.returns
-returns c = λ name_a name_b held_a held_b by_names. chained name_a name_b held_a held_b by_names

@@ -1,5 +1,0 @@
-use Rattle.cx_chain.proofs.SightLaws.{finds_same}
-use Rattle.cx_chain.proofs.chains.thorns_see_the_same.Goals as goal
-
-pub returns : goal.returns
-returns c = λ thorns one other none same. finds_same thorns none one other same

@@ -1,0 +1,13 @@
+use Rattle.std.proofs.Common.{◌≡◌}
+use Rattle.cx_rule.specs.States.{level_of, with_level}
+use Rattle.cx_field.specs.Patches.{with_numbers}
+use Rattle.cx_core_buffers.specs.Filling.{local_level}
+use Rattle.law_parts.proofs.FilledLaws.{filled}
+use Rattle.cx_core_buffers.proofs.scattering.fill_level.Given as goal
+
+abbrev pub invariant-points : goal.invariant-points
+invariant-points l =
+    l.patch
+    ≡ with_numbers l.initial.patch (with_level l.initial.patch.numbers l.v l.level
+    (filled l.i (local_level l.initial.patch l.numbers)
+    (level_of l.initial.patch.numbers l.v l.level)))

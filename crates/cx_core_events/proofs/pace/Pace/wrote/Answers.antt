@@ -1,0 +1,14 @@
+use Rattle.std.proofs.Common.{◌∙◌, sym, ap, length}
+use Rattle.std.proofs.lemmas.List.{length-map}
+use Rattle.cx_core_events.specs.Paces.{Paces}
+use Rattle.cx_core_events.specs.Steps.{one_less}
+use Rattle.cx_core_events.specs.Events.{can_go}
+use Rattle.cx_core_events.proofs.FlagLaws.{same_count}
+use Rattle.cx_core_events.proofs.pace.Pace.wrote.Goals as goal
+
+pub renew-requires : goal.renew-requires
+renew-requires c =
+    same_count c.self.inside.flags.parts.items (can_go c.self.inside.standings)
+    (length c.self.inside.standings.parts) c.self.invariant.parts
+    ∙ sym (ap (λ (p : Paces). length p.parts) c.write.ensures
+    ∙ length-map c.self.inside.standings.parts one_less)

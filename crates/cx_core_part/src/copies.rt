@@ -1,0 +1,167 @@
+//! A part's own items.
+ghost use Rattle.std.specs.Prelude.{◌≡◌, ◌<◌, ℕ, IfOk, length, slice_get, slice_index_or};
+ghost use Rattle.cx_plan.specs.Lookups.{no_item};
+ghost use Rattle.cx_plan.specs.Setups.{setup_of};
+ghost use Rattle.cx_plan.specs.Steering.{item_at};
+ghost use Rattle.cx_core_part.specs.Copies.{copied, copies_at, copies_of, picked};
+
+use crate::steering::{copy_in, is_steered, set_copy};
+use cx_plan::{Item, Job, Steered};
+use cx_text::Memory;
+use std::alloc::Global;
+use std::marker::Model;
+
+/// The items of a part, with the parameters of the iteration that it is in: a copy of each item that is steered.
+#[derive(Drop)]
+pub struct Items {
+    /// By the item's number; none where nothing steers it, and no list where nothing is steered.
+    copies: Vec<Option<Item>>,
+}
+
+impl Model for Items {
+    ghost use Rattle.std.specs.Prelude.{List, Option};
+    ghost use Rattle.cx_plan.specs.declared.item.Item.{Item};
+
+    ghost Value = { List (Option Item) };
+
+    ghost view = { λ items. items.copies.items };
+}
+
+impl Items {
+    /// The items of a job in an iteration.
+    ///
+    /// # Errors
+    ///
+    /// `Memory` where memory is wanting.
+    pub fn new(alloc: Global, job: &Job, iteration: u64) -> Result<Self, Memory>
+        ensures { IfOk result (λ items. items ≡ copies_at (setup_of job.now) iteration) }
+    {
+        if job.steers.is_empty() {
+            return Ok(Items {
+                copies: Vec::new(alloc),
+            });
+        }
+        let items = job.items.as_slice();
+        Ok(Items {
+            copies: first_copies(alloc, items, job.steers.as_slice(), iteration)?,
+        })
+    }
+
+    /// The item of a number, with its parameters in the iteration that the items are set to.
+    pub fn item<'a>(&'a self, job: &'a Job, number: u32) -> &'a Item
+        requires { number < length job.now.items }
+        ensures { (n : ℕ) → self.now ≡ copies_at (setup_of job.now) n
+            → result.now ≡ item_at (setup_of job.now) number n }
+    {
+        picked(&self.copies, job.items.as_slice(), number)
+    }
+
+    /// Sets the items to another iteration. It takes no memory.
+    pub fn set(&mut self, alloc: Global, job: &Job, iteration: u64)
+        requires { (n : ℕ) × (self.old ≡ copies_at (setup_of job.now) n) }
+        ensures { self.new ≡ copies_at (setup_of job.now) iteration }
+    {
+        if !job.steers.is_empty() {
+            let items = job.items.as_slice();
+            set_list(
+                alloc,
+                &mut self.copies,
+                items,
+                job.steers.as_slice(),
+                iteration,
+            );
+        }
+    }
+}
+
+/// A copy of an item, or the item itself where there is none.
+fn picked<'a>(copies: &'a [Option<Item>], items: &'a [Item], number: u32) -> &'a Item
+    requires { number < length items.now }
+    ensures { result.now
+        ≡ picked (slice_get copies.now number) (slice_index_or items.now number no_item) }
+{
+    match copies.get(number as usize) {
+        Some(Some(copy)) => copy,
+        _ => &items[number as usize],
+    }
+}
+
+/// The copies of items in an iteration.
+fn first_copies(
+    alloc: Global,
+    items: &[Item],
+    steers: &[Steered],
+    iteration: u64,
+) -> Result<Vec<Option<Item>>, Memory>
+    ensures { IfOk result (λ copies. copies.items ≡ copies_of steers.now items.now iteration) }
+{
+    let mut copies = Vec::new(alloc);
+    'items: for k in 0..items.len() {
+        copies.push(first_copy(alloc, &items[k], steers, k, iteration)?)?;
+    }
+    Ok(copies)
+}
+
+/// The copy of an item, if some steer is one of it.
+fn first_copy(
+    alloc: Global,
+    of: &Item,
+    steers: &[Steered],
+    number: usize,
+    iteration: u64,
+) -> Result<Option<Item>, Memory>
+    ensures { IfOk result (λ copy. copy ≡ copied steers.now number iteration of.now) }
+{
+    if !is_steered(steers, number) {
+        return Ok(None);
+    }
+    Ok(Some(copy_in(alloc, of, steers, number, iteration)?))
+}
+
+/// Sets the list of copies.
+fn set_list(
+    alloc: Global,
+    copies: &mut Vec<Option<Item>>,
+    items: &[Item],
+    steers: &[Steered],
+    iteration: u64,
+)
+    requires { (n : ℕ) × (copies.old.items ≡ copies_of steers.now items.now n) }
+    ensures { copies.new.items ≡ copies_of steers.now items.now iteration }
+{
+    set_copies(alloc, copies, items, steers, iteration);
+}
+
+/// Sets all copies, one after another.
+fn set_copies(
+    alloc: Global,
+    copies: &mut [Option<Item>],
+    items: &[Item],
+    steers: &[Steered],
+    iteration: u64,
+)
+    requires { (n : ℕ) × (copies.old ≡ copies_of steers.now items.now n) }
+    ensures { copies.new ≡ copies_of steers.now items.now iteration }
+{
+    'items: for k in 0..copies.len() {
+        set_item(alloc, &mut copies[k], &items[k], steers, k, iteration);
+    }
+}
+
+/// Sets a copy, if there is one.
+fn set_item(
+    alloc: Global,
+    copy: &mut Option<Item>,
+    of: &Item,
+    steers: &[Steered],
+    number: usize,
+    iteration: u64,
+)
+    requires { (n : ℕ) × (copy.old ≡ copied steers.now number n of.now) }
+    ensures { copy.new ≡ copied steers.now number iteration of.now }
+{
+    match copy {
+        None => {}
+        Some(copy) => set_copy(alloc, copy, of, steers, number, iteration),
+    }
+}

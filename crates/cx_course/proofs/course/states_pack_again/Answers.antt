@@ -1,6 +1,0 @@
-use Rattle.cx_plan.specs.Setups.{setup_of}
-use Rattle.cx_course.proofs.StateLaws.{states_pack_again}
-use Rattle.cx_course.proofs.course.states_pack_again.Goals as goal
-
-pub returns : goal.returns
-returns c = states_pack_again (setup_of c.args.job.now)

@@ -1,6 +1,0 @@
-use Rattle.cx_plan.specs.Setups.{setup_of}
-use Rattle.cx_course.proofs.StateLaws.{states_unpack}
-use Rattle.cx_course.proofs.course.states_unpack.Goals as goal
-
-pub returns : goal.returns
-returns c = states_unpack (setup_of c.args.job.now)

@@ -1,6 +1,0 @@
--- the cells before the place are met
-use Rattle.cx_flags.proofs.MeetLaws.{Meeting}
-use Rattle.cx_flags.proofs.flag_table.FlagTable.meet.Given as goal
-
-abbrev pub invariant-loop-place : goal.invariant-loop-place
-invariant-loop-place l = Meeting l.fn.self l.other l.self l.place

@@ -1,5 +1,0 @@
-use Rattle.std.proofs.Common.{◌≡◌, replicate, []}
-use Rattle.cx_gather.proofs.boards.empty_lists.Given as goal
-
-abbrev pub invariant-lists : goal.invariant-lists
-invariant-lists l = l.lists.items ≡ replicate l.counter []

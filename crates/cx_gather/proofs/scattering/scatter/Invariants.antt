@@ -1,7 +1,0 @@
-use Rattle.cx_plan.specs.Setups.{setup_of}
-use Rattle.cx_gather.proofs.FillLaws.{ScatteredTo}
-use Rattle.cx_gather.proofs.scattering.scatter.Given as goal
-
-abbrev pub invariant-vars : goal.invariant-vars
-invariant-vars l = ScatteredTo (setup_of l.job)
-    l.checkpoint l.initial.patch l.patch l.scalars l.levels l.v

@@ -1,6 +1,0 @@
--- none of the numbers that were passed is it
-use Rattle.std.proofs.Common.{◌≡◌, ℕ, ◌<◌, get_or}
-use Rattle.cx_least.proofs.cycle.place_of.Given as goal
-
-abbrev pub invariant-loop-place : goal.invariant-loop-place
-invariant-loop-place l = (k : ℕ) → k < l.place → get_or l.path k 0 ≡ l.number → ⊥

@@ -1,8 +1,0 @@
-use Rattle.cx_network.proofs.TogetherLaws as laws
-use Rattle.cx_network.proofs.together.parts_gather.Goals as goal
-
-pub returns : goal.returns
-returns g c =
-    let x = c.args.network.now in
-    laws.parts_gather (g.N.Network.net x) (g.N.Network.script x) (g.N.Network.agrees x)
-    (g.N.Network.books x)

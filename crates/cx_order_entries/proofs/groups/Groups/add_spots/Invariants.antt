@@ -1,0 +1,19 @@
+-- what is there, with what comes of the rest, is what comes of all
+use Rattle.std.proofs.Common.{◌≡◌, ◌++◌, map, filter_map, drop}
+use Rattle.cx_text.specs.Lexemes.{same_name}
+use Rattle.cx_plan.specs.Lists.{once_behind}
+use Rattle.cx_order_entries.specs.PlaceNumbers.{inside_name}
+use Rattle.cx_order_entries.specs.Members.{texts, IsTied}
+use Rattle.cx_order_entries.specs.Seen.{seen_entry}
+use Rattle.cx_order_entries.proofs.groups.Groups.add_spots.Given as goal
+
+abbrev pub invariant-entries : goal.invariant-entries
+invariant-entries l =
+    record {
+      tied : IsTied l.self;
+      names : texts l.self ++ once_behind same_name (texts l.self)
+          (filter_map (λ e. inside_name e.block.spot)
+          (map seen_entry (drop l.entry-index l.entries)))
+          ≡ texts l.fn.self ++ once_behind same_name (texts l.fn.self)
+          (filter_map (λ e. inside_name e.block.spot) (map seen_entry l.entries));
+    }

@@ -1,9 +1,0 @@
-use Rattle.std.proofs.Common.{◌∙◌, length}
-use Rattle.cx_pace.specs.Events.{can_go}
-use Rattle.cx_pace.proofs.FlagLaws.{few_flags}
-use Rattle.cx_pace.proofs.flags.Flags.renew.Goals as goal
-
-pub count_flags-self-requires : goal.count_flags-self-requires
-count_flags-self-requires c =
-    few_flags c.deref.result.now (can_go c.args.standings.now) (length c.args.standings.now.parts)
-    (c.deref.ensures.value ∙ c.set_flags.ensures.value) c.set_flags.ensures.few

@@ -1,6 +1,0 @@
-use Rattle.std.proofs.Common.{◌≡◌}
-use Rattle.cx_pace.specs.Paces.{hindmost_of}
-use Rattle.cx_pace.proofs.order.hindmost.Given as goal
-
-abbrev pub invariant-parts : goal.invariant-parts
-invariant-parts l = l.hind ≡ hindmost_of l.parts l.k

@@ -1,6 +1,0 @@
-use Rattle.std.proofs.Common.{◌≡◌, ◌++◌, drop, []}
-use Rattle.cx_records.specs.Splitting.{texts_named}
-use Rattle.cx_records.proofs.splitting.empty_texts.Given as goal
-
-abbrev pub invariant-each : goal.invariant-each
-invariant-each l = l.texts.items ++ texts_named (drop l.index l.names) [] ≡ texts_named l.names []

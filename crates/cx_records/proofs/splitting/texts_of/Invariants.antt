@@ -1,9 +1,0 @@
-use Rattle.std.proofs.Common.{length}
-use Rattle.cx_records.proofs.SplitLaws.{AreSplit}
-use Rattle.cx_records.proofs.splitting.texts_of.Given as goal
-
-abbrev pub invariant-each : goal.invariant-each
-invariant-each l = AreSplit l.bytes l.names l.texts.items l.rest
-
-abbrev pub decreases-each : goal.decreases-each
-decreases-each l = length l.rest

@@ -1,0 +1,200 @@
+-- What a run of a job leaves of the disk, the wire and the meter, and what it answers.
+use Rattle.std.specs.Prelude.{ℕ, ◌+◌, ◌%◌, ◌^◌, ◌<◌, ◌≤◌, ◌≡◌, ◌≢◌, ◌⊎◌, true, List, [], length, Option, Some, None, option_map, Result, Ok, Err, IfOk}
+use Rattle.cx_plan.specs.declared.job.Job.{Job}
+use Rattle.cx_plan.specs.declared.job.Recover.{Recover}
+use Rattle.cx_plan.specs.declared.job.Recover.TheVariants.{No, Auto, Autoprobe}
+use Rattle.cx_plan.specs.declared.variable.VarId.{VarId}
+use Rattle.cx_plan.specs.Lookups.{is_scalar, levels_of}
+use Rattle.cx_plan.specs.Setups.{setup_of}
+use Rattle.cx_rule.specs.Meter.{raised}
+use Rattle.cx_rule.specs.Routine.{Rule}
+use Rattle.cx_rule.specs.States.{State, scalar_of}
+use Rattle.cx_model.specs.Runs.{undivided_run, output}
+use Rattle.cx_model.specs.Traces.{Entry, Trace, Goes}
+use Rattle.cx_cut.specs.Cuts.{Parts}
+use Rattle.cx_cut.specs.Faults.{parts_of}
+use Rattle.cx_disk.specs.Disk.{Files, View, LeavesOnly}
+use Rattle.cx_disk.specs.declared.disk.Disk.{Ghosts as DiskGhosts}
+use Rattle.cx_disk.specs.Moments.{IsQuiet}
+use Rattle.cx_wire.specs.Received.{counted}
+use Rattle.cx_wire.specs.declared.wire.Wire.{Ghosts as WireGhosts}
+use Rattle.law_parts.specs.Work.{work, carried_count, total_sum}
+use Rattle.cx_chk.specs.Slots.{newest_below}
+use Rattle.cx_chk.specs.declared.checkpoint.Checkpoint.{Checkpoint}
+use Rattle.cx_keep.specs.Beginning.{IsRefusal}
+use Rattle.cx_keep.specs.Keeping.{output_file}
+use Rattle.cx_keep.specs.Resuming.{AreTrails}
+use Rattle.cx_keep.specs.Tests.{begun}
+use Rattle.cx_keep.specs.Trails.{Course, Has, IsTrail, NewestIs, length_in}
+use Rattle.law_course.specs.Beginnings.{run_from, entries_from}
+use Rattle.law_course.specs.Starts.{course_in}
+use Rattle.law_course.specs.Works.{LastIs}
+use Rattle.cx_core.specs.Cores.{Cores}
+use Rattle.cx_core.specs.Hands.{HasScalar, ended_as, last_number}
+use Rattle.cx_core.specs.declared.answers.Outcome.TheVariants.{Going, Done}
+use Rattle.cx_run_loop.specs.Lent.{Count, HasRisen, LentDisk, LentWire, lent_disk, lent_wire}
+use Rattle.cx_keep.specs.declared.fault.BeginFault.{BeginFault}
+use Rattle.cx_run_loop.specs.declared.fault.DriveFault.{DriveFault}
+use Rattle.cx_disk.specs.Files.{slot_count}
+use Rattle.cx_run_loop.specs.declared.fault.DriveFault.TheVariants as faults
+
+-- a run of a job by these rules, and what it was lent
+pub record Drive : Type 1 where
+  pub job : Job
+  pub rules : List Rule
+  pub disk : LentDisk
+  pub wire : LentWire
+  pub meter : Count
+
+-- over a disk and a wire of types with these ghost members, each before and after the run, as the meter is
+abbrev pub driven_by :
+    {D W : Type 0} → Job → List Rule → DiskGhosts D → WireGhosts W → D → D → W → W → ℕ → ℕ → Drive
+driven_by job rules d w disk disk_after wire wire_after meter meter_after = record {
+  job = job;
+  rules = rules;
+  disk = lent_disk d disk disk_after;
+  wire = lent_wire w wire wire_after;
+  meter = record { old = meter; new = meter_after };
+}
+
+-- the undivided run's output and checkpoints
+abbrev pub course : Drive → Course
+course d = course_in d.job d.rules
+
+abbrev pub cut_in : Drive → Parts
+cut_in d = parts_of d.job.shape d.job.cut
+
+-- the disk and the wire tell what they hold
+abbrev pub AreTold : Drive → Type 0
+AreTold d = d.disk.tells × d.wire.tells
+
+-- each image of the disk at the start is a trail of the job, or old checkpoints are given up
+abbrev pub StartsWell : Drive → Type 0
+StartsWell d = AreTrails (course d) d.disk.old ⊎ (d.job.recover ≡ No)
+
+-- ---- at the end of the run
+
+-- the output's file reads so, and so does it in each image
+pub record HasOutput (text : List ℕ) (v : View) : Type 0 where
+  pub reads : v.seen output_file ≡ text
+  pub images : (image : Files) → v.images image → image output_file ≡ text
+
+-- the output is that of the undivided run
+abbrev pub HasWholeOutput : Drive → Type 0
+HasWholeOutput d = HasOutput (output (setup_of d.job) d.rules) d.disk.new
+
+-- the run has ended as the undivided run does
+abbrev pub EndsAsUndivided : Drive → Cores → Type 0
+EndsAsUndivided d core = core.outcome ≡ ended_as (undivided_run (setup_of d.job) d.rules).outcome
+
+-- the iteration of the newest checkpoint on a disk, from which a run goes on, or none
+abbrev pub newest : Files → Option ℕ
+newest files = option_map (λ (found : ℕ × ℕ). found.1) (newest_below slot_count files)
+
+abbrev pub from_place : Recover → Files → Option ℕ
+from_place No files = None
+from_place Auto files = newest files
+from_place Autoprobe files = newest files
+
+-- what the undivided run does behind it
+abbrev pub entries_left : Drive → List Entry
+entries_left d = entries_from (setup_of d.job) d.rules (from_place d.job.recover d.disk.old.seen)
+
+-- the points that were computed, the values that were exchanged and their sum are those of what was left to do, and no message
+-- between the parts is left
+pub record HasWorked (d : Drive) : Type 0 where
+  pub points : d.meter.new ≡ raised d.meter.old (work (setup_of d.job) (cut_in d) (entries_left d))
+  pub values : d.wire.new.received ≡ counted d.wire.old.received (carried_count (setup_of d.job) (cut_in d) (entries_left d))
+  pub sum : d.wire.new.sum ≡ (d.wire.old.sum + total_sum (setup_of d.job) (cut_in d) (entries_left d)) % 2 ^ 64
+  pub none_left : (a b : ℕ) → d.wire.new.queue a b ≡ []
+
+-- each scalar has the number of the last state of a run that is done
+abbrev pub HasScalarsOf : Trace → Drive → Cores → Type 0
+HasScalarsOf run d core = (state : State) (v : VarId) → run.outcome ≡ Goes state
+    → is_scalar (setup_of d.job) v ≡ true → last_number core v ≡ scalar_of state v
+
+-- of the undivided run
+abbrev pub HasLastScalars : Drive → Cores → Type 0
+HasLastScalars d = HasScalarsOf (undivided_run (setup_of d.job) d.rules) d
+
+-- a run that came to its end, from a disk that it can go on from
+pub record HasEnded (d : Drive) (core : Cores) : Type 0 where
+  pub output : HasWholeOutput d
+  pub end : EndsAsUndivided d core
+  pub work : core.outcome ≡ Done → HasWorked d
+  pub scalars : core.outcome ≡ Done → HasLastScalars d core
+  pub last : (image : Files) → d.disk.new.images image → (n : Option ℕ) × NewestIs image n × LastIs (course d) n
+
+-- ---- each image of each moment
+
+-- none is below every iteration
+abbrev pub IsNotBelow : Option ℕ → Option ℕ → Type 0
+IsNotBelow found None = Unit {0}
+IsNotBelow None (Some n) = ⊥
+IsNotBelow (Some m) (Some n) = n ≤ m
+
+-- the newest checkpoint of an image isn't below that of each image of the start
+pub record IsNotBehind (start : View) (image : Files) : Type 0 where
+  pub first : Files
+  pub was : start.images first
+  pub not_below : IsNotBelow (newest image) (newest first)
+
+-- an image whose output is longer than at a checkpoint of the run, and longer than in each image of the start, has that one or a
+-- newer one
+abbrev pub KeepsPace : Course → View → Files → Type 0
+KeepsPace run start image =
+    (c : Checkpoint) → Has run.checkpoints c → length_in c 0 < length (image output_file)
+    → ((first : Files) → start.images first → length (first output_file) < length (image output_file))
+    → IsNotBelow (newest image) (Some c.iteration)
+
+pub record KeepsTrail (d : Drive) (image : Files) : Type 0 where
+  pub trail : IsTrail (course d) image
+  pub not_behind : d.job.recover ≢ No → IsNotBehind d.disk.old image
+  pub pace : KeepsPace (course d) d.disk.old image
+
+-- from trails each image of each moment is a trail
+abbrev pub LeavesTrails : Drive → Type 0
+LeavesTrails d = LeavesOnly d.disk.old d.disk.new (KeepsTrail d)
+
+-- ---- answers
+
+-- the run began with this checkpoint or none, and ended as the undivided run does that goes on from there; its core tells how long the
+-- output's file is
+pub record HasRun (d : Drive) (core : Cores) : Type 0 where
+  pub over : core.outcome ≢ Going
+  pub found : Option Checkpoint
+  pub began : d.disk.tells → begun d.job d.disk.old.seen ≡ Ok found
+  pub ended : AreTold d → core.outcome ≡ ended_as (run_from (setup_of d.job) d.rules found).outcome
+  pub scalars : AreTold d → core.outcome ≡ Done
+      → HasScalarsOf (run_from (setup_of d.job) d.rules found) d core
+  pub length_is : d.disk.tells → core.length ≡ length (d.disk.new.seen output_file)
+
+-- a start that was refused: why, and nothing has changed
+pub record IsRefused (d : Drive) (fault : BeginFault) : Type 0 where
+  pub refusal : IsRefusal fault
+  pub began : d.disk.tells → begun d.job d.disk.old.seen ≡ Err fault
+  pub quiet : d.disk.tells → IsQuiet d.disk.old d.disk.new
+  pub wire : d.wire.same
+  pub meter : d.meter.new ≡ d.meter.old
+
+-- why a run answers so
+abbrev pub Comes : Drive → Result Cores DriveFault → Type 0
+Comes d (Ok core) = HasRun d core
+Comes d (Err (faults.Recovery fault)) = IsRefused d fault
+Comes d (Err faults.Disk) = HasRisen d.disk.faults
+Comes d (Err faults.Wire) = HasRisen d.wire.faults
+Comes d (Err faults.Memory) = Unit {0}
+
+-- each stored scalar can be lent
+abbrev pub LendsScalars : Job → Cores → Type 0
+LendsScalars job core = (v : VarId) → v.0 < length (setup_of job).vars → 0 < levels_of (setup_of job) v
+    → is_scalar (setup_of job) v ≡ true → HasScalar core v
+
+-- ---- all of it
+
+pub record Drives (d : Drive) (result : Result Cores DriveFault) : Type 0 where
+  pub comes : Comes d result
+  pub ended : AreTold d → StartsWell d → IfOk result (HasEnded d)
+  pub trails : AreTold d → AreTrails (course d) d.disk.old → LeavesTrails d
+  pub disk_count : d.disk.faults.old ≤ d.disk.faults.new
+  pub wire_count : d.wire.faults.old ≤ d.wire.faults.new

@@ -1,0 +1,27 @@
+//! The laws of a job's runs, together.
+ghost use Rattle.std.specs.Prelude.{Bool, IsTrue, List};
+ghost use Rattle.cx_rule.specs.Routine.{Rule};
+ghost use Rattle.cx_core.specs.Starts.{IsReady};
+ghost use Rattle.cx_run_loop.specs.Laws.{DriveLaws};
+
+use cx_plan::Job;
+use law_course::{
+    course_fits, course_goes_on, course_rises, fitting_can_begin, states_pack_again, trails_begin,
+    works_follow,
+};
+use law_reached::works_in_order;
+
+/// What the laws say of the runs of a job. It does nothing that shows; its clause is the law.
+pub(crate) fn drive_laws(job: &Job)
+    requires { IsReady job.now }
+    ensures { (told : Bool) (rules : List Rule) → DriveLaws (IsTrue told) job.now rules }
+{
+    works_in_order(job);
+    course_goes_on(job);
+    works_follow(job);
+    course_rises(job);
+    course_fits(job);
+    states_pack_again(job);
+    fitting_can_begin(job);
+    trails_begin(job);
+}

@@ -1,0 +1,99 @@
+//! One turn: an event of the core, and what it is to the keeper.
+ghost use Rattle.std.specs.Prelude.{◌≡◌, ◌<◌, ◌≤◌, ℕ, map, IsTrue, OnOk, IfOk};
+ghost use Rattle.cx_disk.specs.Files.{count_with};
+ghost use Rattle.cx_cut.specs.Cuts.{part_count};
+ghost use Rattle.cx_cut.specs.Faults.{parts_of};
+ghost use Rattle.cx_plan.specs.Setups.{setup_of};
+ghost use Rattle.cx_rule.specs.Jobs.{FitJob};
+ghost use Rattle.cx_core.specs.Left.{steps_left};
+ghost use Rattle.cx_core.specs.Starts.{IsReady};
+ghost use Rattle.cx_core.specs.Steps.{IsRunning, stands_at};
+ghost use Rattle.cx_core.specs.declared.answers.Outcome.TheVariants as outcomes;
+ghost use Rattle.cx_run_loop.specs.Faults.{Stops};
+ghost use Rattle.cx_run_loop.specs.Going.{IsGoing, LeavesImages, MovesOn, Steps, place_at, setting};
+
+use crate::event::keep_event;
+use crate::fault::DriveFault;
+use crate::laws::drive_laws;
+use cx_core::{Core, Event, core_stands};
+use cx_disk::Disk;
+use cx_keep::Keep;
+use cx_plan::Job;
+use cx_rule::{Meter, Routine};
+use cx_turns::Turns;
+use cx_wire::Wire;
+use std::alloc::Global;
+
+/// One turn of a run that goes on.
+pub(crate) fn turn<D: Disk, W: Wire, T: Turns>(
+    alloc: Global,
+    job: &Job,
+    routines: &[Box<dyn Routine>],
+    keep: &mut Keep,
+    core: &mut Core,
+    disk: &mut D,
+    wire: &mut W,
+    turns: &mut T,
+    meter: &mut Meter,
+) -> Result<(), DriveFault>
+    requires job { IsReady job.now }
+    requires routines { FitJob (map spec_of routines.now) job.now }
+    requires parts { part_count (parts_of job.now.shape job.now.cut) ≤ W.parts wire.old }
+    requires mounted { IsTrue (D.mounted disk.old) }
+    requires files { D.file_count disk.old ≡ count_with 0 }
+    requires going { IsGoing (setting D.Disk W.Wire job.now (map rule routines.now)) keep.old
+        (place_at D.Disk W.Wire core.old disk.old wire.old meter.old) }
+    requires outcome { core.old.outcome ≡ outcomes.Going }
+    ensures moves { OnOk result (MovesOn (setting D.Disk W.Wire job.now (map rule routines.now))
+        (place_at D.Disk W.Wire core.old disk.old wire.old meter.old)
+        (place_at D.Disk W.Wire core.new disk.new wire.new meter.new)) }
+    ensures moments { LeavesImages (setting D.Disk W.Wire job.now (map rule routines.now))
+        (place_at D.Disk W.Wire core.old disk.old wire.old meter.old) (D.view disk.new) }
+    ensures going { OnOk result (IsGoing
+        (setting D.Disk W.Wire job.now (map rule routines.now)) keep.new
+        (place_at D.Disk W.Wire core.new disk.new wire.new meter.new)) }
+    ensures less { OnOk result (steps_left (setup_of job.now) core.new.pace
+        < steps_left (setup_of job.now) core.old.pace) }
+    ensures parts { W.parts wire.new ≡ W.parts wire.old }
+    ensures mounted { IsTrue (D.mounted disk.new) }
+    ensures files { D.file_count disk.new ≡ count_with 0 }
+    ensures folders { D.folders disk.new ≡ D.folders disk.old }
+    ensures stops { Stops
+        (record { old = D.faults disk.old; new = D.faults disk.new })
+        (record { old = W.faults wire.old; new = W.faults wire.new }) result }
+{
+    drive_laws(job);
+    let event = step(alloc, job, routines, core, wire, turns, meter)?;
+    keep_event(alloc, job, keep, core, event, disk)
+}
+
+/// One event of the core, which its source of turns picks.
+fn step<W: Wire, T: Turns>(
+    alloc: Global,
+    job: &Job,
+    routines: &[Box<dyn Routine>],
+    core: &mut Core,
+    wire: &mut W,
+    turns: &mut T,
+    meter: &mut Meter,
+) -> Result<Event, DriveFault>
+    requires job { IsReady job.now }
+    requires routines { FitJob (map spec_of routines.now) job.now }
+    requires parts { part_count (parts_of job.now.shape job.now.cut) ≤ W.parts wire.old }
+    requires running { IsRunning (IsTrue W.tells) job.now (map rule routines.now)
+        (stands_at core.old
+        (W.queue wire.old) meter.old (W.received wire.old) (W.sum wire.old)) }
+    requires outcome { core.old.outcome ≡ outcomes.Going }
+    ensures steps { IfOk result (Steps (IsTrue W.tells) job.now (map rule routines.now)
+        (stands_at core.old
+        (W.queue wire.old) meter.old (W.received wire.old) (W.sum wire.old))
+        (stands_at core.new
+        (W.queue wire.new) meter.new (W.received wire.new) (W.sum wire.new))) }
+    ensures parts { W.parts wire.new ≡ W.parts wire.old }
+    ensures stops { (n : ℕ) → Stops (record { old = n; new = n })
+        (record { old = W.faults wire.old; new = W.faults wire.new }) result }
+{
+    core_stands(job);
+    let k = turns.pick(core.enabled());
+    Ok(core.step(alloc, k, job, routines, wire, meter)?)
+}

@@ -1,8 +1,0 @@
-use Rattle.cx_samples.proofs.Statuses.{status_of_call}
-use Rattle.cx_samples.proofs.program.in_folder.Goals as goal
-
-pub answer-requires-clause-empty : goal.answer-requires-clause-empty
-answer-requires-clause-empty c = c.in_ok-wire.ensures.told
-
-pub returns : goal.returns
-returns c = status_of_call _ _ c.answer.result c.answer.ensures

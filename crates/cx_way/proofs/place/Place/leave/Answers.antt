@@ -1,6 +1,0 @@
-use Rattle.cx_way.proofs.OpenLaws.{left}
-use Rattle.cx_way.proofs.place.Place.leave.Goals as goal
-
-pub returns : goal.returns
-returns c = left c.self.inside.pc c.self.inside.iteration c.args.count c.self.inside.opened.items
-    c.pop.new.self.items c.args.self.now c.self.view_is c.pop.ensures.rest

@@ -1,6 +1,0 @@
-use Rattle.std.proofs.Common.{◌≡◌, ◌+◌, drop}
-use Rattle.cx_way.specs.Skips.{landed}
-use Rattle.cx_way.proofs.skips.landed.Given as goal
-
-abbrev pub invariant-ops : goal.invariant-ops
-invariant-ops l = landed l.ops ≡ l.place + landed (drop l.place l.ops)

@@ -1,0 +1,48 @@
+-- Starts on trails of a run.
+use Rattle.std.specs.Prelude.{◌≡◌, List, Option, Some, None, Result, Ok, Err, IfSome}
+use Rattle.cx_disk.specs.Disk.{Files}
+use Rattle.cx_plan.specs.declared.job.Job.{Job}
+use Rattle.cx_plan.specs.declared.job.Recover.{Recover}
+use Rattle.cx_plan.specs.declared.job.Recover.TheVariants.{No, Auto, Autoprobe}
+use Rattle.cx_plan.specs.Setups.{setup_of}
+use Rattle.cx_rule.specs.Routine.{Rule}
+use Rattle.cx_model.specs.Runs.{undivided_run}
+use Rattle.cx_chk.specs.declared.checkpoint.Checkpoint.{Checkpoint}
+use Rattle.cx_keep.specs.declared.fault.BeginFault.{BeginFault}
+use Rattle.cx_keep.specs.declared.fault.BeginFault.TheVariants as faults
+use Rattle.cx_keep.specs.Beginning.{newest_left}
+use Rattle.cx_keep.specs.Tests.{begun}
+use Rattle.cx_keep.specs.Trails.{Course, IsTrail, NewestIs, OutputsReach}
+use Rattle.law_course.specs.Courses.{course_of}
+use Rattle.law_course.specs.Beginnings.{IsFound}
+
+-- the course of a job's run
+abbrev pub course_in : Job → List Rule → Course
+course_in job rules = course_of (setup_of job) job.key rules
+
+-- what a start comes to where the newest checkpoint is this one, or there is none
+abbrev pub begun_with : Recover → Option Checkpoint → Result (Option Checkpoint) BeginFault
+begun_with No newest = Ok None
+begun_with Auto None = Err faults.NoCheckpoint
+begun_with Auto (Some c) = Ok (Some c)
+begun_with Autoprobe newest = Ok newest
+
+-- the newest checkpoint of files is one of the run, which the output reaches, or there is none; and
+-- no start on the files is refused, but where a checkpoint is asked for and there is none
+pub record BeginsOn (job : Job) (rules : List Rule) (files : Files) : Type 0 where
+  pub newest : Option Checkpoint
+  pub of_run : IsFound (setup_of job) job.key rules newest
+  pub newest_is : NewestIs files (newest_left newest)
+  pub reached : IfSome newest (λ c. OutputsReach (course_in job rules) c files)
+  pub begun_is : begun job files ≡ begun_with job.recover newest
+
+abbrev pub TrailsBegin : Job → List Rule → Type 0
+TrailsBegin job rules = (files : Files) → IsTrail (course_in job rules) files
+    → BeginsOn job rules files
+
+-- two jobs have one run and one course, so that a trail of the one is a trail of the other
+pub record HaveOneCourse (a b : Job) (rules : List Rule) : Type 0 where
+  pub run : undivided_run (setup_of a) rules ≡ undivided_run (setup_of b) rules
+  pub course : course_in a rules ≡ course_in b rules
+  pub trails : (files : Files) → IsTrail (course_in a rules) files
+      → IsTrail (course_in b rules) files

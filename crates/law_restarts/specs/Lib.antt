@@ -1,0 +1,3 @@
+pub mod Settings
+pub mod Chains
+pub mod Restarts

@@ -1,0 +1,51 @@
+-- A run that is stopped and started again: what each start was handed, and what the last one
+-- leaves.
+use Rattle.std.specs.Prelude.{◌≡◌, ◌≢◌, ℕ, List}
+use Rattle.cx_disk.specs.Disk.{Files, IsView}
+use Rattle.cx_plan.specs.Setups.{setup_of}
+use Rattle.cx_plan.specs.declared.job.Job.{Job}
+use Rattle.cx_model.specs.Runs.{output, end as end_of}
+use Rattle.cx_model.specs.declared.ends.End.TheVariants.{Done}
+use Rattle.cx_run_loop.specs.Drives.{HasOutput, HasWorked}
+use Rattle.law_restarts.specs.Chains.{HaveOneRun}
+use Rattle.cx_run.specs.Calls.{Lent, Call, IsRun, AreTold, driven}
+use Rattle.cx_run.specs.Causes.{WereTrails}
+use Rattle.cx_run.specs.Clauses.{Obeys, IsEnd}
+
+-- a call that asks for the run of a job: what it was lent, what it printed to, its status
+pub record Start : Type 1 where
+  pub call : Call
+  pub sink : Lent (List ℕ)
+  pub status : ℕ
+  pub job : Job
+
+-- it did what the top call says; disk and wire tell what they hold, and the disk is one
+pub record IsStart (s : Start) : Type 0 where
+  pub obeys : Obeys s.call s.sink s.status
+  pub told : AreTold s.call
+  pub run : IsRun s.call s.job
+  pub view : IsView s.call.work.disk.old
+
+-- what a crash may leave of the disk at a moment of a start, or after it
+abbrev pub MayLeave : Start → Files → Type 0
+MayLeave s image = s.call.work.disk.new.left_since s.call.work.disk.old.moment image
+
+-- One start after another: of a job with the same run and key, with the same routines, on a disk
+-- that a crash may have left of the one before.
+pub record GoesOn (before after : Start) : Type 0 where
+  pub job : HaveOneRun before.job after.job
+  pub rules : before.call.work.rules ≡ after.call.work.rules
+  pub disk : (image : Files) → after.call.work.disk.old.images image → MayLeave before image
+
+-- each image of the disk at the start is a trail of the job
+abbrev pub BeginsOnTrails : Start → Type 0
+BeginsOnTrails s = WereTrails s.call.work s.job
+
+-- Where the last start comes to an end, it leaves the output of the first one's undivided run, and
+-- its end is that run's; where it is done, what it computed and exchanged is what was left to do.
+pub record EndsAlike (first last : Start) : Type 0 where
+  pub output : IsEnd last.status
+      → HasOutput (output (setup_of first.job) first.call.work.rules) last.call.work.disk.new
+  pub done : last.status ≡ 0 → end_of (setup_of first.job) first.call.work.rules ≡ Done
+  pub ended : last.status ≡ 3 → end_of (setup_of first.job) first.call.work.rules ≢ Done
+  pub work : last.status ≡ 0 → HasWorked (driven last.call.work last.job)
