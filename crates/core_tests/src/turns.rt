@@ -19,9 +19,9 @@ impl Watch for SeededTurns {
     }
 }
 
-/// The first of the events that can happen comes next.
+/// The first of the events that can happen comes next. It keeps the seed that it was begun from.
 #[derive(Drop)]
-pub struct FirstTurns;
+pub struct FirstTurns(pub Option<u64>);
 
 impl Watch for FirstTurns {
     fn see(&mut self, _core: &Core) -> Result<(), Memory> {
@@ -30,7 +30,11 @@ impl Watch for FirstTurns {
 }
 
 impl Turns for FirstTurns {
-    fn start(&mut self, _seed: u64) {}
+    ghost begun = { λ turns. turns.0 };
+
+    fn start(&mut self, seed: u64) {
+        self.0 = Some(seed);
+    }
 
     fn pick(&mut self, _n: u64) -> u64 {
         0
@@ -39,7 +43,7 @@ impl Turns for FirstTurns {
 
 /// The last of them comes next.
 #[derive(Drop)]
-pub struct LastTurns;
+pub struct LastTurns(pub Option<u64>);
 
 impl Watch for LastTurns {
     fn see(&mut self, _core: &Core) -> Result<(), Memory> {
@@ -48,7 +52,11 @@ impl Watch for LastTurns {
 }
 
 impl Turns for LastTurns {
-    fn start(&mut self, _seed: u64) {}
+    ghost begun = { λ turns. turns.0 };
+
+    fn start(&mut self, seed: u64) {
+        self.0 = Some(seed);
+    }
 
     fn pick(&mut self, n: u64) -> u64 {
         n - 1
@@ -62,6 +70,7 @@ const LENGTH: usize = 32;
 /// all orders of events were run.
 #[derive(Drop)]
 pub struct EachOrder {
+    begun: Option<u64>,
     picks: [u64; 32],
     choices: [u64; 32],
     done: usize,
@@ -71,6 +80,7 @@ impl EachOrder {
     /// The first event always comes next.
     pub fn new() -> Self {
         EachOrder {
+            begun: None,
             picks: [0; 32],
             choices: [0; 32],
             done: 0,
@@ -105,7 +115,10 @@ impl Watch for EachOrder {
 }
 
 impl Turns for EachOrder {
-    fn start(&mut self, _seed: u64) {
+    ghost begun = { λ turns. turns.begun };
+
+    fn start(&mut self, seed: u64) {
+        self.begun = Some(seed);
         self.done = 0;
     }
 
@@ -123,6 +136,7 @@ impl Turns for EachOrder {
 /// Picks from a list, the first event or the second one each time, and which events lay ahead before each of them.
 #[derive(Drop)]
 pub struct Listed {
+    begun: Option<u64>,
     picks: &'static [u8],
     done: usize,
     seen: Text,
@@ -132,6 +146,7 @@ impl Listed {
     /// The picks of this list, each a 0 or a 1.
     pub fn new(alloc: Global, picks: &'static [u8]) -> Self {
         Listed {
+            begun: None,
             picks,
             done: 0,
             seen: Text::new(Vec::new(alloc)),
@@ -155,7 +170,10 @@ impl Watch for Listed {
 }
 
 impl Turns for Listed {
-    fn start(&mut self, _seed: u64) {
+    ghost begun = { λ turns. turns.begun };
+
+    fn start(&mut self, seed: u64) {
+        self.begun = Some(seed);
         self.done = 0;
     }
 

@@ -94,8 +94,8 @@ fn two_noted(
 ) -> Result<Vec<Noted>, Fail> {
     let job = job(rt.alloc(), CA, more, &[], routines)?;
     let mut both = Vec::new(rt.alloc());
-    both.push(noted_run(rt, &job, routines, &mut FirstTurns)?)?;
-    both.push(noted_run(rt, &job, routines, &mut LastTurns)?)?;
+    both.push(noted_run(rt, &job, routines, &mut FirstTurns(None))?)?;
+    both.push(noted_run(rt, &job, routines, &mut LastTurns(None))?)?;
     Ok(both)
 }
 

@@ -39,6 +39,7 @@ wanting_status words s five =
       wrong_use = λ wrong. inr (inr five);
       usage = λ e. absurd (omega (arith, five, e));
       other = λ e. absurd (not_other s five e);
+      plain = λ r asks none. inr (inr (inr five));
     }
 
 pub same_status : (words : List (List ℕ)) (s t : ℕ) → t ≡ s → IsStatusFor words s

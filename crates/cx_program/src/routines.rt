@@ -45,10 +45,9 @@ pub fn answer<H: Shelf, D: Disk, W: Wire, T: Turns, O: Sink>(
 ) -> Result<u8, Memory>
     requires parts { 512 ≤ W.parts wire.old }
     requires empty { AreEmpty (W.queue wire.old) }
-    requires sum { IsTrue W.tells → W.sum wire.old < 2 ^ 64 }
     ensures { IfOk result (Obeys
         (sample_call H.Shelf D.Disk W.Wire words.now shelf.old shelf.new
-        disk.old disk.new wire.old wire.new meter.old meter.new)
+        disk.old disk.new wire.old wire.new meter.old meter.new (T.begun turns.new))
         (lent_sink O.Sink out.old out.new)) }
 {
     let mut routines: Vec<Box<dyn Routine>> = Vec::new(alloc);
@@ -93,10 +92,9 @@ fn answer_with<H: Shelf, D: Disk, W: Wire, T: Turns, O: Sink>(
     requires specs { map spec_of routines.now ≡ sample_specs }
     requires parts { 512 ≤ W.parts wire.old }
     requires empty { AreEmpty (W.queue wire.old) }
-    requires sum { IsTrue W.tells → W.sum wire.old < 2 ^ 64 }
     ensures { Obeys
         (sample_call H.Shelf D.Disk W.Wire line.entry.words.now shelf.old shelf.new
-        disk.old disk.new wire.old wire.new meter.old meter.new)
+        disk.old disk.new wire.old wire.new meter.old meter.new (T.begun turns.new))
         (lent_sink O.Sink out.old out.new) result }
 {
     cactus(

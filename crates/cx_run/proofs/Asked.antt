@@ -8,7 +8,7 @@ use Rattle.cx_job.specs.declared.fault.JobFault.TheVariants as faults
 use Rattle.cx_run_loop.specs.Lent.{HasRisen}
 use Rattle.cx_run.specs.Answers.{answer_of}
 use Rattle.cx_run.specs.Calls.{Lent, Call, Makes, TellsFiles, SparesShelf, IsStill, shelf_for}
-use Rattle.cx_run.specs.Causes.{ComesTo, FollowsFault, Follows, IsAsked, Explains, MakesAs}
+use Rattle.cx_run.specs.Causes.{ComesTo, FollowsFault, Follows, IsAsked, Explains, MakesAs, TurnsBegin}
 use Rattle.cx_run.specs.Words.{Request, asked}
 use Rattle.cx_run.specs.declared.reply.Answer.{Answer}
 use Rattle.cx_run.specs.declared.reply.Answer.TheVariants as a
@@ -181,8 +181,8 @@ fault_of c answer (inr x) r fault asks told made =
 
 pub with_job : (c : Call) (r : Request) (job : Job) (answer : Answer) → asked c.words ≡ Some r
     → SparesShelf c.shelf r.command → MakesAs c r (Ok job) → IsReady c.specs job
-    → ComesTo c.work r.command job answer → Explains c answer
-with_job c r job answer asks spared makes ready comes =
+    → ComesTo c.work r.command job answer → TurnsBegin c r (Ok job) → Explains c answer
+with_job c r job answer asks spared makes ready comes turns =
     inr (record {
       request = r;
       asks = asks;
@@ -190,6 +190,7 @@ with_job c r job answer asks spared makes ready comes =
       shelf = spared;
       makes = makes;
       follows = record { whole = ready.whole; fit = ready.fit; comes = comes };
+      turns = turns;
     })
 
 pub with_fault : (c : Call) (r : Request) (fault : JobFault) (answer : Answer)
@@ -204,6 +205,7 @@ with_fault c r fault answer asks spared makes is still =
       shelf = spared;
       makes = makes;
       follows = record { answer_is = is; still = still };
+      turns = tt;
     })
 
 -- ---- the shelf

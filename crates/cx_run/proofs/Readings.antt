@@ -6,7 +6,7 @@ use Rattle.cx_model.specs.declared.ends.End.TheVariants as ends
 use Rattle.cx_job.specs.declared.fault.JobFault.{JobFault}
 use Rattle.cx_keep.specs.declared.fault.BeginFault.{BeginFault}
 use Rattle.cx_run_loop.specs.Drives.{IsRefused}
-use Rattle.cx_run.specs.Answers.{status_of, text_of, answer_of, Said, WasSaid, IsStatus, IsStatusFor}
+use Rattle.cx_run.specs.Answers.{status_of, text_of, answer_of, Said, WasSaid, IsStatus, IsPlainStatus, IsStatusFor}
 use Rattle.cx_run.specs.Calls.{Lent, Work, Call, Makes, TellsFiles, Runs, IsStill, driven}
 use Rattle.cx_run.specs.Causes.{HasRun, IsSummed, Comes, Follows, Explains}
 use Rattle.cx_run.specs.Clauses.{Obeys}
@@ -18,7 +18,7 @@ use Rattle.cx_run.specs.declared.reply.Answer.{Answer}
 use Rattle.cx_run.specs.declared.reply.Answer.TheVariants as a
 use Rattle.cx_run.specs.declared.words.Command.{Command}
 use Rattle.cx_run.specs.declared.words.Command.TheVariants as commands
-use Rattle.cx_run.proofs.Asked.{IsSorted, by_shelf, by_memory, refused, sorted, not_asked, job_made}
+use Rattle.cx_run.proofs.Asked.{IsSorted, by_shelf, by_memory, refused, sorted, not_asked, same_request, job_made}
 use Rattle.cx_run.proofs.Clauses.{said_status, said_text}
 
 -- two statuses
@@ -131,6 +131,52 @@ other_said sink answer result said (inr (inr (inr e))) one =
     no_6 (status_of answer)
     (said_status sink answer result 6 said e (λ y. absurd cc) (λ y. absurd cc)) one
 
+-- ---- a command that isn't a run
+
+plain_comes : (w : Work) (command : Command) (job : Job) (answer : Answer) → (Runs command → ⊥)
+    → Comes w command job answer → IsPlainStatus (status_of answer)
+plain_comes w command job (a.Done iteration) none x = inl refl
+plain_comes w command job (a.Made iteration seed size output live) none x = inl refl
+plain_comes w command job (a.Text text) none x = inl refl
+plain_comes w command job a.Usage none x = absurd x
+plain_comes w command job (a.Refused fault) none x = absurd x
+plain_comes w command job (a.Ended end) none x = absurd (none x.runs)
+plain_comes w command job a.Shelf none x = absurd x
+plain_comes w command job a.Disk none x = inr (inr (inl refl))
+plain_comes w command job a.Wire none x = inr (inr (inl refl))
+plain_comes w command job a.Memory none x = inr (inr (inr refl))
+plain_comes w command job (a.Recovery fault) none x = absurd (none x.0)
+
+plain_sorted : (fault : JobFault) → IsSorted fault → IsPlainStatus (status_of (answer_of fault))
+plain_sorted fault (by_shelf same e) = inr (inr (inl (ap status_of e)))
+plain_sorted fault (by_memory e) = inr (inr (inr (ap status_of e)))
+plain_sorted fault (refused e) = inr (inl (ap status_of e))
+
+plain_follows : (c : Call) (command : Command) (found : Result Job JobFault) (answer : Answer)
+    → (Runs command → ⊥) → Follows c command found answer → IsPlainStatus (status_of answer)
+plain_follows c command (Ok job) answer none x =
+    plain_comes c.work command job answer none x.comes.cause
+plain_follows c command (Err fault) answer none x =
+    subst (λ (y : Answer). IsPlainStatus (status_of y)) (sym x.answer_is)
+    (plain_sorted fault (sorted fault))
+
+plain_answer : (c : Call) (answer : Answer) → Explains c answer → (r : Request)
+    → asked c.words ≡ Some r → (Runs r.command → ⊥) → IsPlainStatus (status_of answer)
+plain_answer c answer (inl wrong) r asks none =
+    absurd (not_asked (asked c.words) r wrong.words asks)
+plain_answer c answer (inr x) r asks none =
+    plain_follows c x.request.command x.found answer
+    (subst (λ (q : Request). Runs q.command → ⊥) (sym (same_request c answer x r asks)) none)
+    x.follows
+
+plain_said : (sink : Lent (List ℕ)) (answer : Answer) (result : ℕ)
+    → IsPlainStatus (status_of answer) → WasSaid sink answer result → IsPlainStatus result
+plain_said sink answer result plain (inl (inl p)) =
+    subst (λ (s : ℕ). IsPlainStatus s) (sym p.status_is) plain
+plain_said sink answer result plain (inl (inr p)) = inr (inr (inl p.status_is))
+plain_said sink answer result plain (inr (inl p)) = inr (inr (inr p.status_is))
+plain_said sink answer result plain (inr (inr p)) = inr (inr (inl p.status_is))
+
 -- every status is one for the words
 pub status_for : (c : Call) (sink : Lent (List ℕ)) (result : ℕ) → Obeys c sink result
     → IsStatusFor c.words result
@@ -144,6 +190,7 @@ status_for c sink result obeys =
       usage = λ e. usage_words c answer x
           (said_status sink answer result 1 said e (λ y. absurd cc) (λ y. absurd cc));
       other = λ e. asked_words c answer x (other_said sink answer result said e);
+      plain = λ r asks none. plain_said sink answer result (plain_answer c answer x r asks none) said;
     }
 
 -- ---- by status

@@ -136,11 +136,16 @@ IsStatus status =
     (status ≡ 0) ⊎ ((status ≡ 1) ⊎ ((status ≡ 2)
     ⊎ ((status ≡ 3) ⊎ ((status ≡ 4) ⊎ ((status ≡ 5) ⊎ (status ≡ 6))))))
 
+-- that of a command that isn't a run
+abbrev pub IsPlainStatus : ℕ → Type 0
+IsPlainStatus status = (status ≡ 0) ⊎ ((status ≡ 2) ⊎ ((status ≡ 4) ⊎ (status ≡ 5)))
+
 -- Where they ask for nothing it is 1, unless the sink failed or memory is wanting, and only there;
--- 0, 2, 3 and 6 come where they ask for something.
+-- 0, 2, 3 and 6 come where they ask for something, and 3 and 6 where they ask for a run.
 pub record IsStatusFor (words : List (List ℕ)) (status : ℕ) : Type 0 where
   pub known : IsStatus status
   pub wrong_use : asked words ≡ None → (status ≡ 1) ⊎ ((status ≡ 4) ⊎ (status ≡ 5))
   pub usage : status ≡ 1 → asked words ≡ None
   pub other : (status ≡ 0) ⊎ ((status ≡ 2) ⊎ ((status ≡ 3) ⊎ (status ≡ 6)))
       → (r : Request) × (asked words ≡ Some r)
+  pub plain : (r : Request) → asked words ≡ Some r → (Runs r.command → ⊥) → IsPlainStatus status

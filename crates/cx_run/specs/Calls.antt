@@ -37,11 +37,13 @@ pub record Work : Type 1 where
   pub wire : LentWire
   pub meter : Count
 
+-- With the seed that the source of turns was begun from last, if it was, after the call.
 pub record Call : Type 1 where
   pub words : List (List ℕ)
   pub specs : List Spec
   pub shelf : Lent Held
   pub work : Work
+  pub begun : Option ℕ
 
 -- ---- what was lent, by the ghost members of the devices' types, before and after the call
 
@@ -78,13 +80,14 @@ work_on rules d w disk disk_after wire wire_after meter meter_after = record {
 -- with these words, and routines of these rules, which say this of themselves
 abbrev pub called_with :
     {H D W : Type 0} → List Rule → List Spec → ShelfGhosts H → DiskGhosts D → WireGhosts W
-    → List (List ℕ) → H → H → D → D → W → W → ℕ → ℕ → Call
+    → List (List ℕ) → H → H → D → D → W → W → ℕ → ℕ → Option ℕ → Call
 called_with rules specs h d w words shelf shelf_after disk disk_after wire wire_after meter
-    meter_after = record {
+    meter_after begun = record {
       words = words;
       specs = specs;
       shelf = lent_shelf h shelf shelf_after;
       work = work_on rules d w disk disk_after wire wire_after meter meter_after;
+      begun = begun;
     }
 
 -- ---- which files are read

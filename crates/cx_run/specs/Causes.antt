@@ -153,6 +153,11 @@ abbrev pub Follows : Call → Command → Result Job JobFault → Answer → Typ
 Follows c command (Ok job) answer = FollowsJob c command job answer
 Follows c command (Err fault) answer = FollowsFault c fault answer
 
+-- the turns of a run begin from the seed that the words give
+abbrev pub TurnsBegin : Call → Request → Result Job JobFault → Type 0
+TurnsBegin c r (Ok job) = Runs r.command → c.begun ≡ Some r.seed
+TurnsBegin c r (Err fault) = Unit {0}
+
 -- what `make_job` answered for a request, and what follows
 pub record IsAsked (c : Call) (answer : Answer) : Type 0 where
   pub request : Request
@@ -161,6 +166,7 @@ pub record IsAsked (c : Call) (answer : Answer) : Type 0 where
   pub shelf : SparesShelf c.shelf request.command
   pub makes : MakesAs c request found
   pub follows : Follows c request.command found answer
+  pub turns : TurnsBegin c request found
 
 -- the words ask for nothing that there is, and nothing was touched
 pub record IsWrongUse (c : Call) (answer : Answer) : Type 0 where

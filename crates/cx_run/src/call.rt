@@ -1,5 +1,5 @@
 //! The top call.
-ghost use Rattle.std.specs.Prelude.{◌≡◌, ◌≢◌, ◌≤◌, ◌<◌, ◌^◌, None, IfOk, IsTrue, length, map};
+ghost use Rattle.std.specs.Prelude.{◌≡◌, ◌≢◌, ◌≤◌, ◌^◌, None, Some, IfOk, length, map};
 ghost use Rattle.cx_cut.specs.Faults.{parts_of, cut_fault};
 ghost use Rattle.cx_grid.specs.Grid.{HasInterior};
 ghost use Rattle.cx_plan.specs.Whole.{IsWhole};
@@ -9,7 +9,7 @@ ghost use Rattle.cx_run_loop.specs.Drives.{LendsScalars};
 ghost use Rattle.cx_job.specs.Making.{IsReady};
 ghost use Rattle.cx_run_made.specs.Files.{made_files};
 ghost use Rattle.cx_run.specs.Answers.{AnswersRun, IsTextFor, answer_with};
-ghost use Rattle.cx_run.specs.Calls.{SparesShelf, called_with, lent_shelf, lent_sink, made_from, shelf_for, shelf_of, work_on};
+ghost use Rattle.cx_run.specs.Calls.{Runs, SparesShelf, called_with, lent_shelf, lent_sink, made_from, shelf_for, shelf_of, work_on};
 ghost use Rattle.cx_run.specs.Causes.{ComesTo, Explains, MakesOn};
 ghost use Rattle.cx_run.specs.Clauses.{Obeys};
 ghost use Rattle.cx_run.specs.Texts.{accepted_text};
@@ -87,10 +87,9 @@ pub fn cactus<H: Shelf, D: Disk, W: Wire, T: Turns, O: Sink>(
     requires few { length routines.now ≤ 2 ^ 32 }
     requires parts { 512 ≤ W.parts wire.old }
     requires empty { AreEmpty (W.queue wire.old) }
-    requires sum { IsTrue W.tells → W.sum wire.old < 2 ^ 64 }
     ensures obeys { Obeys (called_with (map rule routines.now) (map spec_of routines.now)
         H.Shelf D.Disk W.Wire words.now shelf.old shelf.new
-        disk.old disk.new wire.old wire.new meter.old meter.new)
+        disk.old disk.new wire.old wire.new meter.old meter.new (T.begun turns.new))
         (lent_sink O.Sink out.old out.new) result }
 {
     let answer = answer_to(alloc, words, shelf, disk, wire, turns, routines, meter);
@@ -111,10 +110,9 @@ fn answer_to<H: Shelf, D: Disk, W: Wire, T: Turns>(
     requires few { length routines.now ≤ 2 ^ 32 }
     requires parts { 512 ≤ W.parts wire.old }
     requires empty { AreEmpty (W.queue wire.old) }
-    requires sum { IsTrue W.tells → W.sum wire.old < 2 ^ 64 }
     ensures explained { Explains (called_with (map rule routines.now) (map spec_of routines.now)
         H.Shelf D.Disk W.Wire words.now shelf.old shelf.new
-        disk.old disk.new wire.old wire.new meter.old meter.new) result }
+        disk.old disk.new wire.old wire.new meter.old meter.new (T.begun turns.new)) result }
     ensures held { H.tells → H.held shelf.new ≡ H.held shelf.old }
     ensures shelf_count { H.faults shelf.old ≤ H.faults shelf.new }
     ensures disk_count { D.faults disk.old ≤ D.faults disk.new }
@@ -215,9 +213,9 @@ fn done<D: Disk, W: Wire, T: Turns>(
     requires interior { HasInterior job.now.shape }
     requires parts { 512 ≤ W.parts wire.old }
     requires empty { AreEmpty (W.queue wire.old) }
-    requires sum { IsTrue W.tells → W.sum wire.old < 2 ^ 64 }
     ensures comes { ComesTo (work_on (map rule routines.now) D.Disk W.Wire
         disk.old disk.new wire.old wire.new meter.old meter.new) command job.now result }
+    ensures begun { Runs command → T.begun turns.new ≡ Some seed }
     ensures disk_count { D.faults disk.old ≤ D.faults disk.new }
     ensures wire_count { W.faults wire.old ≤ W.faults wire.new }
 {

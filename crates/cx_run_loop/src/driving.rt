@@ -61,6 +61,7 @@ pub fn drive<D: Disk, W: Wire, T: Turns>(
         disk.old disk.new wire.old wire.new meter.old meter.new) result }
     ensures folders { OnOk result
         (IsNamed job.now.out_dir [] job.now.chk_dir (D.folders disk.new)) }
+    ensures begun { T.begun turns.new ≡ T.begun turns.old }
     ensures scalars { IfOk result (LendsScalars job.now) }
 {
     drive_laws(job);
@@ -97,6 +98,7 @@ fn drive_from<D: Disk, W: Wire, T: Turns>(
     ensures moments { RunLeaves (setting D.Disk W.Wire job.now (map rule routines.now)) found
         (D.view disk.old) (D.view disk.new) }
     ensures folders { D.folders disk.new ≡ D.folders disk.old }
+    ensures begun { T.begun turns.new ≡ T.begun turns.old }
     ensures stops { Stops
         (record { old = D.faults disk.old; new = D.faults disk.new })
         (record { old = W.faults wire.old; new = W.faults wire.new }) result }
@@ -150,6 +152,7 @@ fn run_to_end<D: Disk, W: Wire, T: Turns>(
     ensures moments { LeavesImages (setting D.Disk W.Wire job.now (map rule routines.now))
         (place_at D.Disk W.Wire core disk.old wire.old meter.old) (D.view disk.new) }
     ensures folders { D.folders disk.new ≡ D.folders disk.old }
+    ensures begun { T.begun turns.new ≡ T.begun turns.old }
     ensures stops { Stops
         (record { old = D.faults disk.old; new = D.faults disk.new })
         (record { old = W.faults wire.old; new = W.faults wire.new }) result }
@@ -193,6 +196,7 @@ fn run<D: Disk, W: Wire, T: Turns>(
     ensures mounted { IsTrue (D.mounted disk.new) }
     ensures files { D.file_count disk.new ≡ count_with 0 }
     ensures folders { D.folders disk.new ≡ D.folders disk.old }
+    ensures begun { T.begun turns.new ≡ T.begun turns.old }
     ensures stops { Stops
         (record { old = D.faults disk.old; new = D.faults disk.new })
         (record { old = W.faults wire.old; new = W.faults wire.new }) result }

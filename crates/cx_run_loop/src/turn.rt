@@ -58,6 +58,7 @@ pub(crate) fn turn<D: Disk, W: Wire, T: Turns>(
     ensures mounted { IsTrue (D.mounted disk.new) }
     ensures files { D.file_count disk.new ≡ count_with 0 }
     ensures folders { D.folders disk.new ≡ D.folders disk.old }
+    ensures begun { T.begun turns.new ≡ T.begun turns.old }
     ensures stops { Stops
         (record { old = D.faults disk.old; new = D.faults disk.new })
         (record { old = W.faults wire.old; new = W.faults wire.new }) result }
@@ -90,6 +91,7 @@ fn step<W: Wire, T: Turns>(
         (stands_at core.new
         (W.queue wire.new) meter.new (W.received wire.new) (W.sum wire.new))) }
     ensures parts { W.parts wire.new ≡ W.parts wire.old }
+    ensures begun { T.begun turns.new ≡ T.begun turns.old }
     ensures stops { (n : ℕ) → Stops (record { old = n; new = n })
         (record { old = W.faults wire.old; new = W.faults wire.new }) result }
 {

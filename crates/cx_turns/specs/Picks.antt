@@ -1,7 +1,12 @@
 -- Turns by a linear congruence modulo 2^64.
-use Rattle.std.specs.Prelude.{ℕ, ◌+◌, ◌*◌, ◌^◌, ◌%◌, ◌/◌}
+use Rattle.std.specs.Prelude.{ℕ, ◌+◌, ◌*◌, ◌^◌, ◌%◌, ◌/◌, Option}
 
--- the number behind a number
+-- turns from a seed: the seed that they were begun from, if they were, and the last number
+pub record Seeded : Type 0 where
+  pub begun : Option ℕ
+  pub state : ℕ
+
+-- the number after a number
 abbrev pub next : ℕ → ℕ
 next state = (state * 6364136223846793005 + 1442695040888963407) % 2 ^ 64
 

@@ -1,5 +1,5 @@
 //! Turns from a seed.
-ghost use Rattle.std.specs.Prelude.{◌≡◌, ◌<◌};
+ghost use Rattle.std.specs.Prelude.{◌≡◌, ◌<◌, None, Some};
 ghost use Rattle.cx_turns.specs.Picks.{next, picked};
 
 use crate::turns::Turns;
@@ -8,31 +8,39 @@ use std::marker::Model;
 /// Turns from a seed: the numbers of a linear congruence modulo 2^64, each pick by the upper 31 bits.
 #[derive(Debug, Drop)]
 pub struct SeededTurns {
+    begun: Option<u64>,
     state: u64,
 }
 
 impl Model for SeededTurns {
-    ghost use Rattle.std.specs.Prelude.{ℕ};
+    ghost use Rattle.cx_turns.specs.Picks.{Seeded};
 
-    ghost Value = { ℕ };
+    ghost Value = { Seeded };
 
-    ghost view = { λ turns. turns.state };
+    ghost view = { λ turns. record { begun = turns.begun; state = turns.state } };
 }
 
 impl SeededTurns {
-    /// The turns of seed 0.
+    /// The turns of seed 0, not begun from any.
     pub fn new() -> Self
-        ensures { result ≡ 0 }
+        ensures { result ≡ record { begun = None; state = 0 } }
     {
-        SeededTurns { state: 0 }
+        SeededTurns {
+            begun: None,
+            state: 0,
+        }
     }
 }
 
 impl Turns for SeededTurns {
+    ghost begun = { λ turns. turns.begun };
+
     /// Begins the turns that belong to a seed.
     fn start(&mut self, seed: u64)
-        ensures { self.new ≡ seed }
+        ensures begun { self.new.begun ≡ Some seed }
+        ensures state { self.new.state ≡ seed }
     {
+        self.begun = Some(seed);
         self.state = seed;
     }
 
@@ -40,8 +48,9 @@ impl Turns for SeededTurns {
     fn pick(&mut self, n: u64) -> u64
         requires { 0 < n }
         ensures below { result < n }
-        ensures next { self.new ≡ next self.old }
-        ensures picked { result ≡ picked (next self.old) n }
+        ensures begun { self.new.begun ≡ self.old.begun }
+        ensures next { self.new.state ≡ next self.old.state }
+        ensures picked { result ≡ picked (next self.old.state) n }
     {
         self.state = self
             .state

@@ -16,7 +16,7 @@ use Rattle.cx_chk.specs.Slots.{newest_below, NewestBelow}
 use Rattle.cx_chk.proofs.Choosing.{newest_law}
 use Rattle.cx_chk.proofs.Decoding.{decoded_again}
 use Rattle.cx_keep.specs.Tests.{begun_from, resumed, tested, or_short, short_in, short_from}
-use Rattle.cx_keep.specs.Trails.{Course, IsOfRun, IsTrail, OutputsReach, length_in, file_of_output}
+use Rattle.cx_keep.specs.Trails.{Course, IsOfRun, IsTrail, NewestIs, OutputsReach, length_in, file_of_output}
 use Rattle.cx_keep.proofs.Saves.{header_spells}
 use Rattle.cx_keep.proofs.Tested.{judged_is}
 use Rattle.law_course.specs.Courses.{course_of, IsPlace, FitsJob}
@@ -126,3 +126,11 @@ pub trails_begin : (job : Job) → IsWhole job → (rules : List Rule) → Conti
     → KeepsStates (setup_of job) rules → TrailsBegin job rules
 trails_begin job job_is rules laws keeps files trail =
     begins job job_is rules laws keeps files trail
+
+-- ---- files without a checkpoint
+
+none_some : {A : Type 0} (x : A) → None ≡ Some x → ⊥
+none_some x e = cc
+
+pub empty_is_trail : (course : Course) (files : Files) → NewestIs files None → IsTrail course files
+empty_is_trail course files none slot n lt head = absurd (none_some n (sym (none slot lt) ∙ head))

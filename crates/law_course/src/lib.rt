@@ -9,5 +9,5 @@ mod works;
 
 pub use beginning::{course_goes_on, fitting_can_begin};
 pub use course::{course_fits, course_rises, has_places, states_pack_again, states_unpack};
-pub use starts::{one_course, trails_begin};
+pub use starts::{empty_is_trail, one_course, trails_begin};
 pub use works::works_follow;

@@ -1,4 +1,5 @@
 -- Each start is on trails, and so the last one ends as the undivided run.
+use Rattle.std.proofs.Math.Path.{fun_ext}
 use Rattle.std.proofs.Common.{◌≡◌, ◌≢◌, inl, inr, ℕ, zero, suc, ◌<◌, ◌≤◌, List, refl, sym, ◌∙◌, subst, arith}
 use Rattle.cx_disk.specs.Disk.{Files}
 use Rattle.cx_plan.specs.Setups.{Setup, setup_of}
@@ -36,9 +37,13 @@ left_is_trail s is trails image left =
 next_on_trails : (before after : Start) → IsStart before → GoesOn before after
     → BeginsOnTrails before → BeginsOnTrails after
 next_on_trails before after is on trails image now =
-    trail_of_other before.job after.job before.call.work.rules after.call.work.rules image
+    let left = on.disk image now in
+    subst (λ (f : Files).
+    IsTrail (course_of (setup_of after.job) after.job.key after.call.work.rules) f)
+    (fun_ext (λ file. sym (left.2 file)))
+    (trail_of_other before.job after.job before.call.work.rules after.call.work.rules left.0
     on.job.setup on.job.key on.rules
-    (left_is_trail before is trails image (on.disk image now))
+    (left_is_trail before is trails left.0 left.1))
 
 -- what a start has of the first one
 record Follows (first s : Start) : Type 0 where
@@ -66,6 +71,8 @@ ends_alike first last is f =
     let leaves = is.obeys.run is.told last.job is.run (inl f.trails) in
     let rules = last.call.work.rules in
     record {
+      began = f.trails;
+      last_is = leaves.last;
       output = λ ended.
           let out = leaves.output ended in
           let one = subst (λ (s : Setup). HasOutput (output s rules) last.call.work.disk.new)

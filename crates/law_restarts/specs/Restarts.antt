@@ -1,7 +1,7 @@
 -- A run that is stopped and started again: what each start was handed, and what the last one
 -- leaves.
 use Rattle.std.specs.Prelude.{◌≡◌, ◌≢◌, ℕ, List}
-use Rattle.cx_disk.specs.Disk.{Files, IsView}
+use Rattle.cx_disk.specs.Disk.{Files, IsView, SameFiles}
 use Rattle.cx_plan.specs.Setups.{setup_of}
 use Rattle.cx_plan.specs.declared.job.Job.{Job}
 use Rattle.cx_model.specs.Runs.{output, end as end_of}
@@ -9,7 +9,7 @@ use Rattle.cx_model.specs.declared.ends.End.TheVariants.{Done}
 use Rattle.cx_run_loop.specs.Drives.{HasOutput, HasWorked}
 use Rattle.law_restarts.specs.Chains.{HaveOneRun}
 use Rattle.cx_run.specs.Calls.{Lent, Call, IsRun, AreTold, driven}
-use Rattle.cx_run.specs.Causes.{WereTrails}
+use Rattle.cx_run.specs.Causes.{HasLast, WereTrails}
 use Rattle.cx_run.specs.Clauses.{Obeys, IsEnd}
 
 -- a call that asks for the run of a job: what it was lent, what it printed to, its status
@@ -35,17 +35,21 @@ MayLeave s image = s.call.work.disk.new.left_since s.call.work.disk.old.moment i
 pub record GoesOn (before after : Start) : Type 0 where
   pub job : HaveOneRun before.job after.job
   pub rules : before.call.work.rules ≡ after.call.work.rules
-  pub disk : (image : Files) → after.call.work.disk.old.images image → MayLeave before image
+  pub disk : (image : Files) → after.call.work.disk.old.images image
+      → (left : Files) × MayLeave before left × SameFiles left image
 
 -- each image of the disk at the start is a trail of the job
 abbrev pub BeginsOnTrails : Start → Type 0
 BeginsOnTrails s = WereTrails s.call.work s.job
 
--- Where the last start comes to an end, it leaves the output of the first one's undivided run, and
--- its end is that run's; where it is done, what it computed and exchanged is what was left to do.
+-- The last start begins on trails. Where it comes to an end, it leaves the output of the first one's
+-- undivided run and the run's last checkpoint as the newest one, and its end is that run's; where it
+-- is done, what it computed and exchanged is what was left to do.
 pub record EndsAlike (first last : Start) : Type 0 where
+  pub began : BeginsOnTrails last
   pub output : IsEnd last.status
       → HasOutput (output (setup_of first.job) first.call.work.rules) last.call.work.disk.new
+  pub last_is : IsEnd last.status → HasLast (driven last.call.work last.job)
   pub done : last.status ≡ 0 → end_of (setup_of first.job) first.call.work.rules ≡ Done
   pub ended : last.status ≡ 3 → end_of (setup_of first.job) first.call.work.rules ≢ Done
   pub work : last.status ≡ 0 → HasWorked (driven last.call.work last.job)

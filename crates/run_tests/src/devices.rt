@@ -27,12 +27,16 @@ pub(crate) fn failing_shelf(
     Ok(FailingShelf::new(shelf, behind(alloc, calls)?))
 }
 
-/// Turns that always pick the first event.
+/// Turns that always pick the first event. They keep the seed that they were begun from.
 #[derive(Drop)]
-pub struct FirstTurns;
+pub struct FirstTurns(pub Option<u64>);
 
 impl Turns for FirstTurns {
-    fn start(&mut self, _seed: u64) {}
+    ghost begun = { λ turns. turns.0 };
+
+    fn start(&mut self, seed: u64) {
+        self.0 = Some(seed);
+    }
 
     fn pick(&mut self, _n: u64) -> u64 {
         0
@@ -41,10 +45,14 @@ impl Turns for FirstTurns {
 
 /// Turns that always pick the last event.
 #[derive(Drop)]
-pub struct LastTurns;
+pub struct LastTurns(pub Option<u64>);
 
 impl Turns for LastTurns {
-    fn start(&mut self, _seed: u64) {}
+    ghost begun = { λ turns. turns.0 };
+
+    fn start(&mut self, seed: u64) {
+        self.0 = Some(seed);
+    }
 
     fn pick(&mut self, n: u64) -> u64 {
         n - 1

@@ -64,9 +64,9 @@ fn first_sender<T: Turns>(rt: &HostRuntime, turns: &mut T) -> Result<(bool, Opti
 
 #[test]
 fn picks_are_followed(rt: HostRuntime) -> Result<(), Fail> {
-    let first = first_sender(&rt, &mut FirstTurns)?;
+    let first = first_sender(&rt, &mut FirstTurns(None))?;
     assert!(rt; matches!(first, (true, Some(0))), "part 0 sends first");
-    let last = first_sender(&rt, &mut LastTurns)?;
+    let last = first_sender(&rt, &mut LastTurns(None))?;
     assert!(rt; matches!(last, (true, Some(1))), "part 1 sends first");
     Ok(())
 }

@@ -11,6 +11,6 @@ returns g c =
     (called_with rules specs g.H.Shelf g.D.Disk g.W.Wire c.args.line.words.now c.args.shelf.now
     c.cactus.new.shelf
     c.args.disk.now c.cactus.new.disk c.args.wire.now c.cactus.new.wire c.args.meter.now
-    c.cactus.new.meter)
+    c.cactus.new.meter (g.T.Turns.begun c.cactus.new.turns))
     (lent_sink g.O.Sink c.args.out.now c.cactus.new.out) c.cactus.result)
     _ sample_rules _ sample_specs c.requires.rules c.requires.specs c.cactus.ensures.obeys

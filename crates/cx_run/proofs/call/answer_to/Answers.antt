@@ -9,7 +9,7 @@ returns-in-Ok-clause-explained g c =
     asked.with_job _ (request c.in-Some.command c.in-Some.file.now c.in-Some.seed)
     c.in-Ok.job c.done.result (sym c.in-Some.ensures)
     c.in-Ok.ensures.spared c.in-Ok.ensures.made c.in-Ok.ensures.ready
-    c.done.ensures.comes
+    c.done.ensures.comes c.done.ensures.begun
 
 pub returns-in-Err-clause-explained : goal.returns-in-Err-clause-explained
 returns-in-Err-clause-explained g c =

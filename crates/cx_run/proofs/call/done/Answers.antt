@@ -1,4 +1,4 @@
-use Rattle.std.proofs.Common.{refl}
+use Rattle.std.proofs.Common.{refl, ◌∙◌}
 use Rattle.cx_disk.proofs.Moments.{quiet_at_start}
 use Rattle.cx_run.proofs.Running as running
 use Rattle.cx_run.proofs.call.done.Goals as goal
@@ -28,3 +28,9 @@ returns-in-Some-clause-comes g c =
     running.told _ c.args.command c.args.job.now c.in-Some.text c.printed.result c.in-Some.ensures.0
     c.in-Some.ensures.1 c.printed.ensures
     (record { disk = refl; quiet = λ told. quiet_at_start _; wire = refl; meter = refl })
+
+pub returns-in-None-clause-begun : goal.returns-in-None-clause-begun
+returns-in-None-clause-begun g c = λ runs. c.drive-came.ensures.begun ∙ c.start.ensures.begun
+
+pub returns-in-Some-clause-begun : goal.returns-in-Some-clause-begun
+returns-in-Some-clause-begun g c = λ runs. absurd (c.in-Some.ensures.0 runs)

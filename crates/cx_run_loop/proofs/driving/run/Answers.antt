@@ -17,6 +17,7 @@ turns-init g c =
       mounted = c.requires.mounted;
       files = c.requires.files;
       folders = refl;
+      begun = refl;
       disk_later = omega arith;
       wire_later = omega arith;
     }
@@ -39,6 +40,7 @@ turns-preserved g c =
       mounted = c.in_ok-turn.ensures.mounted;
       files = c.in_ok-turn.ensures.files;
       folders = c.in_ok-turn.ensures.folders ∙ c.turns.invariant.folders;
+      begun = c.in_ok-turn.ensures.begun ∙ c.turns.invariant.begun;
       disk_later = omega arith;
       wire_later = omega arith;
     }

@@ -31,6 +31,7 @@ invariant-turns g l =
       mounted : IsTrue (g.D.Disk.mounted l.disk);
       files : g.D.Disk.file_count l.disk ≡ count_with 0;
       folders : g.D.Disk.folders l.disk ≡ g.D.Disk.folders l.initial.disk;
+      begun : g.T.Turns.begun l.turns ≡ g.T.Turns.begun l.initial.turns;
       disk_later : g.D.Disk.faults l.initial.disk ≤ g.D.Disk.faults l.disk;
       wire_later : g.W.Wire.faults l.initial.wire ≤ g.W.Wire.faults l.wire;
     }
