@@ -5,7 +5,8 @@ use Rattle.cx_disk.specs.Disk.{Files, SameFiles}
 use Rattle.cx_plan.specs.declared.job.Job.{Job}
 use Rattle.cx_keep.specs.Resuming.{AreTrails}
 use Rattle.cx_keep.specs.Keeping.{output_file}
-use Rattle.cx_run_loop.specs.Drives.{Drive, course, newest, IsNotBelow, KeepsTrail, LeavesTrails}
+use Rattle.cx_run_loop.specs.Drives.{Drive, course, IsNotBelow, KeepsTrail, LeavesTrails}
+use Rattle.cx_run_loop.proofs.FoundLaws.{only_newest}
 use Rattle.cx_run.specs.Calls.{Work, IsStill, driven}
 
 not_below_itself : (n : Option ℕ) → IsNotBelow n n
@@ -18,10 +19,15 @@ keeps_trail : (d : Drive) → AreTrails (course d) d.disk.old → (image : Files
 keeps_trail d trails image was =
     record {
       trail = trails image was;
-      not_behind = λ goes_on.
-          record { first = image; was = was; not_below = not_below_itself (newest image) };
-      pace = λ c has longer all. let l : length (image output_file) < length (image output_file) =
-          all image was in absurd (omega (arith, l));
+      not_behind = λ goes_on. record {
+        first = image;
+        was = was;
+        not_below = λ n m one other. subst (λ (x : Option ℕ). IsNotBelow n x)
+            (only_newest image n m one other) (not_below_itself n);
+      };
+      pace = λ c has long all n is.
+          let l : length (image output_file) < length (image output_file) = all image was in
+          absurd (omega (arith, l));
     }
 
 pub still_trails : (w : Work) (job : Job) → IsStill w → w.disk.tells

@@ -26,7 +26,7 @@ use Rattle.cx_keep.specs.Beginning.{CanStart, HasLengths, IsStarted, IsWithinSta
 use Rattle.cx_keep.specs.Keeping.{output_file}
 use Rattle.cx_keep.specs.Resuming.{AreTrails}
 use Rattle.cx_keep.specs.Tests.{begun}
-use Rattle.cx_keep.specs.Trails.{Stands, length_in, file_of_output}
+use Rattle.cx_keep.specs.Trails.{NewestIs, Stands, length_in, file_of_output}
 use Rattle.cx_keep.proofs.Stays.{newest_same}
 use Rattle.law_course.specs.Beginnings.{GoesOn, IsFound, entries_from, run_from}
 use Rattle.law_course.specs.Starts.{BeginsOn}
@@ -36,10 +36,10 @@ use Rattle.cx_core.specs.Hands.{IsDone as IsCoreDone, ended_as}
 use Rattle.cx_core.specs.declared.answers.Outcome.TheVariants.{Done}
 use Rattle.cx_core.specs.Starts.{begins_in}
 use Rattle.cx_core.specs.Steps.{Counts, counts, stands_at}
-use Rattle.cx_run_loop.specs.Drives.{Drive, AreTold, StartsWell, HasEnded, HasRun, HasScalarsOf, HasWorked, KeepsTrail, LeavesTrails, LendsScalars, IsNotBelow, cut_in, course, entries_left, from_place, newest}
+use Rattle.cx_run_loop.specs.Drives.{Drive, AreTold, StartsWell, HasEnded, HasRun, HasScalarsOf, HasWorked, ResumesFrom, KeepsTrail, LeavesTrails, LendsScalars, IsNotBelow, cut_in, course}
 use Rattle.cx_run_loop.specs.Going.{Setting, Place, IsDriven, IsImageOf, RunsFrom, RunLeaves, run_in, trace_in, kept_in, handed}
 use Rattle.cx_run_loop.specs.Laws.{DriveLaws}
-use Rattle.cx_run_loop.proofs.FoundLaws.{found_is, found_none, newest_is, newest_same_slots, not_below_same, place_is, place_no}
+use Rattle.cx_run_loop.proofs.FoundLaws.{found_is, found_none, only_newest, not_below_same, resumes_from_newest, resumes_from_none}
 use Rattle.cx_run_loop.proofs.TurnLaws.{same_beginning, setup_is}
 use Rattle.cx_disk.specs.Files.{slot_count}
 use Rattle.cx_run_loop.proofs.Works.{driven_at}
@@ -80,11 +80,14 @@ module _ (d : Drive) (laws : DriveLaws d.wire.tells d.job d.rules) where
     not_behind = λ not. record {
       first = w.before;
       was = w.was;
-      not_below = subst (λ (n : Option ℕ). IsNotBelow (newest image) n)
-          (newest_same_slots image w.before (λ slot lt. elim (w.slots slot lt) as (λ _. image slot ≡ w.before slot) [ inl same ↦ same | inr closed ↦ absurd (not closed.0) ]))
-          (not_below_same (newest image));
+      not_below = λ n m one other. subst (λ (x : Option ℕ). IsNotBelow n x)
+          (only_newest w.before n m
+          (newest_same image w.before (λ slot lt. elim (w.slots slot lt)
+          as (λ _. w.before slot ≡ image slot)
+          [ inl same ↦ sym same | inr closed ↦ absurd (not closed.0) ]) n one) other)
+          (not_below_same n);
     };
-    pace = λ c has long longer.
+    pace = λ c has long longer n is.
         let a : length (w.before output_file) < length (image output_file) = longer w.before w.was in
         let b : length (image output_file) ≤ length (w.before output_file) = w.shorter 0 (omega arith) in
         absurd (omega arith);
@@ -119,13 +122,16 @@ module _ (d : Drive) (laws : DriveLaws d.wire.tells d.job d.rules) (mid : View) 
   of_run (inl h) = subst (λ (f : Option Checkpoint). IsFound (setup_of d.job) d.job.key d.rules f) (sym h.0) tt
   of_run (inr h) = subst (λ (f : Option Checkpoint). IsFound (setup_of d.job) d.job.key d.rules f) (sym h.1) h.0.of_run
 
-  newest_found : Finds → d.job.recover ≢ No → newest d.disk.old.seen ≡ newest_left found
+  newest_found : Finds → d.job.recover ≢ No → NewestIs d.disk.old.seen (newest_left found)
   newest_found (inl h) not = absurd (not h.1)
-  newest_found (inr h) not = newest_is d.disk.old.seen (newest_left h.0.newest) h.0.newest_is ∙ sym (ap newest_left h.1)
+  newest_found (inr h) not = subst (λ (n : Option ℕ). NewestIs d.disk.old.seen n)
+      (sym (ap newest_left h.1)) h.0.newest_is
 
-  place_found : Finds → from_place d.job.recover d.disk.old.seen ≡ newest_left found
-  place_found (inl h) = place_no d.job.recover d.disk.old.seen h.1 ∙ sym (ap newest_left h.0)
-  place_found (inr h) = place_is d.job.recover d.disk.old.seen (newest_left found) h.2 (newest_found (inr h) h.2)
+  start_found : Finds → ResumesFrom d.job.recover d.disk.old.seen (newest_left found)
+  start_found (inl h) = subst (λ (n : Option ℕ). ResumesFrom d.job.recover d.disk.old.seen n)
+      (sym (ap newest_left h.0)) (resumes_from_none d.job.recover d.disk.old.seen h.1)
+  start_found (inr h) = resumes_from_newest d.job.recover d.disk.old.seen (newest_left found) h.2
+      (newest_found (inr h) h.2)
 
   -- ---- the disk as the run begins
 
@@ -148,16 +154,19 @@ module _ (d : Drive) (laws : DriveLaws d.wire.tells d.job d.rules) (mid : View) 
   within_run : Finds → d.disk.tells → (image : Files) → IsImageOf r image → KeepsTrail d image
   within_run fs t image w =
       let follow : WorksFollow r = laws.follow found (of_run fs) in
-      let now : newest image ≡ newest_of r w.done = newest_is image (newest_of r w.done) w.trail.newest_is in
       record {
         trail = w.trail.trail;
         not_behind = λ not. record {
           first = d.disk.old.seen;
           was = reads t;
-          not_below = subst (λ (n : Option ℕ). IsNotBelow n (newest d.disk.old.seen)) (sym now)
-              (subst (λ (n : Option ℕ). IsNotBelow (newest_of r w.done) n) (sym (newest_found fs not)) (behind found refl follow));
+          not_below = λ n m one other. subst (λ (x : Option ℕ). IsNotBelow x m)
+              (only_newest image (newest_of r w.done) n w.trail.newest_is one)
+              (subst (λ (x : Option ℕ). IsNotBelow (newest_of r w.done) x)
+              (only_newest d.disk.old.seen (newest_left found) m (newest_found fs not) other)
+              (behind found refl follow));
         };
-        pace = λ c has long longer. subst (λ (n : Option ℕ). IsNotBelow n (Some c.iteration)) (sym now)
+        pace = λ c has long longer n is. subst (λ (x : Option ℕ). IsNotBelow x (Some c.iteration))
+            (only_newest image (newest_of r w.done) n w.trail.newest_is is)
             (at_least (newest_of r w.done) c.iteration (follow.pace w.done w.left w.file c (length (image output_file)) w.has (bound (next_of r (length w.file) w.left) w.trail.within) has long));
       }
     where
@@ -219,10 +228,11 @@ module _ (d : Drive) (laws : DriveLaws d.wire.tells d.job d.rules) (mid : View) 
     goes_on : Finds → GoesOn (setup_of d.job) d.rules found
     goes_on fs = laws.goes_on found (of_run fs)
 
-    entries : Finds → (trace_in (setting d) found).entries ≡ entries_left d
-    entries fs =
-        ap (λ (u : Trace). u.entries) trace_is ∙ (goes_on fs).entries
-        ∙ ap (λ (n : Option ℕ). entries_from (setup_of d.job) d.rules n) (sym (place_found fs))
+    abbrev entries_left : List Entry
+    entries_left = entries_from (setup_of d.job) d.rules (newest_left found)
+
+    entries : Finds → (trace_in (setting d) found).entries ≡ entries_left
+    entries fs = ap (λ (u : Trace). u.entries) trace_is ∙ (goes_on fs).entries
 
     outcome : Finds → (trace_in (setting d) found).outcome ≡ (undivided_run (setup_of d.job) d.rules).outcome
     outcome fs = ap (λ (u : Trace). u.outcome) trace_is ∙ (goes_on fs).outcome
@@ -231,7 +241,7 @@ module _ (d : Drive) (laws : DriveLaws d.wire.tells d.job d.rules) (mid : View) 
     run_cut : cut_of (run_in (setting d) found) ≡ cut_in d
     run_cut = cut_is d.job d.rules (begins_in (setup_of d.job) found)
 
-    same_work : (fs : Finds) (f : Setup → Parts → List Entry → ℕ) → f (run_in (setting d) found).setup (cut_of (run_in (setting d) found)) (trace_in (setting d) found).entries ≡ f (setup_of d.job) (cut_in d) (entries_left d)
+    same_work : (fs : Finds) (f : Setup → Parts → List Entry → ℕ) → f (run_in (setting d) found).setup (cut_of (run_in (setting d) found)) (trace_in (setting d) found).entries ≡ f (setup_of d.job) (cut_in d) entries_left
     same_work fs f =
         ap (λ (u : Setup). f u (cut_of (run_in (setting d) found)) (trace_in (setting d) found).entries) run_setup
         ∙ ap (λ (q : Parts). f (setup_of d.job) q (trace_in (setting d) found).entries) run_cut
@@ -239,13 +249,17 @@ module _ (d : Drive) (laws : DriveLaws d.wire.tells d.job d.rules) (mid : View) 
 
     has_worked : (fs : Finds) → IsCoreDone d.wire.tells (run_in (setting d) found) (trace_in (setting d) found) (counts_before d) (place_behind d core).is → HasWorked d
     has_worked fs done = record {
-      points = done.totals.points
-          ∙ ap (λ (n : ℕ). raised d.meter.old n) (same_work fs work);
-      values = done.totals.values
-          ∙ ap (λ (n : ℕ). counted d.wire.old.received n) (same_work fs carried_count);
-      sum = done.totals.sum
-          ∙ ap (λ (n : ℕ). (d.wire.old.sum + n) % 2 ^ 64) (same_work fs total_sum);
-      none_left = done.none_left;
+      start = newest_left found;
+      start_is = start_found fs;
+      done = record {
+        points = done.totals.points
+            ∙ ap (λ (n : ℕ). raised d.meter.old n) (same_work fs work);
+        values = done.totals.values
+            ∙ ap (λ (n : ℕ). counted d.wire.old.received n) (same_work fs carried_count);
+        sum = done.totals.sum
+            ∙ ap (λ (n : ℕ). (d.wire.old.sum + n) % 2 ^ 64) (same_work fs total_sum);
+        none_left = done.none_left;
+      };
     }
 
     pub has_ended : HasLengths found → (d.disk.tells → IsStarted d.job.recover found d.disk.old mid) → AreTold d → StartsWell d → HasEnded d core

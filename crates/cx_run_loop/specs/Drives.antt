@@ -1,5 +1,5 @@
 -- What a run of a job leaves of the disk, the wire and the meter, and what it answers.
-use Rattle.std.specs.Prelude.{ℕ, ◌+◌, ◌%◌, ◌^◌, ◌<◌, ◌≤◌, ◌≡◌, ◌≢◌, ◌⊎◌, true, List, [], length, Option, Some, None, option_map, Result, Ok, Err, IfOk}
+use Rattle.std.specs.Prelude.{ℕ, ◌+◌, ◌%◌, ◌^◌, ◌<◌, ◌≤◌, ◌≡◌, ◌≢◌, ◌⊎◌, true, List, [], length, Option, Some, None, Result, Ok, Err, IfOk}
 use Rattle.cx_plan.specs.declared.job.Job.{Job}
 use Rattle.cx_plan.specs.declared.job.Recover.{Recover}
 use Rattle.cx_plan.specs.declared.job.Recover.TheVariants.{No, Auto, Autoprobe}
@@ -19,7 +19,6 @@ use Rattle.cx_disk.specs.Moments.{IsQuiet}
 use Rattle.cx_wire.specs.Received.{counted}
 use Rattle.cx_wire.specs.declared.wire.Wire.{Ghosts as WireGhosts}
 use Rattle.law_parts.specs.Work.{work, carried_count, total_sum}
-use Rattle.cx_chk.specs.Slots.{newest_below}
 use Rattle.cx_chk.specs.declared.checkpoint.Checkpoint.{Checkpoint}
 use Rattle.cx_keep.specs.Beginning.{IsRefusal}
 use Rattle.cx_keep.specs.Keeping.{output_file}
@@ -35,7 +34,6 @@ use Rattle.cx_core.specs.declared.answers.Outcome.TheVariants.{Going, Done}
 use Rattle.cx_run_loop.specs.Lent.{Count, HasRisen, LentDisk, LentWire, lent_disk, lent_wire}
 use Rattle.cx_keep.specs.declared.fault.BeginFault.{BeginFault}
 use Rattle.cx_run_loop.specs.declared.fault.DriveFault.{DriveFault}
-use Rattle.cx_disk.specs.Files.{slot_count}
 use Rattle.cx_run_loop.specs.declared.fault.DriveFault.TheVariants as faults
 
 -- a run of a job by these rules, and what it was lent
@@ -87,26 +85,28 @@ HasWholeOutput d = HasOutput (output (setup_of d.job) d.rules) d.disk.new
 abbrev pub EndsAsUndivided : Drive → Cores → Type 0
 EndsAsUndivided d core = core.outcome ≡ ended_as (undivided_run (setup_of d.job) d.rules).outcome
 
--- the iteration of the newest checkpoint on a disk, from which a run goes on, or none
-abbrev pub newest : Files → Option ℕ
-newest files = option_map (λ (found : ℕ × ℕ). found.1) (newest_below slot_count files)
+-- the iteration that a run resumes from: that of the newest checkpoint, or none where old ones are
+-- given up
+abbrev pub ResumesFrom : Recover → Files → Option ℕ → Type 0
+ResumesFrom No files n = n ≡ None
+ResumesFrom Auto files n = NewestIs files n
+ResumesFrom Autoprobe files n = NewestIs files n
 
-abbrev pub from_place : Recover → Files → Option ℕ
-from_place No files = None
-from_place Auto files = newest files
-from_place Autoprobe files = newest files
-
--- what the undivided run does behind it
-abbrev pub entries_left : Drive → List Entry
-entries_left d = entries_from (setup_of d.job) d.rules (from_place d.job.recover d.disk.old.seen)
-
--- the points that were computed, the values that were exchanged and their sum are those of what was left to do, and no message
--- between the parts is left
-pub record HasWorked (d : Drive) : Type 0 where
-  pub points : d.meter.new ≡ raised d.meter.old (work (setup_of d.job) (cut_in d) (entries_left d))
-  pub values : d.wire.new.received ≡ counted d.wire.old.received (carried_count (setup_of d.job) (cut_in d) (entries_left d))
-  pub sum : d.wire.new.sum ≡ (d.wire.old.sum + total_sum (setup_of d.job) (cut_in d) (entries_left d)) % 2 ^ 64
+-- the points that were computed, the values that were exchanged and their sum are those of these
+-- entries, and no message between the parts is left
+pub record HasWorkedOn (d : Drive) (es : List Entry) : Type 0 where
+  pub points : d.meter.new ≡ raised d.meter.old (work (setup_of d.job) (cut_in d) es)
+  pub values : d.wire.new.received
+      ≡ counted d.wire.old.received (carried_count (setup_of d.job) (cut_in d) es)
+  pub sum : d.wire.new.sum
+      ≡ (d.wire.old.sum + total_sum (setup_of d.job) (cut_in d) es) % 2 ^ 64
   pub none_left : (a b : ℕ) → d.wire.new.queue a b ≡ []
+
+-- they are those of what the undivided run does after the iteration that this run resumes from
+pub record HasWorked (d : Drive) : Type 0 where
+  pub start : Option ℕ
+  pub start_is : ResumesFrom d.job.recover d.disk.old.seen start
+  pub done : HasWorkedOn d (entries_from (setup_of d.job) d.rules start)
 
 -- each scalar has the number of the last state of a run that is done
 abbrev pub HasScalarsOf : Trace → Drive → Cores → Type 0
@@ -133,19 +133,20 @@ IsNotBelow found None = Unit {0}
 IsNotBelow None (Some n) = ⊥
 IsNotBelow (Some m) (Some n) = n ≤ m
 
--- the newest checkpoint of an image isn't below that of each image of the start
+-- the newest checkpoint of an image isn't below that of an image of the start
 pub record IsNotBehind (start : View) (image : Files) : Type 0 where
   pub first : Files
   pub was : start.images first
-  pub not_below : IsNotBelow (newest image) (newest first)
+  pub not_below : (n m : Option ℕ) → NewestIs image n → NewestIs first m → IsNotBelow n m
 
 -- an image whose output is longer than at a checkpoint of the run, and longer than in each image of the start, has that one or a
 -- newer one
 abbrev pub KeepsPace : Course → View → Files → Type 0
 KeepsPace run start image =
     (c : Checkpoint) → Has run.checkpoints c → length_in c 0 < length (image output_file)
-    → ((first : Files) → start.images first → length (first output_file) < length (image output_file))
-    → IsNotBelow (newest image) (Some c.iteration)
+    → ((first : Files) → start.images first
+    → length (first output_file) < length (image output_file))
+    → (n : Option ℕ) → NewestIs image n → IsNotBelow n (Some c.iteration)
 
 pub record KeepsTrail (d : Drive) (image : Files) : Type 0 where
   pub trail : IsTrail (course d) image
