@@ -1,6 +1,6 @@
 //! Which slot is the newest, and which one a save takes.
 ghost use Rattle.std.specs.Prelude.{◌≡◌, ◌<◌, ◌≤◌, ◌+◌, length, IsTrue, IfOk, IfSome, Some};
-ghost use Rattle.cx_disk.specs.Cause.{HasCause};
+ghost use Rattle.cx_disk.specs.Keeps.{Keeps};
 ghost use Rattle.cx_disk.specs.Moments.{IsQuiet};
 ghost use Rattle.cx_disk.specs.Files.{slot_count};
 ghost use Rattle.cx_chk.specs.Slots.{IsNewestIn, newer, older, IsNext};
@@ -48,10 +48,7 @@ pub fn newest<D: Disk>(disk: &mut D) -> Result<Option<(u32, u64)>, DiskFault>
     ensures newest { D.tells → IfOk result (IsNewestIn (D.view disk.old).seen) }
     ensures known { IfOk result (λ found. IfSome found (λ f. f.0 < slot_count)) }
     ensures quiet { D.tells → IsQuiet (D.view disk.old) (D.view disk.new) }
-    ensures mounted { IsTrue (D.mounted disk.new) }
-    ensures folders { D.folders disk.new ≡ D.folders disk.old }
-    ensures count { D.file_count disk.new ≡ D.file_count disk.old }
-    ensures cause { HasCause DiskFault.Failed (D.faults disk.old) (D.faults disk.new) result }
+    ensures kept { Keeps D.Disk DiskFault.Failed disk.old disk.new result }
 {
     let mut best = None;
     'look: for slot in 0..SLOTS {
@@ -69,10 +66,7 @@ pub fn next<D: Disk>(disk: &mut D, keep: u32) -> Result<u32, DiskFault>
     ensures next { D.tells → IfOk result (λ slot. IsNext (D.view disk.old).seen keep slot) }
     ensures known { IfOk result (λ slot. slot ≤ keep) }
     ensures quiet { D.tells → IsQuiet (D.view disk.old) (D.view disk.new) }
-    ensures mounted { IsTrue (D.mounted disk.new) }
-    ensures folders { D.folders disk.new ≡ D.folders disk.old }
-    ensures count { D.file_count disk.new ≡ D.file_count disk.old }
-    ensures cause { HasCause DiskFault.Failed (D.faults disk.old) (D.faults disk.new) result }
+    ensures kept { Keeps D.Disk DiskFault.Failed disk.old disk.new result }
 {
     let mut oldest = None;
     'look: for slot in 0..keep + 1 {

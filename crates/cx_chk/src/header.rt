@@ -1,6 +1,6 @@
 //! What the first bytes of a slot say.
 ghost use Rattle.std.specs.Prelude.{◌≡◌, ◌<◌, ◌≤◌, length, IsTrue, IfOk};
-ghost use Rattle.cx_disk.specs.Cause.{HasCause};
+ghost use Rattle.cx_disk.specs.Keeps.{Keeps};
 ghost use Rattle.cx_disk.specs.Moments.{IsQuiet};
 ghost use Rattle.cx_chk.specs.Slots.{header_of};
 
@@ -16,10 +16,7 @@ pub fn header<D: Disk>(disk: &mut D, slot: u32) -> Result<Option<u64>, DiskFault
     ensures value { D.tells → IfOk result
         (λ found. found ≡ header_of ((D.view disk.old).seen slot)) }
     ensures quiet { D.tells → IsQuiet (D.view disk.old) (D.view disk.new) }
-    ensures mounted { IsTrue (D.mounted disk.new) }
-    ensures folders { D.folders disk.new ≡ D.folders disk.old }
-    ensures count { D.file_count disk.new ≡ D.file_count disk.old }
-    ensures cause { HasCause DiskFault.Failed (D.faults disk.old) (D.faults disk.new) result }
+    ensures kept { Keeps D.Disk DiskFault.Failed disk.old disk.new result }
 {
     let count = disk.length(slot)?;
     if count < HEADER {

@@ -1,7 +1,7 @@
 //! Saving to the slots, and closing them.
 ghost use Rattle.std.specs.Prelude.{◌≡◌, ◌<◌, ◌≤◌, ◌^◌, ◌⊎◌, ◌∷◌, ℕ, Option, None, length, IsTrue, IfOk, IfSome, OnOk};
 ghost use Rattle.cx_disk.specs.Disk.{IsSettled};
-ghost use Rattle.cx_disk.specs.Cause.{HasCause};
+ghost use Rattle.cx_disk.specs.Keeps.{Keeps};
 ghost use Rattle.cx_disk.specs.Moments.{IsQuiet};
 ghost use Rattle.cx_chk.specs.Encoding.{IsCheckpoint};
 ghost use Rattle.cx_disk.specs.Files.{slot_count};
@@ -27,10 +27,7 @@ fn save_in<D: Disk>(disk: &mut D, slot: u32, body: &[u8]) -> Result<(), DiskFaul
     ensures after { D.tells → Replaces slot (1 ∷ body.now) (D.view disk.old) (D.view disk.new) }
     ensures settled { D.tells → OnOk result (IsSettled (D.view disk.new) slot) }
     ensures seen { D.tells → OnOk result ((D.view disk.new).seen slot ≡ 1 ∷ body.now) }
-    ensures mounted { IsTrue (D.mounted disk.new) }
-    ensures folders { D.folders disk.new ≡ D.folders disk.old }
-    ensures count { D.file_count disk.new ≡ D.file_count disk.old }
-    ensures cause { HasCause DiskFault.Failed (D.faults disk.old) (D.faults disk.new) result }
+    ensures kept { Keeps D.Disk DiskFault.Failed disk.old disk.new result }
 {
     shut(disk, slot)?;
     fill(disk, slot, body)?;
@@ -45,10 +42,7 @@ fn close<D: Disk>(disk: &mut D, slot: u32) -> Result<(), DiskFault>
     ensures after { D.tells → Closes slot (D.view disk.old) (D.view disk.new) }
     ensures settled { D.tells → OnOk result (IsSettled (D.view disk.new) slot) }
     ensures closed { D.tells → OnOk result (header_of ((D.view disk.new).seen slot) ≡ None) }
-    ensures mounted { IsTrue (D.mounted disk.new) }
-    ensures folders { D.folders disk.new ≡ D.folders disk.old }
-    ensures count { D.file_count disk.new ≡ D.file_count disk.old }
-    ensures cause { HasCause DiskFault.Failed (D.faults disk.old) (D.faults disk.new) result }
+    ensures kept { Keeps D.Disk DiskFault.Failed disk.old disk.new result }
 {
     match header(disk, slot)? {
         Some(_) => put(disk, slot, 0, &[0]),
@@ -66,10 +60,7 @@ impl Slots {
         ensures newest { D.tells → IfOk result (IsNewestIn (D.view disk.old).seen) }
         ensures known { IfOk result (λ found. IfSome found (λ f. f.0 < slot_count)) }
         ensures quiet { D.tells → IsQuiet (D.view disk.old) (D.view disk.new) }
-        ensures mounted { IsTrue (D.mounted disk.new) }
-        ensures folders { D.folders disk.new ≡ D.folders disk.old }
-        ensures count { D.file_count disk.new ≡ D.file_count disk.old }
-        ensures cause { HasCause DiskFault.Failed (D.faults disk.old) (D.faults disk.new) result }
+        ensures kept { Keeps D.Disk DiskFault.Failed disk.old disk.new result }
     {
         newest(disk)
     }
@@ -92,10 +83,7 @@ impl Slots {
         ensures moments { D.tells → IsSaving keep c.now (D.view disk.old) (D.view disk.new) }
         ensures saved { D.tells → OnOk result
             (IsSaved keep c.now (D.view disk.old) (D.view disk.new)) }
-        ensures mounted { IsTrue (D.mounted disk.new) }
-        ensures folders { D.folders disk.new ≡ D.folders disk.old }
-        ensures count { D.file_count disk.new ≡ D.file_count disk.old }
-        ensures cause { HasCause DiskFault.Failed (D.faults disk.old) (D.faults disk.new) result }
+        ensures kept { Keeps D.Disk DiskFault.Failed disk.old disk.new result }
     {
         let slot = next(disk, keep)?;
         let Ok(bytes) = encode(alloc, c) else {
@@ -116,10 +104,7 @@ impl Slots {
         ensures seen { D.tells → OutputsSame (D.view disk.old).seen (D.view disk.new).seen }
         ensures closed { D.tells → OnOk result (NoneOpen (D.view disk.new).seen) }
         ensures settled { D.tells → OnOk result (SlotsSettled (D.view disk.new)) }
-        ensures mounted { IsTrue (D.mounted disk.new) }
-        ensures folders { D.folders disk.new ≡ D.folders disk.old }
-        ensures count { D.file_count disk.new ≡ D.file_count disk.old }
-        ensures cause { HasCause DiskFault.Failed (D.faults disk.old) (D.faults disk.new) result }
+        ensures kept { Keeps D.Disk DiskFault.Failed disk.old disk.new result }
     {
         'each: for slot in 0..SLOTS {
             close(disk, slot)?;

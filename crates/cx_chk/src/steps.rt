@@ -1,7 +1,7 @@
 //! The steps by which a slot is closed, filled and opened.
 ghost use Rattle.std.specs.Prelude.{◌≡◌, ◌≢◌, ◌<◌, ◌≤◌, [], ◌∷◌, ℕ, List, length, IsTrue, OnOk};
 ghost use Rattle.cx_disk.specs.Disk.{IsSettled};
-ghost use Rattle.cx_disk.specs.Cause.{HasCause};
+ghost use Rattle.cx_disk.specs.Keeps.{Keeps};
 ghost use Rattle.cx_chk.specs.Slots.{Closes, IsShutIn, StaysClosed, Opens};
 
 use crate::header::header;
@@ -15,10 +15,7 @@ pub fn shut<D: Disk>(disk: &mut D, slot: u32) -> Result<(), DiskFault>
     ensures after { D.tells → Closes slot (D.view disk.old) (D.view disk.new) }
     ensures shut { D.tells → OnOk result (IsShutIn slot (D.view disk.new)) }
     ensures seen { D.tells → OnOk result ((D.view disk.new).seen slot ≡ 0 ∷ []) }
-    ensures mounted { IsTrue (D.mounted disk.new) }
-    ensures folders { D.folders disk.new ≡ D.folders disk.old }
-    ensures count { D.file_count disk.new ≡ D.file_count disk.old }
-    ensures cause { HasCause DiskFault.Failed (D.faults disk.old) (D.faults disk.new) result }
+    ensures kept { Keeps D.Disk DiskFault.Failed disk.old disk.new result }
 {
     match header(disk, slot)? {
         Some(_) => {
@@ -41,10 +38,7 @@ pub fn fill<D: Disk>(disk: &mut D, slot: u32, body: &[u8]) -> Result<(), DiskFau
     ensures after { D.tells → StaysClosed slot (D.view disk.old) (D.view disk.new) }
     ensures settled { D.tells → OnOk result (IsSettled (D.view disk.new) slot) }
     ensures seen { D.tells → OnOk result ((D.view disk.new).seen slot ≡ 0 ∷ body.now) }
-    ensures mounted { IsTrue (D.mounted disk.new) }
-    ensures folders { D.folders disk.new ≡ D.folders disk.old }
-    ensures count { D.file_count disk.new ≡ D.file_count disk.old }
-    ensures cause { HasCause DiskFault.Failed (D.faults disk.old) (D.faults disk.new) result }
+    ensures kept { Keeps D.Disk DiskFault.Failed disk.old disk.new result }
 {
     put(disk, slot, 1, body)
 }
@@ -58,10 +52,7 @@ pub fn open<D: Disk>(disk: &mut D, slot: u32, body: &[u8]) -> Result<(), DiskFau
     ensures after { D.tells → Opens slot (1 ∷ body.now) (D.view disk.old) (D.view disk.new) }
     ensures settled { D.tells → OnOk result (IsSettled (D.view disk.new) slot) }
     ensures seen { D.tells → OnOk result ((D.view disk.new).seen slot ≡ 1 ∷ body.now) }
-    ensures mounted { IsTrue (D.mounted disk.new) }
-    ensures folders { D.folders disk.new ≡ D.folders disk.old }
-    ensures count { D.file_count disk.new ≡ D.file_count disk.old }
-    ensures cause { HasCause DiskFault.Failed (D.faults disk.old) (D.faults disk.new) result }
+    ensures kept { Keeps D.Disk DiskFault.Failed disk.old disk.new result }
 {
     put(disk, slot, 0, &[1])
 }

@@ -1,4 +1,5 @@
 pub mod Cause
+pub mod Keeps
 pub mod Files
 pub mod Disk
 pub mod Moments

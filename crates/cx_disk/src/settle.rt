@@ -1,6 +1,6 @@
 //! A change of one file with the sync that settles it.
 ghost use Rattle.std.specs.Prelude.{◌≡◌, ◌≤◌, ◌<◌, length, IsTrue, OnOk};
-ghost use Rattle.cx_disk.specs.Cause.{HasCause};
+ghost use Rattle.cx_disk.specs.Keeps.{Keeps};
 ghost use Rattle.cx_disk.specs.Disk.{Holds, Torn, Front, CutShort};
 ghost use Rattle.cx_disk.specs.Files.{IsFile};
 ghost use Rattle.cx_disk.specs.Moments.{Stepped, IsDone};
@@ -19,10 +19,7 @@ pub fn put<D: Disk>(disk: &mut D, file: u32, at: u64, bytes: &[u8]) -> Result<()
         (IsDone (Holds at bytes.now) file (D.view disk.old) (D.view disk.new)) }
     ensures after { D.tells →
         Stepped (Torn at (length bytes.now)) file (D.view disk.old) (D.view disk.new) }
-    ensures mounted { IsTrue (D.mounted disk.new) }
-    ensures folders { D.folders disk.new ≡ D.folders disk.old }
-    ensures count { D.file_count disk.new ≡ D.file_count disk.old }
-    ensures cause { HasCause DiskFault.Failed (D.faults disk.old) (D.faults disk.new) result }
+    ensures kept { Keeps D.Disk DiskFault.Failed disk.old disk.new result }
 {
     disk.write_at(file, at, bytes)?;
     disk.sync(file)
@@ -39,10 +36,7 @@ pub fn trim<D: Disk>(disk: &mut D, file: u32, to: u64) -> Result<(), DiskFault>
     ensures done { D.tells → OnOk result
         (IsDone (Front to) file (D.view disk.old) (D.view disk.new)) }
     ensures after { D.tells → Stepped (CutShort to) file (D.view disk.old) (D.view disk.new) }
-    ensures mounted { IsTrue (D.mounted disk.new) }
-    ensures folders { D.folders disk.new ≡ D.folders disk.old }
-    ensures count { D.file_count disk.new ≡ D.file_count disk.old }
-    ensures cause { HasCause DiskFault.Failed (D.faults disk.old) (D.faults disk.new) result }
+    ensures kept { Keeps D.Disk DiskFault.Failed disk.old disk.new result }
 {
     disk.cut(file, to)?;
     disk.sync(file)

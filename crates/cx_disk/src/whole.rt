@@ -1,6 +1,6 @@
 //! A whole file, which is read, or written anew.
 ghost use Rattle.std.specs.Prelude.{◌≡◌, length, IsTrue, IfOk, OnOk};
-ghost use Rattle.cx_disk.specs.Cause.{HasCause};
+ghost use Rattle.cx_disk.specs.Keeps.{Keeps};
 ghost use Rattle.cx_disk.specs.Files.{IsFile};
 ghost use Rattle.cx_disk.specs.Disk.{Anew, NoLonger};
 ghost use Rattle.cx_disk.specs.Moments.{IsQuiet, Stepped, IsDone};
@@ -17,10 +17,7 @@ pub fn read_whole<D: Disk>(alloc: Global, disk: &mut D, file: u32) -> Result<Tex
     requires file { IsFile (D.file_count disk.old) file }
     ensures bytes { D.tells → IfOk result (λ bytes. bytes ≡ (D.view disk.old).seen file) }
     ensures quiet { D.tells → IsQuiet (D.view disk.old) (D.view disk.new) }
-    ensures mounted { IsTrue (D.mounted disk.new) }
-    ensures folders { D.folders disk.new ≡ D.folders disk.old }
-    ensures count { D.file_count disk.new ≡ D.file_count disk.old }
-    ensures cause { HasCause DiskFault.Failed (D.faults disk.old) (D.faults disk.new) result }
+    ensures kept { Keeps D.Disk DiskFault.Failed disk.old disk.new result }
 {
     let count = disk.length(file)?;
     let mut bytes = vec![in alloc; 0u8; count as usize]?;
@@ -39,10 +36,7 @@ pub fn rewrite<D: Disk>(disk: &mut D, file: u32, bytes: &[u8]) -> Result<(), Dis
         (IsDone (Anew bytes.now) file (D.view disk.old) (D.view disk.new)) }
     ensures after { D.tells →
         Stepped (NoLonger (length bytes.now)) file (D.view disk.old) (D.view disk.new) }
-    ensures mounted { IsTrue (D.mounted disk.new) }
-    ensures folders { D.folders disk.new ≡ D.folders disk.old }
-    ensures count { D.file_count disk.new ≡ D.file_count disk.old }
-    ensures cause { HasCause DiskFault.Failed (D.faults disk.old) (D.faults disk.new) result }
+    ensures kept { Keeps D.Disk DiskFault.Failed disk.old disk.new result }
 {
     disk.cut(file, 0)?;
     disk.write_at(file, 0, bytes)?;

@@ -1,6 +1,6 @@
 //! The tests of what the newest slot holds.
 ghost use Rattle.std.specs.Prelude.{◌≡◌, ◌<◌, ◌≤◌, ◌+◌, true, Some, length, bytes_eq, IsTrue, IfOk};
-ghost use Rattle.cx_disk.specs.Cause.{HasCause};
+ghost use Rattle.cx_disk.specs.Keeps.{Keeps};
 ghost use Rattle.cx_disk.specs.Moments.{IsQuiet};
 ghost use Rattle.cx_plan.specs.Whole.{IsWhole};
 ghost use Rattle.cx_disk.specs.Files.{count_with, output_limit, slot_count};
@@ -31,10 +31,7 @@ fn short_of<D: Disk>(disk: &mut D, lengths: &[u64]) -> Result<Option<(u64, u64)>
     ensures short { D.tells → IfOk result
         (λ found. found ≡ short_from 0 lengths.now (D.view disk.old).seen) }
     ensures quiet { D.tells → IsQuiet (D.view disk.old) (D.view disk.new) }
-    ensures mounted { IsTrue (D.mounted disk.new) }
-    ensures folders { D.folders disk.new ≡ D.folders disk.old }
-    ensures count { D.file_count disk.new ≡ D.file_count disk.old }
-    ensures cause { HasCause DiskFault.Failed (D.faults disk.old) (D.faults disk.new) result }
+    ensures kept { Keeps D.Disk DiskFault.Failed disk.old disk.new result }
 {
     'each: for output in 0..lengths.len() {
         let count = disk.length(OLD_OUTPUT + output as u32)?;
@@ -54,10 +51,7 @@ fn long_enough<D: Disk>(disk: &mut D, found: Checkpoint) -> Result<Checkpoint, B
         (or_short found (short_in found (D.view disk.old).seen)) }
     ensures same { IfOk result (λ c. c ≡ found) }
     ensures quiet { D.tells → IsQuiet (D.view disk.old) (D.view disk.new) }
-    ensures mounted { IsTrue (D.mounted disk.new) }
-    ensures folders { D.folders disk.new ≡ D.folders disk.old }
-    ensures count { D.file_count disk.new ≡ D.file_count disk.old }
-    ensures cause { HasCause BeginFault.Disk (D.faults disk.old) (D.faults disk.new) result }
+    ensures kept { Keeps D.Disk BeginFault.Disk disk.old disk.new result }
 {
     match short_of(disk, found.lengths.as_slice())? {
         None => Ok(found),
@@ -82,10 +76,7 @@ pub fn judge<D: Disk>(
     ensures fits { IfOk result (λ c. fits_job job.now c ≡ true) }
     ensures one { IfOk result (λ c. length c.lengths ≡ output_count) }
     ensures quiet { D.tells → IsQuiet (D.view disk.old) (D.view disk.new) }
-    ensures mounted { IsTrue (D.mounted disk.new) }
-    ensures folders { D.folders disk.new ≡ D.folders disk.old }
-    ensures count { D.file_count disk.new ≡ count_with 0 }
-    ensures cause { HasCause BeginFault.Disk (D.faults disk.old) (D.faults disk.new) result }
+    ensures kept { Keeps D.Disk BeginFault.Disk disk.old disk.new result }
 {
     let bytes = read_whole(alloc, disk, slot)?;
     let Some(found) = decode(alloc, bytes.as_slice())? else {

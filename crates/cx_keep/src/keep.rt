@@ -3,6 +3,7 @@ ghost use Rattle.std.specs.Prelude.{◌≡◌, ◌≤◌, ◌+◌, ◌^◌, true
 ghost use Rattle.cx_disk.specs.Disk.{IsNamed};
 ghost use Rattle.cx_disk.specs.Files.{count_with, output_limit};
 ghost use Rattle.cx_disk.specs.Cause.{HasCause};
+ghost use Rattle.cx_disk.specs.Keeps.{Keeps};
 ghost use Rattle.cx_disk.specs.Moments.{IsQuiet};
 ghost use Rattle.cx_plan.specs.Whole.{IsWhole};
 ghost use Rattle.cx_chk.specs.Encoding.{IsCheckpoint};
@@ -49,10 +50,7 @@ fn settle<D: Disk>(disk: &mut D, outputs: u32) -> Result<(), DiskFault>
     requires files { file_of_output outputs ≤ D.file_count disk.old }
     ensures quiet { D.tells → IsQuiet (D.view disk.old) (D.view disk.new) }
     ensures settled { D.tells → OnOk result (OutputsSettled outputs (D.view disk.new)) }
-    ensures mounted { IsTrue (D.mounted disk.new) }
-    ensures folders { D.folders disk.new ≡ D.folders disk.old }
-    ensures count { D.file_count disk.new ≡ D.file_count disk.old }
-    ensures cause { HasCause DiskFault.Failed (D.faults disk.old) (D.faults disk.new) result }
+    ensures kept { Keeps D.Disk DiskFault.Failed disk.old disk.new result }
 {
     'each: for output in 0..outputs {
         disk.sync(OLD_OUTPUT + output)?;
@@ -91,10 +89,7 @@ impl Keep {
         ensures key { IfOk result (λ r. IfSome r.1 (λ c. c.key ≡ job.now.key)) }
         ensures fits { IfOk result (λ r. IfSome r.1 (λ c. fits_job job.now c ≡ true)) }
         ensures keeper { IfOk result (λ r. (r.0 ≡ keeper_of job.now r.1) × HasLengths r.1) }
-        ensures mounted { IsTrue (D.mounted disk.new) }
-        ensures folders { D.folders disk.new ≡ D.folders disk.old }
-        ensures count { D.file_count disk.new ≡ count_with 0 }
-        ensures cause { HasCause BeginFault.Disk (D.faults disk.old) (D.faults disk.new) result }
+        ensures kept { Keeps D.Disk BeginFault.Disk disk.old disk.new result }
     {
         let found = start(alloc, disk, job)?;
         let lengths = lengths_of(alloc, &found)?;
@@ -159,10 +154,7 @@ impl Keep {
             (IsAppended bytes.now (D.view disk.old) (D.view disk.new)) }
         ensures rest { D.tells → KeepsRest (D.view disk.old) (D.view disk.new) }
         ensures moments { D.tells → AppendMoments bytes.now (D.view disk.old) (D.view disk.new) }
-        ensures mounted { IsTrue (D.mounted disk.new) }
-        ensures folders { D.folders disk.new ≡ D.folders disk.old }
-        ensures count { D.file_count disk.new ≡ D.file_count disk.old }
-        ensures cause { HasCause DiskFault.Failed (D.faults disk.old) (D.faults disk.new) result }
+        ensures kept { Keeps D.Disk DiskFault.Failed disk.old disk.new result }
     {
         let at = self.lengths[0];
         disk.write_at(OLD_OUTPUT, at, bytes)?;
@@ -193,10 +185,7 @@ impl Keep {
         ensures stands { D.tells → OnOk result
             (SaveStands c.now (D.view disk.old) (D.view disk.new)) }
         ensures moments { D.tells → SaveMoments c.now (D.view disk.old) (D.view disk.new) }
-        ensures mounted { IsTrue (D.mounted disk.new) }
-        ensures folders { D.folders disk.new ≡ D.folders disk.old }
-        ensures count { D.file_count disk.new ≡ D.file_count disk.old }
-        ensures cause { HasCause DiskFault.Failed (D.faults disk.old) (D.faults disk.new) result }
+        ensures kept { Keeps D.Disk DiskFault.Failed disk.old disk.new result }
     {
         settle(disk, self.lengths.len() as u32)?;
         Slots::save(alloc, disk, self.keep, c)
@@ -212,10 +201,7 @@ impl Keep {
         ensures quiet { D.tells → IsQuiet (D.view disk.old) (D.view disk.new) }
         ensures settled { D.tells → OnOk result
             (OutputsSettled (length self.old.lengths) (D.view disk.new)) }
-        ensures mounted { IsTrue (D.mounted disk.new) }
-        ensures folders { D.folders disk.new ≡ D.folders disk.old }
-        ensures count { D.file_count disk.new ≡ D.file_count disk.old }
-        ensures cause { HasCause DiskFault.Failed (D.faults disk.old) (D.faults disk.new) result }
+        ensures kept { Keeps D.Disk DiskFault.Failed disk.old disk.new result }
     {
         settle(disk, self.lengths.len() as u32)
     }

@@ -1,6 +1,6 @@
 //! The end of a start with a checkpoint: the slots are settled, and each output is cut to what it records.
 ghost use Rattle.std.specs.Prelude.{◌≡◌, ◌≤◌, ◌+◌, length, IsTrue, OnOk};
-ghost use Rattle.cx_disk.specs.Cause.{HasCause};
+ghost use Rattle.cx_disk.specs.Keeps.{Keeps};
 ghost use Rattle.cx_disk.specs.Moments.{IsQuiet};
 ghost use Rattle.cx_disk.specs.Files.{output_limit, slot_count};
 ghost use Rattle.cx_chk.specs.Slots.{SlotsSettled};
@@ -17,10 +17,7 @@ pub fn settle_slots<D: Disk>(disk: &mut D) -> Result<(), DiskFault>
     requires files { slot_count ≤ D.file_count disk.old }
     ensures quiet { D.tells → IsQuiet (D.view disk.old) (D.view disk.new) }
     ensures settled { D.tells → OnOk result (SlotsSettled (D.view disk.new)) }
-    ensures mounted { IsTrue (D.mounted disk.new) }
-    ensures folders { D.folders disk.new ≡ D.folders disk.old }
-    ensures count { D.file_count disk.new ≡ D.file_count disk.old }
-    ensures cause { HasCause DiskFault.Failed (D.faults disk.old) (D.faults disk.new) result }
+    ensures kept { Keeps D.Disk DiskFault.Failed disk.old disk.new result }
 {
     'each: for slot in 0..SLOTS {
         disk.sync(slot)?;
@@ -39,10 +36,7 @@ pub fn cut_outputs<D: Disk>(disk: &mut D, lengths: &[u64]) -> Result<(), DiskFau
     ensures slots { D.tells → SlotsSame (D.view disk.old).seen (D.view disk.new).seen }
     ensures cut { D.tells → OnOk result
         (AreCut lengths.now (D.view disk.old) (D.view disk.new)) }
-    ensures mounted { IsTrue (D.mounted disk.new) }
-    ensures folders { D.folders disk.new ≡ D.folders disk.old }
-    ensures count { D.file_count disk.new ≡ D.file_count disk.old }
-    ensures cause { HasCause DiskFault.Failed (D.faults disk.old) (D.faults disk.new) result }
+    ensures kept { Keeps D.Disk DiskFault.Failed disk.old disk.new result }
 {
     'each: for output in 0..lengths.len() {
         trim(disk, OLD_OUTPUT + output as u32, lengths[output])?;
@@ -62,10 +56,7 @@ pub fn resume<D: Disk>(disk: &mut D, c: &Checkpoint) -> Result<(), DiskFault>
     ensures left { D.tells → OnOk result
         (IsLeft c.now.lengths (D.view disk.old) (D.view disk.new)) }
     ensures slots { D.tells → SlotsSame (D.view disk.old).seen (D.view disk.new).seen }
-    ensures mounted { IsTrue (D.mounted disk.new) }
-    ensures folders { D.folders disk.new ≡ D.folders disk.old }
-    ensures count { D.file_count disk.new ≡ D.file_count disk.old }
-    ensures cause { HasCause DiskFault.Failed (D.faults disk.old) (D.faults disk.new) result }
+    ensures kept { Keeps D.Disk DiskFault.Failed disk.old disk.new result }
 {
     settle_slots(disk)?;
     cut_outputs(disk, c.lengths.as_slice())

@@ -1,6 +1,6 @@
 //! The start of a run on a mounted disk: the tests, and then the slots settled and the output cut.
 ghost use Rattle.std.specs.Prelude.{◌≡◌, ◌≢◌, ◌<◌, true, Some, None, length, IsTrue, OnOk, IfOk, IfErr, IfSome};
-ghost use Rattle.cx_disk.specs.Cause.{HasCause};
+ghost use Rattle.cx_disk.specs.Keeps.{Keeps};
 ghost use Rattle.cx_plan.specs.Whole.{IsWhole};
 ghost use Rattle.cx_plan.specs.declared.job.Recover.TheVariants as recovers;
 ghost use Rattle.cx_disk.specs.Files.{count_with, slot_count};
@@ -26,10 +26,7 @@ fn afresh<D: Disk>(disk: &mut D) -> Result<(), DiskFault>
         (IsStarted recovers.Autoprobe None (D.view disk.old) (D.view disk.new)) }
     ensures moments { D.tells →
         StartMoments recovers.Autoprobe (D.view disk.old) (D.view disk.new) }
-    ensures mounted { IsTrue (D.mounted disk.new) }
-    ensures folders { D.folders disk.new ≡ D.folders disk.old }
-    ensures count { D.file_count disk.new ≡ count_with 0 }
-    ensures cause { HasCause DiskFault.Failed (D.faults disk.old) (D.faults disk.new) result }
+    ensures kept { Keeps D.Disk DiskFault.Failed disk.old disk.new result }
 {
     settle_slots(disk)?;
     cut_outputs(disk, &[0])
@@ -42,10 +39,7 @@ fn give_up<D: Disk>(disk: &mut D) -> Result<(), DiskFault>
     ensures started { D.tells → OnOk result
         (IsStarted recovers.No None (D.view disk.old) (D.view disk.new)) }
     ensures moments { D.tells → StartMoments recovers.No (D.view disk.old) (D.view disk.new) }
-    ensures mounted { IsTrue (D.mounted disk.new) }
-    ensures folders { D.folders disk.new ≡ D.folders disk.old }
-    ensures count { D.file_count disk.new ≡ count_with 0 }
-    ensures cause { HasCause DiskFault.Failed (D.faults disk.old) (D.faults disk.new) result }
+    ensures kept { Keeps D.Disk DiskFault.Failed disk.old disk.new result }
 {
     settle_slots(disk)?;
     Slots::close_all(disk)?;
@@ -76,10 +70,7 @@ fn go_on<D: Disk>(
     ensures key { IfOk result (λ c. c.key ≡ job.now.key) }
     ensures fits { IfOk result (λ c. fits_job job.now c ≡ true) }
     ensures one { IfOk result (λ c. length c.lengths ≡ output_count) }
-    ensures mounted { IsTrue (D.mounted disk.new) }
-    ensures folders { D.folders disk.new ≡ D.folders disk.old }
-    ensures count { D.file_count disk.new ≡ count_with 0 }
-    ensures cause { HasCause BeginFault.Disk (D.faults disk.old) (D.faults disk.new) result }
+    ensures kept { Keeps D.Disk BeginFault.Disk disk.old disk.new result }
 {
     let found = judge(alloc, disk, job, slot)?;
     resume(disk, &found)?;
@@ -101,10 +92,7 @@ fn with_none<D: Disk>(disk: &mut D, job: &Job) -> Result<Option<Checkpoint>, Beg
     ensures key { IfOk result (λ found. IfSome found (λ c. c.key ≡ job.now.key)) }
     ensures fits { IfOk result (λ found. IfSome found (λ c. fits_job job.now c ≡ true)) }
     ensures one { IfOk result HasLengths }
-    ensures mounted { IsTrue (D.mounted disk.new) }
-    ensures folders { D.folders disk.new ≡ D.folders disk.old }
-    ensures count { D.file_count disk.new ≡ count_with 0 }
-    ensures cause { HasCause BeginFault.Disk (D.faults disk.old) (D.faults disk.new) result }
+    ensures kept { Keeps D.Disk BeginFault.Disk disk.old disk.new result }
 {
     if let Recover::Auto = job.recover {
         return Err(BeginFault::NoCheckpoint);
@@ -137,10 +125,7 @@ fn with_newest<D: Disk>(
     ensures key { IfOk result (λ found. IfSome found (λ c. c.key ≡ job.now.key)) }
     ensures fits { IfOk result (λ found. IfSome found (λ c. fits_job job.now c ≡ true)) }
     ensures one { IfOk result HasLengths }
-    ensures mounted { IsTrue (D.mounted disk.new) }
-    ensures folders { D.folders disk.new ≡ D.folders disk.old }
-    ensures count { D.file_count disk.new ≡ count_with 0 }
-    ensures cause { HasCause BeginFault.Disk (D.faults disk.old) (D.faults disk.new) result }
+    ensures kept { Keeps D.Disk BeginFault.Disk disk.old disk.new result }
 {
     let found = go_on(alloc, disk, job, slot, iteration)?;
     Ok(Some(found))
@@ -168,10 +153,7 @@ fn with_slot<D: Disk>(
     ensures key { IfOk result (λ found. IfSome found (λ c. c.key ≡ job.now.key)) }
     ensures fits { IfOk result (λ found. IfSome found (λ c. fits_job job.now c ≡ true)) }
     ensures one { IfOk result HasLengths }
-    ensures mounted { IsTrue (D.mounted disk.new) }
-    ensures folders { D.folders disk.new ≡ D.folders disk.old }
-    ensures count { D.file_count disk.new ≡ count_with 0 }
-    ensures cause { HasCause BeginFault.Disk (D.faults disk.old) (D.faults disk.new) result }
+    ensures kept { Keeps D.Disk BeginFault.Disk disk.old disk.new result }
 {
     match newest {
         Some((slot, iteration)) => with_newest(alloc, disk, job, slot, iteration),
@@ -198,10 +180,7 @@ fn with_kept<D: Disk>(
     ensures key { IfOk result (λ found. IfSome found (λ c. c.key ≡ job.now.key)) }
     ensures fits { IfOk result (λ found. IfSome found (λ c. fits_job job.now c ≡ true)) }
     ensures one { IfOk result HasLengths }
-    ensures mounted { IsTrue (D.mounted disk.new) }
-    ensures folders { D.folders disk.new ≡ D.folders disk.old }
-    ensures count { D.file_count disk.new ≡ count_with 0 }
-    ensures cause { HasCause BeginFault.Disk (D.faults disk.old) (D.faults disk.new) result }
+    ensures kept { Keeps D.Disk BeginFault.Disk disk.old disk.new result }
 {
     let newest = Slots::newest(disk)?;
     with_slot(alloc, disk, job, newest)
@@ -225,10 +204,7 @@ pub fn start<D: Disk>(
     ensures key { IfOk result (λ found. IfSome found (λ c. c.key ≡ job.now.key)) }
     ensures fits { IfOk result (λ found. IfSome found (λ c. fits_job job.now c ≡ true)) }
     ensures one { IfOk result HasLengths }
-    ensures mounted { IsTrue (D.mounted disk.new) }
-    ensures folders { D.folders disk.new ≡ D.folders disk.old }
-    ensures count { D.file_count disk.new ≡ count_with 0 }
-    ensures cause { HasCause BeginFault.Disk (D.faults disk.old) (D.faults disk.new) result }
+    ensures kept { Keeps D.Disk BeginFault.Disk disk.old disk.new result }
 {
     if let Recover::No = job.recover {
         give_up(disk)?;

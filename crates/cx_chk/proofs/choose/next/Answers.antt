@@ -10,10 +10,10 @@ look-preserved g c =
     let inv = c.look.invariant in
     let h = c.header.ensures in
     record {
-      mounted = h.mounted;
-      folders = h.folders ∙ inv.folders;
-      count = h.count ∙ inv.count;
-      faults = let a = inv.faults in let b = h.cause.later in omega arith;
+      mounted = h.kept.mounted;
+      folders = h.kept.folders ∙ inv.folders;
+      count = h.kept.count ∙ inv.count;
+      faults = let a = inv.faults in let b = h.kept.cause.later in omega arith;
       quiet = λ tells. quiet_more (inv.quiet tells) (h.quiet tells);
       known = subst (λ (b : ℕ × ℕ). b.0 < c.look.slot + 1) (sym c.older_of.ensures)
           (older_known c.look.slot c.look.oldest c.in-Some.iteration inv.known);

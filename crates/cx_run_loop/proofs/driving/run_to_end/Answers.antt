@@ -50,4 +50,4 @@ returns-in_err-finish-clause-stops g c =
     let first : g.D.Disk.faults c.args.disk.now ≤ g.D.Disk.faults c.run.new.disk = c.in_ok-run.ensures.stops.disk_later in
     let later : g.W.Wire.faults c.args.wire.now ≤ g.W.Wire.faults c.run.new.wire = c.in_ok-run.ensures.stops.wire_later in
     rw (p.1, p.2) (stopped_after _ (count a b) (count w w) (count (g.D.Disk.faults c.args.disk.now) b) (count (g.W.Wire.faults c.args.wire.now) w)
-    (Err (of_disk c.in_err-finish.field-0.0)) (omega arith) (omega arith) (omega arith) (omega arith) (disk_stops _ _ a b w c.in_err-finish.field-0.0 c.in_err-finish.ensures.cause))
+    (Err (of_disk c.in_err-finish.field-0.0)) (omega arith) (omega arith) (omega arith) (omega arith) (disk_stops _ _ a b w c.in_err-finish.field-0.0 c.in_err-finish.ensures.kept.cause))

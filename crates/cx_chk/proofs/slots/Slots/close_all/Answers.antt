@@ -25,10 +25,10 @@ each-preserved g c =
     let inv = c.each.invariant in
     let h = c.close.ensures in
     record {
-      mounted = h.mounted;
-      folders = h.folders ∙ inv.folders;
-      count = h.count ∙ inv.count;
-      faults = let a = inv.faults in let b = h.cause.later in omega arith;
+      mounted = h.kept.mounted;
+      folders = h.kept.folders ∙ inv.folders;
+      count = h.kept.count ∙ inv.count;
+      faults = let a = inv.faults in let b = h.kept.cause.later in omega arith;
       crash = λ tells d now. closing c.each.slot (g.D.Disk.view c.args.disk.now)
           (g.D.Disk.view c.each.disk) (g.D.Disk.view c.close.new.disk)
           (let t = c.each-test.true in omega arith) (inv.crash tells)
