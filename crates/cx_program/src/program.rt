@@ -16,7 +16,7 @@ use std::io::{self, ErrorKind};
 use std::process::ExitCode;
 
 /// Does what these words ask in the current folder, prints the answer, and gives the program's exit code: the
-/// status of the top call, or 5 where memory is wanting, or where the host couldn't give its words.
+/// status of the top call, or 5 where memory runs out, or where the host couldn't give its words.
 pub fn run_words(rt: &HostRuntime, words: io::Result<Vec<Text>>) -> ExitCode
     ensures given { IfOk words (λ given. IsStatusFor given.items (exit_status result)) }
     ensures wanting { OnErr words (exit_status result ≡ 5) }
@@ -38,7 +38,7 @@ fn exit_code(rt: &HostRuntime, words: &[Text]) -> ExitCode
     }
 }
 
-/// The exit code where memory is wanting.
+/// The exit code where memory runs out.
 fn wanting(rt: &HostRuntime) -> ExitCode
     ensures { exit_status result ≡ 5 }
 {

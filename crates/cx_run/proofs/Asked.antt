@@ -37,7 +37,7 @@ rises_lent lent (commands.Make seed size) rose = absurd (never rose)
     never h = omega (arith, h)
 rises_lent lent command rose = rose
 
--- the shelf failed or memory is wanting, and nothing was touched
+-- the shelf failed or memory runs out, and nothing was touched
 pub data HasFailed (c : Call) (answer : Answer) : Type 0 where
   shelf : answer ≡ a.Shelf → HasRisen c.shelf.faults → IsStill c.work → HasFailed c answer
   memory : answer ≡ a.Memory → IsStill c.work → HasFailed c answer

@@ -140,7 +140,7 @@ IsStatus status =
 abbrev pub IsPlainStatus : ℕ → Type 0
 IsPlainStatus status = (status ≡ 0) ⊎ ((status ≡ 2) ⊎ ((status ≡ 4) ⊎ (status ≡ 5)))
 
--- Where they ask for nothing it is 1, unless the sink failed or memory is wanting, and only there;
+-- Where they ask for nothing it is 1, unless the sink failed or memory runs out, and only there;
 -- 0, 2, 3 and 6 come where they ask for something, and 3 and 6 where they ask for a run.
 pub record IsStatusFor (words : List (List ℕ)) (status : ℕ) : Type 0 where
   pub known : IsStatus status

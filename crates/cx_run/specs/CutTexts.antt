@@ -10,7 +10,7 @@ use Rattle.cx_grid.specs.Boxes.{along, point_by, extent}
 use Rattle.cx_cut.specs.Cuts.{Parts, widths, part_count, owned, neighbour}
 use Rattle.cx_job.specs.Keys.{letter, line_feed}
 
--- a number behind a blank
+-- a number after a blank
 abbrev pub number_text : ℕ → List ℕ
 number_text n = 32 ∷ decimal n
 

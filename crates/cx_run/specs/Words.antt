@@ -43,7 +43,7 @@ abbrev pub run_with : List ℕ → Option ℕ → Option Request
 run_with file None = None
 run_with file (Some seed) = with_file Run seed file
 
--- a file, with a seed before or behind it, or with none
+-- a file, with a seed before or after it, or with none
 abbrev pub run_asked : List (List ℕ) → Option Request
 run_asked [] = None
 run_asked (file ∷ []) = with_file Run 0 file

@@ -44,15 +44,15 @@ use std::alloc::Global;
 /// | `make SEED SIZE` | makes a parameter file of Life, a list of thorns and the thorn's files, and runs their job | `done: iteration N`, and a line that sums the run up |
 ///
 /// FILE isn't empty and doesn't begin with `-`. What makes a job is said at `make_job` of cx_job. `run` takes `--turns SEED` or
-/// `--turns=SEED` before or behind FILE, one to twenty digits below 2^64: the source of turns begins anew from SEED, or from 0.
+/// `--turns=SEED` before or after FILE, one to twenty digits below 2^64: the source of turns begins anew from SEED, or from 0.
 ///
 /// `make` takes a SEED of one to twenty digits below 2^63 and a SIZE of one to four digits from 8 to 1024. Its files are those of
-/// `made_files` of cx_run_made, which the shelf doesn't see: the shelf is left alone. It goes on as `run made.par` does. Where the run is
+/// `made_files` of cx_run_made, which the shelf doesn't see: the shelf is left alone. It is done as `run made.par` does. Where the run is
 /// done it tells how many points there are, how long the output is, and how many cells live in the last state.
 ///
 /// A run goes by `drive` of cx_run_loop: the grid is cut into parts, which exchange messages by the wire, in the order that `turns`
 /// picks; the output goes into the file `OLD_OUTPUT` of the disk, and checkpoints into its slots. By the job's `IO::recover` it begins afresh
-/// or goes on from the newest checkpoint. Where the shelf, the disk and the wire tell what they hold, and each image of the disk is a
+/// or resumes from the newest checkpoint. Where the shelf, the disk and the wire tell what they hold, and each image of the disk is a
 /// trail of the job at the start, or old checkpoints are given up, then at status 0 and 3 the output is that of the undivided run, also
 /// in what a crash may leave; and at any status each image at each moment of the call is a trail of the job.
 ///
@@ -65,13 +65,13 @@ use std::alloc::Global;
 /// | 2 | the file makes no job | `refused: ` and the words of the fault |
 /// | 3 | its run ended earlier | `ended: `, the end's name, the iteration, and the path of the item or WHILE, if it has one |
 /// | 4 | a device failed | `device: shelf`, `device: disk`, `device: wire`; after a failure of the sink nothing more |
-/// | 5 | memory is wanting | `memory` |
+/// | 5 | memory runs out | `memory` |
 /// | 6 | its run can't begin on what the disk holds | `recovery: ` and the words of the fault |
 ///
 /// Each text ends with a line feed. The ends are `Overflow`, `WhileLimit` and `OutputLimit` (`End` of cx_model), the faults of status 6
 /// `NoCheckpoint`, `Damaged`, `OtherJob` and `OutputShort` (`BeginFault` of cx_keep). The commands but `run` and `make` touch neither the
 /// disk nor the wire nor the meter; at status 1, 2 and 6 no byte of the disk is changed, and neither the wire nor the meter. At status 0 of a run
-/// from such a disk the meter has risen by the points that the parts compute behind the newest checkpoint, and the wire has given out
+/// from such a disk the meter has risen by the points that the parts compute after the newest checkpoint, and the wire has given out
 /// the values that they exchange there.
 pub fn cactus<H: Shelf, D: Disk, W: Wire, T: Turns, O: Sink>(
     alloc: Global,

@@ -30,7 +30,7 @@ fn widths(job: &Job, direction: u8) -> &[u32]
     }
 }
 
-/// Adds widths, each behind a blank.
+/// Adds widths, each after a blank.
 fn push_widths(text: &mut Text, alloc: Global, widths: &[u32]) -> Result<(), Memory>
     ensures { OnOk result (text.new ≡ text.old ++ flat_map number_text widths.now) }
 {
@@ -95,7 +95,7 @@ fn coordinate(p: Point, direction: u8) -> u32
     }
 }
 
-/// Adds the numbers of a point, each behind a blank.
+/// Adds the numbers of a point, each after a blank.
 fn push_point(text: &mut Text, alloc: Global, dims: u8, p: Point) -> Result<(), Memory>
     ensures { OnOk result (text.new ≡ text.old ++ point_text dims p) }
 {
@@ -105,7 +105,7 @@ fn push_point(text: &mut Text, alloc: Global, dims: u8, p: Point) -> Result<(), 
     Ok(())
 }
 
-/// Adds a neighbour, or a dash, behind a blank.
+/// Adds a neighbour, or a dash, after a blank.
 fn push_neighbour(text: &mut Text, alloc: Global, neighbour: Option<u32>) -> Result<(), Memory>
     ensures { OnOk result (text.new ≡ text.old ++ neighbour_text neighbour) }
 {
@@ -202,7 +202,7 @@ fn cut_of(alloc: Global, job: &Job) -> Result<Cut, Memory>
 
 /// The parts of a job's grid as text, a line for each: its number, and with one number for each direction where its own points begin, how
 /// many they are, and its neighbours at the low and at the high side, with a dash where it has none. It asks for a job whose cut `cut`
-/// of cx_cut accepts, as that of each job from `make_job` is. It fails where memory is wanting.
+/// of cx_cut accepts, as that of each job from `make_job` is. It fails where memory runs out.
 pub fn parts_text(alloc: Global, job: &Job) -> Result<Text, Memory>
     requires shape { IsShape job.now.shape }
     requires cut { cut_fault (parts_of job.now.shape job.now.cut) ≡ None }

@@ -27,7 +27,7 @@ fn push_or_dash(text: &mut Text, name: &[u8]) -> Result<(), Memory>
     }
 }
 
-/// Adds a path or a name behind a blank.
+/// Adds a path or a name after a blank.
 pub(crate) fn push_name(text: &mut Text, name: &[u8]) -> Result<(), Memory>
     ensures { OnOk result (text.new ≡ text.old ++ 32 ∷ or_dash name.now) }
 {
@@ -35,7 +35,7 @@ pub(crate) fn push_name(text: &mut Text, name: &[u8]) -> Result<(), Memory>
     push_or_dash(text, name)
 }
 
-/// Adds a number behind a blank.
+/// Adds a number after a blank.
 pub(crate) fn push_number(text: &mut Text, alloc: Global, number: u64) -> Result<(), Memory>
     ensures { OnOk result (text.new ≡ text.old ++ 32 ∷ decimal number) }
 {
@@ -117,7 +117,7 @@ fn push_numbers(
     push_number(text, alloc, second)
 }
 
-/// Adds a name behind a comma.
+/// Adds a name after a comma.
 fn push_further(text: &mut Text, name: &Text) -> Result<(), Memory>
     ensures { OnOk result (text.new ≡ text.old ++ (codes "," ++ or_dash name.now)) }
 {
@@ -253,7 +253,7 @@ fn push_scope_fault(text: &mut Text, fault: &ScopeFault) -> Result<(), Memory>
     }
 }
 
-/// Adds a fault of an expression behind the thorn that has it.
+/// Adds a fault of an expression after the thorn that has it.
 fn push_expr_of(text: &mut Text, thorn: &Text, fault: &ExprFault) -> Result<(), Memory>
     ensures { OnOk result
         (text.new ≡ text.old ++ spaced (or_dash thorn.now ∷ expr_fault_words fault.now ∷ [])) }
@@ -262,7 +262,7 @@ fn push_expr_of(text: &mut Text, thorn: &Text, fault: &ExprFault) -> Result<(), 
     push_expr_fault(text, fault)
 }
 
-/// Adds a fault of a name behind the thorn or the path where it stands.
+/// Adds a fault of a name after the thorn or the path where it is.
 fn push_scope_of(text: &mut Text, place: &Text, fault: &ScopeFault) -> Result<(), Memory>
     ensures { OnOk result
         (text.new ≡ text.old ++ spaced (or_dash place.now ∷ scope_fault_words fault.now ∷ [])) }
@@ -306,7 +306,7 @@ struct LevelFlag {
     flag: Flag,
 }
 
-/// Adds a level and a flag, each behind a blank.
+/// Adds a level and a flag, each after a blank.
 fn push_level_flag(text: &mut Text, alloc: Global, at: LevelFlag) -> Result<(), Memory>
     ensures { OnOk result
         (text.new ≡ text.old ++ 32 ∷ spaced (decimal at.level ∷ flag_letter at.flag ∷ [])) }
@@ -356,7 +356,7 @@ fn push_region_fault(text: &mut Text, alloc: Global, fault: &RegionFault) -> Res
     }
 }
 
-/// Adds a fault of a text behind its file's name.
+/// Adds a fault of a text after its file's name.
 fn push_text_of(text: &mut Text, alloc: Global, file: &Text, fault: TextFault) -> Result<(), Memory>
     ensures { OnOk result
         (text.new ≡ text.old ++ spaced (or_dash file.now ∷ text_fault_words fault ∷ [])) }
@@ -365,7 +365,7 @@ fn push_text_of(text: &mut Text, alloc: Global, file: &Text, fault: TextFault) -
     push_text_fault(text, alloc, fault)
 }
 
-/// Adds a fault of tokens behind their file's name.
+/// Adds a fault of tokens after their file's name.
 fn push_tree_of(text: &mut Text, alloc: Global, file: &Text, fault: CclFault) -> Result<(), Memory>
     ensures { OnOk result
         (text.new ≡ text.old ++ spaced (or_dash file.now ∷ tree_fault_words fault ∷ [])) }

@@ -56,7 +56,7 @@ pub enum Answer {
     Disk,
     /// The wire failed.
     Wire,
-    /// Memory was wanting.
+    /// There was no memory left.
     Memory,
     /// A run couldn't begin on what the disk holds.
     Recovery(BeginFault),
@@ -80,7 +80,7 @@ impl Answer {
         }
     }
 
-    /// The text that is printed. It fails where memory is wanting.
+    /// The text that is printed. It fails where memory runs out.
     pub fn text(self, alloc: Global) -> Result<Text, Memory>
         ensures { IfOk result (λ text. text ≡ text_of self) }
     {
@@ -129,7 +129,7 @@ pub(crate) fn answer_for(fault: DriveFault) -> Answer
     }
 }
 
-/// The end of a run that is over. It fails where memory is wanting.
+/// The end of a run that is over. It fails where memory runs out.
 fn end_in(alloc: Global, outcome: &Outcome) -> Result<End, Memory>
     requires over { outcome.now ≢ Outcome.Going }
     ensures { IfOk result (λ end. end ≡ end_in outcome.now) }
@@ -293,7 +293,7 @@ fn ended_text(alloc: Global, end: &End) -> Result<Text, Memory>
     Ok(text)
 }
 
-/// Adds a name, and two texts behind it on lines of their own.
+/// Adds a name, and two texts after it on lines of their own.
 fn push_lines(text: &mut Text, name: &[u8], a: &Text, b: &Text) -> Result<(), Memory>
     ensures { OnOk result (text.new ≡ text.old ++ (name.now ++ 10 ∷ a.now ++ 10 ∷ b.now)) }
 {

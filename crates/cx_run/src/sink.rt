@@ -13,7 +13,7 @@ use thiserror::Error;
 /// Why a sink took less than it was given.
 #[derive(Clone, Copy, Debug, Error, PartialEq, Eq)]
 pub enum SinkFault {
-    /// The sink failed. Its count of faults has risen in this call, or stands at 2^64 - 1.
+    /// The sink failed. Its count of faults has risen in this call, or is 2^64 - 1.
     #[error("Failed")]
     Failed,
 }

@@ -8,7 +8,7 @@ use cx_plan::Job;
 use cx_text::{Memory, Text};
 use std::alloc::Global;
 
-/// The schedule of a job as text: a line for each bin, group and call. It fails where memory is wanting.
+/// The schedule of a job as text: a line for each bin, group and call. It fails where memory runs out.
 pub fn schedule_text(alloc: Global, job: &Job) -> Result<Text, Memory>
     ensures { IfOk result (λ text. text ≡ job.now.plan_text) }
 {
@@ -16,7 +16,7 @@ pub fn schedule_text(alloc: Global, job: &Job) -> Result<Text, Memory>
 }
 
 /// The key of a job as text: a line for each thorn, direction of the grid, variable and parameter that says what is computed, then the
-/// schedule text. It fails where memory is wanting.
+/// schedule text. It fails where memory runs out.
 pub fn key_lines(alloc: Global, job: &Job) -> Result<Text, Memory>
     ensures { IfOk result (λ text. text ≡ job.now.key) }
 {
@@ -24,7 +24,7 @@ pub fn key_lines(alloc: Global, job: &Job) -> Result<Text, Memory>
 }
 
 /// All that a job is made of, as text: its key, then a line for each parameter that only says how and where it is run, then a line for
-/// each direction of the grid with the widths of its parts. It fails where memory is wanting.
+/// each direction of the grid with the widths of its parts. It fails where memory runs out.
 pub fn describe(alloc: Global, job: &Job) -> Result<Text, Memory>
     ensures { IfOk result (λ text. text ≡ job.now.key ++ job.now.starred
         ++ cut_lines (parts_of job.now.shape job.now.cut)) }

@@ -39,7 +39,7 @@ pub(crate) fn request_of(words: &[Text]) -> Option<(Command, &[u8], u64)>
     }
 }
 
-/// What a word and those behind it ask for.
+/// What a word and those after it ask for.
 fn asked_by<'a>(word: &[u8], rest: &'a [Text]) -> Option<(Command, &'a [u8], u64)>
     ensures { option_map (λ ask. request ask.0 ask.1.now ask.2) result
         ≡ asked (word.now ∷ rest.now) }
@@ -85,7 +85,7 @@ fn file_asked(command: Option<Command>, words: &[Text]) -> Option<(Command, &[u8
     }
 }
 
-/// A run of a file, with a seed before or behind it, or with none.
+/// A run of a file, with a seed before or after it, or with none.
 fn run_asked(words: &[Text]) -> Option<(Command, &[u8], u64)>
     ensures { option_map (λ ask. request ask.0 ask.1.now ask.2) result ≡ run_asked words.now }
 {

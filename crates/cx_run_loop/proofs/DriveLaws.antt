@@ -21,17 +21,29 @@ use Rattle.cx_run_loop.proofs.WholeLaws.{setting, counts_before, place_behind, h
 -- ---- a start that failed
 
 module _ (d : Drive) (laws : DriveLaws d.wire.tells d.job d.rules) (fault : BeginFault) where
-  comes_refused : (A : Type 0) (one : BeginFault) → fault ≡ one → (d.disk.tells → IsFaultOf {A = Option Checkpoint} one (begun d.job d.disk.old.seen)) → (d.disk.tells → LeavesAsIs d.disk.old d.disk.new one)
-      → HasCause {T = A} begin.Disk d.disk.faults.old d.disk.faults.new (Err one) → d.wire.same → d.meter.new ≡ d.meter.old → Comes d (Err (of_begin one))
+  comes_refused : (A : Type 0) (one : BeginFault) → fault ≡ one
+      → (d.disk.tells → IsFaultOf {A = Option Checkpoint} one (begun d.job d.disk.old.seen))
+      → (d.disk.tells → LeavesAsIs d.disk.old d.disk.new one)
+      → HasCause {T = A} begin.Disk d.disk.faults.old d.disk.faults.new (Err one) → d.wire.same
+      → d.meter.new ≡ d.meter.old → Comes d (Err (of_begin one))
   comes_refused A begin.Disk is began quiet cause wire meter = cause.failed refl
   comes_refused A begin.Memory is began quiet cause wire meter = tt
-  comes_refused A begin.NoCheckpoint is began quiet cause wire meter = record { refusal = tt; began = began; quiet = λ t. quiet t tt; wire = wire; meter = meter }
-  comes_refused A (begin.OtherJob a b) is began quiet cause wire meter = record { refusal = tt; began = began; quiet = λ t. quiet t tt; wire = wire; meter = meter }
-  comes_refused A (begin.Damaged slot) is began quiet cause wire meter = record { refusal = tt; began = began; quiet = λ t. quiet t tt; wire = wire; meter = meter }
-  comes_refused A (begin.OutputShort a b) is began quiet cause wire meter = record { refusal = tt; began = began; quiet = λ t. quiet t tt; wire = wire; meter = meter }
+  comes_refused A begin.NoCheckpoint is began quiet cause wire meter =
+      record { refusal = tt; began = began; quiet = λ t. quiet t tt; wire = wire; meter = meter }
+  comes_refused A (begin.OtherJob a b) is began quiet cause wire meter =
+      record { refusal = tt; began = began; quiet = λ t. quiet t tt; wire = wire; meter = meter }
+  comes_refused A (begin.Damaged slot) is began quiet cause wire meter =
+      record { refusal = tt; began = began; quiet = λ t. quiet t tt; wire = wire; meter = meter }
+  comes_refused A (begin.OutputShort a b) is began quiet cause wire meter =
+      record { refusal = tt; began = began; quiet = λ t. quiet t tt; wire = wire; meter = meter }
 
-  pub refused : (A : Type 0) → (d.disk.tells → IsFaultOf {A = Option Checkpoint} fault (begun d.job d.disk.old.seen)) → (d.disk.tells → LeavesAsIs d.disk.old d.disk.new fault) → (d.disk.tells → StartMoments d.job.recover d.disk.old d.disk.new)
-      → HasCause {T = A} begin.Disk d.disk.faults.old d.disk.faults.new (Err fault) → d.wire.same → d.meter.new ≡ d.meter.old → d.wire.faults.old ≤ d.wire.faults.new → Drives d (Err (of_begin fault))
+  pub refused : (A : Type 0)
+      → (d.disk.tells → IsFaultOf {A = Option Checkpoint} fault (begun d.job d.disk.old.seen))
+      → (d.disk.tells → LeavesAsIs d.disk.old d.disk.new fault)
+      → (d.disk.tells → StartMoments d.job.recover d.disk.old d.disk.new)
+      → HasCause {T = A} begin.Disk d.disk.faults.old d.disk.faults.new (Err fault) → d.wire.same
+      → d.meter.new ≡ d.meter.old → d.wire.faults.old ≤ d.wire.faults.new
+      → Drives d (Err (of_begin fault))
   refused A began quiet moments cause wire meter later = record {
     comes = comes_refused A fault refl began quiet cause wire meter;
     ended = λ told well. tt;
@@ -42,25 +54,39 @@ module _ (d : Drive) (laws : DriveLaws d.wire.tells d.job d.rules) (fault : Begi
 
 -- ---- a run that has begun
 
-module _ (d : Drive) (laws : DriveLaws d.wire.tells d.job d.rules) (mid : View) (found : Option Checkpoint)
-    (reads : d.disk.tells → d.disk.old.images d.disk.old.seen) (is_begun : d.disk.tells → begun d.job d.disk.old.seen ≡ Ok found)
-    (lengths : HasLengths found) (started : d.disk.tells → IsStarted d.job.recover found d.disk.old mid) where
-  comes_run : (r : Result Cores DriveFault) → IfOk r (λ core. RunsFrom (setting d) found (counts_before d) mid (place_behind d core)) → Why d.disk.faults d.wire.faults r → Comes d r
+module _ (d : Drive) (laws : DriveLaws d.wire.tells d.job d.rules) (mid : View)
+    (found : Option Checkpoint)
+    (reads : d.disk.tells → d.disk.old.images d.disk.old.seen)
+    (is_begun : d.disk.tells → begun d.job d.disk.old.seen ≡ Ok found)
+    (lengths : HasLengths found)
+    (started : d.disk.tells → IsStarted d.job.recover found d.disk.old mid) where
+  comes_run : (r : Result Cores DriveFault)
+      → IfOk r (λ core. RunsFrom (setting d) found (counts_before d) mid (place_behind d core))
+      → Why d.disk.faults d.wire.faults r → Comes d r
   comes_run (Ok core) runs why = has_run d laws mid found reads is_begun core runs
   comes_run (Err (faults.Recovery fault)) runs why = absurd why
   comes_run (Err faults.Disk) runs why = why
   comes_run (Err faults.Wire) runs why = why
   comes_run (Err faults.Memory) runs why = why
 
-  ended_run : (r : Result Cores DriveFault) → IfOk r (λ core. RunsFrom (setting d) found (counts_before d) mid (place_behind d core)) → AreTold d → StartsWell d → IfOk r (HasEnded d)
-  ended_run (Ok core) runs told well = has_ended d laws mid found reads is_begun core runs lengths started told well
+  ended_run : (r : Result Cores DriveFault)
+      → IfOk r (λ core. RunsFrom (setting d) found (counts_before d) mid (place_behind d core))
+      → AreTold d → StartsWell d → IfOk r (HasEnded d)
+  ended_run (Ok core) runs told well =
+      has_ended d laws mid found reads is_begun core runs lengths started told well
   ended_run (Err fault) runs told well = tt
 
-  pub drives : (r : Result Cores DriveFault) → IfOk r (λ core. RunsFrom (setting d) found (counts_before d) mid (place_behind d core))
-      → (d.disk.tells → StartMoments d.job.recover d.disk.old mid) → RunLeaves (setting d) found mid d.disk.new → (begun_at : ℕ) → d.disk.faults.old ≤ begun_at
+  pub drives : (r : Result Cores DriveFault)
+      → IfOk r (λ core. RunsFrom (setting d) found (counts_before d) mid (place_behind d core))
+      → (d.disk.tells → StartMoments d.job.recover d.disk.old mid)
+      → RunLeaves (setting d) found mid d.disk.new → (begun_at : ℕ)
+      → d.disk.faults.old ≤ begun_at
       → Stops (record { old = begun_at; new = d.disk.faults.new }) d.wire.faults r → Drives d r
   drives r runs moments leaves begun_at later stops =
-      let all : Stops d.disk.faults d.wire.faults r = stopped_after Cores (record { old = begun_at; new = d.disk.faults.new }) d.wire.faults d.disk.faults d.wire.faults r later (omega arith) (omega arith) (omega arith) stops in
+      let all : Stops d.disk.faults d.wire.faults r =
+      stopped_after Cores (record { old = begun_at; new = d.disk.faults.new })
+      d.wire.faults d.disk.faults d.wire.faults r later (omega arith) (omega arith)
+      (omega arith) stops in
       record {
         comes = comes_run r runs all.why;
         ended = ended_run r runs;
@@ -69,6 +95,8 @@ module _ (d : Drive) (laws : DriveLaws d.wire.tells d.job d.rules) (mid : View) 
         wire_count = all.wire_later;
       }
 
-  pub lends_scalars : (r : Result Cores DriveFault) → IfOk r (λ core. RunsFrom (setting d) found (counts_before d) mid (place_behind d core)) → IfOk r (LendsScalars d.job)
+  pub lends_scalars : (r : Result Cores DriveFault)
+      → IfOk r (λ core. RunsFrom (setting d) found (counts_before d) mid (place_behind d core))
+      → IfOk r (LendsScalars d.job)
   lends_scalars (Ok core) runs = lends d laws mid found reads is_begun core runs
   lends_scalars (Err fault) runs = tt

@@ -12,13 +12,17 @@ use Rattle.law_course.specs.Starts.{begun_with}
 use Rattle.cx_run_loop.specs.Drives.{ResumesFrom, IsNotBelow}
 
 -- the newest checkpoint is found, or none where old ones are given up
-pub found_is : (recover : Recover) (newest found : Option Checkpoint) → begun_with recover newest ≡ Ok found → ((found ≡ None) × (recover ≡ No)) ⊎ ((found ≡ newest) × (recover ≢ No))
+pub found_is : (recover : Recover) (newest found : Option Checkpoint)
+    → begun_with recover newest ≡ Ok found
+    → ((found ≡ None) × (recover ≡ No)) ⊎ ((found ≡ newest) × (recover ≢ No))
 found_is No best found is = inl (let e : found ≡ None = cc in e, refl)
 found_is Auto None found is = absurd (let e : ⊥ = cc in e)
 found_is Auto (Some c) found is = inr (let e : found ≡ Some c = cc in e, λ bad. cc)
 found_is Autoprobe best found is = inr (let e : found ≡ best = cc in e, λ bad. cc)
 
-pub found_none : (job : Job) (files : Files) (recover : Recover) (newest : Option (ℕ × ℕ)) (found : Option Checkpoint) → recover ≡ No → begun_from job files recover newest ≡ Ok found → found ≡ None
+pub found_none : (job : Job) (files : Files) (recover : Recover) (newest : Option (ℕ × ℕ))
+    (found : Option Checkpoint) → recover ≡ No → begun_from job files recover newest ≡ Ok found
+    → found ≡ None
 found_none job files No best found not is = let e : found ≡ None = cc in e
 found_none job files Auto best found not is = absurd (let e : ⊥ = cc in e)
 found_none job files Autoprobe best found not is = absurd (let e : ⊥ = cc in e)

@@ -29,35 +29,56 @@ levels_few : (b : Bool) (n : ℕ) → n ≤ 8 → (if b then 0 else n) ≤ 8
 levels_few true n h = omega arith
 levels_few false n h = h
 
-total_few : (count : VarInfo → ℕ) → ((v : VarInfo) → v.levels ≤ 8 → count v ≤ 8) → (vs : List VarInfo) → All (λ (v : VarInfo). v.levels ≤ 8) vs → total count vs ≤ 8 * length vs
+total_few : (count : VarInfo → ℕ) → ((v : VarInfo) → v.levels ≤ 8 → count v ≤ 8)
+    → (vs : List VarInfo) → All (λ (v : VarInfo). v.levels ≤ 8) vs → total count vs ≤ 8 * length vs
 total_few count each [] h = omega arith
 total_few count each (v ∷ vs) h =
     let a : count v ≤ 8 = each v (All-head (λ (v : VarInfo). v.levels ≤ 8) v vs h) in
-    let b : total count vs ≤ 8 * length vs = total_few count each vs (All-tail (λ (v : VarInfo). v.levels ≤ 8) v vs h) in
+    let b : total count vs ≤ 8 * length vs =
+    total_few count each vs (All-tail (λ (v : VarInfo). v.levels ≤ 8) v vs h) in
     omega arith
 
-are_levels : (n : ℕ) → n ≤ 2 ^ 24 → (levels : List (List ℤ)) → All (λ (level : List ℤ). length level ≡ n) levels → All (All (FitsSigned w64)) levels → AllByRecursion IsLevel levels
+are_levels : (n : ℕ) → n ≤ 2 ^ 24 → (levels : List (List ℤ))
+    → All (λ (level : List ℤ). length level ≡ n) levels → All (All (FitsSigned w64)) levels
+    → AllByRecursion IsLevel levels
 are_levels n few [] same fit = tt
 are_levels n few (level ∷ more) same fit =
-    let one : length level ≡ n = All-head (λ (l : List ℤ). length l ≡ n) level more same in
-    ((below (length level) (2 ^ 24) (2 ^ 64) (subst (λ (k : ℕ). k ≤ 2 ^ 24) (sym one) few) (lit< tt), all_by (FitsSigned w64) level (All-head (All (FitsSigned w64)) level more fit)), are_levels n few more (All-tail (λ (l : List ℤ). length l ≡ n) level more same) (All-tail (All (FitsSigned w64)) level more fit))
+    let one : length level ≡ n = All-head (λ (l : List ℤ). length l ≡ n) level more same in (
+      (
+        below (length level) (2 ^ 24) (2 ^ 64) (subst (λ (k : ℕ). k ≤ 2 ^ 24) (sym one) few)
+            (lit< tt),
+        all_by (FitsSigned w64) level (All-head (All (FitsSigned w64)) level more fit),
+      ),
+      are_levels n few more (All-tail (λ (l : List ℤ). length l ≡ n) level more same)
+          (All-tail (All (FitsSigned w64)) level more fit),
+    )
 
 few_vars : (a b : ℕ) → a ≤ 8 * b → b ≤ 256 → a ≤ 2048
 few_vars a b first second = omega arith
 
-pub is_checkpoint : (job : Job) → IsWhole job → (c : Checkpoint) → HoldsState (setup_of job) c → c.key ≡ job.key → length c.lengths ≡ 1 → AreNumbers c → IsCheckpoint c
+pub is_checkpoint : (job : Job) → IsWhole job → (c : Checkpoint) → HoldsState (setup_of job) c
+    → c.key ≡ job.key → length c.lengths ≡ 1 → AreNumbers c → IsCheckpoint c
 is_checkpoint job whole c holds key one fit = record {
   iteration = fit.iteration;
   key = subst (λ (k : List ℕ). length k < 2 ^ 32) (sym key) whole.key_limit;
-  lengths = (subst (λ (k : ℕ). k < 2 ^ 32) (sym one) (lit< tt), all_by IsWord c.lengths fit.lengths);
+  lengths = (
+    subst (λ (k : ℕ). k < 2 ^ 32) (sym one) (lit< tt),
+    all_by IsWord c.lengths fit.lengths,
+  );
   scalars = (
-    subst (λ (k : ℕ). k < 2 ^ 32) (sym holds.scalars) (below (total scalar_count job.vars) 2048 (2 ^ 32) (few_vars (total scalar_count job.vars) (length job.vars)
-        (total_few scalar_count (λ v h. scalars_few v.scalar v.levels h) job.vars whole.levels_limit) whole.variables_limit) (lit< tt)),
+    subst (λ (k : ℕ). k < 2 ^ 32) (sym holds.scalars)
+        (below (total scalar_count job.vars) 2048 (2 ^ 32)
+        (few_vars (total scalar_count job.vars) (length job.vars)
+        (total_few scalar_count (λ v h. scalars_few v.scalar v.levels h)
+        job.vars whole.levels_limit) whole.variables_limit) (lit< tt)),
     all_by (FitsSigned w64) c.scalars fit.scalars,
   );
   levels = (
-    subst (λ (k : ℕ). k < 2 ^ 32) (sym holds.levels) (below (total level_count job.vars) 2048 (2 ^ 32) (few_vars (total level_count job.vars) (length job.vars)
-        (total_few level_count (λ v h. levels_few v.scalar v.levels h) job.vars whole.levels_limit) whole.variables_limit) (lit< tt)),
+    subst (λ (k : ℕ). k < 2 ^ 32) (sym holds.levels)
+        (below (total level_count job.vars) 2048 (2 ^ 32)
+        (few_vars (total level_count job.vars) (length job.vars)
+        (total_few level_count (λ v h. levels_few v.scalar v.levels h) job.vars whole.levels_limit)
+        whole.variables_limit) (lit< tt)),
     are_levels (point_count (box job.shape)) whole.shape.few c.levels holds.points fit.levels,
   );
 }

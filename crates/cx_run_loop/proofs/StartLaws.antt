@@ -16,16 +16,24 @@ use Rattle.cx_core.specs.Steps.{Counts, Standing, IsAt, IsRunning}
 use Rattle.law_course.specs.Beginnings.{FittingCanBegin}
 
 -- a checkpoint that fits the job
-pub can_start : (job : Job) → FittingCanBegin job → (found : Option Checkpoint) → IfSome found (λ c. fits_job job c ≡ true) → CanBegin (setup_of job) found
+pub can_start : (job : Job) → FittingCanBegin job → (found : Option Checkpoint)
+    → IfSome found (λ c. fits_job job c ≡ true) → CanBegin (setup_of job) found
 can_start job can None fits = tt
 can_start job can (Some c) fits = let one = can c fits in (one.begins.0, one.holds)
 
-pub is_beginning : (job : Job) → FittingCanBegin job → (found : Option Checkpoint) → IfSome found (λ c. fits_job job c ≡ true) → IsBeginning (setup_of job) (begins_in (setup_of job) found)
+pub is_beginning : (job : Job) → FittingCanBegin job → (found : Option Checkpoint)
+    → IfSome found (λ c. fits_job job c ≡ true)
+    → IsBeginning (setup_of job) (begins_in (setup_of job) found)
 is_beginning job can None fits = tt
 is_beginning job can (Some c) fits = (can c fits).begins
 
 -- an event can happen while the run goes on
 pub some_event : (told : Bool) (job : Job) (rules : List Rule) (is : Standing (IsTrue told))
-    → ((told : Bool) (rules : List Rule) (b : Beginning) → IsBeginning (setup_of job) b → (first : Counts) (is : Standing (IsTrue told)) (at : IsAt (IsTrue told) (run_of job rules b) first is.core is.queue is.now) → Stands (IsTrue told) (run_of job rules b) (undivided_from (setup_of job) rules b) first is at)
+    → ((told : Bool) (rules : List Rule) (b : Beginning) → IsBeginning (setup_of job) b
+    → (first : Counts) (is : Standing (IsTrue told))
+    (at : IsAt (IsTrue told) (run_of job rules b) first is.core is.queue is.now)
+    → Stands (IsTrue told) (run_of job rules b) (undivided_from (setup_of job) rules b)
+    first is at)
     → IsRunning (IsTrue told) job rules is → is.core.outcome ≡ Going → 0 < enabled_in is.core
-some_event told job rules is law running going = (law told rules running.beginning running.begins running.first is running.at).some_event going
+some_event told job rules is law running going =
+    (law told rules running.beginning running.begins running.first is running.at).some_event going

@@ -37,116 +37,177 @@ use Rattle.cx_run_loop.proofs.Works.{next_is, driven_quiet, images_quiet, is_pac
 
 -- ---- runs from what was found
 
-pub same_beginning : (setup : Setup) (found : Option Checkpoint) → begins_in setup found ≡ beginning_of setup found
+pub same_beginning : (setup : Setup) (found : Option Checkpoint)
+    → begins_in setup found ≡ beginning_of setup found
 same_beginning setup None = refl
 same_beginning setup (Some c) = refl
 
-pub setup_is : (job : Job) (rules : List Rule) (b : Beginning) → (run_of job rules b).setup ≡ setup_of job
+pub setup_is : (job : Job) (rules : List Rule) (b : Beginning)
+    → (run_of job rules b).setup ≡ setup_of job
 setup_is job rules Afresh = refl
 setup_is job rules (From c state so_far) = refl
 
-pub so_far_is : (job : Job) (rules : List Rule) (found : Option Checkpoint) → (run_of job rules (begins_in (setup_of job) found)).so_far ≡ length_left found 0
+pub so_far_is : (job : Job) (rules : List Rule) (found : Option Checkpoint)
+    → (run_of job rules (begins_in (setup_of job) found)).so_far ≡ length_left found 0
 so_far_is job rules None = refl
 so_far_is job rules (Some c) = refl
 
 -- ---- one event
 
 -- how long the file is
-file_length : (r : KeptRun) (follow : WorksFollow r) (so_far : ℕ) → so_far ≡ length_left r.found 0 → (done : List Entry) (file : List ℕ)
+file_length : (r : KeptRun) (follow : WorksFollow r) (so_far : ℕ) → so_far ≡ length_left r.found 0
+    → (done : List Entry) (file : List ℕ)
     → file ≡ output_found r ++ output_of done → so_far + length (output_of done) ≡ length file
 file_length r follow so_far is done file file_is =
-    let whole : length file ≡ length (output_found r) + length (output_of done) = ap (λ (l : List ℕ). length l) file_is ∙ length-append (output_found r) (output_of done) in
+    let whole : length file ≡ length (output_found r) + length (output_of done) =
+    ap (λ (l : List ℕ). length l) file_is ∙ length-append (output_found r) (output_of done) in
     let first : length (output_found r) ≡ length_left r.found 0 = follow.begun.length in
     omega arith
 
-module _ (q : Run) (trace : Trace) (r : KeptRun) (follow : WorksFollow r) (pack : StatesPackAgain r.setup) (one_setup : q.setup ≡ r.setup) (one_length : q.so_far ≡ length_left r.found 0)
-    (before now rest : List Entry) (works : works_by r ≡ now ++ rest) (was is : Cores) (old new : View) (x : IsDriven r before old) where
-  packed : (iteration : ℕ) (state : State) → HoldsState r.setup is.buffers.state → is.buffers.state.key ≡ r.key
-      → IsCheckpointOf q.setup is.buffers.state iteration state (q.so_far + length (output_of before)) → is.buffers.state ≡ checkpoint_of r.setup r.key iteration state (length (old.seen output_file))
+module _ (q : Run) (trace : Trace) (r : KeptRun) (follow : WorksFollow r)
+    (pack : StatesPackAgain r.setup) (one_setup : q.setup ≡ r.setup)
+    (one_length : q.so_far ≡ length_left r.found 0)
+    (before now rest : List Entry) (works : works_by r ≡ now ++ rest) (was is : Cores)
+    (old new : View) (x : IsDriven r before old) where
+  packed : (iteration : ℕ) (state : State) → HoldsState r.setup is.buffers.state
+      → is.buffers.state.key ≡ r.key
+      → IsCheckpointOf q.setup is.buffers.state iteration state
+      (q.so_far + length (output_of before))
+      → is.buffers.state ≡ checkpoint_of r.setup r.key iteration state
+      (length (old.seen output_file))
   packed iteration state holds key named =
-      is_packed r.setup r.key pack is.buffers.state holds key iteration state (length (old.seen output_file))
-      (subst (λ (n : ℕ). IsCheckpointOf r.setup is.buffers.state iteration state n) (file_length r follow q.so_far one_length before (old.seen output_file) x.has.file_is)
-      (subst (λ (u : Setup). IsCheckpointOf u is.buffers.state iteration state (q.so_far + length (output_of before))) one_setup named))
+      is_packed r.setup r.key pack is.buffers.state holds key iteration state
+      (length (old.seen output_file))
+      (subst (λ (n : ℕ). IsCheckpointOf r.setup is.buffers.state iteration state n)
+      (file_length r follow q.so_far one_length before (old.seen output_file) x.has.file_is)
+      (subst (λ (u : Setup). IsCheckpointOf u is.buffers.state iteration state
+      (q.so_far + length (output_of before))) one_setup named))
 
-  pub event_driven : (event : Event) → Leaves r.setup was is event → is.buffers.state.key ≡ r.key → HandsOut q trace is before now event → KeepsEvent r.setup is old new event → IsDriven r now new
-  event_driven (Part k) leaves key hands keeps = subst (λ (d : List Entry). IsDriven r d new) (sym hands) (driven_quiet r before old new keeps x)
+  pub event_driven : (event : Event) → Leaves r.setup was is event → is.buffers.state.key ≡ r.key
+      → HandsOut q trace is before now event → KeepsEvent r.setup is old new event
+      → IsDriven r now new
+  event_driven (Part k) leaves key hands keeps =
+      subst (λ (d : List Entry). IsDriven r d new) (sym hands)
+      (driven_quiet r before old new keeps x)
   event_driven (Section v iteration) leaves key hands keeps =
       let added : now ≡ before ++ Wrote v iteration hands.0 hands.1 ∷ [] = hands.2 in
       let is_text : hands.0 ≡ text_of_piece r.setup iteration v (piece_of is.buffers v) =
-      subst (λ (u : Setup). hands.0 ≡ text_of_piece u iteration v (piece_of is.buffers v)) one_setup hands.4 in
+      subst (λ (u : Setup). hands.0 ≡ text_of_piece u iteration v (piece_of is.buffers v))
+      one_setup hands.4 in
       subst (λ (d : List Entry). IsDriven r d new) (sym added)
       (text_driven r follow before rest old new x v iteration hands.0 hands.1
-      (next_is (works_by r) before x.left now rest (Wrote v iteration hands.0 hands.1) x.has.works works added)
+      (next_is (works_by r) before x.left now rest (Wrote v iteration hands.0 hands.1)
+      x.has.works works added)
       (subst (λ (t : List ℕ). IsAppended t old new) (sym is_text) keeps))
   event_driven (Save iteration) leaves key hands keeps =
       let added : now ≡ before ++ Saved iteration hands.0 ∷ [] = hands.1 in
       subst (λ (d : List Entry). IsDriven r d new) (sym added)
       (state_driven r follow before rest old new x iteration hands.0 is.buffers.state
-      (next_is (works_by r) before x.left now rest (Saved iteration hands.0) x.has.works works added)
+      (next_is (works_by r) before x.left now rest (Saved iteration hands.0)
+      x.has.works works added)
       (packed iteration hands.0 leaves.1 key hands.2) keeps.0 keeps.1)
-  event_driven End leaves key hands keeps = subst (λ (d : List Entry). IsDriven r d new) (sym hands.0) (driven_quiet r before old new keeps x)
+  event_driven End leaves key hands keeps =
+      subst (λ (d : List Entry). IsDriven r d new) (sym hands.0)
+      (driven_quiet r before old new keeps x)
 
-  pub event_images : (event : Event) → Leaves r.setup was is event → is.buffers.state.key ≡ r.key → HandsOut q trace is before now event → EventMoments r.setup is old new event → LeavesOnly old new (IsImageOf r)
+  pub event_images : (event : Event) → Leaves r.setup was is event → is.buffers.state.key ≡ r.key
+      → HandsOut q trace is before now event → EventMoments r.setup is old new event
+      → LeavesOnly old new (IsImageOf r)
   event_images (Part k) leaves key hands moments = images_quiet r before old new moments x
   event_images (Section v iteration) leaves key hands moments =
       let added : now ≡ before ++ Wrote v iteration hands.0 hands.1 ∷ [] = hands.2 in
       let is_text : hands.0 ≡ text_of_piece r.setup iteration v (piece_of is.buffers v) =
-      subst (λ (u : Setup). hands.0 ≡ text_of_piece u iteration v (piece_of is.buffers v)) one_setup hands.4 in
+      subst (λ (u : Setup). hands.0 ≡ text_of_piece u iteration v (piece_of is.buffers v))
+      one_setup hands.4 in
       elim moments as (λ _. LeavesOnly old new (IsImageOf r)) [
         | inl quiet ↦ images_quiet r before old new quiet x
         | inr more ↦ text_images r follow before rest old new x v iteration hands.0 hands.1
-            (next_is (works_by r) before x.left now rest (Wrote v iteration hands.0 hands.1) x.has.works works added)
+            (next_is (works_by r) before x.left now rest (Wrote v iteration hands.0 hands.1)
+            x.has.works works added)
             (subst (λ (t : List ℕ). AppendMoments t old new) (sym is_text) more)
       ]
   event_images (Save iteration) leaves key hands moments =
       let added : now ≡ before ++ Saved iteration hands.0 ∷ [] = hands.1 in
       state_images r follow before rest old new x iteration hands.0 is.buffers.state
-      (next_is (works_by r) before x.left now rest (Saved iteration hands.0) x.has.works works added)
+      (next_is (works_by r) before x.left now rest (Saved iteration hands.0)
+      x.has.works works added)
       (packed iteration hands.0 leaves.1 key hands.2) moments
   event_images End leaves key hands moments = images_quiet r before old new moments x
 
--- a run that goes on before an event is over behind it only where that is the end
-pub over_by : (q : Run) (trace : Trace) (setup : Setup) (before now : List Entry) (was is : Cores) (event : Event) → Leaves setup was is event → HandsOut q trace is before now event
+-- a run that goes on before an event is over after it only where that is the end
+pub over_by : (q : Run) (trace : Trace) (setup : Setup) (before now : List Entry) (was is : Cores)
+    (event : Event) → Leaves setup was is event → HandsOut q trace is before now event
     → was.outcome ≡ Going → is.outcome ≢ Going → works_of trace.entries ≡ now
-over_by q trace setup before now was is (Part k) leaves hands going over = absurd (over (leaves.1 ∙ going))
-over_by q trace setup before now was is (Section v iteration) leaves hands going over = absurd (over (ap (λ (c : Cores). c.outcome) leaves.0 ∙ going))
-over_by q trace setup before now was is (Save iteration) leaves hands going over = absurd (over (ap (λ (c : Cores). c.outcome) leaves.0 ∙ going))
+over_by q trace setup before now was is (Part k) leaves hands going over =
+    absurd (over (leaves.1 ∙ going))
+over_by q trace setup before now was is (Section v iteration) leaves hands going over =
+    absurd (over (ap (λ (c : Cores). c.outcome) leaves.0 ∙ going))
+over_by q trace setup before now was is (Save iteration) leaves hands going over =
+    absurd (over (ap (λ (c : Cores). c.outcome) leaves.0 ∙ going))
 over_by q trace setup before now was is End leaves hands going over = hands.1
 
 -- ---- one turn
 
-module _ (s : Setting) (laws : DriveLaws s.wire s.job s.rules) (was is : Place s) (event : Event) (going : was.is.core.outcome ≡ Going) (key : was.is.core.buffers.state.key ≡ s.job.key)
-    (steps : Steps s.wire s.job s.rules was.is is.is event) (found : Option Checkpoint) (first : Counts) (x : IsDriving s found first was) where
-  abbrev step : StepsTo s.wire (run_in s found) (trace_in s found) first (steps (begins_in (setup_of s.job) found) x.begins first x.at).0 was.is is.is x.at event
+module _ (s : Setting) (laws : DriveLaws s.wire s.job s.rules) (was is : Place s) (event : Event)
+    (going : was.is.core.outcome ≡ Going) (key : was.is.core.buffers.state.key ≡ s.job.key)
+    (steps : Steps s.wire s.job s.rules was.is is.is event) (found : Option Checkpoint)
+    (first : Counts) (x : IsDriving s found first was) where
+  abbrev step : StepsTo s.wire (run_in s found) (trace_in s found) first
+      (steps (begins_in (setup_of s.job) found) x.begins first x.at).0 was.is is.is x.at event
   step = (steps (begins_in (setup_of s.job) found) x.begins first x.at).1
 
   abbrev leaves : Leaves (setup_of s.job) was.is.core is.is.core event
-  leaves = subst (λ (u : Setup). Leaves u was.is.core is.is.core event) (setup_is s.job s.rules (begins_in (setup_of s.job) found)) step.leaves
+  leaves = subst (λ (u : Setup). Leaves u was.is.core is.is.core event)
+      (setup_is s.job s.rules (begins_in (setup_of s.job) found)) step.leaves
 
-  works : s.wire → works_by (kept_in s found) ≡ handed_out (run_in s found) step.there.world ++ works_left (run_in s found) (trace_in s found) step.there.world
+  works : s.wire → works_by (kept_in s found)
+      ≡ handed_out (run_in s found) step.there.world
+      ++ works_left (run_in s found) (trace_in s found) step.there.world
   works t =
-      ap (λ (b : Beginning). works_of (undivided_from (setup_of s.job) s.rules b).entries) (sym (same_beginning (setup_of s.job) found))
-      ∙ (laws.works (begins_in (setup_of s.job) found) x.begins t step.there.oracle step.there.world step.there.reached).first
+      ap (λ (b : Beginning). works_of (undivided_from (setup_of s.job) s.rules b).entries)
+      (sym (same_beginning (setup_of s.job) found))
+      ∙ (laws.works (begins_in (setup_of s.job) found)
+      x.begins t step.there.oracle step.there.world step.there.reached).first
 
   abbrev pub there : IsDriving s found first is
   there = record {
     begins = x.begins;
     at = step.there;
-    over = λ t over. over_by (run_in s found) (trace_in s found) (setup_of s.job) (handed x) (handed_out (run_in s found) step.there.world) was.is.core is.is.core event leaves (step.hands t) going over;
+    over = λ t over. over_by (run_in s found) (trace_in s found) (setup_of s.job) (handed x)
+        (handed_out (run_in s found) step.there.world) was.is.core is.is.core event leaves
+        (step.hands t) going over;
   }
 
-  pub turn_driven : (s.disk → KeepsEvent (setup_of s.job) is.is.core was.view is.view event) → s.disk → s.wire → IsDriven (kept_in s found) (handed x) was.view → IsDriven (kept_in s found) (handed there) is.view
+  pub turn_driven : (s.disk → KeepsEvent (setup_of s.job) is.is.core was.view is.view event)
+      → s.disk → s.wire → IsDriven (kept_in s found) (handed x) was.view
+      → IsDriven (kept_in s found) (handed there) is.view
   turn_driven keeps d t y =
-      event_driven (run_in s found) (trace_in s found) (kept_in s found) (laws.follow found y.of_run) laws.pack (setup_is s.job s.rules (begins_in (setup_of s.job) found)) (so_far_is s.job s.rules found)
-      (handed x) (handed there) (works_left (run_in s found) (trace_in s found) step.there.world) (works t) was.is.core is.is.core was.view is.view y event leaves (step.key ∙ key) (step.hands t) (keeps d)
+      event_driven (run_in s found) (trace_in s found) (kept_in s found)
+      (laws.follow found y.of_run) laws.pack
+      (setup_is s.job s.rules (begins_in (setup_of s.job) found))
+      (so_far_is s.job s.rules found)
+      (handed x) (handed there) (works_left (run_in s found) (trace_in s found) step.there.world)
+      (works t) was.is.core is.is.core was.view is.view y event leaves (step.key ∙ key)
+      (step.hands t) (keeps d)
 
-  pub turn_images : (new : View) → (s.disk → EventMoments (setup_of s.job) is.is.core was.view new event) → s.disk → s.wire → IsDriven (kept_in s found) (handed x) was.view → LeavesOnly was.view new (IsImageOf (kept_in s found))
+  pub turn_images : (new : View)
+      → (s.disk → EventMoments (setup_of s.job) is.is.core was.view new event) → s.disk → s.wire
+      → IsDriven (kept_in s found) (handed x) was.view
+      → LeavesOnly was.view new (IsImageOf (kept_in s found))
   turn_images new moments d t y =
-      event_images (run_in s found) (trace_in s found) (kept_in s found) (laws.follow found y.of_run) laws.pack (setup_is s.job s.rules (begins_in (setup_of s.job) found)) (so_far_is s.job s.rules found)
-      (handed x) (handed there) (works_left (run_in s found) (trace_in s found) step.there.world) (works t) was.is.core is.is.core was.view new y event leaves (step.key ∙ key) (step.hands t) (moments d)
+      event_images (run_in s found) (trace_in s found) (kept_in s found)
+      (laws.follow found y.of_run) laws.pack
+      (setup_is s.job s.rules (begins_in (setup_of s.job) found))
+      (so_far_is s.job s.rules found)
+      (handed x) (handed there) (works_left (run_in s found) (trace_in s found) step.there.world)
+      (works t) was.is.core is.is.core was.view new y event leaves (step.key ∙ key)
+      (step.hands t) (moments d)
 
-pub turn_moves : (s : Setting) (laws : DriveLaws s.wire s.job s.rules) (was is : Place s) (event : Event) → was.is.core.outcome ≡ Going → was.is.core.buffers.state.key ≡ s.job.key
-    → Steps s.wire s.job s.rules was.is is.is event → (s.disk → KeepsEvent (setup_of s.job) is.is.core was.view is.view event) → MovesOn s was is
+pub turn_moves : (s : Setting) (laws : DriveLaws s.wire s.job s.rules) (was is : Place s)
+    (event : Event) → was.is.core.outcome ≡ Going → was.is.core.buffers.state.key ≡ s.job.key
+    → Steps s.wire s.job s.rules was.is is.is event
+    → (s.disk → KeepsEvent (setup_of s.job) is.is.core was.view is.view event)
+    → MovesOn s was is
 turn_moves s laws was is event going key steps keeps found first x = record {
   there = there s laws was is event going key steps found first x;
   driven = turn_driven s laws was is event going key steps found first x keeps;
@@ -157,7 +218,8 @@ turn_moves s laws was is event going key steps keeps found first x = record {
 pub moves_none : (s : Setting) (was : Place s) → MovesOn s was was
 moves_none s was found first x = record { there = x; driven = λ d t y. y }
 
-pub moves_more : (s : Setting) (was mid is : Place s) → MovesOn s was mid → MovesOn s mid is → MovesOn s was is
+pub moves_more : (s : Setting) (was mid is : Place s) → MovesOn s was mid → MovesOn s mid is
+    → MovesOn s was is
 moves_more s was mid is one two found first x =
     let a : Moves s found first was mid x = one found first x in
     let b : Moves s found first mid is a.there = two found first a.there in
@@ -166,48 +228,66 @@ moves_more s was mid is one two found first x =
 pub images_none : (s : Setting) (was : Place s) → LeavesImages s was was.view
 images_none s was found first x d t y = started was.view (IsImageOf (kept_in s found))
 
-pub images_more : (s : Setting) (was mid : Place s) (new : View) → MovesOn s was mid → LeavesImages s was mid.view → LeavesImages s mid new → LeavesImages s was new
+pub images_more : (s : Setting) (was mid : Place s) (new : View) → MovesOn s was mid
+    → LeavesImages s was mid.view → LeavesImages s mid new → LeavesImages s was new
 images_more s was mid new one before after found first x d t y =
     let a : Moves s found first was mid x = one found first x in
-    joins (IsImageOf (kept_in s found)) (before found first x d t y) (after found first a.there d t (a.driven d t y)) (λ c has. has)
+    joins (IsImageOf (kept_in s found)) (before found first x d t y)
+    (after found first a.there d t (a.driven d t y)) (λ c has. has)
 
 -- ---- a call that changes no byte, from the same core
 
-pub moves_quiet : (s : Setting) (was : Place s) (new : View) → (s.disk → IsQuiet was.view new) → MovesOn s was (record { is = was.is; view = new })
+pub moves_quiet : (s : Setting) (was : Place s) (new : View) → (s.disk → IsQuiet was.view new)
+    → MovesOn s was (record { is = was.is; view = new })
 moves_quiet s was new quiet found first x = record {
   there = record { begins = x.begins; at = x.at; over = x.over };
   driven = λ d t y. driven_quiet (kept_in s found) (handed x) was.view new (quiet d) y;
 }
 
-pub leaves_quiet : (s : Setting) (was : Place s) (new : View) → (s.disk → IsQuiet was.view new) → LeavesImages s was new
-leaves_quiet s was new quiet found first x d t y = images_quiet (kept_in s found) (handed x) was.view new (quiet d) y
+pub leaves_quiet : (s : Setting) (was : Place s) (new : View) → (s.disk → IsQuiet was.view new)
+    → LeavesImages s was new
+leaves_quiet s was new quiet found first x d t y =
+    images_quiet (kept_in s found) (handed x) was.view new (quiet d) y
 
 -- ---- on whatever disk and wire
 
-module _ (s : Setting) (k : Keeper) (was is : Place s) (event : Event) (going : IsGoing s k was) (steps : Steps s.wire s.job s.rules was.is is.is event) where
-  abbrev taken : StepsTo s.wire (run_of s.job s.rules going.running.beginning) (undivided_from (setup_of s.job) s.rules going.running.beginning) going.running.first
-      (steps going.running.beginning going.running.begins going.running.first going.running.at).0 was.is is.is going.running.at event
-  taken = (steps going.running.beginning going.running.begins going.running.first going.running.at).1
+module _ (s : Setting) (k : Keeper) (was is : Place s) (event : Event) (going : IsGoing s k was)
+    (steps : Steps s.wire s.job s.rules was.is is.is event) where
+  abbrev taken : StepsTo s.wire (run_of s.job s.rules going.running.beginning)
+      (undivided_from (setup_of s.job) s.rules going.running.beginning) going.running.first
+      (steps going.running.beginning going.running.begins going.running.first going.running.at).0
+      was.is is.is going.running.at event
+  taken =
+      (steps going.running.beginning going.running.begins going.running.first going.running.at).1
 
   pub behind : IsBehind s.job s.disk k is.is.core event was.view
   behind = record {
     was = was.is.core;
-    leaves = subst (λ (u : Setup). Leaves u was.is.core is.is.core event) (setup_is s.job s.rules going.running.beginning) taken.leaves;
+    leaves = subst (λ (u : Setup). Leaves u was.is.core is.is.core event)
+        (setup_is s.job s.rules going.running.beginning) taken.leaves;
     kept = going.kept;
     key = taken.key;
   }
 
-  pub less : steps_left (setup_of s.job) is.is.core.pace < steps_left (setup_of s.job) was.is.core.pace
-  less = subst (λ (u : Setup). steps_left u is.is.core.pace < steps_left u was.is.core.pace) (setup_is s.job s.rules going.running.beginning) taken.less
+  pub less : steps_left (setup_of s.job) is.is.core.pace
+      < steps_left (setup_of s.job) was.is.core.pace
+  less = subst (λ (u : Setup). steps_left u is.is.core.pace < steps_left u was.is.core.pace)
+      (setup_is s.job s.rules going.running.beginning) taken.less
 
   pub going_on : (new : Keeper) → IsKept s.job s.disk new is.is.core is.view → IsGoing s new is
   going_on new kept = record {
-    running = record { beginning = going.running.beginning; begins = going.running.begins; first = going.running.first; at = taken.there };
+    running = record {
+      beginning = going.running.beginning;
+      begins = going.running.begins;
+      first = going.running.first;
+      at = taken.there;
+    };
     kept = kept;
   }
 
 -- what holds where a call answered, by what its device tells
-pub on_ok_told : {A E : Type 0} (T P Q : Type 0) (r : Result A E) → ((T → P) → Q) → (T → OnOk r P) → OnOk r Q
+pub on_ok_told : {A E : Type 0} (T P Q : Type 0) (r : Result A E) → ((T → P) → Q) → (T → OnOk r P)
+    → OnOk r Q
 on_ok_told T P Q (Ok x) f h = f h
 on_ok_told T P Q (Err e) f h = tt
 

@@ -44,7 +44,8 @@ use Rattle.cx_run_loop.proofs.TurnLaws.{same_beginning, setup_is}
 use Rattle.cx_disk.specs.Files.{slot_count}
 use Rattle.cx_run_loop.proofs.Works.{driven_at}
 
-cut_is : (job : Job) (rules : List Rule) (b : Beginning) → cut_of (run_of job rules b) ≡ parts_of job.shape job.cut
+cut_is : (job : Job) (rules : List Rule) (b : Beginning)
+    → cut_of (run_of job rules b) ≡ parts_of job.shape job.cut
 cut_is job rules Afresh = refl
 cut_is job rules (From c state so_far) = refl
 
@@ -71,10 +72,12 @@ module _ (d : Drive) (laws : DriveLaws d.wire.tells d.job d.rules) where
   can_start well = record {
     monotone = laws.rises.monotone;
     outputs = laws.rises.one_output;
-    trails = λ not. elim well as (λ _. AreTrails (course d) d.disk.old) [ inl trails ↦ trails | inr given ↦ absurd (not given) ];
+    trails = λ not. elim well as (λ _. AreTrails (course d) d.disk.old)
+        [ inl trails ↦ trails | inr given ↦ absurd (not given) ];
   }
 
-  within_start : (image : Files) → IsWithinStart (course d) d.job.recover d.disk.old image → KeepsTrail d image
+  within_start : (image : Files) → IsWithinStart (course d) d.job.recover d.disk.old image
+      → KeepsTrail d image
   within_start image w = record {
     trail = w.trail;
     not_behind = λ not. record {
@@ -88,16 +91,21 @@ module _ (d : Drive) (laws : DriveLaws d.wire.tells d.job d.rules) where
           (not_below_same n);
     };
     pace = λ c has long longer n is.
-        let a : length (w.before output_file) < length (image output_file) = longer w.before w.was in
-        let b : length (image output_file) ≤ length (w.before output_file) = w.shorter 0 (omega arith) in
+        let a : length (w.before output_file) < length (image output_file) =
+        longer w.before w.was in
+        let b : length (image output_file) ≤ length (w.before output_file) =
+        w.shorter 0 (omega arith) in
         absurd (omega arith);
   }
 
   -- a start that leaves no run
-  pub start_trails : (new : View) → (d.disk.tells → StartMoments d.job.recover d.disk.old new) → d.disk.tells → AreTrails (course d) d.disk.old → LeavesOnly d.disk.old new (KeepsTrail d)
-  start_trails new moments t trails = weaker (KeepsTrail d) (moments t (course d) (can_start (inl trails)) trails) within_start
+  pub start_trails : (new : View) → (d.disk.tells → StartMoments d.job.recover d.disk.old new)
+      → d.disk.tells → AreTrails (course d) d.disk.old → LeavesOnly d.disk.old new (KeepsTrail d)
+  start_trails new moments t trails =
+      weaker (KeepsTrail d) (moments t (course d) (can_start (inl trails)) trails) within_start
 
-module _ (d : Drive) (laws : DriveLaws d.wire.tells d.job d.rules) (mid : View) (found : Option Checkpoint)
+module _ (d : Drive) (laws : DriveLaws d.wire.tells d.job d.rules) (mid : View)
+    (found : Option Checkpoint)
     (reads : d.disk.tells → d.disk.old.images d.disk.old.seen)
     (is_begun : d.disk.tells → begun d.job d.disk.old.seen ≡ Ok found) where
   abbrev r : KeptRun
@@ -107,20 +115,28 @@ module _ (d : Drive) (laws : DriveLaws d.wire.tells d.job d.rules) (mid : View) 
 
   -- either old checkpoints are given up, or the newest one was found, of a trail
   abbrev pub Finds : Type 0
-  Finds = ((found ≡ None) × (d.job.recover ≡ No)) ⊎ ((b : BeginsOn d.job d.rules d.disk.old.seen) × (found ≡ b.newest) × (d.job.recover ≢ No))
+  Finds = ((found ≡ None) × (d.job.recover ≡ No))
+      ⊎ ((b : BeginsOn d.job d.rules d.disk.old.seen) × (found ≡ b.newest) × (d.job.recover ≢ No))
 
   finds : StartsWell d → d.disk.tells → Finds
   finds (inl trails) t =
-      let b : BeginsOn d.job d.rules d.disk.old.seen = laws.begin d.disk.old.seen (trails d.disk.old.seen (reads t)) in
+      let b : BeginsOn d.job d.rules d.disk.old.seen =
+      laws.begin d.disk.old.seen (trails d.disk.old.seen (reads t)) in
       elim (found_is d.job.recover b.newest found (sym b.begun_is ∙ is_begun t)) as (λ _. Finds) [
         | inl none ↦ inl none
         | inr same ↦ inr (b, same.0, same.1)
       ]
-  finds (inr given) t = inl (found_none d.job d.disk.old.seen d.job.recover (newest_below slot_count d.disk.old.seen) found given (is_begun t), given)
+  finds (inr given) t = inl (
+    found_none d.job d.disk.old.seen d.job.recover (newest_below slot_count d.disk.old.seen)
+        found given (is_begun t),
+    given,
+  )
 
   of_run : Finds → IsFound (setup_of d.job) d.job.key d.rules found
-  of_run (inl h) = subst (λ (f : Option Checkpoint). IsFound (setup_of d.job) d.job.key d.rules f) (sym h.0) tt
-  of_run (inr h) = subst (λ (f : Option Checkpoint). IsFound (setup_of d.job) d.job.key d.rules f) (sym h.1) h.0.of_run
+  of_run (inl h) = subst (λ (f : Option Checkpoint). IsFound (setup_of d.job) d.job.key d.rules f)
+      (sym h.0) tt
+  of_run (inr h) = subst (λ (f : Option Checkpoint). IsFound (setup_of d.job) d.job.key d.rules f)
+      (sym h.1) h.0.of_run
 
   newest_found : Finds → d.job.recover ≢ No → NewestIs d.disk.old.seen (newest_left found)
   newest_found (inl h) not = absurd (not h.1)
@@ -135,19 +151,27 @@ module _ (d : Drive) (laws : DriveLaws d.wire.tells d.job d.rules) (mid : View) 
 
   -- ---- the disk as the run begins
 
-  module _ (lengths : HasLengths found) (started : d.disk.tells → IsStarted d.job.recover found d.disk.old mid) where
+  module _ (lengths : HasLengths found)
+      (started : d.disk.tells → IsStarted d.job.recover found d.disk.old mid) where
     pub begins_driven : StartsWell d → d.disk.tells → IsDriven r [] mid
     begins_driven well t =
         let fs : Finds = finds well t in
         let follow : WorksFollow r = laws.follow found (of_run fs) in
         let first : IsBegun r = follow.begun in
-        let st : Stands (course_by r) (newest_left found) (next_of r (length_left found 0) (works_by r)) mid =
-        (started t).stands (course d) (can_start d laws well) (next_of r (length_left found 0) (works_by r)) first.later in
-        let counted_is : length_left found 0 ≡ length (mid.seen output_file) = (started t).left.counts 0 (omega arith) in
-        let front : mid.seen output_file ≡ take (length (mid.seen output_file)) (output (setup_of d.job) d.rules) = st.fronts 0 (omega arith) in
-        let file_is : mid.seen output_file ≡ output_found r = front ∙ ap (λ (n : ℕ). take n (output (setup_of d.job) d.rules)) (sym counted_is) in
+        let st : Stands (course_by r) (newest_left found)
+        (next_of r (length_left found 0) (works_by r)) mid =
+        (started t).stands (course d) (can_start d laws well)
+        (next_of r (length_left found 0) (works_by r)) first.later in
+        let counted_is : length_left found 0 ≡ length (mid.seen output_file) =
+        (started t).left.counts 0 (omega arith) in
+        let front : mid.seen output_file
+        ≡ take (length (mid.seen output_file)) (output (setup_of d.job) d.rules) =
+        st.fronts 0 (omega arith) in
+        let file_is : mid.seen output_file ≡ output_found r =
+        front ∙ ap (λ (n : ℕ). take n (output (setup_of d.job) d.rules)) (sym counted_is) in
         driven_at r [] (works_by r) (output_found r) mid file_is (of_run fs) first.nothing_done
-        (subst (λ (n : ℕ). Stands (course_by r) (newest_left found) (next_of r n (works_by r)) mid) (sym first.length) st)
+        (subst (λ (n : ℕ). Stands (course_by r) (newest_left found) (next_of r n (works_by r)) mid)
+        (sym first.length) st)
 
   -- ---- each moment
 
@@ -167,18 +191,28 @@ module _ (d : Drive) (laws : DriveLaws d.wire.tells d.job d.rules) (mid : View) 
         };
         pace = λ c has long longer n is. subst (λ (x : Option ℕ). IsNotBelow x (Some c.iteration))
             (only_newest image (newest_of r w.done) n w.trail.newest_is is)
-            (at_least (newest_of r w.done) c.iteration (follow.pace w.done w.left w.file c (length (image output_file)) w.has (bound (next_of r (length w.file) w.left) w.trail.within) has long));
+            (at_least (newest_of r w.done) c.iteration
+            (follow.pace w.done w.left w.file c (length (image output_file)) w.has
+            (bound (next_of r (length w.file) w.left) w.trail.within) has long));
       }
     where
-      bound : (next : Option Checkpoint) → IfSome next (λ e. (j : ℕ) → j < 1 → length (image (file_of_output j)) ≤ length_in e j) → IfSome next (λ e. length (image output_file) ≤ length_in e 0)
+      bound : (next : Option Checkpoint)
+          → IfSome next (λ e. (j : ℕ) → j < 1 → length (image (file_of_output j)) ≤ length_in e j)
+          → IfSome next (λ e. length (image output_file) ≤ length_in e 0)
       bound None h = tt
       bound (Some e) h = h 0 (omega arith)
 
-      behind : (f : Option Checkpoint) → found ≡ f → WorksFollow r → IsNotBelow (newest_of r w.done) (newest_left f)
+      behind : (f : Option Checkpoint) → found ≡ f → WorksFollow r
+          → IsNotBelow (newest_of r w.done) (newest_left f)
       behind None is follow = tt
-      behind (Some c) is follow = at_least (newest_of r w.done) c.iteration (follow.not_behind w.done w.left w.file c w.has is)
+      behind (Some c) is follow =
+          at_least (newest_of r w.done) c.iteration
+          (follow.not_behind w.done w.left w.file c w.has is)
 
-  pub leaves_trails : HasLengths found → (d.disk.tells → IsStarted d.job.recover found d.disk.old mid) → (d.disk.tells → StartMoments d.job.recover d.disk.old mid) → RunLeaves (setting d) found mid d.disk.new
+  pub leaves_trails : HasLengths found
+      → (d.disk.tells → IsStarted d.job.recover found d.disk.old mid)
+      → (d.disk.tells → StartMoments d.job.recover d.disk.old mid)
+      → RunLeaves (setting d) found mid d.disk.new
       → AreTold d → AreTrails (course d) d.disk.old → LeavesTrails d
   leaves_trails lengths started moments runs told trails =
       let well : StartsWell d = inl trails in
@@ -191,19 +225,25 @@ module _ (d : Drive) (laws : DriveLaws d.wire.tells d.job d.rules) (mid : View) 
   -- ---- the end
 
   trace_is : trace_in (setting d) found ≡ run_from (setup_of d.job) d.rules found
-  trace_is = ap (λ (b : Beginning). undivided_from (setup_of d.job) d.rules b) (same_beginning (setup_of d.job) found)
+  trace_is = ap (λ (b : Beginning). undivided_from (setup_of d.job) d.rules b)
+      (same_beginning (setup_of d.job) found)
 
-  module _ (core : Cores) (runs : RunsFrom (setting d) found (counts_before d) mid (place_behind d core)) where
-    ended_by : d.wire.tells → core.outcome ≡ ended_as (run_from (setup_of d.job) d.rules found).outcome
-    ended_by t = (runs.stands.told t).ended runs.over ∙ ap (λ (u : Trace). ended_as u.outcome) trace_is
+  module _ (core : Cores) (runs : RunsFrom (setting d) found (counts_before d) mid
+      (place_behind d core)) where
+    ended_by : d.wire.tells
+        → core.outcome ≡ ended_as (run_from (setup_of d.job) d.rules found).outcome
+    ended_by t = (runs.stands.told t).ended runs.over
+        ∙ ap (λ (u : Trace). ended_as u.outcome) trace_is
 
     -- by setup
     run_setup : (run_in (setting d) found).setup ≡ setup_of d.job
     run_setup = setup_is d.job d.rules (begins_in (setup_of d.job) found)
 
-    has_scalars : d.wire.tells → core.outcome ≡ Done → (run : Trace) → (trace_in (setting d) found).outcome ≡ run.outcome → HasScalarsOf run d core
+    has_scalars : d.wire.tells → core.outcome ≡ Done → (run : Trace)
+        → (trace_in (setting d) found).outcome ≡ run.outcome → HasScalarsOf run d core
     has_scalars t is run same state v goes scalar =
-        ((runs.stands.told t).done is).last state v (same ∙ goes) (subst (λ (u : Setup). is_scalar u v ≡ true) (sym run_setup) scalar)
+        ((runs.stands.told t).done is).last state v (same ∙ goes)
+        (subst (λ (u : Setup). is_scalar u v ≡ true) (sym run_setup) scalar)
 
     pub has_run : HasRun d core
     has_run = record {
@@ -211,19 +251,24 @@ module _ (d : Drive) (laws : DriveLaws d.wire.tells d.job d.rules) (mid : View) 
       found = found;
       began = is_begun;
       ended = λ told. ended_by told.1;
-      scalars = λ told is. has_scalars told.1 is (run_from (setup_of d.job) d.rules found) (ap (λ (u : Trace). u.outcome) trace_is);
+      scalars = λ told is. has_scalars told.1 is (run_from (setup_of d.job) d.rules found)
+          (ap (λ (u : Trace). u.outcome) trace_is);
       length_is = λ t. sym (runs.length_is t);
     }
 
     -- nothing is left of the works
     none_left : (done left : List Entry) → works_by r ≡ done ++ left → works_by r ≡ done → left ≡ []
-    none_left done left first second = append_cancel_left done left [] (sym first ∙ second ∙ sym (append-nil done))
+    none_left done left first second =
+        append_cancel_left done left [] (sym first ∙ second ∙ sym (append-nil done))
 
-    all_done : Finds → (driven : IsDriven r (handed runs.there) d.disk.new) → d.wire.tells → IsAllDone r (handed runs.there) (d.disk.new.seen output_file)
+    all_done : Finds → (driven : IsDriven r (handed runs.there) d.disk.new) → d.wire.tells
+        → IsAllDone r (handed runs.there) (d.disk.new.seen output_file)
     all_done fs driven t =
-        let works : works_by r ≡ handed runs.there = ap (λ (u : Trace). works_of u.entries) (sym trace_is) ∙ runs.there.over t runs.over in
+        let works : works_by r ≡ handed runs.there =
+        ap (λ (u : Trace). works_of u.entries) (sym trace_is) ∙ runs.there.over t runs.over in
         (laws.follow found (of_run fs)).all_done (handed runs.there) (d.disk.new.seen output_file)
-        (subst (λ (l : List Entry). HasDone r (handed runs.there) l (d.disk.new.seen output_file)) (none_left (handed runs.there) driven.left driven.has.works works) driven.has)
+        (subst (λ (l : List Entry). HasDone r (handed runs.there) l (d.disk.new.seen output_file))
+        (none_left (handed runs.there) driven.left driven.has.works works) driven.has)
 
     goes_on : Finds → GoesOn (setup_of d.job) d.rules found
     goes_on fs = laws.goes_on found (of_run fs)
@@ -234,20 +279,26 @@ module _ (d : Drive) (laws : DriveLaws d.wire.tells d.job d.rules) (mid : View) 
     entries : Finds → (trace_in (setting d) found).entries ≡ entries_left
     entries fs = ap (λ (u : Trace). u.entries) trace_is ∙ (goes_on fs).entries
 
-    outcome : Finds → (trace_in (setting d) found).outcome ≡ (undivided_run (setup_of d.job) d.rules).outcome
+    outcome : Finds → (trace_in (setting d) found).outcome
+        ≡ (undivided_run (setup_of d.job) d.rules).outcome
     outcome fs = ap (λ (u : Trace). u.outcome) trace_is ∙ (goes_on fs).outcome
 
     -- by cut and entries
     run_cut : cut_of (run_in (setting d) found) ≡ cut_in d
     run_cut = cut_is d.job d.rules (begins_in (setup_of d.job) found)
 
-    same_work : (fs : Finds) (f : Setup → Parts → List Entry → ℕ) → f (run_in (setting d) found).setup (cut_of (run_in (setting d) found)) (trace_in (setting d) found).entries ≡ f (setup_of d.job) (cut_in d) entries_left
+    same_work : (fs : Finds) (f : Setup → Parts → List Entry → ℕ)
+        → f (run_in (setting d) found).setup (cut_of (run_in (setting d) found))
+        (trace_in (setting d) found).entries ≡ f (setup_of d.job) (cut_in d) entries_left
     same_work fs f =
-        ap (λ (u : Setup). f u (cut_of (run_in (setting d) found)) (trace_in (setting d) found).entries) run_setup
+        ap (λ (u : Setup). f u (cut_of (run_in (setting d) found))
+        (trace_in (setting d) found).entries) run_setup
         ∙ ap (λ (q : Parts). f (setup_of d.job) q (trace_in (setting d) found).entries) run_cut
         ∙ ap (λ (es : List Entry). f (setup_of d.job) (cut_in d) es) (entries fs)
 
-    has_worked : (fs : Finds) → IsCoreDone d.wire.tells (run_in (setting d) found) (trace_in (setting d) found) (counts_before d) (place_behind d core).is → HasWorked d
+    has_worked : (fs : Finds)
+        → IsCoreDone d.wire.tells (run_in (setting d) found) (trace_in (setting d) found)
+        (counts_before d) (place_behind d core).is → HasWorked d
     has_worked fs done = record {
       start = newest_left found;
       start_is = start_found fs;
@@ -262,11 +313,14 @@ module _ (d : Drive) (laws : DriveLaws d.wire.tells d.job d.rules) (mid : View) 
       };
     }
 
-    pub has_ended : HasLengths found → (d.disk.tells → IsStarted d.job.recover found d.disk.old mid) → AreTold d → StartsWell d → HasEnded d core
+    pub has_ended : HasLengths found → (d.disk.tells → IsStarted d.job.recover found d.disk.old mid)
+        → AreTold d → StartsWell d → HasEnded d core
     has_ended lengths started told well =
         let fs : Finds = finds well told.0 in
-        let driven : IsDriven r (handed runs.there) d.disk.new = runs.driven told.0 told.1 (begins_driven lengths started well told.0) in
-        let all : IsAllDone r (handed runs.there) (d.disk.new.seen output_file) = all_done fs driven told.1 in
+        let driven : IsDriven r (handed runs.there) d.disk.new =
+        runs.driven told.0 told.1 (begins_driven lengths started well told.0) in
+        let all : IsAllDone r (handed runs.there) (d.disk.new.seen output_file) =
+        all_done fs driven told.1 in
         record {
           output = record {
             reads = all.file_is;
@@ -274,14 +328,18 @@ module _ (d : Drive) (laws : DriveLaws d.wire.tells d.job d.rules) (mid : View) 
           };
           end = (runs.stands.told told.1).ended runs.over ∙ ap ended_as (outcome fs);
           work = λ is. has_worked fs ((runs.stands.told told.1).done is);
-          scalars = λ is. has_scalars told.1 is (undivided_run (setup_of d.job) d.rules) (outcome fs);
+          scalars = λ is. has_scalars told.1 is (undivided_run (setup_of d.job) d.rules)
+              (outcome fs);
           last = λ image now. (
             newest_of r (handed runs.there),
-            newest_same d.disk.new.seen image (λ s lt. driven.stands.slots s lt image now) (newest_of r (handed runs.there)) driven.stands.newest_is,
+            newest_same d.disk.new.seen image (λ s lt. driven.stands.slots s lt image now)
+                (newest_of r (handed runs.there)) driven.stands.newest_is,
             all.newest,
           );
         }
 
     pub lends : LendsScalars d.job core
     lends v var level scalar =
-        runs.stands.scalars v (subst (λ (u : Setup). v.0 < length u.vars) (sym run_setup) var) (subst (λ (u : Setup). 0 < levels_of u v) (sym run_setup) level) (subst (λ (u : Setup). is_scalar u v ≡ true) (sym run_setup) scalar)
+        runs.stands.scalars v (subst (λ (u : Setup). v.0 < length u.vars) (sym run_setup) var)
+        (subst (λ (u : Setup). 0 < levels_of u v) (sym run_setup) level)
+        (subst (λ (u : Setup). is_scalar u v ≡ true) (sym run_setup) scalar)

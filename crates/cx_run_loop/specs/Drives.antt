@@ -44,7 +44,8 @@ pub record Drive : Type 1 where
   pub wire : LentWire
   pub meter : Count
 
--- over a disk and a wire of types with these ghost members, each before and after the run, as the meter is
+-- over a disk and a wire of types with these ghost members, each before and after the run, as the
+-- meter is
 abbrev pub driven_by :
     {D W : Type 0} → Job → List Rule → DiskGhosts D → WireGhosts W → D → D → W → W → ℕ → ℕ → Drive
 driven_by job rules d w disk disk_after wire wire_after meter meter_after = record {
@@ -123,7 +124,8 @@ pub record HasEnded (d : Drive) (core : Cores) : Type 0 where
   pub end : EndsAsUndivided d core
   pub work : core.outcome ≡ Done → HasWorked d
   pub scalars : core.outcome ≡ Done → HasLastScalars d core
-  pub last : (image : Files) → d.disk.new.images image → (n : Option ℕ) × NewestIs image n × LastIs (course d) n
+  pub last : (image : Files) → d.disk.new.images image
+      → (n : Option ℕ) × NewestIs image n × LastIs (course d) n
 
 -- ---- each image of each moment
 
@@ -139,8 +141,8 @@ pub record IsNotBehind (start : View) (image : Files) : Type 0 where
   pub was : start.images first
   pub not_below : (n m : Option ℕ) → NewestIs image n → NewestIs first m → IsNotBelow n m
 
--- an image whose output is longer than at a checkpoint of the run, and longer than in each image of the start, has that one or a
--- newer one
+-- an image whose output is longer than at a checkpoint of the run, and longer than in each image of
+-- the start, has that one or a newer one
 abbrev pub KeepsPace : Course → View → Files → Type 0
 KeepsPace run start image =
     (c : Checkpoint) → Has run.checkpoints c → length_in c 0 < length (image output_file)
@@ -159,8 +161,8 @@ LeavesTrails d = LeavesOnly d.disk.old d.disk.new (KeepsTrail d)
 
 -- ---- answers
 
--- the run began with this checkpoint or none, and ended as the undivided run does that goes on from there; its core tells how long the
--- output's file is
+-- the run began with this checkpoint or none, and ended as the undivided run does that goes on from
+-- there; its core tells how long the output's file is
 pub record HasRun (d : Drive) (core : Cores) : Type 0 where
   pub over : core.outcome ≢ Going
   pub found : Option Checkpoint
@@ -188,7 +190,8 @@ Comes d (Err faults.Memory) = Unit {0}
 
 -- each stored scalar can be lent
 abbrev pub LendsScalars : Job → Cores → Type 0
-LendsScalars job core = (v : VarId) → v.0 < length (setup_of job).vars → 0 < levels_of (setup_of job) v
+LendsScalars job core = (v : VarId) → v.0 < length (setup_of job).vars
+    → 0 < levels_of (setup_of job) v
     → is_scalar (setup_of job) v ≡ true → HasScalar core v
 
 -- ---- all of it

@@ -65,7 +65,8 @@ abbrev pub kept_in : Setting → Option Checkpoint → KeptRun
 kept_in s found = kept_run (setup_of s.job) s.job.key s.rules found
 
 -- where the core is, which has counted from there on; once the run is over all works are handed out
-pub record IsDriving (s : Setting) (found : Option Checkpoint) (first : Counts) (p : Place s) : Type 0 where
+pub record IsDriving (s : Setting) (found : Option Checkpoint) (first : Counts)
+    (p : Place s) : Type 0 where
   pub begins : IsBeginning (setup_of s.job) (begins_in (setup_of s.job) found)
   pub at : IsAt s.wire (run_in s found) first p.is.core p.is.queue p.is.now
   pub over : s.wire → p.is.core.outcome ≢ Going
@@ -80,7 +81,8 @@ pub record IsDriven (r : KeptRun) (done : List Entry) (v : View) : Type 0 where
   pub of_run : IsFound r.setup r.key r.rules r.found
   pub left : List Entry
   pub has : HasDone r done left (v.seen output_file)
-  pub stands : KeeperStands (course_by r) (newest_of r done) (next_of r (length (v.seen output_file)) left) v
+  pub stands : KeeperStands (course_by r) (newest_of r done)
+      (next_of r (length (v.seen output_file)) left) v
 
 -- an image at some moment of the run
 pub record IsImageOf (r : KeptRun) (image : Files) : Type 0 where
@@ -93,20 +95,23 @@ pub record IsImageOf (r : KeptRun) (image : Files) : Type 0 where
 -- ---- turns
 
 -- from one place to another: what the disk had of the run there, it has here
-pub record Moves (s : Setting) (found : Option Checkpoint) (first : Counts) (was is : Place s) (x : IsDriving s found first was) : Type 0 where
+pub record Moves (s : Setting) (found : Option Checkpoint) (first : Counts) (was is : Place s)
+    (x : IsDriving s found first was) : Type 0 where
   pub there : IsDriving s found first is
   pub driven : s.disk → s.wire → IsDriven (kept_in s found) (handed x) was.view
       → IsDriven (kept_in s found) (handed there) is.view
 
 abbrev pub MovesOn : (s : Setting) (was is : Place s) → Type 0
 MovesOn s was is =
-    (found : Option Checkpoint) (first : Counts) (x : IsDriving s found first was) → Moves s found first was is x
+    (found : Option Checkpoint) (first : Counts) (x : IsDriving s found first was)
+    → Moves s found first was is x
 
 -- what each moment leaves
 abbrev pub LeavesImages : (s : Setting) (was : Place s) (new : View) → Type 0
 LeavesImages s was new =
     (found : Option Checkpoint) (first : Counts) (x : IsDriving s found first was) → s.disk → s.wire
-    → IsDriven (kept_in s found) (handed x) was.view → LeavesOnly was.view new (IsImageOf (kept_in s found))
+    → IsDriven (kept_in s found) (handed x) was.view
+    → LeavesOnly was.view new (IsImageOf (kept_in s found))
 
 -- what a keeper and a core have in common, on whatever disk
 pub record IsKept (job : Job) (tells : Type 0) (k : Keeper) (core : Cores) (v : View) : Type 0 where
@@ -127,10 +132,12 @@ Steps tells job rules was is event =
     (b : Beginning) → IsBeginning (setup_of job) b → (first : Counts)
     (at : IsAt tells (run_of job rules b) first was.core was.queue was.now)
     → (k : ℕ)
-    × StepsTo tells (run_of job rules b) (undivided_from (setup_of job) rules b) first k was is at event
+    × StepsTo tells (run_of job rules b) (undivided_from (setup_of job) rules b)
+    first k was is at event
 
 -- what a step has left of a core that it found at this one
-pub record IsBehind (job : Job) (tells : Type 0) (k : Keeper) (is : Cores) (event : Event) (v : View) : Type 0 where
+pub record IsBehind (job : Job) (tells : Type 0) (k : Keeper) (is : Cores) (event : Event)
+    (v : View) : Type 0 where
   pub was : Cores
   pub leaves : Leaves (setup_of job) was is event
   pub kept : IsKept job tells k was v
@@ -149,7 +156,8 @@ KeepsEvent setup is old new End = IsQuiet old new
 abbrev pub EventMoments : Setup → Cores → (old new : View) → Event → Type 0
 EventMoments setup is old new (Part k) = IsQuiet old new
 EventMoments setup is old new (Section v iteration) =
-    IsQuiet old new ⊎ AppendMoments (text_of_piece setup iteration v (piece_of is.buffers v)) old new
+    IsQuiet old new ⊎ AppendMoments (text_of_piece setup iteration v (piece_of is.buffers v))
+    old new
 EventMoments setup is old new (Save iteration) = SaveMoments is.buffers.state old new
 EventMoments setup is old new End = IsQuiet old new
 
@@ -167,7 +175,8 @@ pub record EndsAt (s : Setting) (was is : Place s) : Type 0 where
 -- ---- the whole of it
 
 -- a run from what was found: it is over, and what was driven is driven, with its output settled
-pub record RunsFrom (s : Setting) (found : Option Checkpoint) (first : Counts) (old : View) (p : Place s) : Type 0 where
+pub record RunsFrom (s : Setting) (found : Option Checkpoint) (first : Counts) (old : View)
+    (p : Place s) : Type 0 where
   pub over : p.is.core.outcome ≢ Going
   pub there : IsDriving s found first p
   pub stands : Stands s.wire (run_in s found) (trace_in s found) first p.is there.at
@@ -179,4 +188,5 @@ pub record RunsFrom (s : Setting) (found : Option Checkpoint) (first : Counts) (
 -- and what it leaves at each moment
 abbrev pub RunLeaves : (s : Setting) (found : Option Checkpoint) (old new : View) → Type 0
 RunLeaves s found old new =
-    s.disk → s.wire → IsDriven (kept_in s found) [] old → LeavesOnly old new (IsImageOf (kept_in s found))
+    s.disk → s.wire → IsDriven (kept_in s found) [] old
+    → LeavesOnly old new (IsImageOf (kept_in s found))

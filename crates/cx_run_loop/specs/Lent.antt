@@ -15,7 +15,8 @@ pub record Count : Type 0 where
 abbrev pub HasRisen : Count → Type 0
 HasRisen c = Rose c.old c.new
 
--- a disk: whether it tells what it holds, that it is as it was, what contracts see of it, and its count of faults
+-- a disk: whether it tells what it holds, that it is as it was, what contracts see of it, and its
+-- count of faults
 pub record LentDisk : Type 1 where
   pub tells : Type 0
   pub same : Type 0

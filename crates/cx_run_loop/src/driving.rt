@@ -34,7 +34,7 @@ use cx_turns::Turns;
 use cx_wire::Wire;
 use std::alloc::Global;
 
-/// Runs a job to its end, and answers the core as it stands then: how the run has ended, and the scalars of its last state.
+/// Runs a job to its end, and answers the core as it is then: how the run has ended, and the scalars of its last state.
 ///
 /// The keeper begins on the disk, and the core from the checkpoint that it finds, or from the job's start. Then `turns` picks each
 /// time which of the events that can happen does, until the run is over. Each text is appended to the output as it comes, and each
@@ -42,8 +42,8 @@ use std::alloc::Global;
 ///
 /// # Errors
 ///
-/// `Recovery`: the files on the disk refuse the start; nothing has changed. `Disk`, `Wire`: that device failed. `Memory`: memory was
-/// wanting. After these the run can be started again on what is left on the disk, with an empty wire.
+/// `Recovery`: the files on the disk refuse the start; nothing has changed. `Disk`, `Wire`: that device failed. `Memory`: there was
+/// no memory left. After these the run can be started again on what is left on the disk, with an empty wire.
 pub fn drive<D: Disk, W: Wire, T: Turns>(
     alloc: Global,
     job: &Job,

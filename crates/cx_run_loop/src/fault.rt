@@ -21,7 +21,7 @@ pub enum DriveFault {
     /// The wire failed.
     #[error("Wire")]
     Wire,
-    /// Memory was wanting.
+    /// There was no memory left.
     #[error("Memory")]
     Memory,
 }

@@ -1,4 +1,4 @@
--- What the stages behind a job have come to.
+-- What the stages after a job have come to.
 use Rattle.std.proofs.Common.{◌≡◌, refl, ◌∙◌, subst, List, Option, Some, None, option_map, Ok, inl, inr}
 use Rattle.cx_text.specs.Telling.{Stage, Then}
 use Rattle.cx_plan.specs.declared.item.Item.{Item}

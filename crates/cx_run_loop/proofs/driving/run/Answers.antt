@@ -7,8 +7,19 @@ use Rattle.cx_run_loop.proofs.driving.run.Goals as goal
 
 pub turns-init : goal.turns-init
 turns-init g c =
-    let s : Setting = record { job = c.args.job.now; rules = map (λ r. (goal.Routine-dyn g (r.vtable, r.value)).rule r.value) c.args.routines.now; wire = IsTrue g.W.Wire.tells; disk = g.D.Disk.tells } in
-    let was : Place s = record { is = stands_at c.args.core.now (g.W.Wire.queue c.args.wire.now) c.args.meter.now (g.W.Wire.received c.args.wire.now) (g.W.Wire.sum c.args.wire.now); view = g.D.Disk.view c.args.disk.now } in
+    let s : Setting = record {
+      job = c.args.job.now;
+      rules = map (λ r. (goal.Routine-dyn g (r.vtable, r.value)).rule r.value)
+          c.args.routines.now;
+      wire = IsTrue g.W.Wire.tells;
+      disk = g.D.Disk.tells;
+    } in
+    let was : Place s = record {
+      is =
+          stands_at c.args.core.now (g.W.Wire.queue c.args.wire.now) c.args.meter.now
+          (g.W.Wire.received c.args.wire.now) (g.W.Wire.sum c.args.wire.now);
+      view = g.D.Disk.view c.args.disk.now;
+    } in
     record {
       moves = moves_none s was;
       moments = images_none s was;
@@ -24,17 +35,43 @@ turns-init g c =
 
 pub turns-preserved : goal.turns-preserved
 turns-preserved g c =
-    let s : Setting = record { job = c.args.job.now; rules = map (λ r. (goal.Routine-dyn g (r.vtable, r.value)).rule r.value) c.args.routines.now; wire = IsTrue g.W.Wire.tells; disk = g.D.Disk.tells } in
-    let was : Place s = record { is = stands_at c.args.core.now (g.W.Wire.queue c.args.wire.now) c.args.meter.now (g.W.Wire.received c.args.wire.now) (g.W.Wire.sum c.args.wire.now); view = g.D.Disk.view c.args.disk.now } in
-    let mid : Place s = record { is = stands_at c.turns.core (g.W.Wire.queue c.turns.wire) c.turns.meter (g.W.Wire.received c.turns.wire) (g.W.Wire.sum c.turns.wire); view = g.D.Disk.view c.turns.disk } in
-    let now : Place s = record { is = stands_at c.turn.new.core (g.W.Wire.queue c.turn.new.wire) c.turn.new.meter (g.W.Wire.received c.turn.new.wire) (g.W.Wire.sum c.turn.new.wire); view = g.D.Disk.view c.turn.new.disk } in
-    let a : g.D.Disk.faults c.args.disk.now ≤ g.D.Disk.faults c.turns.disk = c.turns.invariant.disk_later in
-    let b : g.D.Disk.faults c.turns.disk ≤ g.D.Disk.faults c.turn.new.disk = c.in_ok-turn.ensures.stops.disk_later in
-    let e : g.W.Wire.faults c.args.wire.now ≤ g.W.Wire.faults c.turns.wire = c.turns.invariant.wire_later in
-    let f : g.W.Wire.faults c.turns.wire ≤ g.W.Wire.faults c.turn.new.wire = c.in_ok-turn.ensures.stops.wire_later in
+    let s : Setting = record {
+      job = c.args.job.now;
+      rules = map (λ r. (goal.Routine-dyn g (r.vtable, r.value)).rule r.value)
+          c.args.routines.now;
+      wire = IsTrue g.W.Wire.tells;
+      disk = g.D.Disk.tells;
+    } in
+    let was : Place s = record {
+      is =
+          stands_at c.args.core.now (g.W.Wire.queue c.args.wire.now) c.args.meter.now
+          (g.W.Wire.received c.args.wire.now) (g.W.Wire.sum c.args.wire.now);
+      view = g.D.Disk.view c.args.disk.now;
+    } in
+    let mid : Place s = record {
+      is =
+          stands_at c.turns.core (g.W.Wire.queue c.turns.wire) c.turns.meter
+          (g.W.Wire.received c.turns.wire) (g.W.Wire.sum c.turns.wire);
+      view = g.D.Disk.view c.turns.disk;
+    } in
+    let now : Place s = record {
+      is =
+          stands_at c.turn.new.core (g.W.Wire.queue c.turn.new.wire) c.turn.new.meter
+          (g.W.Wire.received c.turn.new.wire) (g.W.Wire.sum c.turn.new.wire);
+      view = g.D.Disk.view c.turn.new.disk;
+    } in
+    let a : g.D.Disk.faults c.args.disk.now ≤ g.D.Disk.faults c.turns.disk =
+    c.turns.invariant.disk_later in
+    let b : g.D.Disk.faults c.turns.disk ≤ g.D.Disk.faults c.turn.new.disk =
+    c.in_ok-turn.ensures.stops.disk_later in
+    let e : g.W.Wire.faults c.args.wire.now ≤ g.W.Wire.faults c.turns.wire =
+    c.turns.invariant.wire_later in
+    let f : g.W.Wire.faults c.turns.wire ≤ g.W.Wire.faults c.turn.new.wire =
+    c.in_ok-turn.ensures.stops.wire_later in
     record {
       moves = moves_more s was mid now c.turns.invariant.moves c.in_ok-turn.ensures.moves;
-      moments = images_more s was mid now.view c.turns.invariant.moves c.turns.invariant.moments c.in_ok-turn.ensures.moments;
+      moments = images_more s was mid now.view c.turns.invariant.moves c.turns.invariant.moments
+          c.in_ok-turn.ensures.moments;
       going = c.in_ok-turn.ensures.going;
       parts = c.in_ok-turn.ensures.parts ∙ c.turns.invariant.parts;
       mounted = c.in_ok-turn.ensures.mounted;
@@ -47,7 +84,24 @@ turns-preserved g c =
 
 pub returns-in_err-turn-clause-moments : goal.returns-in_err-turn-clause-moments
 returns-in_err-turn-clause-moments g c =
-    let s : Setting = record { job = c.args.job.now; rules = map (λ r. (goal.Routine-dyn g (r.vtable, r.value)).rule r.value) c.args.routines.now; wire = IsTrue g.W.Wire.tells; disk = g.D.Disk.tells } in
-    let was : Place s = record { is = stands_at c.args.core.now (g.W.Wire.queue c.args.wire.now) c.args.meter.now (g.W.Wire.received c.args.wire.now) (g.W.Wire.sum c.args.wire.now); view = g.D.Disk.view c.args.disk.now } in
-    let mid : Place s = record { is = stands_at c.turns.core (g.W.Wire.queue c.turns.wire) c.turns.meter (g.W.Wire.received c.turns.wire) (g.W.Wire.sum c.turns.wire); view = g.D.Disk.view c.turns.disk } in
-    images_more s was mid (g.D.Disk.view c.turn.new.disk) c.turns.invariant.moves c.turns.invariant.moments c.in_err-turn.ensures.moments
+    let s : Setting = record {
+      job = c.args.job.now;
+      rules = map (λ r. (goal.Routine-dyn g (r.vtable, r.value)).rule r.value)
+          c.args.routines.now;
+      wire = IsTrue g.W.Wire.tells;
+      disk = g.D.Disk.tells;
+    } in
+    let was : Place s = record {
+      is =
+          stands_at c.args.core.now (g.W.Wire.queue c.args.wire.now) c.args.meter.now
+          (g.W.Wire.received c.args.wire.now) (g.W.Wire.sum c.args.wire.now);
+      view = g.D.Disk.view c.args.disk.now;
+    } in
+    let mid : Place s = record {
+      is =
+          stands_at c.turns.core (g.W.Wire.queue c.turns.wire) c.turns.meter
+          (g.W.Wire.received c.turns.wire) (g.W.Wire.sum c.turns.wire);
+      view = g.D.Disk.view c.turns.disk;
+    } in
+    images_more s was mid (g.D.Disk.view c.turn.new.disk)
+    c.turns.invariant.moves c.turns.invariant.moments c.in_err-turn.ensures.moments

@@ -16,11 +16,13 @@ invariant-turns g l =
       disk = g.D.Disk.tells;
     } in
     let was : Place s = record {
-      is = stands_at l.initial.core (g.W.Wire.queue l.initial.wire) l.initial.meter (g.W.Wire.received l.initial.wire) (g.W.Wire.sum l.initial.wire);
+      is = stands_at l.initial.core (g.W.Wire.queue l.initial.wire) l.initial.meter
+          (g.W.Wire.received l.initial.wire) (g.W.Wire.sum l.initial.wire);
       view = g.D.Disk.view l.initial.disk;
     } in
     let is : Place s = record {
-      is = stands_at l.core (g.W.Wire.queue l.wire) l.meter (g.W.Wire.received l.wire) (g.W.Wire.sum l.wire);
+      is = stands_at l.core (g.W.Wire.queue l.wire) l.meter (g.W.Wire.received l.wire)
+          (g.W.Wire.sum l.wire);
       view = g.D.Disk.view l.disk;
     } in
     record {

@@ -14,16 +14,23 @@ lent : (c : After-as_ref) → option_copied c.as_ref.result ≡ c.args.found.now
 lent c = search rules
 
 pub start-requires-clause-state : goal.start-requires-clause-state
-start-requires-clause-state c = subst (λ (o : Option Checkpoint). CanBegin (setup_of c.args.job.now) o) (sym (lent c))
-    (can_start c.args.job.now (c.drive_laws.ensures true []).can_begin c.args.found.now c.requires.fits)
+start-requires-clause-state c =
+    subst (λ (o : Option Checkpoint). CanBegin (setup_of c.args.job.now) o) (sym (lent c))
+    (can_start c.args.job.now
+    (c.drive_laws.ensures true []).can_begin c.args.found.now c.requires.fits)
 
 pub returns-in_err-start-clause-can : goal.returns-in_err-start-clause-can
-returns-in_err-start-clause-can c = is_beginning c.args.job.now (c.drive_laws.ensures true []).can_begin c.args.found.now c.requires.fits
+returns-in_err-start-clause-can c =
+    is_beginning c.args.job.now
+    (c.drive_laws.ensures true []).can_begin c.args.found.now c.requires.fits
 
 pub returns-clause-can : goal.returns-clause-can
-returns-clause-can c = is_beginning c.args.job.now (c.drive_laws.ensures true []).can_begin c.args.found.now c.requires.fits
+returns-clause-can c = is_beginning c.args.job.now
+    (c.drive_laws.ensures true []).can_begin c.args.found.now c.requires.fits
 
 pub returns-clause-begins : goal.returns-clause-begins
 returns-clause-begins c told rules queue first empty sum =
-    subst (λ (o : Option Checkpoint). Begins (IsTrue told) (run_of c.args.job.now rules (begins_in (setup_of c.args.job.now) o)) first c.in_ok-start.field-0 queue) (lent ((goal.at.returns-clause-begins c).After-as_ref))
+    subst (λ (o : Option Checkpoint).
+    Begins (IsTrue told) (run_of c.args.job.now rules (begins_in (setup_of c.args.job.now) o))
+    first c.in_ok-start.field-0 queue) (lent ((goal.at.returns-clause-begins c).After-as_ref))
     (c.in_ok-start.ensures.begins told rules queue first empty sum)
