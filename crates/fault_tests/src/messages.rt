@@ -25,33 +25,50 @@ use std::alloc::Global;
 use std::fmt::Display;
 use std::test::Fail;
 
-/// A fault's message behind the word of its answer, and what the top call prints.
+/// A fault's message after the word of its answer, and what the top call prints.
 #[derive(Drop)]
 struct Shown {
     message: String,
     printed: String,
 }
 
+impl Shown {
+    /// Whether both are the same.
+    fn is_one(&self) -> bool {
+        self.message.as_str() == self.printed.as_str()
+    }
+
+    /// Whether both are the same, and that of the fault by itself, before it was a job's.
+    fn is_also(&self, own: &String) -> bool {
+        own.as_str() == self.printed.as_str() && self.is_one()
+    }
+}
+
+/// The message of a fault after the word of its answer.
 fn message<F: Display>(alloc: Global, fault: &F) -> Result<String, Memory> {
     Ok(format!(in alloc; "refused: {fault}\n")?)
 }
 
+/// A fault of a job, and what is printed of it.
 fn refused(alloc: Global, fault: JobFault) -> Result<Shown, Memory> {
     let message = message(alloc, &fault)?;
     let printed = Answer::Refused(fault).text(alloc)?.to_string(alloc)?;
     Ok(Shown { message, printed })
 }
 
+/// A fault of a start, and what is printed of it.
 fn recovered(alloc: Global, fault: BeginFault) -> Result<Shown, Memory> {
     let message = format!(in alloc; "recovery: {fault}\n")?;
     let printed = Answer::Recovery(fault).text(alloc)?.to_string(alloc)?;
     Ok(Shown { message, printed })
 }
 
+/// A text of these bytes.
 fn text(alloc: Global, bytes: &[u8]) -> Result<Text, Memory> {
     Text::from_slice(alloc, bytes)
 }
 
+/// Texts of these bytes.
 fn names(alloc: Global, texts: &[&[u8]]) -> Result<List<Text>, Memory> {
     let mut names = List::empty(alloc);
     for bytes in texts {
@@ -83,6 +100,7 @@ const CUTS: [CutFault; 5] = [
     CutFault::Memory,
 ];
 
+/// Faults of the files of a job.
 fn config_faults(alloc: Global) -> Result<Vec<ConfigFault>, Memory> {
     Ok(vec![in alloc;
         ConfigFault::Shelf,
@@ -99,25 +117,22 @@ fn messages_of_files(rt: HostRuntime) -> Result<(), Fail> {
     let alloc = rt.alloc();
     for fault in TEXTS {
         let shown = refused(alloc, JobFault::Text(text(alloc, b"a.par")?, fault))?;
-        let printed = shown.printed.as_str();
-        assert_eq!(rt; shown.message.as_str(), printed, "{printed}");
+        assert!(rt; shown.is_one(), "{}", shown.printed.as_str());
     }
     for fault in TREES {
         let shown = refused(alloc, JobFault::Ccl(text(alloc, b"param.ccl")?, fault))?;
-        let printed = shown.printed.as_str();
-        assert_eq!(rt; shown.message.as_str(), printed, "{printed}");
+        assert!(rt; shown.is_one(), "{}", shown.printed.as_str());
     }
     for fault in config_faults(alloc)? {
         let own = message(alloc, &fault)?;
         let shown = refused(alloc, JobFault::from(fault))?;
-        let printed = shown.printed.as_str();
-        assert_eq!(rt; own.as_str(), printed, "{printed}");
-        assert_eq!(rt; shown.message.as_str(), printed, "{printed}");
+        assert!(rt; shown.is_also(&own), "{}", shown.printed.as_str());
     }
     Ok(())
 }
 
-fn bind_faults(alloc: Global) -> Result<Vec<BindFault>, Memory> {
+/// Faults of thorns, and want of memory.
+fn thorn_faults(alloc: Global) -> Result<Vec<BindFault>, Memory> {
     Ok(vec![in alloc;
         BindFault::UnknownThorn(text(alloc, b"T")?),
         BindFault::TwoThorns(text(alloc, b"")?),
@@ -125,6 +140,13 @@ fn bind_faults(alloc: Global) -> Result<Vec<BindFault>, Memory> {
         BindFault::MissingImplementation(text(alloc, b"T")?, text(alloc, b"u")?),
         BindFault::MissingCapability(text(alloc, b"T")?, text(alloc, b"c")?),
         BindFault::MissingThorn(text(alloc, b"T")?, text(alloc, b"U")?),
+        BindFault::Memory,
+    ]?)
+}
+
+/// Faults of names and of what thorns declare.
+fn name_faults(alloc: Global) -> Result<Vec<BindFault>, Memory> {
+    Ok(vec![in alloc;
         BindFault::NoParameter(text(alloc, b"T")?, text(alloc, b"u")?, text(alloc, b"p")?),
         BindFault::WrongType(text(alloc, b"T")?, text(alloc, b"p")?),
         BindFault::TwoVariables(text(alloc, b"t::v")?),
@@ -132,10 +154,10 @@ fn bind_faults(alloc: Global) -> Result<Vec<BindFault>, Memory> {
         BindFault::Unsupported(text(alloc, b"T")?, text(alloc, b"g")?),
         BindFault::TwoDims(text(alloc, b"t::g")?, text(alloc, b"u::h")?),
         BindFault::Limit(text(alloc, b"variables")?, 18_446_744_073_709_551_615),
-        BindFault::Memory,
     ]?)
 }
 
+/// Each fault of a parameter.
 fn value_faults(alloc: Global) -> Result<Vec<ValueFault>, Memory> {
     Ok(vec![in alloc;
         ValueFault::BadDefault(text(alloc, b"t::p")?),
@@ -151,23 +173,22 @@ fn value_faults(alloc: Global) -> Result<Vec<ValueFault>, Memory> {
 #[test]
 fn messages_of_thorns_and_parameters(rt: HostRuntime) -> Result<(), Fail> {
     let alloc = rt.alloc();
-    for fault in bind_faults(alloc)? {
-        let own = message(alloc, &fault)?;
-        let shown = refused(alloc, JobFault::from(fault))?;
-        let printed = shown.printed.as_str();
-        assert_eq!(rt; own.as_str(), printed, "{printed}");
-        assert_eq!(rt; shown.message.as_str(), printed, "{printed}");
+    for faults in [thorn_faults(alloc)?, name_faults(alloc)?] {
+        for fault in faults {
+            let own = message(alloc, &fault)?;
+            let shown = refused(alloc, JobFault::from(fault))?;
+            assert!(rt; shown.is_also(&own), "{}", shown.printed.as_str());
+        }
     }
     for fault in value_faults(alloc)? {
         let own = message(alloc, &fault)?;
         let shown = refused(alloc, JobFault::from(fault))?;
-        let printed = shown.printed.as_str();
-        assert_eq!(rt; own.as_str(), printed, "{printed}");
-        assert_eq!(rt; shown.message.as_str(), printed, "{printed}");
+        assert!(rt; shown.is_also(&own), "{}", shown.printed.as_str());
     }
     Ok(())
 }
 
+/// Each fault of an expression.
 fn expr_faults(alloc: Global) -> Result<Vec<ExprFault>, Memory> {
     Ok(vec![in alloc;
         ExprFault::UnknownName(text(alloc, b"n")?),
@@ -177,6 +198,7 @@ fn expr_faults(alloc: Global) -> Result<Vec<ExprFault>, Memory> {
     ]?)
 }
 
+/// Each fault of a name.
 fn scope_faults(alloc: Global) -> Result<Vec<ScopeFault>, Memory> {
     Ok(vec![in alloc;
         ScopeFault::NotFound(text(alloc, b"v")?),
@@ -197,20 +219,19 @@ fn messages_of_expressions_and_names(rt: HostRuntime) -> Result<(), Fail> {
             alloc,
             JobFault::Order(OrderFault::Expr(text(alloc, b"T")?, fault)),
         )?;
-        let printed = shown.printed.as_str();
-        assert_eq!(rt; shown.message.as_str(), printed, "{printed}");
+        assert!(rt; shown.is_one(), "{}", shown.printed.as_str());
     }
     for fault in scope_faults(alloc)? {
         let shown = refused(
             alloc,
             JobFault::Order(OrderFault::Scope(text(alloc, b"")?, fault)),
         )?;
-        let printed = shown.printed.as_str();
-        assert_eq!(rt; shown.message.as_str(), printed, "{printed}");
+        assert!(rt; shown.is_one(), "{}", shown.printed.as_str());
     }
     Ok(())
 }
 
+/// Each fault of entries.
 fn entry_faults(alloc: Global) -> Result<Vec<EntryFault>, Memory> {
     Ok(vec![in alloc;
         EntryFault::UnknownBin(text(alloc, b"BIN")?),
@@ -219,6 +240,7 @@ fn entry_faults(alloc: Global) -> Result<Vec<EntryFault>, Memory> {
     ]?)
 }
 
+/// Each fault of places.
 fn place_faults(alloc: Global) -> Result<Vec<PlaceFault>, Memory> {
     Ok(vec![in alloc;
         PlaceFault::GroupCycle(names(alloc, &[b"g", b"h"])?),
@@ -227,6 +249,7 @@ fn place_faults(alloc: Global) -> Result<Vec<PlaceFault>, Memory> {
     ]?)
 }
 
+/// Each fault of a schedule.
 fn order_faults(alloc: Global) -> Result<Vec<OrderFault>, Memory> {
     Ok(vec![in alloc;
         OrderFault::Expr(text(alloc, b"T")?, ExprFault::Range(text(alloc, b"/")?)),
@@ -246,27 +269,22 @@ fn messages_of_schedules(rt: HostRuntime) -> Result<(), Fail> {
     for fault in entry_faults(alloc)? {
         let own = message(alloc, &fault)?;
         let shown = refused(alloc, JobFault::from(OrderFault::from(fault)))?;
-        let printed = shown.printed.as_str();
-        assert_eq!(rt; own.as_str(), printed, "{printed}");
-        assert_eq!(rt; shown.message.as_str(), printed, "{printed}");
+        assert!(rt; shown.is_also(&own), "{}", shown.printed.as_str());
     }
     for fault in place_faults(alloc)? {
         let own = message(alloc, &fault)?;
         let shown = refused(alloc, JobFault::from(OrderFault::from(fault)))?;
-        let printed = shown.printed.as_str();
-        assert_eq!(rt; own.as_str(), printed, "{printed}");
-        assert_eq!(rt; shown.message.as_str(), printed, "{printed}");
+        assert!(rt; shown.is_also(&own), "{}", shown.printed.as_str());
     }
     for fault in order_faults(alloc)? {
         let own = message(alloc, &fault)?;
         let shown = refused(alloc, JobFault::from(fault))?;
-        let printed = shown.printed.as_str();
-        assert_eq!(rt; own.as_str(), printed, "{printed}");
-        assert_eq!(rt; shown.message.as_str(), printed, "{printed}");
+        assert!(rt; shown.is_also(&own), "{}", shown.printed.as_str());
     }
     Ok(())
 }
 
+/// Each fault of routines.
 fn match_faults(alloc: Global) -> Result<Vec<MatchFault>, Memory> {
     Ok(vec![in alloc;
         MatchFault::UnknownRoutine(text(alloc, b"EVOL/a")?),
@@ -279,6 +297,7 @@ fn match_faults(alloc: Global) -> Result<Vec<MatchFault>, Memory> {
     ]?)
 }
 
+/// A read of points that nothing has filled, by the flag that is cleared.
 fn unset(alloc: Global, flag: Flag) -> Result<RegionFault, Memory> {
     Ok(RegionFault::Unset {
         path: text(alloc, b"iyn")?,
@@ -289,6 +308,7 @@ fn unset(alloc: Global, flag: Flag) -> Result<RegionFault, Memory> {
     })
 }
 
+/// Each fault of regions.
 fn region_faults(alloc: Global) -> Result<Vec<RegionFault>, Memory> {
     Ok(vec![in alloc;
         RegionFault::Shape(text(alloc, b"EVOL/a")?, text(alloc, b"")?),
@@ -300,6 +320,7 @@ fn region_faults(alloc: Global) -> Result<Vec<RegionFault>, Memory> {
     ]?)
 }
 
+/// Faults that are a job's own.
 fn job_faults(alloc: Global) -> Result<Vec<JobFault>, Memory> {
     Ok(vec![in alloc;
         JobFault::Shelf,
@@ -322,32 +343,32 @@ fn messages_of_jobs(rt: HostRuntime) -> Result<(), Fail> {
     for fault in match_faults(alloc)? {
         let own = message(alloc, &fault)?;
         let shown = refused(alloc, JobFault::from(fault))?;
-        let printed = shown.printed.as_str();
-        assert_eq!(rt; own.as_str(), printed, "{printed}");
-        assert_eq!(rt; shown.message.as_str(), printed, "{printed}");
-    }
-    for fault in CUTS {
-        let own = message(alloc, &fault)?;
-        let shown = refused(alloc, JobFault::from(fault))?;
-        let printed = shown.printed.as_str();
-        assert_eq!(rt; own.as_str(), printed, "{printed}");
-        assert_eq!(rt; shown.message.as_str(), printed, "{printed}");
-    }
-    for fault in region_faults(alloc)? {
-        let own = message(alloc, &fault)?;
-        let shown = refused(alloc, JobFault::from(fault))?;
-        let printed = shown.printed.as_str();
-        assert_eq!(rt; own.as_str(), printed, "{printed}");
-        assert_eq!(rt; shown.message.as_str(), printed, "{printed}");
+        assert!(rt; shown.is_also(&own), "{}", shown.printed.as_str());
     }
     for fault in job_faults(alloc)? {
         let shown = refused(alloc, fault)?;
-        let printed = shown.printed.as_str();
-        assert_eq!(rt; shown.message.as_str(), printed, "{printed}");
+        assert!(rt; shown.is_one(), "{}", shown.printed.as_str());
     }
     Ok(())
 }
 
+#[test]
+fn messages_of_grids_and_regions(rt: HostRuntime) -> Result<(), Fail> {
+    let alloc = rt.alloc();
+    for fault in CUTS {
+        let own = message(alloc, &fault)?;
+        let shown = refused(alloc, JobFault::from(fault))?;
+        assert!(rt; shown.is_also(&own), "{}", shown.printed.as_str());
+    }
+    for fault in region_faults(alloc)? {
+        let own = message(alloc, &fault)?;
+        let shown = refused(alloc, JobFault::from(fault))?;
+        assert!(rt; shown.is_also(&own), "{}", shown.printed.as_str());
+    }
+    Ok(())
+}
+
+/// Each fault of a start.
 fn begin_faults(alloc: Global) -> Result<Vec<BeginFault>, Memory> {
     Ok(vec![in alloc;
         BeginFault::Disk,
@@ -364,8 +385,7 @@ fn messages_of_starts(rt: HostRuntime) -> Result<(), Fail> {
     let alloc = rt.alloc();
     for fault in begin_faults(alloc)? {
         let shown = recovered(alloc, fault)?;
-        let printed = shown.printed.as_str();
-        assert_eq!(rt; shown.message.as_str(), printed, "{printed}");
+        assert!(rt; shown.is_one(), "{}", shown.printed.as_str());
     }
     let damaged = DriveFault::Recovery(BeginFault::Damaged(3)).to_string(alloc)?;
     assert_eq!(rt; damaged.as_str(), "Damaged 3", "a damaged slot");
