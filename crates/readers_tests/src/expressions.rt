@@ -7,7 +7,7 @@ ghost use Rattle.cx_expr.specs.Exprs.{expression};
 ghost use Rattle.cx_expr.specs.Known.{NumberOf, TextOf, Nothing};
 
 use cx_expr::{Expr, ExprFault, Found, Lookup, eval, print_expr, read_expr};
-use cx_text::{CclFault, Memory, Style, Text, tokens};
+use cx_text::{CclFault, Style, Text, tokens};
 use std::alloc::Global;
 use std::process::Abort;
 use std::test::Fail;
@@ -183,46 +183,23 @@ const PLACES: &[(&str, usize, Result<usize, CclFault>)] = &[
     ("1 +\na[4294967296]", 0, Err(CclFault::BadNumber(2))),
 ];
 
-/// A word and a name.
-fn of_name(alloc: Global, word: &[u8], name: &Text) -> Result<Text, Memory> {
-    let mut words = Text::from_slice(alloc, word)?;
-    words.push_slice(name.as_slice())?;
-    Ok(words)
-}
-
-/// A value, or a fault with what it is about.
-fn words(alloc: Global, answer: Result<i64, &ExprFault>) -> Result<Text, Memory> {
+/// A value, or a fault's message.
+fn words(alloc: Global, answer: Result<i64, &ExprFault>) -> Result<String, Fail> {
     match answer {
-        Ok(n) => Text::from_slice(alloc, n.to_string(alloc)?.as_bytes()),
-        Err(ExprFault::Range(sign)) => of_name(alloc, b"Range ", sign),
-        Err(ExprFault::NotText(name)) => of_name(alloc, b"NotText ", name),
-        Err(ExprFault::NotNumber(name)) => of_name(alloc, b"NotNumber ", name),
-        Err(ExprFault::UnknownName(name)) => of_name(alloc, b"UnknownName ", name),
+        Ok(n) => Ok(n.to_string(alloc)?),
+        Err(fault) => Ok(format!(in alloc; "{fault}")?),
     }
 }
 
 /// What an expression comes to, in words.
-fn told(alloc: Global, text: &str, names: Names) -> Result<Text, Fail> {
+fn told(alloc: Global, text: &str, names: Names) -> Result<String, Fail> {
     let e = whole(alloc, text)?;
     let answer = match names {
         Names::Fives => eval(&e, &Five),
         Names::Points => eval(&e, &Point),
         Names::Unknown => eval(&e, &Nobody),
     };
-    Ok(words(alloc, answer)?)
-}
-
-#[test]
-fn expressions_have_these_values_and_faults(rt: HostRuntime) -> Result<(), Fail> {
-    for (text, want) in VALUES {
-        let told = told(rt.alloc(), text, Names::Fives)?;
-        assert_eq!(rt; told.as_slice(), want.as_bytes(), "{text}");
-    }
-    for (text, names, want) in NAMES {
-        let told = told(rt.alloc(), text, *names)?;
-        assert_eq!(rt; told.as_slice(), want.as_bytes(), "{text} with {names:?}");
-    }
-    Ok(())
+    words(alloc, answer)
 }
 
 /// The place behind the expression at a place of a text, or its first fault.
@@ -238,7 +215,15 @@ fn place_behind(rt: &HostRuntime, text: &str, at: usize) -> Result<Result<usize,
 }
 
 #[test]
-fn expressions_end_at_these_places(rt: HostRuntime) -> Result<(), Fail> {
+fn expressions_have_values_faults_and_ends(rt: HostRuntime) -> Result<(), Fail> {
+    for (text, want) in VALUES {
+        let told = told(rt.alloc(), text, Names::Fives)?;
+        assert_eq!(rt; told.as_str(), *want, "{text}");
+    }
+    for (text, names, want) in NAMES {
+        let told = told(rt.alloc(), text, *names)?;
+        assert_eq!(rt; told.as_str(), *want, "{text} with {names:?}");
+    }
     for (text, at, want) in PLACES {
         let found = place_behind(&rt, text, *at)?;
         assert_eq!(rt; found, *want, "{text:?} from {at}");

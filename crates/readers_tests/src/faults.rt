@@ -6,14 +6,14 @@ use cx_iface::read_interface;
 use cx_param::read_params;
 use cx_parfile::read_parfile;
 use cx_sched::read_schedule;
-use cx_text::{CclFault, Style, Text, tokens};
+use cx_text::{CclFault, List, Memory, Style, Text, Token, tokens};
 use std::alloc::Global;
 use std::process::Abort;
 use std::test::Fail;
 
 /// What a text is read as.
 #[derive(Clone, Copy, Debug)]
-enum Kind {
+pub enum Kind {
     Interface,
     Params,
     Schedule,
@@ -32,7 +32,7 @@ const FAULTS: &[(Kind, &[(&str, CclFault)])] = &[
     (Kind::ParameterFile, parameter_files::FAULTS),
 ];
 
-fn style_of(kind: Kind) -> Style {
+pub fn style_of(kind: Kind) -> Style {
     match kind {
         Kind::ThornList => Style::Thorns,
         Kind::ParameterFile => Style::Par,
@@ -40,17 +40,16 @@ fn style_of(kind: Kind) -> Style {
     }
 }
 
-/// The first fault of a text.
-fn fault_of(alloc: Global, kind: Kind, text: &str) -> Result<Option<CclFault>, Fail> {
-    let list = tokens(alloc, text.as_bytes(), style_of(kind))?;
+/// The first fault of a list of tokens.
+pub fn fault_in(alloc: Global, kind: Kind, list: &List<Token>) -> Result<Option<CclFault>, Memory> {
     let base = Text::from_slice(alloc, b"box")?;
     Ok(match kind {
-        Kind::Interface => read_interface(alloc, &list).err(),
-        Kind::Params => read_params(alloc, &list).err(),
-        Kind::Schedule => read_schedule(alloc, &list).err(),
-        Kind::Configuration => read_configuration(alloc, &list).err(),
-        Kind::ThornList => read_thornlist(alloc, &list).err(),
-        Kind::ParameterFile => read_parfile(alloc, &list, &base).err(),
+        Kind::Interface => read_interface(alloc, list).err(),
+        Kind::Params => read_params(alloc, list).err(),
+        Kind::Schedule => read_schedule(alloc, list).err(),
+        Kind::Configuration => read_configuration(alloc, list).err(),
+        Kind::ThornList => read_thornlist(alloc, list).err(),
+        Kind::ParameterFile => read_parfile(alloc, list, &base).err(),
     })
 }
 
@@ -61,7 +60,8 @@ fn assert_faults(
     faults: &[(&str, CclFault)],
 ) -> Result<(), Fail> {
     for (text, want) in faults {
-        let fault = fault_of(alloc, kind, text)?;
+        let list = tokens(alloc, text.as_bytes(), style_of(kind))?;
+        let fault = fault_in(alloc, kind, &list)?;
         assert_eq!(rt; fault, Some(*want), "{text:?} as {kind:?}");
     }
     Ok(())

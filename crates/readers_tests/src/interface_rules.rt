@@ -1,13 +1,8 @@
-//! The grammar as a table of rules, and what it derives, found by trying every rule. The reader is compared with it. No
-//! token of the files is marked, so marks aren't in it.
+//! The grammar of interface files as a table of rules. No token of the files is marked, so marks aren't in it.
 
-use crate::derivations::{Rules, fault};
-use crate::interfaces::FILES;
-use cx_iface::read_interface;
-use cx_text::{Kind, List, Memory, Style, Token, tokens};
-use std::alloc::Global;
-use std::process::Abort;
-use std::test::Fail;
+use crate::derivations::Rules;
+use crate::faults::Kind as File;
+use crate::grammars::Grammar;
 
 /// What each capital letter derives. Every other byte is a token: `5` a number, `q` a quoted text, `x` a sign that no
 /// rule names, a line feed a LineEnd, a small letter a word (see `WORDS`), `w` where it is none of those.
@@ -52,108 +47,63 @@ const RULES: Rules = &[
 ];
 
 /// The words that rules name, by their letters.
-const WORDS: &[(u8, &[&[u8]])] = &[
-    (b'f', &[b"FUNCTION"]),
-    (b'i', &[b"IMPLEMENTS"]),
-    (b'h', &[b"INHERITS", b"FRIEND"]),
-    (b'a', &[b"PUBLIC", b"PROTECTED", b"PRIVATE"]),
-    (
-        b'c',
-        &[
-            b"CHAR",
-            b"BYTE",
-            b"INT",
-            b"INT2",
-            b"INT4",
-            b"INT8",
-            b"REAL",
-            b"COMPLEX",
-            b"CCTK_CHAR",
-            b"CCTK_BYTE",
-            b"CCTK_INT",
-            b"CCTK_INT2",
-            b"CCTK_INT4",
-            b"CCTK_INT8",
-            b"CCTK_REAL",
-            b"CCTK_COMPLEX",
-        ],
-    ),
-    (
-        b'u',
-        &[
-            b"USES",
-            b"INCLUDE",
-            b"INCLUDES",
-            b"PROVIDES",
-            b"REQUIRES",
-            b"SUBROUTINE",
-        ],
-    ),
-    (b't', &[b"TYPE"]),
-    (b'n', &[b"DIM", b"TIMELEVELS"]),
-    (b'd', &[b"DISTRIB"]),
-    (b'z', &[b"SIZE", b"GHOSTSIZE"]),
-    (b'm', &[b"TAGS"]),
-    (b'g', &[b"GF", b"ARRAY", b"SCALAR"]),
-    (b'k', &[b"DEFAULT", b"CONSTANT"]),
+const WORDS: &[(&[u8], u8)] = &[
+    (b"FUNCTION", b'f'),
+    (b"IMPLEMENTS", b'i'),
+    (b"INHERITS", b'h'),
+    (b"FRIEND", b'h'),
+    (b"PUBLIC", b'a'),
+    (b"PROTECTED", b'a'),
+    (b"PRIVATE", b'a'),
+    (b"CHAR", b'c'),
+    (b"BYTE", b'c'),
+    (b"INT", b'c'),
+    (b"INT2", b'c'),
+    (b"INT4", b'c'),
+    (b"INT8", b'c'),
+    (b"REAL", b'c'),
+    (b"COMPLEX", b'c'),
+    (b"CCTK_CHAR", b'c'),
+    (b"CCTK_BYTE", b'c'),
+    (b"CCTK_INT", b'c'),
+    (b"CCTK_INT2", b'c'),
+    (b"CCTK_INT4", b'c'),
+    (b"CCTK_INT8", b'c'),
+    (b"CCTK_REAL", b'c'),
+    (b"CCTK_COMPLEX", b'c'),
+    (b"USES", b'u'),
+    (b"INCLUDE", b'u'),
+    (b"INCLUDES", b'u'),
+    (b"PROVIDES", b'u'),
+    (b"REQUIRES", b'u'),
+    (b"SUBROUTINE", b'u'),
+    (b"TYPE", b't'),
+    (b"DIM", b'n'),
+    (b"TIMELEVELS", b'n'),
+    (b"DISTRIB", b'd'),
+    (b"SIZE", b'z'),
+    (b"GHOSTSIZE", b'z'),
+    (b"TAGS", b'm'),
+    (b"GF", b'g'),
+    (b"ARRAY", b'g'),
+    (b"SCALAR", b'g'),
+    (b"DEFAULT", b'k'),
+    (b"CONSTANT", b'k'),
 ];
 
-fn is_among(names: &[&[u8]], text: &[u8]) -> bool {
-    names.iter().any(|name| name.eq_ignore_ascii_case(text))
-}
-
-fn word_letter(text: &[u8]) -> u8 {
-    WORDS
-        .iter()
-        .find(|(_, names)| is_among(names, text))
-        .map_or(b'w', |(letter, _)| *letter)
-}
-
-fn letter(token: &Token) -> u8 {
-    let text = token.text.as_slice();
-    match (token.kind, text) {
-        (Kind::LineEnd, _) => b'\n',
-        (Kind::Word, _) => word_letter(text),
-        (Kind::Number, _) => b'5',
-        (Kind::Quoted, _) => b'q',
-        (Kind::Sign, [sign]) if b":=,[]{}".contains(sign) => *sign,
-        _ => b'x',
-    }
-}
-
-fn letters(alloc: Global, list: &[Token]) -> Result<Vec<u8>, Memory> {
-    let mut letters = Vec::new(alloc);
-    for token in list {
-        letters.push(letter(token))?;
-    }
-    Ok(letters)
-}
-
-fn assert_read_as_derived(
-    rt: &impl Abort,
-    alloc: Global,
-    list: &List<Token>,
-) -> Result<(), Memory> {
-    let letters = letters(alloc, list.as_slice())?;
-    let want = fault(alloc, RULES, b'C', &letters, list.as_slice())?;
-    assert_eq!(rt; read_interface(alloc, list).err(), want, "{letters:?}");
-    Ok(())
-}
-
-/// A file that is cut anywhere. One that is cut in a quoted text has no tokens.
-fn assert_cut(rt: &impl Abort, alloc: Global, text: &[u8]) -> Result<(), Fail> {
-    if let Ok(list) = tokens(alloc, text, Style::Ccl) {
-        assert_read_as_derived(rt, alloc, &list)?;
-    }
-    Ok(())
-}
-
-#[test]
-fn files_cut_short_are_read_as_they_are_derived(rt: HostRuntime) -> Result<(), Fail> {
-    for (_, text) in FILES {
-        for end in 0..=text.len() {
-            assert_cut(&rt, rt.alloc(), &text[..end])?;
-        }
-    }
-    Ok(())
-}
+/// Interface files.
+pub const INTERFACE: &Grammar = &Grammar {
+    file: File::Interface,
+    rules: RULES,
+    start: b'C',
+    words: WORDS,
+    signs: b":=,[]{}",
+    colons: b'x',
+    quoted: b'q',
+    other: b'x',
+    tokens: &[],
+    beginnings: &[],
+    tried: b"",
+    texts: &[],
+    once: false,
+};

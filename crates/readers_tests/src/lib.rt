@@ -15,6 +15,8 @@ mod expressions;
 #[cfg(test)]
 mod faults;
 #[cfg(test)]
+mod grammars;
+#[cfg(test)]
 mod interface_rules;
 #[cfg(test)]
 mod interfaces;

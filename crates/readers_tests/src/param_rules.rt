@@ -1,13 +1,8 @@
-//! The grammar of param files as a table of rules, and what it derives, found by trying every rule. The reader is compared
-//! with it.
+//! The grammar of param files as a table of rules.
 
-use crate::derivations::{Rules, fault};
-use crate::params::FILES;
-use cx_param::read_params;
-use cx_text::{Kind, Memory, Style, Token, tokens};
-use std::alloc::Global;
-use std::process::Abort;
-use std::test::Fail;
+use crate::derivations::Rules;
+use crate::faults::Kind as File;
+use crate::grammars::Grammar;
 
 /// What each capital letter and each digit but 5 derives. Every other byte is a token: `p` the word of an access line but
 /// SHARES, `s` SHARES, `u` USES or EXTENDS, `b`, `i`, `k` and `r` types, `k` those of texts, `a` AS, `e` STEERABLE, `n` how a
@@ -86,67 +81,37 @@ const RULES: Rules = &[
     (b'S', &[b"", b"\nS"]),
 ];
 
-fn word_letter(text: &[u8]) -> u8 {
-    let keywords: [(&[u8], u8); 14] = [
-        (b"RESTRICTED", b'p'),
-        (b"GLOBAL", b'p'),
-        (b"SHARES", b's'),
-        (b"USES", b'u'),
-        (b"EXTENDS", b'u'),
-        (b"BOOLEAN", b'b'),
-        (b"INT", b'i'),
-        (b"KEYWORD", b'k'),
-        (b"STRING", b'k'),
-        (b"CCTK_REAL", b'r'),
-        (b"AS", b'a'),
-        (b"STEERABLE", b'e'),
-        (b"ALWAYS", b'n'),
-        (b"RECOVER", b'n'),
-    ];
-    keywords
-        .iter()
-        .find(|(name, _)| name.eq_ignore_ascii_case(text))
-        .map_or(b'w', |(_, letter)| *letter)
-}
+/// The words that rules name, by their letters.
+const WORDS: &[(&[u8], u8)] = &[
+    (b"RESTRICTED", b'p'),
+    (b"GLOBAL", b'p'),
+    (b"SHARES", b's'),
+    (b"USES", b'u'),
+    (b"EXTENDS", b'u'),
+    (b"BOOLEAN", b'b'),
+    (b"INT", b'i'),
+    (b"KEYWORD", b'k'),
+    (b"STRING", b'k'),
+    (b"CCTK_REAL", b'r'),
+    (b"AS", b'a'),
+    (b"STEERABLE", b'e'),
+    (b"ALWAYS", b'n'),
+    (b"RECOVER", b'n'),
+];
 
-fn letter(token: &Token) -> u8 {
-    let text = token.text.as_slice();
-    match (token.kind, text) {
-        (Kind::LineEnd, _) => b'\n',
-        (Kind::Word, _) => word_letter(text),
-        (Kind::Number, _) => b'5',
-        (Kind::Quoted, _) => b'q',
-        (Kind::Sign, b"::") => b'~',
-        (Kind::Sign, [sign]) if b":,{}[]()*-=".contains(sign) => *sign,
-        (Kind::Sign, _) => b'?',
-    }
-}
-
-fn letters(alloc: Global, list: &[Token]) -> Result<Vec<u8>, Memory> {
-    let mut letters = Vec::new(alloc);
-    for token in list {
-        letters.push(letter(token))?;
-    }
-    Ok(letters)
-}
-
-/// Compares the reader with the table on a text, if it has tokens: it may end within a quoted text.
-fn assert_read_as_derived(rt: &impl Abort, alloc: Global, text: &[u8]) -> Result<(), Memory> {
-    if let Ok(list) = tokens(alloc, text, Style::Ccl) {
-        let letters = letters(alloc, list.as_slice())?;
-        let want = fault(alloc, RULES, b'C', &letters, list.as_slice())?;
-        assert_eq!(rt; read_params(alloc, &list).err(), want, "{letters:?}");
-    }
-    Ok(())
-}
-
-#[test]
-fn files_cut_short_are_read_as_they_are_derived(rt: HostRuntime) -> Result<(), Fail> {
-    let alloc = rt.alloc();
-    for (_, text, _, _) in FILES {
-        for end in 0..=text.len() {
-            assert_read_as_derived(&rt, alloc, &text[..end])?;
-        }
-    }
-    Ok(())
-}
+/// Param files.
+pub const PARAMS: &Grammar = &Grammar {
+    file: File::Params,
+    rules: RULES,
+    start: b'C',
+    words: WORDS,
+    signs: b":,{}[]()*-=",
+    colons: b'~',
+    quoted: b'q',
+    other: b'?',
+    tokens: &[],
+    beginnings: &[],
+    tried: b"",
+    texts: &[],
+    once: false,
+};

@@ -85,18 +85,12 @@ fn assert_settings(rt: &impl Abort, settings: &Settings) {
 }
 
 #[test]
-fn a_parameter_file_is_read(rt: HostRuntime) -> Result<(), Fail> {
+fn a_parameter_file_is_read_and_has_its_base_name(rt: HostRuntime) -> Result<(), Fail> {
     let alloc = rt.alloc();
     let list = tokens(alloc, BOX, Style::Par)?;
     let settings = read_parfile(alloc, &list, &text(alloc, b"box")?)?;
     assert_active(&rt, &settings);
     assert_settings(&rt, &settings);
-    Ok(())
-}
-
-#[test]
-fn files_have_these_base_names(rt: HostRuntime) -> Result<(), Fail> {
-    let alloc = rt.alloc();
     for (file, want) in BASES {
         let base = base_of(alloc, &text(alloc, file.as_bytes())?)?;
         assert_eq!(rt; base.as_slice(), want.as_bytes(), "{file}");

@@ -245,17 +245,6 @@ fn assert_ends(
     Ok(())
 }
 
-#[test]
-fn numbers_are_allowed_up_to_both_ends(rt: HostRuntime) -> Result<(), Fail> {
-    for (block, n, want) in NUMBERS {
-        assert_allowed(&rt, rt.alloc(), block, *n, *want)?;
-    }
-    for (block, low, high) in ENDS {
-        assert_ends(&rt, rt.alloc(), block, *low, *high)?;
-    }
-    Ok(())
-}
-
 /// A type, its block, a text, and whether the block allows it.
 const TEXTS: &[(&str, &str, &str, bool)] = &[
     ("KEYWORD", r#""glider" "random""#, "RANDOM", true),
@@ -274,13 +263,20 @@ const TEXTS: &[(&str, &str, &str, bool)] = &[
 ];
 
 #[test]
-fn texts_are_allowed(rt: HostRuntime) -> Result<(), Fail> {
+fn numbers_up_to_both_ends_and_texts_are_allowed(rt: HostRuntime) -> Result<(), Fail> {
+    let alloc = rt.alloc();
+    for (block, n, want) in NUMBERS {
+        assert_allowed(&rt, alloc, block, *n, *want)?;
+    }
+    for (block, low, high) in ENDS {
+        assert_ends(&rt, alloc, block, *low, *high)?;
+    }
     for (ptype, block, text, want) in TEXTS {
-        let value = Value::Text(Text::from_slice(rt.alloc(), text.as_bytes())?);
-        let found = allowed(rt.alloc(), ptype, block, &value)?;
+        let value = Value::Text(Text::from_slice(alloc, text.as_bytes())?);
+        let found = allowed(alloc, ptype, block, &value)?;
         assert_eq!(rt; found, *want, "{text:?} in {ptype} {{ {block} }}");
     }
-    let found = allowed(rt.alloc(), "bool", "", &Value::Flag(true))?;
+    let found = allowed(alloc, "bool", "", &Value::Flag(true))?;
     assert!(rt; found, "yes in bool {{ }}");
     Ok(())
 }

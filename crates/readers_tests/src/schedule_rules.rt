@@ -1,12 +1,10 @@
-//! The grammar as a table of rules, and what they derive, found by trying every rule. The reader is compared with it.
+//! The grammar of schedule files as a table of rules.
 
-use crate::derivations::{Rules, fault};
-use crate::schedules::{FORMS, SAMPLES};
-use cx_sched::read_schedule;
-use cx_text::{Kind, List, Memory, Style, Text, Token, tokens};
-use std::alloc::Global;
-use std::process::Abort;
-use std::test::Fail;
+use crate::derivations::Rules;
+use crate::faults::Kind as File;
+use crate::grammars::Grammar;
+use crate::schedules::FORMS;
+use cx_text::Kind;
 
 /// What each capital letter or digit below 5 derives. Every other byte is a token: `s`, `i`, `e`, `c`, `g`, `t`, `n`,
 /// `a`, `h`, `b`, `f`, `l`, `y` and `r` the keywords STORAGE, IF, ELSE, SCHEDULE, GROUP, AT, IN, AS, WHILE, BEFORE,
@@ -77,161 +75,81 @@ const RULES: Rules = &[
     // LineEnds that are skipped
     (b'S', &[b"", b"\nS"]),
 ];
-/// The letter of a word.
-fn word_letter(text: &[u8]) -> u8 {
-    let keywords: [(&[u8], u8); 21] = [
-        (b"STORAGE", b's'),
-        (b"IF", b'i'),
-        (b"ELSE", b'e'),
-        (b"SCHEDULE", b'c'),
-        (b"GROUP", b'g'),
-        (b"AT", b't'),
-        (b"IN", b'n'),
-        (b"AS", b'a'),
-        (b"WHILE", b'h'),
-        (b"BEFORE", b'b'),
-        (b"AFTER", b'f'),
-        (b"LANG", b'l'),
-        (b"OPTIONS", b'l'),
-        (b"TRIGGERS", b'l'),
-        (b"SYNC", b'y'),
-        (b"READS", b'r'),
-        (b"WRITES", b'r'),
-        (b"INTERIOR", b'o'),
-        (b"BOUNDARY", b'o'),
-        (b"EVERYWHERE", b'o'),
-        (b"w", b'w'),
-    ];
-    keywords
-        .iter()
-        .find(|(name, _)| name.eq_ignore_ascii_case(text))
-        .map_or(b'w', |(_, letter)| *letter)
-}
 
-fn letter(token: &Token) -> u8 {
-    match (token.kind, token.text.as_slice()) {
-        (Kind::LineEnd, _) => b'\n',
-        (Kind::Word, text) => word_letter(text),
-        (Kind::Number, _) => b'5',
-        (Kind::Quoted, _) => b'q',
-        (Kind::Sign, [sign]) if b"{}()[]:,".contains(sign) => *sign,
-        (Kind::Sign, [b':', b':']) => b'd',
-        _ => b'=',
-    }
-}
-
-fn letters(alloc: Global, list: &[Token]) -> Result<Vec<u8>, Memory> {
-    let mut letters = Vec::new(alloc);
-    for token in list {
-        letters.push(letter(token))?;
-    }
-    Ok(letters)
-}
-
-/// A token of this letter, on a line of its own.
-fn token(alloc: Global, letter: u8, line: u32) -> Result<Token, Memory> {
-    let sign = [letter];
-    let (kind, text): (Kind, &[u8]) = match letter {
-        b's' => (Kind::Word, b"STORAGE"),
-        b'i' => (Kind::Word, b"if"),
-        b'e' => (Kind::Word, b"else"),
-        b'c' => (Kind::Word, b"schedule"),
-        b'g' => (Kind::Word, b"GROUP"),
-        b't' => (Kind::Word, b"AT"),
-        b'n' => (Kind::Word, b"in"),
-        b'a' => (Kind::Word, b"AS"),
-        b'l' => (Kind::Word, b"LANG"),
-        b'y' => (Kind::Word, b"SYNC"),
-        b'r' => (Kind::Word, b"READS"),
-        b'o' => (Kind::Word, b"Interior"),
-        b'w' => (Kind::Word, b"w"),
-        b'd' => (Kind::Sign, b"::"),
-        b'5' => (Kind::Number, b"5"),
-        b'q' => (Kind::Quoted, b"q"),
-        b'=' => (Kind::Sign, b"=="),
-        b'\n' => (Kind::LineEnd, b""),
-        _ => (Kind::Sign, &sign),
-    };
-    Ok(Token {
-        kind,
-        text: Text::from_slice(alloc, text)?,
-        line,
-    })
-}
-
-/// Beginnings of lists, behind each of which every pair of tokens is tried.
-const BEGINNINGS: &[&[u8]] = &[
-    b"",
-    b"s:w",
-    b"i(w)s:\n",
-    b"c",
-    b"cgt",
-    b"cgtn",
-    b"cwtw",
-    b"cwtwb(w",
-    b"cwtw{",
-    b"cwtw{l:w",
-    b"cwtw{y:w",
-    b"cwtw{r:w",
-    b"cwtw{y:}",
+/// The words that rules name, by their letters.
+const WORDS: &[(&[u8], u8)] = &[
+    (b"STORAGE", b's'),
+    (b"IF", b'i'),
+    (b"ELSE", b'e'),
+    (b"SCHEDULE", b'c'),
+    (b"GROUP", b'g'),
+    (b"AT", b't'),
+    (b"IN", b'n'),
+    (b"AS", b'a'),
+    (b"WHILE", b'h'),
+    (b"BEFORE", b'b'),
+    (b"AFTER", b'f'),
+    (b"LANG", b'l'),
+    (b"OPTIONS", b'l'),
+    (b"TRIGGERS", b'l'),
+    (b"SYNC", b'y'),
+    (b"READS", b'r'),
+    (b"WRITES", b'r'),
+    (b"INTERIOR", b'o'),
+    (b"BOUNDARY", b'o'),
+    (b"EVERYWHERE", b'o'),
+    (b"w", b'w'),
 ];
 
-fn assert_answered_as_derived(
-    rt: &impl Abort,
-    alloc: Global,
-    list: &List<Token>,
-) -> Result<(), Memory> {
-    let letters = letters(alloc, list.as_slice())?;
-    let want = fault(alloc, RULES, b'C', &letters, list.as_slice())?;
-    assert_eq!(rt; read_schedule(alloc, list).err(), want, "{letters:?}");
-    Ok(())
-}
+/// Tokens, by their letters.
+const TOKENS: &[(u8, Kind, &[u8])] = &[
+    (b's', Kind::Word, b"STORAGE"),
+    (b'i', Kind::Word, b"if"),
+    (b'e', Kind::Word, b"else"),
+    (b'c', Kind::Word, b"schedule"),
+    (b'g', Kind::Word, b"GROUP"),
+    (b't', Kind::Word, b"AT"),
+    (b'n', Kind::Word, b"in"),
+    (b'a', Kind::Word, b"AS"),
+    (b'l', Kind::Word, b"LANG"),
+    (b'y', Kind::Word, b"SYNC"),
+    (b'r', Kind::Word, b"READS"),
+    (b'o', Kind::Word, b"Interior"),
+    (b'w', Kind::Word, b"w"),
+    (b'd', Kind::Sign, b"::"),
+    (b'5', Kind::Number, b"5"),
+    (b'q', Kind::Quoted, b"q"),
+    (b'=', Kind::Sign, b"=="),
+    (b'\n', Kind::LineEnd, b""),
+];
 
-/// The list of these tokens, each on a line of its own.
-fn list_of(alloc: Global, beginning: &[u8], pair: [u8; 2]) -> Result<List<Token>, Memory> {
-    let mut list = List::empty(alloc);
-    let mut line: u32 = 0;
-    for letter in beginning.iter().chain(pair.iter()) {
-        line = line.saturating_add(2);
-        list.push(token(alloc, *letter, line)?)?;
-    }
-    Ok(list)
-}
-
-fn assert_pairs(rt: &impl Abort, alloc: Global, beginning: &[u8]) -> Result<(), Memory> {
-    let tried = b"siegtaywd5{}([:,\n";
-    for first in tried {
-        for second in tried {
-            let list = list_of(alloc, beginning, [*first, *second])?;
-            assert_answered_as_derived(rt, alloc, &list)?;
-        }
-    }
-    Ok(())
-}
-
-/// Each beginning of a file that is a list of tokens is read as it is derived. Those with the same letters are one.
-fn assert_cut(rt: &impl Abort, alloc: Global, text: &[u8]) -> Result<(), Fail> {
-    let mut before = Vec::new(alloc);
-    for end in 0..=text.len() {
-        if let Ok(list) = tokens(alloc, &text[..end], Style::Ccl) {
-            let letters = letters(alloc, list.as_slice())?;
-            if letters.as_slice() != before.as_slice() {
-                assert_answered_as_derived(rt, alloc, &list)?;
-                before = letters;
-            }
-        }
-    }
-    Ok(())
-}
-
-#[test]
-fn lists_and_cut_files_are_read_as_they_are_derived(rt: HostRuntime) -> Result<(), Fail> {
-    for beginning in BEGINNINGS {
-        assert_pairs(&rt, rt.alloc(), beginning)?;
-    }
-    assert_cut(&rt, rt.alloc(), FORMS)?;
-    for (_, text, _, _) in SAMPLES {
-        assert_cut(&rt, rt.alloc(), text)?;
-    }
-    Ok(())
-}
+/// Schedule files.
+pub const SCHEDULE: &Grammar = &Grammar {
+    file: File::Schedule,
+    rules: RULES,
+    start: b'C',
+    words: WORDS,
+    signs: b"{}()[]:,",
+    colons: b'd',
+    quoted: b'q',
+    other: b'=',
+    tokens: TOKENS,
+    beginnings: &[
+        b"",
+        b"s:w",
+        b"i(w)s:\n",
+        b"c",
+        b"cgt",
+        b"cgtn",
+        b"cwtw",
+        b"cwtwb(w",
+        b"cwtw{",
+        b"cwtw{l:w",
+        b"cwtw{y:w",
+        b"cwtw{r:w",
+        b"cwtw{y:}",
+    ],
+    tried: b"siegtaywd5{}([:,\n",
+    texts: &[FORMS],
+    once: true,
+};

@@ -101,16 +101,11 @@ fn assert_spelled(rt: &impl Abort, list: &[Token], want: &[Spelling], name: &str
 }
 
 #[test]
-fn texts_have_these_tokens(rt: HostRuntime) -> Result<(), Fail> {
+fn texts_have_these_tokens_or_faults(rt: HostRuntime) -> Result<(), Fail> {
     for (name, style, text, want) in TEXTS {
         let list = tokens(rt.alloc(), text, *style)?;
         assert_spelled(&rt, list.as_slice(), want, name);
     }
-    Ok(())
-}
-
-#[test]
-fn faults_stand_on_these_lines(rt: HostRuntime) -> Result<(), Fail> {
     for (style, text, want) in FAULTS {
         let fault = tokens(rt.alloc(), text.as_bytes(), *style).err();
         assert_eq!(rt; fault, Some(*want), "{text:?} as {style:?}");
