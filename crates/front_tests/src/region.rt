@@ -6,9 +6,7 @@ ghost use Rattle.cx_plan.specs.declared.tree.Tree.TheVariants as trees;
 ghost use Rattle.front_tests.specs.RegionSamples.{info_of, sample, sample_items, sample_variables, item_of, touch, switch as on, whiles, nothing};
 
 use cx_grid::{Point, Shape};
-use cx_plan::{
-    Cuts, Item, ItemKind, Job, Recover, Region, Schedule, Touch, Tree, VarId, VarInfo,
-};
+use cx_plan::{Cuts, Item, ItemKind, Job, Recover, Region, Schedule, Touch, Tree, VarId, VarInfo};
 use cx_region::{RegionFault, check};
 use cx_text::{Boxed, CType, List, Memory, Text};
 use std::alloc::Global;
