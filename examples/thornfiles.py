@@ -196,7 +196,7 @@ def all_parameters():
 
 
 def find_parameter(name, parameters):
-    """The parameter of this name, full or alone, without regard to case; PUGH and IOUtil stand for driver and IO."""
+    """The parameter of this name, full or alone, without regard to case; PUGH and IOUtil mean driver and IO."""
     wanted = re.sub("^ioutil::", "io::", re.sub("^pugh::", "driver::", name.lower()))
     wanted = re.sub(r"\[.*", "", wanted)
     for parameter in parameters:
