@@ -7,7 +7,7 @@ ghost use Rattle.cx_rule.specs.Jobs.{FitJob};
 ghost use Rattle.cx_wire.specs.Memory.{told_queue};
 ghost use Rattle.cx_core.specs.Starts.{AreEmpty, IsReady};
 
-use cx_ascii_read::read_output;
+use cx_ascii_read::{Record, read_output};
 use cx_cut::cut;
 use cx_disk::{MemoryDisk, OLD_OUTPUT};
 use cx_job::make_job;
@@ -60,18 +60,6 @@ fn shelf(alloc: Global) -> Result<MemoryShelf, Memory> {
     Ok(MemoryShelf::new(List::new(files)))
 }
 
-/// The routines that ElemCA's schedule names.
-fn routines(alloc: Global) -> Result<Vec<Box<dyn Routine>>, Fail>
-    ensures { IfOk result (λ routines. length routines.items ≤ 2 ^ 32) }
-{
-    let mut routines: Vec<Box<dyn Routine>> = Vec::new(alloc);
-    routines.push(Box::new(alloc, CaInit::new(alloc)?)?)?;
-    routines.push(Box::new(alloc, CaStep::new(alloc)?)?)?;
-    routines.push(Box::new(alloc, CaZero::new(alloc)?)?)?;
-    routines.push(Box::new(alloc, CaCount::new(alloc)?)?)?;
-    Ok(routines)
-}
-
 /// The job that the files make.
 fn job(alloc: Global, routines: &[Box<dyn Routine>]) -> Result<Job, Fail>
     requires few { length routines.now ≤ 2 ^ 32 }
@@ -112,24 +100,36 @@ fn output(rt: &HostRuntime, job: &Job, routines: &[Box<dyn Routine>]) -> Result<
     Ok(disk.bytes(OLD_OUTPUT as usize).to_vec(alloc)?)
 }
 
+/// The sections of the output of the row's run.
+fn sections(rt: &HostRuntime, routines: &[Box<dyn Routine>]) -> Result<List<Record>, Fail>
+    requires few { length routines.now ≤ 2 ^ 32 }
+{
+    let alloc = rt.alloc();
+    let job = job(alloc, routines)?;
+    let output = output(rt, &job, routines)?;
+    match read_output(alloc, &output)? {
+        Some(records) => Ok(records),
+        None => Err(Fail::new("this is no output")),
+    }
+}
+
 #[test]
 fn eight_cells(rt: HostRuntime) -> Result<(), Fail> {
     let alloc = rt.alloc();
     assert_eq!(rt; settings(alloc)?.list.len(), 6, "settings");
-    let routines = routines(alloc)?;
-    let job = job(alloc, &routines)?;
-    assert_eq!(rt; job.shape.n.x, 8, "points");
-    let output = output(&rt, &job, &routines)?;
-    let Some(records) = read_output(alloc, &output)? else {
-        return Err(Fail::new("no output"));
-    };
-    assert_eq!(rt; records.len(), CELLS.len(), "sections");
-    for (record, cells) in records.as_slice().iter().zip(CELLS) {
+    let mut routines: Vec<Box<dyn Routine>> = Vec::new(alloc);
+    routines.push(Box::new(alloc, CaInit::new(alloc)?)?)?;
+    routines.push(Box::new(alloc, CaStep::new(alloc)?)?)?;
+    routines.push(Box::new(alloc, CaZero::new(alloc)?)?)?;
+    routines.push(Box::new(alloc, CaCount::new(alloc)?)?)?;
+    let sections = sections(&rt, &routines)?;
+    assert_eq!(rt; sections.len(), CELLS.len(), "sections");
+    for (section, cells) in sections.as_slice().iter().zip(CELLS) {
         assert_eq!(rt;
-            record.values.as_slice(),
+            section.values.as_slice(),
             *cells,
             "iteration {}",
-            record.iteration
+            section.iteration
         );
     }
     Ok(())
