@@ -156,14 +156,27 @@ def read_declaration(tokens, owner, kind):
     return parameter
 
 
-def list_variables():
-    """The groups and variables that the thorns declare, by full names."""
+def list_groups():
+    """The groups that the thorns declare, each with its variables, by full names."""
     found = []
     for thorn in list_thorns():
         text = re.sub("#.*", "", read_text(thorn.file("interface.ccl")))
         for group, names in re.findall(GROUP, text, re.M | re.I):
-            found += [thorn.implementation + "::" + name for name in [group] + re.findall(r"\w+", names)]
+            full = [thorn.implementation + "::" + name for name in [group] + re.findall(r"\w+", names)]
+            found.append((full[0], full[1:] or full))
     return found
+
+
+def list_variables():
+    """The groups and variables that the thorns declare, by full names."""
+    return [name for group, names in list_groups() for name in dict.fromkeys([group, *names])]
+
+
+def group_of(variable):
+    """The group of a variable by its name alone, or None where no thorn declares it."""
+    wanted = variable.lower()
+    groups = [group for group, names in list_groups() if wanted in map(str.lower, names)]
+    return groups[0].split("::")[-1] if groups else None
 
 
 def read_table(heading):
@@ -196,7 +209,7 @@ def all_parameters():
 
 
 def find_parameter(name, parameters):
-    """The parameter of this name, full or alone, without regard to case; PUGH and IOUtil stand for driver and IO."""
+    """The parameter of this name, full or alone, without regard to case; PUGH and IOUtil mean driver and IO."""
     wanted = re.sub("^ioutil::", "io::", re.sub("^pugh::", "driver::", name.lower()))
     wanted = re.sub(r"\[.*", "", wanted)
     for parameter in parameters:
