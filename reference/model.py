@@ -31,7 +31,10 @@ def lap(at, name):
 
 
 def mixed(seed, place):
-    """A random number of 64 bits: what SplitMix64 puts out in the state seed + place * 0x9E3779B97F4A7C15."""
+    """A random number of 64 bits: what SplitMix64 puts out in the state seed + place * 0x9E3779B97F4A7C15.
+
+    The guide doesn't say how a number is mixed; this was found by trial from outputs.
+    """
     number = (seed + place * 0x9E3779B97F4A7C15) % 2**64
     number = (number ^ number >> 30) * 0xBF58476D1CE4E5B9 % 2**64
     number = (number ^ number >> 27) * 0x94D049BB133111EB % 2**64
@@ -65,6 +68,7 @@ def ca_step(at):
     return bit(at.parameter("rule"), 4 * at("cell", (-1,)) + 2 * at("cell") + at("cell", (1,)))
 
 
+# The guide doesn't say which cells these are; they are those of the picture in examples/README.md.
 GLIDER = {(1, 0), (2, 1), (0, 2), (1, 2), (2, 2)}
 
 
@@ -217,19 +221,12 @@ THORNS = {
 
 BUILT_IN = {"cactus": "cactus", "pugh": "driver", "ioutil": "io"}
 DEFAULTS = {
-    "cactus::cctk_itlast": 10,
-    "driver::global_nsize": -1,
-    **{f"driver::global_n{axis}": 10 for axis in "xyz"},
-    "driver::ghost_size": -1,
-    **{f"driver::ghost_size_{axis}": 1 for axis in "xyz"},
-    "driver::periodic": False,
-    **{f"driver::periodic_{axis}": True for axis in "xyz"},
-    "driver::while_limit": 1000,
-    "io::out_dir": ".",
-    "io::out_vars": "",
-    "io::out_every": 1,
-    "io::checkpoint_every": -1,
-    "io::checkpoint_on_terminate": False,
+    **{"cactus::cctk_itlast": 10, "driver::while_limit": 1000},
+    **{"driver::global_nsize": -1, **{f"driver::global_n{axis}": 10 for axis in "xyz"}},
+    **{"driver::ghost_size": -1, **{f"driver::ghost_size_{axis}": 1 for axis in "xyz"}},
+    **{"driver::periodic": False, **{f"driver::periodic_{axis}": True for axis in "xyz"}},
+    **{"io::out_dir": ".", "io::out_vars": "", "io::out_every": 1},
+    **{"io::checkpoint_every": -1, "io::checkpoint_on_terminate": False},
 }
 
 
@@ -367,7 +364,7 @@ class Run:
             levels.insert(0, levels.pop())
 
     def turn(self, thorn, routine, path):
-        """Computes one turn of a routine: all that it reads is from before, and where a number fails none is written."""
+        """One turn of a routine: all that it reads is from before, and where a number fails none is written."""
         targets, region = routine.targets()
         group = next(it for it in thorn.groups if it.variable == re.sub("(_p)*$", "", targets[0]))
         low, high = BITS[group.type]
