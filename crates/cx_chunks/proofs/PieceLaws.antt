@@ -32,7 +32,7 @@ word_field = number_field (2 ^ 32 - 1) (omega arith)
 
 -- ---- coordinates
 
--- coordinates, a blank behind each, and the word `size`
+-- coordinates, a blank after each, and the word `size`
 abbrev from_line : List ℕ → List ℕ → List ℕ
 from_line [] rest = codes "size " ++ rest
 from_line (n ∷ ns) rest = (decimal n ++ 32 ∷ []) ++ from_line ns rest

@@ -1,4 +1,4 @@
--- The whole output from the pieces of all parts, or what stands in its way.
+-- The whole output from the pieces of all parts, or the first fault.
 use Rattle.std.specs.Prelude.{ℕ, ◌+◌, ◌≡◌, ◌==◌, nat_lt, Bool, true, false, ◌&&◌, not, ℤ, pos, List, [], ◌∷◌, map, filter, find, slice_index_or, Option, Some, None, Result, Ok, Err, if◌then◌else◌}
 use Rattle.std.specs.List.{flat_map, list_any, range_with_len, position_or_len}
 use Rattle.std.specs.Str.{bytes_eq}
@@ -46,7 +46,7 @@ is_twin p q = is_at (full_of q) (iteration_of q) p
 
 -- ---- faults
 
--- a variable that is written has this name, and is a scalar or isn't
+-- a variable has this name, and is a scalar or isn't; one that is written does
 abbrev pub is_output_of : Bool → List ℕ → VarInfo → Bool
 is_output_of scalar full v = bytes_eq v.full full && (if v.scalar then scalar else not scalar)
 
@@ -54,12 +54,13 @@ abbrev pub is_output : Setup → Bool → List ℕ → Bool
 is_output setup scalar full =
     list_any (λ (v : VarId). is_output_of scalar full (variable setup v)) setup.out_vars
 
--- a piece that the chunk of a part doesn't hold
+-- these numbers, first point and sizes are a part's
 abbrev pub is_own : OwnBox → ℕ → ℕ → List ℕ → List ℕ → Bool
 is_own own part parts from size =
     (part == own.place.part)
     && ((parts == own.place.parts) && (bytes_eq from own.place.from && bytes_eq size own.size))
 
+-- a piece that the chunk of a part doesn't hold
 abbrev pub is_stranger : Setup → OwnBox → Piece → Bool
 is_stranger setup own (Line r) = not (is_output setup true r.full && (own.place.part == 0))
 is_stranger setup own (Box name iteration part parts from size values) =
@@ -94,14 +95,14 @@ abbrev pub rising : List ℕ → List ℕ
 rising [] = []
 rising (n ∷ ns) = with_number n (rising ns)
 
--- the iterations of which some chunk has a piece of this variable
+-- the iterations of a variable's pieces, and those of all chunks in rising order
 abbrev pub iterations_in : List ℕ → List Piece → List ℕ
 iterations_in full pieces = map iteration_of (filter (is_of full) pieces)
 
 abbrev pub iterations_of : List (List Piece) → List ℕ → List ℕ
 iterations_of chunks full = rising (flat_map (iterations_in full) chunks)
 
--- the chunk of a part
+-- the chunk of a part, and the first part whose chunk lacks a piece that another one has
 abbrev pub chunk : List (List Piece) → ℕ → List Piece
 chunk chunks k = slice_index_or chunks k []
 
@@ -135,7 +136,7 @@ chunk_fault setup c chunks =
 abbrev pub owner_of : Parts → Point → ℕ
 owner_of c p = position_or_len (λ k. has_point (owned c k) p) (range_with_len 0 (part_count c))
 
--- a whole level, each point from the part that owns it
+-- the value of a part at a point, and a whole level, each point from the part that owns it
 abbrev pub joined_at : Parts → (ℕ → List ℤ) → Point → ℕ → ℤ
 joined_at c values p k = slice_index_or (values k) (index_in (owned c k) p) (pos 0)
 
@@ -165,6 +166,7 @@ abbrev pub whole_texts : Setup → Parts → List (List Piece) → List (List �
 whole_texts setup c chunks =
     map (λ (v : VarId). whole_text setup c chunks (variable setup v)) setup.out_vars
 
+-- the texts, unless there is a fault
 abbrev pub unless : {A : Type 0} → A → Option ChunkFault → Result A ChunkFault
 unless whole None = Ok whole
 unless whole (Some fault) = Err fault

@@ -69,7 +69,7 @@ abbrev pub own_values : Parts → ℕ → List ℤ → List ℤ
 own_values c k level = numbers_in (owned c k)
     (λ p. slice_index_or level (index_in (whole c.shape) p) (pos 0))
 
--- what a part has of a record: its section of a level; a scalar's line is part 0's alone
+-- what a part has of a record: a scalar's line in chunk 0 alone, or its section of a level
 abbrev pub line_in : ℕ → Record → List Piece
 line_in k r = if k == 0 then Line r ∷ [] else []
 

@@ -59,6 +59,6 @@ IsPiece (Line r) = IsRecord r × (r.size ≡ [])
 IsPiece (Box name iteration part parts from size values) =
     IsPartSection name iteration part parts from size values
 
--- bytes are the texts of these pieces, one after another, with nothing between or behind
+-- bytes are the texts of these pieces, one after another, with nothing between or after
 abbrev pub SpellsChunk : List ℕ → List Piece → Type 0
 SpellsChunk bytes pieces = SpellsAll piece_text IsPiece bytes pieces

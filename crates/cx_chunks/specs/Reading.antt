@@ -9,7 +9,7 @@ use Rattle.cx_chunks.specs.declared.place.Place.{Place}
 abbrev pub word_at : List ℕ → Option (ℕ × List ℕ)
 word_at = number_at (2 ^ 32 - 1)
 
--- behind some coordinates: the word `size`, or at most so many more
+-- after some coordinates: the word `size`, or at most so many more
 abbrev pub or_more : List ℕ → Option (List ℕ) → Option (List ℕ × List ℕ) → Option (List ℕ × List ℕ)
 or_more front (Some rest) more = Some (front, rest)
 or_more front None more = more
@@ -34,7 +34,7 @@ place_at bytes = do
 abbrev pub if_alike : {A : Type 0} → Place → List ℕ × List ℤ → A → Option A
 if_alike place grid x = if length place.from == length grid.0 then Some x else None
 
--- a part's section behind the word `part`
+-- a part's section, after the word `part`
 unfoldable pub section_at : List ℕ → ℕ → List ℕ → Option (Piece × List ℕ)
 section_at name iteration bytes = do
   place ← place_at bytes
@@ -45,14 +45,14 @@ section_at name iteration bytes = do
     grid.1,
   )
 
--- a scalar's line behind the word `value`
+-- a scalar's line, from the word `value` on
 unfoldable pub value_at : List ℕ → ℕ → List ℕ → Option (Piece × List ℕ)
 value_at name iteration bytes = do
   start ← skip_text (codes "value ") bytes
   line ← line_at name iteration start
   Some (Line line.0, line.1)
 
--- behind the iteration: a part's section or a scalar's value
+-- after the iteration: a part's section or a scalar's value
 abbrev pub body_at : List ℕ → ℕ → List ℕ → Option (List ℕ) → Option (Piece × List ℕ)
 body_at name iteration bytes None = value_at name iteration bytes
 body_at name iteration bytes (Some part) = section_at name iteration part

@@ -1,4 +1,4 @@
-//! What stands in the way of a whole output: pieces that aren't a chunk's own, that are there twice, or that aren't there.
+//! Tests before chunks are combined: no piece is a stranger in its chunk, none is there twice, and none is missing.
 
 ghost use Rattle.std.specs.Prelude.{◌≡◌, ◌<◌, ◌≤◌, ◌+◌, ◌&&◌, length, find, All, option_copied};
 ghost use Rattle.std.specs.Str.{bytes_eq};

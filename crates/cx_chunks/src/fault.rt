@@ -1,4 +1,4 @@
-//! Why there are no chunks, or no whole of them.
+//! Why output isn't cut into chunks, or chunks aren't combined.
 
 ghost use Rattle.std.specs.Prelude.{◌≡◌};
 ghost use Rattle.cx_chunks.specs.declared.fault.ChunkFault.TheVariants as faults;
@@ -6,7 +6,8 @@ ghost use Rattle.cx_chunks.specs.declared.fault.ChunkFault.TheVariants as faults
 use cx_text::{Memory, OrDash, Text};
 use thiserror::Error;
 
-/// Why there are no chunks, or no whole of them. A chunk has its part's number.
+/// Why output isn't cut into chunks, or chunks aren't combined. A chunk has its part's number; texts are full names unless
+/// said otherwise.
 #[derive(Debug, Drop, Error)]
 pub enum ChunkFault {
     /// The output file of this name isn't made of its variable's records in rising iterations.

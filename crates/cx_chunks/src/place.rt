@@ -15,7 +15,7 @@ pub(crate) struct Place {
     pub from: List<u32>,
 }
 
-/// A number of 32 bits, and a blank behind it.
+/// A number of 32 bits, and a blank after it.
 fn word_at(bytes: &[u8]) -> Result<(u32, &[u8]), Stop>
     ensures { Gives (λ x. (x.0, x.1.now)) result (word_at bytes.now) }
 {
@@ -23,7 +23,7 @@ fn word_at(bytes: &[u8]) -> Result<(u32, &[u8]), Stop>
     Ok((number as u32, rest))
 }
 
-/// At most so many coordinates more, each with a blank behind it, up to the word `size`.
+/// At most so many coordinates more, each with a blank after it, up to the word `size`.
 #[tactic(auto, unfolding(crate::specs::Reading::from_at))]
 fn from_at(mut from: List<u32>, more: u8, bytes: &[u8]) -> Result<(List<u32>, &[u8]), Stop>
     ensures { Gives (λ x. (x.0, x.1.now)) result (from_at more from bytes.now) }
@@ -39,7 +39,7 @@ fn from_at(mut from: List<u32>, more: u8, bytes: &[u8]) -> Result<(List<u32>, &[
     from_at(from, more - 1, rest)
 }
 
-/// A place behind the word `part`, up to the word `size`.
+/// A place, after the word `part` and up to the word `size`.
 #[tactic(auto, unfolding(crate::specs::Reading::place_at))]
 pub(crate) fn place_at(alloc: Global, bytes: &[u8]) -> Result<(Place, &[u8]), Stop>
     ensures { Gives (λ x. (x.0, x.1.now)) result (place_at bytes.now) }

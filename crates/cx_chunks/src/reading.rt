@@ -12,7 +12,7 @@ use cx_ascii_read::{Entry, Stop, grid_at, head_at, line_at, read_all, skip_text,
 use cx_text::{List, Memory, Text};
 use std::alloc::Global;
 
-/// A part's section behind the word `part`.
+/// A part's section, after the word `part`.
 #[tactic(auto, unfolding(crate::specs::Reading::section_at))]
 fn section_at<'a>(
     alloc: Global,
@@ -39,7 +39,7 @@ fn section_at<'a>(
     Ok((section, rest))
 }
 
-/// A scalar's line behind its iteration.
+/// A scalar's line, after its iteration.
 #[tactic(auto, unfolding(crate::specs::Reading::value_at))]
 fn value_at<'a>(
     alloc: Global,
@@ -53,7 +53,7 @@ fn value_at<'a>(
     Ok((Piece::Line(record), rest))
 }
 
-/// What stands behind a piece's name and iteration.
+/// The rest of a piece, after its name and iteration.
 fn body_at<'a>(
     alloc: Global,
     full: &[u8],
@@ -93,8 +93,10 @@ impl Entry for Piece {
     }
 }
 
-/// The pieces that the bytes of a chunk file are: sections of parts, and lines of scalars, one after another and with nothing else.
-/// None where they aren't such a file.
+/// The pieces that the bytes of a chunk file are: sections of parts, and lines of scalars, one after another and with nothing
+/// else. None where they aren't such a file.
+///
+/// A part's number needn't be below the number of parts, and its box may lie anywhere: `combine` tests both.
 pub fn read_chunk(alloc: Global, bytes: &[u8]) -> Result<Option<List<Piece>>, Memory>
     ensures reads { IfOk result (λ found. ReadsAll piece_text IsPiece bytes.now found) }
     ensures only { IfOk result (λ found. (pieces : ListOf Piece) → SpellsChunk bytes.now pieces
