@@ -1,0 +1,10 @@
+mod ChunkSamples
+pub mod PieceLaws
+pub mod OwnLaws
+pub mod StepLaws
+pub mod JoinLaws
+pub mod RisingLaws
+pub mod PieceLists
+pub mod ReadLaws
+pub mod GroupLaws
+pub mod WholeLaws

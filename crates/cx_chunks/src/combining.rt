@@ -1,0 +1,198 @@
+//! The whole output from chunks.
+
+ghost use Rattle.std.specs.Prelude.{◌≡◌, length, pos, slice_index_or, find, All, IfOk, option_copied};
+ghost use Rattle.cx_text.specs.Telling.{Answers, Tells};
+ghost use Rattle.cx_grid.specs.declared.boxes.Point.{Point};
+ghost use Rattle.cx_grid.specs.Boxes.{IsBox, IsIn, IsSmall, index_in, point_count};
+ghost use Rattle.cx_plan.specs.Setups.{setup_of};
+ghost use Rattle.cx_plan.specs.Whole.{IsVariable};
+ghost use Rattle.cx_cut.specs.Cuts.{IsWhole, part_count};
+ghost use Rattle.cx_chunks.specs.declared.fault.ChunkFault.TheVariants as faults;
+ghost use Rattle.cx_chunks.specs.Combining.{is_at, values_in, joined, text_at, whole_text, whole_texts, chunk_fault, combined};
+ghost use Rattle.cx_chunks.specs.Laws.{IsCutOf};
+
+use crate::checks::{check_doubles, check_missing, check_strangers, chunk, info_of, is_at};
+use crate::cutting::value_at;
+use crate::fault::ChunkFault;
+use crate::iterations::iterations;
+use crate::piece::Piece;
+use cx_ascii::{scalar_line, section};
+use cx_cut::Cut;
+use cx_grid::{Box3, Shape, count, index_of, point_at, whole};
+use cx_plan::{Job, VarInfo};
+use cx_text::{List, Memory, Text};
+use std::alloc::Global;
+
+/// The piece of this variable and iteration in a chunk.
+fn find_piece<'a>(full: &Text, iteration: u64, pieces: &'a [Piece]) -> Option<&'a Piece>
+    ensures { option_copied result ≡ find (is_at full.now iteration) pieces.now }
+{
+    pieces.iter().find(|piece| is_at(full, iteration, piece))
+}
+
+/// The values that a part's chunk has of a variable at an iteration; none where it has no such piece.
+fn values_in<'a>(chunks: &'a [List<Piece>], full: &Text, iteration: u64, part: u32) -> &'a [i64]
+    ensures { result.now ≡ values_in chunks.now full.now iteration part }
+{
+    match find_piece(full, iteration, chunk(chunks, part)) {
+        Some(piece) => piece.values().as_slice(),
+        None => &[],
+    }
+}
+
+/// Puts the values of a box at their places of a level.
+fn put_part(level: &mut Vec<i64>, all: &Box3, own: &Box3, values: &[i64])
+    requires all { IsSmall all.now }
+    requires ordered { IsBox own.now }
+    requires own { IsSmall own.now }
+    requires inside { (p : Point) → IsIn own.now p → IsIn all.now p }
+    requires level { length level.old.items ≡ point_count all.now }
+    ensures length { length level.new.items ≡ point_count all.now }
+    ensures own { (p : Point) → IsIn own.now p
+        → slice_index_or level.new.items (index_in all.now p) (pos 0)
+        ≡ slice_index_or values.now (index_in own.now p) (pos 0) }
+    ensures others { (p : Point) → IsIn all.now p → (IsIn own.now p → ⊥)
+        → slice_index_or level.new.items (index_in all.now p) (pos 0)
+        ≡ slice_index_or level.old.items (index_in all.now p) (pos 0) }
+{
+    'points: for place in 0..count(own) {
+        let point = point_at(own, place);
+        level[index_of(all, point)] = value_at(values, place);
+    }
+}
+
+/// A level of zeros.
+fn zeros(alloc: Global, all: &Box3) -> Result<Vec<i64>, Memory>
+    requires ordered { IsBox all.now }
+    requires small { IsSmall all.now }
+    ensures { IfOk result (λ level. length level.items ≡ point_count all.now) }
+{
+    Ok(vec![in alloc; 0; count(all)]?)
+}
+
+/// A whole level, each point from the part that owns it.
+fn joined(
+    alloc: Global,
+    shape: &Shape,
+    cut: &Cut,
+    chunks: &[List<Piece>],
+    full: &Text,
+    iteration: u64,
+) -> Result<Vec<i64>, Memory>
+    requires whole { IsWhole cut.now }
+    requires shape { shape.now ≡ cut.now.shape }
+    ensures { IfOk result (λ level. level.items
+        ≡ joined cut.now (values_in chunks.now full.now iteration)) }
+{
+    let all = whole(shape);
+    let mut level = zeros(alloc, &all)?;
+    'parts: for part in 0..cut.count() {
+        let own = cut.part(part);
+        let values = values_in(chunks, full, iteration, part);
+        put_part(&mut level, &all, &own, values);
+    }
+    Ok(level)
+}
+
+/// A variable's text at an iteration: its line in chunk 0, or the section of the level of all parts.
+fn text_at(
+    alloc: Global,
+    job: &Job,
+    cut: &Cut,
+    chunks: &[List<Piece>],
+    info: &VarInfo,
+    iteration: u64,
+) -> Result<Text, Memory>
+    requires { IsCutOf job.now cut.now }
+    ensures { IfOk result (λ text. text
+        ≡ text_at (setup_of job.now) cut.now chunks.now info.now iteration) }
+{
+    if info.scalar {
+        let values = values_in(chunks, &info.full, iteration, 0);
+        scalar_line(alloc, &info.full, iteration, value_at(values, 0))
+    } else {
+        let level = joined(alloc, &job.shape, cut, chunks, &info.full, iteration)?;
+        section(alloc, &info.full, iteration, &job.shape, &level)
+    }
+}
+
+/// The whole text of a variable.
+fn whole_text(
+    alloc: Global,
+    job: &Job,
+    cut: &Cut,
+    chunks: &[List<Piece>],
+    info: &VarInfo,
+) -> Result<Text, Memory>
+    requires { IsCutOf job.now cut.now }
+    ensures { IfOk result (λ text. text
+        ≡ whole_text (setup_of job.now) cut.now chunks.now info.now) }
+{
+    let iterations = iterations(alloc, chunks, &info.full)?;
+    let mut text = Text::new(Vec::new(alloc));
+    'iterations: for iteration in &iterations {
+        let part = text_at(alloc, job, cut, chunks, info, *iteration)?;
+        text.push_slice(part.as_slice())?;
+    }
+    Ok(text)
+}
+
+/// The whole text of each variable that is written.
+fn whole_texts(
+    alloc: Global,
+    job: &Job,
+    cut: &Cut,
+    chunks: &[List<Piece>],
+) -> Result<List<Text>, Memory>
+    requires outputs { All (IsVariable job.now) job.now.out_vars }
+    requires cut { IsCutOf job.now cut.now }
+    ensures { IfOk result (λ texts. texts ≡ whole_texts (setup_of job.now) cut.now chunks.now) }
+{
+    let mut texts = List::empty(alloc);
+    'outputs: for v in job.out_vars.as_slice() {
+        texts.push(whole_text(alloc, job, cut, chunks, info_of(job, *v))?)?;
+    }
+    Ok(texts)
+}
+
+/// Tests that the chunks can be put together.
+fn check(alloc: Global, job: &Job, cut: &Cut, chunks: &[List<Piece>]) -> Result<(), ChunkFault>
+    requires outputs { All (IsVariable job.now) job.now.out_vars }
+    requires cut { IsCutOf job.now cut.now }
+    requires chunks { length chunks.now ≡ part_count cut.now }
+    ensures { Tells faults.Memory (chunk_fault (setup_of job.now) cut.now chunks.now) result }
+{
+    check_strangers(alloc, job, cut, chunks)?;
+    check_doubles(alloc, chunks)?;
+    check_missing(alloc, job, cut, chunks)
+}
+
+/// The text of each output variable, its records by rising iteration, from the pieces of each part's chunk.
+///
+/// A grid variable's value at a point is that of the part that owns the point. A scalar's lines are those of chunk 0.
+/// The job's output variables are among its variables, and there are as many chunks as parts.
+///
+/// # Errors
+///
+/// The first of these in this order, over all chunks; the first chunk and piece counts.
+/// - `Stranger`: a piece has a name that isn't among the output variables, is of the wrong kind, has another part, number of
+///   parts or box than its chunk's part, or is a line outside chunk 0.
+/// - `Double`: a piece has the variable and the iteration of one before it in its chunk.
+/// - `Missing`: a chunk lacks a piece of a grid variable and an iteration that another chunk has. The least variable counts,
+///   then the least iteration, then the least part.
+///
+/// `Memory`: out of memory.
+pub fn combine(
+    alloc: Global,
+    job: &Job,
+    cut: &Cut,
+    chunks: &List<List<Piece>>,
+) -> Result<List<Text>, ChunkFault>
+    requires outputs { All (IsVariable job.now) job.now.out_vars }
+    requires cut { IsCutOf job.now cut.now }
+    requires chunks { length chunks.now ≡ part_count cut.now }
+    ensures { Answers faults.Memory (combined (setup_of job.now) cut.now chunks.now) result }
+{
+    check(alloc, job, cut, chunks.as_slice())?;
+    Ok(whole_texts(alloc, job, cut, chunks.as_slice())?)
+}

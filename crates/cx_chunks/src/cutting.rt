@@ -1,0 +1,176 @@
+//! Records cut into chunks.
+
+ghost use Rattle.std.specs.Prelude.{◌≡◌, ◌<◌, ◌++◌, [], pos, slice_index_or, IfOk, OnOk};
+ghost use Rattle.std.specs.List.{flat_map};
+ghost use Rattle.cx_cut.specs.Cuts.{IsWhole, part_count};
+ghost use Rattle.cx_chunks.specs.Pieces.{piece_text, part_section};
+ghost use Rattle.cx_chunks.specs.Cutting.{own_of, own_values, line_in, pieces_in, chunk_text, chunk_texts};
+ghost use Rattle.cx_chunks.specs.Laws.{IsCutOf};
+
+use crate::own_box::own_box;
+use crate::section::part_section;
+use cx_ascii::scalar_line;
+use cx_ascii_read::Record;
+use cx_cut::Cut;
+use cx_grid::{Shape, count, index_of, point_at, whole};
+use cx_plan::Job;
+use cx_text::{List, Memory, Text};
+use std::alloc::Global;
+
+/// The value at a place, or 0 after the last one.
+pub(crate) fn value_at(values: &[i64], place: usize) -> i64
+    ensures { result ≡ slice_index_or values.now place (pos 0) }
+{
+    match values.get(place) {
+        Some(value) => *value,
+        None => 0,
+    }
+}
+
+/// The values of a whole level at the points that a part owns, x fastest.
+fn own_values(
+    alloc: Global,
+    shape: &Shape,
+    cut: &Cut,
+    part: u32,
+    level: &[i64],
+) -> Result<List<i64>, Memory>
+    requires whole { IsWhole cut.now }
+    requires shape { shape.now ≡ cut.now.shape }
+    requires part { part < part_count cut.now }
+    ensures { IfOk result (λ values. values ≡ own_values cut.now part level.now) }
+{
+    let own = cut.part(part);
+    let all = whole(shape);
+    let mut values = List::empty(alloc);
+    'points: for place in 0..count(&own) {
+        let point = point_at(&own, place);
+        values.push(value_at(level, index_of(&all, point)))?;
+    }
+    Ok(values)
+}
+
+/// The section of what a part owns of a level.
+fn own_section(
+    alloc: Global,
+    shape: &Shape,
+    cut: &Cut,
+    part: u32,
+    entry: &Record,
+) -> Result<Text, Memory>
+    requires whole { IsWhole cut.now }
+    requires shape { shape.now ≡ cut.now.shape }
+    requires part { part < part_count cut.now }
+    ensures { IfOk result (λ text. text ≡ part_section entry.now.full entry.now.iteration part
+        (part_count cut.now) (own_of cut.now part).place.from (own_of cut.now part).size
+        (own_values cut.now part entry.now.values)) }
+{
+    let own = own_box(alloc, cut, shape.dims, part)?;
+    let values = own_values(alloc, shape, cut, part, entry.values.as_slice())?;
+    part_section(
+        alloc,
+        &entry.full,
+        entry.iteration,
+        &own.place,
+        own.size.as_slice(),
+        values.as_slice(),
+    )
+}
+
+/// The line of a scalar in the chunk of part 0, and nothing in the others.
+fn own_line(alloc: Global, part: u32, entry: &Record) -> Result<Text, Memory>
+    requires { entry.now.size ≡ [] }
+    ensures { IfOk result (λ text. text ≡ flat_map piece_text (line_in part entry.now)) }
+{
+    if part == 0 {
+        scalar_line(
+            alloc,
+            &entry.full,
+            entry.iteration,
+            value_at(entry.values.as_slice(), 0),
+        )
+    } else {
+        Ok(Text::new(Vec::new(alloc)))
+    }
+}
+
+/// What a part has of a record: its section of a level, or a scalar's line.
+fn record_text(
+    alloc: Global,
+    shape: &Shape,
+    cut: &Cut,
+    part: u32,
+    entry: &Record,
+) -> Result<Text, Memory>
+    requires whole { IsWhole cut.now }
+    requires shape { shape.now ≡ cut.now.shape }
+    requires part { part < part_count cut.now }
+    ensures { IfOk result (λ text. text ≡ flat_map piece_text (pieces_in cut.now part entry.now)) }
+{
+    match entry.size.as_slice() {
+        [] => own_line(alloc, part, entry),
+        [_, ..] => own_section(alloc, shape, cut, part, entry),
+    }
+}
+
+/// Adds what a part has of the records of a variable.
+fn push_records(
+    alloc: Global,
+    text: &mut Text,
+    shape: &Shape,
+    cut: &Cut,
+    part: u32,
+    records: &[Record],
+) -> Result<(), Memory>
+    requires whole { IsWhole cut.now }
+    requires shape { shape.now ≡ cut.now.shape }
+    requires part { part < part_count cut.now }
+    ensures { OnOk result (text.new ≡ text.old
+        ++ flat_map piece_text (flat_map (pieces_in cut.now part) records.now)) }
+{
+    'records: for entry in records {
+        let piece = record_text(alloc, shape, cut, part, entry)?;
+        text.push_slice(piece.as_slice())?;
+    }
+    Ok(())
+}
+
+/// The text of a part's chunk.
+fn chunk_text(
+    alloc: Global,
+    shape: &Shape,
+    cut: &Cut,
+    part: u32,
+    outputs: &[List<Record>],
+) -> Result<Text, Memory>
+    requires whole { IsWhole cut.now }
+    requires shape { shape.now ≡ cut.now.shape }
+    requires part { part < part_count cut.now }
+    ensures { IfOk result (λ text. text ≡ chunk_text cut.now outputs.now part) }
+{
+    let mut text = Text::new(Vec::new(alloc));
+    'outputs: for records in outputs {
+        push_records(alloc, &mut text, shape, cut, part, records.as_slice())?;
+    }
+    Ok(text)
+}
+
+/// The text of each part's chunk. `records` has a list for each output variable, in the order of their numbers.
+///
+/// A chunk holds a section of each level, list by list, with the values of the points that its part owns. Chunk 0 also holds
+/// the lines of scalars. A level has the sizes of the job's grid; a value that it lacks counts as 0.
+pub fn cut_records(
+    alloc: Global,
+    job: &Job,
+    cut: &Cut,
+    records: &List<List<Record>>,
+) -> Result<List<Text>, Memory>
+    requires { IsCutOf job.now cut.now }
+    ensures { IfOk result (λ texts. texts ≡ chunk_texts cut.now records.now) }
+{
+    let mut texts = List::empty(alloc);
+    'parts: for part in 0..cut.count() {
+        texts.push(chunk_text(alloc, &job.shape, cut, part, records.as_slice())?)?;
+    }
+    Ok(texts)
+}

@@ -1,0 +1,21 @@
+//! Output in chunks, a file for each part of a cut, and its recombination.
+#![tactic(auto)]
+
+mod checks;
+mod combining;
+mod cutting;
+mod fault;
+mod iterations;
+mod laws;
+mod own_box;
+mod piece;
+mod place;
+mod reading;
+mod section;
+
+pub use combining::combine;
+pub use cutting::cut_records;
+pub use fault::ChunkFault;
+pub use laws::chunks_are_whole;
+pub use piece::Piece;
+pub use reading::read_chunk;
