@@ -123,8 +123,8 @@ pub(crate) fn check_strangers(
     requires outputs { All (IsVariable job.now) job.now.out_vars }
     requires cut { IsCutOf job.now cut.now }
     requires chunks { length chunks.now ≡ part_count cut.now }
-    ensures { Tells faults.Memory (first_of_chunks (stranger_in (setup_of job.now) cut.now) 0 chunks.now)
-        result }
+    ensures { Tells faults.Memory
+        (first_of_chunks (stranger_in (setup_of job.now) cut.now) 0 chunks.now) result }
 {
     let mut part = 0;
     'chunks: for pieces in chunks {

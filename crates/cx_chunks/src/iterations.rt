@@ -23,7 +23,8 @@ fn push_iterations(iterations: &mut Vec<u64>, pieces: &[Piece], full: &Text) -> 
 
 /// The iterations of a variable's pieces in all chunks, as they come.
 fn all_iterations(alloc: Global, chunks: &[List<Piece>], full: &Text) -> Result<Vec<u64>, Memory>
-    ensures { IfOk result (λ iterations. iterations.items ≡ flat_map (iterations_in full.now) chunks.now) }
+    ensures { IfOk result (λ iterations. iterations.items
+        ≡ flat_map (iterations_in full.now) chunks.now) }
 {
     let mut iterations = Vec::new(alloc);
     'chunks: for pieces in chunks {

@@ -33,7 +33,8 @@ fn push_numbers(text: &mut Text, numbers: &[u32]) -> Result<(), Memory>
 
 /// Adds where a part is: ` part K of P from A`.
 fn push_place(text: &mut Text, place: &Place) -> Result<(), Memory>
-    ensures { OnOk result (text.new ≡ text.old ++ place_text place.now.part place.now.parts place.now.from) }
+    ensures { OnOk result (text.new
+        ≡ text.old ++ place_text place.now.part place.now.parts place.now.from) }
 {
     text.push_slice(b" part")?;
     push_number(text, place.part)?;
