@@ -1,8 +1,7 @@
-use Rattle.std.proofs.Common.{◌≡◌, refl, ℕ, pos, negsuc, [], ◌∷◌, ◌++◌, codes, true, false, List, Ok, Err}
+use Rattle.std.proofs.Common.{◌≡◌, refl, pos, [], ◌∷◌, ◌++◌, codes, true, false, List, Ok, Err}
 use Rattle.std.specs.Fmt.{digits}
 use Rattle.cx_text.specs.declared.ctype.CType.TheVariants.{Byte}
 use Rattle.cx_grid.specs.declared.shapes.Shape.{Shape}
-use Rattle.cx_plan.specs.declared.variable.VarId.{VarId}
 use Rattle.cx_plan.specs.Setups.{Setup}
 use Rattle.cx_cut.specs.Cuts.{Parts}
 use Rattle.cx_ascii_read.specs.declared.record.Record.{Record}

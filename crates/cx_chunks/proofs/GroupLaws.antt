@@ -1,36 +1,24 @@
 -- What a part's chunk holds of each variable's records.
-use Rattle.std.proofs.Common.{◌≡◌, ◌≢◌, ℕ, zero, suc, ◌+◌, ◌<◌, ◌≤◌, ◌⊎◌, inl, inr, Bool, true, false, ◌&&◌, ◌||◌, not, eqb, arith, refl, sym, ap, ◌∙◌, subst, ℤ, pos, ◌≤ℤ◌, List, [], ◌∷◌, ◌++◌, length, map, Option, Some, None, Ok, cond}
+use Rattle.std.proofs.Common.{◌≡◌, ◌≢◌, ℕ, zero, suc, ◌≤◌, ◌⊎◌, inl, inr, Bool, true, false, ◌&&◌, ◌||◌, not, eqb, arith, refl, sym, ap, ◌∙◌, subst, List, [], ◌∷◌, ◌++◌, map, Option, Some, None}
 use Rattle.std.specs.Prelude.{find, if◌then◌else◌}
-use Rattle.std.specs.List.{flat_map, list_any, range_with_len, AllByRecursion, AllPairs}
+use Rattle.std.specs.List.{flat_map, list_any, AllByRecursion}
 use Rattle.std.specs.Str.{bytes_eq}
-use Rattle.std.proofs.lemmas.Bool.{cases_Bool, true≢false, eq-eqb, and_from, and_left}
-use Rattle.std.proofs.lemmas.List.{append-nil}
+use Rattle.std.proofs.lemmas.Bool.{cases_Bool, true≢false, eq-eqb, and_from}
 use Rattle.std.proofs.lemmas.List.Concat.{flat_map-cons}
-use Rattle.std.proofs.lemmas.List.Folds.{flat_map-map}
-use Rattle.std.proofs.lemmas.List.FromFn.{get_or-map-range_with_len}
-use Rattle.cx_grid.specs.Boxes.{IsIn, point_count}
-use Rattle.cx_grid.specs.Grid.{IsShape, whole}
-use Rattle.cx_grid.specs.declared.shapes.Shape.{Shape}
-use Rattle.cx_ascii.specs.Output.{section, line}
-use Rattle.cx_plan.specs.declared.job.Job.{Job}
 use Rattle.cx_plan.specs.declared.variable.VarId.{VarId}
 use Rattle.cx_plan.specs.declared.variable.VarInfo.{VarInfo}
-use Rattle.cx_plan.specs.Lists.{or_else, first_again, first_again_behind, first_of_each}
+use Rattle.cx_plan.specs.Lists.{first_of_each}
 use Rattle.cx_plan.specs.Lookups.{variable}
-use Rattle.cx_plan.specs.Setups.{Setup, setup_of}
-use Rattle.cx_plan.specs.Whole.{IsWhole as IsWholeJob}
-use Rattle.cx_cut.specs.Cuts.{Parts, IsWhole, part_count, owned}
+use Rattle.cx_plan.specs.Setups.{Setup}
+use Rattle.cx_cut.specs.Cuts.{Parts, part_count}
 use Rattle.cx_ascii_read.specs.declared.record.Record.{Record}
-use Rattle.cx_ascii_read.specs.Records.{record_text}
-use Rattle.cx_ascii_read.specs.Printed.{sizes_of, SectionsAreRecords}
-use Rattle.cx_chunks.specs.declared.fault.ChunkFault.{ChunkFault}
+use Rattle.cx_ascii_read.specs.Printed.{sizes_of}
 use Rattle.cx_chunks.specs.declared.piece.Piece.{Piece}
-use Rattle.cx_chunks.specs.declared.piece.Piece.TheVariants.{Line, Box}
-use Rattle.cx_chunks.specs.Cutting.{IsRecordOf, IsRising, IsOutputOf, AreOutputs, sizes_in, own_of, own_values, line_in, section_in, pieces_by, pieces_in, pieces_of}
-use Rattle.cx_chunks.specs.Combining.{full_of, iteration_of, values_of, is_at, is_twin, is_output, is_output_of, is_own, is_stranger, by_piece, stranger_in, double_in, first_of_chunks, iterations_in, iterations_of, chunk, missing_in, missing_at, missing_of, missing, chunk_fault, found_values, values_in, joined, text_at, whole_text, whole_texts, unless, combined}
-use Rattle.cx_chunks.specs.Laws.{PiecesJoin}
-use Rattle.cx_chunks.proofs.RisingLaws.{Pairs, has, has_rising, rising_is, pairs_from}
-use Rattle.cx_chunks.proofs.PieceLists.{name_is, name_differs, any_flat, any_none, find_none, find_after, find_before, any_after, any_before, none_again, pairs_append, other_name, has_iteration, all_named, any_at, found, no_twins}
+use Rattle.cx_chunks.specs.declared.piece.Piece.TheVariants.{Line}
+use Rattle.cx_chunks.specs.Cutting.{IsRecordOf, IsOutputOf, AreOutputs, own_of, line_in, section_in, pieces_by, pieces_in, pieces_of}
+use Rattle.cx_chunks.specs.Combining.{full_of, iteration_of, is_at, is_twin, is_output, is_own, is_stranger}
+use Rattle.cx_chunks.proofs.RisingLaws.{Pairs, has}
+use Rattle.cx_chunks.proofs.PieceLists.{name_is, find_after, find_before, any_after, any_before, pairs_append, other_name, all_named, any_at, found, no_twins}
 use Rattle.cx_ascii_read.proofs.RowLaws.{all-append}
 
 -- ---- a variable and its records among all of them

@@ -1,14 +1,13 @@
 -- The boxes of the points that parts own.
-use Rattle.std.proofs.Common.{◌≡◌, ℕ, zero, suc, ◌+◌, ◌-◌, ◌*◌, ◌^◌, ◌<◌, ◌≤◌, arith, refl, sym, ap, ◌∙◌, subst, ℤ, pos, negsuc, ◌+ℤ◌, ◌-ℤ◌, ◌≤ℤ◌, List, length, unsigned_abs}
+use Rattle.std.proofs.Common.{◌≡◌, ℕ, suc, ◌<◌, ◌≤◌, arith, ap, ◌∙◌, ℤ, pos, ◌-ℤ◌, ◌≤ℤ◌, List, unsigned_abs}
 use Rattle.std.specs.Int.{int_gap}
 use Rattle.std.proofs.lemmas.Int.{ints}
 use Rattle.std.proofs.lemmas.Nat.{mul-le}
 use Rattle.cx_grid.specs.declared.boxes.Point.{Point}
-use Rattle.cx_grid.specs.declared.boxes.Box3.{Box3}
-use Rattle.cx_grid.specs.Boxes.{along, IsBox, IsSmall, IsIn, extent, point_count}
+use Rattle.cx_grid.specs.Boxes.{IsBox, IsSmall, IsIn, point_count}
 use Rattle.cx_grid.specs.Grid.{whole}
 use Rattle.cx_grid.proofs.Places.{gap_up}
-use Rattle.cx_cut.specs.Axis.{start_at, own_low, own_high, sum_of, IsAxisCut}
+use Rattle.cx_cut.specs.Axis.{own_low, own_high, sum_of, IsAxisCut}
 use Rattle.cx_cut.specs.Cuts.{Parts, IsWhole, part_count, place_along, owned}
 use Rattle.cx_cut.proofs.AxisFacts.{start_le, start_rises}
 use Rattle.cx_cut.proofs.Tiled.{tiles}

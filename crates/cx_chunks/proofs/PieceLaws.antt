@@ -1,5 +1,5 @@
 -- A piece that is read is the one that was written, and what was written is read again.
-use Rattle.std.proofs.Common.{◌≡◌, ℕ, ℤ, zero, suc, ◌-◌, ◌*◌, ◌^◌, ◌≤◌, ◌<◌, Bool, true, false, eqb, leb, IsTrue, List, [], ◌∷◌, ◌++◌, length, codes, Option, Some, None, refl, sym, ap, subst, ◌∙◌, append_assoc, arith}
+use Rattle.std.proofs.Common.{◌≡◌, ℕ, ℤ, zero, suc, ◌-◌, ◌*◌, ◌^◌, ◌≤◌, ◌<◌, true, eqb, leb, IsTrue, List, [], ◌∷◌, ◌++◌, length, codes, Option, Some, None, refl, sym, ap, subst, ◌∙◌, append_assoc, arith}
 use Rattle.std.specs.Fmt.{decimal, signed_decimal}
 use Rattle.std.specs.List.{flat_map, range_with_len, list_all, AllByRecursion}
 use Rattle.std.specs.Char.{is_ascii_digit}
@@ -19,7 +19,7 @@ use Rattle.cx_ascii_read.proofs.WordLaws.{bind_some, goes_where, some_is, text_t
 use Rattle.cx_ascii_read.proofs.NumberLaws.{decimal_digits}
 use Rattle.cx_ascii_read.proofs.RowLaws.{sizes_line}
 use Rattle.cx_ascii_read.proofs.HeadLaws.{number_field, front_text, front-cut, head_again, head_takes}
-use Rattle.cx_ascii_read.proofs.GridLaws.{level_text, level-text, grid_text, grid_again, grid_takes}
+use Rattle.cx_ascii_read.proofs.GridLaws.{level-text, grid_text, grid_again, grid_takes}
 use Rattle.cx_ascii_read.proofs.RecordLaws.{line-text, line_again, line_takes}
 use Rattle.cx_chunks.specs.declared.piece.Piece.{Piece}
 use Rattle.cx_chunks.specs.declared.piece.Piece.TheVariants.{Line, Box}

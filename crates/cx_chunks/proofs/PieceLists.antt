@@ -1,13 +1,13 @@
 -- The pieces of a chunk: which of them are of a variable and an iteration.
-use Rattle.std.proofs.Common.{◌≡◌, ◌≢◌, ℕ, zero, suc, ◌+◌, ◌<◌, ◌≤◌, ◌⊎◌, inl, inr, Bool, true, false, ◌&&◌, ◌||◌, eqb, arith, refl, sym, ap, ◌∙◌, subst, ℤ, pos, List, [], ◌∷◌, ◌++◌, length, map, filter, append_assoc, Option, Some, None}
-use Rattle.std.specs.Prelude.{find, slice_index_or, if◌then◌else◌}
-use Rattle.std.specs.List.{flat_map, list_any, range_with_len, AllByRecursion}
+use Rattle.std.proofs.Common.{◌≡◌, ◌≢◌, ℕ, ◌<◌, ◌⊎◌, inl, inr, Bool, true, false, ◌||◌, eqb, arith, refl, ap, ◌∙◌, List, [], ◌∷◌, ◌++◌, map, Some, None}
+use Rattle.std.specs.Prelude.{find, if◌then◌else◌}
+use Rattle.std.specs.List.{flat_map, list_any, AllByRecursion}
 use Rattle.std.specs.Str.{bytes_eq}
 use Rattle.std.proofs.lemmas.Bool.{eq-eqb, ne_eqb, cases_Bool, and_left, and_right}
 use Rattle.std.proofs.lemmas.List.Concat.{flat_map-cons}
 use Rattle.std.proofs.lemmas.List.Folds.{list_any-append}
 use Rattle.std.proofs.lemmas.Slice.Eq.{bytes_eq-Decides}
-use Rattle.cx_plan.specs.Lists.{first_again, first_again_behind}
+use Rattle.cx_plan.specs.Lists.{first_again_behind}
 use Rattle.cx_ascii_read.specs.declared.record.Record.{Record}
 use Rattle.cx_ascii_read.proofs.RowLaws.{all-append}
 use Rattle.cx_chunks.specs.declared.piece.Piece.{Piece}

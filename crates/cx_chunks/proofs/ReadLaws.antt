@@ -1,19 +1,17 @@
 -- The text of a part's chunk is read as its pieces.
-use Rattle.std.proofs.Common.{◌≡◌, ℕ, zero, suc, ◌+◌, ◌-◌, ◌*◌, ◌^◌, ◌<◌, ◌≤◌, ◌⊎◌, inl, inr, Bool, true, false, eqb, rules, arith, refl, sym, ap, ◌∙◌, subst, ℤ, pos, negsuc, ◌≤ℤ◌, List, [], ◌∷◌, ◌++◌, length, map, get_or, unsigned_abs}
+use Rattle.std.proofs.Common.{◌≡◌, ℕ, zero, suc, ◌+◌, ◌*◌, ◌<◌, ◌≤◌, ◌⊎◌, inl, inr, Bool, true, false, eqb, rules, arith, refl, sym, ap, ◌∙◌, subst, ℤ, pos, ◌≤ℤ◌, List, [], ◌∷◌, length, map, get_or, unsigned_abs}
 use Rattle.std.specs.Prelude.{slice_index_or, slice_index, if◌then◌else◌}
 use Rattle.std.specs.List.{flat_map, range_with_len, AllByRecursion}
 use Rattle.std.specs.Int.{int_gap, w64}
 use Rattle.std.specs.Int.RustNames.{FitsSigned}
-use Rattle.std.proofs.Math.Nat.{mul_assoc}
 use Rattle.std.proofs.lemmas.Bool.{cases_lt}
 use Rattle.std.proofs.lemmas.Int.{ints}
 use Rattle.std.proofs.lemmas.List.{get_or_past}
 use Rattle.std.proofs.lemmas.List.Concat.{flat_map-cons}
 use Rattle.std.proofs.lemmas.List.FromFn.{length-map-range_with_len, get_or-map-range_with_len}
 use Rattle.cx_grid.specs.declared.boxes.Box3.{Box3}
-use Rattle.cx_grid.specs.declared.shapes.Shape.{Shape}
-use Rattle.cx_grid.specs.Boxes.{along, extent, point_count, point_in, index_in, numbers_in}
-use Rattle.cx_grid.specs.Grid.{IsShape, IsNoAxis, whole}
+use Rattle.cx_grid.specs.Boxes.{along, extent, point_count, point_in, index_in}
+use Rattle.cx_grid.specs.Grid.{whole}
 use Rattle.cx_cut.specs.Axis.{start_at, sum_of, own_low, own_high, IsAxisCut}
 use Rattle.cx_cut.specs.Cuts.{Parts, IsWhole, widths, part_count, place_along, owned}
 use Rattle.cx_cut.proofs.AxisFacts.{start_more, start_le}
@@ -25,9 +23,8 @@ use Rattle.cx_plan.specs.Setups.{Setup, setup_of}
 use Rattle.cx_ascii_read.specs.declared.record.Record.{Record}
 use Rattle.cx_ascii_read.specs.Records.{shape_of, IsSize, IsRecord}
 use Rattle.cx_ascii_read.proofs.RowLaws.{all-append}
-use Rattle.cx_chunks.specs.declared.piece.Piece.{Piece}
-use Rattle.cx_chunks.specs.declared.piece.Piece.TheVariants.{Line, Box}
-use Rattle.cx_chunks.specs.Pieces.{IsWord, IsPartSection, IsPiece}
+use Rattle.cx_chunks.specs.declared.piece.Piece.TheVariants.{Line}
+use Rattle.cx_chunks.specs.Pieces.{IsWord, IsPiece}
 use Rattle.cx_chunks.specs.Cutting.{size_of, section_in, pieces_by, pieces_in, pieces_of, IsRecordOf, AreOutputs}
 use Rattle.cx_chunks.specs.Laws.{ChunksAreRead}
 use Rattle.cx_chunks.proofs.JoinLaws.{numbers_count}

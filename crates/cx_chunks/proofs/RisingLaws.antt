@@ -1,10 +1,10 @@
 -- Numbers in rising order, each once: there is only one such list with given members.
-use Rattle.std.proofs.Common.{◌≡◌, ℕ, zero, suc, ◌+◌, ◌<◌, ◌≤◌, ◌⊎◌, inl, inr, Bool, true, false, ◌||◌, eqb, arith, refl, sym, ap, ◌∙◌, subst, List, [], ◌∷◌, length, map}
+use Rattle.std.proofs.Common.{◌≡◌, ℕ, suc, ◌<◌, ◌≤◌, ◌⊎◌, inl, inr, Bool, true, false, ◌||◌, eqb, arith, refl, sym, ap, ◌∙◌, subst, List, [], ◌∷◌, length}
 use Rattle.std.specs.Prelude.{nat_lt, slice_index_or}
-use Rattle.std.specs.List.{list_any, AllByRecursion, AllPairs, Contains, dedup}
+use Rattle.std.specs.List.{list_any, AllByRecursion, AllPairs, dedup}
 use Rattle.std.specs.List.Sorted.{IsPermutation, IsSorted}
 use Rattle.std.specs.Ordering.{nat_cmp}
-use Rattle.std.proofs.lemmas.Bool.{eqb-true, eqb-false, eq-eqb, ne_eqb, ltb-true, ltb-false, cases_Bool, true≢false, both_ways}
+use Rattle.std.proofs.lemmas.Bool.{eqb-true, eqb-false, eq-eqb, ne_eqb, ltb-true, ltb-false, cases_Bool, true≢false}
 use Rattle.std.proofs.lemmas.Cmp.{nat_eq_equiv}
 use Rattle.std.proofs.lemmas.List.Kept.{AllPairs-from_increasing, Contains-dedup_nat, Contains-from_dedup}
 use Rattle.std.proofs.lemmas.List.Sorted.{Contains-permutation, IsPermutation-sym}

@@ -1,5 +1,5 @@
 -- One step of a loop more.
-use Rattle.std.proofs.Common.{◌≡◌, ℕ, ℤ, pos, zero, suc, ◌+◌, ◌-◌, ◌<◌, ◌≤◌, ◌⊎◌, inl, inr, Bool, true, false, arith, refl, sym, ap, ◌∙◌, List, [], ◌∷◌, ◌++◌, length, map, get_or, take, drop, append_assoc, Option, Some, None}
+use Rattle.std.proofs.Common.{◌≡◌, ℕ, ℤ, pos, suc, ◌+◌, ◌-◌, ◌<◌, ◌⊎◌, inl, inr, Bool, arith, refl, sym, ap, ◌∙◌, List, [], ◌∷◌, ◌++◌, length, map, get_or, take, drop, append_assoc, Option, Some, None}
 use Rattle.std.specs.Prelude.{slice_index_or, if◌then◌else◌}
 use Rattle.std.specs.List.{flat_map, range_with_len}
 use Rattle.std.proofs.lemmas.Bool.{eq-eqb}
@@ -13,11 +13,10 @@ use Rattle.cx_ascii_read.specs.declared.record.Record.{Record}
 use Rattle.cx_ascii.specs.Output.{line}
 use Rattle.cx_ascii_read.specs.Records.{text_of}
 use Rattle.cx_chunks.specs.declared.fault.ChunkFault.{ChunkFault}
-use Rattle.cx_chunks.specs.declared.own_box.OwnBox.{OwnBox}
 use Rattle.cx_chunks.specs.declared.piece.Piece.{Piece}
-use Rattle.cx_chunks.specs.declared.piece.Piece.TheVariants.{Line, Box}
-use Rattle.cx_chunks.specs.Pieces.{piece_text, part_section}
-use Rattle.cx_chunks.specs.Cutting.{own_of, own_values, line_in, section_in, pieces_by, pieces_in, chunk_text}
+use Rattle.cx_chunks.specs.declared.piece.Piece.TheVariants.{Line}
+use Rattle.cx_chunks.specs.Pieces.{piece_text}
+use Rattle.cx_chunks.specs.Cutting.{line_in, section_in, pieces_by, pieces_in, chunk_text}
 use Rattle.cx_chunks.specs.Combining.{full_of, iteration_of, by_piece}
 
 pub grown_map : {X : Type 0} (f : ℕ → X) (old new : List X) (k : ℕ)

@@ -1,15 +1,14 @@
 -- The pieces of all parts are combined into the text of the records that were cut.
-use Rattle.std.proofs.Common.{◌≡◌, ◌≢◌, ℕ, zero, suc, ◌+◌, ◌<◌, ◌≤◌, ◌⊎◌, inl, inr, Bool, true, false, ◌&&◌, ◌||◌, eqb, arith, refl, sym, ap, ◌∙◌, subst, ℤ, pos, negsuc, ◌≤ℤ◌, List, [], ◌∷◌, ◌++◌, length, map, get_or, unsigned_abs, Option, Some, None, Ok}
+use Rattle.std.proofs.Common.{◌≡◌, ◌≢◌, ℕ, zero, suc, ◌+◌, ◌<◌, ◌≤◌, ◌⊎◌, inl, inr, Bool, true, false, ◌||◌, eqb, arith, refl, sym, ap, ◌∙◌, subst, ℤ, pos, negsuc, ◌≤ℤ◌, List, [], ◌∷◌, ◌++◌, length, map, get_or, unsigned_abs, Option, Some, None, Ok}
 use Rattle.std.specs.Prelude.{find, not, slice_index_or, if◌then◌else◌}
 use Rattle.std.specs.Int.{int_gap}
-use Rattle.std.specs.List.{flat_map, list_any, range_with_len, AllByRecursion, AllPairs}
-use Rattle.std.proofs.lemmas.Bool.{cases_Bool, cases_lt, true≢false, eq-eqb, ne_eqb}
+use Rattle.std.specs.List.{flat_map, list_any, range_with_len, AllByRecursion}
+use Rattle.std.proofs.lemmas.Bool.{cases_Bool, cases_lt, true≢false, eq-eqb}
 use Rattle.std.proofs.lemmas.Int.{ints}
 use Rattle.std.proofs.lemmas.List.{append-nil, get_or_past}
 use Rattle.std.proofs.lemmas.List.Concat.{flat_map-cons}
 use Rattle.std.proofs.lemmas.List.Folds.{flat_map-map}
 use Rattle.std.proofs.lemmas.List.FromFn.{get_or-map-range_with_len, length-map-range_with_len}
-use Rattle.cx_grid.specs.declared.boxes.Point.{Point}
 use Rattle.cx_grid.specs.declared.shapes.Shape.{Shape}
 use Rattle.cx_grid.specs.Boxes.{along, extent, IsIn, point_count}
 use Rattle.cx_grid.specs.Grid.{IsShape, whole}
@@ -17,11 +16,11 @@ use Rattle.cx_ascii.specs.Output.{section, line}
 use Rattle.cx_plan.specs.declared.job.Job.{Job}
 use Rattle.cx_plan.specs.declared.variable.VarId.{VarId}
 use Rattle.cx_plan.specs.declared.variable.VarInfo.{VarInfo}
-use Rattle.cx_plan.specs.Lists.{or_else, first_again_behind, first_of_each}
+use Rattle.cx_plan.specs.Lists.{first_of_each}
 use Rattle.cx_plan.specs.Lookups.{variable, no_variable}
 use Rattle.cx_plan.specs.Setups.{Setup, setup_of}
 use Rattle.cx_plan.specs.Whole.{IsWhole as IsWholeJob}
-use Rattle.cx_cut.specs.Cuts.{Parts, IsWhole, part_count, owned}
+use Rattle.cx_cut.specs.Cuts.{Parts, part_count}
 use Rattle.cx_cut.proofs.Boxed.{by_direction}
 use Rattle.cx_cut.proofs.Tiled.{tiles}
 use Rattle.cx_ascii_read.specs.declared.record.Record.{Record}
@@ -30,11 +29,11 @@ use Rattle.cx_ascii_read.specs.Printed.{sizes_of, level_record, SectionsAreRecor
 use Rattle.cx_chunks.specs.declared.fault.ChunkFault.{ChunkFault}
 use Rattle.cx_chunks.specs.declared.fault.ChunkFault.TheVariants.{Stranger, Double}
 use Rattle.cx_chunks.specs.declared.piece.Piece.{Piece}
-use Rattle.cx_chunks.specs.declared.piece.Piece.TheVariants.{Line, Box}
+use Rattle.cx_chunks.specs.declared.piece.Piece.TheVariants.{Line}
 use Rattle.cx_chunks.specs.Cutting.{IsRecordOf, IsOutputOf, AreOutputs, own_of, own_values, section_in, pieces_in, pieces_of}
 use Rattle.cx_chunks.specs.Combining.{is_at, is_twin, is_output, is_output_of, is_stranger, by_piece, stranger_in, double_in, first_of_chunks, iterations_in, iterations_of, chunk, missing_in, missing_at, missing_of, missing, chunk_fault, found_values, values_in, joined, text_at, whole_text, unless, combined}
 use Rattle.cx_chunks.specs.Laws.{IsCutOf, PiecesJoin, OwnersCount}
-use Rattle.cx_chunks.proofs.RisingLaws.{Pairs, has, rising_is, pairs_from}
+use Rattle.cx_chunks.proofs.RisingLaws.{has, rising_is, pairs_from}
 use Rattle.cx_chunks.proofs.PieceLists.{name_is, any_flat, find_none, none_again, has_iteration}
 use Rattle.cx_chunks.proofs.GroupLaws.{Stands, times, any_stands, Apart, stands_output, map_stands, first_stands, stands_find, stands_any, chunk_twins, any_group, grid_found, line_found, chunk_own}
 use Rattle.cx_chunks.proofs.JoinLaws.{joined_is, joined_again, joined_same}

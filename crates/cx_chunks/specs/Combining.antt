@@ -1,5 +1,5 @@
 -- The whole output from the pieces of all parts, or the first fault.
-use Rattle.std.specs.Prelude.{ℕ, ◌+◌, ◌≡◌, ◌==◌, nat_lt, Bool, true, false, ◌&&◌, not, ℤ, pos, List, [], ◌∷◌, map, filter, find, slice_index_or, Option, Some, None, Result, Ok, Err, if◌then◌else◌}
+use Rattle.std.specs.Prelude.{ℕ, ◌+◌, ◌==◌, nat_lt, Bool, true, false, ◌&&◌, not, ℤ, pos, List, [], ◌∷◌, map, filter, find, slice_index_or, Option, Some, None, Result, Ok, Err, if◌then◌else◌}
 use Rattle.std.specs.List.{flat_map, list_any, range_with_len, position_or_len}
 use Rattle.std.specs.Str.{bytes_eq}
 use Rattle.cx_ascii.specs.Output.{section, line}
@@ -12,7 +12,6 @@ use Rattle.cx_plan.specs.Lists.{or_else, first_again, first_of_each}
 use Rattle.cx_plan.specs.Lookups.{variable}
 use Rattle.cx_plan.specs.Setups.{Setup}
 use Rattle.cx_cut.specs.Cuts.{Parts, part_count, owned}
-use Rattle.cx_ascii_read.specs.declared.record.Record.{Record}
 use Rattle.cx_chunks.specs.declared.fault.ChunkFault.{ChunkFault}
 use Rattle.cx_chunks.specs.declared.fault.ChunkFault.TheVariants.{Stranger, Double, Missing}
 use Rattle.cx_chunks.specs.declared.own_box.OwnBox.{OwnBox}

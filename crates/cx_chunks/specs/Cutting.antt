@@ -1,5 +1,5 @@
 -- Records of the whole output, cut into pieces by parts.
-use Rattle.std.specs.Prelude.{ℕ, ◌<◌, ◌≡◌, ◌==◌, ℤ, pos, unsigned_abs, List, [], ◌∷◌, length, map, slice_index_or, if◌then◌else◌}
+use Rattle.std.specs.Prelude.{ℕ, ◌<◌, ◌≡◌, ◌==◌, ℤ, pos, unsigned_abs, List, [], ◌∷◌, map, slice_index_or, if◌then◌else◌}
 use Rattle.std.specs.List.{flat_map, range_with_len, AllByRecursion}
 use Rattle.cx_grid.specs.declared.boxes.Box3.{Box3}
 use Rattle.cx_grid.specs.Boxes.{along, extent, index_in, numbers_in}

@@ -9,7 +9,6 @@ use Rattle.cx_plan.specs.Setups.{setup_of}
 use Rattle.cx_cut.specs.Cuts.{Parts, IsWhole as IsWholeCut, part_count, owned}
 use Rattle.cx_ascii_read.specs.declared.record.Record.{Record}
 use Rattle.cx_ascii_read.specs.Records.{record_text}
-use Rattle.cx_chunks.specs.declared.piece.Piece.{Piece}
 use Rattle.cx_chunks.specs.Pieces.{SpellsChunk}
 use Rattle.cx_chunks.specs.Cutting.{AreOutputs, pieces_of, chunk_text}
 use Rattle.cx_chunks.specs.Combining.{combined, joined}

@@ -7,7 +7,7 @@ use Rattle.std.specs.Int.RustNames.{FitsSigned}
 use Rattle.cx_grid.specs.Boxes.{point_count}
 use Rattle.cx_grid.specs.Grid.{whole}
 use Rattle.cx_ascii.specs.Output.{head_text, rows_text}
-use Rattle.cx_ascii_read.specs.Spelling.{SpellsAll, ReadsAll}
+use Rattle.cx_ascii_read.specs.Spelling.{SpellsAll}
 use Rattle.cx_ascii_read.specs.Records.{shape_of, is_name, IsSize, IsRecord, record_text}
 use Rattle.cx_chunks.specs.declared.piece.Piece.{Piece}
 use Rattle.cx_chunks.specs.declared.piece.Piece.TheVariants.{Line, Box}

@@ -1,17 +1,15 @@
 //! Tests before chunks are combined: no piece is a stranger in its chunk, none is there twice, and none is missing.
 
 ghost use Rattle.std.specs.Prelude.{◌≡◌, ◌<◌, ◌≤◌, ◌+◌, ◌&&◌, length, find, All, option_copied};
-ghost use Rattle.std.specs.Str.{bytes_eq};
 ghost use Rattle.std.specs.List.{list_any};
 ghost use Rattle.cx_text.specs.Telling.{Tells};
-ghost use Rattle.cx_grid.specs.Grid.{IsShape};
-ghost use Rattle.cx_plan.specs.Lists.{first_again, first_of_each};
+ghost use Rattle.cx_plan.specs.Lists.{first_of_each};
 ghost use Rattle.cx_plan.specs.Lookups.{variable};
 ghost use Rattle.cx_plan.specs.Setups.{setup_of};
 ghost use Rattle.cx_plan.specs.Whole.{IsVariable};
-ghost use Rattle.cx_cut.specs.Cuts.{IsWhole, part_count};
+ghost use Rattle.cx_cut.specs.Cuts.{part_count};
 ghost use Rattle.cx_chunks.specs.declared.fault.ChunkFault.TheVariants as faults;
-ghost use Rattle.cx_chunks.specs.Combining.{is_of, is_at, is_twin, is_output_of, is_output, is_own, is_stranger, by_piece, stranger_in, double_in, first_of_chunks, missing_in, missing_at, missing_of, missing, chunk};
+ghost use Rattle.cx_chunks.specs.Combining.{is_at, is_twin, is_output_of, is_output, is_own, is_stranger, stranger_in, double_in, first_of_chunks, missing_at, missing_of, missing, chunk};
 ghost use Rattle.cx_chunks.specs.Laws.{IsCutOf};
 
 use crate::fault::ChunkFault;

@@ -1,8 +1,8 @@
 //! The box of the points that a part owns, as chunks say it.
 
-ghost use Rattle.std.specs.Prelude.{◌≡◌, ◌<◌, ◌≤◌, unsigned_abs, IfOk};
+ghost use Rattle.std.specs.Prelude.{◌≡◌, ◌<◌, unsigned_abs, IfOk};
 ghost use Rattle.cx_grid.specs.Boxes.{IsBox, along, extent};
-ghost use Rattle.cx_cut.specs.Cuts.{IsWhole, part_count, owned};
+ghost use Rattle.cx_cut.specs.Cuts.{IsWhole, part_count};
 ghost use Rattle.cx_chunks.specs.Cutting.{low_of, size_of, own_of};
 
 use crate::place::Place;

@@ -1,5 +1,4 @@
 //! Where a part is.
-ghost use Rattle.std.specs.Prelude.{◌≡◌};
 ghost use Rattle.cx_ascii_read.specs.Reading.{Gives};
 ghost use Rattle.cx_chunks.specs.Reading.{word_at, from_at, place_at};
 

@@ -1,9 +1,7 @@
 //! The text of a part's section.
 
-ghost use Rattle.std.specs.Prelude.{◌≡◌, ◌++◌, [], ◌∷◌, ◌*◌, codes, slice_index_or, IfOk, OnOk};
+ghost use Rattle.std.specs.Prelude.{◌≡◌, ◌++◌, ◌∷◌, ◌*◌, slice_index_or, IfOk, OnOk};
 ghost use Rattle.std.specs.Fmt.{decimal};
-ghost use Rattle.cx_grid.specs.Boxes.{extent};
-ghost use Rattle.cx_grid.specs.Grid.{whole};
 ghost use Rattle.cx_ascii.specs.Output.{rows_text};
 ghost use Rattle.cx_ascii_read.specs.Records.{shape_of};
 ghost use Rattle.cx_chunks.specs.Pieces.{numbers_text, part_section, place_text};

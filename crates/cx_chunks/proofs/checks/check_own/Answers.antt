@@ -2,7 +2,7 @@ use Rattle.std.proofs.Common.{rules, ◌≡◌, inr, Some}
 use Rattle.std.specs.Prelude.{find}
 use Rattle.cx_plan.specs.Setups.{setup_of}
 use Rattle.cx_chunks.specs.declared.fault.ChunkFault.TheVariants.{Stranger}
-use Rattle.cx_chunks.specs.Combining.{full_of, iteration_of, is_stranger}
+use Rattle.cx_chunks.specs.Combining.{full_of, is_stranger}
 use Rattle.cx_chunks.proofs.StepLaws.{told_piece}
 use Rattle.cx_chunks.proofs.checks.check_own.Goals as goal
 

@@ -1,4 +1,4 @@
-use Rattle.std.proofs.Common.{rules, SFits, w64, to_z, of_z, to_z-of_z, ◌≡◌, ◌∙◌, ◌+◌, ◌<◌, ◌≤◌, ap, sym, subst, pos, arith}
+use Rattle.std.proofs.Common.{rules, SFits, w64, to_z, of_z, to_z-of_z, ◌≡◌, ◌∙◌, ◌+◌, ◌<◌, ◌≤◌, ap, sym, subst, pos}
 use Rattle.std.specs.Prelude.{slice_index_or, slice_set}
 use Rattle.cx_grid.specs.Boxes.{point_count, index_in, point_in}
 use Rattle.cx_chunks.proofs.JoinLaws.{IsPut, one_put, all_put, rest_kept}
