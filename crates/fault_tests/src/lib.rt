@@ -1,5 +1,0 @@
-//! Tests of the faults' messages.
-#![tactic(auto)]
-
-#[cfg(test)]
-mod messages;
