@@ -70,6 +70,19 @@ fn next_cell(rt: &HostRuntime, rows: [[i64; 3]; 3]) -> Result<Option<i64>, Fail>
     number(rt, &step, &w, &at)
 }
 
+#[test]
+fn cells_step_by_their_rules(rt: HostRuntime) -> Result<(), Fail> {
+    for (rule, row, want) in STEPS {
+        let next = next_in_row(&rt, *rule, *row)?;
+        assert_eq!(rt; next, Some(*want), "rule {rule}, row {row:?}");
+    }
+    for (rows, want) in LIVES {
+        let next = next_cell(&rt, *rows)?;
+        assert_eq!(rt; next, Some(*want), "rows {rows:?}");
+    }
+    Ok(())
+}
+
 /// The cell at a point of a sheet that closes round itself.
 fn cell(sheet: &[i64], x: u8, y: u8) -> i64 {
     let place = 8 * (y % 8) + x % 8;
@@ -142,7 +155,17 @@ const GLIDER: [i64; 64] = [
 ];
 
 #[test]
-fn cells_start_by_their_seeds_and_a_glider_moves(rt: HostRuntime) -> Result<(), Fail> {
+fn a_glider_moves_by_one_cell_in_four_steps(rt: HostRuntime) -> Result<(), Fail> {
+    let mut sheet = first_sheet(&rt, 0, 0)?;
+    for _ in 0..4 {
+        sheet = next_sheet(&rt, &sheet)?;
+    }
+    assert_eq!(rt; sheet.as_slice(), GLIDER.as_slice(), "after four steps");
+    Ok(())
+}
+
+#[test]
+fn cells_start_by_their_seeds(rt: HostRuntime) -> Result<(), Fail> {
     for (seed, start, want) in FIRST_ROWS {
         let row = first_row(&rt, *seed, *start)?;
         assert_eq!(rt; row.as_slice(), want.as_slice(), "{seed} {start}");
@@ -151,11 +174,6 @@ fn cells_start_by_their_seeds_and_a_glider_moves(rt: HostRuntime) -> Result<(), 
     let row = sheet.get(..8).unwrap_or(&[]);
     let want = [1, 0, 1, 1, 0, 0, 1, 1];
     assert_eq!(rt; row, want.as_slice(), "a sheet's first row, seed -1");
-    let mut sheet = first_sheet(&rt, 0, 0)?;
-    for _ in 0..4 {
-        sheet = next_sheet(&rt, &sheet)?;
-    }
-    assert_eq!(rt; sheet.as_slice(), GLIDER.as_slice(), "after four steps");
     Ok(())
 }
 
@@ -170,15 +188,7 @@ fn counted(rt: &HostRuntime, value: i64) -> Result<[Option<i64>; 2], Fail> {
 }
 
 #[test]
-fn cells_step_by_their_rules_and_counts_look_at_them(rt: HostRuntime) -> Result<(), Fail> {
-    for (rule, row, want) in STEPS {
-        let next = next_in_row(&rt, *rule, *row)?;
-        assert_eq!(rt; next, Some(*want), "rule {rule}, row {row:?}");
-    }
-    for (rows, want) in LIVES {
-        let next = next_cell(&rt, *rows)?;
-        assert_eq!(rt; next, Some(*want), "rows {rows:?}");
-    }
+fn edges_are_0_and_counts_look_at_cells(rt: HostRuntime) -> Result<(), Fail> {
     let row = unread(&rt, &CaZero::new(rt.alloc())?)?;
     let sheet = unread(&rt, &LifeZero::new(rt.alloc())?)?;
     assert_eq!(rt; (row, sheet), (Some(0), Some(0)), "edges");

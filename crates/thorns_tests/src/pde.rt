@@ -42,6 +42,15 @@ fn starts(rt: &HostRuntime, x: u8, params: [i64; 4]) -> Result<[Option<i64>; 2],
 }
 
 #[test]
+fn fields_start_by_their_patterns(rt: HostRuntime) -> Result<(), Fail> {
+    for (x, params, want) in STARTS {
+        let found = starts(&rt, *x, *params)?;
+        assert_eq!(rt; found, [*want, *want], "point {x}, parameters {params:?}");
+    }
+    Ok(())
+}
+
+#[test]
 fn a_wave_starts_at_two_levels(rt: HostRuntime) -> Result<(), Fail> {
     let alloc = rt.alloc();
     let wave = WaveInit::new(alloc)?;
@@ -155,11 +164,7 @@ fn spun(rt: &HostRuntime, count: i64, drop: i64) -> Result<Option<i64>, Fail> {
 }
 
 #[test]
-fn waves_heat_and_turns_start_and_step_exactly(rt: HostRuntime) -> Result<(), Fail> {
-    for (x, params, want) in STARTS {
-        let found = starts(&rt, *x, *params)?;
-        assert_eq!(rt; found, [*want, *want], "point {x}, parameters {params:?}");
-    }
+fn waves_heat_and_turns_step_exactly(rt: HostRuntime) -> Result<(), Fail> {
     for (row, before, factor, want) in WAVES {
         let found = waved(&rt, *row, *before, *factor)?;
         assert_eq!(rt; found, *want, "wave {row:?} {before}, factor {factor}");

@@ -13,11 +13,16 @@ const PAST: &[(&str, u8, &str)] = &[
 ];
 
 #[test]
-fn past_levels_are_named_and_bins_stand_at_their_numbers(rt: HostRuntime) -> Result<(), Fail> {
+fn past_levels_stand_before_the_bracket_of_a_copy(rt: HostRuntime) -> Result<(), Fail> {
     for (full, level, want) in PAST {
         let text = level_text(rt.alloc(), full.as_bytes(), *level)?;
         assert_eq!(rt; text.as_slice(), want.as_bytes(), "level {level} of {full}");
     }
+    Ok(())
+}
+
+#[test]
+fn bins_stand_at_their_numbers(rt: HostRuntime) {
     for (place, bin) in Bin::ALL.iter().enumerate() {
         let found = (bin.number(), bin.is_run());
         assert_eq!(rt; found, (place, place < 13), "bin {place}");
@@ -29,5 +34,4 @@ fn past_levels_are_named_and_bins_stand_at_their_numbers(rt: HostRuntime) -> Res
     let word: &[u8] = b"everywhere";
     let found = region_text(Region::Everywhere);
     assert_eq!(rt; found, word, "a region");
-    Ok(())
 }

@@ -319,6 +319,17 @@ fn joined(rt: &HostRuntime, grid: Grid, levels: &[&[i64]; 3]) -> Result<Vec<i64>
     Ok(numbers)
 }
 
+#[test]
+fn sweeps_give_what_is_worked_out_by_hand(rt: HostRuntime) -> Result<(), Fail> {
+    for (routine, grid, params, levels, outcome, want) in BY_HAND {
+        let numbers = joined(&rt, *grid, levels)?;
+        let (found, shown) = came(&rt, *routine, *grid, params, &numbers)?;
+        assert_eq!(rt; found, *outcome, "{routine:?} {grid:?} {params:?}");
+        assert_eq!(rt; shown.as_slice(), *want, "{routine:?} {grid:?} {params:?}");
+    }
+    Ok(())
+}
+
 /// Which numbers are drawn.
 #[derive(Clone, Copy, Debug)]
 enum Draw {
@@ -395,14 +406,13 @@ fn came_of(
     Ok(outcome)
 }
 
-/// A routine, a grid, the parameters, which numbers are drawn, and by which seeds; and what comes of it.
-const DRAWN: &[(Swept, Grid, [i64; 4], Draw, &[u64], Outcome)] = &[
+/// A routine, a grid, the parameters, and which numbers are drawn; and what comes of it.
+const DRAWN: &[(Swept, Grid, [i64; 4], Draw, Outcome)] = &[
     (
         CA_INIT,
         Grid::Line(9),
         [5, 0, 0, 0],
         Draw::Cells,
-        &[7],
         Outcome::Agrees,
     ),
     (
@@ -410,7 +420,6 @@ const DRAWN: &[(Swept, Grid, [i64; 4], Draw, &[u64], Outcome)] = &[
         Grid::Ring(6),
         [-1, 3, 0, 0],
         Draw::Cells,
-        &[7],
         Outcome::Agrees,
     ),
     (
@@ -418,7 +427,6 @@ const DRAWN: &[(Swept, Grid, [i64; 4], Draw, &[u64], Outcome)] = &[
         Grid::Line(40),
         [110, 0, 0, 0],
         Draw::Cells,
-        &[7],
         Outcome::Agrees,
     ),
     (
@@ -426,7 +434,6 @@ const DRAWN: &[(Swept, Grid, [i64; 4], Draw, &[u64], Outcome)] = &[
         Grid::Tube(6, 5),
         [30, 0, 0, 0],
         Draw::All,
-        &[7],
         Outcome::Agrees,
     ),
     (
@@ -434,7 +441,6 @@ const DRAWN: &[(Swept, Grid, [i64; 4], Draw, &[u64], Outcome)] = &[
         Grid::Line(5),
         [0, 0, 0, 0],
         Draw::All,
-        &[7],
         Outcome::Agrees,
     ),
     (
@@ -442,7 +448,6 @@ const DRAWN: &[(Swept, Grid, [i64; 4], Draw, &[u64], Outcome)] = &[
         Grid::Sheet(5, 6),
         [0, 0, 0, 0],
         Draw::Cells,
-        &[7],
         Outcome::Agrees,
     ),
     (
@@ -450,7 +455,6 @@ const DRAWN: &[(Swept, Grid, [i64; 4], Draw, &[u64], Outcome)] = &[
         Grid::Tube(4, 5),
         [1, 9, 0, 0],
         Draw::Cells,
-        &[7],
         Outcome::Agrees,
     ),
     (
@@ -458,7 +462,6 @@ const DRAWN: &[(Swept, Grid, [i64; 4], Draw, &[u64], Outcome)] = &[
         Grid::Line(12),
         [12, 8, 0, 0],
         Draw::Cells,
-        &[7],
         Outcome::Agrees,
     ),
     (
@@ -466,7 +469,6 @@ const DRAWN: &[(Swept, Grid, [i64; 4], Draw, &[u64], Outcome)] = &[
         Grid::Sheet(11, 7),
         [12, 8, 0, 0],
         Draw::Cells,
-        &[7],
         Outcome::Agrees,
     ),
     (
@@ -474,7 +476,6 @@ const DRAWN: &[(Swept, Grid, [i64; 4], Draw, &[u64], Outcome)] = &[
         Grid::Tower(6, 4),
         [-29, 77, 0, 0],
         Draw::All,
-        &[7],
         Outcome::Agrees,
     ),
     (
@@ -482,7 +483,6 @@ const DRAWN: &[(Swept, Grid, [i64; 4], Draw, &[u64], Outcome)] = &[
         Grid::Sheet(5, 4),
         [0, 0, 0, 0],
         Draw::Cells,
-        &[7],
         Outcome::Agrees,
     ),
     (
@@ -490,7 +490,6 @@ const DRAWN: &[(Swept, Grid, [i64; 4], Draw, &[u64], Outcome)] = &[
         Grid::Sheet(4, 3),
         [2, 8, 0, 0],
         Draw::Small,
-        &[7],
         Outcome::Agrees,
     ),
     (
@@ -498,7 +497,6 @@ const DRAWN: &[(Swept, Grid, [i64; 4], Draw, &[u64], Outcome)] = &[
         Grid::Sheet(4, 3),
         [2, i64::MIN, 0, 0],
         Draw::Small,
-        &[7],
         Outcome::Overflows,
     ),
     (
@@ -506,7 +504,6 @@ const DRAWN: &[(Swept, Grid, [i64; 4], Draw, &[u64], Outcome)] = &[
         Grid::Line(20),
         [100, 0, 0, 0],
         Draw::Small,
-        &[7],
         Outcome::Agrees,
     ),
     (
@@ -514,7 +511,6 @@ const DRAWN: &[(Swept, Grid, [i64; 4], Draw, &[u64], Outcome)] = &[
         Grid::Sheet(9, 8),
         [64, 0, 0, 0],
         Draw::Rows,
-        &[7],
         Outcome::Agrees,
     ),
     (
@@ -522,7 +518,6 @@ const DRAWN: &[(Swept, Grid, [i64; 4], Draw, &[u64], Outcome)] = &[
         Grid::Tube(8, 7),
         [64, 0, 0, 0],
         Draw::Rows,
-        &[7],
         Outcome::Agrees,
     ),
     (
@@ -530,7 +525,6 @@ const DRAWN: &[(Swept, Grid, [i64; 4], Draw, &[u64], Outcome)] = &[
         Grid::Tower(6, 5),
         [32, 0, 0, 0],
         Draw::Rows,
-        &[7],
         Outcome::Agrees,
     ),
     (
@@ -538,7 +532,6 @@ const DRAWN: &[(Swept, Grid, [i64; 4], Draw, &[u64], Outcome)] = &[
         Grid::Sheet(6, 5),
         [64, 0, 0, 0],
         Draw::All,
-        &[7],
         Outcome::Overflows,
     ),
     (
@@ -546,7 +539,6 @@ const DRAWN: &[(Swept, Grid, [i64; 4], Draw, &[u64], Outcome)] = &[
         Grid::Block(5, 4),
         [0, 0, 0, 0],
         Draw::All,
-        &[7],
         Outcome::Agrees,
     ),
     (
@@ -554,7 +546,6 @@ const DRAWN: &[(Swept, Grid, [i64; 4], Draw, &[u64], Outcome)] = &[
         Grid::Sheet(6, 5),
         [0, 0, 0, 0],
         Draw::All,
-        &[7],
         Outcome::Agrees,
     ),
     (
@@ -562,7 +553,6 @@ const DRAWN: &[(Swept, Grid, [i64; 4], Draw, &[u64], Outcome)] = &[
         Grid::Tube(6, 5),
         [-7, 0, 0, 0],
         Draw::All,
-        &[7],
         Outcome::Agrees,
     ),
     (
@@ -570,7 +560,6 @@ const DRAWN: &[(Swept, Grid, [i64; 4], Draw, &[u64], Outcome)] = &[
         Grid::Block(4, 3),
         [3, 1000, 0, 5],
         Draw::Small,
-        &[7],
         Outcome::Agrees,
     ),
     (
@@ -578,7 +567,6 @@ const DRAWN: &[(Swept, Grid, [i64; 4], Draw, &[u64], Outcome)] = &[
         Grid::Ring(20),
         [-300, 0, 0, 0],
         Draw::Small,
-        &[7],
         Outcome::Agrees,
     ),
     (
@@ -586,7 +574,6 @@ const DRAWN: &[(Swept, Grid, [i64; 4], Draw, &[u64], Outcome)] = &[
         Grid::Sheet(9, 8),
         [64, 0, 0, 0],
         Draw::Rows,
-        &[7],
         Outcome::Agrees,
     ),
     (
@@ -594,7 +581,6 @@ const DRAWN: &[(Swept, Grid, [i64; 4], Draw, &[u64], Outcome)] = &[
         Grid::Tower(6, 5),
         [32, 0, 0, 0],
         Draw::Rows,
-        &[7],
         Outcome::Agrees,
     ),
     (
@@ -602,7 +588,6 @@ const DRAWN: &[(Swept, Grid, [i64; 4], Draw, &[u64], Outcome)] = &[
         Grid::Tube(6, 5),
         [256, 0, 0, 0],
         Draw::All,
-        &[7],
         Outcome::Overflows,
     ),
     (
@@ -610,7 +595,6 @@ const DRAWN: &[(Swept, Grid, [i64; 4], Draw, &[u64], Outcome)] = &[
         Grid::Tower(5, 4),
         [0, 0, 0, 0],
         Draw::All,
-        &[7],
         Outcome::Agrees,
     ),
     (
@@ -618,230 +602,42 @@ const DRAWN: &[(Swept, Grid, [i64; 4], Draw, &[u64], Outcome)] = &[
         Grid::Line(5),
         [MOST, 0, 0, 0],
         Draw::All,
-        &[7],
-        Outcome::Agrees,
-    ),
-    // Steps of cells in zones of some widths, around those of a whole number of machine words.
-    (
-        CA_STEP,
-        Grid::Line(3),
-        [110, 0, 0, 0],
-        Draw::Cells,
-        &[1, 2, 3],
-        Outcome::Agrees,
-    ),
-    (
-        CA_STEP,
-        Grid::Ring(1),
-        [110, 0, 0, 0],
-        Draw::Cells,
-        &[1, 2, 3],
-        Outcome::Agrees,
-    ),
-    (
-        LIFE_STEP,
-        Grid::Sheet(3, 5),
-        [12, 8, 0, 0],
-        Draw::Cells,
-        &[1, 2, 3],
-        Outcome::Agrees,
-    ),
-    (
-        LIFE_STEP,
-        Grid::Sheet(3, 6),
-        [12, 8, 0, 0],
-        Draw::Cells,
-        &[1, 2, 3],
-        Outcome::Agrees,
-    ),
-    (
-        LIFE_STEP,
-        Grid::Tube(1, 5),
-        [12, 8, 0, 0],
-        Draw::Cells,
-        &[1, 2, 3],
-        Outcome::Agrees,
-    ),
-    (
-        CA_STEP,
-        Grid::Line(9),
-        [110, 0, 0, 0],
-        Draw::Cells,
-        &[1, 2, 3],
-        Outcome::Agrees,
-    ),
-    (
-        CA_STEP,
-        Grid::Ring(7),
-        [110, 0, 0, 0],
-        Draw::Cells,
-        &[1, 2, 3],
-        Outcome::Agrees,
-    ),
-    (
-        LIFE_STEP,
-        Grid::Sheet(9, 5),
-        [12, 8, 0, 0],
-        Draw::Cells,
-        &[1, 2, 3],
-        Outcome::Agrees,
-    ),
-    (
-        LIFE_STEP,
-        Grid::Sheet(9, 6),
-        [12, 8, 0, 0],
-        Draw::Cells,
-        &[1, 2, 3],
-        Outcome::Agrees,
-    ),
-    (
-        LIFE_STEP,
-        Grid::Tube(7, 5),
-        [12, 8, 0, 0],
-        Draw::Cells,
-        &[1, 2, 3],
-        Outcome::Agrees,
-    ),
-    (
-        CA_STEP,
-        Grid::Line(10),
-        [110, 0, 0, 0],
-        Draw::Cells,
-        &[1, 2, 3],
-        Outcome::Agrees,
-    ),
-    (
-        CA_STEP,
-        Grid::Ring(8),
-        [110, 0, 0, 0],
-        Draw::Cells,
-        &[1, 2, 3],
-        Outcome::Agrees,
-    ),
-    (
-        LIFE_STEP,
-        Grid::Sheet(10, 5),
-        [12, 8, 0, 0],
-        Draw::Cells,
-        &[1, 2, 3],
-        Outcome::Agrees,
-    ),
-    (
-        LIFE_STEP,
-        Grid::Sheet(10, 6),
-        [12, 8, 0, 0],
-        Draw::Cells,
-        &[1, 2, 3],
-        Outcome::Agrees,
-    ),
-    (
-        LIFE_STEP,
-        Grid::Tube(8, 5),
-        [12, 8, 0, 0],
-        Draw::Cells,
-        &[1, 2, 3],
-        Outcome::Agrees,
-    ),
-    (
-        CA_STEP,
-        Grid::Line(11),
-        [110, 0, 0, 0],
-        Draw::Cells,
-        &[1, 2, 3],
-        Outcome::Agrees,
-    ),
-    (
-        CA_STEP,
-        Grid::Ring(9),
-        [110, 0, 0, 0],
-        Draw::Cells,
-        &[1, 2, 3],
-        Outcome::Agrees,
-    ),
-    (
-        LIFE_STEP,
-        Grid::Sheet(11, 5),
-        [12, 8, 0, 0],
-        Draw::Cells,
-        &[1, 2, 3],
-        Outcome::Agrees,
-    ),
-    (
-        LIFE_STEP,
-        Grid::Sheet(11, 6),
-        [12, 8, 0, 0],
-        Draw::Cells,
-        &[1, 2, 3],
-        Outcome::Agrees,
-    ),
-    (
-        LIFE_STEP,
-        Grid::Tube(9, 5),
-        [12, 8, 0, 0],
-        Draw::Cells,
-        &[1, 2, 3],
-        Outcome::Agrees,
-    ),
-    (
-        CA_STEP,
-        Grid::Line(35),
-        [110, 0, 0, 0],
-        Draw::Cells,
-        &[1, 2, 3],
-        Outcome::Agrees,
-    ),
-    (
-        CA_STEP,
-        Grid::Ring(33),
-        [110, 0, 0, 0],
-        Draw::Cells,
-        &[1, 2, 3],
-        Outcome::Agrees,
-    ),
-    (
-        LIFE_STEP,
-        Grid::Sheet(35, 5),
-        [12, 8, 0, 0],
-        Draw::Cells,
-        &[1, 2, 3],
-        Outcome::Agrees,
-    ),
-    (
-        LIFE_STEP,
-        Grid::Sheet(35, 6),
-        [12, 8, 0, 0],
-        Draw::Cells,
-        &[1, 2, 3],
-        Outcome::Agrees,
-    ),
-    (
-        LIFE_STEP,
-        Grid::Tube(33, 5),
-        [12, 8, 0, 0],
-        Draw::Cells,
-        &[1, 2, 3],
         Outcome::Agrees,
     ),
 ];
 
 #[test]
-fn sweeps_give_what_is_worked_out_by_hand_and_each_point_gives(
-    rt: HostRuntime,
-) -> Result<(), Fail> {
-    for (routine, grid, params, levels, outcome, want) in BY_HAND {
-        let numbers = joined(&rt, *grid, levels)?;
-        let (found, shown) = came(&rt, *routine, *grid, params, &numbers)?;
-        assert_eq!(rt; found, *outcome, "{routine:?} {grid:?} {params:?}");
-        assert_eq!(rt; shown.as_slice(), *want, "{routine:?} {grid:?} {params:?}");
+fn sweeps_give_what_each_point_gives(rt: HostRuntime) -> Result<(), Fail> {
+    for (routine, grid, params, draw, outcome) in DRAWN {
+        let found = came_of(&rt, *routine, *grid, params, *draw, 7)?;
+        assert_eq!(rt; found, *outcome, "{routine:?} {grid:?} {draw:?}");
     }
-    for (routine, grid, params, draw, seeds, outcome) in DRAWN {
-        for seed in *seeds {
-            let found = came_of(&rt, *routine, *grid, params, *draw, *seed)?;
-            assert_eq!(rt;
-                found,
-                *outcome,
-                "{routine:?} {grid:?} {draw:?}, seed {seed}"
-            );
+    Ok(())
+}
+
+/// Widths of zones, around those of a whole number of machine words.
+const WIDTHS: &[u8] = &[1, 7, 8, 9, 33];
+
+/// What comes of a step of cells in grids with zones of a width, for each of these seeds.
+fn stepped(rt: &HostRuntime, width: u8, seed: u64) -> Result<[Outcome; 5], Fail> {
+    let (ca, life) = ([110, 0, 0, 0], [12, 8, 0, 0]);
+    let open = width.saturating_add(2);
+    let at = |routine, grid, params| came_of(rt, routine, grid, params, Draw::Cells, seed);
+    Ok([
+        at(CA_STEP, Grid::Line(open), &ca)?,
+        at(CA_STEP, Grid::Ring(width), &ca)?,
+        at(LIFE_STEP, Grid::Sheet(open, 5), &life)?,
+        at(LIFE_STEP, Grid::Sheet(open, 6), &life)?,
+        at(LIFE_STEP, Grid::Tube(width, 5), &life)?,
+    ])
+}
+
+#[test]
+fn cells_step_alike_at_each_width(rt: HostRuntime) -> Result<(), Fail> {
+    for width in WIDTHS {
+        for seed in 1..4 {
+            let found = stepped(&rt, *width, seed)?;
+            assert_eq!(rt; found, [Outcome::Agrees; 5], "width {width}, seed {seed}");
         }
     }
     Ok(())
