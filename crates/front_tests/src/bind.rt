@@ -1,7 +1,7 @@
 //! Thorns by their files, selected and bound, and the faults of thorns that don't fit each other.
 
-use crate::common::{Files, message, text, thorns};
-use cx_bind::{bind, select};
+use crate::common::{Files, text, thorns};
+use cx_bind::{BindFault, bind, select};
 use cx_conf::read_thornlist;
 use cx_text::{List, Style, Text, tokens};
 use sample_files::{control, diffint, elemca, life2d, waveint};
@@ -131,11 +131,61 @@ fn push(words: &mut Text, text: &Text) -> Result<(), Fail> {
     Ok(())
 }
 
+fn of_two(alloc: Global, name: &[u8], a: &Text, b: &Text) -> Result<Text, Fail> {
+    let mut words = text(alloc, name)?;
+    push(&mut words, a)?;
+    push(&mut words, b)?;
+    Ok(words)
+}
+
+fn of_three(alloc: Global, name: &[u8], a: &Text, b: &Text, c: &Text) -> Result<Text, Fail> {
+    let mut words = of_two(alloc, name, a, b)?;
+    push(&mut words, c)?;
+    Ok(words)
+}
+
+fn of_one(alloc: Global, name: &[u8], a: &Text) -> Result<Text, Fail> {
+    let mut words = text(alloc, name)?;
+    push(&mut words, a)?;
+    Ok(words)
+}
+
+fn words(alloc: Global, fault: &BindFault) -> Result<Text, Fail> {
+    match fault {
+        BindFault::UnknownThorn(a) => of_one(alloc, b"UnknownThorn", a),
+        BindFault::TwoThorns(a) => of_one(alloc, b"TwoThorns", a),
+        BindFault::TwoProviders(a, b, c) => of_three(alloc, b"TwoProviders", a, b, c),
+        BindFault::MissingImplementation(a, b) => of_two(alloc, b"MissingImplementation", a, b),
+        BindFault::MissingCapability(a, b) => of_two(alloc, b"MissingCapability", a, b),
+        BindFault::MissingThorn(a, b) => of_two(alloc, b"MissingThorn", a, b),
+        BindFault::NoParameter(a, b, c) => of_three(alloc, b"NoParameter", a, b, c),
+        BindFault::WrongType(a, b) => of_two(alloc, b"WrongType", a, b),
+        BindFault::TwoVariables(a) => of_one(alloc, b"TwoVariables", a),
+        BindFault::TwoParameters(a) => of_one(alloc, b"TwoParameters", a),
+        BindFault::Unsupported(a, b) => of_two(alloc, b"Unsupported", a, b),
+        BindFault::TwoDims(a, b) => of_two(alloc, b"TwoDims", a, b),
+        BindFault::Limit(a, n) => {
+            let number = text(alloc, n.to_string(alloc)?.as_bytes())?;
+            of_two(alloc, b"Limit", a, &number)
+        }
+        BindFault::Memory => text(alloc, b"Memory"),
+    }
+}
+
 fn bound_words(alloc: Global, all: &[Files]) -> Result<Text, Fail> {
     match bind(alloc, thorns(alloc, all)?) {
         Ok(_) => text(alloc, b""),
-        Err(fault) => message(alloc, &fault),
+        Err(fault) => words(alloc, &fault),
     }
+}
+
+#[test]
+fn thorns_fit_or_have_their_first_fault(rt: HostRuntime) -> Result<(), Fail> {
+    for (place, (all, want)) in BINDINGS.iter().enumerate() {
+        let told = bound_words(rt.alloc(), all)?;
+        assert_eq!(rt; told.as_slice(), want.as_bytes(), "row {place}: {want}");
+    }
+    Ok(())
 }
 
 fn selected(alloc: Global, active: &[&[u8]]) -> Result<Text, Fail> {
@@ -147,7 +197,7 @@ fn selected(alloc: Global, active: &[&[u8]]) -> Result<Text, Fail> {
     }
     let places = match select(alloc, &list, &names) {
         Ok(places) => places,
-        Err(fault) => return message(alloc, &fault),
+        Err(fault) => return words(alloc, &fault),
     };
     let mut all = text(alloc, b"")?;
     for (arrangement, thorn) in places.as_slice() {
@@ -157,23 +207,18 @@ fn selected(alloc: Global, active: &[&[u8]]) -> Result<Text, Fail> {
     Ok(all)
 }
 
-/// Active thorns, and their places or the words of their fault.
-const SELECTIONS: &[(&[&[u8]], &str)] = &[
-    (&[b"PUGH", b"elemca", b"ElemCA"], " Integer ElemCA"),
-    (&[b"ElemCA", b"Xyz", b"Twice"], "UnknownThorn Xyz"),
-    (&[b"twice", b"Xyz"], "TwoThorns twice"),
-    (&[b"driver"], "UnknownThorn driver"),
-];
-
 #[test]
-fn thorns_are_selected_and_fit_or_have_their_first_fault(rt: HostRuntime) -> Result<(), Fail> {
-    for (active, want) in SELECTIONS {
-        let told = selected(rt.alloc(), active)?;
+fn active_thorns_have_one_place_each(rt: HostRuntime) -> Result<(), Fail> {
+    let alloc = rt.alloc();
+    let cases: &[(&[&[u8]], &str)] = &[
+        (&[b"PUGH", b"elemca", b"ElemCA"], " Integer ElemCA"),
+        (&[b"ElemCA", b"Xyz", b"Twice"], "UnknownThorn Xyz"),
+        (&[b"twice", b"Xyz"], "TwoThorns twice"),
+        (&[b"driver"], "UnknownThorn driver"),
+    ];
+    for (active, want) in cases {
+        let told = selected(alloc, active)?;
         assert_eq!(rt; told.as_slice(), want.as_bytes(), "{want}");
-    }
-    for (place, (all, want)) in BINDINGS.iter().enumerate() {
-        let told = bound_words(rt.alloc(), all)?;
-        assert_eq!(rt; told.as_slice(), want.as_bytes(), "row {place}: {want}");
     }
     Ok(())
 }

@@ -1,12 +1,14 @@
-//! A small job whose WHILEs are nested deeper than those of files can be; run_tests has jobs of files.
+//! Small jobs, whose needs were worked out by hand.
 
 ghost use Rattle.std.specs.Prelude.{◌≡◌, ◌∷◌, [], IfOk, codes};
 ghost use Rattle.cx_plan.specs.Whole.{IsWhole};
 ghost use Rattle.cx_plan.specs.declared.tree.Tree.TheVariants as trees;
-ghost use Rattle.front_tests.specs.RegionSamples.{info_of, sample, sample_items, sample_variables, item_of, touch, switch as on, whiles, nothing};
+ghost use Rattle.front_tests.specs.RegionSamples.{info_of, sample, sample_items, sample_variables, item_of, touch, switch as on, wave, whiles, nothing};
 
 use cx_grid::{Point, Shape};
-use cx_plan::{Cuts, Item, ItemKind, Job, Recover, Region, Schedule, Touch, Tree, VarId, VarInfo};
+use cx_plan::{
+    Cuts, Flag, Item, ItemKind, Job, Recover, Region, Schedule, Touch, Tree, VarId, VarInfo,
+};
 use cx_region::{RegionFault, check};
 use cx_text::{Boxed, CType, List, Memory, Text};
 use std::alloc::Global;
@@ -185,6 +187,13 @@ fn both(alloc: Global, first: Tree, second: Tree) -> Result<Tree, Fail>
     Ok(Tree::Seq(trees))
 }
 
+fn if_on(alloc: Global, work: Tree) -> Result<Tree, Fail>
+    ensures { IfOk result (λ tree. tree ≡ trees.If on (codes "EVOL/w") work) }
+{
+    let path = text(alloc, b"EVOL/w")?;
+    Ok(Tree::If(SWITCH, path, Boxed::new(alloc, work)?))
+}
+
 fn while_on(alloc: Global, work: Tree) -> Result<Tree, Fail>
     ensures { IfOk result (λ tree. tree ≡ trees.While on (codes "EVOL/w") work) }
 {
@@ -204,11 +213,28 @@ fn nested(alloc: Global, count: u8, work: Tree) -> Result<Tree, Fail>
     Ok(tree)
 }
 
+/// The exchange of the wave.
+fn sync(alloc: Global) -> Result<Tree, Fail>
+    ensures { IfOk result (λ tree. tree ≡ trees.Sync (wave ∷ []) (codes "EVOL/w")) }
+{
+    let variables = List::new(vec![in alloc; WAVE]?);
+    Ok(Tree::Sync(variables, text(alloc, b"EVOL/w")?))
+}
+
 /// The switch is set, and then this is done.
 fn initial(alloc: Global, work: Tree) -> Result<Tree, Fail>
     ensures { IfOk result (λ tree. tree ≡ trees.Seq (trees.Call 0 ∷ work ∷ [])) }
 {
     both(alloc, Tree::Call(0), work)
+}
+
+/// A step, this, and the boundary.
+fn step(alloc: Global, between: Tree) -> Result<Tree, Fail>
+    ensures { let moved = trees.Seq (trees.Call 2 ∷ between ∷ []) in
+        IfOk result (λ tree. tree ≡ trees.Seq (moved ∷ trees.Call 3 ∷ [])) }
+{
+    let moved = both(alloc, Tree::Call(2), between)?;
+    both(alloc, moved, Tree::Call(3))
 }
 
 /// Whether each item has a shape, and no need is unmet.
@@ -224,6 +250,28 @@ fn is_sound(alloc: Global, initial: Tree, evol: Tree) -> Result<bool, Fail>
 }
 
 #[test]
+fn a_wave_that_is_exchanged_is_sound(rt: HostRuntime) -> Result<(), Fail> {
+    let alloc = rt.alloc();
+    let first = initial(alloc, Tree::Call(1))?;
+    let between = sync(alloc)?;
+    let evol = step(alloc, between)?;
+    let sound = is_sound(alloc, first, evol)?;
+    assert!(rt; sound, "an exchanged wave");
+    Ok(())
+}
+
+#[test]
+fn a_wave_without_exchange_is_not(rt: HostRuntime) -> Result<(), Fail> {
+    let alloc = rt.alloc();
+    let first = initial(alloc, Tree::Call(1))?;
+    let between = nothing(alloc);
+    let evol = step(alloc, between)?;
+    let sound = is_sound(alloc, first, evol)?;
+    assert!(rt; !sound, "no exchange");
+    Ok(())
+}
+
+#[test]
 fn whiles_in_one_another_take_no_time(rt: HostRuntime) -> Result<(), Fail> {
     let alloc = rt.alloc();
     let first = initial(alloc, Tree::Call(1))?;
@@ -231,5 +279,64 @@ fn whiles_in_one_another_take_no_time(rt: HostRuntime) -> Result<(), Fail> {
     let evol = both(alloc, turns, Tree::Call(1))?;
     let sound = is_sound(alloc, first, evol)?;
     assert!(rt; sound, "thirty WHILEs, one in another");
+    Ok(())
+}
+
+/// Whether this need is shown, on a way of these letters.
+fn is_shown(
+    alloc: Global,
+    initial: Tree,
+    evol: Tree,
+    letters: &[u8],
+    level: u8,
+    flag: Flag,
+) -> Result<bool, Fail>
+    requires { IsWhole (sample initial evol) }
+{
+    let job = job(alloc, initial, evol)?;
+    match check(alloc, &job) {
+        Err(
+            RegionFault::Unset {
+                path,
+                level: shown_level,
+                flag: shown_flag,
+                ..
+            },
+        ) => Ok(path.as_slice() == letters && shown_level == level && shown_flag == flag),
+        Err(RegionFault::Memory) => Err(Memory.into()),
+        Ok(()) | Err(RegionFault::Shape(_, _)) => Ok(false),
+    }
+}
+
+#[test]
+fn output_without_the_only_writer_is_shown(rt: HostRuntime) -> Result<(), Fail> {
+    let alloc = rt.alloc();
+    let perhaps = if_on(alloc, Tree::Call(1))?;
+    let first = initial(alloc, perhaps)?;
+    let between = sync(alloc)?;
+    let evol = step(alloc, between)?;
+    let shown = is_shown(alloc, first, evol, b"n", 0, Flag::I)?;
+    assert!(rt; shown, "n, level 0, I");
+    Ok(())
+}
+
+#[test]
+fn a_missing_exchange_is_shown_in_the_second_iteration(rt: HostRuntime) -> Result<(), Fail> {
+    let alloc = rt.alloc();
+    let first = initial(alloc, Tree::Call(1))?;
+    let evol = both(alloc, Tree::Call(2), Tree::Call(4))?;
+    let shown = is_shown(alloc, first, evol, b"ii", 1, Flag::G)?;
+    assert!(rt; shown, "ii, level 1, G");
+    Ok(())
+}
+
+#[test]
+fn a_turn_that_clears_the_boundary_is_shown(rt: HostRuntime) -> Result<(), Fail> {
+    let alloc = rt.alloc();
+    let first = initial(alloc, Tree::Call(1))?;
+    let turns = nested(alloc, 3, Tree::Call(2))?;
+    let evol = both(alloc, Tree::Call(1), turns)?;
+    let shown = is_shown(alloc, first, evol, b"iwwwxxx", 0, Flag::B)?;
+    assert!(rt; shown, "iwwwxxx, level 0, B");
     Ok(())
 }

@@ -1,8 +1,5 @@
 //! The top call over objects in memory and over devices that fail.
 
-ghost use Rattle.std.specs.Prelude.{◌≤◌, ◌<◌, ◌^◌, IsTrue};
-ghost use Rattle.cx_core.specs.Starts.{AreEmpty};
-
 use crate::carriers::wire;
 use crate::cuts::CUTS;
 use crate::faults::{FAULTS, PLAIN, SAMPLE_FAULTS};
@@ -14,8 +11,7 @@ use cx_program::answer;
 use cx_rule::Meter;
 use cx_run::{FolderShelf, MemoryShelf, MemorySink, Shelf, Sink};
 use cx_text::{List, Memory, Text};
-use cx_turns::{SeededTurns, Turns};
-use cx_wire::Wire;
+use cx_turns::SeededTurns;
 use sample_files::{FILES, File};
 use std::alloc::Global;
 use std::fs;
@@ -51,20 +47,6 @@ const PARAMETER_FILES: &[File] = &[
         bytes: BOX,
     },
     File {
-        name: "ring.par",
-        bytes: b"ActiveThorns = \"ElemCA\"\n\
-        driver::global_nx = 10\n\
-        driver::periodic = yes\n\
-        driver::parts_x = 3\n",
-    },
-    File {
-        name: "sheet.par",
-        bytes: b"ActiveThorns = \"Life2D\"\n\
-        driver::global_nx = 4\n\
-        driver::global_ny = 3\n\
-        driver::parts_x = 2\n",
-    },
-    File {
         name: "byte.par",
         bytes: b"a = 1\nb = \x01\n",
     },
@@ -89,8 +71,8 @@ const USAGE: &str = "usage: cactus run FILE [--turns SEED]\n\
         \x20      cactus parts FILE\n\
         \x20      cactus make SEED SIZE\n";
 
-/// What `describe` prints of eight points.
-const DESCRIPTION: &str = "thorn Integer/ElemCA ca\n\
+/// What `describe` prints before the schedule text.
+const KEY_BEGINS: &[u8] = b"thorn Integer/ElemCA ca\n\
         direction x points 8 ghost 1 periodic\n\
         variable 0 ca::cell BYTE GF levels 1\n\
         variable 1 ca::live INT SCALAR levels 1\n\
@@ -118,29 +100,10 @@ const DESCRIPTION: &str = "thorn Integer/ElemCA ca\n\
         parameter IO::checkpoint_ID = \"no\"\n\
         parameter ca::rule = \"90\"\n\
         parameter ca::start = \"3\"\n\
-        parameter ca::seed = \"-1\"\n\
-        bin STARTUP\n\
-        bin WRAGH\n\
-        bin PARAMCHECK\n\
-        bin BASEGRID\n\
-        bin INITIAL\n\
-        \x20 call ElemCA::ca_init writes ca::cell(everywhere)\n\
-        bin POSTINITIAL\n\
-        bin PRESTEP\n\
-        bin EVOL\n\
-        \x20 call ElemCA::ca_step reads ca::cell(everywhere) writes ca::cell(interior) sync ca::cell\n\
-        \x20 call ElemCA::ca_zero writes ca::cell(boundary)\n\
-        bin POSTSTEP\n\
-        \x20 call ElemCA::ca_count reads ca::cell(everywhere) writes ca::live(everywhere)\n\
-        bin CHECKPOINT\n\
-        bin ANALYSIS\n\
-        bin TERMINATE\n\
-        bin SHUTDOWN\n\
-        bin CPINITIAL not run\n\
-        bin RECOVER_PARAMETERS not run\n\
-        bin RECOVER_VARIABLES not run\n\
-        bin POST_RECOVER_VARIABLES not run\n\
-        parameter driver::parts_x = \"1\"\n\
+        parameter ca::seed = \"-1\"\n";
+
+/// What it prints behind it.
+const STARRED_AND_CUT: &[u8] = b"parameter driver::parts_x = \"1\"\n\
         parameter driver::parts_y = \"1\"\n\
         parameter driver::parts_z = \"1\"\n\
         parameter driver::widths_x = \"\"\n\
@@ -361,78 +324,10 @@ const ANSWERS: &[Asked] = &[
         status: 0,
         printed: schedules::CA,
     },
-    Asked {
-        words: &["schedule", "life.par"],
-        status: 0,
-        printed: schedules::LIFE,
-    },
-    Asked {
-        words: &["schedule", "wave.par"],
-        status: 0,
-        printed: schedules::WAVE,
-    },
-    Asked {
-        words: &["schedule", "heat.par"],
-        status: 0,
-        printed: schedules::HEAT,
-    },
-    Asked {
-        words: &["schedule", "control.par"],
-        status: 0,
-        printed: schedules::CONTROL,
-    },
-    Asked {
-        words: &["schedule", "glider.par"],
-        status: 0,
-        printed: schedules::LIFE,
-    },
-    Asked {
-        words: &["schedule", "box.par"],
-        status: 0,
-        printed: schedules::BOX,
-    },
-    Asked {
-        words: &["describe", "ca.par"],
-        status: 0,
-        printed: DESCRIPTION,
-    },
-    Asked {
-        words: &["parts", "ring.par"],
-        status: 0,
-        printed: "part 0 from 0 size 4 low 2 high 1\n\
-        part 1 from 4 size 3 low 0 high 2\n\
-        part 2 from 7 size 3 low 1 high 0\n",
-    },
-    Asked {
-        words: &["parts", "sheet.par"],
-        status: 0,
-        printed: "part 0 from 0 0 size 2 3 low - - high 1 -\n\
-        part 1 from 2 0 size 2 3 low 0 - high - -\n",
-    },
 ];
 
-/// Examples, and the first lines of their descriptions.
-const DESCRIBED: &[(&str, &str)] = &[
-    ("ca.par", "thorn Integer/ElemCA ca\n"),
-    ("life.par", "thorn Integer/Life2D life\n"),
-    ("wave.par", "thorn Integer/WaveInt wave\n"),
-    ("heat.par", "thorn Integer/DiffInt diff\n"),
-    ("control.par", "thorn Integer/Control control\n"),
-    ("glider.par", "thorn Integer/Life2D life\n"),
-    (
-        "box.par",
-        "thorn Integer/WaveInt wave\nthorn Integer/DiffInt diff\n\
-        thorn Integer/ElemCA ca\nthorn Integer/Control control\n",
-    ),
-];
-
-/// Parameter files of one thorn, whose grids have one direction or two.
-const THORNS: &[&str] = &[
-    "ActiveThorns = ElemCA\n",
-    "ActiveThorns = Life2D\n",
-    "ActiveThorns = WaveInt\n",
-    "ActiveThorns = DiffInt\n",
-];
+/// Thorns, each with the grids' directions that it has.
+const THORNS: &[&str] = &["ElemCA", "Life2D", "WaveInt", "DiffInt"];
 
 /// Periodicity and ghost widths; none leaves the routines of reach 1 without ghost points.
 const GRIDS: &[&str] = &[
@@ -444,7 +339,7 @@ const GRIDS: &[&str] = &[
     "driver::ghost_size_x = 3\ndriver::periodic = yes\n",
 ];
 
-fn texts(alloc: Global, words: &[&str]) -> Result<Vec<Text>, Memory> {
+pub(crate) fn texts(alloc: Global, words: &[&str]) -> Result<Vec<Text>, Memory> {
     let mut texts = Vec::new(alloc);
     for word in words {
         texts.push(Text::from_slice(alloc, word.as_bytes())?)?;
@@ -475,35 +370,6 @@ pub(crate) fn sink(alloc: Global, fail: &[u64]) -> Result<MemorySink, Memory> {
     MemorySink::new(alloc, 10_000, List::new(fail.to_vec(alloc)?))
 }
 
-/// The words that run `t.par`.
-pub(crate) const RUN: &[&str] = &["run", "t.par"];
-
-/// The words that check it.
-const CHECK: &[&str] = &["check", "t.par"];
-
-const ACCEPTED: &[u8] = b"accepted\n";
-
-/// The status of a command over these devices, and how many points it computes.
-pub(crate) fn status_of<H: Shelf, D: Disk, W: Wire, T: Turns>(
-    rt: &HostRuntime,
-    words: &[&str],
-    shelf: &mut H,
-    disk: &mut D,
-    wire: &mut W,
-    turns: &mut T,
-    out: &mut MemorySink,
-) -> Result<(u8, u128), Memory>
-    requires parts { 512 ≤ W.parts wire.old }
-    requires empty { AreEmpty (W.queue wire.old) }
-    requires sum { IsTrue W.tells → W.sum wire.old < 2 ^ 64 }
-{
-    let alloc = rt.alloc();
-    let words = texts(alloc, words)?;
-    let mut meter = Meter::new(rt);
-    let status = answer(alloc, &words, shelf, disk, wire, turns, out, &mut meter)?;
-    Ok((status, meter.count()))
-}
-
 /// What a call came to: its status, what is printed, the output file, and how much is computed and exchanged.
 #[derive(Drop)]
 pub(crate) struct Outcome {
@@ -523,15 +389,19 @@ pub(crate) fn answer_over<H: Shelf, D: Disk>(
     disk: &mut D,
 ) -> Result<Outcome, Fail> {
     let alloc = rt.alloc();
+    let words = texts(alloc, words)?;
     let mut wire = wire(alloc)?;
     let mut turns = SeededTurns::new();
     let mut out = sink(alloc, &[])?;
-    let (status, points) = status_of(rt, words, shelf, disk, &mut wire, &mut turns, &mut out)?;
+    let mut meter = Meter::new(rt);
+    let status = answer(
+        alloc, &words, shelf, disk, &mut wire, &mut turns, &mut out, &mut meter,
+    )?;
     Ok(Outcome {
         status,
         printed: out.bytes().to_vec(alloc)?,
         output: Vec::new(alloc),
-        points,
+        points: meter.count(),
         received: wire.received(),
         sum: wire.received_sum(),
     })
@@ -560,7 +430,7 @@ pub(crate) fn answer_to(
     answer_on(rt, words, shelf, &mut disk)
 }
 
-/// A shelf with the parameter file `t.par`, which has more lines after those of a file, and with other files.
+/// A shelf with the parameter file `t.par`, which has more lines behind those of a file, and with other files.
 pub(crate) fn shelf_with(
     alloc: Global,
     file: &[u8],
@@ -578,14 +448,58 @@ pub(crate) fn shelf_with(
 
 #[test]
 fn answers(rt: HostRuntime) -> Result<(), Fail> {
-    let mut shelf = shelf(rt.alloc(), PARAMETER_FILES, FILES)?;
+    let alloc = rt.alloc();
+    let mut shelf = shelf(alloc, PARAMETER_FILES, FILES)?;
     for asked in ANSWERS {
         let came = answer_to(&rt, asked.words, &mut shelf)?;
         let found = (came.status, came.printed.as_slice());
         let want = (asked.status, asked.printed.as_bytes());
         assert_eq!(rt; found, want, "{:?}", asked.words);
     }
-    for (file, thorns) in DESCRIBED {
+    Ok(())
+}
+
+#[test]
+fn description_of_eight_points(rt: HostRuntime) -> Result<(), Fail> {
+    let alloc = rt.alloc();
+    let mut shelf = shelf(alloc, PARAMETER_FILES, FILES)?;
+    let mut expected = Text::from_slice(alloc, KEY_BEGINS)?;
+    expected.push_slice(schedules::CA.as_bytes())?;
+    expected.push_slice(STARRED_AND_CUT)?;
+    let came = answer_to(&rt, &["describe", "ca.par"], &mut shelf)?;
+    let found = (came.status, came.printed.as_slice());
+    assert_eq!(rt; found, (0, expected.as_slice()), "describe ca.par");
+    Ok(())
+}
+
+/// Examples, the schedules that are printed of them, and the first lines of their descriptions.
+const SHOWN: &[(&str, &str, &str)] = &[
+    ("ca.par", schedules::CA, "thorn Integer/ElemCA ca\n"),
+    ("life.par", schedules::LIFE, "thorn Integer/Life2D life\n"),
+    ("wave.par", schedules::WAVE, "thorn Integer/WaveInt wave\n"),
+    ("heat.par", schedules::HEAT, "thorn Integer/DiffInt diff\n"),
+    (
+        "control.par",
+        schedules::CONTROL,
+        "thorn Integer/Control control\n",
+    ),
+    ("glider.par", schedules::LIFE, "thorn Integer/Life2D life\n"),
+    (
+        "box.par",
+        schedules::BOX,
+        "thorn Integer/WaveInt wave\nthorn Integer/DiffInt diff\n\
+        thorn Integer/ElemCA ca\nthorn Integer/Control control\n",
+    ),
+];
+
+#[test]
+fn sample_thorns_are_shown(rt: HostRuntime) -> Result<(), Fail> {
+    let alloc = rt.alloc();
+    let mut shelf = shelf(alloc, PARAMETER_FILES, FILES)?;
+    for (file, schedule, thorns) in SHOWN {
+        let came = answer_to(&rt, &["schedule", file], &mut shelf)?;
+        let found = (came.status, came.printed.as_slice());
+        assert_eq!(rt; found, (0, schedule.as_bytes()), "schedule {file}");
         let came = answer_to(&rt, &["describe", file], &mut shelf)?;
         let found = (came.status, came.printed.starts_with(thorns.as_bytes()));
         assert_eq!(rt; found, (0, true), "describe {file}");
@@ -594,22 +508,56 @@ fn answers(rt: HostRuntime) -> Result<(), Fail> {
 }
 
 #[test]
-fn files_that_are_checked(rt: HostRuntime) -> Result<(), Fail> {
-    let alloc = rt.alloc();
-    for (below, checks) in [(PLAIN, FAULTS), (FILES, SAMPLE_FAULTS), (FILES, CUTS)] {
-        for check in checks {
-            let mut shelf = shelf(alloc, check.files, below)?;
-            let came = answer_to(&rt, CHECK, &mut shelf)?;
-            let want = check.printed.as_bytes();
-            assert_eq!(rt; came.printed.as_slice(), want, "{}", check.name);
-        }
+fn grids_that_are_cut(rt: HostRuntime) -> Result<(), Fail> {
+    for cut in CUTS {
+        let mut shelf = shelf_with(rt.alloc(), cut.file, "", cut.others)?;
+        let came = answer_to(&rt, &[cut.word, "t.par"], &mut shelf)?;
+        assert_eq!(rt; came.printed.as_slice(), cut.printed, "{}", cut.name);
     }
+    Ok(())
+}
+
+/// What `check t.par` prints where these files come before others.
+fn checked(rt: &HostRuntime, files: &[File], more: &[File]) -> Result<Vec<u8>, Fail> {
+    let mut shelf = shelf(rt.alloc(), files, more)?;
+    Ok(answer_to(rt, &["check", "t.par"], &mut shelf)?.printed)
+}
+
+#[test]
+fn faults_of_plain_and_sample_thorns(rt: HostRuntime) -> Result<(), Fail> {
+    for fault in FAULTS {
+        let printed = checked(&rt, fault.files, PLAIN)?;
+        let want = fault.printed;
+        assert_eq!(rt; printed.as_slice(), want.as_bytes(), "{want}");
+    }
+    for fault in SAMPLE_FAULTS {
+        let printed = checked(&rt, fault.files, FILES)?;
+        let want = fault.printed;
+        assert_eq!(rt; printed.as_slice(), want.as_bytes(), "{want}");
+    }
+    Ok(())
+}
+
+const ACCEPTED: &[u8] = b"accepted\n";
+
+/// The first line of a parameter file of one thorn.
+fn activation(alloc: Global, thorn: &str) -> Result<Text, Memory> {
+    let mut text = Text::from_slice(alloc, b"ActiveThorns = ")?;
+    text.push_slice(thorn.as_bytes())?;
+    text.push_slice(b"\n")?;
+    Ok(text)
+}
+
+#[test]
+fn sample_thorns_on_many_grids(rt: HostRuntime) -> Result<(), Fail> {
+    let alloc = rt.alloc();
     for thorn in THORNS {
         for grid in GRIDS {
-            let mut shelf = shelf_with(alloc, thorn.as_bytes(), grid, &[])?;
-            let came = answer_to(&rt, CHECK, &mut shelf)?;
+            let line = activation(alloc, thorn)?;
+            let mut shelf = shelf_with(alloc, line.as_slice(), grid, &[])?;
+            let came = answer_to(&rt, &["check", "t.par"], &mut shelf)?;
             let found = (came.status, came.printed.as_slice());
-            assert_eq!(rt; found, (0, ACCEPTED), "{thorn:?} with {grid:?}");
+            assert_eq!(rt; found, (0, ACCEPTED), "{thorn} with {grid:?}");
         }
     }
     Ok(())
@@ -620,15 +568,12 @@ fn runs_of_jobs(rt: HostRuntime) -> Result<(), Fail> {
     let alloc = rt.alloc();
     for run in RUNS {
         let mut shelf = shelf_with(alloc, run.file, run.more, run.others)?;
-        let came = answer_to(&rt, RUN, &mut shelf)?;
+        let came = answer_to(&rt, &["run", "t.par"], &mut shelf)?;
         let found = (came.status, came.printed.as_slice(), came.output.as_slice());
         let want = (run.status, run.printed, run.output);
         assert_eq!(rt; found, want, "{}", run.name);
-        let exchanged = (came.received, came.sum);
-        let found = (came.points, exchanged);
         let points = run.points.unwrap_or(came.points);
-        let want = (points, run.exchanged.unwrap_or(exchanged));
-        assert_eq!(rt; found, want, "points and values of {}", run.name);
+        assert_eq!(rt; came.points, points, "points of {}", run.name);
     }
     assert_eq!(rt; CA_OUTPUT.len(), 141, "the bytes of the automaton's output");
     Ok(())

@@ -1,15 +1,19 @@
 //! Each call of each device fails once, and what the next call over the same devices comes to.
 
-use crate::calls::{RUN, answer_to, shelf_with, sink, status_of};
-use crate::carriers::failing;
+use crate::calls::{answer_to, shelf_with, sink, texts};
+use crate::carriers::{failing, wire};
 use crate::devices::{failing_disk, failing_shelf};
 use crate::jobs::CA_OUTPUT;
 use crate::samples::CA;
 use crate::stops::{BOX_FILE, BOX_OUTPUT, BOX_THORNS, EACH};
-use cx_disk::{Disk, OLD_OUTPUT};
+use cx_disk::{Disk, MemoryDisk, OLD_OUTPUT};
+use cx_program::answer;
+use cx_rule::Meter;
 use cx_run::{MemorySink, Shelf};
+use cx_text::{List, Text};
 use cx_turns::SeededTurns;
 use sample_files::File;
+use std::alloc::Global;
 use std::test::Fail;
 
 /// A job, with how many calls of the disk, the wire and the shelf its run from nothing makes; the sink is called once.
@@ -82,73 +86,51 @@ struct Twice {
     output: Vec<u8>,
 }
 
-/// A device of a call.
-#[derive(Clone, Copy, Debug)]
-enum Device {
-    Disk,
-    Wire,
-    Shelf,
-    Sink,
+/// Runs `t.par` over these devices and a new wire.
+fn run_anew<H: Shelf, D: Disk>(
+    rt: &HostRuntime,
+    shelf: &mut H,
+    disk: &mut D,
+    out: &mut MemorySink,
+) -> Result<u8, Fail> {
+    let alloc = rt.alloc();
+    let words = texts(alloc, &["run", "t.par"])?;
+    let mut wire = wire(alloc)?;
+    let mut turns = SeededTurns::new();
+    let mut meter = Meter::new(rt);
+    Ok(answer(
+        alloc, &words, shelf, disk, &mut wire, &mut turns, out, &mut meter,
+    )?)
 }
 
-const DEVICES: &[Device] = &[Device::Disk, Device::Wire, Device::Shelf, Device::Sink];
-
-/// A call that no run comes to.
-const NEVER: u64 = u64::MAX;
-
-/// The call of each device that fails.
-#[derive(Drop)]
-struct FailingCalls {
-    disk: u64,
-    wire: u64,
-    shelf: u64,
-    sink: u64,
-}
-
-/// One call of one device.
-fn one_call(device: Device, fail: u64) -> FailingCalls {
-    let mut calls = FailingCalls {
-        disk: NEVER,
-        wire: NEVER,
-        shelf: NEVER,
-        sink: NEVER,
-    };
-    match device {
-        Device::Disk => calls.disk = fail,
-        Device::Wire => calls.wire = fail,
-        Device::Shelf => calls.shelf = fail,
-        Device::Sink => calls.sink = fail,
-    }
-    calls
-}
-
-/// Runs `t.par` over these devices, and a wire of which this call fails.
-fn run_over<H: Shelf, D: Disk>(
+/// Runs it over a wire that fails in one call.
+fn run_cut_off<H: Shelf, D: Disk>(
     rt: &HostRuntime,
     shelf: &mut H,
     disk: &mut D,
     out: &mut MemorySink,
     fail: u64,
 ) -> Result<u8, Fail> {
-    let mut wire = failing(rt.alloc(), fail)?;
+    let alloc = rt.alloc();
+    let words = texts(alloc, &["run", "t.par"])?;
+    let mut wire = failing(alloc, fail)?;
     let mut turns = SeededTurns::new();
-    let (status, _) = status_of(rt, RUN, shelf, disk, &mut wire, &mut turns, out)?;
-    Ok(status)
+    let mut meter = Meter::new(rt);
+    Ok(answer(
+        alloc, &words, shelf, disk, &mut wire, &mut turns, out, &mut meter,
+    )?)
 }
 
-/// Two calls over the same devices, of which one fails in one call, and a new wire for the second.
-fn device_fails(rt: &HostRuntime, device: Device, job: &Job, fail: u64) -> Result<Twice, Fail> {
-    let alloc = rt.alloc();
-    let calls = one_call(device, fail);
-    let files = shelf_with(alloc, job.file, job.more, job.others)?;
-    let mut shelf = failing_shelf(alloc, files, calls.shelf)?;
-    let mut disk = failing_disk(alloc, calls.disk)?;
-    let mut out = sink(alloc, &[calls.sink])?;
-    let first = run_over(rt, &mut shelf, &mut disk, &mut out, calls.wire)?;
-    let said = out.bytes().to_vec(alloc)?;
-    let second = run_over(rt, &mut shelf, &mut disk, &mut out, NEVER)?;
+/// Both calls, by the first one's status and text.
+fn both_calls(
+    alloc: Global,
+    first: u8,
+    said: Vec<u8>,
+    second: u8,
+    out: &MemorySink,
+    disk: &MemoryDisk,
+) -> Result<Twice, Fail> {
     let printed = out.bytes().get(said.len()..).unwrap_or(&[]).to_vec(alloc)?;
-    let disk = disk.into_inner();
     Ok(Twice {
         first,
         said,
@@ -156,6 +138,55 @@ fn device_fails(rt: &HostRuntime, device: Device, job: &Job, fail: u64) -> Resul
         printed,
         output: disk.bytes(OLD_OUTPUT as usize).to_vec(alloc)?,
     })
+}
+
+/// Over a disk that fails in one call.
+fn disk_fails(rt: &HostRuntime, job: &Job, fail: u64) -> Result<Twice, Fail> {
+    let alloc = rt.alloc();
+    let mut shelf = shelf_with(alloc, job.file, job.more, job.others)?;
+    let mut disk = failing_disk(alloc, fail)?;
+    let mut out = sink(alloc, &[])?;
+    let first = run_anew(rt, &mut shelf, &mut disk, &mut out)?;
+    let said = out.bytes().to_vec(alloc)?;
+    let second = run_anew(rt, &mut shelf, &mut disk, &mut out)?;
+    both_calls(alloc, first, said, second, &out, &disk.into_inner())
+}
+
+/// Over a wire that fails in one call, and then a new one.
+fn wire_fails(rt: &HostRuntime, job: &Job, fail: u64) -> Result<Twice, Fail> {
+    let alloc = rt.alloc();
+    let mut shelf = shelf_with(alloc, job.file, job.more, job.others)?;
+    let mut disk = MemoryDisk::new(alloc, List::empty(alloc));
+    let mut out = sink(alloc, &[])?;
+    let first = run_cut_off(rt, &mut shelf, &mut disk, &mut out, fail)?;
+    let said = out.bytes().to_vec(alloc)?;
+    let second = run_anew(rt, &mut shelf, &mut disk, &mut out)?;
+    both_calls(alloc, first, said, second, &out, &disk)
+}
+
+/// Over a shelf that fails in one reading.
+fn shelf_fails(rt: &HostRuntime, job: &Job, fail: u64) -> Result<Twice, Fail> {
+    let alloc = rt.alloc();
+    let files = shelf_with(alloc, job.file, job.more, job.others)?;
+    let mut shelf = failing_shelf(alloc, files, fail)?;
+    let mut disk = MemoryDisk::new(alloc, List::empty(alloc));
+    let mut out = sink(alloc, &[])?;
+    let first = run_anew(rt, &mut shelf, &mut disk, &mut out)?;
+    let said = out.bytes().to_vec(alloc)?;
+    let second = run_anew(rt, &mut shelf, &mut disk, &mut out)?;
+    both_calls(alloc, first, said, second, &out, &disk)
+}
+
+/// Over a sink that fails in one call.
+fn sink_fails(rt: &HostRuntime, job: &Job, fail: u64) -> Result<Twice, Fail> {
+    let alloc = rt.alloc();
+    let mut shelf = shelf_with(alloc, job.file, job.more, job.others)?;
+    let mut disk = MemoryDisk::new(alloc, List::empty(alloc));
+    let mut out = sink(alloc, &[fail])?;
+    let first = run_anew(rt, &mut shelf, &mut disk, &mut out)?;
+    let said = out.bytes().to_vec(alloc)?;
+    let second = run_anew(rt, &mut shelf, &mut disk, &mut out)?;
+    both_calls(alloc, first, said, second, &out, &disk)
 }
 
 /// Whether the first call failed by the device of that text, or in silence, and the second one came to what the job's run comes to.
@@ -182,6 +213,17 @@ const BOX_JOB: &Job = &Job {
     output: BOX_OUTPUT,
 };
 
+/// A device of a call.
+#[derive(Clone, Copy, Debug)]
+enum Device {
+    Disk,
+    Wire,
+    Shelf,
+    Sink,
+}
+
+const DEVICES: &[Device] = &[Device::Disk, Device::Wire, Device::Shelf, Device::Sink];
+
 /// What a first call prints whose device fails.
 fn said(device: Device) -> &'static [u8] {
     match device {
@@ -199,6 +241,16 @@ fn calls_of(device: Device, job: &Job) -> u64 {
         Device::Wire => job.wire,
         Device::Shelf => job.shelf,
         Device::Sink => 1,
+    }
+}
+
+/// Over devices of which one fails in one call.
+fn device_fails(rt: &HostRuntime, device: Device, job: &Job, fail: u64) -> Result<Twice, Fail> {
+    match device {
+        Device::Disk => disk_fails(rt, job, fail),
+        Device::Wire => wire_fails(rt, job, fail),
+        Device::Shelf => shelf_fails(rt, job, fail),
+        Device::Sink => sink_fails(rt, job, fail),
     }
 }
 
@@ -240,7 +292,7 @@ fn shelf_that_is_given_back(rt: HostRuntime) -> Result<(), Fail> {
     let alloc = rt.alloc();
     let files = shelf_with(alloc, CA, EACH, &[])?;
     let mut within = failing_shelf(alloc, files, 0)?.into_inner();
-    let came = answer_to(&rt, RUN, &mut within)?;
+    let came = answer_to(&rt, &["run", "t.par"], &mut within)?;
     assert_eq!(rt; came.status, 0, "the shelf within");
     Ok(())
 }

@@ -1,9 +1,8 @@
-//! Files that are checked, and what is printed of them.
+//! Files that make no job, and why.
 use sample_files::File;
 
 /// Files that stand in place of others or beside them, and what `check t.par` prints of them.
-pub struct Check {
-    pub name: &'static str,
+pub struct Fault {
     pub files: &'static [File],
     pub printed: &'static str,
 }
@@ -45,14 +44,12 @@ pub const PLAIN: &[File] = &[
 ];
 
 /// What stands in place of the plain files or beside them, and what `check t.par` prints.
-pub const FAULTS: &[Check] = &[
-    Check {
-        name: "two thorns that do nothing",
+pub const FAULTS: &[Fault] = &[
+    Fault {
         files: &[],
         printed: "accepted\n",
     },
-    Check {
-        name: "a thorn's file that is missing",
+    Fault {
         files: &[
             File {
                 name: "ThornList",
@@ -65,32 +62,28 @@ pub const FAULTS: &[Check] = &[
         ],
         printed: "refused: NoFile arrangements/A/V/interface.ccl\n",
     },
-    Check {
-        name: "a byte of no text",
+    Fault {
         files: &[File {
             name: "arrangements/A/T/interface.ccl",
             bytes: b"implements: t\n\x01\n",
         }],
         printed: "refused: arrangements/A/T/interface.ccl BadByte 2\n",
     },
-    Check {
-        name: "a quote that stays open",
+    Fault {
         files: &[File {
             name: "arrangements/A/T/interface.ccl",
             bytes: b"implements: t\npublic:\nINT g\n\"open\n",
         }],
         printed: "refused: arrangements/A/T/interface.ccl OpenQuote 4\n",
     },
-    Check {
-        name: "a schedule that breaks off",
+    Fault {
         files: &[File {
             name: "arrangements/A/T/schedule.ccl",
             bytes: b"schedule x",
         }],
         printed: "refused: arrangements/A/T/schedule.ccl Unexpected 1\n",
     },
-    Check {
-        name: "an attribute twice",
+    Fault {
         files: &[File {
             name: "arrangements/A/T/interface.ccl",
             bytes: b"implements: t\n\
@@ -99,16 +92,14 @@ pub const FAULTS: &[Check] = &[
         }],
         printed: "refused: arrangements/A/T/interface.ccl Repeated 3\n",
     },
-    Check {
-        name: "four directions",
+    Fault {
         files: &[File {
             name: "arrangements/A/T/interface.ccl",
             bytes: b"implements: t\nINT g DIM=4\n",
         }],
         printed: "refused: arrangements/A/T/interface.ccl BadNumber 2\n",
     },
-    Check {
-        name: "a name of 65 letters",
+    Fault {
         files: &[File {
             name: "arrangements/A/T/interface.ccl",
             bytes: b"implements: t\n\
@@ -120,64 +111,56 @@ pub const FAULTS: &[Check] = &[
         }],
         printed: "refused: arrangements/A/T/interface.ccl Limit 5\n",
     },
-    Check {
-        name: "a thorn that isn't listed",
+    Fault {
         files: &[File {
             name: "t.par",
             bytes: b"ActiveThorns = \"T Xyz\"\n",
         }],
         printed: "refused: UnknownThorn Xyz\n",
     },
-    Check {
-        name: "a thorn that is listed twice",
+    Fault {
         files: &[File {
             name: "ThornList",
             bytes: b"A/T\nB/T\nA/U\n",
         }],
         printed: "refused: TwoThorns T\n",
     },
-    Check {
-        name: "an implementation of two thorns",
+    Fault {
         files: &[File {
             name: "arrangements/A/U/interface.ccl",
             bytes: b"implements: t\n",
         }],
         printed: "refused: TwoProviders t T U\n",
     },
-    Check {
-        name: "an ancestor that isn't active",
+    Fault {
         files: &[File {
             name: "arrangements/A/T/interface.ccl",
             bytes: b"implements: t\ninherits: none\n",
         }],
         printed: "refused: MissingImplementation T none\n",
     },
-    Check {
-        name: "a capability that isn't provided",
+    Fault {
         files: &[File {
             name: "arrangements/A/T/configuration.ccl",
             bytes: b"REQUIRES Fast\n",
         }],
         printed: "refused: MissingCapability T Fast\n",
     },
-    Check {
-        name: "a thorn that isn't active",
+    Fault {
         files: &[File {
             name: "arrangements/A/T/configuration.ccl",
             bytes: b"REQUIRES THORNS: V\n",
         }],
         printed: "refused: MissingThorn T V\n",
     },
-    Check {
-        name: "a shared parameter that isn't there",
+    Fault {
         files: &[File {
             name: "arrangements/A/T/param.ccl",
             bytes: b"shares: u\nUSES INT p\n",
         }],
         printed: "refused: NoParameter T u p\n",
     },
-    Check {
-        name: "a shared parameter of another type",
+    Fault {
         files: &[
             File {
                 name: "arrangements/A/U/param.ccl",
@@ -190,32 +173,28 @@ pub const FAULTS: &[Check] = &[
         ],
         printed: "refused: WrongType T p\n",
     },
-    Check {
-        name: "a variable of two groups",
+    Fault {
         files: &[File {
             name: "arrangements/A/T/interface.ccl",
             bytes: b"implements: t\npublic:\nINT a { v }\nINT b { v }\n",
         }],
         printed: "refused: TwoVariables t::v\n",
     },
-    Check {
-        name: "a parameter that is declared twice",
+    Fault {
         files: &[File {
             name: "arrangements/A/T/param.ccl",
             bytes: b"INT p { 0:* } 0\nINT p { 0:* } 0\n",
         }],
         printed: "refused: TwoParameters T::p\n",
     },
-    Check {
-        name: "a type that no run serves",
+    Fault {
         files: &[File {
             name: "arrangements/A/T/interface.ccl",
             bytes: b"implements: t\nCCTK_REAL r\n",
         }],
         printed: "refused: Unsupported T r\n",
     },
-    Check {
-        name: "groups of one and of two directions",
+    Fault {
         files: &[File {
             name: "arrangements/A/T/interface.ccl",
             bytes: b"implements: t\n\
@@ -225,32 +204,28 @@ pub const FAULTS: &[Check] = &[
         }],
         printed: "refused: TwoDims t::a t::b\n",
     },
-    Check {
-        name: "320 variables",
+    Fault {
         files: &[File {
             name: "arrangements/A/T/interface.ccl",
             bytes: b"implements: t\npublic:\nINT g[64] { a b c d e }\n",
         }],
         printed: "refused: Limit variables 320\n",
     },
-    Check {
-        name: "a default out of range",
+    Fault {
         files: &[File {
             name: "arrangements/A/T/param.ccl",
             bytes: b"INT p { 0:10 } 11\n",
         }],
         printed: "refused: BadDefault T::p\n",
     },
-    Check {
-        name: "a setting of no parameter",
+    Fault {
         files: &[File {
             name: "t.par",
             bytes: b"ActiveThorns = \"T U\"\nt::q = 1\n",
         }],
         printed: "refused: UnknownParam 2\n",
     },
-    Check {
-        name: "an array's setting without an index",
+    Fault {
         files: &[
             File {
                 name: "arrangements/A/T/param.ccl",
@@ -263,24 +238,21 @@ pub const FAULTS: &[Check] = &[
         ],
         printed: "refused: Index 2\n",
     },
-    Check {
-        name: "a setting that is no number",
+    Fault {
         files: &[File {
             name: "t.par",
             bytes: b"ActiveThorns = \"T U\"\ndriver::global_nx = x\n",
         }],
         printed: "refused: BadSpelling 2\n",
     },
-    Check {
-        name: "a setting out of range",
+    Fault {
         files: &[File {
             name: "t.par",
             bytes: b"ActiveThorns = \"T U\"\ndriver::global_nx = 0\n",
         }],
         printed: "refused: OutOfRange 2\n",
     },
-    Check {
-        name: "a setting twice",
+    Fault {
         files: &[File {
             name: "t.par",
             bytes: b"ActiveThorns = \"T U\"\n\
@@ -289,16 +261,14 @@ pub const FAULTS: &[Check] = &[
         }],
         printed: "refused: Twice 3\n",
     },
-    Check {
-        name: "an IF of an unknown name",
+    Fault {
         files: &[File {
             name: "arrangements/A/T/schedule.ccl",
             bytes: b"if (x) { }\n",
         }],
         printed: "refused: T UnknownName x\n",
     },
-    Check {
-        name: "a sum with a text",
+    Fault {
         files: &[
             File {
                 name: "arrangements/A/T/param.ccl",
@@ -311,8 +281,7 @@ pub const FAULTS: &[Check] = &[
         ],
         printed: "refused: T NotNumber k\n",
     },
-    Check {
-        name: "a number compared as a text",
+    Fault {
         files: &[
             File {
                 name: "arrangements/A/T/param.ccl",
@@ -325,40 +294,35 @@ pub const FAULTS: &[Check] = &[
         ],
         printed: "refused: T NotText n\n",
     },
-    Check {
-        name: "a division by 0",
+    Fault {
         files: &[File {
             name: "arrangements/A/T/schedule.ccl",
             bytes: b"if (7 / 0) { }\n",
         }],
         printed: "refused: T Range /\n",
     },
-    Check {
-        name: "a bin that isn't there",
+    Fault {
         files: &[File {
             name: "arrangements/A/T/schedule.ccl",
             bytes: b"schedule a AT NOON { }\n",
         }],
         printed: "refused: UnknownBin NOON\n",
     },
-    Check {
-        name: "an entry twice",
+    Fault {
         files: &[File {
             name: "arrangements/A/T/schedule.ccl",
             bytes: b"schedule a AT EVOL { }\nschedule a AT EVOL { }\n",
         }],
         printed: "refused: TwoNames EVOL/a\n",
     },
-    Check {
-        name: "two groups in one another",
+    Fault {
         files: &[File {
             name: "arrangements/A/T/schedule.ccl",
             bytes: b"schedule GROUP P IN Q { }\nschedule GROUP Q IN P { }\n",
         }],
         printed: "refused: GroupCycle P,Q\n",
     },
-    Check {
-        name: "three entries, each before the next",
+    Fault {
         files: &[File {
             name: "arrangements/A/T/schedule.ccl",
             bytes: b"schedule A AT EVOL BEFORE B { }\n\
@@ -367,16 +331,14 @@ pub const FAULTS: &[Check] = &[
         }],
         printed: "refused: Cycle A,B,C\n",
     },
-    Check {
-        name: "storage of an unknown group",
+    Fault {
         files: &[File {
             name: "arrangements/A/T/schedule.ccl",
             bytes: b"STORAGE: g\n",
         }],
         printed: "refused: T NotFound g\n",
     },
-    Check {
-        name: "a private variable of another thorn",
+    Fault {
         files: &[
             File {
                 name: "arrangements/A/U/interface.ccl",
@@ -389,8 +351,7 @@ pub const FAULTS: &[Check] = &[
         ],
         printed: "refused: EVOL/a Hidden w\n",
     },
-    Check {
-        name: "a variable without storage",
+    Fault {
         files: &[
             File {
                 name: "arrangements/A/T/interface.ccl",
@@ -406,8 +367,7 @@ pub const FAULTS: &[Check] = &[
         ],
         printed: "refused: EVOL/a NoStorage v\n",
     },
-    Check {
-        name: "a level without storage",
+    Fault {
         files: &[
             File {
                 name: "arrangements/A/T/interface.ccl",
@@ -423,8 +383,7 @@ pub const FAULTS: &[Check] = &[
         ],
         printed: "refused: EVOL/a NoLevel v_p\n",
     },
-    Check {
-        name: "an IF of a grid function",
+    Fault {
         files: &[
             File {
                 name: "arrangements/A/T/interface.ccl",
@@ -440,8 +399,7 @@ pub const FAULTS: &[Check] = &[
         ],
         printed: "refused: EVOL/a NotScalar v\n",
     },
-    Check {
-        name: "a SYNC of a scalar",
+    Fault {
         files: &[
             File {
                 name: "arrangements/A/T/interface.ccl",
@@ -457,8 +415,7 @@ pub const FAULTS: &[Check] = &[
         ],
         printed: "refused: EVOL/a NotGrid s\n",
     },
-    Check {
-        name: "an entry in 31 groups",
+    Fault {
         files: &[File {
             name: "arrangements/A/T/schedule.ccl",
             bytes: b"schedule GROUP g0 AT EVOL { }\n\
@@ -496,16 +453,14 @@ pub const FAULTS: &[Check] = &[
         }],
         printed: "refused: Limit depth 33\n",
     },
-    Check {
-        name: "an output variable that isn't there",
+    Fault {
         files: &[File {
             name: "t.par",
             bytes: b"ActiveThorns = \"T U\"\nIO::out_vars = \"t::none\"\n",
         }],
         printed: "refused: output NotFound t::none\n",
     },
-    Check {
-        name: "a routine that isn't there",
+    Fault {
         files: &[File {
             name: "arrangements/A/T/schedule.ccl",
             bytes: b"schedule a AT EVOL { }\n",
@@ -514,21 +469,9 @@ pub const FAULTS: &[Check] = &[
     },
 ];
 
-/// A wave that sees the count of turns.
-const COUNTED_WAVE: &[u8] = b"implements: wave\n\
-    inherits: control\n\
-    public:\n\
-    CCTK_INT evolved TYPE=GF DIM=1 TIMELEVELS=3 { phi } \"field\"\n\
-    CCTK_INT sums TYPE=SCALAR { total } \"sum\"\n";
-
-/// A count that is set and never taken down.
-const SET_ALONE: &[u8] = b"STORAGE: counter[1]\n\
-    schedule control_set AT INITIAL { LANG: C WRITES: control::count } \"set\"\n";
-
 /// What stands in place of the sample thorns' files or beside them, and what `check t.par` prints.
-pub const SAMPLE_FAULTS: &[Check] = &[
-    Check {
-        name: "a routine that reads another region",
+pub const SAMPLE_FAULTS: &[Fault] = &[
+    Fault {
         files: &[
             File {
                 name: "arrangements/Integer/ElemCA/schedule.ccl",
@@ -556,8 +499,7 @@ pub const SAMPLE_FAULTS: &[Check] = &[
         ],
         printed: "refused: RoutineMismatch EVOL/ca_step (reads ca::cell(interior) writes ca::cell(interior)) (reads ca::cell(everywhere) writes ca::cell(interior))\n",
     },
-    Check {
-        name: "2 times 16,777,216 points",
+    Fault {
         files: &[File {
             name: "t.par",
             bytes: b"ActiveThorns = \"Life2D\"\n\
@@ -566,8 +508,7 @@ pub const SAMPLE_FAULTS: &[Check] = &[
         }],
         printed: "refused: Limit points 33554432\n",
     },
-    Check {
-        name: "levels of 16,777,216 points",
+    Fault {
         files: &[File {
             name: "t.par",
             bytes: b"ActiveThorns = \"WaveInt DiffInt ElemCA\"\n\
@@ -575,16 +516,14 @@ pub const SAMPLE_FAULTS: &[Check] = &[
         }],
         printed: "refused: Limit owned cells 83886080\n",
     },
-    Check {
-        name: "a step without ghost points",
+    Fault {
         files: &[File {
             name: "t.par",
             bytes: b"ActiveThorns = \"DiffInt\"\ndriver::ghost_size = 0\n",
         }],
         printed: "refused: Shape EVOL/diff_step diff::u\n",
     },
-    Check {
-        name: "a wave that isn't exchanged",
+    Fault {
         files: &[
             File {
                 name: "arrangements/Integer/WaveInt/schedule.ccl",
@@ -612,8 +551,7 @@ pub const SAMPLE_FAULTS: &[Check] = &[
         ],
         printed: "refused: Unset i EVOL/wave_flat wave::phi 0 G\n",
     },
-    Check {
-        name: "a wave that starts on one level",
+    Fault {
         files: &[
             File {
                 name: "arrangements/Integer/WaveInt/schedule.ccl",
@@ -642,8 +580,7 @@ pub const SAMPLE_FAULTS: &[Check] = &[
         ],
         printed: "refused: Unset i EVOL/wave_step wave::phi 2 I\n",
     },
-    Check {
-        name: "a wave without a boundary",
+    Fault {
         files: &[
             File {
                 name: "arrangements/Integer/WaveInt/schedule.ccl",
@@ -670,12 +607,16 @@ pub const SAMPLE_FAULTS: &[Check] = &[
         ],
         printed: "refused: Unset ii EVOL/wave_step wave::phi 1 B\n",
     },
-    Check {
-        name: "a wave whose only start is after an IF",
+    // A wave whose only start is after an IF, and the same without the IF.
+    Fault {
         files: &[
             File {
                 name: "arrangements/Integer/WaveInt/interface.ccl",
-                bytes: COUNTED_WAVE,
+                bytes: b"implements: wave\n\
+                inherits: control\n\
+                public:\n\
+                CCTK_INT evolved TYPE=GF DIM=1 TIMELEVELS=3 { phi } \"field\"\n\
+                CCTK_INT sums TYPE=SCALAR { total } \"sum\"\n",
             },
             File {
                 name: "arrangements/Integer/WaveInt/schedule.ccl",
@@ -704,12 +645,15 @@ pub const SAMPLE_FAULTS: &[Check] = &[
         ],
         printed: "refused: Unset nix EVOL/wave_step wave::phi 1 I\n",
     },
-    Check {
-        name: "the same without the IF",
+    Fault {
         files: &[
             File {
                 name: "arrangements/Integer/WaveInt/interface.ccl",
-                bytes: COUNTED_WAVE,
+                bytes: b"implements: wave\n\
+                inherits: control\n\
+                public:\n\
+                CCTK_INT evolved TYPE=GF DIM=1 TIMELEVELS=3 { phi } \"field\"\n\
+                CCTK_INT sums TYPE=SCALAR { total } \"sum\"\n",
             },
             File {
                 name: "t.par",
@@ -717,138 +661,5 @@ pub const SAMPLE_FAULTS: &[Check] = &[
             },
         ],
         printed: "accepted\n",
-    },
-    // Each turn sets the interior alone; after them the wave starts anew.
-    Check {
-        name: "fifteen WHILEs in one another, as many as fit",
-        files: &[
-            File {
-                name: "arrangements/Integer/WaveInt/interface.ccl",
-                bytes: COUNTED_WAVE,
-            },
-            File {
-                name: "arrangements/Integer/Control/schedule.ccl",
-                bytes: SET_ALONE,
-            },
-            File {
-                name: "arrangements/Integer/WaveInt/schedule.ccl",
-                bytes: b"STORAGE: evolved[3] sums[1]\n\
-                schedule wave_init AT INITIAL { LANG: C WRITES: wave::phi(everywhere) wave::phi_p(everywhere) } \"start\"\n\
-                schedule GROUP g0 AT EVOL WHILE control::count { }\n\
-                schedule GROUP g1 IN g0 WHILE control::count { }\n\
-                schedule GROUP g2 IN g1 WHILE control::count { }\n\
-                schedule GROUP g3 IN g2 WHILE control::count { }\n\
-                schedule GROUP g4 IN g3 WHILE control::count { }\n\
-                schedule GROUP g5 IN g4 WHILE control::count { }\n\
-                schedule GROUP g6 IN g5 WHILE control::count { }\n\
-                schedule GROUP g7 IN g6 WHILE control::count { }\n\
-                schedule GROUP g8 IN g7 WHILE control::count { }\n\
-                schedule GROUP g9 IN g8 WHILE control::count { }\n\
-                schedule GROUP g10 IN g9 WHILE control::count { }\n\
-                schedule GROUP g11 IN g10 WHILE control::count { }\n\
-                schedule GROUP g12 IN g11 WHILE control::count { }\n\
-                schedule GROUP g13 IN g12 WHILE control::count { }\n\
-                schedule GROUP g14 IN g13 WHILE control::count { }\n\
-                schedule wave_step IN g14\n\
-                {\n\
-                \x20 LANG: C\n\
-                \x20 READS: wave::phi_p(everywhere) wave::phi_p_p(interior)\n\
-                \x20 WRITES: wave::phi(interior)\n\
-                } \"one step\"\n\
-                schedule wave_init AT EVOL AFTER g0 { LANG: C WRITES: wave::phi(everywhere) wave::phi_p(everywhere) } \"anew\"\n",
-            },
-            File {
-                name: "t.par",
-                bytes: b"ActiveThorns = \"Control WaveInt\"\n",
-            },
-        ],
-        printed: "accepted\n",
-    },
-    Check {
-        name: "output whose only writer is after an IF",
-        files: &[
-            File {
-                name: "arrangements/Integer/WaveInt/interface.ccl",
-                bytes: COUNTED_WAVE,
-            },
-            File {
-                name: "arrangements/Integer/Control/schedule.ccl",
-                bytes: SET_ALONE,
-            },
-            File {
-                name: "arrangements/Integer/WaveInt/schedule.ccl",
-                bytes: b"STORAGE: evolved[3] sums[1]\n\
-                schedule wave_init AT INITIAL IF control::count { LANG: C WRITES: wave::phi(everywhere) wave::phi_p(everywhere) } \"start\"\n\
-                schedule wave_step AT EVOL\n\
-                {\n\
-                \x20 LANG: C\n\
-                \x20 SYNC: evolved\n\
-                \x20 READS: wave::phi_p(everywhere) wave::phi_p_p(interior)\n\
-                \x20 WRITES: wave::phi(interior)\n\
-                } \"one step\"\n\
-                schedule wave_flat AT EVOL AFTER wave_step\n\
-                { LANG: C READS: wave::phi(interior) WRITES: wave::phi(boundary) } \"flat edge\"\n",
-            },
-            File {
-                name: "t.par",
-                bytes: b"ActiveThorns = \"Control WaveInt\"\nIO::out_vars = \"wave::phi\"\n",
-            },
-        ],
-        printed: "refused: Unset n output wave::phi 0 I\n",
-    },
-    Check {
-        name: "an exchange that the second iteration lacks",
-        files: &[
-            File {
-                name: "arrangements/Integer/WaveInt/schedule.ccl",
-                bytes: b"STORAGE: evolved[3] sums[1]\n\
-                schedule wave_init AT INITIAL { LANG: C WRITES: wave::phi(everywhere) wave::phi_p(everywhere) } \"start\"\n\
-                schedule wave_step AT EVOL\n\
-                {\n\
-                \x20 LANG: C\n\
-                \x20 READS: wave::phi_p(everywhere) wave::phi_p_p(interior)\n\
-                \x20 WRITES: wave::phi(interior)\n\
-                } \"one step\"\n\
-                schedule wave_scalar AT EVOL AFTER wave_step { LANG: C WRITES: wave::phi(boundary) } \"edge\"\n",
-            },
-            File {
-                name: "t.par",
-                bytes: b"ActiveThorns = \"WaveInt\"\n",
-            },
-        ],
-        printed: "refused: Unset ii EVOL/wave_step wave::phi 1 G\n",
-    },
-    Check {
-        name: "output after three turns that leave no boundary",
-        files: &[
-            File {
-                name: "arrangements/Integer/WaveInt/interface.ccl",
-                bytes: COUNTED_WAVE,
-            },
-            File {
-                name: "arrangements/Integer/Control/schedule.ccl",
-                bytes: SET_ALONE,
-            },
-            File {
-                name: "arrangements/Integer/WaveInt/schedule.ccl",
-                bytes: b"STORAGE: evolved[3] sums[1]\n\
-                schedule wave_init AT INITIAL { LANG: C WRITES: wave::phi(everywhere) wave::phi_p(everywhere) } \"start\"\n\
-                schedule wave_init AT EVOL { LANG: C WRITES: wave::phi(everywhere) wave::phi_p(everywhere) } \"anew\"\n\
-                schedule GROUP g0 AT EVOL AFTER wave_init WHILE control::count { }\n\
-                schedule GROUP g1 IN g0 WHILE control::count { }\n\
-                schedule GROUP g2 IN g1 WHILE control::count { }\n\
-                schedule wave_step IN g2\n\
-                {\n\
-                \x20 LANG: C\n\
-                \x20 READS: wave::phi_p(everywhere) wave::phi_p_p(interior)\n\
-                \x20 WRITES: wave::phi(interior)\n\
-                } \"one step\"\n",
-            },
-            File {
-                name: "t.par",
-                bytes: b"ActiveThorns = \"Control WaveInt\"\nIO::out_vars = \"wave::phi\"\n",
-            },
-        ],
-        printed: "refused: Unset iwwwxxx output wave::phi 0 B\n",
     },
 ];

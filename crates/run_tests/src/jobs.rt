@@ -15,8 +15,6 @@ pub struct Run {
     pub output: &'static [u8],
     /// How many points the parts compute, where the run is done.
     pub points: Option<u128>,
-    /// How many values the parts exchange, and their sum.
-    pub exchanged: Option<(u64, u64)>,
 }
 
 /// The settings of `CA` in another order, in other spellings that mean the same, with comments and ignored lines.
@@ -145,7 +143,6 @@ pub const RUNS: &[Run] = &[
         printed: b"done: iteration 2\n",
         output: CA_OUTPUT,
         points: Some(26),
-        exchanged: None,
     },
     Run {
         name: "cells by settings in another order",
@@ -156,18 +153,6 @@ pub const RUNS: &[Run] = &[
         printed: b"done: iteration 2\n",
         output: CA_OUTPUT,
         points: Some(26),
-        exchanged: None,
-    },
-    Run {
-        name: "cells in one part",
-        file: CA,
-        more: "driver::parts_x = 1\n",
-        others: &[],
-        status: 0,
-        printed: b"done: iteration 2\n",
-        output: CA_OUTPUT,
-        points: Some(26),
-        exchanged: Some((4, 0)),
     },
     Run {
         name: "cells in two parts",
@@ -178,7 +163,6 @@ pub const RUNS: &[Run] = &[
         printed: b"done: iteration 2\n",
         output: CA_OUTPUT,
         points: Some(28),
-        exchanged: Some((8, 1)),
     },
     Run {
         name: "cells in eight parts",
@@ -189,7 +173,6 @@ pub const RUNS: &[Run] = &[
         printed: b"done: iteration 2\n",
         output: CA_OUTPUT,
         points: Some(40),
-        exchanged: Some((32, 8)),
     },
     Run {
         name: "cells in parts of 3 and 5",
@@ -200,19 +183,6 @@ pub const RUNS: &[Run] = &[
         printed: b"done: iteration 2\n",
         output: CA_OUTPUT,
         points: Some(28),
-        exchanged: Some((8, 1)),
-    },
-    Run {
-        name: "cells in two parts that lead",
-        file: CA,
-        more: "driver::parts_x = 2\n\
-            driver::lead = 64\n",
-        others: &[],
-        status: 0,
-        printed: b"done: iteration 2\n",
-        output: CA_OUTPUT,
-        points: Some(28),
-        exchanged: Some((8, 1)),
     },
     Run {
         name: "the first row of cells",
@@ -225,7 +195,6 @@ pub const RUNS: &[Run] = &[
             0 0 0 1 0 0 0 0\n\
             \n",
         points: Some(10),
-        exchanged: None,
     },
     // The other examples.
     Run {
@@ -237,7 +206,6 @@ pub const RUNS: &[Run] = &[
         printed: b"done: iteration 4\n",
         output: LIFE_OUTPUT,
         points: Some(356),
-        exchanged: None,
     },
     Run {
         name: "a glider in six parts",
@@ -249,7 +217,6 @@ pub const RUNS: &[Run] = &[
         printed: b"done: iteration 4\n",
         output: LIFE_OUTPUT,
         points: Some(424),
-        exchanged: None,
     },
     Run {
         name: "a glider that goes around",
@@ -304,7 +271,6 @@ pub const RUNS: &[Run] = &[
             \n\
             # life::live iteration 48 value 5\n",
         points: Some(7108),
-        exchanged: None,
     },
     Run {
         name: "a wave",
@@ -320,7 +286,6 @@ pub const RUNS: &[Run] = &[
             0 8 -8 8 0 0\n\
             \n",
         points: Some(14),
-        exchanged: None,
     },
     Run {
         name: "heat",
@@ -374,7 +339,6 @@ pub const RUNS: &[Run] = &[
             \n\
             # diff::total iteration 10 value 968\n",
         points: Some(176),
-        exchanged: None,
     },
     Run {
         name: "a count of turns",
@@ -386,7 +350,6 @@ pub const RUNS: &[Run] = &[
         output: b"# control::count iteration 0 value 5\n\
             # control::count iteration 1 value 0\n",
         points: Some(6),
-        exchanged: None,
     },
     Run {
         name: "a box of four thorns",
@@ -408,7 +371,6 @@ pub const RUNS: &[Run] = &[
             \n\
             # wave::total iteration 40 value 200\n",
         points: Some(4944),
-        exchanged: None,
     },
     // A sum that leaves 64 bits, and one whose parts alone do.
     Run {
@@ -427,7 +389,6 @@ pub const RUNS: &[Run] = &[
         printed: b"ended: Overflow 0 ANALYSIS/wave_sum\n",
         output: b"",
         points: None,
-        exchanged: None,
     },
     Run {
         name: "a sum whose parts alone leave 64 bits",
@@ -468,7 +429,6 @@ pub const RUNS: &[Run] = &[
             \n\
             # wave::total iteration 0 value 9223372036854775807\n",
         points: Some(7),
-        exchanged: None,
     },
     // Numbers that leave 16 bits, and 64 bits.
     Run {
@@ -514,7 +474,6 @@ pub const RUNS: &[Run] = &[
             9000 -12600 14100 -12600 9000 -5000 2100 -600 100 0 0 0 100 -600 2100 -5000\n\
             \n",
         points: None,
-        exchanged: None,
     },
     Run {
         name: "a wave that leaves 64 bits",
@@ -540,7 +499,6 @@ pub const RUNS: &[Run] = &[
             5000000000000000000 -5000000000000000000 5000000000000000000 -5000000000000000000 5000000000000000000 0\n\
             \n",
         points: None,
-        exchanged: None,
     },
     Run {
         name: "heat that leaves 64 bits",
@@ -560,7 +518,6 @@ pub const RUNS: &[Run] = &[
             0 1000000 0 0\n\
             \n",
         points: None,
-        exchanged: None,
     },
     // A WHILE past its limit, and one that just keeps it.
     Run {
@@ -576,7 +533,6 @@ pub const RUNS: &[Run] = &[
         printed: b"ended: WhileLimit 1 EVOL/control_spin\n",
         output: b"# control::count iteration 0 value 3\n",
         points: None,
-        exchanged: None,
     },
     Run {
         name: "a WHILE that just keeps its limit",
@@ -593,7 +549,6 @@ pub const RUNS: &[Run] = &[
             # control::count iteration 1 value 0\n\
             # control::count iteration 2 value 0\n",
         points: Some(6),
-        exchanged: None,
     },
     // An IF whose scalar is 0, and one whose scalar becomes 0 in the first iteration.
     Run {
@@ -628,7 +583,6 @@ pub const RUNS: &[Run] = &[
             0 0 8 0 0 0\n\
             \n",
         points: Some(9),
-        exchanged: None,
     },
     Run {
         name: "an IF whose scalar becomes 0",
@@ -665,7 +619,6 @@ pub const RUNS: &[Run] = &[
             \n\
             # control::count iteration 2 value 0\n",
         points: Some(17),
-        exchanged: None,
     },
     // Three directions, of which one is periodic.
     Run {
@@ -714,7 +667,6 @@ pub const RUNS: &[Run] = &[
             184 184 797 797\n\
             \n",
         points: Some(176),
-        exchanged: None,
     },
     // A scalar alone, and nothing.
     Run {
@@ -735,7 +687,6 @@ pub const RUNS: &[Run] = &[
             # life::live iteration 2 value 35\n\
             # life::live iteration 3 value 35\n",
         points: Some(576),
-        exchanged: None,
     },
     Run {
         name: "no output, every 0",
@@ -746,7 +697,6 @@ pub const RUNS: &[Run] = &[
         printed: b"done: iteration 2\n",
         output: b"",
         points: Some(26),
-        exchanged: None,
     },
     Run {
         name: "no output, every -1",
@@ -757,7 +707,6 @@ pub const RUNS: &[Run] = &[
         printed: b"done: iteration 2\n",
         output: b"",
         points: Some(26),
-        exchanged: None,
     },
     Run {
         name: "no output variables",
@@ -772,7 +721,6 @@ pub const RUNS: &[Run] = &[
         printed: b"done: iteration 2\n",
         output: b"",
         points: Some(26),
-        exchanged: None,
     },
     // Checkpoints that are never due.
     Run {
@@ -785,6 +733,5 @@ pub const RUNS: &[Run] = &[
         printed: b"done: iteration 2\n",
         output: CA_OUTPUT,
         points: Some(26),
-        exchanged: None,
     },
 ];

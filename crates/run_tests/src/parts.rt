@@ -1,8 +1,53 @@
 //! Runs in parts: the same bytes for every cut, every lead and every order of turns.
 
-use crate::calls::{Outcome, RUN, answer_to, shelf_with};
+use crate::calls::{Outcome, answer_to, shelf_with};
+use crate::jobs::CA_OUTPUT;
+use crate::samples::CA;
+use cx_run::MemoryShelf;
 use sample_files::File;
 use std::test::Fail;
+
+/// How a run is cut and how far its parts may lead; how many points are computed, how many values are exchanged, and their sum.
+struct Work {
+    more: &'static str,
+    points: u128,
+    received: u64,
+    sum: u64,
+}
+
+/// The automaton of eight points over three iterations.
+const WORKS: &[Work] = &[
+    Work {
+        more: "driver::parts_x = 1\n",
+        points: 26,
+        received: 4,
+        sum: 0,
+    },
+    Work {
+        more: "driver::parts_x = 2\n",
+        points: 28,
+        received: 8,
+        sum: 1,
+    },
+    Work {
+        more: "driver::parts_x = 8\n",
+        points: 40,
+        received: 32,
+        sum: 8,
+    },
+    Work {
+        more: "driver::widths_x = \"3 5\"\n",
+        points: 28,
+        received: 8,
+        sum: 1,
+    },
+    Work {
+        more: "driver::parts_x = 2\ndriver::lead = 64\n",
+        points: 28,
+        received: 8,
+        sum: 1,
+    },
+];
 
 /// Seeds of turns, as words.
 const SEEDS: &[&str] = &[
@@ -18,18 +63,13 @@ const SEEDS: &[&str] = &[
     "--turns=18446744073709551615",
 ];
 
-/// A job, and lines that cut its grid or let its parts lead; and what comes of it. Where no output is told, it is that of one part.
-struct Job {
+/// A job of each sample thorn, and cuts of its grid into 2, 3, 7 and 16 parts.
+struct Thorn {
     name: &'static str,
     file: &'static [u8],
-    others: &'static [File],
     cuts: &'static [&'static str],
-    status: u8,
-    printed: &'static [u8],
-    output: Option<&'static [u8]>,
 }
 
-/// Cuts of a line into 2, 3, 7 and 16 parts.
 const LINES: &[&str] = &[
     "driver::parts_x = 2\n",
     "driver::parts_x = 3\ndriver::lead = 1\n",
@@ -37,12 +77,71 @@ const LINES: &[&str] = &[
     "driver::parts_x = 16\n",
 ];
 
-/// Cuts of a sheet into as many.
 const SHEETS: &[&str] = &[
     "driver::parts_y = 2\n",
     "driver::parts_x = 3\ndriver::lead = 3\n",
     "driver::widths_x = \"1 1 2 1 1 1 1\"\n",
     "driver::parts_x = 4\ndriver::parts_y = 4\ndriver::lead = 1\n",
+];
+
+const THORN_JOBS: &[Thorn] = &[
+    Thorn {
+        name: "ElemCA",
+        file: b"ActiveThorns = \"ElemCA\"\n\
+            Cactus::cctk_itlast = 3\n\
+            driver::global_nx = 16\n\
+            ca::rule = 110\n\
+            ca::seed = 5\n\
+            IO::out_vars = \"ca::cell ca::live\"\n",
+        cuts: LINES,
+    },
+    Thorn {
+        name: "Life2D",
+        file: b"ActiveThorns = \"Life2D\"\n\
+            Cactus::cctk_itlast = 2\n\
+            driver::global_nx = 8\n\
+            driver::global_ny = 5\n\
+            driver::periodic = yes\n\
+            life::pattern = \"random\"\n\
+            life::seed = 3\n\
+            IO::out_vars = \"life::cell life::live\"\n",
+        cuts: SHEETS,
+    },
+    Thorn {
+        name: "WaveInt",
+        file: b"ActiveThorns = \"WaveInt\"\n\
+            Cactus::cctk_itlast = 3\n\
+            driver::global_nx = 16\n\
+            wave::pattern = \"random\"\n\
+            wave::amount = 1000\n\
+            wave::seed = 2\n\
+            wave::sum = yes\n\
+            IO::out_vars = \"wave::phi wave::total\"\n",
+        cuts: LINES,
+    },
+    Thorn {
+        name: "DiffInt",
+        file: b"ActiveThorns = \"DiffInt\"\n\
+            Cactus::cctk_itlast = 3\n\
+            driver::global_nx = 16\n\
+            driver::periodic = yes\n\
+            diff::pattern = \"random\"\n\
+            diff::amount = 1000\n\
+            diff::seed = 4\n\
+            diff::sum = yes\n\
+            IO::out_vars = \"diff::u diff::total\"\n",
+        cuts: LINES,
+    },
+    Thorn {
+        name: "Control",
+        file: b"ActiveThorns = \"Control\"\n\
+            Cactus::cctk_itlast = 1\n\
+            driver::global_nx = 16\n\
+            control::turns = 6\n\
+            control::drop = 2\n\
+            IO::out_vars = \"control::count\"\n",
+        cuts: LINES,
+    },
 ];
 
 /// Numbers that leave 16 bits in iteration 7, in four parts.
@@ -90,126 +189,71 @@ pub(crate) const LEFT: &[u8] = b"# diff::u iteration 0 size 16\n\
 
 const LEADS: &[&str] = &["", "driver::lead = 1\n", "driver::lead = 8\n"];
 
-/// A job of each sample thorn, and one that overflows wherever other parts stand.
-const JOBS: &[Job] = &[
-    Job {
-        name: "ElemCA",
-        file: b"ActiveThorns = \"ElemCA\"\n\
-            Cactus::cctk_itlast = 3\n\
-            driver::global_nx = 16\n\
-            ca::rule = 110\n\
-            ca::seed = 5\n\
-            IO::out_vars = \"ca::cell ca::live\"\n",
-        others: &[],
-        cuts: LINES,
-        status: 0,
-        printed: b"done: iteration 3\n",
-        output: None,
-    },
-    Job {
-        name: "Life2D",
-        file: b"ActiveThorns = \"Life2D\"\n\
-            Cactus::cctk_itlast = 2\n\
-            driver::global_nx = 8\n\
-            driver::global_ny = 5\n\
-            driver::periodic = yes\n\
-            life::pattern = \"random\"\n\
-            life::seed = 3\n\
-            IO::out_vars = \"life::cell life::live\"\n",
-        others: &[],
-        cuts: SHEETS,
-        status: 0,
-        printed: b"done: iteration 2\n",
-        output: None,
-    },
-    Job {
-        name: "WaveInt",
-        file: b"ActiveThorns = \"WaveInt\"\n\
-            Cactus::cctk_itlast = 3\n\
-            driver::global_nx = 16\n\
-            wave::pattern = \"random\"\n\
-            wave::amount = 1000\n\
-            wave::seed = 2\n\
-            wave::sum = yes\n\
-            IO::out_vars = \"wave::phi wave::total\"\n",
-        others: &[],
-        cuts: LINES,
-        status: 0,
-        printed: b"done: iteration 3\n",
-        output: None,
-    },
-    Job {
-        name: "DiffInt",
-        file: b"ActiveThorns = \"DiffInt\"\n\
-            Cactus::cctk_itlast = 3\n\
-            driver::global_nx = 16\n\
-            driver::periodic = yes\n\
-            diff::pattern = \"random\"\n\
-            diff::amount = 1000\n\
-            diff::seed = 4\n\
-            diff::sum = yes\n\
-            IO::out_vars = \"diff::u diff::total\"\n",
-        others: &[],
-        cuts: LINES,
-        status: 0,
-        printed: b"done: iteration 3\n",
-        output: None,
-    },
-    Job {
-        name: "Control",
-        file: b"ActiveThorns = \"Control\"\n\
-            Cactus::cctk_itlast = 1\n\
-            driver::global_nx = 16\n\
-            control::turns = 6\n\
-            control::drop = 2\n\
-            IO::out_vars = \"control::count\"\n",
-        others: &[],
-        cuts: LINES,
-        status: 0,
-        printed: b"done: iteration 1\n",
-        output: None,
-    },
-    Job {
-        name: "overflow",
-        file: LEAVES,
-        others: SHORT_FIELD,
-        cuts: LEADS,
-        status: 3,
-        printed: b"ended: Overflow 7 EVOL/diff_step\n",
-        output: Some(LEFT),
-    },
-];
+/// What a run of `t.par` comes to with turns from a seed.
+fn run_with(rt: &HostRuntime, shelf: &mut MemoryShelf, seed: &str) -> Result<Outcome, Fail> {
+    answer_to(rt, &["run", "t.par", seed], shelf)
+}
+
+#[test]
+fn work_of_the_automaton(rt: HostRuntime) -> Result<(), Fail> {
+    for work in WORKS {
+        let mut shelf = shelf_with(rt.alloc(), CA, work.more, &[])?;
+        let came = answer_to(&rt, &["run", "t.par"], &mut shelf)?;
+        assert_eq!(rt; came.output.as_slice(), CA_OUTPUT, "{:?}", work.more);
+        let found = (came.points, came.received, came.sum);
+        let want = (work.points, work.received, work.sum);
+        assert_eq!(rt; found, want, "{:?}", work.more);
+    }
+    Ok(())
+}
 
 /// What a job's runs come to, of which each takes its turns from another seed.
-fn runs_by_seeds(rt: &HostRuntime, job: &Job, more: &str) -> Result<Vec<Outcome>, Fail> {
-    let mut shelf = shelf_with(rt.alloc(), job.file, more, job.others)?;
+fn runs_by_seeds(
+    rt: &HostRuntime,
+    file: &[u8],
+    more: &str,
+    others: &[File],
+) -> Result<Vec<Outcome>, Fail> {
+    let mut shelf = shelf_with(rt.alloc(), file, more, others)?;
     let mut runs = Vec::new(rt.alloc());
     for seed in SEEDS {
-        runs.push(answer_to(rt, &["run", "t.par", seed], &mut shelf)?)?;
+        runs.push(run_with(rt, &mut shelf, seed)?)?;
     }
     Ok(runs)
 }
 
-/// What a job's run without more lines comes to.
-fn one_run(rt: &HostRuntime, job: &Job) -> Result<Outcome, Fail> {
-    let mut shelf = shelf_with(rt.alloc(), job.file, "", job.others)?;
-    answer_to(rt, RUN, &mut shelf)
+/// What a job's run in one part comes to.
+fn whole_run(rt: &HostRuntime, thorn: &Thorn) -> Result<Outcome, Fail> {
+    let mut shelf = shelf_with(rt.alloc(), thorn.file, "", &[])?;
+    answer_to(rt, &["run", "t.par"], &mut shelf)
 }
 
 #[test]
-fn jobs_in_parts(rt: HostRuntime) -> Result<(), Fail> {
-    for job in JOBS {
-        let one = one_run(&rt, job)?;
-        let output = job.output.unwrap_or(one.output.as_slice());
-        let want = (job.status, job.printed, output);
-        let found = (one.status, one.printed.as_slice(), one.output.as_slice());
-        assert_eq!(rt; found, want, "{}", job.name);
-        for cut in job.cuts {
-            let runs = runs_by_seeds(&rt, job, cut)?;
+fn sample_thorns_in_parts(rt: HostRuntime) -> Result<(), Fail> {
+    for thorn in THORN_JOBS {
+        let name = thorn.name;
+        let one = whole_run(&rt, thorn)?;
+        assert_eq!(rt; one.status, 0, "{name} in one part");
+        for cut in thorn.cuts {
+            let runs = runs_by_seeds(&rt, thorn.file, cut, &[])?;
             for (k, came) in runs.iter().enumerate() {
-                let found = (came.status, came.printed.as_slice(), came.output.as_slice());
-                assert_eq!(rt; found, want, "{} {cut:?}, turns {k}", job.name);
+                let found = (came.status, came.output.as_slice());
+                let want = (0, one.output.as_slice());
+                assert_eq!(rt; found, want, "{name} {cut:?}, turns {k}");
             }
+        }
+    }
+    Ok(())
+}
+
+#[test]
+fn overflow_wherever_other_parts_stand(rt: HostRuntime) -> Result<(), Fail> {
+    let ended = b"ended: Overflow 7 EVOL/diff_step\n".as_slice();
+    for lead in LEADS {
+        let runs = runs_by_seeds(&rt, LEAVES, lead, SHORT_FIELD)?;
+        for (k, came) in runs.iter().enumerate() {
+            let found = (came.status, came.printed.as_slice(), came.output.as_slice());
+            assert_eq!(rt; found, (3, ended, LEFT), "{lead:?}, turns {k}");
         }
     }
     Ok(())

@@ -1,11 +1,11 @@
 //! Checkpoints: runs that stop anywhere and are started again, and starts that are refused.
 
-use crate::calls::{Outcome, RUN, answer_on, answer_over, answer_to, shelf_with};
+use crate::calls::{Outcome, answer_on, answer_over, answer_to, shelf_with};
 use crate::jobs::CA_OUTPUT;
 use crate::parts::{LEFT, SHORT_FIELD};
 use crate::samples::CA;
 use cx_disk::{FuseDisk, MemoryDisk, OLD_OUTPUT};
-use cx_text::{List, Memory, Text};
+use cx_text::{List, Text};
 use sample_files::File;
 use std::alloc::Global;
 use std::test::Fail;
@@ -77,6 +77,8 @@ pub(crate) const BOX_OUTPUT: &[u8] = b"# wave::phi iteration 0 size 40\n\
     5 5 5 5 5 5 5 5 5 5 5 5 5 5 5 5 5 5 5 5 5 5 5 5 5 5 5 5 5 5 5 5 5 5 5 5 5 5 5 5\n\
     \n\
     # wave::total iteration 40 value 200\n";
+
+const RUN: &[&str] = &["run", "t.par"];
 
 /// What a run of a job over a disk comes to.
 fn run_on(
@@ -233,239 +235,65 @@ fn starts_from_the_box(rt: HostRuntime) -> Result<(), Fail> {
     Ok(())
 }
 
-/// A checkpoint in each second iteration.
-const SECOND: &str = "IO::checkpoint_every = 2\nIO::recover = \"autoprobe\"\n";
-
-/// Runs of a job that stop, one after another, and one that goes on after them.
-struct Again {
-    file: &'static [u8],
-    /// More lines of the runs that stop, and of the one that goes on.
-    stopping: &'static str,
-    going_on: &'static str,
-    /// How many calls the runs that stop make, and which image of the disk a crash leaves.
-    first: u64,
-    second: u64,
-    choice: u64,
-    /// The statuses of the runs that stop.
-    statuses: (u8, u8),
-    /// What the one that goes on computes, receives and leaves.
-    points: u128,
-    received: u64,
-    output: &'static [u8],
+#[test]
+fn start_from_nothing(rt: HostRuntime) -> Result<(), Fail> {
+    let alloc = rt.alloc();
+    let mut shelf = shelf_with(alloc, CA, "IO::recover = \"auto\"\n", &[])?;
+    let refused = answer_to(&rt, RUN, &mut shelf)?;
+    let found = (refused.status, refused.printed.as_slice(), refused.points);
+    let want = b"recovery: NoCheckpoint\n".as_slice();
+    assert_eq!(rt; found, (6, want, 0), "auto");
+    let mut shelf = shelf_with(alloc, CA, "IO::recover = \"autoprobe\"\n", &[])?;
+    let came = answer_to(&rt, RUN, &mut shelf)?;
+    let found = (came.status, came.output.as_slice());
+    assert_eq!(rt; found, (0, CA_OUTPUT), "autoprobe");
+    Ok(())
 }
 
-// The calls of the box's first run are: the mount, 8 looks at slots, 8 syncs of slots, a cut and a sync of the output (19); two pieces
-// (21); the first checkpoint, with the output's sync, 2 looks, a cut, a sync, a write of 0, a sync, the body and the gate with their syncs
-// (32); two pieces (34); the second one, with the output's sync, 5 looks, a cut, a sync, a write of 0 and a sync (44); and its body.
-// Those of the second run are: the mount, 10 looks at slots, or one more where the body is left; 2 at the newest, one at the output, and 8
-// syncs of slots; and the output's cut.
-// The automaton's first run has one piece in each iteration, and its checkpoint before the third one: 19 calls, two pieces (21), the output's
-// sync, 2 looks, a cut, a sync, a write of 0 and a sync (28), the body and a sync (30), the gate and a sync (32), the third piece and the
-// output's sync (34).
-const AGAIN: &[Again] = &[
-    Again {
-        file: BOX_REST,
-        stopping: "driver::parts_x = 3\nwave::amount = 5\nIO::recover = \"autoprobe\"\n",
-        going_on: "driver::parts_x = 4\nwave::amount = 5\nIO::recover = \"autoprobe\"\n",
-        first: 44,
-        second: 22,
-        choice: 0,
-        statuses: (4, 4),
-        points: 2400,
-        received: 360,
-        output: BOX_OUTPUT,
-    },
-    Again {
-        file: BOX_REST,
-        stopping: "driver::parts_x = 3\nwave::amount = 5\nIO::recover = \"autoprobe\"\n",
-        going_on: "driver::parts_x = 4\nwave::amount = 5\nIO::recover = \"autoprobe\"\n",
-        first: 44,
-        second: 23,
-        choice: 1,
-        statuses: (4, 4),
-        points: 2400,
-        received: 360,
-        output: BOX_OUTPUT,
-    },
-    Again {
-        file: BOX_REST,
-        stopping: "driver::parts_x = 3\nwave::amount = 5\nIO::recover = \"autoprobe\"\ndriver::lead = 3\n",
-        going_on: "driver::parts_x = 4\nwave::amount = 5\nIO::recover = \"autoprobe\"\ndriver::lead = 3\n",
-        first: 44,
-        second: 22,
-        choice: 0,
-        statuses: (4, 4),
-        points: 2400,
-        received: 360,
-        output: BOX_OUTPUT,
-    },
-    Again {
-        file: BOX_REST,
-        stopping: "driver::parts_x = 3\nwave::amount = 5\nIO::recover = \"autoprobe\"\ndriver::lead = 3\n",
-        going_on: "driver::parts_x = 4\nwave::amount = 5\nIO::recover = \"autoprobe\"\ndriver::lead = 3\n",
-        first: 44,
-        second: 23,
-        choice: 1,
-        statuses: (4, 4),
-        points: 2400,
-        received: 360,
-        output: BOX_OUTPUT,
-    },
-    Again {
-        file: CA,
-        stopping: SECOND,
-        going_on: SECOND,
-        first: 18,
-        second: 0,
-        choice: 0,
-        statuses: (4, 4),
-        points: 26,
-        received: 4,
-        output: CA_OUTPUT,
-    },
-    Again {
-        file: CA,
-        stopping: SECOND,
-        going_on: SECOND,
-        first: 21,
-        second: 0,
-        choice: 1,
-        statuses: (4, 4),
-        points: 26,
-        received: 4,
-        output: CA_OUTPUT,
-    },
-    Again {
-        file: CA,
-        stopping: SECOND,
-        going_on: SECOND,
-        first: 28,
-        second: 0,
-        choice: 0,
-        statuses: (4, 4),
-        points: 26,
-        received: 4,
-        output: CA_OUTPUT,
-    },
-    Again {
-        file: CA,
-        stopping: SECOND,
-        going_on: SECOND,
-        first: 28,
-        second: 0,
-        choice: 1,
-        statuses: (4, 4),
-        points: 26,
-        received: 4,
-        output: CA_OUTPUT,
-    },
-    Again {
-        file: CA,
-        stopping: SECOND,
-        going_on: SECOND,
-        first: 30,
-        second: 0,
-        choice: 0,
-        statuses: (4, 4),
-        points: 26,
-        received: 4,
-        output: CA_OUTPUT,
-    },
-    Again {
-        file: CA,
-        stopping: SECOND,
-        going_on: SECOND,
-        first: 30,
-        second: 0,
-        choice: 1,
-        statuses: (4, 4),
-        points: 0,
-        received: 0,
-        output: CA_OUTPUT,
-    },
-    Again {
-        file: CA,
-        stopping: SECOND,
-        going_on: SECOND,
-        first: 32,
-        second: 0,
-        choice: 0,
-        statuses: (4, 4),
-        points: 0,
-        received: 0,
-        output: CA_OUTPUT,
-    },
-    Again {
-        file: CA,
-        stopping: SECOND,
-        going_on: SECOND,
-        first: 34,
-        second: 0,
-        choice: 0,
-        statuses: (0, 4),
-        points: 0,
-        received: 0,
-        output: CA_OUTPUT,
-    },
-    Again {
-        file: CA,
-        stopping: SECOND,
-        going_on: AUTO,
-        first: 34,
-        second: 22,
-        choice: 0,
-        statuses: (0, 4),
-        points: 0,
-        received: 0,
-        output: CA_OUTPUT,
-    },
-    Again {
-        file: CA,
-        stopping: SECOND,
-        going_on: AUTO,
-        first: 34,
-        second: 22,
-        choice: 1,
-        statuses: (0, 4),
-        points: 0,
-        received: 0,
-        output: CA_OUTPUT,
-    },
-    Again {
-        file: CA,
-        stopping: SECOND,
-        going_on: AUTO,
-        first: 34,
-        second: 22,
-        choice: 2,
-        statuses: (0, 4),
-        points: 0,
-        received: 0,
-        output: CA_OUTPUT,
-    },
+/// The box in three parts and in four, at leads 0 and 3.
+const BOX_LEADS: &[(&str, &str)] = &[
+    (
+        "driver::parts_x = 3\nwave::amount = 5\nIO::recover = \"autoprobe\"\n",
+        "driver::parts_x = 4\nwave::amount = 5\nIO::recover = \"autoprobe\"\n",
+    ),
+    (
+        "driver::parts_x = 3\nwave::amount = 5\nIO::recover = \"autoprobe\"\ndriver::lead = 3\n",
+        "driver::parts_x = 4\nwave::amount = 5\nIO::recover = \"autoprobe\"\ndriver::lead = 3\n",
+    ),
 ];
 
-/// What the run that goes on comes to, with the statuses of those that stop before it.
-fn gone_on(rt: &HostRuntime, again: &Again) -> Result<((u8, u8), Outcome), Fail> {
-    let (file, more, choice) = (again.file, again.stopping, again.choice);
+// The calls of the first run are: the mount, 8 looks at slots, 8 syncs of slots, a cut and a sync of the output (19); two pieces (21); the
+// first checkpoint, with the output's sync, 2 looks, a cut, a sync, a write of 0, a sync, the body and the gate with their syncs (32); two
+// pieces (34); the second one, with the output's sync, 5 looks, a cut, a sync, a write of 0 and a sync (44); and its body.
+const WITHIN_BODY: u64 = 44;
+
+// Those of the second run are: the mount, 10 looks at slots, or one more where the body is left; 2 at the newest, one at the output, and 8
+// syncs of slots; and the output's cut.
+const STOPS: &[(u64, u64)] = &[(0, 22), (1, 23)];
+
+/// A run of the box that goes on behind two that have stopped, by a choice of what a crash leaves and the calls of the second run.
+fn third_run(rt: &HostRuntime, three: &str, four: &str, stop: (u64, u64)) -> Result<Outcome, Fail> {
+    let (choice, calls) = stop;
     let disk = empty_disk(rt.alloc());
-    let (first, disk) = run_stopped(rt, file, more, disk, again.first, choice)?;
-    let (second, mut disk) = run_stopped(rt, file, more, disk, again.second, choice)?;
-    let came = run_on(rt, file, again.going_on, &[], &mut disk)?;
-    Ok(((first, second), came))
+    let (first, disk) = run_stopped(rt, BOX_REST, three, disk, WITHIN_BODY, choice)?;
+    let (second, mut disk) = run_stopped(rt, BOX_REST, three, disk, calls, choice)?;
+    let mut came = run_on(rt, BOX_REST, four, &[], &mut disk)?;
+    if first != 4 || second != 4 {
+        came.status = 100;
+    }
+    Ok(came)
 }
 
 #[test]
-fn runs_that_go_on(rt: HostRuntime) -> Result<(), Fail> {
-    for again in AGAIN {
-        let calls = (again.first, again.second, again.choice);
-        let (statuses, came) = gone_on(&rt, again)?;
-        let found = (statuses, came.status, came.output.as_slice());
-        let want = (again.statuses, 0, again.output);
-        assert_eq!(rt; found, want, "{:?} after {calls:?}", again.going_on);
-        let found = (came.points, came.received);
-        let want = (again.points, again.received);
-        assert_eq!(rt; found, want, "{:?} after {calls:?}", again.going_on);
+fn box_that_stops_twice(rt: HostRuntime) -> Result<(), Fail> {
+    for (three, four) in BOX_LEADS {
+        for stop in STOPS {
+            let came = third_run(&rt, three, four, *stop)?;
+            let found = (came.status, came.output.as_slice());
+            assert_eq!(rt; found, (0, BOX_OUTPUT), "{four:?} after {stop:?}");
+            let found = (came.points, came.received);
+            assert_eq!(rt; found, (2400, 360), "{four:?} after {stop:?}");
+        }
     }
     Ok(())
 }
@@ -479,11 +307,25 @@ const AUTOMATON_CALLS: u64 = 48;
 /// More calls than any run of it makes.
 const MANY_CALLS: u64 = 100;
 
-/// The status of a run that stops after so many calls, on the files of a disk, and what one comes to that is started on what it leaves.
-fn started_again(rt: &HostRuntime, left: &MemoryDisk, calls: u64) -> Result<(u8, Outcome), Fail> {
+/// A disk with the files of another.
+fn same_disk(alloc: Global, disk: &MemoryDisk) -> Result<MemoryDisk, Fail> {
     let output = OLD_OUTPUT as usize;
-    let disk = cut_disk(rt.alloc(), left, output, left.bytes(output).len())?;
-    let (stopped, mut disk) = run_stopped(rt, CA, EACH, disk, calls, calls)?;
+    cut_disk(alloc, disk, output, disk.bytes(output).len())
+}
+
+/// The status of a run of the automaton that stops behind so many calls of the disk, and the image of that choice.
+fn automaton_stopped(
+    rt: &HostRuntime,
+    disk: MemoryDisk,
+    calls: u64,
+) -> Result<(u8, MemoryDisk), Fail> {
+    run_stopped(rt, CA, EACH, disk, calls, calls)
+}
+
+/// The status of a run that stops behind so many calls, on the files of a disk, and what one comes to that is started on what it leaves.
+fn started_again(rt: &HostRuntime, left: &MemoryDisk, calls: u64) -> Result<(u8, Outcome), Fail> {
+    let disk = same_disk(rt.alloc(), left)?;
+    let (stopped, mut disk) = automaton_stopped(rt, disk, calls)?;
     let came = run_on(rt, CA, EACH, &[], &mut disk)?;
     Ok((stopped, came))
 }
@@ -511,6 +353,12 @@ fn calls_from(rt: &HostRuntime, left: &MemoryDisk) -> Result<Option<u64>, Fail> 
     Ok(None)
 }
 
+/// The status of a run on an empty disk that stops behind so many calls, and of how many calls one is that follows, as `calls_from` has it.
+fn stopped_twice(rt: &HostRuntime, calls: u64) -> Result<(u8, Option<u64>), Fail> {
+    let (stopped, left) = automaton_stopped(rt, empty_disk(rt.alloc()), calls)?;
+    Ok((stopped, calls_from(rt, &left)?))
+}
+
 #[test]
 fn automaton_that_stops_once(rt: HostRuntime) -> Result<(), Fail> {
     let calls = calls_from(&rt, &empty_disk(rt.alloc()))?;
@@ -520,9 +368,8 @@ fn automaton_that_stops_once(rt: HostRuntime) -> Result<(), Fail> {
 
 /// The status of a run that stops after so many calls, and whether one that follows can stop anywhere.
 fn stopped_anywhere(rt: &HostRuntime, calls: u64) -> Result<(u8, bool), Fail> {
-    let disk = empty_disk(rt.alloc());
-    let (stopped, left) = run_stopped(rt, CA, EACH, disk, calls, calls)?;
-    Ok((stopped, calls_from(rt, &left)?.is_some()))
+    let (stopped, second) = stopped_twice(rt, calls)?;
+    Ok((stopped, second.is_some()))
 }
 
 /// Up to the first piece.
@@ -595,33 +442,6 @@ const VALUES: &[u8] = b"\0\0\0\x01\0\0\0\0\0\0\0\x5e\
     \0\0\0\0\0\0\0\0\0\0\0\0\0\0\0\x01\0\0\0\0\0\0\0\0\0\0\0\0\0\0\0\0\
     \0\0\0\0\0\0\0\0\0\0\0\0\0\0\0\x01\0\0\0\0\0\0\0\0\0\0\0\0\0\0\0\0";
 
-/// The same without the scalar.
-const NO_SCALAR: &[u8] = b"\0\0\0\x01\0\0\0\0\0\0\0\x5e\
-    \0\0\0\0\
-    \0\0\0\x01\0\0\0\0\0\0\0\x08\
-    \0\0\0\0\0\0\0\0\0\0\0\0\0\0\0\x01\0\0\0\0\0\0\0\0\0\0\0\0\0\0\0\0\
-    \0\0\0\0\0\0\0\0\0\0\0\0\0\0\0\x01\0\0\0\0\0\0\0\0\0\0\0\0\0\0\0\0";
-
-/// One level of one point.
-const ONE_POINT: &[u8] = b"\0\0\0\x01\0\0\0\0\0\0\0\x5e\
-    \0\0\0\x01\0\0\0\0\0\0\0\x02\
-    \0\0\0\x01\0\0\0\0\0\0\0\x01\
-    \0\0\0\0\0\0\0\0";
-
-/// A cell of 256, which a BYTE can't have.
-const TOO_GREAT: &[u8] = b"\0\0\0\x01\0\0\0\0\0\0\0\x5e\
-    \0\0\0\x01\0\0\0\0\0\0\0\x02\
-    \0\0\0\x01\0\0\0\0\0\0\0\x08\
-    \0\0\0\0\0\0\0\0\0\0\0\0\0\0\x01\0\0\0\0\0\0\0\0\0\0\0\0\0\0\0\0\0\
-    \0\0\0\0\0\0\0\0\0\0\0\0\0\0\0\x01\0\0\0\0\0\0\0\0\0\0\0\0\0\0\0\0";
-
-/// The last byte is wanting.
-const CUT_OFF: &[u8] = b"\0\0\0\x01\0\0\0\0\0\0\0\x5e\
-    \0\0\0\x01\0\0\0\0\0\0\0\x02\
-    \0\0\0\x01\0\0\0\0\0\0\0\x08\
-    \0\0\0\0\0\0\0\0\0\0\0\0\0\0\0\x01\0\0\0\0\0\0\0\0\0\0\0\0\0\0\0\0\
-    \0\0\0\0\0\0\0\0\0\0\0\0\0\0\0\x01\0\0\0\0\0\0\0\0\0\0\0\0\0\0\0";
-
 const TWO: &str = "IO::checkpoint_every = 2\ndriver::parts_x = 3\n";
 
 #[test]
@@ -641,227 +461,5 @@ fn checkpoint_of_the_automaton(rt: HostRuntime) -> Result<(), Fail> {
     let rest = described.printed.get(key.len()..).unwrap_or(&[]);
     let next = b"parameter driver::parts_x = \"3\"\n".as_slice();
     assert!(rt; rest.starts_with(next), "what comes after the key");
-    Ok(())
-}
-
-const AUTO: &str = "IO::checkpoint_every = 2\nIO::recover = \"auto\"\n";
-
-const AFRESH: &str = "IO::checkpoint_every = 2\nIO::recover = \"no\"\n";
-
-/// The automaton with another limit.
-const OTHER_LIMIT: &str =
-    "IO::checkpoint_every = 2\nIO::recover = \"auto\"\ndriver::while_limit = 5\n";
-
-/// What is printed of it on a slot of the automaton.
-const OTHER_JOB: &[u8] = b"recovery: OtherJob\n\
-    parameter driver::while_limit = \"1000\"\n\
-    parameter driver::while_limit = \"5\"\n";
-
-/// How a run of the automaton, with a checkpoint in each second iteration, starts on slot 0 and an output, and what it comes to.
-struct SlotStart {
-    name: &'static str,
-    /// The slot's iteration, and what stands in it after the automaton's key.
-    slot: Option<(u8, &'static [u8])>,
-    output: &'static [u8],
-    more: &'static str,
-    status: u8,
-    printed: &'static [u8],
-    points: u128,
-    left: &'static [u8],
-}
-
-const SLOT_STARTS: &[SlotStart] = &[
-    SlotStart {
-        name: "no slot, auto",
-        slot: None,
-        output: b"old",
-        more: AUTO,
-        status: 6,
-        printed: b"recovery: NoCheckpoint\n",
-        points: 0,
-        left: b"old",
-    },
-    SlotStart {
-        name: "no slot, autoprobe",
-        slot: None,
-        output: b"old",
-        more: SECOND,
-        status: 0,
-        printed: b"done: iteration 2\n",
-        points: 26,
-        left: CA_OUTPUT,
-    },
-    SlotStart {
-        name: "no slot, no recovery",
-        slot: None,
-        output: b"old",
-        more: AFRESH,
-        status: 0,
-        printed: b"done: iteration 2\n",
-        points: 26,
-        left: CA_OUTPUT,
-    },
-    SlotStart {
-        name: "a slot, auto",
-        slot: Some((2, VALUES)),
-        output: CA_OUTPUT,
-        more: AUTO,
-        status: 0,
-        printed: b"done: iteration 2\n",
-        points: 0,
-        left: CA_OUTPUT,
-    },
-    SlotStart {
-        name: "a slot, autoprobe",
-        slot: Some((2, VALUES)),
-        output: CA_OUTPUT,
-        more: SECOND,
-        status: 0,
-        printed: b"done: iteration 2\n",
-        points: 0,
-        left: CA_OUTPUT,
-    },
-    SlotStart {
-        name: "a slot, no recovery",
-        slot: Some((2, VALUES)),
-        output: CA_OUTPUT,
-        more: AFRESH,
-        status: 0,
-        printed: b"done: iteration 2\n",
-        points: 26,
-        left: CA_OUTPUT,
-    },
-    SlotStart {
-        name: "a byte is wanting",
-        slot: Some((2, CUT_OFF)),
-        output: CA_OUTPUT,
-        more: AUTO,
-        status: 6,
-        printed: b"recovery: Damaged 0\n",
-        points: 0,
-        left: CA_OUTPUT,
-    },
-    SlotStart {
-        name: "another job",
-        slot: Some((2, VALUES)),
-        output: CA_OUTPUT,
-        more: OTHER_LIMIT,
-        status: 6,
-        printed: OTHER_JOB,
-        points: 0,
-        left: CA_OUTPUT,
-    },
-    SlotStart {
-        name: "another job, whose slot has no scalar and is not due",
-        slot: Some((1, NO_SCALAR)),
-        output: b"# ca::cell",
-        more: OTHER_LIMIT,
-        status: 6,
-        printed: OTHER_JOB,
-        points: 0,
-        left: b"# ca::cell",
-    },
-    SlotStart {
-        name: "a checkpoint that is not due",
-        slot: Some((1, VALUES)),
-        output: CA_OUTPUT,
-        more: AUTO,
-        status: 6,
-        printed: b"recovery: Damaged 0\n",
-        points: 0,
-        left: CA_OUTPUT,
-    },
-    SlotStart {
-        name: "a checkpoint past the end",
-        slot: Some((4, VALUES)),
-        output: CA_OUTPUT,
-        more: AUTO,
-        status: 6,
-        printed: b"recovery: Damaged 0\n",
-        points: 0,
-        left: CA_OUTPUT,
-    },
-    SlotStart {
-        name: "no scalar",
-        slot: Some((2, NO_SCALAR)),
-        output: CA_OUTPUT,
-        more: AUTO,
-        status: 6,
-        printed: b"recovery: Damaged 0\n",
-        points: 0,
-        left: CA_OUTPUT,
-    },
-    SlotStart {
-        name: "one point",
-        slot: Some((2, ONE_POINT)),
-        output: CA_OUTPUT,
-        more: AUTO,
-        status: 6,
-        printed: b"recovery: Damaged 0\n",
-        points: 0,
-        left: CA_OUTPUT,
-    },
-    SlotStart {
-        name: "a cell of 256, and a short output",
-        slot: Some((2, TOO_GREAT)),
-        output: b"# ca::cell",
-        more: AUTO,
-        status: 6,
-        printed: b"recovery: Damaged 0\n",
-        points: 0,
-        left: b"# ca::cell",
-    },
-    SlotStart {
-        name: "a short output",
-        slot: Some((2, VALUES)),
-        output: b"# ca::cell",
-        more: AUTO,
-        status: 6,
-        printed: b"recovery: OutputShort 10 94\n",
-        points: 0,
-        left: b"# ca::cell",
-    },
-];
-
-/// A slot of an iteration, with the key of another slot and these values.
-fn slot_of(alloc: Global, key: &[u8], iteration: u8, values: &[u8]) -> Result<Text, Memory> {
-    let mut slot = Text::from_slice(alloc, b"\x01CXCHKPT\x01\0\0\0\0\0\0\0")?;
-    slot.push_slice(&[iteration])?;
-    slot.push_slice(key)?;
-    slot.push_slice(values)?;
-    Ok(slot)
-}
-
-/// A disk with the slot of a start and its output.
-fn slot_disk(alloc: Global, key: &[u8], start: &SlotStart) -> Result<MemoryDisk, Memory> {
-    let mut files = List::empty(alloc);
-    let slot = match start.slot {
-        Some((iteration, values)) => slot_of(alloc, key, iteration, values)?,
-        None => Text::from_slice(alloc, b"")?,
-    };
-    files.push(slot)?;
-    for _ in 1..OLD_OUTPUT {
-        files.push(Text::from_slice(alloc, b"")?)?;
-    }
-    files.push(Text::from_slice(alloc, start.output)?)?;
-    Ok(MemoryDisk::new(alloc, files))
-}
-
-#[test]
-fn starts_on_a_slot(rt: HostRuntime) -> Result<(), Fail> {
-    let alloc = rt.alloc();
-    let mut left = empty_disk(alloc);
-    run_on(&rt, CA, SECOND, &[], &mut left)?;
-    let slot = left.bytes(0);
-    let end = slot.len().saturating_sub(VALUES.len());
-    let key = slot.get(17..end).unwrap_or(&[]);
-    for start in SLOT_STARTS {
-        let mut disk = slot_disk(alloc, key, start)?;
-        let came = run_on(&rt, CA, start.more, &[], &mut disk)?;
-        let found = (came.status, came.printed.as_slice(), came.output.as_slice());
-        let want = (start.status, start.printed, start.left);
-        assert_eq!(rt; found, want, "{}", start.name);
-        assert_eq!(rt; came.points, start.points, "points: {}", start.name);
-    }
     Ok(())
 }

@@ -1,11 +1,13 @@
 //! Runs over wires that alter or note, and turns that always pick alike.
 
-use crate::calls::{RUN, shelf_with, sink, status_of};
+use crate::calls::{shelf_with, sink, texts};
 use crate::carriers::{altering, noting};
 use crate::devices::{FirstTurns, LastTurns};
 use crate::jobs::CA_OUTPUT;
 use crate::samples::CA;
 use cx_disk::{MemoryDisk, OLD_OUTPUT};
+use cx_program::answer;
+use cx_rule::Meter;
 use cx_text::List;
 use cx_turns::{SeededTurns, Turns};
 use std::test::Fail;
@@ -26,13 +28,15 @@ const ALTERED: &[u8] = b"# ca::cell iteration 0 size 8\n\
 #[test]
 fn a_value_that_is_altered(rt: HostRuntime) -> Result<(), Fail> {
     let alloc = rt.alloc();
+    let words = texts(alloc, &["run", "t.par"])?;
     let mut shelf = shelf_with(alloc, CA, TWO_PARTS, &[])?;
     let mut disk = MemoryDisk::new(alloc, List::empty(alloc));
     let mut wire = altering(alloc)?;
     let mut turns = SeededTurns::new();
     let mut out = sink(alloc, &[])?;
-    let (status, _) = status_of(
-        &rt, RUN, &mut shelf, &mut disk, &mut wire, &mut turns, &mut out,
+    let mut meter = Meter::new(&rt);
+    let status = answer(
+        alloc, &words, &mut shelf, &mut disk, &mut wire, &mut turns, &mut out, &mut meter,
     )?;
     let found = (status, disk.bytes(OLD_OUTPUT as usize));
     assert_eq!(rt; found, (0, ALTERED), "the altered value is used");
@@ -42,11 +46,15 @@ fn a_value_that_is_altered(rt: HostRuntime) -> Result<(), Fail> {
 /// Whether the automaton's output comes of these turns, and from which part the first message is sent.
 fn first_sender<T: Turns>(rt: &HostRuntime, turns: &mut T) -> Result<(bool, Option<u32>), Fail> {
     let alloc = rt.alloc();
+    let words = texts(alloc, &["run", "t.par"])?;
     let mut shelf = shelf_with(alloc, CA, TWO_PARTS, &[])?;
     let mut disk = MemoryDisk::new(alloc, List::empty(alloc));
     let mut wire = noting(alloc)?;
     let mut out = sink(alloc, &[])?;
-    let (status, _) = status_of(rt, RUN, &mut shelf, &mut disk, &mut wire, turns, &mut out)?;
+    let mut meter = Meter::new(rt);
+    let status = answer(
+        alloc, &words, &mut shelf, &mut disk, &mut wire, turns, &mut out, &mut meter,
+    )?;
     let right = status == 0 && disk.bytes(OLD_OUTPUT as usize) == CA_OUTPUT;
     match wire.notes().as_slice() {
         [] => Ok((right, None)),

@@ -1,0 +1,64 @@
+-- The job of the tests: a scalar and a grid variable of two points, with checkpoints at iterations
+-- 20 and 40.
+use Rattle.std.specs.Prelude.{◌∷◌, [], List, false, true, pos, negsuc, None, codes}
+use Rattle.cx_text.specs.declared.ctype.CType.TheVariants.{Int8, Byte}
+use Rattle.cx_plan.specs.declared.variable.VarInfo.{VarInfo}
+use Rattle.cx_plan.specs.declared.tree.Tree.{Tree, Seq}
+use Rattle.cx_plan.specs.declared.job.Recover.{Recover}
+use Rattle.cx_plan.specs.declared.job.Job.{Job}
+use Rattle.cx_chk.specs.declared.checkpoint.Checkpoint.{Checkpoint}
+
+abbrev pub sample_variables : List VarInfo
+sample_variables =
+    record { full = codes "phi"; ctype = Byte; scalar = false; levels = 1 }
+    ∷ record { full = codes "on"; ctype = Int8; scalar = true; levels = 1 } ∷ []
+
+abbrev pub nothing : Tree
+nothing = Seq []
+
+abbrev pub no_bins : List Tree
+no_bins = nothing ∷ nothing ∷ nothing ∷ nothing ∷ nothing ∷ nothing ∷ nothing ∷ nothing ∷ nothing
+    ∷ nothing ∷ nothing ∷ nothing ∷ nothing ∷ nothing ∷ nothing ∷ nothing ∷ nothing ∷ []
+
+abbrev pub sample : Recover → Job
+sample recover =
+    record {
+      shape = record {
+        dims = 1;
+        n = record { x = pos 2; y = pos 1; z = pos 1 };
+        ghost_ = record { x = pos 0; y = pos 0; z = pos 0 };
+        periodic = false ∷ false ∷ false ∷ [];
+      };
+      vars = sample_variables;
+      items = [];
+      steers = [];
+      plan = record { bins = no_bins };
+      cut = record { x = []; y = []; z = [] };
+      itlast = 40;
+      while_limit = 1;
+      lead = 0;
+      balance = false;
+      weight = None;
+      weight_factor = 1;
+      out_every = negsuc 0;
+      out_vars = [];
+      chk_every = pos 20;
+      keep = 1;
+      on_end = false;
+      recover = recover;
+      out_dir = codes "out";
+      chk_dir = codes "chk";
+      key = codes "k\nv 5";
+      plan_text = [];
+      starred = [];
+    }
+
+-- the checkpoint of iteration 20 of the tests, behind three bytes of output
+abbrev pub sample_checkpoint : Checkpoint
+sample_checkpoint = record {
+  iteration = 20;
+  key = codes "k\nv 5";
+  lengths = 3 ∷ [];
+  scalars = negsuc 0 ∷ [];
+  levels = (pos 0 ∷ pos 1 ∷ []) ∷ [];
+}
