@@ -183,16 +183,25 @@ fn lists_are_read_as_they_are_derived(rt: HostRuntime) -> Result<(), Fail> {
 }
 
 #[test]
-fn files_cut_short_are_read_as_they_are_derived(rt: HostRuntime) -> Result<(), Fail> {
-    let alloc = rt.alloc();
+fn interfaces_cut_short_are_read_as_they_are_derived(rt: HostRuntime) -> Result<(), Fail> {
     for (_, text) in interfaces::FILES {
-        assert_cut(&rt, alloc, INTERFACE, text)?;
+        assert_cut(&rt, rt.alloc(), INTERFACE, text)?;
     }
+    Ok(())
+}
+
+#[test]
+fn params_cut_short_are_read_as_they_are_derived(rt: HostRuntime) -> Result<(), Fail> {
     for (_, text, _, _) in params::FILES {
-        assert_cut(&rt, alloc, PARAMS, text)?;
+        assert_cut(&rt, rt.alloc(), PARAMS, text)?;
     }
+    Ok(())
+}
+
+#[test]
+fn schedules_cut_short_are_read_as_they_are_derived(rt: HostRuntime) -> Result<(), Fail> {
     for (_, text, _, _) in schedules::SAMPLES {
-        assert_cut(&rt, alloc, SCHEDULE, text)?;
+        assert_cut(&rt, rt.alloc(), SCHEDULE, text)?;
     }
     Ok(())
 }
