@@ -33,7 +33,7 @@ def lap(at, name):
 def mixed(seed, place):
     """A random number of 64 bits: what SplitMix64 puts out in the state seed + place * 0x9E3779B97F4A7C15.
 
-    The guide doesn't say how a number is mixed; this was found by trial from outputs.
+    This was found by trial from outputs, before the guide said how a number is mixed.
     """
     number = (seed + place * 0x9E3779B97F4A7C15) % 2**64
     number = (number ^ number >> 30) * 0xBF58476D1CE4E5B9 % 2**64
@@ -68,7 +68,7 @@ def ca_step(at):
     return bit(at.parameter("rule"), 4 * at("cell", (-1,)) + 2 * at("cell") + at("cell", (1,)))
 
 
-# The guide doesn't say which cells these are; they are those of the picture in examples/README.md.
+# Taken from the picture in examples/README.md, before the guide said which cells these are.
 GLIDER = {(1, 0), (2, 1), (0, 2), (1, 2), (2, 2)}
 
 
