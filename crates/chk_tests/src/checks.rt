@@ -28,6 +28,15 @@ pub fn closing_kept(before: &MemoryDisk, image: &MemoryDisk) -> bool {
     same && (0..SLOTS as usize).all(|slot| is_within_closing(before.bytes(slot), image.bytes(slot)))
 }
 
+/// Whether all files are as before, but for one slot, which is as before or, if the closing is done, closed.
+pub fn one_closed(before: &MemoryDisk, image: &MemoryDisk, slot: usize, done: bool) -> bool {
+    let bytes = image.bytes(slot);
+    let within = is_closed(bytes) || !done && bytes == before.bytes(slot);
+    within
+        && (0..OLD_OUTPUT as usize + 1).all(|file| file == slot
+            || image.bytes(file) == before.bytes(file))
+}
+
 /// Whether the newest slot is the one that was saved or, unless the save is done, the one that was the newest.
 pub fn newest_after_save(newest: Option<(u32, u64)>, done: bool, taken: u32) -> bool {
     match newest {
@@ -40,7 +49,7 @@ pub fn newest_after_save(newest: Option<(u32, u64)>, done: bool, taken: u32) -> 
 /// Whether no slot is open or, unless the closing is done, the newest is one that was open.
 pub fn newest_after_closing(newest: Option<(u32, u64)>, done: bool) -> bool {
     match newest {
-        Some((0, 20)) | Some((1, 10)) => !done,
+        Some((0, 20)) | Some((1, 10)) | Some((4, 5)) => !done,
         Some(_) => false,
         None => true,
     }

@@ -5,20 +5,22 @@ ghost use Rattle.cx_chk.specs.Encoding.{IsCheckpoint};
 ghost use Rattle.cx_disk.specs.Files.{count_with, slot_count};
 ghost use Rattle.cx_chk.specs.Slots.{SlotsSettled};
 
-use crate::samples::{shut_slot, slot};
+use crate::samples::{named_slot, shut_slot, slot};
 use cx_chk::{Checkpoint, Slots};
 use cx_disk::{Disk, DiskFault, FuseDisk, MemoryDisk, SLOTS};
 use cx_text::{List, Text};
 use std::alloc::{AllocError, Global};
 
-/// Slot 0 has iteration 20, slot 1 iteration 10, slot 2 a torn front, slot 3 a shut gate; the output has six bytes.
+/// Slot 0 has iteration 20, slot 1 iteration 10, slot 2 a torn front, slot 3 a shut gate, slot 4 iteration 5 in version 2;
+/// the output has six bytes.
 fn files(alloc: Global) -> Result<Vec<Text>, AllocError> {
     let mut files = Vec::new(alloc);
     files.push(Text::new(slot(alloc, 20)?))?;
     files.push(Text::new(slot(alloc, 10)?))?;
     files.push(Text::new(b"\x01CXC".to_vec(alloc)?))?;
     files.push(Text::new(shut_slot(alloc)?))?;
-    for _ in 4..SLOTS {
+    files.push(Text::new(named_slot(alloc, 5)?))?;
+    for _ in 5..SLOTS {
         files.push(Text::new(Vec::new(alloc)))?;
     }
     files.push(Text::new(b"output".to_vec(alloc)?))?;
@@ -72,6 +74,14 @@ pub fn close_on<D: Disk>(alloc: Global, disk: &mut D) -> Result<(), DiskFault>
 {
     mount_on(alloc, disk)?;
     Slots::close_all(disk)
+}
+
+/// Mounts a disk, and closes the open slots of version 2.
+pub fn close_second_on<D: Disk>(alloc: Global, disk: &mut D) -> Result<(), DiskFault>
+    requires settled { D.tells → SlotsSettled (D.view disk.old) }
+{
+    mount_on(alloc, disk)?;
+    Slots::close_second(disk)
 }
 
 /// Mounts a disk, and finds the newest slot.

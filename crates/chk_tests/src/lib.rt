@@ -8,6 +8,8 @@ mod checks;
 #[cfg(test)]
 mod disks;
 #[cfg(test)]
+mod newest;
+#[cfg(test)]
 mod samples;
 #[cfg(test)]
 mod stops;

@@ -2,8 +2,8 @@
 ghost use Rattle.std.specs.Prelude.{◌<◌, ◌≤◌};
 ghost use Rattle.cx_disk.specs.Files.{slot_count};
 
-use crate::checks::{closing_kept, newest_after_closing, newest_after_save, save_kept};
-use crate::disks::{close_on, disk_before, newest_in, save_on, stopping_disk};
+use crate::checks::{closing_kept, newest_after_closing, newest_after_save, one_closed, save_kept};
+use crate::disks::{close_on, close_second_on, disk_before, newest_in, save_on, stopping_disk};
 use crate::samples::{checkpoint, slot};
 use cx_disk::MemoryDisk;
 use std::alloc::Global;
@@ -16,7 +16,13 @@ const CHOICES: u64 = 8;
 const SAVE_CALLS: u64 = 17;
 
 // A closing makes so many.
-const CLOSE_CALLS: u64 = 30;
+const CLOSE_CALLS: u64 = 32;
+
+// A closing of the slots of version 2 makes so many.
+const CLOSE_SECOND_CALLS: u64 = 21;
+
+// The open slot of version 2.
+const SECOND: usize = 4;
 
 /// Whether a save was done, and an image of the disk then.
 fn save_image(alloc: Global, keep: u32, calls: u64, choice: u64) -> Result<(bool, MemoryDisk), Fail>
@@ -33,6 +39,13 @@ fn save_image(alloc: Global, keep: u32, calls: u64, choice: u64) -> Result<(bool
 fn close_image(alloc: Global, calls: u64, choice: u64) -> Result<(bool, MemoryDisk), Fail> {
     let mut disk = stopping_disk(alloc, calls)?;
     let done = close_on(alloc, &mut disk).is_ok();
+    Ok((done, disk.into_image(choice)?))
+}
+
+/// Whether a closing of the slots of version 2 was done, and an image of the disk then.
+fn close_second_image(alloc: Global, calls: u64, choice: u64) -> Result<(bool, MemoryDisk), Fail> {
+    let mut disk = stopping_disk(alloc, calls)?;
+    let done = close_second_on(alloc, &mut disk).is_ok();
     Ok((done, disk.into_image(choice)?))
 }
 
@@ -74,6 +87,14 @@ fn closing_leaves(alloc: Global, calls: u64, choice: u64) -> Result<bool, Fail> 
     Ok(kept && done == (calls == CLOSE_CALLS) && newest_after_closing(newest, done))
 }
 
+/// Whether a closing of the slots of version 2 that is stopped leaves what it may in an image.
+fn closing_second_leaves(alloc: Global, calls: u64, choice: u64) -> Result<bool, Fail> {
+    let (done, image) = close_second_image(alloc, calls, choice)?;
+    let before = disk_before(alloc)?;
+    let kept = one_closed(&before, &image, SECOND, done);
+    Ok(kept && done == (calls == CLOSE_SECOND_CALLS))
+}
+
 #[test]
 fn save_stopped(rt: HostRuntime) -> Result<(), Fail> {
     let alloc = rt.alloc();
@@ -97,6 +118,18 @@ fn closing_stopped(rt: HostRuntime) -> Result<(), Fail> {
     for calls in 0..CLOSE_CALLS + 1 {
         for choice in 0..CHOICES {
             let kept = closing_leaves(alloc, calls, choice)?;
+            assert!(rt; kept, "after {calls} calls, image {choice}");
+        }
+    }
+    Ok(())
+}
+
+#[test]
+fn closing_second_stopped(rt: HostRuntime) -> Result<(), Fail> {
+    let alloc = rt.alloc();
+    for calls in 0..CLOSE_SECOND_CALLS + 1 {
+        for choice in 0..CHOICES {
+            let kept = closing_second_leaves(alloc, calls, choice)?;
             assert!(rt; kept, "after {calls} calls, image {choice}");
         }
     }

@@ -7,7 +7,7 @@ ghost use Rattle.cx_core.specs.Starts.{IsReady};
 use crate::ends::DiffEnds;
 use crate::jobs::{job, parts, wire};
 use crate::runs::{Came, is_empty, run};
-use crate::samples::{CA, CA_OUTPUT, ENDS, HEAT, HEAT_OUTPUT, SHORT_HEAT, SUM};
+use crate::samples::{BOTH, BOTH_OUTPUTS, CA, CA_OUTPUT, ENDS, HEAT, HEAT_OUTPUT, SHORT_HEAT, SUM};
 use cx_plan::Job;
 use cx_rule::{Meter, Routine};
 use cx_thorn_ca::{CaCount, CaInit, CaStep, CaZero};
@@ -25,6 +25,8 @@ struct Row {
     others: &'static [File],
     ended: &'static [u8],
     output: &'static [u8],
+    /// What its checkpoints say of the outputs.
+    saved: &'static [u8],
     counted: Option<Counted>,
 }
 
@@ -52,6 +54,7 @@ const CELLS: &[Row] = &[
         others: &[],
         ended: b"Done",
         output: CA_OUTPUT,
+        saved: b"",
         counted: Some(Counted {
             points: 26,
             values: 4,
@@ -65,6 +68,7 @@ const CELLS: &[Row] = &[
         others: &[],
         ended: b"Done",
         output: CA_OUTPUT,
+        saved: b"",
         counted: Some(Counted {
             points: 28,
             values: 8,
@@ -78,6 +82,7 @@ const CELLS: &[Row] = &[
         others: &[],
         ended: b"Done",
         output: CA_OUTPUT,
+        saved: b"",
         counted: Some(Counted {
             points: 40,
             values: 32,
@@ -91,6 +96,7 @@ const CELLS: &[Row] = &[
         others: &[],
         ended: b"Done",
         output: CA_OUTPUT,
+        saved: b"",
         counted: Some(Counted {
             points: 28,
             values: 8,
@@ -107,6 +113,7 @@ const HEATS: &[Row] = &[
         others: SHORT_HEAT,
         ended: b"Overflow 7 EVOL/diff_step",
         output: HEAT_OUTPUT,
+        saved: b"",
         counted: None,
     },
     Row {
@@ -116,6 +123,7 @@ const HEATS: &[Row] = &[
         others: SHORT_HEAT,
         ended: b"Overflow 7 EVOL/diff_step",
         output: HEAT_OUTPUT,
+        saved: b"",
         counted: None,
     },
     Row {
@@ -125,6 +133,7 @@ const HEATS: &[Row] = &[
         others: SHORT_HEAT,
         ended: b"Overflow 7 EVOL/diff_step",
         output: HEAT_OUTPUT,
+        saved: b"",
         counted: None,
     },
 ];
@@ -137,6 +146,7 @@ const SUMS: &[Row] = &[
         others: ENDS,
         ended: b"Overflow 0 ANALYSIS/diff_sum",
         output: b"",
+        saved: b"",
         counted: None,
     },
     Row {
@@ -146,6 +156,7 @@ const SUMS: &[Row] = &[
         others: ENDS,
         ended: b"Overflow 0 ANALYSIS/diff_sum",
         output: b"",
+        saved: b"",
         counted: None,
     },
     Row {
@@ -155,6 +166,7 @@ const SUMS: &[Row] = &[
         others: ENDS,
         ended: b"Done",
         output: b"# diff::total iteration 0 value 9223372036854775806\n",
+        saved: b"",
         counted: None,
     },
     Row {
@@ -164,6 +176,17 @@ const SUMS: &[Row] = &[
         others: ENDS,
         ended: b"Done",
         output: b"# diff::total iteration 0 value 9223372036854775806\n",
+        saved: b"",
+        counted: None,
+    },
+    Row {
+        name: "two outputs, each with a length of its own",
+        file: BOTH,
+        more: b"driver::parts_x = 2\ndriver::lead = 8\n",
+        others: ENDS,
+        ended: b"Done",
+        output: BOTH_OUTPUTS,
+        saved: b"1 diff::u.asc 34 diff::total.asc 35\n2 diff::u.asc 68 diff::total.asc 70\n",
         counted: None,
     },
 ];
@@ -233,6 +256,9 @@ fn assert_told(rt: &impl Abort, row: &Row, seed: usize, told: &Told) {
     let name = row.name;
     let came = (told.came.ended.as_slice(), told.came.output.as_slice());
     assert_eq!(rt; came, (row.ended, row.output), "{name}, seed {seed}");
+    let outputs = (told.came.saved.as_slice(), told.came.total);
+    let length = row.output.len() as u64;
+    assert_eq!(rt; outputs, (row.saved, length), "{name}, seed {seed}");
     if row.counted.is_some() {
         let counted = (Some(told.counted), told.empty);
         assert_eq!(rt; counted, (row.counted, true), "{name}, seed {seed}");

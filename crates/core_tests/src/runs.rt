@@ -24,11 +24,13 @@ use cx_wire::Wire;
 use std::alloc::Global;
 use std::test::Fail;
 
-/// What a run came to: the texts that it handed out, one behind another, how many checkpoints, and how it ended.
+/// What a run came to: the texts that it handed out, one behind another, how long the outputs are together, what the checkpoints say
+/// of them, and how it ended.
 #[derive(Drop)]
 pub(crate) struct Came {
     pub(crate) output: Text,
-    pub(crate) saves: u64,
+    pub(crate) total: u64,
+    pub(crate) saved: Text,
     pub(crate) ended: Text,
 }
 
@@ -74,6 +76,26 @@ fn push_text(
 {
     let text = text(alloc, job, v, iteration, core.piece())?;
     output.push_slice(text.as_slice())
+}
+
+/// Adds a line of what the checkpoint that came last says of the outputs.
+fn push_saved(alloc: Global, core: &Core, saved: &mut Text) -> Result<(), Memory> {
+    let state = core.state();
+    saved.push_number(alloc, state.iteration)?;
+    'outputs: for (name, length) in state.names.as_slice().iter().zip(state.lengths.as_slice()) {
+        saved.push_slice(b" ")?;
+        saved.push_slice(name.as_slice())?;
+        saved.push_slice(b" ")?;
+        saved.push_number(alloc, *length)?;
+    }
+    saved.push_slice(b"\n")
+}
+
+/// How long all outputs are together.
+fn total(lengths: &[u64]) -> u64 {
+    lengths
+        .iter()
+        .fold(0, |all, length| length.saturating_add(all))
 }
 
 /// Whether the run goes on.
@@ -122,7 +144,7 @@ fn to_end<W: Wire, T: Turns + Watch>(
 {
     core_stands(job);
     let mut output = Text::new(Vec::new(alloc));
-    let mut saves: u64 = 0;
+    let mut saved = Text::new(Vec::new(alloc));
     'events: while is_going(core) {
         turns.see(core)?;
         let k = turns.pick(core.enabled());
@@ -131,13 +153,14 @@ fn to_end<W: Wire, T: Turns + Watch>(
             Event::Section { var, iteration } => {
                 push_text(alloc, core, job, var, iteration, &mut output)?;
             }
-            Event::Save(_) => saves = saves.saturating_add(1),
+            Event::Save(_) => push_saved(alloc, core, &mut saved)?,
             Event::End => {}
         }
     }
     Ok(Came {
         output,
-        saves,
+        total: total(core.lengths()),
+        saved,
         ended: words(alloc, core.outcome())?,
     })
 }

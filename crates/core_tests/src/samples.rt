@@ -83,6 +83,31 @@ pub const SUM: &[u8] = b"ActiveThorns = \"DiffInt\"\n\
     diff::sum = yes\n\
     IO::out_vars = \"diff::total\"\n";
 
+/// Two points that stay as they are and their sum, both written, with a checkpoint in each iteration.
+pub const BOTH: &[u8] = b"ActiveThorns = \"DiffInt\"\n\
+    Cactus::cctk_itlast = 2\n\
+    driver::global_nx = 2\n\
+    driver::periodic = yes\n\
+    diff::amount = 5\n\
+    diff::edge = 6\n\
+    diff::sum = yes\n\
+    IO::checkpoint_every = 1\n\
+    IO::out_vars = \"diff::u diff::total\"\n";
+
+/// Their texts in the order in which they come.
+pub const BOTH_OUTPUTS: &[u8] = b"# diff::u iteration 0 size 2\n\
+    5 6\n\
+    \n\
+    # diff::total iteration 0 value 11\n\
+    # diff::u iteration 1 size 2\n\
+    5 6\n\
+    \n\
+    # diff::total iteration 1 value 11\n\
+    # diff::u iteration 2 size 2\n\
+    5 6\n\
+    \n\
+    # diff::total iteration 2 value 11\n";
+
 /// The schedule of the two points.
 pub const ENDS: &[File] = &[File {
     name: "arrangements/Integer/DiffInt/schedule.ccl",

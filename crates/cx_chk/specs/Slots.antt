@@ -1,5 +1,5 @@
 -- The eight slots: which are open, the newest, and the one that a save takes.
-use Rattle.std.specs.Prelude.{ℕ, zero, suc, ◌<◌, ◌≤◌, ◌≡◌, ◌≢◌, ◌⊎◌, Bool, ◌&&◌, nat_le, nat_lt, nat_eq, List, ◌∷◌, length, take, drop, slice_index, Option, Some, None, if◌then◌else◌}
+use Rattle.std.specs.Prelude.{ℕ, zero, suc, ◌<◌, ◌≤◌, ◌≡◌, ◌≢◌, ◌⊎◌, Bool, true, false, ◌&&◌, ◌||◌, ◌==◌, not, option_map, nat_le, nat_lt, nat_eq, List, ◌∷◌, length, take, drop, slice_index, Option, Some, None, if◌then◌else◌}
 use Rattle.std.specs.Int.{w64, from_be_bytes}
 use Rattle.cx_disk.specs.Disk.{Files, View, LeavesOnly}
 use Rattle.cx_disk.specs.Files.{slot_count}
@@ -20,28 +20,52 @@ iteration_of bytes = from_be_bytes w64 (take 8 (drop 9 bytes))
 abbrev pub header_of : List ℕ → Option ℕ
 header_of bytes = if is_open bytes then Some (iteration_of bytes) else None
 
--- of the slots below a number, the slot is open, and no open one is newer, nor as new with a lesser
--- number
+-- whether a slot's version byte, which is byte 8, is 2
+abbrev pub is_second : List ℕ → Bool
+is_second bytes = slice_index bytes 8 == 2
+
+-- the iteration of an open slot, and whether its version byte is 2
+abbrev pub mark_of : List ℕ → Option (ℕ × Bool)
+mark_of bytes = if is_open bytes then Some (iteration_of bytes, is_second bytes) else None
+
+-- Of the slots below a number, the slot is open, and no open one is newer. Where some of the newest
+-- have the version byte 2, it has too; and of those that are alike in this it has the least number.
 pub record IsNewest (bound : ℕ) (files : Files) (slot : ℕ) (iteration : ℕ) : Type 0 where
   pub known : slot < bound
   pub header : header_of (files slot) ≡ Some iteration
   pub greatest : (other n : ℕ) → other < bound → header_of (files other) ≡ Some n → n ≤ iteration
-  pub least_number : (other n : ℕ) → other < slot → header_of (files other) ≡ Some n → n < iteration
+  pub second_first : (other : ℕ) → other < bound → header_of (files other) ≡ Some iteration
+      → is_second (files other) ≡ true → is_second (files slot) ≡ true
+  pub least_number : (other : ℕ) → other < slot → header_of (files other) ≡ Some iteration
+      → (is_second (files slot) ≡ true) × (is_second (files other) ≡ false)
 
 -- the newest of the slots below a number and its iteration, or none where none is open
 abbrev pub NewestBelow : ℕ → Files → Option (ℕ × ℕ) → Type 0
 NewestBelow bound files None = (slot : ℕ) → slot < bound → header_of (files slot) ≡ None
 NewestBelow bound files (Some found) = IsNewest bound files found.0 found.1
 
-abbrev pub newer : Option (ℕ × ℕ) → ℕ → Option ℕ → Option (ℕ × ℕ)
-newer best slot None = best
-newer None slot (Some n) = Some (slot, n)
-newer (Some found) slot (Some n) = if nat_lt found.1 n then Some (slot, n) else Some found
+-- a slot goes before an earlier one: a greater iteration, or the same one with the version byte 2,
+-- which the earlier one hasn't
+abbrev pub goes_before : Bool → Bool → ℕ → ℕ → Bool
+goes_before second was_second n best = nat_lt best n || ((best == n) && (second && not was_second))
 
--- the newest of the slots below a number and its iteration: of equally new ones the first
+abbrev pub newer : Option (ℕ × ℕ × Bool) → ℕ → Option (ℕ × Bool) → Option (ℕ × ℕ × Bool)
+newer best slot None = best
+newer None slot (Some mark) = Some (slot, mark.0, mark.1)
+newer (Some found) slot (Some mark) = if goes_before mark.1 found.2 mark.0 found.1
+    then Some (slot, mark.0, mark.1) else Some found
+
+-- the newest of the slots below a number, its iteration, and whether its version byte is 2: of
+-- those that are alike the first
+abbrev pub best_below : ℕ → Files → Option (ℕ × ℕ × Bool)
+best_below zero files = None
+best_below (suc slot) files = newer (best_below slot files) slot (mark_of (files slot))
+
+abbrev pub place_of : ℕ × ℕ × Bool → ℕ × ℕ
+place_of best = (best.0, best.1)
+
 abbrev pub newest_below : ℕ → Files → Option (ℕ × ℕ)
-newest_below zero files = None
-newest_below (suc slot) files = newer (newest_below slot files) slot (header_of (files slot))
+newest_below count files = option_map place_of (best_below count files)
 
 -- what is found is the newest of all slots
 abbrev pub IsNewestIn : Files → Option (ℕ × ℕ) → Type 0
@@ -134,6 +158,41 @@ pub record IsWithinClosing (old : View) (c : Files) : Type 0 where
   pub was : old.images image
   pub slots : (slot : ℕ) → slot < slot_count → IsOrClosed (old.seen slot) (c slot)
   pub others : (file : ℕ) → slot_count ≤ file → c file ≡ image file
+
+-- one slot: as it was, or of version 2 and closed
+abbrev pub IsOrShut : List ℕ → List ℕ → Type 0
+IsOrShut was bytes = (bytes ≡ was) ⊎ ((is_second was ≡ true) × (header_of bytes ≡ None))
+
+abbrev pub ShutsOne : ℕ → View → View → Type 0
+ShutsOne slot old new = Step slot (IsOrShut (old.seen slot)) old new
+
+-- if it was of version 2 it is closed, else it is as it was
+abbrev pub IsShutSecond : List ℕ → List ℕ → Type 0
+IsShutSecond was bytes = (header_of bytes ≡ None) ⊎ ((is_second was ≡ false) × (bytes ≡ was))
+
+-- while open slots of version 2 are closed: each slot is as it was, or one of these and closed, and
+-- no other file is another
+pub record IsWithinShutting (old : View) (c : Files) : Type 0 where
+  pub image : Files
+  pub was : old.images image
+  pub slots : (slot : ℕ) → slot < slot_count → IsOrShut (old.seen slot) (c slot)
+  pub others : (file : ℕ) → slot_count ≤ file → c file ≡ image file
+
+abbrev pub ShutsSecond : View → View → Type 0
+ShutsSecond old new = (c : Files) → new.images c → IsWithinShutting old c
+
+abbrev pub LeavesShutting : View → View → Type 0
+LeavesShutting old new = LeavesOnly old new (IsWithinShutting old)
+
+-- each slot that is open has another version byte than 2, and is as it was
+abbrev pub NoneSecond : Files → Files → Type 0
+NoneSecond old new = (slot n : ℕ) → slot < slot_count → header_of (new slot) ≡ Some n
+    → (is_second (new slot) ≡ false) × (new slot ≡ old slot)
+
+-- each slot that had another version byte than 2 is as it was
+abbrev pub KeepsFirst : Files → Files → Type 0
+KeepsFirst old new = (slot : ℕ) → slot < slot_count → is_second (old slot) ≡ false
+    → new slot ≡ old slot
 
 -- calls that close slots: what a crash leaves after them, and at each moment
 abbrev pub ClosesSlots : View → View → Type 0

@@ -1,27 +1,48 @@
 //! Which slot is the newest, and which one a save takes.
-ghost use Rattle.std.specs.Prelude.{◌≡◌, ◌<◌, ◌≤◌, ◌+◌, length, IsTrue, IfOk, IfSome, Some};
+ghost use Rattle.std.specs.Prelude.{◌≡◌, ◌<◌, ◌≤◌, ◌+◌, length, IsTrue, IfOk, IfSome, Some, option_map};
 ghost use Rattle.cx_disk.specs.Keeps.{Keeps};
 ghost use Rattle.cx_disk.specs.Moments.{IsQuiet};
 ghost use Rattle.cx_disk.specs.Files.{slot_count};
-ghost use Rattle.cx_chk.specs.Slots.{IsNewestIn, newer, older, IsNext};
+ghost use Rattle.cx_chk.specs.Slots.{IsNewestIn, goes_before, newer, place_of, older, IsNext};
 
-use crate::header::header;
+use crate::header::{header, mark};
 use cx_disk::{Disk, DiskFault, SLOTS};
 
+// Whether a slot goes before an earlier one.
+fn goes_before(second: bool, was_second: bool, iteration: u64, best: u64) -> bool
+    ensures { result ≡ goes_before second was_second iteration best }
+{
+    best < iteration || (best == iteration && (second && !was_second))
+}
+
 // The newer of the newest so far and one more slot.
-fn newer_of(best: Option<(u32, u64)>, slot: u32, found: Option<u64>) -> Option<(u32, u64)>
+fn newer_of(
+    best: Option<(u32, u64, bool)>,
+    slot: u32,
+    found: Option<(u64, bool)>,
+) -> Option<(u32, u64, bool)>
     ensures { result ≡ newer best slot found }
 {
     match (best, found) {
         (_, None) => best,
-        (None, Some(iteration)) => Some((slot, iteration)),
-        (Some((_, newest)), Some(iteration)) => {
-            if newest < iteration {
-                Some((slot, iteration))
+        (None, Some((iteration, second))) => Some((slot, iteration, second)),
+        (Some((_, newest, was_second)), Some((iteration, second))) => {
+            if goes_before(second, was_second, iteration, newest) {
+                Some((slot, iteration, second))
             } else {
                 best
             }
         }
+    }
+}
+
+// Its place.
+fn place_of(best: Option<(u32, u64, bool)>) -> Option<(u32, u64)>
+    ensures { result ≡ option_map place_of best }
+{
+    match best {
+        Some((slot, iteration, _)) => Some((slot, iteration)),
+        None => None,
     }
 }
 
@@ -52,10 +73,10 @@ pub fn newest<D: Disk>(disk: &mut D) -> Result<Option<(u32, u64)>, DiskFault>
 {
     let mut best = None;
     'look: for slot in 0..SLOTS {
-        let found = header(disk, slot)?;
+        let found = mark(disk, slot)?;
         best = newer_of(best, slot, found);
     }
-    Ok(best)
+    Ok(place_of(best))
 }
 
 // The slot that a save takes.

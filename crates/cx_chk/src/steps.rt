@@ -1,6 +1,7 @@
 //! The steps by which a slot is closed, filled and opened.
 ghost use Rattle.std.specs.Prelude.{◌≡◌, ◌≢◌, ◌<◌, ◌≤◌, [], ◌∷◌, ℕ, List, length, IsTrue, OnOk};
 ghost use Rattle.cx_disk.specs.Disk.{IsSettled};
+ghost use Rattle.cx_disk.specs.Files.{IsFile};
 ghost use Rattle.cx_disk.specs.Keeps.{Keeps};
 ghost use Rattle.cx_chk.specs.Slots.{Closes, IsShutIn, StaysClosed, Opens};
 
@@ -10,7 +11,7 @@ use cx_disk::{Disk, DiskFault, put, trim};
 // Closes a slot, and leaves a shut gate in it.
 pub fn shut<D: Disk>(disk: &mut D, slot: u32) -> Result<(), DiskFault>
     requires mounted { IsTrue (D.mounted disk.old) }
-    requires file { slot < D.file_count disk.old }
+    requires file { IsFile (D.file_count disk.old) slot }
     requires settled { D.tells → IsSettled (D.view disk.old) slot }
     ensures after { D.tells → Closes slot (D.view disk.old) (D.view disk.new) }
     ensures shut { D.tells → OnOk result (IsShutIn slot (D.view disk.new)) }
@@ -32,7 +33,7 @@ pub fn shut<D: Disk>(disk: &mut D, slot: u32) -> Result<(), DiskFault>
 // Writes the body of a slot behind its shut gate.
 pub fn fill<D: Disk>(disk: &mut D, slot: u32, body: &[u8]) -> Result<(), DiskFault>
     requires mounted { IsTrue (D.mounted disk.old) }
-    requires file { slot < D.file_count disk.old }
+    requires file { IsFile (D.file_count disk.old) slot }
     requires shut { D.tells → IsShutIn slot (D.view disk.old) }
     requires seen { D.tells → (D.view disk.old).seen slot ≡ 0 ∷ [] }
     ensures after { D.tells → StaysClosed slot (D.view disk.old) (D.view disk.new) }
@@ -46,7 +47,7 @@ pub fn fill<D: Disk>(disk: &mut D, slot: u32, body: &[u8]) -> Result<(), DiskFau
 // Opens the gate of a slot.
 pub fn open<D: Disk>(disk: &mut D, slot: u32, body: &[u8]) -> Result<(), DiskFault>
     requires mounted { IsTrue (D.mounted disk.old) }
-    requires file { slot < D.file_count disk.old }
+    requires file { IsFile (D.file_count disk.old) slot }
     requires settled { D.tells → IsSettled (D.view disk.old) slot }
     requires seen { D.tells → (D.view disk.old).seen slot ≡ 0 ∷ body.now }
     ensures after { D.tells → Opens slot (1 ∷ body.now) (D.view disk.old) (D.view disk.new) }

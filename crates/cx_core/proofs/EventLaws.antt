@@ -5,6 +5,7 @@ use Rattle.std.proofs.lemmas.List.{length-map}
 use Rattle.std.proofs.lemmas.List.Elements.{All-from_recursion}
 use Rattle.std.proofs.lemmas.Bool.{cases_eq}
 use Rattle.cx_flat.specs.Flats.{Control}
+use Rattle.cx_model.specs.Runs.{Lengths}
 use Rattle.law_network.specs.Machine.{Net, World, Can, IsNext}
 use Rattle.law_network.specs.Machine as network
 use Rattle.law_parts.specs.Holding.{Held}
@@ -175,11 +176,12 @@ no_part false true a k e = cc
 no_part false false true k e = cc
 no_part false false false k e = cc
 
-module _ (tells : Type 0) (r : Run) (oracle : Oracle) (w : World Held (Message tells) Channel ℕ)
+module _ (tells : Type 0) (r : Run) (oracle : Oracle)
+    (w : World Held (Message tells) Channel Lengths)
     (p : Paces)
     (count : length p.parts ≡ parts_in r) (told : TellsEvents tells r oracle w p)
     (goes : GoesOn tells r oracle w) where
-  abbrev N : Net Held (Message tells) Channel Control ℕ
+  abbrev N : Net Held (Message tells) Channel Control Lengths
   N = net tells within_lead r oracle
 
   -- the place of the writer's next work

@@ -4,6 +4,7 @@ use Rattle.std.specs.Prelude.{slice_get, All}
 use Rattle.std.proofs.lemmas.Bool.{cases_lt}
 use Rattle.std.proofs.lemmas.List.Elements.{All-head, All-tail}
 use Rattle.cx_model.specs.Traces.{Trace}
+use Rattle.cx_model.specs.Runs.{Lengths}
 use Rattle.law_network.specs.Machine.{World, Can, CanMove, IsNext, After, IsWork, begun, wrote_at, over_at}
 use Rattle.law_network.specs.Machine as network
 use Rattle.law_network.specs.Together.{Marks, AreWorks, IsNextMark, AreTogether, Waits, PartsGather}
@@ -88,7 +89,7 @@ module _ (tells : Type 0) (r : Run) (trace : Trace) where
         none_before = λ m a b e. next.none_before m a b (ap is_save e);
       }
 
-  waits : (o : Oracle) (w : World Held (Message tells) Channel ℕ) (e : network.Event)
+  waits : (o : Oracle) (w : World Held (Message tells) Channel Lengths) (e : network.Event)
       → (LiesAhead r o w (Some e) → ⊥) → Waits (saves r o) w e
   waits o w (network.Part j) not_ahead = λ n next. go n next (cases_lt n (w.place j))
     where
@@ -105,7 +106,7 @@ module _ (tells : Type 0) (r : Run) (trace : Trace) where
       (Books tells r)
 
   -- for the network of another oracle, which has as many parts and places
-  for_other : (o p : Oracle) (marks : Marks) (w : World Held (Message tells) Channel ℕ)
+  for_other : (o p : Oracle) (marks : Marks) (w : World Held (Message tells) Channel Lengths)
       → AreTogether (net tells within_lead r o) marks w
       → AreTogether (net tells within_lead r p) marks w
   for_other o p marks w t =
@@ -148,7 +149,7 @@ module _ (tells : Type 0) (r : Run) (trace : Trace) where
   none_shown (x ∷ q) (m ∷ ms) shows e = absurd cc
 
   -- the writer's work at a Save finds all queues empty, and leaves them so
-  gathered : (o : Oracle) (w v : World Held (Message tells) Channel ℕ) (n : ℕ)
+  gathered : (o : Oracle) (w v : World Held (Message tells) Channel Lengths) (n : ℕ)
       → IsReachedState tells r o w → AreTogether (net tells within_lead r o) (saves r o) w
       → IsNext (net tells within_lead r o) w n → is_save (next_op r (guided r o n).control) ≡ true
       → v.queue ≡ w.queue
@@ -186,8 +187,9 @@ module _ (tells : Type 0) (r : Run) (trace : Trace) where
 
       kept : (n : ℕ) → After (net tells within_lead r at.oracle) at.world (network.Write n)
           s.there.world → s.there.world.queue ≡ at.world.queue
-      kept n (inl (book, writes, e)) = ap (λ (w : World Held (Message tells) Channel ℕ). w.queue) e
-      kept n (inr (writes, e)) = ap (λ (w : World Held (Message tells) Channel ℕ). w.queue) e
+      kept n (inl (book, writes, e)) =
+          ap (λ (w : World Held (Message tells) Channel Lengths). w.queue) e
+      kept n (inr (writes, e)) = ap (λ (w : World Held (Message tells) Channel Lengths). w.queue) e
 
       by : (e : network.Event) → Can (net tells within_lead r at.oracle) at.world e
           → After (net tells within_lead r at.oracle) at.world e s.there.world
@@ -209,7 +211,7 @@ module _ (tells : Type 0) (r : Run) (trace : Trace) where
         none_left = none_left;
       }
     where
-      starts : (o : Oracle) (w : World Held (Message tells) Channel ℕ)
+      starts : (o : Oracle) (w : World Held (Message tells) Channel Lengths)
           → w ≡ begun (net tells within_lead r (truth r))
           → AreTogether (net tells within_lead r o) (saves r o) w
       starts o w e =

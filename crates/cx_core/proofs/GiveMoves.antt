@@ -152,7 +152,7 @@ module _ {tells : Type 0} {r : Run} {first : Counts} {old : Cores}
     pieces = pieces_kept s new l.pace_is buffers (ap (λ o. work_of o (its s).control.iteration) is)
         (hands_by s (op.Give i) is (λ n piece all. refl));
     room = subst (HasRoom r.setup) (sym buffers) s.at.shows.room;
-    length_is = l.length_is;
+    lengths_are = l.lengths_are;
     met_is = l.met_is;
     outcome_is = l.outcome_is;
     points = points_none s new later l (ap (points_of r k) is);

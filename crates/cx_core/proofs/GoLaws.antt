@@ -181,7 +181,7 @@ module _ (job : Job) (rules : List Rule) (ready : IsReady job) (laws : MoveLaws 
 
     module _ (was is : PatchValue) (here : slice_get old.patches k ≡ Some was) (new : Cores)
         (after : ℕ → ℕ → List (SentMail (IsTrue told))) (later : Counts)
-        (patches : new.patches ≡ set old.patches k is) (length_is : new.length ≡ old.length)
+        (patches : new.patches ≡ set old.patches k is) (lengths_are : new.lengths ≡ old.lengths)
         (outcome_is : new.outcome ≡ old.outcome) where
       abbrev before : Holdings (IsTrue told)
       before = record {
@@ -235,7 +235,7 @@ module _ (job : Job) (rules : List Rule) (ready : IsReady job) (laws : MoveLaws 
       unfolding start
       goes_on pace met d =
           operated_goes start was is here
-          (part_of old.pace k).count count_is new after later patches length_is outcome_is
+          (part_of old.pace k).count count_is new after later patches lengths_are outcome_is
           (pace ∙ ap (λ x. moved_on x old.pace k (scalar_of was.numbers)) (sym run_of_job.setup)
           ∙ ap (λ ns. moved_on r.setup old.pace k (scalar_of ns))
           (at.shows.patches k was here).numbers) met
@@ -248,7 +248,7 @@ module _ (job : Job) (rules : List Rule) (ready : IsReady job) (laws : MoveLaws 
       unfolding start
       meets m pace met d =
           operated_meets start was is here
-          (part_of old.pace k).count count_is new after later patches length_is outcome_is m
+          (part_of old.pace k).count count_is new after later patches lengths_are outcome_is m
           pace met
           (next start) refl (as_its (Some m) d)
 
@@ -303,7 +303,7 @@ module _ (job : Job) (rules : List Rule) (ready : IsReady job) (laws : MoveLaws 
           let all = e ∙ ap (λ (m : Cores). followed (setup_of job) m k (scalar_of was.numbers) None)
           mid_is in
           let there = goes_on was is here new after later (ap (λ (n : Cores). n.patches) all)
-          (ap (λ (n : Cores). n.length) all) (ap (λ (n : Cores). n.outcome) all)
+          (ap (λ (n : Cores). n.lengths) all) (ap (λ (n : Cores). n.outcome) all)
           (ap (λ (n : Cores). n.pace) all) (ap (λ (n : Cores). n.met) all)
           (subst (λ (n : Cores).
           Operates (run_of job rules b) k (part_of old.pace k).place (part_of old.pace k).count
@@ -331,7 +331,7 @@ module _ (job : Job) (rules : List Rule) (ready : IsReady job) (laws : MoveLaws 
                   ∙ key_stays (run_of job rules b) k (part_of old.pace k).place
                   (part_of old.pace k).count (op_of old.pace k) was_holding is_holding None
                   (said None h);
-              length = ap (λ (n : Cores). n.length) all;
+              lengths = ap (λ (n : Cores). n.lengths) all;
               outcome = ap (λ (n : Cores). n.outcome) all;
             },
             there.same_way,
@@ -341,7 +341,7 @@ module _ (job : Job) (rules : List Rule) (ready : IsReady job) (laws : MoveLaws 
           e ∙ ap (λ (q : Cores). followed (setup_of job) q k (scalar_of was.numbers) (Some m))
           mid_is in
           let there = meets was is here new after later (ap (λ (n : Cores). n.patches) all)
-          (ap (λ (n : Cores). n.length) all) (ap (λ (n : Cores). n.outcome) all)
+          (ap (λ (n : Cores). n.lengths) all) (ap (λ (n : Cores). n.outcome) all)
           m (ap (λ (n : Cores). n.pace) all) (ap (λ (n : Cores). n.met) all)
           (subst (λ (n : Cores).
           Operates (run_of job rules b) k (part_of old.pace k).place (part_of old.pace k).count
@@ -363,7 +363,7 @@ module _ (job : Job) (rules : List Rule) (ready : IsReady job) (laws : MoveLaws 
                   ∙ key_stays (run_of job rules b) k (part_of old.pace k).place
                   (part_of old.pace k).count (op_of old.pace k) was_holding is_holding (Some m)
                   (said (Some m) h);
-              length = ap (λ (n : Cores). n.length) all;
+              lengths = ap (λ (n : Cores). n.lengths) all;
               outcome = ap (λ (n : Cores). n.outcome) all;
             },
             there.same_way,
@@ -376,8 +376,8 @@ on_ok (Err e) h f = h
 
 -- a core of these fields
 abbrev pub with_pace : Paces → List PatchValue → List (List (Option Item)) → Given → Buffers
-    → (met outcome : Outcome) → ℕ → VarId → Cores
-with_pace pace patches items given buffers met outcome length section =
+    → (met outcome : Outcome) → (lengths : List ℕ) → VarId → Cores
+with_pace pace patches items given buffers met outcome lengths section =
     record {
       pace = pace;
       patches = patches;
@@ -386,7 +386,7 @@ with_pace pace patches items given buffers met outcome length section =
       buffers = buffers;
       met = met;
       outcome = outcome;
-      length = length;
+      lengths = lengths;
       section = section;
     }
 

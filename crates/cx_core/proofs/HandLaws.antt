@@ -18,6 +18,7 @@ use Rattle.cx_flat.specs.declared.op.Op.{Op}
 use Rattle.cx_flat.specs.declared.op.Op.TheVariants.{Sweep, Apply, Give, Join, Post, Take, Test, Open, Turn, Again, Rotate, Due, Written, Skip, Next, Piece, Save, Halt}
 use Rattle.cx_flat.specs.Flats.{Flat}
 use Rattle.cx_field.specs.Patches.{PatchValue}
+use Rattle.cx_model.specs.Runs.{Lengths}
 use Rattle.law_network.specs.Machine.{World}
 use Rattle.cx_core_buffers.specs.Gathering.{Buffers, HasPiece, piece_of}
 use Rattle.cx_core_buffers.specs.Pieces.{HoldsPiece}
@@ -125,7 +126,7 @@ by_none outcome e = ap ended_as e.1
 
 module _ (tells : Type 0) (t : tells) (r : Run) (trace : Trace) (laws : RunLaws tells r trace)
     (first : Counts) (is : Standing tells) (at : IsAt tells r first is.core is.queue is.now) where
-  abbrev w : World Held (Message tells) Channel ℕ
+  abbrev w : World Held (Message tells) Channel Lengths
   w = at.world
 
   abbrev o : Oracle

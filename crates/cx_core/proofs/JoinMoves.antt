@@ -305,14 +305,15 @@ module _ {tells : Type 0} {r : Run} {first : Counts} {old : Cores}
 
     pub join_goes : new.pace ≡ moved_on r.setup old.pace k (scalar_of (its s).numbers)
         → new.patches ≡ set old.patches k patch → IsPatchOf r.setup (cut_of r) k patch
-        → new.buffers ≡ old.buffers → new.length ≡ old.length → new.met ≡ old.met
+        → new.buffers ≡ old.buffers → new.lengths ≡ old.lengths → new.met ≡ old.met
         → new.outcome ≡ old.outcome
         → (number : ℤ) → number ≡ joined kind (all_fronts old.given k (parts_in r))
         → join_turn r.setup (item r.setup i) (its s).numbers number ≡ Some patch.numbers
         → ((a b : ℕ) → after a b ≡ queue a b) → later.points ≡ now.points
         → later.values ≡ now.values → ((t : tells) → later.sum ≡ now.sum)
         → LedTo s.at k new after later
-    join_goes pace patches frame buffers length_is met outcome number joins turn same points values
+    join_goes pace patches frame buffers lengths_are met outcome number joins turn same points
+        values
         sum = moved_at s new after later (held_with s patch.numbers) (record {
           move =
               subst (λ p. Moves tells r k (its s) (taken_now (network s) (world s) k) p
@@ -340,7 +341,7 @@ module _ {tells : Type 0} {r : Run} {first : Counts} {old : Cores}
           pieces = pieces_kept s new pace buffers (ap (λ o. work_of o (its s).control.iteration) is)
               (hands_by s (op.Join i) is (λ n piece all. refl));
           room = subst (HasRoom r.setup) (sym buffers) s.at.shows.room;
-          length_is = length_is;
+          lengths_are = lengths_are;
           met_is = met;
           outcome_is = outcome;
           points = points ∙ raised_none now.points
@@ -369,7 +370,7 @@ module _ {tells : Type 0} {r : Run} {first : Counts} {old : Cores}
         shown = record { frame = l.frame; numbers = numbers };
         given_is = l.given_is;
         buffers_are = l.buffers_are;
-        length_is = l.length_is;
+        lengths_are = l.lengths_are;
         outcome_is = l.outcome_is;
         end = end;
         end_is = ap (λ o. end_met_by r o (its s).control.iteration) is ∙ end_is;

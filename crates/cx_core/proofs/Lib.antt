@@ -2,6 +2,7 @@ pub mod EventLaws
 pub mod PieceLaws
 pub mod FrontLaws
 pub mod OutLaws
+pub mod LengthLaws
 pub mod WriterLaws
 pub mod HandLaws
 pub mod StepLaws

@@ -10,6 +10,7 @@ use Rattle.cx_rule.specs.States.{scalar_of}
 use Rattle.cx_model.specs.declared.ends.End.{End}
 use Rattle.cx_flat.specs.declared.op.Op.{Op}
 use Rattle.cx_flat.specs.Flats.{Control, Flat}
+use Rattle.cx_model.specs.Runs.{Lengths}
 use Rattle.law_network.specs.Machine.{Net, World, Part, CanMove, After, put, taken_now, queue_after, moved, met}
 use Rattle.law_network.proofs.Put.{put_same, put_other, at_put}
 use Rattle.cx_field.specs.Patches.{PatchValue}
@@ -74,7 +75,7 @@ put_rises f k j m l = go (cases_eq j k)
     go (inr n) = subst (λ n. m ≤ n) (sym (put_other f k (suc (f k)) j n)) l
 
 abbrev pub State : Type 0 → Type 0
-State tells = World Held (Message tells) Channel ℕ
+State tells = World Held (Message tells) Channel Lengths
 
 risen : (c first meter points now later : ℕ) → now ≡ max first (min (first + meter) c) → now ≤ later
     → later ≤ max now (min (now + points) c)
@@ -121,7 +122,7 @@ module _ {tells : Type 0} {r : Run} {first : Counts} {old : Cores}
   abbrev pub next : Op
   next = next_op r (s.at.world.held k).control
 
-  abbrev pub network : Net Held (Message tells) Channel Control ℕ
+  abbrev pub network : Net Held (Message tells) Channel Control Lengths
   network = net tells within_lead r s.at.oracle
 
   abbrev pub places : ℕ → ℕ
@@ -151,7 +152,7 @@ module _ {tells : Type 0} {r : Run} {first : Counts} {old : Cores}
         → AllZip (HoldsWork r new.buffers j) (take (part_of new.pace j).handed new.pace.works)
         (put world.pieces k (world.pieces k ++ network.hands k its) j)
     pub room : HasRoom r.setup new.buffers
-    pub length_is : new.length ≡ old.length
+    pub lengths_are : new.lengths ≡ old.lengths
     pub met_is : new.met ≡ old.met
     pub outcome_is : new.outcome ≡ old.outcome
     pub points : later.points ≡ raised now.points (points_of r k next)
@@ -222,7 +223,7 @@ module _ {tells : Type 0} {r : Run} {first : Counts} {old : Cores}
     pub shown : ShowsPart r k patch its
     pub given_is : new.given ≡ old.given
     pub buffers_are : new.buffers ≡ old.buffers
-    pub length_is : new.length ≡ old.length
+    pub lengths_are : new.lengths ≡ old.lengths
     pub outcome_is : new.outcome ≡ old.outcome
     pub end : End
     pub end_is : end_met_by r next its.control.iteration ≡ Some end
@@ -272,7 +273,7 @@ module _ {tells : Type 0} {r : Run} {first : Counts} {old : Cores}
           (subst (λ p. AllZip (HoldsWork r old.buffers j) (take (part_of p j).handed p.works)
           (world.pieces j)) (sym m.pace_is) (s.at.shows.pieces j l));
       room = subst (HasRoom r.setup) (sym m.buffers_are) s.at.shows.room;
-      book = m.length_is ∙ s.at.shows.book;
+      book = m.lengths_are ∙ s.at.shows.book;
       met = (
         (λ e. absurd (no_most e)),
         λ no. subst (λ (c : Control). (end : End)
@@ -331,7 +332,7 @@ module _ {tells : Type 0} {r : Run} {first : Counts} {old : Cores}
           (sym (joined_same r oracle other (places b) (λ n. keeps.3 b n i)));
       pieces = m.pieces;
       room = m.room;
-      book = m.length_is ∙ s.at.shows.book;
+      book = m.lengths_are ∙ s.at.shows.book;
       met = subst (λ o. MetAt r other world o) (sym m.met_is)
           (met_same other old.met (stop_same other keeps.3) s.at.shows.met);
       over = subst (λ o. OverAs r other world.over o) (sym m.outcome_is) (over_same other);

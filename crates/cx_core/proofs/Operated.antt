@@ -53,7 +53,7 @@ module _ {tells : Type 0} {r : Run} {first : Counts} {old : Cores}
     (was is : PatchValue) (here : slice_get old.patches k ≡ Some was) (count : ℕ)
     (count_is : count ≡ (its s).count % 2 ^ 64)
     (new : Cores) (after : ℕ → ℕ → List (SentMail tells)) (later : Counts)
-    (there : new.patches ≡ set old.patches k is) (length_is : new.length ≡ old.length)
+    (there : new.patches ≡ set old.patches k is) (lengths_are : new.lengths ≡ old.lengths)
     (outcome_is : new.outcome ≡ old.outcome) where
   abbrev before : Holdings tells
   before = record {
@@ -92,7 +92,7 @@ module _ {tells : Type 0} {r : Run} {first : Counts} {old : Cores}
     frame = frame;
     given_is = ap (λ h. h.given) rest;
     buffers_are = ap (λ h. h.buffers) rest;
-    length_is = length_is;
+    lengths_are = lengths_are;
     outcome_is = outcome_is;
     queue_is = λ a b. ap (λ h. h.queue a b) rest;
     values_are = ap (λ h. h.now.values) rest;
@@ -108,7 +108,7 @@ module _ {tells : Type 0} {r : Run} {first : Counts} {old : Cores}
     patch = was;
     patch_is = here;
     patches_are = there ∙ set_again old.patches k was is here same;
-    length_is = length_is;
+    lengths_are = lengths_are;
     outcome_is = outcome_is;
     met_is = met;
     pace_is = pace;
@@ -169,7 +169,7 @@ module _ {tells : Type 0} {r : Run} {first : Counts} {old : Cores}
     operated_goes (op.Join i) e d =
         let rest = d.1 in
         join_goes s i e new after later is d.0.2 pace there (is_frame d.0.1)
-        (ap (λ h. h.buffers) rest) length_is met outcome_is
+        (ap (λ h. h.buffers) rest) lengths_are met outcome_is
         (joined (item r.setup i).kind (all_fronts old.given k (parts_in r))) refl
         (ap (λ ns. join_turn r.setup (item r.setup i) ns
         (joined (item r.setup i).kind (all_fronts old.given k (parts_in r)))) (sym was_numbers)
@@ -185,7 +185,7 @@ module _ {tells : Type 0} {r : Run} {first : Counts} {old : Cores}
     operated_goes (op.Take d vars path) e h =
         let rest = h.1.rest in
         take_goes s d vars path e new after later is h.1.queues pace there (is_frame h.1.frame)
-        (ap (λ h. h.given) rest) (ap (λ h. h.buffers) rest) length_is met outcome_is
+        (ap (λ h. h.given) rest) (ap (λ h. h.buffers) rest) lengths_are met outcome_is
         (subst (λ ns. Filled tells r k d vars (taken_now (network s) (world s) k) ns is.numbers)
         was_numbers (h.1.filled (taken_now (network s) (world s) k)
         (shows_taken s d vars path e)))

@@ -5,7 +5,7 @@ use Rattle.cx_grid.specs.Boxes.{index_in, point_count}
 use Rattle.cx_grid.specs.Grid.{whole}
 use Rattle.cx_plan.specs.declared.variable.VarId.{VarId}
 use Rattle.cx_plan.specs.Lookups.{is_scalar, variable}
-use Rattle.cx_model.specs.Runs.{greatest_output}
+use Rattle.cx_model.specs.Runs.{Lengths, grown_by, greatest_output}
 use Rattle.cx_model.proofs.PointLaws.{wrap-own, same-numbers}
 use Rattle.cx_ascii.specs.Output.{section, line}
 use Rattle.cx_cut.specs.Cuts.{IsCut}
@@ -71,18 +71,19 @@ module _ (tells : Type 0) (r : Run) (cut : IsCut (cut_of r)) (pieces : ℕ → L
     (b : Buffers) (v : VarId) (room : HasPiece r.setup b v)
     (held : (t : tells) (k : ℕ) → k < parts_in r
     → HoldsPiece r.setup (cut_of r) b v k (only_level t (pieces k)))
-    (some_part : 0 < parts_in r) (iteration so_far : ℕ) where
+    (some_part : 0 < parts_in r) (iteration : ℕ) (so_far : Lengths) where
   abbrev text_there : List ℕ
   text_there = text_of_piece r.setup iteration v (piece_of b v)
 
-  pub writes_on : (n : ℕ) → n ≡ so_far + length text_there → n ≤ greatest_output
-      → WritesAt tells r (Piece v) iteration pieces so_far (Some n)
-  writes_on n e l t text h =
+  pub writes_on : so_far v.0 + length text_there ≤ greatest_output
+      → WritesAt tells r (Piece v) iteration pieces so_far
+      (Some (grown_by so_far v (length text_there)))
+  writes_on l t text h =
       let same : length text ≡ length text_there =
       ap length (text_is tells t r cut pieces b v room (held t) some_part iteration text h) in
-      (omega (arith, same, e, l), omega (arith, same, e))
+      (omega (arith, same, l), ap (grown_by so_far v) (sym same))
 
-  pub writes_full : greatest_output < so_far + length text_there
+  pub writes_full : greatest_output < so_far v.0 + length text_there
       → WritesAt tells r (Piece v) iteration pieces so_far None
   writes_full l t text h =
       let same : length text ≡ length text_there =

@@ -194,7 +194,7 @@ module _ {tells : Type 0} {r : Run} {first : Counts} {old : Cores}
         room = subst (HasRoom r.setup) (sym buffers)
             (piece_room r.setup old.buffers s.at.shows.room k (unstaged l.patch)
             its_part.of v piece_has);
-        length_is = l.length_is;
+        lengths_are = l.lengths_are;
         met_is = l.met_is;
         outcome_is = l.outcome_is;
         points = points_none s new later l (ap (points_of r k) is);
@@ -298,7 +298,7 @@ module _ {tells : Type 0} {r : Run} {first : Counts} {old : Cores}
             (state_kept r.setup old.buffers s.at.shows.room k l.patch
             (state_room r.setup (cut_of r) refl grid_tiles k (unstaged l.patch)
             its_part old.buffers.state s.at.shows.room.state one_level));
-        length_is = l.length_is;
+        lengths_are = l.lengths_are;
         met_is = l.met_is;
         outcome_is = l.outcome_is;
         points = points_none s new later l (ap (points_of r k) is);

@@ -53,7 +53,7 @@ module _ {tells : Type 0} {r : Run} {first : Counts} {old : Cores}
     pub patch : PatchValue
     pub patch_is : slice_get old.patches k ≡ Some patch
     pub patches_are : new.patches ≡ old.patches
-    pub length_is : new.length ≡ old.length
+    pub lengths_are : new.lengths ≡ old.lengths
     pub outcome_is : new.outcome ≡ old.outcome
     pub met_is : new.met ≡ old.met
     pub pace_is : new.pace ≡ moved_on r.setup old.pace k (scalar_of (its s).numbers)
@@ -212,7 +212,7 @@ module _ {tells : Type 0} {r : Run} {first : Counts} {old : Cores}
           (ap (λ o. work_of o (its s).control.iteration) is)
           (hands_by s (op.Post d vars) is (λ n piece all. refl));
       room = subst (HasRoom r.setup) (sym buffers) s.at.shows.room;
-      length_is = l.length_is;
+      lengths_are = l.lengths_are;
       met_is = l.met_is;
       outcome_is = l.outcome_is;
       points = points_none new later l (ap (points_of r k) is);

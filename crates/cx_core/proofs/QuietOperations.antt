@@ -292,7 +292,7 @@ module _ {tells : Type 0} {r : Run} {first : Counts} {old : Cores}
     pub frame : IsPatchOf r.setup (cut_of r) k patch
     pub given_is : new.given ≡ old.given
     pub buffers_are : new.buffers ≡ old.buffers
-    pub length_is : new.length ≡ old.length
+    pub lengths_are : new.lengths ≡ old.lengths
     pub outcome_is : new.outcome ≡ old.outcome
     pub queue_is : (a b : ℕ) → after a b ≡ queue a b
     pub values_are : later.values ≡ now.values
@@ -334,7 +334,7 @@ module _ {tells : Type 0} {r : Run} {first : Counts} {old : Cores}
           pieces = pieces_kept s new pace l.buffers_are
               (no_work (next s) (its s).control.iteration quiet) (no_hands r (next s) _ _ _ quiet);
           room = subst (HasRoom r.setup) (sym l.buffers_are) s.at.shows.room;
-          length_is = l.length_is;
+          lengths_are = l.lengths_are;
           met_is = met;
           outcome_is = l.outcome_is;
           points = points;
@@ -357,7 +357,7 @@ module _ {tells : Type 0} {r : Run} {first : Counts} {old : Cores}
       shown = record { frame = l.frame; numbers = numbers };
       given_is = l.given_is;
       buffers_are = l.buffers_are;
-      length_is = l.length_is;
+      lengths_are = l.lengths_are;
       outcome_is = l.outcome_is;
       end = end;
       end_is = is;

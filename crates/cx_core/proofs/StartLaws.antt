@@ -23,6 +23,7 @@ use Rattle.cx_flat.specs.declared.op.Op.{Op}
 use Rattle.cx_flat.specs.Code.{code}
 use Rattle.cx_reduce.specs.Partials.{Reduced}
 use Rattle.law_network.specs.Machine.{begun, sum_below}
+use Rattle.cx_outputs.specs.Names.{output_count, lengths_in}
 use Rattle.cx_core_buffers.specs.Boards.{Given, none_given, queue as waiting}
 use Rattle.cx_core_buffers.specs.Gathering.{fresh, fresh_piece, HasRoom}
 use Rattle.cx_core_buffers.proofs.PieceLaws.{holds_is_state}
@@ -43,8 +44,9 @@ use Rattle.cx_core.specs.declared.answers.Outcome.TheVariants as out
 use Rattle.cx_core.specs.Cores.{Cores, items_in, items_of}
 use Rattle.cx_core.specs.Laws.{RunLaws}
 use Rattle.cx_core.specs.Shows.{Shows, ShowsGiven, HoldsWork, kind_of}
-use Rattle.cx_core.specs.Starts.{begins_in, first_iteration, iteration_in, length_in, CanBegin, AreEmpty, ArePatches}
+use Rattle.cx_core.specs.Starts.{begins_in, first_iteration, iteration_in, lengths_first, CanBegin, AreEmpty, ArePatches}
 use Rattle.cx_core.specs.Steps.{Counts, IsAt, Begins}
+use Rattle.cx_core.proofs.LengthLaws.{Rise, none_again, lengths_again}
 
 -- ---- nothing
 
@@ -77,7 +79,9 @@ fresh_room setup key = record {
         (omega arith))
         ∙ (rw among (length-replicate (number_count setup (variable setup v)) (pos 0)));
   };
-  lengths = refl;
+  version = refl;
+  names = refl;
+  lengths = length-replicate (output_count setup) 0;
   state = record {
     scalars = length-replicate _ (pos 0);
     levels = length-replicate _ (replicate (point_count (whole setup.shape)) (pos 0));
@@ -100,10 +104,12 @@ pub can_begin : (setup : Setup) (state : Option Checkpoint) → CanBegin setup s
 can_begin setup None h = tt
 can_begin setup (Some c) h = (h.0, holds_is_state setup c h.1)
 
-pub length_first : (job : Job) (rules : List Rule) (state : Option Checkpoint)
-    → length_in state ≡ (run_of job rules (begins_in (setup_of job) state)).so_far
-length_first job rules None = refl
-length_first job rules (Some c) = refl
+pub first_lengths : (job : Job) (rules : List Rule) (state : Option Checkpoint)
+    → Rise job.out_vars → CanBegin (setup_of job) state
+    → lengths_first (setup_of job) state
+    ≡ lengths_in job.out_vars (run_of job rules (begins_in (setup_of job) state)).so_far
+first_lengths job rules None rise can = none_again job.out_vars
+first_lengths job rules (Some c) rise can = lengths_again job.out_vars c.lengths rise can.2
 
 pub place_first : (job : Job) (rules : List Rule) (state : Option Checkpoint)
     → first_place (setup_of job) (iteration_in state)
@@ -124,7 +130,7 @@ pub record IsFresh (r : Run) (core : Cores) : Type 0 where
   pub room : HasRoom r.setup core.buffers
   pub met : core.met ≡ out.Going
   pub outcome : core.outcome ≡ out.Going
-  pub length : core.length ≡ r.so_far
+  pub lengths : core.lengths ≡ lengths_in r.setup.out_vars r.so_far
 
 module _ (tells : Type 0) (r : Run) (trace : Trace) (laws : RunLaws tells r trace) (core : Cores)
     (fresh_core : IsFresh r core)
@@ -156,7 +162,7 @@ module _ (tells : Type 0) (r : Run) (trace : Trace) (laws : RunLaws tells r trac
         (sym (ap (take (part_of core.pace k).handed) no_works
         ∙ take_none (part_of core.pace k).handed)) tt;
     room = fresh_core.room;
-    book = fresh_core.length;
+    book = fresh_core.lengths;
     met = (λ e. fresh_core.met, λ never. absurd (never refl));
     over = fresh_core.outcome;
   }
@@ -210,7 +216,7 @@ pub record IsMade (job : Job) (cut : Parts) (state : Option Checkpoint)
   pub buffers : core.buffers ≡ fresh (setup_of job) key
   pub met : core.met ≡ out.Going
   pub outcome : core.outcome ≡ out.Going
-  pub length_is : core.length ≡ length_in state
+  pub lengths_are : core.lengths ≡ lengths_first (setup_of job) state
 
 module _ (job : Job) (rules : List Rule) (cut : Parts) (core : Cores) where
   pace_is : (state : Option Checkpoint) → (made : IsMade job cut state core)
@@ -262,9 +268,10 @@ module _ (job : Job) (rules : List Rule) (cut : Parts) (core : Cores) where
       begins_there None = refl
       begins_there (Some c) = refl
 
-  pub is_fresh : (state : Option Checkpoint) → IsMade job cut state core
+  pub is_fresh : (state : Option Checkpoint) → Rise job.out_vars → CanBegin (setup_of job) state
+      → IsMade job cut state core
       → IsFresh (run_of job rules (begins_in (setup_of job) state)) core
-  is_fresh None made = record {
+  is_fresh None rise can made = record {
     pace = pace_is None made;
     count = many None made;
     patches = patch_is None made;
@@ -273,9 +280,9 @@ module _ (job : Job) (rules : List Rule) (cut : Parts) (core : Cores) where
     room = room_is None made;
     met = made.met;
     outcome = made.outcome;
-    length = made.length_is;
+    lengths = made.lengths_are ∙ first_lengths job rules None rise can;
   }
-  is_fresh (Some c) made = record {
+  is_fresh (Some c) rise can made = record {
     pace = pace_is (Some c) made;
     count = many (Some c) made;
     patches = patch_is (Some c) made;
@@ -284,7 +291,7 @@ module _ (job : Job) (rules : List Rule) (cut : Parts) (core : Cores) where
     room = room_is (Some c) made;
     met = made.met;
     outcome = made.outcome;
-    length = made.length_is;
+    lengths = made.lengths_are ∙ first_lengths job rules (Some c) rise can;
   }
 
 -- each run of a job is of its setup

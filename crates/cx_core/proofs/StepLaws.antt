@@ -133,7 +133,7 @@ module _ (tells : Type 0) (r : Run) (trace : Trace) (laws : RunLaws tells r trac
           falls = (goes tells r trace laws first core queue now at).falls (network.Part j)
               to.0.world can_move to.1;
           less = part_less new to.2;
-          leaves = (to.2.length, to.2.outcome);
+          leaves = (to.2.lengths, to.2.outcome);
           key = to.2.key;
           hands = λ t. (laws.works t at.oracle at.world at.reached).part j to.0.world can_move to.1;
           same_way = to.3;

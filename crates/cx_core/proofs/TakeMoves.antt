@@ -265,7 +265,7 @@ module _ {tells : Type 0} {r : Run} {first : Counts} {old : Cores}
 
     pub take_goes : new.pace ≡ moved_on r.setup old.pace k (scalar_of (its s).numbers)
         → new.patches ≡ set old.patches k patch → IsPatchOf r.setup (cut_of r) k patch
-        → new.given ≡ old.given → new.buffers ≡ old.buffers → new.length ≡ old.length
+        → new.given ≡ old.given → new.buffers ≡ old.buffers → new.lengths ≡ old.lengths
         → new.met ≡ old.met → new.outcome ≡ old.outcome
         → Filled tells r k d vars (taken_now (network s) (world s) k) (its s).numbers patch.numbers
         → later.points ≡ now.points
@@ -273,7 +273,7 @@ module _ {tells : Type 0} {r : Run} {first : Counts} {old : Cores}
         → ((t : tells) → later.sum
         ≡ (now.sum + sum_taken t r k (taken_now (network s) (world s) k)) % 2 ^ 64)
         → LedTo s.at k new after later
-    take_goes pace patches frame given buffers length_is met outcome filled points values sum =
+    take_goes pace patches frame given buffers lengths_are met outcome filled points values sum =
         moved_at s new after later (held_with s patch.numbers) (record {
           move =
               subst (λ p. Moves tells r k (its s) (taken_now (network s) (world s) k) p
@@ -300,7 +300,7 @@ module _ {tells : Type 0} {r : Run} {first : Counts} {old : Cores}
           pieces = pieces_kept s new pace buffers (ap (λ o. work_of o (its s).control.iteration) is)
               (hands_by s (op.Take d vars path) is (λ n piece all. refl));
           room = subst (HasRoom r.setup) (sym buffers) s.at.shows.room;
-          length_is = length_is;
+          lengths_are = lengths_are;
           met_is = met;
           outcome_is = outcome;
           points = points ∙ raised_none now.points

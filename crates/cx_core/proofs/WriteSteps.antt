@@ -1,5 +1,5 @@
 -- The writer's work as the code does it, by the first work that isn't done.
-use Rattle.std.proofs.Common.{◌≡◌, ℕ, Bool, true, false, List, [], ◌∷◌, slice_get, Option, Some, None, refl, sym, ap, subst}
+use Rattle.std.proofs.Common.{◌≡◌, ℕ, Bool, true, false, List, [], ◌∷◌, length, slice_get, Option, Some, None, refl, sym, ap, ◌∙◌, subst}
 use Rattle.std.specs.Prelude.{nat_lt, if◌then◌else◌}
 use Rattle.std.specs.List.{list_all}
 use Rattle.std.proofs.lemmas.Bool.{and_parts, leb-true, leb-false}
@@ -20,7 +20,8 @@ use Rattle.cx_core.specs.Hands.{StepsTo}
 use Rattle.cx_core.specs.Laws.{RunLaws}
 use Rattle.cx_core.specs.Steps.{Counts, Standing as Place, IsAt}
 use Rattle.cx_core.specs.Writes.{HasBuffer, CanWrite, Writes, WritesTo, length_behind, has_space, text_written, limit_met, piece_event}
-use Rattle.cx_core.proofs.WriterLaws.{is_write, in_front_by, has_piece, text_step, limit_step, save_step}
+use Rattle.cx_core.proofs.LengthLaws.{lengths_count}
+use Rattle.cx_core.proofs.WriterLaws.{is_write, in_front_by, has_piece, has_place, text_step, limit_step, save_step}
 
 some_first : (works : List Work) → is_some_work works ≡ true
     → (work : Work) × (slice_get works 0 ≡ Some work)
@@ -57,16 +58,22 @@ module _ (tells : Type 0) (r : Run) (trace : Trace) (laws : RunLaws tells r trac
 
   -- ---- what the code asks for
 
-  buffer : (var : Option VarId) → work.var ≡ var → HasBuffer r.setup core.buffers var
-  buffer None e = at.shows.room.lengths
-  buffer (Some v) e = has_piece tells r trace laws first core queue now at k kth work first_is.1 v
-      work.iteration (by_var (Some v) e)
+  buffer : (var : Option VarId) → work.var ≡ var → HasBuffer r.setup core var
+  buffer None e =
+      at.shows.room.lengths
+      ∙ sym (ap length at.shows.book ∙ lengths_count r.setup.out_vars at.world.book)
+  buffer (Some v) e = (
+    has_piece tells r trace laws first core queue now at k kth work first_is.1 v
+        work.iteration (by_var (Some v) e),
+    has_place tells r trace laws first core queue now at k kth work first_is.1 v
+        work.iteration (by_var (Some v) e),
+  )
 
   pub can_write : (setup : Setup) → r.setup ≡ setup
       → CanWrite setup core (slice_get core.pace.works 0)
   can_write setup same =
       subst (CanWrite setup core) (sym first_is.1)
-      (subst (λ (s : Setup). HasBuffer s core.buffers work.var) same (buffer work.var refl))
+      (subst (λ (s : Setup). HasBuffer s core work.var) same (buffer work.var refl))
 
   -- ---- what it does
 

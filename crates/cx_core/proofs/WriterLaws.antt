@@ -1,6 +1,6 @@
 -- The writer's events: each does what the network says, and is shown by what it leaves of the core.
 use Rattle.std.proofs.Common.{◌≡◌, ℕ, zero, suc, ◌+◌, ◌<◌, ◌≤◌, ◌⊎◌, inl, inr, Bool, true, false, List, [], ◌∷◌, ◌++◌, map, length, take, drop, slice_get, Option, Some, None, option_to_list, arith, refl, sym, ap, ◌∙◌, subst}
-use Rattle.std.specs.Prelude.{nat_lt}
+use Rattle.std.specs.Prelude.{nat_lt, slice_index, slice_set}
 use Rattle.std.specs.List.{AllZip, list_all}
 use Rattle.std.proofs.lemmas.Bool.{and_parts, cases_eq, ltb-true}
 use Rattle.cx_plan.specs.declared.variable.VarId.{VarId}
@@ -9,11 +9,12 @@ use Rattle.cx_plan.specs.Setups.{Setup}
 use Rattle.cx_rule.specs.States.{State}
 use Rattle.cx_model.specs.declared.ends.End.{End}
 use Rattle.cx_model.specs.declared.ends.End.TheVariants as ends
-use Rattle.cx_model.specs.Runs.{greatest_output}
+use Rattle.cx_model.specs.Runs.{Lengths, grown_by, greatest_output}
 use Rattle.cx_model.specs.Traces.{Trace, Entry, Wrote, Saved}
 use Rattle.cx_flat.specs.declared.op.Op.{Op}
 use Rattle.cx_flat.specs.declared.op.Op.TheVariants.{Sweep, Apply, Give, Join, Post, Take, Test, Open, Turn, Again, Rotate, Due, Written, Skip, Next, Piece, Save, Halt}
 use Rattle.cx_flat.specs.Flats.{Control, Flat}
+use Rattle.cx_outputs.specs.Names.{place_in, lengths_in}
 use Rattle.law_network.specs.Machine.{Net, World, Can, After, IsNext, CanEnd, fronts, end_of, wrote_at, over_at, left}
 use Rattle.law_network.specs.Machine as network
 use Rattle.cx_core_buffers.specs.Gathering.{Buffers, HasPiece, HasRoom, piece_of, with_name}
@@ -53,6 +54,7 @@ use Rattle.cx_core.proofs.EventLaws.{event_of, get_map, work_place, are_enabled}
 use Rattle.cx_core.proofs.FrontLaws.{Front, front, zip_weaker, holds_front, holds_on, less_of}
 use Rattle.cx_core.proofs.LeftLaws.{less_written, less_over}
 use Rattle.cx_core.proofs.HandLaws.{text_entry, piece_is, works_are, outcome_is}
+use Rattle.cx_core.proofs.LengthLaws.{place_there, length_there, length_put, lengths_count}
 use Rattle.cx_core.proofs.PieceLaws.{writes_on, writes_full}
 
 none_some : {X : Type 0} (y : X) → None ≡ Some y → ⊥
@@ -168,13 +170,13 @@ ended_same (ends.OutputLimit iteration) = refl
 module _ (tells : Type 0) (r : Run) (trace : Trace) (laws : RunLaws tells r trace) (first : Counts)
     (core : Cores) (queue : ℕ → ℕ → List (SentMail tells)) (now : Counts)
     (at : IsAt tells r first core queue now) where
-  abbrev pub w : World Held (Message tells) Channel ℕ
+  abbrev pub w : World Held (Message tells) Channel Lengths
   w = at.world
 
   abbrev pub o : Oracle
   o = at.oracle
 
-  abbrev pub N : Net Held (Message tells) Channel Control ℕ
+  abbrev pub N : Net Held (Message tells) Channel Control Lengths
   N = net tells within_lead r o
 
   abbrev pub shows : Shows tells r o core queue w
@@ -275,15 +277,15 @@ module _ (tells : Type 0) (r : Run) (trace : Trace) (laws : RunLaws tells r trac
         at.reached.woven.within 0 laws.some_part,
       )
 
-      module _ (buffers : Buffers) (book : ℕ) (section : VarId)
+      module _ (buffers : Buffers) (lengths : List ℕ) (book : Lengths) (section : VarId)
           (on : (j : ℕ) (var : Option VarId) (state : State) → HoldsFor r core.buffers j var state
           → HoldsFor r buffers j var state)
-          (room : HasRoom r.setup buffers) where
+          (room : HasRoom r.setup buffers) (long : lengths ≡ lengths_in r.setup.out_vars book) where
         abbrev behind : Cores
         behind = record core {
           pace = wrote_one core.pace;
           buffers = buffers;
-          length = book;
+          lengths = lengths;
           section = section;
         }
 
@@ -314,7 +316,7 @@ module _ (tells : Type 0) (r : Run) (trace : Trace) (laws : RunLaws tells r trac
           kinds = shows.kinds;
           pieces = pieces_on;
           room = room;
-          book = refl;
+          book = long;
           met = shows.met;
           over = shows.over;
         }
@@ -397,7 +399,7 @@ module _ (tells : Type 0) (r : Run) (trace : Trace) (laws : RunLaws tells r trac
             (λ (x : Work). HoldsFor r core.buffers j x.var (piece_levels t (fronts w j))) is
             (held t j l)
 
-        there : (x : Option ℕ) → WritesAt tells r (Piece v) i (fronts w) w.book x
+        there : (x : Option Lengths) → WritesAt tells r (Piece v) i (fronts w) w.book x
             → WritesAt tells r (next_op r (guided r o n).control) (guided r o n).control.iteration
             (fronts w) w.book x
         there x writes =
@@ -405,29 +407,58 @@ module _ (tells : Type 0) (r : Run) (trace : Trace) (laws : RunLaws tells r trac
             (sym piece.op)
             (subst (λ j. WritesAt tells r (Piece v) j (fronts w) w.book x) piece.at writes)
 
+        -- its output is as long as the book says
+        abbrev size : ℕ
+        size = length (text_of_piece r.setup i v (piece_of core.buffers v))
+
+        long_was : slice_index core.lengths (place_in r.setup.out_vars v) ≡ w.book v.0
+        long_was =
+            ap (λ (ls : List ℕ). slice_index ls (place_in r.setup.out_vars v)) shows.book
+            ∙ length_there w.book v r.setup.out_vars out_is.1
+
+        long_is : length_behind r.setup v i core ≡ w.book v.0 + size
+        long_is = ap (λ (l : ℕ). l + size) long_was
+
+        abbrev book_is : Lengths
+        book_is = grown_by w.book v size
+
+        abbrev lengths_are : List ℕ
+        lengths_are = slice_set core.lengths (place_in r.setup.out_vars v)
+            (length_behind r.setup v i core)
+
+        long : lengths_are ≡ lengths_in r.setup.out_vars book_is
+        long =
+            ap (λ (ls : List ℕ). slice_set ls (place_in r.setup.out_vars v)
+            (length_behind r.setup v i core)) shows.book
+            ∙ ap (slice_set (lengths_in r.setup.out_vars w.book) (place_in r.setup.out_vars v))
+            long_is
+            ∙ length_put w.book v size r.setup.out_vars laws.outputs_rise out_is.1
+
+        pub has_place : place_in r.setup.out_vars v < length core.lengths
+        has_place =
+            let l = place_there v r.setup.out_vars out_is.1 in
+            omega (arith, l, ap length shows.book, lengths_count r.setup.out_vars w.book)
+
         pub text_step : length_behind r.setup v i core ≤ greatest_output
             → StepsTo tells r trace first k was
             (record { core = text_written r.setup v i core; queue = queue; now = now }) at
             (event.Section v i)
         text_step l =
-            goes_on core.buffers (length_behind r.setup v i core) v (λ j var state h. h) shows.room
+            goes_on core.buffers lengths_are book_is v (λ j var state h. h) shows.room long
             (event.Section v i) writes
             (ap (event.Section v) piece.at
             ∙ sym (ap (λ p. work_event p (guided r o n).control.iteration) piece.op))
-            (refl, l, has_piece)
+            (refl, l, has_piece, place_there v r.setup.out_vars out_is.1)
             refl
             hands
           where
             writes : WritesAt tells r (next_op r (guided r o n).control)
-                (guided r o n).control.iteration (fronts w) w.book
-                (Some (length_behind r.setup v i core))
+                (guided r o n).control.iteration (fronts w) w.book (Some book_is)
             writes =
-                there (Some (length_behind r.setup v i core))
+                there (Some book_is)
                 (writes_on tells r laws.cut (fronts w)
                 core.buffers v has_piece held_piece laws.some_part i w.book
-                (length_behind r.setup v i core)
-                (ap (λ b. b + length (text_of_piece r.setup i v (piece_of core.buffers v)))
-                shows.book) l)
+                (subst (λ (x : ℕ). x ≤ greatest_output) long_is l))
 
             entry : (t : tells) → entries_of (notes_of r n)
                 ≡ Wrote v i (text_of_piece r.setup i v (piece_of core.buffers v))
@@ -439,12 +470,12 @@ module _ (tells : Type 0) (r : Run) (trace : Trace) (laws : RunLaws tells r trac
                 (undivided r n).state ∷ []) (iteration_is t i piece.at)
 
             hands : tells → HandsOut r trace (text_written r.setup v i core) (handed_out r w)
-                (handed_out r (wrote_at w n (length_behind r.setup v i core))) (event.Section v i)
+                (handed_out r (wrote_at w n book_is)) (event.Section v i)
             hands t = (
               text_of_piece r.setup i v (piece_of core.buffers v),
               (undivided r n).state,
-              added core.buffers (length_behind r.setup v i core) v (λ j var state h. h)
-                  shows.room t writes ∙ ap (λ (es : List Entry). handed_out r w ++ es) (entry t),
+              added core.buffers lengths_are book_is v (λ j var state h. h) shows.room long t
+                  writes ∙ ap (λ (es : List Entry). handed_out r w ++ es) (entry t),
               piece_is tells t r trace laws n (fronts w) (makes t) core.buffers v
                   (op_is t (Piece v) piece.op) has_piece (held_piece t),
               refl,
@@ -457,8 +488,7 @@ module _ (tells : Type 0) (r : Run) (trace : Trace) (laws : RunLaws tells r trac
               there None
               (writes_full tells r laws.cut (fronts w)
               core.buffers v has_piece held_piece laws.some_part i w.book
-              (subst (λ b. greatest_output
-              < b + length (text_of_piece r.setup i v (piece_of core.buffers v))) shows.book l))
+              (subst (λ (x : ℕ). greatest_output < x) long_is l))
 
           over : OverAs r o (Some n) (out.OutputLimit i)
           over = (
@@ -519,7 +549,7 @@ module _ (tells : Type 0) (r : Run) (trace : Trace) (laws : RunLaws tells r trac
             (work_is ∙ ap Some is)
 
         abbrev named : Buffers
-        named = with_name i core.length core.buffers
+        named = with_name i core.lengths core.buffers
 
         on_named : (j : ℕ) (var : Option VarId) (state : State)
             → HoldsFor r core.buffers j var state → HoldsFor r named j var state
@@ -530,7 +560,9 @@ module _ (tells : Type 0) (r : Run) (trace : Trace) (laws : RunLaws tells r trac
         room_named = record {
           pieces = λ v l a. let h = shows.room.pieces v l a in
               record { var = h.var; there = h.there; room = h.room };
-          lengths = refl;
+          version = shows.room.version;
+          names = shows.room.names;
+          lengths = ap length shows.book ∙ lengths_count r.setup.out_vars w.book;
           state = record {
             scalars = shows.room.state.scalars;
             levels = shows.room.state.levels;
@@ -547,37 +579,42 @@ module _ (tells : Type 0) (r : Run) (trace : Trace) (laws : RunLaws tells r trac
         pub save_step : StepsTo tells r trace first k was
             (record { core = state_written i core; queue = queue; now = now }) at (event.Save i)
         save_step =
-            goes_on named core.length core.section on_named room_named (event.Save i) writes
+            goes_on named core.lengths w.book core.section on_named room_named shows.book
+            (event.Save i) writes
             (ap event.Save saves.1
             ∙ sym (ap (λ p. work_event p (guided r o n).control.iteration) saves.0))
-            (refl, room_named.state)
+            (refl, room_named)
             refl
             hands
           where
             writes : WritesAt tells r (next_op r (guided r o n).control)
-                (guided r o n).control.iteration (fronts w) w.book (Some core.length)
+                (guided r o n).control.iteration (fronts w) w.book (Some w.book)
             writes =
                 subst (λ p. WritesAt tells r p (guided r o n).control.iteration (fronts w) w.book
-                (Some core.length)) (sym saves.0) (ap Some shows.book)
+                (Some w.book)) (sym saves.0) refl
 
             hands : tells → HandsOut r trace (state_written i core) (handed_out r w)
-                (handed_out r (wrote_at w n core.length)) (event.Save i)
+                (handed_out r (wrote_at w n w.book)) (event.Save i)
             hands t =
                 let op = op_is t Save saves.0 in (
                   (undivided r n).state,
-                  added named core.length core.section on_named room_named t writes
+                  added named core.lengths w.book core.section on_named room_named shows.book t
+                      writes
                       ∙ ap (λ (es : List Entry). handed_out r w ++ es)
                       ((makes t).entry op
                       ∙ ap (λ j. Saved j (undivided r n).state ∷ [])
                       (iteration_is t i saves.1)),
                   record {
+                    version_is = shows.room.version;
+                    names_is = shows.room.names;
                     iteration_is = refl;
                     state_is = state_is r.setup (cut_of r) refl (tiles (cut_of r) laws.cut)
                         core.buffers.state shows.room.state laws.some_part (undivided r n).state
                         (laws.states n)
                         (λ j. piece_levels t (fronts w j)) (held_state t)
                         (λ j l. (makes t).state op j l);
-                    lengths_is = ap (λ x. x ∷ []) (shows.book ∙ laws.length_is t o w at.reached);
+                    lengths_is = shows.book
+                        ∙ ap (lengths_in r.setup.out_vars) (laws.book_is t o w at.reached);
                   },
                 )
 

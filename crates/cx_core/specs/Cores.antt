@@ -17,7 +17,8 @@ use Rattle.cx_core.specs.declared.answers.Outcome.TheVariants.{Done, Overflow, W
 
 -- Where the parts stand, their patches and their items, the numbers that they have given for
 -- reductions, the writer's buffers, the end that the least of the parts that met one has met, how
--- the run has ended, how long the output is, and the variable whose text came last.
+-- the run has ended, how long each output is, by the variables that are written, and the variable
+-- whose text came last.
 pub record Cores : Type 0 where
   pub pace : Paces
   pub patches : List PatchValue
@@ -26,7 +27,7 @@ pub record Cores : Type 0 where
   pub buffers : Buffers
   pub met : Outcome
   pub outcome : Outcome
-  pub length : ℕ
+  pub lengths : List ℕ
   pub section : VarId
 
 -- each part's items, with their parameters in the iteration that it is in

@@ -6,15 +6,16 @@ use Rattle.cx_plan.specs.Setups.{Setup}
 use Rattle.cx_plan.specs.Lookups.{is_scalar, levels_of}
 use Rattle.cx_rule.specs.States.{State, level_of, scalar_of}
 use Rattle.cx_rule.specs.Meter.{raised}
-use Rattle.cx_model.specs.Runs.{output_of, greatest_output}
+use Rattle.cx_model.specs.Runs.{Lengths, lengths_behind, greatest_output}
 use Rattle.cx_model.specs.Traces.{Entry, Wrote, Saved, Trace, Goes, Ends, Outcome as TraceOutcome}
+use Rattle.cx_outputs.specs.Names.{output_count, output_names, lengths_in, place_in}
 use Rattle.law_network.specs.Machine.{World, left}
 use Rattle.law_network.specs.Machine as network
 use Rattle.cx_field.specs.Patches.{PatchValue, IsScalar}
 use Rattle.cx_wire.specs.Received.{counted}
 use Rattle.cx_chk.specs.declared.checkpoint.Checkpoint.{Checkpoint}
-use Rattle.cx_core_buffers.specs.Checkpoints.{HoldsState, state_of}
-use Rattle.cx_core_buffers.specs.Gathering.{HasPiece, piece_of}
+use Rattle.cx_core_buffers.specs.Checkpoints.{state_of}
+use Rattle.cx_core_buffers.specs.Gathering.{HasPiece, HasRoom, piece_of}
 use Rattle.cx_core_events.specs.Shows.{IsBehindSave, SameWay}
 use Rattle.law_parts.specs.Holding.{Held}
 use Rattle.law_parts.specs.Moves.{Message, Channel}
@@ -36,12 +37,14 @@ use Rattle.cx_core.specs.Texts.{text_of_piece}
 abbrev pub whole_piece : Setup → VarId → State → List ℤ
 whole_piece setup v state = if is_scalar setup v then scalar_of state v ∷ [] else level_of state v 0
 
--- a checkpoint of an iteration, with the whole state and the length of the output
+-- a checkpoint of an iteration, with the whole state and the outputs' names and lengths
 pub record IsCheckpointOf (setup : Setup) (c : Checkpoint) (iteration : ℕ) (state : State)
-    (output : ℕ) : Type 0 where
+    (so_far : Lengths) : Type 0 where
+  pub version_is : c.version ≡ 2
+  pub names_is : c.names ≡ output_names setup
   pub iteration_is : c.iteration ≡ iteration
   pub state_is : state_of setup.vars c ≡ state
-  pub lengths_is : c.lengths ≡ output ∷ []
+  pub lengths_is : c.lengths ≡ lengths_in setup.out_vars so_far
 
 -- the outcome by which a run ends
 abbrev pub ended_as : TraceOutcome → Outcome
@@ -57,8 +60,7 @@ HandsOut r trace core before now (Section v iteration) =
     × (text ≡ text_of_piece r.setup iteration v (piece_of core.buffers v))
 HandsOut r trace core before now (Save iteration) =
     (state : State) × (now ≡ before ++ Saved iteration state ∷ [])
-    × IsCheckpointOf r.setup core.buffers.state iteration state
-    (r.so_far + length (output_of before))
+    × IsCheckpointOf r.setup core.buffers.state iteration state (lengths_behind r.so_far before)
 HandsOut r trace core before now End =
     (now ≡ before) × (works_of trace.entries ≡ now) × (core.outcome ≡ ended_as trace.outcome)
 
@@ -70,16 +72,18 @@ pub record HasTotals (r : Run) (trace : Trace) (first now : Counts) : Type 0 whe
 
 -- ---- steps
 
--- What an answer leaves of the core, whatever its wire tells. A part's operation leaves the output
--- as long as it is. A text or a checkpoint is there to be lent; the run is over by the end that was
--- met, or by a text with which the output would pass its limit.
+-- What an answer leaves of the core, whatever its wire tells. A part's operation leaves the outputs
+-- as long as they are. A text of a variable that is written or a checkpoint is there to be lent;
+-- the run is over by the end that was met, or by a text with which its own output would pass the
+-- limit.
 abbrev pub Leaves : Setup → (was is : Cores) → Event → Type 0
-Leaves setup was is (Part k) = (is.length ≡ was.length) × (is.outcome ≡ was.outcome)
+Leaves setup was is (Part k) = (is.lengths ≡ was.lengths) × (is.outcome ≡ was.outcome)
 Leaves setup was is (Section v iteration) =
-    (is ≡ text_written setup v iteration was) × (is.length ≤ greatest_output)
-    × HasPiece setup is.buffers v
+    (is ≡ text_written setup v iteration was)
+    × (length_behind setup v iteration was ≤ greatest_output) × HasPiece setup is.buffers v
+    × (place_in setup.out_vars v < output_count setup)
 Leaves setup was is (Save iteration) =
-    (is ≡ state_written iteration was) × HoldsState setup is.buffers.state
+    (is ≡ state_written iteration was) × HasRoom setup is.buffers
 Leaves setup was is End =
     (is ≡ run_ended was)
     ⊎ ((v : VarId) × (iteration : ℕ) × (is ≡ limit_met iteration was)
@@ -138,7 +142,7 @@ pub record Tells (tells : Type 0) (r : Run) (trace : Trace) (first : Counts)
   pub done : is.core.outcome ≡ Done → IsDone tells r trace first is
 
 -- an event is the operation of a part that stands behind the writer's next checkpoint
-abbrev pub LiesAhead : {tells : Type 0} → Run → Oracle → World Held (Message tells) Channel ℕ
+abbrev pub LiesAhead : {tells : Type 0} → Run → Oracle → World Held (Message tells) Channel Lengths
     → Option network.Event → Type 0
 LiesAhead r oracle w (Some (network.Part k)) = IsBehindSave r oracle w k
 LiesAhead r oracle w (Some (network.Write n)) = ⊥

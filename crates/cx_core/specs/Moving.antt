@@ -257,12 +257,12 @@ pub record MoveLaws (job : Job) (rules : List Rule) : Type 0 where
       → TakenAddsUp (IsTrue told) (run_of job rules b)
 
 -- Where part k stands behind its operation, or that it has met an end. The key of the checkpoints,
--- the output's length and the outcome stay.
+-- the outputs' lengths and the outcome stay.
 pub record MovesOn (setup : Setup) (k : ℕ) (old new : Cores) : Type 0 where
   pub pace : ((scalars : VarId → ℤ) × (new.pace ≡ moved_on setup old.pace k scalars))
       ⊎ (new.pace ≡ met_by old.pace k)
   pub key : new.buffers.state.key ≡ old.buffers.state.key
-  pub length : new.length ≡ old.length
+  pub lengths : new.lengths ≡ old.lengths
   pub outcome : new.outcome ≡ old.outcome
 
 -- From where they are the operation of part k leads to a state that they show after it.

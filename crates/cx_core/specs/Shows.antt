@@ -8,6 +8,8 @@ use Rattle.cx_plan.specs.Lookups.{item}
 use Rattle.cx_rule.specs.States.{State, level_of}
 use Rattle.cx_cut.specs.Cuts.{owned}
 use Rattle.cx_model.specs.declared.ends.End.{End}
+use Rattle.cx_model.specs.Runs.{Lengths}
+use Rattle.cx_outputs.specs.Names.{lengths_in}
 use Rattle.law_network.specs.Machine.{World}
 use Rattle.cx_field.specs.Patches.{PatchValue}
 use Rattle.cx_reduce.specs.Partials.{Reduced}
@@ -74,8 +76,8 @@ HoldsWork r b k work (Given number) = ⊥
 HoldsWork {tells} r b k work (Handed n state) = (t : tells) → HoldsFor r b k work.var (state t)
 
 -- the end that a part met at the stop, or none
-abbrev pub MetAt : {tells : Type 0} → Run → Oracle → World Held (Message tells) Channel ℕ → Outcome
-    → Type 0
+abbrev pub MetAt : {tells : Type 0} → Run → Oracle → World Held (Message tells) Channel Lengths
+    → Outcome → Type 0
 MetAt r oracle w met =
     (w.stop ≡ r.most → met ≡ Going)
     × ((w.stop ≡ r.most → ⊥) → (end : End)
@@ -95,7 +97,7 @@ OverAs r oracle (Some n) outcome =
 
 pub record Shows (tells : Type 0) (r : Run) (oracle : Oracle) (core : Cores)
     (queue : ℕ → ℕ → List (SentMail tells))
-    (w : World Held (Message tells) Channel ℕ) : Type 0 where
+    (w : World Held (Message tells) Channel Lengths) : Type 0 where
   pub pace : ShowsPace tells r oracle w core.pace
   pub count : length core.patches ≡ parts_in r
   pub patches : (k : ℕ) (p : PatchValue) → slice_get core.patches k ≡ Some p
@@ -115,6 +117,6 @@ pub record Shows (tells : Type 0) (r : Run) (oracle : Oracle) (core : Cores)
       → AllZip (HoldsWork r core.buffers k) (take (part_of core.pace k).handed core.pace.works)
       (w.pieces k)
   pub room : HasRoom r.setup core.buffers
-  pub book : core.length ≡ w.book
+  pub book : core.lengths ≡ lengths_in r.setup.out_vars w.book
   pub met : MetAt r oracle w core.met
   pub over : OverAs r oracle w.over core.outcome

@@ -1,11 +1,12 @@
 -- Where a core begins.
-use Rattle.std.specs.Prelude.{ℕ, ◌≤◌, ◌≡◌, List, [], Option, Some, None, slice_get, slice_index_or}
+use Rattle.std.specs.Prelude.{ℕ, ◌≤◌, ◌≡◌, List, [], length, replicate, Option, Some, None, slice_get}
 use Rattle.cx_grid.specs.Grid.{HasInterior}
 use Rattle.cx_plan.specs.declared.job.Job.{Job}
 use Rattle.cx_plan.specs.Paths.{Sound}
 use Rattle.cx_plan.specs.Regions.{HasShapes}
 use Rattle.cx_plan.specs.Setups.{Setup, setup_of}
 use Rattle.cx_plan.specs.Whole.{IsWhole}
+use Rattle.cx_outputs.specs.Names.{output_count, lengths_by}
 use Rattle.cx_chk.specs.declared.checkpoint.Checkpoint.{Checkpoint}
 use Rattle.cx_field.specs.Patches.{PatchValue, with_numbers}
 use Rattle.cx_rule.specs.Routine.{Rule}
@@ -26,14 +27,15 @@ pub record IsReady (job : Job) : Type 0 where
   pub sound : Sound (setup_of job)
   pub cut : IsCut (parts_of job.shape job.cut)
 
--- the iteration of a checkpoint, and the length of the output there
+-- the iteration of a checkpoint
 abbrev pub iteration_in : Option Checkpoint → Option ℕ
 iteration_in None = None
 iteration_in (Some c) = Some c.iteration
 
-abbrev pub length_in : Option Checkpoint → ℕ
-length_in None = 0
-length_in (Some c) = slice_index_or c.lengths 0 0
+-- how long each output is as a run begins, by the variables that are written
+abbrev pub lengths_first : Setup → Option Checkpoint → List ℕ
+lengths_first setup None = replicate (output_count setup) 0
+lengths_first setup (Some c) = c.lengths
 
 -- the iteration at which a run begins
 abbrev pub first_iteration : Option Checkpoint → ℕ
@@ -43,12 +45,15 @@ first_iteration (Some c) = c.iteration
 -- a run begins at its start, or in the state of a checkpoint
 abbrev pub begins_in : Setup → Option Checkpoint → Beginning
 begins_in setup None = Afresh
-begins_in setup (Some c) = From c.iteration (state_of setup.vars c) (slice_index_or c.lengths 0 0)
+begins_in setup (Some c) =
+    From c.iteration (state_of setup.vars c) (lengths_by setup.out_vars c.lengths)
 
--- the checkpoint fits the job: it holds a whole state of an iteration of the run
+-- the checkpoint fits the job: it holds a whole state of an iteration of the run, and a length for
+-- each output
 abbrev pub CanBegin : Setup → Option Checkpoint → Type 0
 CanBegin setup None = Unit {0}
-CanBegin setup (Some c) = (c.iteration ≤ setup.itlast) × HoldsState setup c
+CanBegin setup (Some c) =
+    (c.iteration ≤ setup.itlast) × HoldsState setup c × (length c.lengths ≡ output_count setup)
 
 -- no messages in any queue
 abbrev pub AreEmpty : {M : Type 0} → (ℕ → ℕ → List M) → Type 0

@@ -4,6 +4,7 @@ use Rattle.cx_plan.specs.declared.job.Job.{Job}
 use Rattle.cx_plan.specs.Setups.{setup_of}
 use Rattle.cx_rule.specs.Meter.{raised}
 use Rattle.cx_rule.specs.Routine.{Rule}
+use Rattle.cx_model.specs.Runs.{Lengths}
 use Rattle.law_network.specs.Machine.{World, Can, After, left, begun}
 use Rattle.law_network.specs.Machine as network
 use Rattle.cx_wire.specs.Messages.{Sent as SentMail}
@@ -47,7 +48,7 @@ stands_at core queue points values sum =
 -- part's items are those of its iteration.
 pub record IsAt (tells : Type 0) (r : Run) (first : Counts) (core : Cores)
     (queue : ℕ → ℕ → List (SentMail tells)) (now : Counts) : Type 0 where
-  pub world : World Held (Message tells) Channel ℕ
+  pub world : World Held (Message tells) Channel Lengths
   pub oracle : Oracle
   pub reached : IsReachedState tells r oracle world
   pub shows : Shows tells r oracle core queue world
@@ -84,7 +85,7 @@ Rises f (e ∷ es) = All (λ (d : network.Event). f e < f d) es × Rises f es
 
 -- the events that can happen, each once, in their order
 pub record AreEnabled (tells : Type 0) (r : Run) (oracle : Oracle)
-    (w : World Held (Message tells) Channel ℕ) (es : List network.Event) : Type 0 where
+    (w : World Held (Message tells) Channel Lengths) (es : List network.Event) : Type 0 where
   pub each : All (λ (e : network.Event). Can (net tells within_lead r oracle) w e) es
   pub all : (e : network.Event) → Can (net tells within_lead r oracle) w e → Contains es e
   pub order : Rises (rank (parts_in r)) es
@@ -95,7 +96,7 @@ work_event (ops.Piece v) iteration = Section v iteration
 work_event ops.Save iteration = Save iteration
 work_event _ iteration = End
 
--- what is answered for a work; one that would pass the limit of the output is the end
+-- what is answered for a work; one with which its own output would pass the limit is the end
 abbrev pub AnswersWork : Run → Oracle → ℕ → Option ℕ → Event → Type 0
 AnswersWork r oracle n None event =
     event ≡ work_event (next_op r (guided r oracle n).control) (guided r oracle n).control.iteration
@@ -103,14 +104,14 @@ AnswersWork r oracle n (Some m) event = event ≡ End
 
 -- what is answered for an event
 abbrev pub Answers : {tells : Type 0} → Run → Oracle → network.Event
-    → World Held (Message tells) Channel ℕ → Event → Type 0
+    → World Held (Message tells) Channel Lengths → Event → Type 0
 Answers r oracle (network.Part k) new event = event ≡ Part k
 Answers r oracle (network.Write n) new event = AnswersWork r oracle n new.over event
 Answers r oracle network.End new event = event ≡ End
 
 -- the k-th of the events that can happen is done, and no other
 pub record DoesEvent (tells : Type 0) (r : Run) (k : ℕ) (oracle : Oracle)
-    (old new : World Held (Message tells) Channel ℕ) (event : Event) : Type 0 where
+    (old new : World Held (Message tells) Channel Lengths) (event : Event) : Type 0 where
   pub events : List network.Event
   pub enabled : AreEnabled tells r oracle old events
   pub which : network.Event

@@ -11,7 +11,7 @@ use thiserror::Error;
 pub enum Event {
     /// The next operation of a part.
     Part(u32),
-    /// The text of a variable in an iteration comes next in the output; `piece` lends its numbers.
+    /// The text of a variable in an iteration comes next in its output; `piece` lends its numbers.
     Section { var: VarId, iteration: u64 },
     /// The checkpoint of an iteration comes next; `state` lends it.
     Save(u64),
@@ -49,6 +49,6 @@ pub enum Outcome {
     Overflow(u64, Text),
     /// A WHILE of this path took its last turn in this iteration, and its scalar wasn't 0.
     WhileLimit(u64, Text),
-    /// The output would have passed its limit in this iteration.
+    /// An output would have passed its limit in this iteration.
     OutputLimit(u64),
 }

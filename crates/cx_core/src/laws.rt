@@ -16,7 +16,7 @@ use cx_flat::{all_ways, flat_is_run, operation_needs_met};
 use cx_plan::Job;
 use law_parts::each_event_keeps;
 use law_reached::{
-    book_is_length, done_matches, each_event_keeps_way, each_state_goes_on, end_is_the_runs,
+    book_is_lengths, done_matches, each_event_keeps_way, each_state_goes_on, end_is_the_runs,
     one_way, taken_adds_up, works_in_order,
 };
 
@@ -37,7 +37,7 @@ pub(crate) fn run_laws(job: &Job)
     each_event_keeps_way(job);
     one_way(job);
     works_in_order(job);
-    book_is_length(job);
+    book_is_lengths(job);
     end_is_the_runs(job);
     done_matches(job);
     taken_adds_up(job);

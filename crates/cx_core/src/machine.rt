@@ -29,8 +29,8 @@ pub struct Core {
     /// The end that the least of the parts that met one has met.
     pub(crate) met: Outcome,
     pub(crate) outcome: Outcome,
-    /// How long the output is.
-    pub(crate) length: u64,
+    /// How long each output is, by the variables that are written.
+    pub(crate) lengths: Vec<u64>,
     /// The variable whose text came last.
     pub(crate) section: VarId,
 }
@@ -48,7 +48,7 @@ impl Model for Core {
       buffers = c.gathering;
       met = c.met;
       outcome = c.outcome;
-      length = c.length;
+      lengths = c.lengths.items;
       section = c.section;
     } };
 }
@@ -100,11 +100,11 @@ impl Core {
         &self.outcome
     }
 
-    /// How long the output is.
-    pub fn length(&self) -> u64
-        ensures { result ≡ self.now.length }
+    /// How long each output is, by the variables that are written.
+    pub fn lengths(&self) -> &[u64]
+        ensures { result.now ≡ self.now.lengths }
     {
-        self.length
+        &self.lengths
     }
 
     /// A scalar's number as the first part has it. All parts have it in a run that is done.

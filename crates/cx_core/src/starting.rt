@@ -13,7 +13,7 @@ ghost use Rattle.law_parts.specs.Nets.{held_first};
 ghost use Rattle.cx_core_part.specs.Copies.{copies_at};
 ghost use Rattle.cx_core_part.specs.Jobs.{IsCutOf};
 ghost use Rattle.cx_core_part.specs.Frames.{IsPatchOf};
-ghost use Rattle.cx_core.specs.Starts.{IsReady, CanBegin, AreEmpty, begins_in, first_iteration, iteration_in, length_in, ArePatches, HasFirst, filled_first};
+ghost use Rattle.cx_core.specs.Starts.{IsReady, CanBegin, AreEmpty, begins_in, first_iteration, iteration_in, lengths_first, ArePatches, HasFirst, filled_first};
 ghost use Rattle.cx_core.specs.Steps.{Counts, Begins};
 ghost use Rattle.cx_core.specs.declared.answers.Outcome.TheVariants as outcomes;
 
@@ -48,7 +48,8 @@ impl Core {
             (run_of job.now rules (begins_in (setup_of job.now) (option_copied state.entry)))
             first core queue) }
         ensures key { IfOk result (λ core. core.buffers.state.key ≡ job.now.key) }
-        ensures length { IfOk result (λ core. core.length ≡ length_in (option_copied state.entry)) }
+        ensures lengths { IfOk result (λ core. core.lengths
+            ≡ lengths_first (setup_of job.now) (option_copied state.entry)) }
         ensures going { IfOk result (λ core. core.outcome ≡ outcomes.Going) }
     {
         run_laws(job);
@@ -58,6 +59,7 @@ impl Core {
         let items = first_items(alloc, job, parts, first_iteration(state))?;
         let boards = Boards::new(alloc, parts)?;
         let gathering = Gathering::new(alloc, job, job.key.copy(alloc)?)?;
+        let lengths = lengths_first(alloc, job, state)?;
         let ops = flatten(alloc, job)?;
         Ok(Core {
             pace: Pace::new(alloc, job, cut, ops, iteration_in(state))?,
@@ -67,7 +69,7 @@ impl Core {
             gathering,
             met: Outcome::Going,
             outcome: Outcome::Going,
-            length: length_in(state),
+            lengths,
             section: VarId(0),
         })
     }
@@ -104,16 +106,14 @@ fn first_iteration(state: Option<&Checkpoint>) -> u64
     }
 }
 
-/// How long the output is at a checkpoint.
-fn length_in(state: Option<&Checkpoint>) -> u64
-    ensures { result ≡ length_in (option_copied state.entry) }
+/// How long each output is as a run begins, by the variables that are written.
+fn lengths_first(alloc: Global, job: &Job, state: Option<&Checkpoint>) -> Result<Vec<u64>, Memory>
+    ensures { IfOk result (λ lengths. lengths.items
+        ≡ lengths_first (setup_of job.now) (option_copied state.entry)) }
 {
     match state {
-        None => 0,
-        Some(checkpoint) => match checkpoint.lengths.as_slice().first() {
-            None => 0,
-            Some(length) => *length,
-        },
+        None => Ok(vec![in alloc; 0; job.out_vars.len()]?),
+        Some(checkpoint) => Ok(checkpoint.lengths.as_slice().to_vec(alloc)?),
     }
 }
 

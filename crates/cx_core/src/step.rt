@@ -27,7 +27,7 @@ impl Core {
     /// Does the `k`-th event that can happen: those of the parts come first, by part, and the writer's comes last.
     ///
     /// `job`, `routines` and `wire` are the same in each step of a run, and the queues of the wire hold just the messages that this core
-    /// has posted and not taken. A text with which the output would pass its limit isn't handed out: that step answers `End`.
+    /// has posted and not taken. A text with which its own output would pass the limit isn't handed out: that step answers `End`.
     ///
     /// # Errors
     ///

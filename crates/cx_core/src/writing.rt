@@ -3,6 +3,7 @@ ghost use Rattle.std.specs.Prelude.{◌≡◌, ◌<◌, ◌+◌, ◌∷◌, ℕ,
 ghost use Rattle.cx_plan.specs.Setups.{setup_of};
 ghost use Rattle.cx_plan.specs.Whole.{IsWhole, IsVariable};
 ghost use Rattle.cx_model.specs.Runs.{greatest_output};
+ghost use Rattle.cx_outputs.specs.Names.{place_in};
 ghost use Rattle.cx_core_buffers.specs.Gathering.{HasPiece};
 ghost use Rattle.cx_core_events.specs.Events.{writer_going};
 ghost use Rattle.cx_core_events.specs.declared.standing.Next.TheVariants as next;
@@ -14,14 +15,15 @@ ghost use Rattle.cx_core.specs.Writes.{CanWrite, Writes, ended_by, piece_event, 
 use crate::answers::{Event, Outcome};
 use crate::machine::Core;
 use cx_ascii::{line_length, section_length};
+use cx_outputs::place_in;
 use cx_plan::{Job, VarId};
 use cx_text::{List, Memory};
 use std::alloc::Global;
 
-/// The output has at most this many bytes.
+/// Each output has at most this many bytes.
 const GREATEST_OUTPUT: u64 = 1 << 32;
 
-/// Does the first work that isn't done: a text or a checkpoint comes next, or the run is over by the limit of the output.
+/// Does the first work that isn't done: a text or a checkpoint comes next, or the run is over by the limit of an output.
 pub(crate) fn write(core: &mut Core, job: &Job) -> Event
     requires whole { IsWhole job.now }
     requires going { writer_going core.old.pace ≡ Some next.Write }
@@ -41,32 +43,34 @@ pub(crate) fn write(core: &mut Core, job: &Job) -> Event
 /// The checkpoint of an iteration comes next.
 fn write_state(core: &mut Core, iteration: u64) -> Event
     requires going { writer_going core.old.pace ≡ Some next.Write }
-    requires lengths { length core.old.buffers.state.lengths ≡ 1 }
+    requires lengths { length core.old.buffers.state.lengths ≡ length core.old.lengths }
     ensures new { core.new ≡ state_written iteration core.old }
     ensures event { result ≡ Event.Save iteration }
 {
-    core.gathering.name_state(iteration, core.length);
+    core.gathering.name_state(iteration, &core.lengths);
     core.pace.wrote();
     Event::Save(iteration)
 }
 
-/// The text of a variable comes next, or the output would pass its limit.
+/// The text of a variable comes next, or its output would pass the limit.
 fn write_piece(core: &mut Core, job: &Job, v: VarId, iteration: u64) -> Event
     requires whole { IsWhole job.now }
     requires going { writer_going core.old.pace ≡ Some next.Write }
     requires piece { HasPiece (setup_of job.now) core.old.buffers v }
+    requires output { place_in job.now.out_vars v < length core.old.lengths }
     ensures new { core.new ≡ piece_written (setup_of job.now) v iteration core.old }
     ensures event { result ≡ piece_event (setup_of job.now) v iteration core.old }
 {
+    let place = place_in(job.out_vars.as_slice(), v);
     let text = text_length(job, iteration, v, core.gathering.piece(v));
-    match length_behind(core.length, text) {
+    match length_behind(core.lengths[place], text) {
         None => {
             core.outcome = Outcome::OutputLimit(iteration);
             core.pace.over();
             Event::End
         }
         Some(length) => {
-            core.length = length;
+            core.lengths[place] = length;
             core.section = v;
             core.pace.wrote();
             Event::Section { var: v, iteration }

@@ -24,6 +24,7 @@ use Rattle.cx_cut.specs.Cuts.{Parts, part_count, owned, local}
 use Rattle.cx_cut.specs.Tiling.{Tiles}
 use Rattle.cx_chk.specs.declared.checkpoint.Checkpoint.{Checkpoint}
 use Rattle.cx_field.specs.Patches.{PatchValue, IsPatch}
+use Rattle.cx_model.specs.Runs.{Lengths}
 use Rattle.law_parts.specs.Holding.{number_at, local_values, state_in}
 use Rattle.law_parts.specs.Beginnings.{From, run_of}
 use Rattle.law_parts.specs.Moves.{Message}
@@ -552,8 +553,8 @@ module _ (setup : Setup) (chk : Checkpoint) (h : HoldsState setup chk) where
 -- ---- a run that goes on from a checkpoint
 
 -- a part that is filled from it holds what a part holds at the beginning of the run
-pub scattered_first : (job : Job) (rules : List Rule) (chk : Checkpoint) (so_far k : ℕ)
-    (p : PatchValue)
+pub scattered_first : (job : Job) (rules : List Rule) (chk : Checkpoint)
+    (so_far : Lengths) (k : ℕ) (p : PatchValue)
     → p.local
     ≡ local (cut_of (run_of job rules (From chk.iteration (state_of job.vars chk) so_far))) k
     → scattered (setup_of job) chk p

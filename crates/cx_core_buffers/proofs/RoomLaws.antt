@@ -12,6 +12,7 @@ use Rattle.cx_plan.specs.Lookups.{variable, is_scalar}
 use Rattle.cx_plan.specs.Regions.{is_among}
 use Rattle.cx_rule.specs.States.{level_of, scalar_of}
 use Rattle.cx_model.specs.States.{number_count}
+use Rattle.cx_outputs.specs.Names.{output_count}
 use Rattle.cx_field.specs.Patches.{PatchValue}
 use Rattle.cx_core_buffers.specs.Checkpoints.{HoldsState, total}
 use Rattle.cx_core_buffers.specs.Gathering.{Buffers, piece_of, fresh_piece, fresh_state, fresh, HasPiece, HasRoom, IsPatchOf, piece_put, with_piece, state_put, with_state, with_name}
@@ -19,7 +20,13 @@ use Rattle.cx_core_buffers.proofs.PutLaws.{put_length}
 use Rattle.cx_plan.specs.Whole.{scalar_count, level_count}
 
 pub fresh_room : (setup : Setup) (key : List ℕ) → HasRoom setup (fresh setup key)
-fresh_room setup key = record { pieces = pieces; lengths = refl; state = state }
+fresh_room setup key = record {
+  pieces = pieces;
+  version = refl;
+  names = refl;
+  lengths = length-replicate (output_count setup) 0;
+  state = state;
+}
   where
     many : length (fresh setup key).pieces ≡ length setup.vars
     many = length-map-range_with_len (fresh_piece setup) 0 (length setup.vars)
@@ -83,7 +90,13 @@ module _ (setup : Setup) (b : Buffers) (room : HasRoom setup b) where
               ∙ sym (ap (λ (t : Bool). if t then 1 else point_count (whole setup.shape)) e)
 
       pub piece_room : HasRoom setup new
-      piece_room = record { pieces = pieces; lengths = room.lengths; state = room.state }
+      piece_room = record {
+        pieces = pieces;
+        version = room.version;
+        names = room.names;
+        lengths = room.lengths;
+        state = room.state;
+      }
         where
           many : length new.pieces ≡ length b.pieces
           many = length-set b.pieces v.0 level
@@ -112,15 +125,20 @@ module _ (setup : Setup) (b : Buffers) (room : HasRoom setup b) where
   state_kept k p holds = record {
     pieces = λ w l e. let old = room.pieces w l e in
         record { var = l; there = old.there; room = old.room };
+    version = room.version;
+    names = room.names;
     lengths = room.lengths;
     state = holds;
   }
 
-  pub name_room : (iteration output : ℕ) → HasRoom setup (with_name iteration output b)
-  name_room iteration output = record {
+  pub name_room : (iteration : ℕ) (lengths : List ℕ) → length lengths ≡ output_count setup
+      → HasRoom setup (with_name iteration lengths b)
+  name_room iteration lengths many = record {
     pieces = λ w l e. let old = room.pieces w l e in
         record { var = l; there = old.there; room = old.room };
-    lengths = refl;
+    version = room.version;
+    names = room.names;
+    lengths = many;
     state = record {
       scalars = room.state.scalars;
       levels = room.state.levels;

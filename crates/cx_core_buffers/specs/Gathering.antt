@@ -10,6 +10,7 @@ use Rattle.cx_plan.specs.Regions.{is_among}
 use Rattle.cx_rule.specs.States.{State, level_of, scalar_of}
 use Rattle.cx_model.specs.States.{number_count}
 use Rattle.cx_model.specs.Turns.{values_of}
+use Rattle.cx_outputs.specs.Names.{output_count, output_names}
 use Rattle.cx_chk.specs.declared.checkpoint.Checkpoint.{Checkpoint}
 use Rattle.cx_field.specs.Patches.{PatchValue}
 use Rattle.law_parts.specs.Holding.{number_at, state_in}
@@ -38,9 +39,11 @@ fresh_piece setup v =
 abbrev pub fresh_state : Setup → List ℕ → Checkpoint
 fresh_state setup key =
     record {
+      version = 2;
       iteration = 0;
       key = key;
-      lengths = 0 ∷ [];
+      names = output_names setup;
+      lengths = replicate (output_count setup) 0;
       scalars = replicate (total scalar_count setup.vars) (pos 0);
       levels = replicate (total level_count setup.vars)
           (replicate (point_count (whole setup.shape)) (pos 0));
@@ -59,11 +62,14 @@ pub record HasPiece (setup : Setup) (b : Buffers) (v : VarId) : Type 0 where
   pub there : v.0 < length b.pieces
   pub room : length (piece_of b v) ≡ number_count setup (variable setup v)
 
--- a buffer for each variable that is written, and for a checkpoint
+-- a buffer for each variable that is written, and for a checkpoint of version 2, with the name and a
+-- length of each output
 pub record HasRoom (setup : Setup) (b : Buffers) : Type 0 where
   pub pieces : (v : VarId) → v.0 < length setup.vars → is_among v setup.out_vars ≡ true
       → HasPiece setup b v
-  pub lengths : length b.state.lengths ≡ 1
+  pub version : b.state.version ≡ 2
+  pub names : b.state.names ≡ output_names setup
+  pub lengths : length b.state.lengths ≡ output_count setup
   pub state : HoldsState setup b.state
 
 -- ---- putting a part's numbers
@@ -110,18 +116,10 @@ state_put setup k p c =
 abbrev pub with_state : Setup → ℕ → PatchValue → Buffers → Buffers
 with_state setup k p b = record b { state = state_put setup k p b.state }
 
--- a checkpoint of this iteration and this length of the output
-abbrev pub with_name : ℕ → ℕ → Buffers → Buffers
-with_name iteration length b =
-    record b {
-      state = record {
-        iteration = iteration;
-        key = b.state.key;
-        lengths = length ∷ [];
-        scalars = b.state.scalars;
-        levels = b.state.levels;
-      };
-    }
+-- a checkpoint of this iteration and these lengths of the outputs
+abbrev pub with_name : ℕ → List ℕ → Buffers → Buffers
+with_name iteration lengths b =
+    record b { state = record b.state { iteration = iteration; lengths = lengths } }
 
 -- ---- a part filled from a checkpoint
 

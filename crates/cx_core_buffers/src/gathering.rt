@@ -1,5 +1,5 @@
 //! The writer's buffers, in which the pieces of all parts make a whole level or a checkpoint.
-ghost use Rattle.std.specs.Prelude.{◌≡◌, ◌<◌, ◌≤◌, ◌+◌, ◌==◌, ◌∷◌, [], true, ℤ, List as ListOf, IfOk, length, map, slice_index_or, slice_set, pos, if◌then◌else◌, All};
+ghost use Rattle.std.specs.Prelude.{◌≡◌, ◌<◌, ◌≤◌, ◌+◌, ◌==◌, ◌∷◌, [], true, ℤ, List as ListOf, IfOk, length, map, replicate, slice_index_or, slice_set, pos, if◌then◌else◌, All};
 ghost use Rattle.std.specs.List.{range_with_len};
 ghost use Rattle.cx_grid.specs.Boxes.{point_count};
 ghost use Rattle.cx_grid.specs.Grid.{IsShape, whole};
@@ -22,6 +22,7 @@ use crate::sizes::{
 };
 use cx_chk::Checkpoint;
 use cx_field::Patch;
+use cx_outputs::output_names;
 use cx_plan::{Job, VarId, VarInfo};
 use cx_text::{List, Memory, Text};
 use std::alloc::Global;
@@ -106,13 +107,14 @@ impl Gathering {
         put_grids(self.alloc, &mut self.state.levels, vars, patch);
     }
 
-    /// Names the checkpoint: the iteration at whose place it is taken, and the length of the output there.
-    pub fn name_state(&mut self, iteration: u64, output: u64)
-        requires { length self.old.state.lengths ≡ 1 }
-        ensures { self.new ≡ with_name iteration output self.old }
+    /// Names the checkpoint: the iteration at whose place it is taken, and the lengths of the outputs there, by the variables that are
+    /// written.
+    pub fn name_state(&mut self, iteration: u64, lengths: &[u64])
+        requires { length self.old.state.lengths ≡ length lengths.now }
+        ensures { self.new ≡ with_name iteration lengths.now self.old }
     {
         self.state.iteration = iteration;
-        set_length(self.alloc, &mut self.state.lengths, output);
+        set_lengths(self.alloc, &mut self.state.lengths, lengths);
     }
 }
 
@@ -164,13 +166,11 @@ fn fresh_pieces(alloc: Global, job: &Job) -> Result<Vec<List<i64>>, Memory>
     Ok(pieces)
 }
 
-/// A list of this number.
-fn one(alloc: Global, number: u64) -> Result<List<u64>, Memory>
-    ensures { IfOk result (λ numbers. numbers ≡ number ∷ []) }
+/// So many lengths, all 0.
+fn no_lengths(alloc: Global, count: usize) -> Result<List<u64>, Memory>
+    ensures { IfOk result (λ lengths. lengths ≡ replicate count 0) }
 {
-    let mut numbers = List::empty(alloc);
-    numbers.push(number)?;
-    Ok(numbers)
+    Ok(List::new(vec![in alloc; 0; count]?))
 }
 
 /// A checkpoint into which nothing is put yet.
@@ -180,9 +180,11 @@ fn fresh_state(alloc: Global, job: &Job, key: Text) -> Result<Checkpoint, Memory
 {
     let vars = job.vars.as_slice();
     Ok(Checkpoint {
+        version: 2,
         iteration: 0,
         key,
-        lengths: one(alloc, 0)?,
+        names: output_names(alloc, job)?,
+        lengths: no_lengths(alloc, job.out_vars.len())?,
         scalars: zeros(alloc, scalar_total(vars))?,
         levels: zero_levels(alloc, level_total(vars), points(&job.shape))?,
     })
@@ -252,14 +254,14 @@ fn set_number(alloc: Global, list: &mut List<i64>, number: i64)
     *list = List::new(numbers);
 }
 
-/// Sets a list of one length.
-fn set_length(alloc: Global, list: &mut List<u64>, output: u64)
-    requires { length list.old ≡ 1 }
-    ensures { list.new ≡ output ∷ [] }
+/// Sets all of a list of lengths.
+fn set_lengths(alloc: Global, list: &mut List<u64>, lengths: &[u64])
+    requires { length list.old ≡ length lengths.now }
+    ensures { list.new ≡ lengths.now }
 {
-    let mut lengths = mem::replace(list, List::empty(alloc)).into_vec();
-    lengths[0] = output;
-    *list = List::new(lengths);
+    let mut numbers = mem::replace(list, List::empty(alloc)).into_vec();
+    numbers.copy_from_slice(lengths);
+    *list = List::new(numbers);
 }
 
 /// Sets the scalars to those of part 0, or leaves them.

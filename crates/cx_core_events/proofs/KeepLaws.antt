@@ -7,6 +7,7 @@ use Rattle.law_network.specs.Machine.{Event, Part, Write, End, Can, After, CanMo
 use Rattle.law_network.specs.Machine as machine
 use Rattle.law_network.specs.Agreement.{Fits, Ends}
 use Rattle.law_network.proofs.Runs as runs
+use Rattle.cx_model.specs.Runs.{Lengths}
 use Rattle.law_parts.specs.Laws.{IsReachedState}
 use Rattle.law_parts.specs.Moves.{Moves}
 use Rattle.law_parts.specs.Nets.{net, within_lead, WritesAt}
@@ -155,7 +156,7 @@ module _ (tells : Type 0) (r : Run) (run : IsRun r) (oracle : Oracle) (w : State
   behind_next n x is e = ap (λ xs. xs ++ option_to_list (work_there r oracle n)) (before_next n is)
       ∙ ap (λ o. works_before r oracle w.wrote ++ option_to_list o) e
 
-  pub wrote_kept : (n book : ℕ) → IsNext (net tells within_lead r oracle) w n
+  pub wrote_kept : (n : ℕ) (book : Lengths) → IsNext (net tells within_lead r oracle) w n
       → WritesAt tells r (next_op r (guided r oracle n).control)
       (guided r oracle n).control.iteration (fronts w) w.book (Some book)
       → IsReachedState tells r oracle (machine.wrote_at w n book)

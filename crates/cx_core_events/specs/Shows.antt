@@ -4,6 +4,7 @@ use Rattle.std.specs.Prelude.{ℕ, zero, suc, ◌+◌, ◌%◌, ◌^◌, ◌<◌
 use Rattle.std.specs.Option.{option_to_list}
 use Rattle.cx_flat.specs.declared.op.Op.TheVariants.{Save}
 use Rattle.cx_flat.specs.Code.{code}
+use Rattle.cx_model.specs.Runs.{Lengths}
 use Rattle.law_network.specs.Machine.{World, CanMove, IsNext, CanEnd, begun, taken_now, fronts, end_of}
 use Rattle.law_network.specs.Machine as machine
 use Rattle.cx_rule.specs.States.{scalar_of}
@@ -24,7 +25,7 @@ use Rattle.cx_core_events.specs.Steps.{all_at, moved_on, met_by, wrote_one, over
 
 -- the state of the network of a run
 abbrev pub State : Type 0 → Type 0
-State tells = World Held (Message tells) Channel ℕ
+State tells = World Held (Message tells) Channel Lengths
 
 -- the work of the operation at a place, and the works of all places before one, in the run's order
 abbrev pub work_there : Run → Oracle → ℕ → Option Work
@@ -142,7 +143,7 @@ pub record KeepsPace (tells : Type 0) (r : Run) (oracle : Oracle) (w : State tel
       (next_op r (w.held k).control) None
       → IsReachedState tells r oracle (machine.met w k meter)
       × ShowsPace tells r oracle (machine.met w k meter) (met_by p k)
-  pub wrote : (n book : ℕ) → IsNext (net tells within_lead r oracle) w n
+  pub wrote : (n : ℕ) (book : Lengths) → IsNext (net tells within_lead r oracle) w n
       → WritesAt tells r (next_op r (guided r oracle n).control)
       (guided r oracle n).control.iteration (fronts w) w.book (Some book)
       → IsReachedState tells r oracle (machine.wrote_at w n book)

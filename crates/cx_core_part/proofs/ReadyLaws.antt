@@ -8,6 +8,7 @@ use Rattle.cx_plan.specs.Regions.{HasShapes}
 use Rattle.cx_plan.specs.Setups.{setup_of}
 use Rattle.cx_plan.specs.Whole.{IsWhole}
 use Rattle.cx_rule.specs.Routine.{Rule}
+use Rattle.cx_model.specs.Runs.{Lengths}
 use Rattle.cx_model.specs.Turns.{values_of}
 use Rattle.cx_cut.specs.Cuts.{IsCut}
 use Rattle.cx_cut.specs.Faults.{parts_of}
@@ -61,7 +62,7 @@ behind_post Save d vars path h = absurd cc
 behind_post Halt d vars path h = absurd cc
 
 module _ (tells : Type 0) (r : Run) (run : IsRun r) (oracle : Oracle)
-    (w : World Held (Message tells) Channel ℕ) (is : IsReachedState tells r oracle w)
+    (w : World Held (Message tells) Channel Lengths) (is : IsReachedState tells r oracle w)
     (k : ℕ) (can : CanMove (net tells within_lead r oracle) w k) (d : ℕ) (vars : List VarId)
     (path : List ℕ) (here : next_op r (w.held k).control ≡ Take d vars path) where
   found_there : (a : ℕ) → taken_now (net tells within_lead r oracle) w k (Wire a k)

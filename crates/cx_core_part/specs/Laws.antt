@@ -1,6 +1,7 @@
 -- What holds of wires that show the queues of a run.
 use Rattle.std.specs.Prelude.{ℕ, ◌<◌, ◌≡◌, List}
 use Rattle.cx_plan.specs.declared.variable.VarId.{VarId}
+use Rattle.cx_model.specs.Runs.{Lengths}
 use Rattle.law_network.specs.Machine.{World, CanMove}
 use Rattle.cx_wire.specs.Messages.{Sent as SentMail}
 use Rattle.cx_ghost.specs.Takes.{needed, BeginsWith}
@@ -16,7 +17,7 @@ use Rattle.cx_core_part.specs.Exchanges.{ShowsWire}
 -- all that it takes of it
 abbrev pub TakesAreThere : (tells : Type 0) → Run → Type 0
 TakesAreThere tells r =
-    (oracle : Oracle) (w : World Held (Message tells) Channel ℕ) (k d : ℕ) (vars : List VarId)
+    (oracle : Oracle) (w : World Held (Message tells) Channel Lengths) (k d : ℕ) (vars : List VarId)
     (path : List ℕ)
     → IsReachedState tells r oracle w → CanMove (net tells within_lead r oracle) w k
     → next_op r (w.held k).control ≡ Take d vars path

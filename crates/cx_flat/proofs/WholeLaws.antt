@@ -6,7 +6,7 @@ use Rattle.cx_plan.specs.Lookups.{STARTUP, WRAGH, PARAMCHECK, BASEGRID, INITIAL,
 use Rattle.cx_rule.specs.Routine.{Rule}
 use Rattle.cx_model.specs.States.{State, start}
 use Rattle.cx_model.specs.Stages.{Stage, bins, before_analysis, from_analysis, iteration, rest_behind, stages, stages_after}
-use Rattle.cx_model.specs.Runs.{run_stages, limited}
+use Rattle.cx_model.specs.Runs.{Lengths, no_lengths, run_stages, limited}
 use Rattle.cx_flat.specs.declared.op.Op.{Op}
 use Rattle.cx_flat.specs.declared.op.Op.TheVariants as op
 use Rattle.cx_model.specs.Courses.{Note, cut, course_stages}
@@ -181,7 +181,7 @@ module _ (setup : Setup) (rules : List Rule) (dims : ℕ) (some_dims : setup.sha
         at_loop)))
         (does_rest 0 setup.itlast (omega arith))
 
-    runs_as : (first : Flat) (goal : Flat) (so_far : ℕ) (ss : List Stage) (state : State)
+    runs_as : (first : Flat) (goal : Flat) (so_far : Lengths) (ss : List Stage) (state : State)
         → Runs setup rules (code setup) first goal (course_stages setup rules ss state).notes
         → goal.state ≡ (course_stages setup rules ss state).state
         → op_at (code setup) goal.control.pc ≡ op.Halt
@@ -206,8 +206,8 @@ module _ (setup : Setup) (rules : List Rule) (dims : ℕ) (some_dims : setup.sha
           undivided = runs_as (first_flat setup)
               (placed (in_turn setup rules (code setup) dims some_dims setup.itlast)
               (end_place + length end_bins)
-              (course_stages setup rules (stages setup) (start setup)).state) 0 (stages setup)
-              (start setup) (does_all (start setup)) refl at_halt;
+              (course_stages setup rules (stages setup) (start setup)).state) no_lengths
+              (stages setup) (start setup) (does_all (start setup)) refl at_halt;
           continued = λ c state so_far l.
               let e : analysis ≡ analysis_place setup = omega arith in
               runs_as (flat_after setup c state)

@@ -4,7 +4,7 @@ use Rattle.cx_plan.specs.Setups.{Setup}
 use Rattle.cx_rule.specs.Routine.{Rule}
 use Rattle.cx_model.specs.States.{State}
 use Rattle.cx_model.specs.Traces.{Trace}
-use Rattle.cx_model.specs.Runs.{limited, undivided_run, continued_run}
+use Rattle.cx_model.specs.Runs.{Lengths, no_lengths, limited, undivided_run, continued_run}
 use Rattle.cx_flat.specs.declared.op.Op.TheVariants.{Halt}
 use Rattle.cx_model.specs.Courses.{Note, cut}
 use Rattle.cx_flat.specs.Code.{code, op_at}
@@ -12,7 +12,7 @@ use Rattle.cx_flat.specs.Flats.{Flat, flat_from, noted_from, is_halt, GoesOn, In
 
 -- the operations come to the last one after so many, and what they note up to the first end, within
 -- the limit of the output, is a run
-pub record RunsAs (setup : Setup) (rules : List Rule) (first : Flat) (so_far : ℕ)
+pub record RunsAs (setup : Setup) (rules : List Rule) (first : Flat) (so_far : Lengths)
     (run : Trace) : Type 0 where
   pub count : ℕ
   pub goes_on : GoesOn setup rules (code setup) count first
@@ -25,8 +25,8 @@ pub record RunsAs (setup : Setup) (rules : List Rule) (first : Flat) (so_far : �
 
 -- the undivided run, and each run that is continued from a checkpoint place
 pub record FlatIsRun (setup : Setup) (rules : List Rule) : Type 0 where
-  pub undivided : RunsAs setup rules (first_flat setup) 0 (undivided_run setup rules)
-  pub continued : (c : ℕ) (state : State) (so_far : ℕ) → c ≤ setup.itlast
+  pub undivided : RunsAs setup rules (first_flat setup) no_lengths (undivided_run setup rules)
+  pub continued : (c : ℕ) (state : State) (so_far : Lengths) → c ≤ setup.itlast
       → RunsAs setup rules (flat_after setup c state) so_far
       (continued_run setup rules c state so_far)
 

@@ -15,6 +15,7 @@ pub mod MatchedLaws
 pub mod TouchLaws
 pub mod WholeJobs
 pub mod FitLaws
+pub mod KeyNameLaws
 pub mod TreeLaws
 pub mod MeantLaws
 pub mod NamesLaws

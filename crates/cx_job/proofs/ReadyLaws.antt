@@ -38,6 +38,7 @@ use Rattle.cx_job.specs.Making.{Orders, Matches, CutAnd, part_limits, cut_limits
 use Rattle.cx_job.proofs.MakingLaws.{yields_halt, yields_pass, yields_ok, unless_ok}
 use Rattle.cx_job_values.proofs.NoneLaws.{first_none, second_none}
 use Rattle.cx_job.proofs.WholeJobs.{is_whole, not_over}
+use Rattle.cx_job.proofs.KeyNameLaws.{KeyNames, key_names, short_names}
 use Rattle.cx_job.proofs.FitLaws.{fits}
 use Rattle.cx_job.proofs.CapLaws.{IsRunWith, job_fits}
 
@@ -163,17 +164,21 @@ module _ (specs : List Spec) (thorns : List Thorn) (values : Values) (ordered : 
           (fits thorns planned.files values specs ordered items out_vars planned.plan
           (yields_ok (Matches thorns values specs ordered) items matches))
 
+      pub names_of : KeyNames job
+      names_of = subst KeyNames (sym the_job)
+          (key_names (job_by items) (job_by items).shape thorns values ordered.text refl)
+
 pub unmapped : (o : Option CutFault) → option_map faults.Cut o ≡ None → o ≡ None
 unmapped None none = refl
 unmapped (Some e) none = absurd cc
 
 pub ready_of : (specs : List Spec) (job : Job) (r : Result Job JobFault) → IsWhole job
-    → All (IsRunWith specs job) (run_items (setup_of job)) → Yields (CutAnd specs job) r
-    → IfOk r (IsReady specs)
-ready_of specs job (Err e) whole run accepted = tt
-ready_of specs job (Ok other) whole run (inl m) = absurd cc
-ready_of specs job (Ok other) whole run (inr (inl (e, s, z))) = absurd cc
-ready_of specs job (Ok other) whole run (inr (inr (x, s, t))) =
+    → All (IsRunWith specs job) (run_items (setup_of job)) → KeyNames job
+    → Yields (CutAnd specs job) r → IfOk r (IsReady specs)
+ready_of specs job (Err e) whole run names accepted = tt
+ready_of specs job (Ok other) whole run names (inl m) = absurd cc
+ready_of specs job (Ok other) whole run names (inr (inl (e, s, z))) = absurd cc
+ready_of specs job (Ok other) whole run names (inr (inr (x, s, t))) =
     let cut = unless_ok (cut_limits specs job) job x (inr s) in
     let parts = option_map faults.Cut (cut_fault (parts_of job.shape job.cut)) in
     let cells = over (codes "local cells") (local_cells job) (2 ^ 27) in
@@ -188,6 +193,7 @@ ready_of specs job (Ok other) whole run (inr (inr (x, s, t))) =
           (first_none parts (part_limits specs job) cut.0);
       few_cells = not_over (codes "local cells") (local_cells job) (2 ^ 27)
           (first_none cells (caps_fault specs job) none);
+      names = short_names job whole names;
     })
 
 -- ---- the plan and the variables that are written

@@ -7,6 +7,7 @@ use Rattle.cx_plan.specs.Setups.{setup_of}
 use Rattle.cx_plan.specs.Regions.{HasShapes}
 use Rattle.cx_plan.specs.Paths.{Sound}
 use Rattle.cx_plan.specs.Whole.{IsWhole}
+use Rattle.cx_outputs.specs.Names.{HasShortNames}
 use Rattle.cx_plan.specs.declared.variable.VarId.{VarId}
 use Rattle.cx_plan.specs.declared.item.Item.{Item}
 use Rattle.cx_plan.specs.declared.job.Job.{Job}
@@ -154,6 +155,7 @@ pub record IsReady (specs : List Spec) (job : Job) : Type 0 where
   pub fit : FitJob specs job
   pub cut : cut_fault (parts_of job.shape job.cut) ≡ None
   pub few_cells : local_cells job ≤ 2 ^ 27
+  pub names : HasShortNames (setup_of job)
 
 -- the plan of some schedule files of thorns that fit each other
 pub record IsPlanned (thorns : List Thorn) (values : Values) (ordered : Ordered) : Type 0 where

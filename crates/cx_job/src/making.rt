@@ -8,6 +8,7 @@ ghost use Rattle.cx_plan.specs.Setups.{setup_of};
 ghost use Rattle.cx_plan.specs.Regions.{HasShapes};
 ghost use Rattle.cx_plan.specs.Paths.{Sound};
 ghost use Rattle.cx_plan.specs.Whole.{IsWhole};
+ghost use Rattle.cx_outputs.specs.Names.{HasShortNames};
 ghost use Rattle.cx_rule.specs.Jobs.{FitJob};
 ghost use Rattle.cx_bind.specs.Binding.{bind_fault};
 ghost use Rattle.cx_bind.specs.Variables.{variable_infos};
@@ -132,7 +133,7 @@ fn made_of(alloc: Global, configured: Configured, specs: &[&Spec]) -> Result<Job
 /// point of the item that reads most. Cut: `cut` of cx_cut refuses the job's cut. TooLarge: the object of an item of a bin that is run
 /// has a `cap` below the points of the largest part, its ghosts among them: the item's path, these points, and the `cap`.
 ///
-/// So the grid of a job has interior points, and may be cut as the job says.
+/// So the grid of a job has interior points, and may be cut as the job says; and its key has the name of each variable.
 pub fn make_job<H: Shelf>(
     alloc: Global,
     shelf: &mut H,
@@ -147,6 +148,7 @@ pub fn make_job<H: Shelf>(
     ensures cut { IfOk result (λ job. cut_fault (parts_of job.shape job.cut) ≡ None) }
     ensures interior { IfOk result (λ job. HasInterior job.shape) }
     ensures few_cells { IfOk result (λ job. local_cells job ≤ 2 ^ 27) }
+    ensures names { IfOk result (λ job. HasShortNames (setup_of job)) }
     // The objects fit the job, and sweep each part of its cut.
     ensures fit { IfOk result (λ job. FitJob (map spec_of routines.now) job) }
 {

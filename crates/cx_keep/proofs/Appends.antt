@@ -1,15 +1,14 @@
 -- A piece appended to an output.
-use Rattle.std.proofs.Common.{◌≡◌, inl, inr, ℕ, ◌+◌, ◌≤◌, ◌<◌, min, List, ◌++◌, length, take, drop, get_or, refl, sym, ◌∙◌, ap, subst, arith}
-use Rattle.std.specs.Prelude.{Option, Some, None, IfSome}
+use Rattle.std.proofs.Common.{◌≡◌, inl, inr, ℕ, ◌+◌, ◌≤◌, ◌<◌, min, List, ◌++◌, length, take, drop, refl, sym, ◌∙◌, ap, subst, arith}
+use Rattle.std.specs.Prelude.{Bool, true, false, Option, Some, None, IfSome}
 use Rattle.std.proofs.lemmas.Bool.{cases_eq}
-use Rattle.std.proofs.lemmas.List.{take_all, drop_all, take_at, append-nil, take-take, get_or_read}
+use Rattle.std.proofs.lemmas.List.{take_all, drop_all, take_at, append-nil, take-take}
 use Rattle.cx_disk.specs.Disk.{Files, View, IsView, Changes, Torn, Holds, Passes, OthersSame}
+use Rattle.cx_disk.specs.Files.{slot_count, old_output_file}
 use Rattle.cx_chk.specs.declared.checkpoint.Checkpoint.{Checkpoint}
-use Rattle.cx_chk.specs.Slots.{header_of, SlotsSettled}
-use Rattle.cx_keep.specs.Trails.{Course, OutputsReach, GoesAsFar, IsTrailOf, AreWithin, Stands, IsFrontOf, IsNextPiece, Counts, text_of, length_in, file_of_output}
-use Rattle.cx_keep.specs.Keeping.{Keeper, output_file}
-use Rattle.cx_disk.specs.Files.{slot_count}
-use Rattle.cx_keep.proofs.Stays.{of_run_at, newest_same, trail_at, within_more}
+use Rattle.cx_chk.specs.Slots.{header_of, is_second, SlotsSettled}
+use Rattle.cx_keep.specs.Trails.{Course, Reaches, GoesAsFar, former_length, IsTrailOf, AreWithin, Stands, IsFrontOf, IsNextPiece, text_of, length_in, file_of_output}
+use Rattle.cx_keep.proofs.Stays.{of_run_at, reach_at, newest_same, trail_at, within_more}
 
 -- what was before the offset, in both, is there after a torn write
 torn_far : (at k n : ℕ) (text d c : List ℕ) → Torn at k d c → n ≤ at → GoesAsFar n text d
@@ -33,14 +32,6 @@ written_end piece old new holds =
     (drop_all (length old + length piece) old (omega arith))
     ∙ append-nil (old ++ piece)
 
--- where the keeper goes on by its own count the output ends
-pub count_is : (k inside : Keeper) (at : ℕ) (v : View) → inside ≡ k → length inside.lengths ≡ 1
-    → at ≡ get_or inside.lengths 0 at → Counts k.lengths v → at ≡ length (v.seen output_file)
-count_is k inside at v is one read counts =
-    let lt : 0 < length inside.lengths = omega (arith, one) in
-    get_or_read inside.lengths 0 at lt read 0
-    ∙ subst (λ (x : Keeper). Counts x.lengths v) (sym is) counts 0 lt
-
 -- what the output had is there, whether the write was stopped or not
 pub torn_keeps : (k : ℕ) (old new : List ℕ) → Torn (length old) k old new
     → take (length old) new ≡ old
@@ -58,8 +49,7 @@ pub append_settled : (at k j : ℕ) (old new : View) → SlotsSettled old
     → OthersSame (file_of_output j) old.seen new.seen → SlotsSettled new
 append_settled at k j old new settled passes others s lt c now =
     let d = passes.crash c now in
-    let ne : s ≡ file_of_output j → ⊥ = λ same. let e : s ≡ file_of_output j = same in
-    omega arith in
+    let ne : s ≡ file_of_output j → ⊥ = λ same. let e : s ≡ 9 + j = same in omega arith in
     d.2.others s ne ∙ settled s lt d.0 d.1 ∙ sym (others s ne)
 
 module _ (course : Course) (newest : Option ℕ) (next : Option Checkpoint) (j : ℕ) (piece : List ℕ)
@@ -67,16 +57,21 @@ module _ (course : Course) (newest : Option ℕ) (next : Option Checkpoint) (j :
     (fits : IsNextPiece course next j piece (old.seen (file_of_output j)))
     (passes : Passes (Changes (Torn (length (old.seen (file_of_output j))) (length piece))
     (file_of_output j)) old new) where
-  slot_other : (s : ℕ) → s < slot_count → s ≡ file_of_output j → ⊥
-  slot_other s lt same = let e : s ≡ file_of_output j = same in omega arith
+  slot_other : (s : ℕ) → s < 8 → s ≡ file_of_output j → ⊥
+  slot_other s lt same = let e : s ≡ 9 + j = same in omega arith
 
   same_slots : (c : Files) → new.images c → (s : ℕ) → s < slot_count → c s ≡ old.seen s
   same_slots c now s lt = let d = passes.crash c now in
       d.2.others s (slot_other s lt) ∙ st.slots s lt d.0 d.1
 
-  reach : (c : Files) → new.images c → (chk : Checkpoint)
-      → ((d : Files) → old.images d → OutputsReach course chk d) → OutputsReach course chk c
-  reach c now chk all k lt =
+  reach : (c : Files) → new.images c → (second : Bool) (chk : Checkpoint)
+      → ((d : Files) → old.images d → Reaches course second chk d) → Reaches course second chk c
+  reach c now false chk all =
+      let d = passes.crash c now in
+      subst (λ (b : List ℕ). GoesAsFar (former_length chk) course.former b)
+      (sym (d.2.others old_output_file (λ same. absurd (let e : 8 ≡ 9 + j = same in omega arith))))
+      (all d.0 d.1)
+  reach c now true chk all = λ k lt.
       let d = passes.crash c now in
       elim (cases_eq k j) as (λ _.
       GoesAsFar (length_in chk k) (text_of course k) (c (file_of_output k))) [
@@ -90,8 +85,7 @@ module _ (course : Course) (newest : Option ℕ) (next : Option Checkpoint) (j :
             (all d.0 d.1 j lt_j))
         | inr ne ↦ subst (λ (b : List ℕ). GoesAsFar (length_in chk k) (text_of course k) b)
             (sym (d.2.others (file_of_output k)
-            (λ same. ne (let e : file_of_output k ≡ file_of_output j = same in omega arith))))
-            (all d.0 d.1 k lt)
+            (λ same. ne (let e : 9 + k ≡ 9 + j = same in omega arith)))) (all d.0 d.1 k lt)
       ]
 
   bounded : (o : Option Checkpoint)
@@ -109,8 +103,7 @@ module _ (course : Course) (newest : Option ℕ) (next : Option Checkpoint) (j :
             omega arith)
         | inr ne ↦ subst (λ (b : List ℕ). length b ≤ length_in e i)
             (sym (d.2.others (file_of_output i)
-            (λ same. ne (let q : file_of_output i ≡ file_of_output j = same in omega arith))))
-            (h d.0 i d.1 lt)
+            (λ same. ne (let q : 9 + i ≡ 9 + j = same in omega arith)))) (h d.0 i d.1 lt)
       ]
 
   append_within : (c : Files) → new.images c → AreWithin course next c
@@ -134,7 +127,8 @@ module _ (course : Course) (newest : Option ℕ) (next : Option Checkpoint) (j :
         kept = λ s n lt head.
             let k = st.kept s n lt (sym (ap header_of (slot_same s lt)) ∙ head) in (
               of_run_at (old.seen s) (new.seen s) (slot_same s lt) k.0,
-              λ c now. reach c now k.0.checkpoint k.1,
+              λ c now. reach_at course k.0.checkpoint c (old.seen s) (new.seen s) (slot_same s lt)
+                  (reach c now (is_second (old.seen s)) k.0.checkpoint k.1),
             );
         newest_is = newest_same old.seen new.seen slot_same newest st.newest_is;
         fronts = λ k lt. elim (cases_eq k j) as
@@ -145,8 +139,7 @@ module _ (course : Course) (newest : Option ℕ) (next : Option Checkpoint) (j :
                   fits.front)
               | inr ne ↦ subst (λ (b : List ℕ). IsFrontOf (text_of course k) b)
                   (sym (others (file_of_output k)
-                  (λ same. ne (let e : file_of_output k ≡ file_of_output j = same in omega arith))))
-                  (st.fronts k lt)
+                  (λ same. ne (let e : 9 + k ≡ 9 + j = same in omega arith)))) (st.fronts k lt)
             ];
         within = bounded next st.within fits.within;
       }

@@ -1,5 +1,5 @@
 -- When a checkpoint fits a job: its iteration, how many values it holds, and the values.
-use Rattle.std.specs.Prelude.{ℕ, Bool, true, false, ◌&&◌, ◌==◌, nat_le, ℤ, int_le, List, [], ◌∷◌, length, take, replicate}
+use Rattle.std.specs.Prelude.{ℕ, Bool, true, false, ◌&&◌, ◌==◌, bytes_eq, nat_le, ℤ, int_le, List, [], ◌∷◌, length, take, replicate, if◌then◌else◌}
 use Rattle.std.specs.List.{list_all, flat_map}
 use Rattle.cx_grid.specs.Boxes.{point_count}
 use Rattle.cx_grid.specs.Grid.{whole}
@@ -8,12 +8,9 @@ use Rattle.cx_plan.specs.Dues.{is_due}
 use Rattle.cx_plan.specs.Setups.{setup_of}
 use Rattle.cx_plan.specs.declared.variable.VarInfo.{VarInfo}
 use Rattle.cx_plan.specs.declared.job.Job.{Job}
+use Rattle.cx_outputs.specs.Names.{output_names}
 use Rattle.cx_chk.specs.declared.checkpoint.Checkpoint.{Checkpoint}
 use Rattle.cx_plan.specs.Whole.{scalar_count, level_count}
-
--- how many files the output has
-abbrev pub output_count : ℕ
-output_count = 1
 
 -- the variables of so many items each, item by item
 abbrev pub variables_by : (VarInfo → ℕ) → List VarInfo → List VarInfo
@@ -41,10 +38,22 @@ abbrev pub levels_fit : ℕ → List VarInfo → List (List ℤ) → Bool
 levels_fit points vars levels =
     each_fits (holds_level points) (variables_by level_count vars) levels
 
+-- whether two lists of texts are the same
+abbrev pub same_texts : List (List ℕ) → List (List ℕ) → Bool
+same_texts [] [] = true
+same_texts [] (y ∷ ys) = false
+same_texts (x ∷ xs) [] = false
+same_texts (x ∷ xs) (y ∷ ys) = bytes_eq x y && same_texts xs ys
+
+-- whether the output files are the job's: in version 2 by their names, in version 1 there is one
+abbrev pub outputs_fit : Job → Checkpoint → Bool
+outputs_fit job c = if c.version == 2 then same_texts c.names (output_names (setup_of job))
+    else length c.lengths == 1
+
 abbrev pub fits_job : Job → Checkpoint → Bool
 fits_job job c =
     is_due (setup_of job) c.iteration
-    && (length c.lengths == output_count
+    && (outputs_fit job c
     && (scalars_fit job.vars c.scalars
     && levels_fit (point_count (whole job.shape)) job.vars c.levels))
 

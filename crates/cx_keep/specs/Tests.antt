@@ -1,12 +1,15 @@
 -- What a start comes to, test after test, by how the files read.
-use Rattle.std.specs.Prelude.{ℕ, ◌+◌, ◌≡◌, bytes_eq, nat_le, List, [], ◌∷◌, length, Option, Some, None, Result, Ok, Err, if◌then◌else◌}
+use Rattle.std.specs.Prelude.{ℕ, ◌+◌, ◌≡◌, ◌==◌, bytes_eq, nat_le, List, [], ◌∷◌, length, map, take, slice_index, Option, Some, None, Result, Ok, Err, if◌then◌else◌}
 use Rattle.cx_plan.specs.declared.job.Job.{Job}
 use Rattle.cx_plan.specs.declared.job.Recover.{Recover}
 use Rattle.cx_plan.specs.declared.job.Recover.TheVariants.{No, Auto, Autoprobe}
+use Rattle.cx_plan.specs.Setups.{setup_of}
+use Rattle.cx_outputs.specs.Names.{full_names, output_count, output_names}
+use Rattle.cx_ascii_read.specs.Splitting.{split_of}
 use Rattle.cx_disk.specs.Disk.{Files}
 use Rattle.cx_chk.specs.declared.checkpoint.Checkpoint.{Checkpoint}
 use Rattle.cx_chk.specs.Reading.{decoded}
-use Rattle.cx_disk.specs.Files.{slot_count}
+use Rattle.cx_disk.specs.Files.{slot_count, old_output_file}
 use Rattle.cx_chk.specs.Slots.{newest_below}
 use Rattle.cx_keep.specs.declared.fault.BeginFault.{BeginFault}
 use Rattle.cx_keep.specs.declared.fault.BeginFault.TheVariants as faults
@@ -30,12 +33,64 @@ or_short c (Some s) = Err (faults.OutputShort s.0 s.1)
 abbrev pub other_job : List ℕ × List ℕ → BeginFault
 other_job lines = faults.OtherJob lines.0 lines.1
 
+-- ---- version 1
+
+-- the greatest length of a former output that is split
+abbrev pub greatest_former : ℕ
+greatest_former = 268435456
+
+-- a checkpoint of version 1 as one of version 2, with the outputs that its former output splits
+-- into
+abbrev pub renewed : Job → Checkpoint → List (List ℕ) → Checkpoint
+renewed job c texts = record c {
+  version = 2;
+  names = output_names (setup_of job);
+  lengths = map (λ (t : List ℕ). length t) texts;
+}
+
+-- the former output as far as a checkpoint of version 1 records it, split by the job's names
+abbrev pub split_at : Job → ℕ → Files → Option (List (List ℕ))
+split_at job count files = split_of (take count (files old_output_file)) (full_names (setup_of job))
+
+-- it is such a one, with a text for each output
+abbrev pub IsRenewal : Job → Checkpoint → Checkpoint → Type 0
+IsRenewal job c now = (texts : List (List ℕ)) × (now ≡ renewed job c texts)
+    × (length texts ≡ output_count (setup_of job))
+
+-- it must be there, must not be too long, and must split
+abbrev pub former_read : Files → ℕ → Result (List ℕ) BeginFault
+former_read files count =
+    if nat_le count (length (files old_output_file))
+    then (if nat_le count greatest_former then Ok (take count (files old_output_file))
+    else Err (faults.OldTooLong count greatest_former))
+    else Err (faults.OutputShort (length (files old_output_file)) count)
+
+abbrev pub or_damaged :
+    Job → ℕ → Checkpoint → Option (List (List ℕ)) → Result Checkpoint BeginFault
+or_damaged job slot c None = Err (faults.Damaged slot)
+or_damaged job slot c (Some texts) = Ok (renewed job c texts)
+
+abbrev pub former_split :
+    Job → ℕ → Checkpoint → Result (List ℕ) BeginFault → Result Checkpoint BeginFault
+former_split job slot c (Err e) = Err e
+former_split job slot c (Ok bytes) =
+    or_damaged job slot c (split_of bytes (full_names (setup_of job)))
+
+abbrev pub former_judged : Job → Files → ℕ → Checkpoint → ℕ → Result Checkpoint BeginFault
+former_judged job files slot c count = former_split job slot c (former_read files count)
+
+-- the tests of the outputs, by the version
+abbrev pub outputs_judged : Job → Files → ℕ → Checkpoint → Result Checkpoint BeginFault
+outputs_judged job files slot c =
+    if c.version == 2 then or_short c (short_in c files)
+    else former_judged job files slot c (slice_index c.lengths 0)
+
 -- the tests of what a slot spells, in their order
 abbrev pub judged : Job → Files → ℕ → Option Checkpoint → Result Checkpoint BeginFault
 judged job files slot None = Err (faults.Damaged slot)
 judged job files slot (Some c) =
     if bytes_eq c.key job.key
-    then (if fits_job job c then or_short c (short_in c files) else Err (faults.Damaged slot))
+    then (if fits_job job c then outputs_judged job files slot c else Err (faults.Damaged slot))
     else Err (other_job (first_difference c.key job.key))
 
 abbrev pub tested : Job → Files → ℕ → Result Checkpoint BeginFault
@@ -65,6 +120,7 @@ IsFaultOf faults.NoCheckpoint start = start ≡ Err faults.NoCheckpoint
 IsFaultOf (faults.OtherJob a b) start = start ≡ Err (faults.OtherJob a b)
 IsFaultOf (faults.Damaged slot) start = start ≡ Err (faults.Damaged slot)
 IsFaultOf (faults.OutputShort a b) start = start ≡ Err (faults.OutputShort a b)
+IsFaultOf (faults.OldTooLong a b) start = start ≡ Err (faults.OldTooLong a b)
 
 abbrev pub Answers : {A B : Type 0} → (A → B) → Result A BeginFault → Result B BeginFault → Type 0
 Answers seen (Ok x) start = start ≡ Ok (seen x)

@@ -1,14 +1,17 @@
 -- When a disk's files are a trail of a run, and the fact that a keeper keeps between two calls.
-use Rattle.std.specs.Prelude.{ℕ, ◌+◌, ◌^◌, ◌<◌, ◌≤◌, ◌≡◌, ◌⊎◌, List, [], ◌∷◌, ◌++◌, length, take, slice_index, slice_index_or, Option, Some, None, IfSome}
+use Rattle.std.specs.Prelude.{ℕ, Bool, true, false, ◌+◌, ◌^◌, ◌<◌, ◌≤◌, ◌≡◌, ◌⊎◌, List, [], ◌∷◌, ◌++◌, length, take, slice_index, slice_index_or, Option, Some, None, IfSome}
 use Rattle.cx_disk.specs.Disk.{Files, View, IsSettled}
 use Rattle.cx_chk.specs.declared.checkpoint.Checkpoint.{Checkpoint}
 use Rattle.cx_chk.specs.Encoding.{SpellsSlot}
-use Rattle.cx_disk.specs.Files.{slot_count, old_output_file}
-use Rattle.cx_chk.specs.Slots.{header_of, SlotsSettled}
+use Rattle.cx_disk.specs.Files.{slot_count, old_output_file, named_output_file}
+use Rattle.cx_chk.specs.Slots.{header_of, is_second, SlotsSettled}
 
--- a run as far as a disk is concerned: a text per output file, and its checkpoints
+-- A run as far as a disk is concerned: the text of each output file, the text of all of them in the
+-- run's order, as a former version wrote it, and the checkpoints, which name the output files and
+-- have the length of each.
 pub record Course : Type 0 where
   pub outputs : List (List ℕ)
+  pub former : List ℕ
   pub checkpoints : List Checkpoint
 
 abbrev pub Has : List Checkpoint → Checkpoint → Type 0
@@ -17,7 +20,7 @@ Has (d ∷ ds) c = (c ≡ d) ⊎ Has ds c
 
 -- the number of an output's file, its text, and its length in a checkpoint
 abbrev pub file_of_output : ℕ → ℕ
-file_of_output j = old_output_file + j
+file_of_output j = named_output_file j
 
 abbrev pub text_of : Course → ℕ → List ℕ
 text_of course j = slice_index_or course.outputs j []
@@ -35,15 +38,51 @@ abbrev pub OutputsReach : Course → Checkpoint → Files → Type 0
 OutputsReach course c files = (j : ℕ) → j < length course.outputs
     → GoesAsFar (length_in c j) (text_of course j) (files (file_of_output j))
 
--- a slot's bytes spell a checkpoint of the run
+-- ---- versions
+
+-- how long all outputs are together in a checkpoint
+abbrev pub total : List ℕ → ℕ
+total [] = 0
+total (n ∷ ns) = n + total ns
+
+abbrev pub former_length : Checkpoint → ℕ
+former_length c = total c.lengths
+
+-- a checkpoint as version 1 has it, with that length alone
+abbrev pub former_of : Checkpoint → Checkpoint
+former_of c = record c { version = 1; names = []; lengths = former_length c ∷ [] }
+
+-- a checkpoint in version 2 or in version 1
+abbrev pub in_version : Bool → Checkpoint → Checkpoint
+in_version true c = c
+in_version false c = former_of c
+
+-- the files go as far as a checkpoint says: in version 2 each output, in version 1 the former
+-- output
+abbrev pub Reaches : Course → Bool → Checkpoint → Files → Type 0
+Reaches course true c files = OutputsReach course c files
+Reaches course false c files = GoesAsFar (former_length c) course.former (files old_output_file)
+
+-- the key that a slot with this checkpoint of the run has
+abbrev pub FitsKey : Checkpoint → List ℕ → Type 0
+FitsKey c key = key ≡ c.key
+
+abbrev pub with_key : List ℕ → Checkpoint → Checkpoint
+with_key key c = record c { key = key }
+
+-- a slot's bytes spell a checkpoint of the run, in the version of its version byte
 pub record IsOfRun (course : Course) (bytes : List ℕ) : Type 0 where
   pub checkpoint : Checkpoint
   pub of_run : Has course.checkpoints checkpoint
-  pub spelled : SpellsSlot bytes checkpoint
+  pub key : List ℕ
+  pub key_fits : FitsKey checkpoint key
+  pub spelled : SpellsSlot bytes (with_key key (in_version (is_second bytes) checkpoint))
+
+-- ---- trails
 
 abbrev pub IsTrail : Course → Files → Type 0
 IsTrail course files = (slot n : ℕ) → slot < slot_count → header_of (files slot) ≡ Some n
-    → (s : IsOfRun course (files slot)) × OutputsReach course s.checkpoint files
+    → (s : IsOfRun course (files slot)) × Reaches course (is_second (files slot)) s.checkpoint files
 
 -- the greatest iteration of an open slot, or none
 pub record IsGreatest (files : Files) (n : ℕ) : Type 0 where
@@ -67,7 +106,7 @@ pub record Stands (course : Course) (newest : Option ℕ) (next : Option Checkpo
   pub slots : SlotsSettled v
   pub kept : (slot n : ℕ) → slot < slot_count → header_of (v.seen slot) ≡ Some n
       → (s : IsOfRun course (v.seen slot))
-      × ((c : Files) → v.images c → OutputsReach course s.checkpoint c)
+      × ((c : Files) → v.images c → Reaches course (is_second (v.seen slot)) s.checkpoint c)
   pub newest_is : NewestIs v.seen newest
   pub fronts : (j : ℕ) → j < length course.outputs
       → IsFrontOf (text_of course j) (v.seen (file_of_output j))
@@ -109,6 +148,7 @@ OutputsSettled count v = (j : ℕ) → j < count → IsSettled v (file_of_output
 pub record IsNextCheckpoint (course : Course) (newest : Option ℕ) (c : Checkpoint)
     (v : View) : Type 0 where
   pub of_run : Has course.checkpoints c
+  pub version : c.version ≡ 2
   pub in_range : c.iteration < 2 ^ 64
   pub later : IfSome newest (λ n. n < c.iteration)
   pub lengths : (j : ℕ) → j < length course.outputs

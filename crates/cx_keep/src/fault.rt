@@ -21,9 +21,12 @@ pub enum BeginFault {
     /// The newest slot, this one, spells no checkpoint, or one that doesn't fit the job.
     #[error("Damaged {0}")]
     Damaged(u32),
-    /// The output is shorter than recorded: its length, and the recorded one.
+    /// An output file is shorter than recorded: its length, and the recorded one.
     #[error("OutputShort {0} {1}")]
     OutputShort(u64, u64),
+    /// The old output is longer than what is split: its recorded length, and the greatest one that is.
+    #[error("OldTooLong {0} {1}")]
+    OldTooLong(u64, u64),
     /// There was no memory left.
     #[error("Memory")]
     Memory,

@@ -1,16 +1,45 @@
 //! Whether a checkpoint fits a job.
-ghost use Rattle.std.specs.Prelude.{◌≡◌, ◌≤◌, take, length};
+ghost use Rattle.std.specs.Prelude.{◌≡◌, ◌≤◌, ◌==◌, take, length, if◌then◌else◌};
 ghost use Rattle.std.specs.List.{list_all};
+ghost use Rattle.cx_disk.specs.Files.{output_limit};
+ghost use Rattle.cx_plan.specs.Setups.{setup_of};
 ghost use Rattle.cx_plan.specs.Whole.{IsWhole, scalar_count, level_count};
-ghost use Rattle.cx_keep.specs.Fits.{fits_job, scalars_fit, levels_fit, holds_value, holds_level, begins_with};
+ghost use Rattle.cx_outputs.specs.Names.{output_count, output_names};
+ghost use Rattle.cx_keep.specs.Fits.{fits_job, same_texts, scalars_fit, levels_fit, holds_value, holds_level, begins_with};
 
 use cx_chk::Checkpoint;
 use cx_grid::{count, whole};
 use cx_plan::{Job, VarInfo, is_due};
-use cx_text::List;
+use cx_text::{List, Text};
 
-// How many files the output has.
-const OUTPUTS: usize = 1;
+// Whether two lists of texts are the same.
+fn same_texts(a: &[Text], b: &[Text]) -> bool
+    ensures { result ≡ same_texts a.now b.now }
+{
+    match (a.split_first(), b.split_first()) {
+        (None, None) => true,
+        (Some((x, xs)), Some((y, ys))) => x.as_slice() == y.as_slice() && same_texts(xs, ys),
+        _ => false,
+    }
+}
+
+// Whether a checkpoint's output files are those of these names; in version 1 there is one, which has none.
+fn outputs_fit(names: &[Text], found: &Checkpoint) -> bool
+    ensures { result ≡ (if found.now.version == 2
+        then same_texts found.now.names names.now else length found.now.lengths == 1) }
+{
+    if found.version == 2 {
+        same_texts(found.names.as_slice(), names)
+    } else {
+        found.lengths.len() == 1
+    }
+}
+
+/// A job has no more outputs than a disk has files for.
+pub fn outputs_are_few(job: &Job)
+    requires whole { IsWhole job.now }
+    ensures { output_count (setup_of job.now) ≤ output_limit }
+{}
 
 // How many values a checkpoint holds of a variable that is a scalar.
 fn scalar_count(v: &VarInfo) -> usize
@@ -106,15 +135,16 @@ fn levels_fit(points: usize, vars: &[VarInfo], levels: &[List<i64>]) -> bool
     at == levels.len()
 }
 
-/// Whether a checkpoint fits a job: it is due at its iteration, records the length of each output file, and has the values
-/// of the job's variables and no others.
-pub fn fits(job: &Job, found: &Checkpoint) -> bool
+/// Whether a checkpoint fits a job whose output files have these names: it is due at its iteration, records these files, and has
+/// the values of the job's variables and no others. One of version 1 records one file, without a name.
+pub fn fits(job: &Job, names: &[Text], found: &Checkpoint) -> bool
     requires whole { IsWhole job.now }
+    requires names { names.now ≡ output_names (setup_of job.now) }
     ensures { result ≡ fits_job job.now found.now }
 {
     let points = count(&whole(&job.shape));
     let due = is_due(job, found.iteration);
-    let outputs = found.lengths.len() == OUTPUTS;
+    let outputs = outputs_fit(names, found);
     let scalars = scalars_fit(job.vars.as_slice(), found.scalars.as_slice());
     let levels = levels_fit(points, job.vars.as_slice(), found.levels.as_slice());
     due && (outputs && (scalars && levels))

@@ -1,18 +1,23 @@
 //! The tests of what the newest slot holds.
-ghost use Rattle.std.specs.Prelude.{◌≡◌, ◌<◌, ◌≤◌, ◌+◌, true, Some, length, bytes_eq, IsTrue, IfOk};
+ghost use Rattle.std.specs.Prelude.{◌≡◌, ◌≢◌, ◌<◌, ◌≤◌, true, Some, length, bytes_eq, IsTrue, IfOk, IfErr, OnOk};
+ghost use Rattle.cx_disk.specs.Disk.{Files};
+ghost use Rattle.cx_disk.specs.Files.{output_limit, slot_count};
 ghost use Rattle.cx_disk.specs.Keeps.{Keeps};
 ghost use Rattle.cx_disk.specs.Moments.{IsQuiet};
 ghost use Rattle.cx_plan.specs.Whole.{IsWhole};
-ghost use Rattle.cx_disk.specs.Files.{count_with, output_limit, slot_count};
-ghost use Rattle.cx_keep.specs.Fits.{output_count, fits_job};
-ghost use Rattle.cx_keep.specs.Tests.{Answers, tested, or_short, short_in, short_from};
+ghost use Rattle.cx_chk.specs.Encoding.{IsVersion, SpellsSlot};
+ghost use Rattle.cx_chk.specs.Reading.{decoded};
+ghost use Rattle.cx_keep.specs.Fits.{fits_job};
+ghost use Rattle.cx_keep.specs.Resuming.{AreLong};
+ghost use Rattle.cx_keep.specs.Tests.{Answers, IsFaultOf, judged, tested, or_short, short_in, short_from};
 ghost use Rattle.cx_keep.specs.Trails.{file_of_output};
 
 use crate::fault::BeginFault;
 use crate::fits::fits;
 use crate::keys::first_difference;
 use cx_chk::{Checkpoint, decode};
-use cx_disk::{Disk, DiskFault, OLD_OUTPUT, read_whole};
+use cx_disk::{Disk, DiskFault, named_output, read_whole};
+use cx_outputs::output_names;
 use cx_plan::Job;
 use std::alloc::Global;
 
@@ -21,6 +26,57 @@ fn has_key(found: &Checkpoint, job: &Job) -> bool
     ensures { result ≡ bytes_eq found.now.key job.now.key }
 {
     found.key.as_slice() == job.key.as_slice()
+}
+
+// The checkpoint that a slot's bytes spell, if it has the job's key and fits it.
+fn judge_bytes(alloc: Global, job: &Job, slot: u32, bytes: &[u8]) -> Result<Checkpoint, BeginFault>
+    requires whole { IsWhole job.now }
+    ensures fault { (files : Files) →
+        IfErr result (λ e. IsFaultOf e (judged job.now files slot (decoded bytes.now))) }
+    ensures told { IfErr result (λ e. e ≢ BeginFault.Disk) }
+    ensures spelled { IfOk result (λ c. SpellsSlot bytes.now c) }
+    ensures version { IfOk result (λ c. IsVersion c.version c.names c.lengths) }
+    ensures key { IfOk result (λ c. c.key ≡ job.now.key) }
+    ensures fits { IfOk result (λ c. fits_job job.now c ≡ true) }
+{
+    let Some(found) = decode(alloc, bytes)? else {
+        return Err(BeginFault::Damaged(slot));
+    };
+    if !has_key(&found, job) {
+        let (kept, own) = first_difference(alloc, found.key.as_slice(), job.key.as_slice())?;
+        return Err(BeginFault::OtherJob(kept, own));
+    }
+    let names = output_names(alloc, job)?;
+    if !fits(job, names.as_slice(), &found) {
+        return Err(BeginFault::Damaged(slot));
+    }
+    Ok(found)
+}
+
+/// The checkpoint of a slot, if it has the job's key and fits it; else the fault of the first of these tests that fails. It
+/// changes no byte.
+pub fn judge<D: Disk>(
+    alloc: Global,
+    disk: &mut D,
+    job: &Job,
+    slot: u32,
+) -> Result<Checkpoint, BeginFault>
+    requires mounted { IsTrue (D.mounted disk.old) }
+    requires files { slot_count ≤ D.file_count disk.old }
+    requires slot { slot < slot_count }
+    requires whole { IsWhole job.now }
+    ensures fault { D.tells →
+        IfErr result (λ e. IsFaultOf e (tested job.now (D.view disk.old).seen slot)) }
+    ensures spelled { D.tells →
+        IfOk result (λ c. SpellsSlot ((D.view disk.old).seen slot) c) }
+    ensures version { IfOk result (λ c. IsVersion c.version c.names c.lengths) }
+    ensures key { IfOk result (λ c. c.key ≡ job.now.key) }
+    ensures fits { IfOk result (λ c. fits_job job.now c ≡ true) }
+    ensures quiet { D.tells → IsQuiet (D.view disk.old) (D.view disk.new) }
+    ensures kept { Keeps D.Disk BeginFault.Disk disk.old disk.new result }
+{
+    let bytes = read_whole(alloc, disk, slot)?;
+    judge_bytes(alloc, job, slot, bytes.as_slice())
 }
 
 // The first output that is shorter than recorded, as both lengths.
@@ -34,7 +90,7 @@ fn short_of<D: Disk>(disk: &mut D, lengths: &[u64]) -> Result<Option<(u64, u64)>
     ensures kept { Keeps D.Disk DiskFault.Failed disk.old disk.new result }
 {
     'each: for output in 0..lengths.len() {
-        let count = disk.length(OLD_OUTPUT + output as u32)?;
+        let count = disk.length(named_output(output as u32))?;
         if count < lengths[output] {
             return Ok(Some((count, lengths[output])));
         }
@@ -42,52 +98,21 @@ fn short_of<D: Disk>(disk: &mut D, lengths: &[u64]) -> Result<Option<(u64, u64)>
     Ok(None)
 }
 
-// A checkpoint of the job, unless an output is shorter than it records.
-fn long_enough<D: Disk>(disk: &mut D, found: Checkpoint) -> Result<Checkpoint, BeginFault>
+/// Tests that no output is shorter than a checkpoint records. It changes no byte.
+///
+/// `OutputShort`: one is; the first such one counts.
+pub fn long_enough<D: Disk>(disk: &mut D, found: &Checkpoint) -> Result<(), BeginFault>
     requires mounted { IsTrue (D.mounted disk.old) }
-    requires few { length found.lengths ≤ output_limit }
-    requires files { file_of_output (length found.lengths) ≤ D.file_count disk.old }
-    ensures tests { D.tells → Answers (λ c. c) result
-        (or_short found (short_in found (D.view disk.old).seen)) }
-    ensures same { IfOk result (λ c. c ≡ found) }
+    requires few { length found.now.lengths ≤ output_limit }
+    requires files { file_of_output (length found.now.lengths) ≤ D.file_count disk.old }
+    ensures tests { D.tells → Answers (λ _. found.now) result
+        (or_short found.now (short_in found.now (D.view disk.old).seen)) }
+    ensures long { D.tells → OnOk result (AreLong found.now.lengths (D.view disk.new).seen) }
     ensures quiet { D.tells → IsQuiet (D.view disk.old) (D.view disk.new) }
     ensures kept { Keeps D.Disk BeginFault.Disk disk.old disk.new result }
 {
     match short_of(disk, found.lengths.as_slice())? {
-        None => Ok(found),
+        None => Ok(()),
         Some((count, recorded)) => Err(BeginFault::OutputShort(count, recorded)),
     }
-}
-
-/// The checkpoint of a slot, if it passes all tests; else the fault of the first one that fails. It changes no byte.
-pub fn judge<D: Disk>(
-    alloc: Global,
-    disk: &mut D,
-    job: &Job,
-    slot: u32,
-) -> Result<Checkpoint, BeginFault>
-    requires mounted { IsTrue (D.mounted disk.old) }
-    requires files { D.file_count disk.old ≡ count_with 0 }
-    requires slot { slot < slot_count }
-    requires whole { IsWhole job.now }
-    ensures tests { D.tells → Answers (λ c. c) result
-        (tested job.now (D.view disk.old).seen slot) }
-    ensures key { IfOk result (λ c. c.key ≡ job.now.key) }
-    ensures fits { IfOk result (λ c. fits_job job.now c ≡ true) }
-    ensures one { IfOk result (λ c. length c.lengths ≡ output_count) }
-    ensures quiet { D.tells → IsQuiet (D.view disk.old) (D.view disk.new) }
-    ensures kept { Keeps D.Disk BeginFault.Disk disk.old disk.new result }
-{
-    let bytes = read_whole(alloc, disk, slot)?;
-    let Some(found) = decode(alloc, bytes.as_slice())? else {
-        return Err(BeginFault::Damaged(slot));
-    };
-    if !has_key(&found, job) {
-        let (kept, own) = first_difference(alloc, found.key.as_slice(), job.key.as_slice())?;
-        return Err(BeginFault::OtherJob(kept, own));
-    }
-    if !fits(job, &found) {
-        return Err(BeginFault::Damaged(slot));
-    }
-    long_enough(disk, found)
 }

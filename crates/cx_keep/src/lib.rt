@@ -1,4 +1,4 @@
-//! The keeper of a run's output and checkpoints.
+//! The keeper of a run's outputs and checkpoints.
 #![tactic(auto)]
 
 mod fault;
@@ -6,7 +6,9 @@ mod fits;
 mod judge;
 mod keep;
 mod keys;
+mod renew;
 mod resume;
+mod splitting;
 mod start;
 
 pub use fault::BeginFault;

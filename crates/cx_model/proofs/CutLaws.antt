@@ -9,7 +9,7 @@ use Rattle.cx_plan.specs.declared.item.ItemKind.TheVariants.{Cell, Scalar, Sum, 
 use Rattle.cx_plan.specs.declared.item.Item.{Item}
 use Rattle.cx_plan.specs.declared.tree.Tree.{Tree, Seq', Call, Sync, If', While', Row_of-Tree, end_of-Tree, more_of-Tree}
 use Rattle.cx_plan.specs.Setups.{Setup}
-use Rattle.cx_plan.specs.Lookups.{item, bin}
+use Rattle.cx_plan.specs.Lookups.{bin}
 use Rattle.cx_plan.specs.Steering.{item_at}
 use Rattle.cx_plan.specs.Regions.{region_of}
 use Rattle.cx_rule.specs.Routine.{Rule}

@@ -1,5 +1,5 @@
 -- The states of runs are whole.
-use Rattle.std.proofs.Common.{◌≡◌, ℕ, zero, suc, ◌+◌, ◌<◌, ℤ, pos, negsuc, Bool, true, false, not, ◌||◌, refl, subst, List, [], ◌∷◌, ◌++◌, length, Option, Some, None, is_some, if◌then◌else◌}
+use Rattle.std.proofs.Common.{◌≡◌, ℕ, zero, suc, ◌+◌, ◌<◌, ℤ, pos, negsuc, Bool, true, false, not, ◌||◌, refl, subst, List, [], ◌∷◌, ◌++◌, Option, Some, None, is_some, if◌then◌else◌}
 use Rattle.std.specs.List.{All, list_all}
 use Rattle.std.proofs.lemmas.Bool.{and_parts}
 use Rattle.std.proofs.lemmas.List.Elements.{All-nil, All-cons, All-head, All-tail}
@@ -14,7 +14,7 @@ use Rattle.cx_plan.specs.declared.item.ItemKind.TheVariants.{Cell, Scalar, Sum, 
 use Rattle.cx_plan.specs.declared.item.Item.{Item}
 use Rattle.cx_plan.specs.declared.tree.Tree.{Tree, Seq', Call, Sync, If', While', Row_of-Tree, end_of-Tree, more_of-Tree}
 use Rattle.cx_plan.specs.Setups.{Setup}
-use Rattle.cx_plan.specs.Lookups.{item, bin, is_scalar, run_bin_count}
+use Rattle.cx_plan.specs.Lookups.{bin, is_scalar, run_bin_count}
 use Rattle.cx_plan.specs.Steering.{item_at}
 use Rattle.cx_plan.specs.Regions.{region_of, kinds_agree, reduces}
 use Rattle.cx_rule.specs.Routine.{Rule}
@@ -27,7 +27,7 @@ use Rattle.cx_model.specs.declared.ends.End.TheVariants.{WhileLimit}
 use Rattle.cx_model.specs.Traces.{Entry, Tested, Rotated, Saved, Outcome, Goes, Ends, Trace, stays, ends, does, after, follow, then_go}
 use Rattle.cx_model.specs.Trees.{at_zero, test, turn_trace, loop, run_tree, run_row}
 use Rattle.cx_model.specs.Stages.{Stage, Bin, Rotate, Save, Write, stages, stages_after}
-use Rattle.cx_model.specs.Runs.{run_stage, run_stages, text_added, passing, stop_or, within_limit, continued_run}
+use Rattle.cx_model.specs.Runs.{run_stage, run_stages, Lengths, no_lengths, lengths_after, passing, stop_or, within_limit, continued_run}
 use Rattle.cx_model.specs.Runs.{all_written as texts_of}
 use Rattle.cx_model.proofs.StateLaws.{start_is_state, rotate_keeps, with_level_keeps, scalars_after_keeps}
 use Rattle.cx_model.specs.Agreement.{IsReady, IsReadyTree, IsReadyRow}
@@ -221,12 +221,12 @@ keeps-stages setup rules (Write n ∷ ss) trees each = λ state is.
     (record { entries = keeps-texts setup n state setup.out_vars is; outcome = is })
     (keeps-stages setup rules ss trees each)
 
-each-within : (P : Entry → Type 0) (so_far : ℕ) (es : List Entry) (o : Outcome) → Each P es
+each-within : (P : Entry → Type 0) (so_far : Lengths) (es : List Entry) (o : Outcome) → Each P es
     → Each P (within_limit so_far es o).entries
 each-within P so_far [] o each = tt
 each-within P so_far (e ∷ es) o each =
-    by (passing so_far e) (within_limit (so_far + length (text_added e)) es o)
-    (each-within P (so_far + length (text_added e)) es o each.1)
+    by (passing so_far e) (within_limit (lengths_after so_far e) es o)
+    (each-within P (lengths_after so_far e) es o each.1)
   where
     by : (p : Option ℕ) (rest : Trace) → Each P rest.entries
         → Each P (stop_or p (after (e ∷ []) rest)).entries
@@ -263,10 +263,10 @@ keeps-states setup rules trees =
     whole_run : (first : State) → IsState setup first → Each P (run_from setup rules first).entries
     whole_run first is =
         let t = run_stages setup rules (stages setup) first in
-        each-within P 0 t.entries t.outcome
+        each-within P no_lengths t.entries t.outcome
         (keeps-stages setup rules (stages setup) trees (each-of-stages setup) first is).entries
 
-    rest : (c : ℕ) (state : State) (so_far : ℕ) → IsState setup state
+    rest : (c : ℕ) (state : State) (so_far : Lengths) → IsState setup state
         → Each P (continued_run setup rules c state so_far).entries
     rest c state so_far is =
         let t = run_stages setup rules (stages_after setup c) state in

@@ -1,12 +1,16 @@
-use Rattle.std.specs.Prelude.{◌≡◌, refl, length, codes, pos}
+use Rattle.std.specs.Prelude.{◌≡◌, refl, length, codes, pos, [], ◌∷◌}
 use Rattle.std.specs.Fmt.{digits}
 use Rattle.cx_model.specs.declared.ends.End.TheVariants.{Done, Overflow, WhileLimit}
-use Rattle.cx_model.specs.Runs.{output, end}
+use Rattle.cx_model.specs.Runs.{outputs, old_output, output, end}
+use Rattle.cx_plan.specs.declared.variable.VarId.{VarId}
 use Rattle.cx_model.proofs.Samples.{ca, ca_rules, wave_setup, wave_rules, control, control_rules, filled}
 
-automaton : output (ca 2) ca_rules
+abbrev first : VarId
+first = record { 0 = 0 }
+
+automaton : outputs (ca 2) ca_rules
     ≡ codes
-    "# ca::cell iteration 0 size 8\n0 0 0 1 0 0 0 0\n\n# ca::cell iteration 1 size 8\n0 0 1 0 1 0 0 0\n\n# ca::cell iteration 2 size 8\n0 1 0 0 0 1 0 0\n\n"
+    "# ca::cell iteration 0 size 8\n0 0 0 1 0 0 0 0\n\n# ca::cell iteration 1 size 8\n0 0 1 0 1 0 0 0\n\n# ca::cell iteration 2 size 8\n0 1 0 0 0 1 0 0\n\n" ∷ []
 unfolding digits Rattle.cx_plan.specs.declared.tree.Tree.TheBlock.hidden-the_row-Tree-0
     denote.Hole.Carrier.hidden
 automaton = refl
@@ -16,14 +20,14 @@ unfolding digits Rattle.cx_plan.specs.declared.tree.Tree.TheBlock.hidden-the_row
     denote.Hole.Carrier.hidden
 automaton_ends = refl
 
-one_section : length (output (ca 0) ca_rules) ≡ 47
+one_section : length (output (ca 0) ca_rules first) ≡ 47
 unfolding digits Rattle.cx_plan.specs.declared.tree.Tree.TheBlock.hidden-the_row-Tree-0
     denote.Hole.Carrier.hidden
 one_section = refl
 
-waves : output wave_setup wave_rules
+waves : outputs wave_setup wave_rules
     ≡ codes
-    "# wave::phi iteration 0 size 6\n0 0 8 0 0 0\n\n# wave::phi iteration 1 size 6\n0 8 -8 8 0 0\n\n"
+    "# wave::phi iteration 0 size 6\n0 0 8 0 0 0\n\n# wave::phi iteration 1 size 6\n0 8 -8 8 0 0\n\n" ∷ []
 unfolding digits Rattle.cx_plan.specs.declared.tree.Tree.TheBlock.hidden-the_row-Tree-0
     denote.Hole.Carrier.hidden
 waves = refl
@@ -41,8 +45,8 @@ unfolding digits Rattle.cx_plan.specs.declared.tree.Tree.TheBlock.hidden-the_row
     denote.Hole.Carrier.hidden
 five_turns = refl
 
-scalars : output (control 5 (pos 1)) control_rules
-    ≡ codes "# control::count iteration 0 value 5\n# control::count iteration 1 value 0\n"
+scalars : outputs (control 5 (pos 1)) control_rules
+    ≡ codes "# control::count iteration 0 value 5\n# control::count iteration 1 value 0\n" ∷ []
 unfolding digits Rattle.cx_plan.specs.declared.tree.Tree.TheBlock.hidden-the_row-Tree-0
     Rattle.cx_plan.specs.declared.tree.Tree.TheBlock.hidden-the_row-Tree-1
     denote.Hole.Carrier.hidden
@@ -58,3 +62,11 @@ overflow : end (filled (pos 32768)) control_rules ≡ Overflow 0 (codes "INITIAL
 unfolding digits Rattle.cx_plan.specs.declared.tree.Tree.TheBlock.hidden-the_row-Tree-0
     denote.Hole.Carrier.hidden
 overflow = refl
+
+-- a former version wrote the same bytes to one file
+one_file : old_output (control 5 (pos 1)) control_rules
+    ≡ codes "# control::count iteration 0 value 5\n# control::count iteration 1 value 0\n"
+unfolding digits Rattle.cx_plan.specs.declared.tree.Tree.TheBlock.hidden-the_row-Tree-0
+    Rattle.cx_plan.specs.declared.tree.Tree.TheBlock.hidden-the_row-Tree-1
+    denote.Hole.Carrier.hidden
+one_file = refl

@@ -1,5 +1,5 @@
 -- The path of its job that an undivided run follows.
-use Rattle.std.proofs.Common.{◌≡◌, ℕ, zero, suc, ◌+◌, ◌%◌, ◌==◌, ℤ, pos, negsuc, int_lt, arith, refl, sym, ap, subst, ◌∙◌, Bool, true, false, cond, List, [], ◌∷◌, ◌++◌, flat_map, length, ◌⊎◌, inl, inr, MatchBool, Option, Some, None}
+use Rattle.std.proofs.Common.{◌≡◌, ℕ, zero, suc, ◌+◌, ◌%◌, ◌==◌, ℤ, pos, negsuc, int_lt, arith, refl, sym, ap, subst, ◌∙◌, Bool, true, false, cond, List, [], ◌∷◌, ◌++◌, flat_map, ◌⊎◌, inl, inr, MatchBool, Option, Some, None}
 use Rattle.std.specs.List.{range_with_len}
 use Rattle.std.proofs.lemmas.List.{append_assoc}
 use Rattle.std.proofs.lemmas.List.Elements.{All-nil}
@@ -16,7 +16,7 @@ use Rattle.cx_model.specs.States.{start}
 use Rattle.cx_model.specs.Traces.{Entry, Rotated, Outcome, Goes, Ends, Trace, ends, does, after, follow, then_go}
 use Rattle.cx_model.specs.Trees.{run_tree}
 use Rattle.cx_model.specs.Stages.{Stage, Bin, Rotate, Save, Write, bins, checkpoint, before_analysis, from_analysis, iteration, rest_behind, stages}
-use Rattle.cx_model.specs.Runs.{all_written, run_stage, run_stages, text_added, passing, stop_or, within_limit}
+use Rattle.cx_model.specs.Runs.{all_written, run_stage, run_stages, Lengths, no_lengths, lengths_after, passing, stop_or, within_limit}
 use Rattle.cx_model.specs.Uses.{entry_leaves, entries_leave, UsesOnlySet}
 use Rattle.cx_model.specs.Agreement.{Met}
 use Rattle.cx_model.proofs.ListLaws.{all-left, all-right}
@@ -312,12 +312,12 @@ follow-job setup rules =
     (follow-both setup rules N E iterations ending (follow-iterations setup rules 0 setup.itlast)
     (follow-bins setup rules setup.itlast end_bins)))
 
-met-within : (setup : Setup) (so_far : ℕ) (es : List Entry) (o : Outcome) (flags : Flags)
+met-within : (setup : Setup) (so_far : Lengths) (es : List Entry) (o : Outcome) (flags : Flags)
     → EntriesMet setup flags es → EntriesMet setup flags (within_limit so_far es o).entries
 met-within setup so_far [] o flags met = tt
 met-within setup so_far (e ∷ es) o flags met =
-    by (passing so_far e) (within_limit (so_far + length (text_added e)) es o)
-    (met-within setup (so_far + length (text_added e)) es o (entry_leaves setup e flags) met.1)
+    by (passing so_far e) (within_limit (lengths_after so_far e) es o)
+    (met-within setup (lengths_after so_far e) es o (entry_leaves setup e flags) met.1)
   where
     by : (p : Option ℕ) (rest : Trace) → EntriesMet setup (entry_leaves setup e flags) rest.entries
         → EntriesMet setup flags (stop_or p (after (e ∷ []) rest)).entries
@@ -334,6 +334,6 @@ met-run setup rules state sound =
 pub uses-only-set : (setup : Setup) (rules : List Rule) → Sound setup → UsesOnlySet setup rules
 uses-only-set setup rules sound earlier e later is =
     let run = run_stages setup rules (stages setup) (start setup) in
-    let met = met-within setup 0 run.entries run.outcome cleared
+    let met = met-within setup no_lengths run.entries run.outcome cleared
     (met-run setup rules (start setup) sound) in
     entry-met setup earlier e later cleared (subst (EntriesMet setup cleared) is met)

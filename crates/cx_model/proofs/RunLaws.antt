@@ -1,5 +1,5 @@
 -- Runs from states that agree.
-use Rattle.std.proofs.Common.{◌≡◌, ℕ, zero, suc, ◌+◌, ◌-◌, ◌<◌, ℤ, pos, negsuc, Bool, true, false, cond, arith, refl, sym, ap, subst, ◌∙◌, List, [], ◌∷◌, ◌++◌, map, length, append-nil, Option, Some, None}
+use Rattle.std.proofs.Common.{◌≡◌, ℕ, zero, suc, ◌+◌, ◌-◌, ◌<◌, ℤ, pos, negsuc, Bool, true, false, cond, arith, refl, sym, ap, subst, ◌∙◌, List, [], ◌∷◌, ◌++◌, map, append-nil, Option, Some, None}
 use Rattle.std.specs.List.{flat_map, range_with_len}
 use Rattle.std.proofs.lemmas.Bool.{false≢true}
 use Rattle.std.proofs.lemmas.List.{map-append}
@@ -7,7 +7,7 @@ use Rattle.cx_plan.specs.declared.variable.VarId.{VarId}
 use Rattle.cx_plan.specs.declared.tree.Tree.{Tree, Seq', Call, Sync, If', While', Row_of-Tree, end_of-Tree, more_of-Tree}
 use Rattle.cx_plan.specs.Setups.{Setup}
 use Rattle.cx_plan.specs.Dues.{is_due, is_written}
-use Rattle.cx_plan.specs.Lookups.{item, bin, is_scalar, CHECKPOINT, ANALYSIS, step_bins, end_bins, run_bin_count}
+use Rattle.cx_plan.specs.Lookups.{bin, is_scalar, CHECKPOINT, ANALYSIS, step_bins, end_bins, run_bin_count}
 use Rattle.cx_plan.specs.Steering.{item_at}
 use Rattle.cx_plan.specs.Regions.{Flags, cleared, all_written, rotated}
 use Rattle.cx_plan.specs.Paths.{Sound}
@@ -20,7 +20,7 @@ use Rattle.cx_model.specs.declared.ends.End.TheVariants.{WhileLimit}
 use Rattle.cx_model.specs.Traces.{Entry, Turned, Overflowed, Exchanged, Tested, Rotated, Wrote, Saved, Outcome, Goes, Ends, Trace, stays, ends, does, after, follow, then_go}
 use Rattle.cx_model.specs.Trees.{at_zero, test, turn_trace, loop, run_tree, run_row}
 use Rattle.cx_model.specs.Stages.{Stage, Bin, Rotate, Save, Write, bins, before_analysis, from_analysis, iteration, rest_behind, stages, stages_after}
-use Rattle.cx_model.specs.Runs.{text_of, run_stage, run_stages, text_added, output_of, passing, stop_or, within_limit, limited, end_by}
+use Rattle.cx_model.specs.Runs.{text_of, run_stage, run_stages, text_to, output_of, Lengths, no_lengths, lengths_after, passing, stop_or, within_limit, limited, end_by}
 use Rattle.cx_model.specs.Runs.{all_written as texts_of}
 use Rattle.cx_model.specs.Work.{entry_points, points_computed}
 use Rattle.cx_model.specs.Uses.{entry_needs, entry_leaves, entries_leave}
@@ -317,16 +317,25 @@ alike-continued setup rules c settled =
 
 -- ---- the limit
 
-bare-text : (e : Entry) → text_added e ≡ text_added (bare e)
-bare-text (Turned k n state) = refl
-bare-text (Overflowed k n state) = refl
-bare-text (Exchanged vars path state) = refl
-bare-text (Tested v path state) = refl
-bare-text (Rotated state) = refl
-bare-text (Wrote v n text state) = refl
-bare-text (Saved n state) = refl
+bare-text : (v : VarId) (e : Entry) → text_to v e ≡ text_to v (bare e)
+bare-text v (Turned k n state) = refl
+bare-text v (Overflowed k n state) = refl
+bare-text v (Exchanged vars path state) = refl
+bare-text v (Tested w path state) = refl
+bare-text v (Rotated state) = refl
+bare-text v (Wrote w n text state) = refl
+bare-text v (Saved n state) = refl
 
-bare-passing : (so_far : ℕ) (e : Entry) → passing so_far e ≡ passing so_far (bare e)
+bare-after : (so_far : Lengths) (e : Entry) → lengths_after so_far e ≡ lengths_after so_far (bare e)
+bare-after so_far (Turned k n state) = refl
+bare-after so_far (Overflowed k n state) = refl
+bare-after so_far (Exchanged vars path state) = refl
+bare-after so_far (Tested w path state) = refl
+bare-after so_far (Rotated state) = refl
+bare-after so_far (Wrote w n text state) = refl
+bare-after so_far (Saved n state) = refl
+
+bare-passing : (so_far : Lengths) (e : Entry) → passing so_far e ≡ passing so_far (bare e)
 bare-passing so_far (Turned k n state) = refl
 bare-passing so_far (Overflowed k n state) = refl
 bare-passing so_far (Exchanged vars path state) = refl
@@ -335,17 +344,17 @@ bare-passing so_far (Rotated state) = refl
 bare-passing so_far (Wrote v n text state) = refl
 bare-passing so_far (Saved n state) = refl
 
-bared-limit : (so_far : ℕ) (es : List Entry) (o : Outcome)
+bared-limit : (so_far : Lengths) (es : List Entry) (o : Outcome)
     → bared (within_limit so_far es o) ≡ within_limit so_far (map bare es) (Ends (end_by o))
 bared-limit so_far [] o = refl
 bared-limit so_far (e ∷ es) o =
-    by (passing so_far e) (within_limit (so_far + length (text_added e)) es o)
-    ∙ ap (λ p. stop_or p (after (bare e ∷ [])
-    (bared (within_limit (so_far + length (text_added e)) es o)))) (bare-passing so_far e)
+    by (passing so_far e) (within_limit (lengths_after so_far e) es o)
+    ∙ ap (λ p. stop_or p (after (bare e ∷ []) (bared (within_limit (lengths_after so_far e) es o))))
+    (bare-passing so_far e)
     ∙ ap (λ t. stop_or (passing so_far (bare e)) (after (bare e ∷ []) t))
-    (bared-limit (so_far + length (text_added e)) es o
-    ∙ ap (λ (text : List ℕ).
-    within_limit (so_far + length text) (map bare es) (Ends (end_by o))) (bare-text e))
+    (bared-limit (lengths_after so_far e) es o
+    ∙ ap (λ (n : Lengths). within_limit n (map bare es) (Ends (end_by o)))
+    (bare-after so_far e))
   where
     by : (p : Option ℕ) (rest : Trace)
         → bared (stop_or p (after (e ∷ []) rest)) ≡ stop_or p (after (bare e ∷ []) (bared rest))
@@ -359,8 +368,8 @@ same-end setup flags (Ends e) (Ends f) same = same
 same-end setup flags (Goes a) (Ends f) none = absurd none
 same-end setup flags (Ends e) (Goes b) none = absurd none
 
-bared-same : (setup : Setup) (flags : Flags) (so_far : ℕ) (s t : Trace) → Alike setup flags s t
-    → bared (limited so_far s) ≡ bared (limited so_far t)
+bared-same : (setup : Setup) (flags : Flags) (so_far : Lengths) (s t : Trace)
+    → Alike setup flags s t → bared (limited so_far s) ≡ bared (limited so_far t)
 bared-same setup flags so_far s t r =
     bared-limit so_far s.entries s.outcome
     ∙ ap (λ es. within_limit so_far es (Ends (end_by s.outcome))) r.entries
@@ -368,10 +377,11 @@ bared-same setup flags so_far s t r =
     (same-end setup (entries_leave setup s.entries flags) s.outcome t.outcome r.outcome)
     ∙ sym (bared-limit so_far t.entries t.outcome)
 
-bare-output : (es : List Entry) → output_of es ≡ output_of (map bare es)
-bare-output [] = refl
-bare-output (e ∷ es) = ap (λ (text : List ℕ). text ++ output_of es) (bare-text e)
-    ∙ ap (λ (rest : List ℕ). text_added (bare e) ++ rest) (bare-output es)
+bare-output : (v : VarId) (es : List Entry) → output_of v es ≡ output_of v (map bare es)
+bare-output v [] = refl
+bare-output v (e ∷ es) =
+    ap (λ (text : List ℕ). text ++ output_of v es) (bare-text v e)
+    ∙ ap (λ (rest : List ℕ). text_to v (bare e) ++ rest) (bare-output v es)
 
 bare-entry-points : (setup : Setup) (e : Entry) → entry_points setup e ≡ entry_points setup (bare e)
 bare-entry-points setup (Turned k n state) = refl
@@ -393,16 +403,16 @@ same-bared : (setup : Setup) (s t : Trace) → bared s ≡ bared t → SameRun s
 same-bared setup s t same =
     record {
       does = same;
-      output = bare-output s.entries ∙ ap (λ (u : Trace). output_of u.entries) same
-          ∙ sym (bare-output t.entries);
+      output = λ v. bare-output v s.entries ∙ ap (λ (u : Trace). output_of v u.entries) same
+          ∙ sym (bare-output v t.entries);
       points = bare-points setup s.entries
           ∙ ap (λ (u : Trace). points_computed setup u.entries) same
           ∙ sym (bare-points setup t.entries);
       end = ap (λ (u : Trace). end_by u.outcome) same;
     }
 
-pub same-run : (setup : Setup) (flags : Flags) (so_far : ℕ) (s t : Trace) → Alike setup flags s t
-    → SameRun setup (limited so_far s) (limited so_far t)
+pub same-run : (setup : Setup) (flags : Flags) (so_far : Lengths) (s t : Trace)
+    → Alike setup flags s t → SameRun setup (limited so_far s) (limited so_far t)
 same-run setup flags so_far s t r =
     same-bared setup (limited so_far s) (limited so_far t) (bared-same setup flags so_far s t r)
 
@@ -425,6 +435,6 @@ pub uses-only-own : (setup : Setup) (rules : List Rule) → IsSettled setup → 
     → UsesOnlyOwn setup rules
 uses-only-own setup rules settled sound a b one two =
     let s = run_stages setup rules (stages setup) a in
-    same-run setup cleared 0 s (run_stages setup rules (stages setup) b)
+    same-run setup cleared no_lengths s (run_stages setup rules (stages setup) b)
     (alike-runs setup rules settled cleared a b (agree-cleared setup a b one two)
     (met-run setup rules a sound))

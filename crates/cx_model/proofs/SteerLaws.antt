@@ -1,8 +1,8 @@
 -- Runs that are steered alike up to an iteration are the same up to its checkpoint place.
-use Rattle.std.proofs.Common.{◌≡◌, ℕ, zero, suc, ◌+◌, ◌-◌, ◌<◌, ◌≤◌, ◌⊎◌, inl, inr, refl, sym, ap, subst, ◌∙◌, Bool, true, false, cond, leb, eqb, ◌&&◌, ◌||◌, ◌==◌, ℤ, List, [], ◌∷◌, ◌++◌, filter, flat_map, length, take, append_assoc, length-append, append-nil, Option, Some, None, add-zero, zero-add, arith}
-use Rattle.std.specs.Prelude.{nat_le, slice_set}
+use Rattle.std.proofs.Common.{◌≡◌, ℕ, zero, suc, ◌+◌, ◌-◌, ◌<◌, ◌≤◌, ◌⊎◌, inl, inr, refl, sym, ap, subst, ◌∙◌, Bool, true, false, cond, leb, ◌&&◌, ◌||◌, ◌==◌, ℤ, List, [], ◌∷◌, ◌++◌, flat_map, length, take, append_assoc, length-append, Option, Some, None, zero-add, arith}
+use Rattle.std.specs.Prelude.{slice_set}
 use Rattle.std.specs.List.{range_with_len}
-use Rattle.std.proofs.lemmas.Bool.{cases_lt, cases_order, leb-true, le-leb, and_parts, false≢true}
+use Rattle.std.proofs.lemmas.Bool.{cases_order, leb-true, le-leb, and_parts, false≢true}
 use Rattle.std.proofs.lemmas.List.{take-append-le, take_all}
 use Rattle.cx_plan.specs.declared.item.Item.{Item}
 use Rattle.cx_plan.specs.declared.item.ItemKind.{ItemKind}
@@ -17,20 +17,19 @@ use Rattle.cx_plan.specs.Steering.{counts_at, set_by, steered, item_at}
 use Rattle.cx_rule.specs.Routine.{Rule}
 use Rattle.cx_rule.specs.States.{State, rotate}
 use Rattle.cx_model.specs.States.{start}
-use Rattle.cx_model.specs.Traces.{Entry, Rotated, Saved, Outcome, Goes, Ends, Trace, stays, ends, after, follow, then_go}
+use Rattle.cx_model.specs.Traces.{Entry, Turned, Overflowed, Exchanged, Tested, Rotated, Wrote, Saved, Outcome, Goes, Ends, Trace, stays, after, follow, then_go}
 use Rattle.cx_model.specs.Trees.{test, turn_trace, loop, run_tree, run_row}
 use Rattle.cx_model.specs.Turns.{turn, turn_by}
 use Rattle.cx_model.specs.declared.ends.End.{End}
 use Rattle.cx_model.specs.declared.ends.End.TheVariants.{WhileLimit}
 use Rattle.cx_model.specs.Stages.{Stage, Bin, Rotate, Save, Write, bins, before_analysis, from_analysis, iteration, rest_behind, stages, stages_after}
-use Rattle.cx_model.specs.Runs.{all_written, run_stage, run_stages, text_added, output_of, passing, stop_or, within_limit, limited, undivided_run, output, Reaches}
-use Rattle.cx_model.specs.Checkpoints.{Continues}
+use Rattle.cx_model.specs.Runs.{all_written, run_stages, text_to, output_of, Lengths, no_lengths, lengths_after, lengths_behind, passing, stop_or, within_limit, limited, output, Reaches}
 use Rattle.cx_model.proofs.ListLaws.{heads, tails, nothing_there}
 use Rattle.cx_model.proofs.WalkLaws.{Each, walk-tree}
 use Rattle.cx_model.proofs.SaveLaws.{IsOther, others, others-written, Stands, EachSave, found, output-both}
 use Rattle.cx_model.proofs.StageLaws.{Rises, each-after}
 use Rattle.cx_model.proofs.CheckpointLaws.{run-continues}
-use Rattle.cx_model.specs.Steers.{steered_as, steers_to, SameUpTo, SteeredAlike}
+use Rattle.cx_model.specs.Steers.{steered_as, steers_to, SteeredAlike}
 
 -- ---- steers
 
@@ -112,64 +111,51 @@ module _ (setup : Setup) (other : List Steered) (rules : List Rule) where
 -- ---- entries that don't pass the limit
 
 -- behind a place that stands there, whatever comes behind the entries before it
-passes_any : (so_far : ℕ) (es more : List Entry) (o : Outcome) (earlier : List Entry) (c : ℕ)
+passes_any : (so_far : Lengths) (es more : List Entry) (o : Outcome) (earlier : List Entry) (c : ℕ)
     (state : State) (later : List Entry)
     → Each IsOther es → Stands (within_limit so_far (es ++ more) o) earlier c state later
     → (between : List Entry) × (earlier ≡ es ++ between)
-    × Stands (within_limit (so_far + length (output_of es)) more o) between c state later
+    × Stands (within_limit (lengths_behind so_far es) more o) between c state later
     × ((less : List Entry) (p : Outcome)
     → within_limit so_far (es ++ less) p
-    ≡ after es (within_limit (so_far + length (output_of es)) less p))
-passes_any so_far [] more o earlier c state later none there = (
-  earlier,
-  refl,
-  subst (λ n. Stands (within_limit n more o) earlier c state later)
-      (sym (add-zero so_far)) there,
-  λ less p. ap (λ n. within_limit n less p) (sym (add-zero so_far)),
-)
+    ≡ after es (within_limit (lengths_behind so_far es) less p))
+passes_any so_far [] more o earlier c state later none there =
+    (earlier, refl, there, λ less p. refl)
 passes_any so_far (e ∷ es) more o earlier c state later none there =
     by (passing so_far e) refl earlier there
-    (λ rest at. passes_any (so_far + length (text_added e))
-    es more o rest c state later none.1 at)
+    (λ rest at. passes_any (lengths_after so_far e) es more o rest c state later none.1 at)
   where
     inner : Trace
-    inner = within_limit (so_far + length (text_added e)) (es ++ more) o
+    inner = within_limit (lengths_after so_far e) (es ++ more) o
 
     Again : List Entry → Type 0
     Again rest =
         (between : List Entry) × (rest ≡ es ++ between)
-        × Stands (within_limit (so_far + length (text_added e) + length (output_of es)) more o)
+        × Stands (within_limit (lengths_behind (lengths_after so_far e) es) more o)
         between c state later
         × ((less : List Entry) (p : Outcome)
-        → within_limit (so_far + length (text_added e)) (es ++ less) p
-        ≡ after es (within_limit (so_far + length (text_added e) + length (output_of es))
-        less p))
-
-    more_length : so_far + length (text_added e) + length (output_of es)
-        ≡ so_far + length (output_of (e ∷ es))
-    more_length = let f = length-append (text_added e) (output_of es) in omega (arith, f)
+        → within_limit (lengths_after so_far e) (es ++ less) p
+        ≡ after es (within_limit (lengths_behind (lengths_after so_far e) es) less p))
 
     by : (p : Option ℕ) → passing so_far e ≡ p → (earlier : List Entry)
         → Stands (stop_or p (after (e ∷ []) inner)) earlier c state later
         → ((rest : List Entry) → Stands inner rest c state later → Again rest)
         → (between : List Entry) × (earlier ≡ (e ∷ es) ++ between)
-        × Stands (within_limit (so_far + length (output_of (e ∷ es))) more o) between c state later
+        × Stands (within_limit (lengths_behind so_far (e ∷ es)) more o) between c state later
         × ((less : List Entry) (p : Outcome)
         → within_limit so_far ((e ∷ es) ++ less) p
-        ≡ after (e ∷ es) (within_limit (so_far + length (output_of (e ∷ es))) less p))
+        ≡ after (e ∷ es) (within_limit (lengths_behind so_far (e ∷ es)) less p))
     by None is [] there again =
         absurd (subst IsOther (heads e (Saved c state) inner.entries later there) none.0)
     by None is (f ∷ rest) there again =
         let r = again rest (tails e f inner.entries (rest ++ Saved c state ∷ later) there) in (
           r.0,
-          ap (λ g. g ∷ rest)
-              (sym (heads e f inner.entries (rest ++ Saved c state ∷ later) there))
+          ap (λ g. g ∷ rest) (sym (heads e f inner.entries (rest ++ Saved c state ∷ later) there))
               ∙ ap (λ l. e ∷ l) r.1,
-          subst (λ n. Stands (within_limit n more o) r.0 c state later) more_length r.2,
+          r.2,
           λ less p. ap (λ q. stop_or q
-              (after (e ∷ []) (within_limit (so_far + length (text_added e)) (es ++ less) p))) is
-              ∙ ap (after (e ∷ []))
-              (r.3 less p ∙ ap (λ n. after es (within_limit n less p)) more_length),
+              (after (e ∷ []) (within_limit (lengths_after so_far e) (es ++ less) p))) is
+              ∙ ap (after (e ∷ [])) (r.3 less p),
         )
     by (Some n) is earlier there again = absurd (nothing_there earlier (Saved c state) later there)
 
@@ -192,10 +178,10 @@ module _ (setup : Setup) (other : List Steered) (rules : List Rule) (c : ℕ)
   abbrev Also : Trace → List Entry → State → Type 0
   Also t earlier state = (later : List Entry) × Stands t earlier c state later
 
-  also_behind : (es : List Entry) (out : Outcome) (ss : List Stage) (so_far : ℕ)
+  also_behind : (es : List Entry) (out : Outcome) (ss : List Stage) (so_far : Lengths)
       (earlier : List Entry) (state : State) (later : List Entry)
       → Each IsOther es
-      → ((first : State) (n : ℕ) (between : List Entry)
+      → ((first : State) (n : Lengths) (between : List Entry)
       → Stands (limited n (run_stages setup rules ss first)) between c state later
       → Also (limited n (run_stages two rules ss first)) between state)
       → Stands (limited so_far (after es (follow out (run_stages setup rules ss))))
@@ -205,7 +191,7 @@ module _ (setup : Setup) (other : List Steered) (rules : List Rule) (c : ℕ)
       let one = run_stages setup rules ss first in
       let less = run_stages two rules ss first in
       let r = passes_any so_far es one.entries one.outcome earlier c state later none there in
-      let f = again first (so_far + length (output_of es)) r.0 r.2 in (
+      let f = again first (lengths_behind so_far es) r.0 r.2 in (
         f.0,
         ap (λ (t : Trace). t.entries) (r.3 less.entries less.outcome) ∙ ap (λ l. es ++ l) f.1
             ∙ sym (append_assoc es r.0 (Saved c state ∷ f.0))
@@ -216,7 +202,8 @@ module _ (setup : Setup) (other : List Steered) (rules : List Rule) (c : ℕ)
       absurd (nothing_there r.0 (Saved c state) later r.2)
 
   also : (ss : List Stage) → AlikeTo c ss
-      → (first : State) (so_far : ℕ) (earlier : List Entry) (state : State) (later : List Entry)
+      → (first : State) (so_far : Lengths) (earlier : List Entry) (state : State)
+      (later : List Entry)
       → Stands (limited so_far (run_stages setup rules ss first)) earlier c state later
       → Also (limited so_far (run_stages two rules ss first)) earlier state
   also [] to first so_far earlier state later there =
@@ -237,23 +224,22 @@ module _ (setup : Setup) (other : List Steered) (rules : List Rule) (c : ℕ)
       (λ now k between at. also ss to now k between state later at) there
   also (Save n ∷ ss) to first so_far [] state later there =
       let here = heads (Saved n first) (Saved c state)
-      (limited (so_far + 0) (run_stages setup rules ss first)).entries later there in (
-        (limited (so_far + 0) (run_stages two rules ss first)).entries,
-        ap (λ (e : Entry). e ∷ (limited (so_far + 0) (run_stages two rules ss first)).entries)
-            here,
+      (limited so_far (run_stages setup rules ss first)).entries later there in (
+        (limited so_far (run_stages two rules ss first)).entries,
+        ap (λ (e : Entry). e ∷ (limited so_far (run_stages two rules ss first)).entries) here,
       )
   also (Save n ∷ ss) (inl to) first so_far (e ∷ earlier) state later there =
-      let rest = limited (so_far + 0) (run_stages setup rules ss first) in
+      let rest = limited so_far (run_stages setup rules ss first) in
       let here = heads (Saved n first) e rest.entries (earlier ++ Saved c state ∷ later) there in
-      let f = also ss to.1 first (so_far + 0) earlier state later
+      let f = also ss to.1 first so_far earlier state later
       (tails (Saved n first) e rest.entries (earlier ++ Saved c state ∷ later) there) in (
         f.0,
         ap (λ (l : List Entry). Saved n first ∷ l) f.1
             ∙ ap (λ (g : Entry). g ∷ earlier ++ Saved c state ∷ f.0) here,
       )
   also (Save n ∷ ss) (inr none) first so_far (e ∷ earlier) state later there =
-      let rest = limited (so_far + 0) (run_stages setup rules ss first) in
-      let f = found (λ m more. c < m) setup rules ss none first (so_far + 0) earlier c state later
+      let rest = limited so_far (run_stages setup rules ss first) in
+      let f = found (λ m more. c < m) setup rules ss none first so_far earlier c state later
       (tails (Saved n first) e rest.entries (earlier ++ Saved c state ∷ later) there) in
       let l = f.holds in
       absurd (omega (arith, l))
@@ -398,26 +384,55 @@ up_to_earlier c d l one other e = sym (fewer c d l one) ∙ ap (steers_to d) e �
 
 place_same : (setup : Setup) (other : List Steered) (rules : List Rule) (d : ℕ)
     → steers_to d setup.steers ≡ steers_to d other
-    → (state : State) (so_far : ℕ) (r : Reaches setup rules d state so_far)
+    → (state : State) (so_far : Lengths) (r : Reaches setup rules d state so_far)
     → (q : Reaches (steered_as setup other) rules d state so_far) × (q.earlier ≡ r.earlier)
 place_same setup other rules d same state so_far r =
     let due = (run-continues setup rules).due d state so_far r in
     let w = due_within setup d due in
     let f = also setup other rules d same (stages setup) (run_alike setup d due w.0 w.1)
-    (start setup) 0 r.earlier state r.later r.there in
-    (record { earlier = r.earlier; later = f.0; there = f.1; length_there = r.length_there }, refl)
+    (start setup) no_lengths r.earlier state r.later r.there in (
+      record { earlier = r.earlier; later = f.0; there = f.1; lengths_there = r.lengths_there },
+      refl,
+    )
+
+-- an output's length is that of its text
+text_length : (v : VarId) (so_far : Lengths) (e : Entry)
+    → lengths_after so_far e v.0 ≡ so_far v.0 + length (text_to v e)
+text_length v so_far (Wrote w n text state) = by (w.0 == v.0)
+  where
+    by : (b : Bool) → (cond b (so_far v.0 + length text) (so_far v.0))
+        ≡ so_far v.0 + length (cond b text [])
+    by true = refl
+    by false = omega arith
+text_length v so_far (Turned k n state) = omega arith
+text_length v so_far (Overflowed k n state) = omega arith
+text_length v so_far (Exchanged vars path state) = omega arith
+text_length v so_far (Tested w path state) = omega arith
+text_length v so_far (Rotated state) = omega arith
+text_length v so_far (Saved n state) = omega arith
+
+length_behind : (v : VarId) (es : List Entry) (so_far : Lengths)
+    → lengths_behind so_far es v.0 ≡ so_far v.0 + length (output_of v es)
+length_behind v [] so_far = omega arith
+length_behind v (e ∷ es) so_far =
+    let rest = length_behind v es (lengths_after so_far e) in
+    let here = text_length v so_far e in
+    let both = length-append (text_to v e) (output_of v es) in
+    omega (arith, rest, here, both)
 
 -- as much of an output as stands before a place
-front : (setup : Setup) (rules : List Rule) (d : ℕ) (state : State) (so_far : ℕ)
-    (r : Reaches setup rules d state so_far)
-    → take so_far (output setup rules) ≡ output_of r.earlier
-front setup rules d state so_far r =
-    ap (λ es. take so_far (output_of es)) r.there
-    ∙ ap (take so_far) (output-both r.earlier (Saved d state ∷ r.later))
-    ∙ ap (λ n. take n (output_of r.earlier ++ output_of (Saved d state ∷ r.later))) r.length_there
-    ∙ take-append-le (length (output_of r.earlier)) (output_of r.earlier)
-    (output_of (Saved d state ∷ r.later)) (omega arith)
-    ∙ take_all (length (output_of r.earlier)) (output_of r.earlier) (omega arith)
+front : (setup : Setup) (rules : List Rule) (d : ℕ) (state : State) (so_far : Lengths)
+    (r : Reaches setup rules d state so_far) (v : VarId)
+    → take (so_far v.0) (output setup rules v) ≡ output_of v r.earlier
+front setup rules d state so_far r v =
+    ap (λ es. take (so_far v.0) (output_of v es)) r.there
+    ∙ ap (take (so_far v.0)) (output-both v r.earlier (Saved d state ∷ r.later))
+    ∙ ap (λ n. take n (output_of v r.earlier ++ output_of v (Saved d state ∷ r.later)))
+    (ap (λ (n : Lengths). n v.0) r.lengths_there ∙ length_behind v r.earlier no_lengths
+    ∙ zero-add (length (output_of v r.earlier)))
+    ∙ take-append-le (length (output_of v r.earlier)) (output_of v r.earlier)
+    (output_of v (Saved d state ∷ r.later)) (omega arith)
+    ∙ take_all (length (output_of v r.earlier)) (output_of v r.earlier) (omega arith)
 
 pub steered_alike : (setup : Setup) (rules : List Rule) → SteeredAlike setup rules
 steered_alike setup rules other c same =
@@ -425,9 +440,9 @@ steered_alike setup rules other c same =
       places = λ d state so_far l r.
           (place_same setup other rules d (up_to_earlier c d l setup.steers other same)
           state so_far r).0;
-      output = λ d state so_far l r.
+      output = λ d state so_far l r v.
           let q = place_same setup other rules d (up_to_earlier c d l setup.steers other same)
           state so_far r in
-          front setup rules d state so_far r ∙ ap output_of (sym q.1)
-          ∙ sym (front (steered_as setup other) rules d state so_far q.0);
+          front setup rules d state so_far r v ∙ ap (output_of v) (sym q.1)
+          ∙ sym (front (steered_as setup other) rules d state so_far q.0 v);
     }

@@ -64,13 +64,15 @@ thin =
 abbrev rules : List Rule
 rules = zero_rule ∷ read_rule ∷ []
 
-zeros_come_through : output_of (run_from thin rules (((pos 0 ∷ pos 0 ∷ []) ∷ []) ∷ [])).entries
+zeros_come_through : output_of (record { 0 = 0 })
+    (run_from thin rules (((pos 0 ∷ pos 0 ∷ []) ∷ []) ∷ [])).entries
     ≡ codes "# a::u iteration 0 size 2\n0 0\n\n"
 unfolding digits Rattle.cx_plan.specs.declared.tree.Tree.TheBlock.hidden-the_row-Tree-0
     denote.Hole.Carrier.hidden
 zeros_come_through = refl
 
-sevens_come_through : output_of (run_from thin rules (((pos 7 ∷ pos 7 ∷ []) ∷ []) ∷ [])).entries
+sevens_come_through : output_of (record { 0 = 0 })
+    (run_from thin rules (((pos 7 ∷ pos 7 ∷ []) ∷ []) ∷ [])).entries
     ≡ codes "# a::u iteration 0 size 2\n7 7\n\n"
 unfolding digits Rattle.cx_plan.specs.declared.tree.Tree.TheBlock.hidden-the_row-Tree-0
     denote.Hole.Carrier.hidden

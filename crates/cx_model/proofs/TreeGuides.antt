@@ -4,7 +4,6 @@ use Rattle.cx_plan.specs.declared.variable.VarId.{VarId}
 use Rattle.cx_plan.specs.declared.item.Item.{Item}
 use Rattle.cx_plan.specs.declared.tree.Tree.{Tree, Seq', Call, Sync, If', While', Row_of-Tree, end_of-Tree, more_of-Tree}
 use Rattle.cx_plan.specs.Setups.{Setup}
-use Rattle.cx_plan.specs.Lookups.{item}
 use Rattle.cx_plan.specs.Steering.{item_at}
 use Rattle.cx_plan.specs.Regions.{Act, Turns, Syncs, Tests}
 use Rattle.cx_plan.specs.Paths.{Mark, Letter, Meets, letter_n, letter_w, letter_x, Then, Just, Loop, Path, PathIn}

@@ -13,7 +13,7 @@ use Rattle.cx_rule.specs.States.{State}
 use Rattle.cx_model.specs.States.{start}
 use Rattle.cx_model.specs.Stages.{stages_after}
 use Rattle.cx_model.specs.Traces.{Saved}
-use Rattle.cx_model.specs.Runs.{run_stages, Reaches}
+use Rattle.cx_model.specs.Runs.{run_stages, Lengths, Reaches}
 use Rattle.cx_model.specs.Uses.{entries_leave}
 use Rattle.cx_model.specs.Agreement.{IsSettled}
 use Rattle.cx_model.specs.Values.{StepsAgree, NeedsOnlyTold}
@@ -48,7 +48,7 @@ steps-agree job rules settled items =
     }
 
 -- each need of a run that is continued from a checkpoint place is met by the flags left there
-pub met-behind : (setup : Setup) (rules : List Rule) (c : ℕ) (state : State) (so_far : ℕ)
+pub met-behind : (setup : Setup) (rules : List Rule) (c : ℕ) (state : State) (so_far : Lengths)
     → Sound setup → (r : Reaches setup rules c state so_far)
     → EntriesMet setup (entries_leave setup r.earlier cleared)
     (run_stages setup rules (stages_after setup c) state).entries

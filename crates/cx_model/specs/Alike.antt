@@ -1,5 +1,6 @@
 -- Runs that do the same, whatever is in the states.
 use Rattle.std.specs.Prelude.{◌≡◌, List, [], map}
+use Rattle.cx_plan.specs.declared.variable.VarId.{VarId}
 use Rattle.cx_plan.specs.Setups.{Setup}
 use Rattle.cx_plan.specs.Regions.{Flags}
 use Rattle.cx_rule.specs.Routine.{Rule}
@@ -7,7 +8,7 @@ use Rattle.cx_rule.specs.States.{State}
 use Rattle.cx_model.specs.States.{IsState}
 use Rattle.cx_model.specs.Traces.{Entry, Turned, Overflowed, Exchanged, Tested, Rotated, Wrote, Saved, Outcome, Goes, Ends, Trace}
 use Rattle.cx_model.specs.Stages.{stages}
-use Rattle.cx_model.specs.Runs.{run_stages, output_of, limited, end_by}
+use Rattle.cx_model.specs.Runs.{run_stages, output_of, no_lengths, limited, end_by}
 use Rattle.cx_model.specs.Work.{points_computed}
 use Rattle.cx_model.specs.Uses.{entries_leave}
 use Rattle.cx_model.specs.Agreement.{Agree}
@@ -40,12 +41,12 @@ pub record Alike (setup : Setup) (flags : Flags) (one two : Trace) : Type 0 wher
 
 -- the run of a job that begins in a state
 abbrev pub run_from : Setup → List Rule → State → Trace
-run_from setup rules state = limited 0 (run_stages setup rules (stages setup) state)
+run_from setup rules state = limited no_lengths (run_stages setup rules (stages setup) state)
 
 -- two runs do the same, write the same, compute as many points and end alike
 pub record SameRun (setup : Setup) (one two : Trace) : Type 0 where
   pub does : bared one ≡ bared two
-  pub output : output_of one.entries ≡ output_of two.entries
+  pub output : (v : VarId) → output_of v one.entries ≡ output_of v two.entries
   pub points : points_computed setup one.entries ≡ points_computed setup two.entries
   pub end : end_by one.outcome ≡ end_by two.outcome
 

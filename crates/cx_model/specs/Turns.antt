@@ -1,10 +1,9 @@
 -- One turn of an item in an undivided run: all its points from the values before, all at once. What
 -- a rule sees, what it gives and how a zone of a box is swept are those over any box.
-use Rattle.std.specs.Prelude.{ℕ, not, ℤ, pos, ◌+ℤ◌, List, [], ◌∷◌, filter, length, Bool, Option, Some, if◌then◌else◌}
+use Rattle.std.specs.Prelude.{ℕ, ℤ, pos, ◌+ℤ◌, List, [], ◌∷◌, filter, length, Option, Some, if◌then◌else◌}
 use Rattle.std.specs.List.{reduce}
 use Rattle.std.specs.Option.{unwrap_or}
 use Rattle.std.specs.Int.{int_min, int_max}
-use Rattle.std.specs.Ordering.{int_eq}
 use Rattle.cx_grid.specs.declared.boxes.Point.{Point}
 use Rattle.cx_grid.specs.Grid.{whole, at}
 use Rattle.cx_plan.specs.declared.item.Touch.{Touch}

@@ -17,7 +17,7 @@ use Rattle.cx_model.specs.States.{IsState, start}
 use Rattle.cx_rule.specs.Sweeps.{in_region, window_point}
 use Rattle.cx_model.specs.Turns.{turn}
 use Rattle.cx_model.specs.Traces.{Entry, Turned, Overflowed, Exchanged, Tested, Rotated, Wrote, Saved}
-use Rattle.cx_model.specs.Runs.{text_of, continued_run, Reaches}
+use Rattle.cx_model.specs.Runs.{text_of, Lengths, continued_run, Reaches}
 use Rattle.cx_model.specs.Uses.{entries_leave}
 use Rattle.cx_model.specs.Agreement.{Agree, AgreeOrNone, IsWindowTold, Met}
 use Rattle.cx_model.specs.Alike.{SameRun, run_from}
@@ -64,7 +64,7 @@ pub record StepsAgree (setup : Setup) (rules : List Rule) : Type 0 where
 -- for the flags left
 abbrev pub NeedsOnlyTold : Setup → List Rule → Type 0
 NeedsOnlyTold setup rules =
-    (c : ℕ) (state other : State) (so_far : ℕ) (r : Reaches setup rules c state so_far)
+    (c : ℕ) (state other : State) (so_far : Lengths) (r : Reaches setup rules c state so_far)
     → Agree setup (entries_leave setup r.earlier cleared) state other
     → SameRun setup (continued_run setup rules c state so_far)
     (continued_run setup rules c other so_far)
@@ -85,10 +85,11 @@ pub record KeepsStates (setup : Setup) (rules : List Rule) : Type 0 where
   pub begins : IsState setup (start setup)
   pub run : (first : State) → IsState setup first
       → All (λ e. IsState setup (state_before e)) (run_from setup rules first).entries
-  pub continued : (c : ℕ) (state : State) (so_far : ℕ) → IsState setup state
+  pub continued : (c : ℕ) (state : State) (so_far : Lengths) → IsState setup state
       → All (λ e. IsState setup (state_before e)) (continued_run setup rules c state so_far).entries
-  pub reached : (c : ℕ) (state : State) (so_far : ℕ) → Reaches setup rules c state so_far
+  pub reached : (c : ℕ) (state : State) (so_far : Lengths) → Reaches setup rules c state so_far
       → IsState setup state
-  pub reached_later : (c : ℕ) (state : State) (so_far d : ℕ) (now : State) (written : ℕ)
+  pub reached_later : (c : ℕ) (state : State) (so_far : Lengths) (d : ℕ) (now : State)
+      (written : Lengths)
       → IsState setup state → ReachesFrom setup rules c state so_far d now written
       → IsState setup now

@@ -11,6 +11,6 @@ pub enum End {
     Overflow(u64, Text),
     /// At a WHILE whose scalar isn't 0 after the greatest number of turns.
     WhileLimit(u64, Text),
-    /// At a text with which the output would have more than 2^32 bytes.
+    /// At a text with which its variable's output would have more than 2^32 bytes.
     OutputLimit(u64),
 }

@@ -22,9 +22,9 @@ use cx_plan::Job;
 pub use ends::End;
 
 /// A law of every job and all rules: the run that reaches the checkpoint place of an iteration is what came before it, and
-/// then the run that is continued from the state and the length of the output at that place; entry by entry, with the same
+/// then the run that is continued from the state and the lengths of the outputs at that place; entry by entry, with the same
 /// end. Each place is reached once, those of higher iterations are reached from those of lower ones, and at none of them is
-/// the output shorter than at the one before. It does nothing; its clause is the law.
+/// the output of a variable shorter than at the one before. It does nothing; its clause is the law.
 pub fn run_continues(job: &Job)
     ensures { (rules : List Rule) → Continues (setup_of job.now) rules }
 {}
@@ -42,7 +42,7 @@ pub fn run_keeps_states(job: &Job)
 /// A law of every whole job whose items have their shapes, on a grid with interior points, and all rules: each step uses only
 /// numbers of regions that are set. Two states that agree at all points and in all scalars of set regions lead, by any item
 /// whose needs are met, either both to no numbers, or to states that agree at all points and in all scalars of the regions
-/// that are set after it; and so do an exchange and a rotation. A test of an IF or a WHILE finds the same, and a text of the
+/// that are set after it; and so do an exchange and a rotation. A test of an IF or a WHILE finds the same, and a text of an
 /// output is the same, where its needs are met. It does nothing; its clause is the law.
 pub fn steps_agree(job: &Job)
     requires whole { IsWhole job.now }
@@ -52,8 +52,8 @@ pub fn steps_agree(job: &Job)
 {}
 
 /// What the yes of the region check means, in numbers: the runs of a sound job that begin in any two whole states, not only in
-/// zeros, do the same, write the same output, compute as many points and end alike. So no number that the run hasn't written
-/// itself reaches its output, a test of an IF or a WHILE, or its end. The job is whole, its items have their shapes, and its
+/// zeros, do the same, write the same outputs, compute as many points and end alike. So no number that the run hasn't written
+/// itself reaches an output, a test of an IF or a WHILE, or its end. The job is whole, its items have their shapes, and its
 /// grid has interior points; on a grid without any, the boundary would be taken from itself. It does nothing; its clause is
 /// the law.
 pub fn sound_uses_only_own(job: &Job)
@@ -99,8 +99,8 @@ pub fn course_needs_met(job: &Job)
 {}
 
 /// A law of every job and all rules: a run that is steered otherwise behind an iteration alone is the same up to the checkpoint place
-/// of that iteration. It reaches the same places in the same states, and what it has written there is the same. It does nothing; its
-/// clause is the law.
+/// of that iteration. It reaches the same places in the same states, and what it has written there of each variable is the same. It does
+/// nothing; its clause is the law.
 pub fn steered_alike(job: &Job)
     ensures { (rules : List Rule) → SteeredAlike (setup_of job.now) rules }
 {}

@@ -125,6 +125,11 @@ output_short : text_of (a.Recovery (begins.OutputShort 10 300))
 unfolding digits
 output_short = refl
 
+old_too_long : text_of (a.Recovery (begins.OldTooLong 300000000 268435456))
+    ≡ codes "recovery: OldTooLong 300000000 268435456\n"
+unfolding digits
+old_too_long = refl
+
 other_job : text_of (a.Recovery
     (begins.OtherJob (codes "parameter wave::amount = \"5\"")
     (codes "parameter wave::amount = \"6\"")))

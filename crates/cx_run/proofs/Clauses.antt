@@ -2,14 +2,15 @@
 use Rattle.std.proofs.Common.{◌≡◌, ◌≢◌, ◌⊎◌, ◌∙◌, ℕ, ℤ, ◌<◌, List, length, Option, Some, None, Result, Ok, Err, inl, inr, refl, sym, ap, subst, arith}
 use Rattle.cx_plan.specs.Setups.{setup_of}
 use Rattle.cx_plan.specs.declared.job.Job.{Job}
-use Rattle.cx_model.specs.Runs.{output, end_by, end as end_of}
+use Rattle.cx_model.specs.Runs.{outputs, end_by, end as end_of}
 use Rattle.cx_model.specs.declared.ends.End.{End}
 use Rattle.cx_model.specs.declared.ends.End.TheVariants as ends
 use Rattle.cx_chk.specs.declared.checkpoint.Checkpoint.{Checkpoint}
-use Rattle.cx_keep.specs.Tests.{begun, begun_from}
+use Rattle.cx_keep.specs.Tests.{begun, begun_from, greatest_former}
+use Rattle.cx_keep.specs.Trails.{former_length}
 use Rattle.cx_disk.specs.Files.{slot_count}
 use Rattle.cx_chk.specs.Slots.{newest_below}
-use Rattle.law_course.specs.Starts.{begun_with}
+use Rattle.law_course.specs.Starts.{IsTooLong, begun_with}
 use Rattle.cx_disk.specs.Disk.{Files}
 use Rattle.cx_keep.specs.declared.fault.BeginFault.TheVariants.{NoCheckpoint}
 use Rattle.cx_plan.specs.declared.job.Recover.{Recover}
@@ -23,10 +24,10 @@ use Rattle.cx_run_loop.specs.Lent.{HasRisen}
 use Rattle.cx_run_loop.specs.Drives.{HasWholeOutput, LeavesTrails, StartsWell}
 use Rattle.cx_run.specs.Answers.{answer_of, status_of, text_of, Says, WasSaid}
 use Rattle.cx_run.specs.Calls.{Lent, Work, Call, Runs, IsRun, AreTold, IsStill, driven}
-use Rattle.cx_run.specs.Causes.{HasCome, HasRun, Comes, ComesTo, Follows, Explains}
+use Rattle.cx_run.specs.Causes.{HasCome, HasRun, Comes, ComesTo, CanGoOn, Follows, Explains}
 use Rattle.cx_run.specs.Sink.{Adds}
 use Rattle.cx_run.specs.Texts.{made_text}
-use Rattle.cx_run.specs.Clauses.{IsEnd, RunsWell, KeepsTrails, IsToldOf, SumsUp, IsUntouched, Spares, IsCalm, status_at, Gives, IsRefusedFor, Owes}
+use Rattle.cx_run.specs.Clauses.{length_of_all, IsEnd, RunsWell, KeepsTrails, IsToldOf, SumsUp, IsUntouched, Spares, IsCalm, status_at, Gives, IsRefusedFor, Owes}
 use Rattle.cx_run.specs.Words.{Request, asked}
 use Rattle.cx_run.specs.declared.reply.Answer.{Answer}
 use Rattle.cx_run.specs.declared.reply.Answer.TheVariants as a
@@ -34,6 +35,7 @@ use Rattle.cx_run.specs.declared.words.Command.{Command}
 use Rattle.cx_run.specs.declared.words.Command.TheVariants as commands
 use Rattle.cx_run.proofs.Asked.{HasFailed, shelf, memory, IsSorted, by_shelf, by_memory, refused, IsFaulty, IsFaultOf, sorted, not_asked, same_request, job_of, no_job, fault_of, spared}
 use Rattle.cx_run.proofs.Stillness.{still_trails}
+use Rattle.cx_run.proofs.Totals.{whole_total}
 
 -- ---- what was said
 
@@ -200,22 +202,22 @@ same_text i j seed other_seed size other_size m n live first second third fourth
 
 made_comes : (c : Call) (sink : Lent (List ℕ)) (command : Command) (job : Job) (seed size : ℕ)
     (answer : Answer) → command ≡ commands.Make seed size → AreTold c
-    → StartsWell (driven c.work job)
+    → CanGoOn c.work job
     → Comes c.work command job answer → status_of answer ≡ 0
     → (sink.tells → Adds (text_of answer) sink.old sink.new) → IsToldOf c sink job seed size
 made_comes c sink command job seed size (a.Made iteration other_seed other_size length_ live)
     is told well x e said =
     let run : HasRun c.work job ends.Done = x.run in
     let whole : HasWholeOutput (driven c.work job) = (run.come told well).output in
-    let long : length_ ≡ length (output (setup_of job) c.work.rules) =
-    x.sums.output_is told.0 ∙ ap length whole.reads in
+    let long : length_ ≡ length_of_all (outputs (setup_of job) c.work.rules) =
+    x.sums.output_is told.0 ∙ whole_total (driven c.work job) whole in
     let same = made_parts other_seed other_size seed size (sym x.command_is ∙ is) in
     record {
       live = live;
       live_is = x.sums.undivided told well;
       text_is = λ tells. subst (λ (t : List ℕ). Adds t sink.old sink.new)
           (same_text iteration job.itlast other_seed seed other_size size length_
-          (length (output (setup_of job) c.work.rules)) live x.last same.0 same.1 long)
+          (length_of_all (outputs (setup_of job) c.work.rules)) live x.last same.0 same.1 long)
           (said tells);
     }
 made_comes c sink command job seed size (a.Done iteration) is told well x e said =
@@ -476,18 +478,29 @@ well_begun : (w : Work) (command : Command) (job : Job) (answer : Answer) → Ru
     → ComesTo w command job answer → w.disk.tells → StartsWell (driven w job)
     → begun job w.disk.old.seen ≢ Err NoCheckpoint
     → IsBegun job w.disk.old.seen
-well_begun w command job answer runs comes tells (inl trails) other =
+well_begun w command job answer runs comes tells (inl (trails, fits)) other =
     let b = comes.begins runs tells trails in
-    begun_some job w.disk.old.seen job.recover b.newest b.begun_is other
+    by b.newest b.begun_is
+  where
+    by : (newest : Option Checkpoint)
+        → (begun job w.disk.old.seen ≡ begun_with job.recover newest)
+        ⊎ IsTooLong job w.disk.old.seen newest → IsBegun job w.disk.old.seen
+    by newest (inl is) = begun_some job w.disk.old.seen job.recover newest is other
+    by newest (inr long) =
+        absurd (fits (former_length long.checkpoint) greatest_former long.begun_is)
 well_begun w command job answer runs comes tells (inr given_up) other =
     begun_no job w.disk.old.seen given_up
+
+can_go_on : (w : Work) (job : Job) → StartsWell (driven w job) → CanGoOn w job
+can_go_on w job (inl (trails, fits)) = inl trails
+can_go_on w job (inr given_up) = inr given_up
 
 module _ (c : Call) (sink : Lent (List ℕ)) (calm : IsCalm c sink) (told : AreTold c)
     (command : Command) (runs : Runs command) (job : Job) (well : StartsWell (driven c.work job))
     (begins : IsBegun job c.work.disk.old.seen) where
   come_due : (end : End) → HasRun c.work job end
       → status_at end ≡ status_at (end_of (setup_of job) c.work.rules)
-  come_due end run = ap status_at (sym (run.come told well).end_is)
+  come_due end run = ap status_at (sym (run.come told (can_go_on c.work job well)).end_is)
 
   well_due : (answer : Answer) → Comes c.work command job answer
       → Due (status_at (end_of (setup_of job) c.work.rules)) (status_of answer)

@@ -1,5 +1,6 @@
 pub mod Fronts
 pub mod Ends
+pub mod Totals
 pub mod Stillness
 pub mod Running
 pub mod Asked

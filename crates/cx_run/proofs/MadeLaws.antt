@@ -10,6 +10,7 @@ use Rattle.cx_rule.specs.Jobs.{FitJob}
 use Rattle.cx_rule.specs.declared.spec.Spec.{Spec}
 use Rattle.cx_job_files.specs.Shelf.{Held, looked_up}
 use Rattle.cx_job.specs.LocalCells.{local_cells}
+use Rattle.cx_outputs.specs.Names.{HasShortNames}
 use Rattle.cx_job.specs.Making.{IsReady, Made, Makes as MakesWith}
 use Rattle.cx_job.specs.declared.fault.JobFault.{JobFault}
 use Rattle.cx_job.specs.declared.fault.JobFault.TheVariants as faults
@@ -24,8 +25,8 @@ pub ready_of : (specs : List Spec) (made : Result Job JobFault) → IfOk made Is
     → IfOk made (λ job. HasShapes (setup_of job) × Sound (setup_of job))
     → IfOk made (λ job. cut_fault (parts_of job.shape job.cut) ≡ None)
     → IfOk made (λ job. FitJob specs job) → IfOk made (λ job. local_cells job ≤ 2 ^ 27)
-    → IfOk made (IsReady specs)
-ready_of specs (Ok job) whole sound cut fit few =
+    → IfOk made (λ job. HasShortNames (setup_of job)) → IfOk made (IsReady specs)
+ready_of specs (Ok job) whole sound cut fit few names =
     record {
       whole = whole;
       shapes = sound.0;
@@ -33,8 +34,9 @@ ready_of specs (Ok job) whole sound cut fit few =
       fit = fit;
       cut = cut;
       few_cells = few;
+      names = names;
     }
-ready_of specs (Err e) whole sound cut fit few = tt
+ready_of specs (Err e) whole sound cut fit few names = tt
 
 -- want of memory before a job is made
 pub wanting : (s : Lent Held) (file : List ℕ) (specs : List Spec) → (s.tells → s.new ≡ s.old)

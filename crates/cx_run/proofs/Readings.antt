@@ -204,7 +204,7 @@ pub record IsMade (c : Call) (request : Request) (job : Job) : Type 0 where
   pub asks : asked c.words ≡ Some request
   pub makes : TellsFiles c request → Makes c request (Ok job)
 
--- 0: a run is done and has the undivided run's output, of a file or made, or another command has
+-- 0: a run is done and has the undivided run's outputs, of a file or made, or another command has
 -- its text
 pub data Done (c : Call) (sink : Lent (List ℕ)) : Type 0 where
   run : (r : Request) (job : Job) → IsMade c r job → r.command ≡ commands.Run

@@ -1,6 +1,6 @@
 -- What comes of a command with a job.
 use Rattle.std.proofs.Common.{◌≡◌, ◌≢◌, ◌⊎◌, ◌∙◌, ℕ, ◌≤◌, arith, codes, Option, Some, None, List, Result, Ok, Err, IfOk, inl, inr, refl, sym, subst}
-use Rattle.std.specs.Prelude.{[], OnOk}
+use Rattle.std.specs.Prelude.{OnOk}
 use Rattle.cx_text.specs.declared.memory.Memory.{Memory}
 use Rattle.cx_disk.specs.Disk.{IsNamed, IsView}
 use Rattle.cx_grid.specs.Grid.{HasInterior}
@@ -9,6 +9,7 @@ use Rattle.cx_cut.specs.Faults.{parts_of, cut_fault}
 use Rattle.cx_cut.proofs.FaultLaws.{is_whole}
 use Rattle.cx_plan.specs.Whole.{IsWhole}
 use Rattle.cx_plan.specs.Setups.{setup_of}
+use Rattle.cx_outputs.specs.Names.{output_count, output_names}
 use Rattle.cx_plan.specs.declared.job.Job.{Job}
 use Rattle.cx_plan.specs.declared.variable.VarId.{VarId}
 use Rattle.cx_rule.specs.States.{scalar_of}
@@ -19,6 +20,10 @@ use Rattle.cx_model.specs.Runs.{undivided_run}
 use Rattle.cx_model.specs.Traces.{Trace}
 use Rattle.cx_model.specs.declared.ends.End.{End}
 use Rattle.cx_model.specs.declared.ends.End.TheVariants as ends
+use Rattle.cx_chk.specs.declared.checkpoint.Checkpoint.{Checkpoint}
+use Rattle.cx_keep.specs.Trails.{total}
+use Rattle.cx_keep.specs.declared.fault.BeginFault.{BeginFault}
+use Rattle.cx_keep.specs.declared.fault.BeginFault.TheVariants as begin_faults
 use Rattle.law_course.specs.Beginnings.{run_from}
 use Rattle.law_course.specs.Starts.{BeginsOn, TrailsBegin}
 use Rattle.cx_job.specs.Making.{IsReady}
@@ -26,12 +31,12 @@ use Rattle.cx_core.specs.Cores.{Cores}
 use Rattle.cx_core.specs.Hands.{last_number}
 use Rattle.cx_core.specs.Starts.{IsReady as CanStart}
 use Rattle.cx_core.specs.declared.answers.Outcome.TheVariants as outcomes
-use Rattle.cx_run_loop.specs.Drives.{Drive, Drives, HasEnded, HasScalarsOf, Comes as DriveComes}
+use Rattle.cx_run_loop.specs.Drives.{Drive, Drives, HasEnded, HasScalarsOf, StartsWell, AreTold, Comes as DriveComes}
 use Rattle.cx_run_loop.specs.declared.fault.DriveFault.{DriveFault}
 use Rattle.cx_run_loop.specs.declared.fault.DriveFault.TheVariants as stops
 use Rattle.cx_run.specs.Answers.{AnswersRun, answer_at, answer_for, answer_with, done_by, end_in, summed}
 use Rattle.cx_run.specs.Calls.{Work, IsStill, Runs, driven, live_by}
-use Rattle.cx_run.specs.Causes.{HasCome, HasRun, LiveIs, IsSummed, Comes, ComesTo, WereTrails}
+use Rattle.cx_run.specs.Causes.{HasCome, HasRun, LiveIs, IsSummed, Comes, ComesTo, CanGoOn, WereTrails}
 use Rattle.cx_run.specs.Texts.{command_text}
 use Rattle.cx_run.specs.declared.reply.Answer.{Answer}
 use Rattle.cx_run.specs.declared.reply.Answer.TheVariants as a
@@ -39,8 +44,12 @@ use Rattle.cx_run.specs.declared.words.Command.{Command}
 use Rattle.cx_run.specs.declared.words.Command.TheVariants as commands
 use Rattle.cx_run.proofs.Ends.{end_with, done_is}
 use Rattle.cx_run.proofs.Stillness.{still_trails}
+use Rattle.cx_run.proofs.Totals.{files_total}
 
 -- ---- a run
+
+abbrev begun_as : Option Checkpoint → Result (Option Checkpoint) BeginFault
+begun_as found = Ok found
 
 -- a start on trails
 abbrev Begins : Work → Job → Type 0
@@ -51,8 +60,12 @@ begins : (w : Work) (job : Job) → TrailsBegin job w.rules → (w.disk.tells �
 begins w job begin view tells trails =
     begin w.disk.old.seen (trails w.disk.old.seen (view tells).reads)
 
+begun_not_refused : (found : Option Checkpoint) (fault : BeginFault)
+    → begun_as found ≡ Err fault → ⊥
+begun_not_refused found fault e = cc
+
 module _ (w : Work) (job : Job) (core : Cores) (drives : Drives (driven w job) (Ok core))
-    (named : IsNamed job.out_dir [] job.chk_dir w.folders) (starts : TrailsBegin job w.rules)
+    (named : IsNamed job.out_dir (output_names (setup_of job)) job.chk_dir w.folders) (starts : TrailsBegin job w.rules)
     (view : w.disk.tells → IsView w.disk.old) where
   come : (end : End) → end_in core.outcome ≡ end → HasEnded (driven w job) core
       → HasCome (driven w job) end
@@ -65,6 +78,15 @@ module _ (w : Work) (job : Job) (core : Cores) (drives : Drives (driven w job) (
         last = ended.last;
       }
 
+  -- a start that came to an end was not refused
+  well : AreTold (driven w job) → CanGoOn w job → StartsWell (driven w job)
+  well told (inl trails) = inl (
+    trails,
+    λ a b other. begun_not_refused drives.comes.found (begin_faults.OldTooLong a b)
+        (sym (drives.comes.began told.0) ∙ other),
+  )
+  well told (inr given_up) = inr given_up
+
   abbrev has_run : (end : End) → end_in core.outcome ≡ end → HasRun w job end
   has_run end is =
       record {
@@ -73,7 +95,7 @@ module _ (w : Work) (job : Job) (core : Cores) (drives : Drives (driven w job) (
         ends = λ told. end_with core.outcome
             (run_from (setup_of job) w.rules drives.comes.found).outcome end
             (drives.comes.ended told) is;
-        come = λ told well. come end is (drives.ended told well);
+        come = λ told can. come end is (drives.ended told (well told can));
         folders = named;
       }
 
@@ -89,15 +111,17 @@ module _ (w : Work) (job : Job) (core : Cores) (drives : Drives (driven w job) (
           scalars state v goes (named_is_stored job (codes "life::live") v is).1
 
   summed_is : core.outcome ≡ outcomes.Done
-      → IsSummed w job drives.comes.found core.length
+      → IsSummed w job drives.comes.found (total core.lengths)
       (live_by (live_variable (setup_of job)) (last_number core))
   summed_is done =
       record {
-        output_is = drives.comes.length_is;
+        output_is = λ told. let lengths = drives.comes.length_is told in
+            files_total w.disk.new.seen (output_count (setup_of job)) core.lengths lengths.count
+            lengths.each;
         ran = λ told. live_is (run_from (setup_of job) w.rules drives.comes.found)
             (drives.comes.scalars told done);
-        undivided = λ told well.
-            live_is (undivided_run (setup_of job) w.rules) ((drives.ended told well).scalars done);
+        undivided = λ told can. live_is (undivided_run (setup_of job) w.rules)
+            ((drives.ended told (well told can)).scalars done);
       }
 
   done_cause : (command : Command) → Runs command → end_in core.outcome ≡ ends.Done
@@ -157,7 +181,7 @@ stopped_cause w command job stops.Memory runs comes = λ other. absurd (other ru
 -- what a run's answer comes from
 pub ran : (w : Work) (command : Command) (job : Job) → Runs command
     → (came : Result Cores DriveFault) → Drives (driven w job) came
-    → OnOk came (IsNamed job.out_dir [] job.chk_dir w.folders)
+    → OnOk came (IsNamed job.out_dir (output_names (setup_of job)) job.chk_dir w.folders)
     → TrailsBegin job w.rules → (w.disk.tells → IsView w.disk.old) → (answer : Answer)
     → AnswersRun command job came answer → ComesTo w command job answer
 ran w command job runs (Ok core) drives named starts view answer is =

@@ -4,7 +4,7 @@ use Rattle.std.proofs.Math.Path.{fun_ext}
 use Rattle.cx_disk.specs.Disk.{Files, SameFiles}
 use Rattle.cx_plan.specs.declared.job.Job.{Job}
 use Rattle.cx_keep.specs.Resuming.{AreTrails}
-use Rattle.cx_keep.specs.Keeping.{output_file}
+use Rattle.cx_keep.specs.Trails.{file_of_output}
 use Rattle.cx_run_loop.specs.Drives.{Drive, course, IsNotBelow, KeepsTrail, LeavesTrails}
 use Rattle.cx_run_loop.proofs.FoundLaws.{only_newest}
 use Rattle.cx_run.specs.Calls.{Work, IsStill, driven}
@@ -25,8 +25,9 @@ keeps_trail d trails image was =
         not_below = λ n m one other. subst (λ (x : Option ℕ). IsNotBelow n x)
             (only_newest image n m one other) (not_below_itself n);
       };
-      pace = λ c has long all n is.
-          let l : length (image output_file) < length (image output_file) = all image was in
+      pace = λ c j has within long all n is.
+          let l : length (image (file_of_output j)) < length (image (file_of_output j)) =
+          all image was in
           absurd (omega (arith, l));
     }
 

@@ -12,6 +12,7 @@ use Rattle.cx_run_loop.specs.declared.fault.DriveFault.{DriveFault}
 use Rattle.cx_run_loop.specs.declared.fault.DriveFault.TheVariants as stops
 use Rattle.cx_core.specs.Cores.{Cores}
 use Rattle.cx_core.specs.Hands.{last_number}
+use Rattle.cx_keep.specs.Trails.{total}
 use Rattle.cx_plan.specs.Setups.{setup_of}
 use Rattle.cx_plan.specs.declared.job.Job.{Job}
 use Rattle.cx_run_made.specs.Summaries.{live_variable}
@@ -83,10 +84,10 @@ abbrev pub answer_at : ℕ → End → Answer
 answer_at itlast ends.Done = a.Done itlast
 answer_at itlast end = a.Ended end
 
--- a run that is done: `make` tells the length of its output, and how many cells live at the end
+-- a run that is done: `make` tells the length of its outputs, and how many cells live at the end
 abbrev pub done_by : Command → Job → Cores → ℕ → Answer
 done_by (Make seed size) job core iteration =
-    a.Made iteration seed size core.length
+    a.Made iteration seed size (total core.lengths)
     (live_by (live_variable (setup_of job)) (last_number core))
 done_by command job core iteration = a.Done iteration
 

@@ -1,9 +1,12 @@
 -- What stands behind each answer.
-use Rattle.std.specs.Prelude.{◌≡◌, ◌≢◌, ◌⊎◌, ℕ, ℤ, List, [], length, Option, None, Some, Result, Ok, Err}
+use Rattle.std.specs.Prelude.{◌≡◌, ◌≢◌, ◌⊎◌, ℕ, ℤ, List, length, map, Option, None, Some, Result, Ok, Err}
+use Rattle.std.specs.List.{range_with_len}
 use Rattle.cx_disk.specs.Disk.{Files, IsNamed}
 use Rattle.cx_plan.specs.Setups.{setup_of}
+use Rattle.cx_outputs.specs.Names.{output_count, output_names}
 use Rattle.cx_plan.specs.Whole.{IsWhole}
 use Rattle.cx_plan.specs.declared.job.Job.{Job}
+use Rattle.cx_plan.specs.declared.job.Recover.TheVariants.{No}
 use Rattle.cx_rule.specs.Jobs.{FitJob}
 use Rattle.cx_rule.specs.States.{State, scalar_of}
 use Rattle.cx_rule.specs.declared.spec.Spec.{Spec}
@@ -13,16 +16,15 @@ use Rattle.cx_model.specs.declared.ends.End.{End}
 use Rattle.cx_model.specs.declared.ends.End.TheVariants.{Done}
 use Rattle.cx_chk.specs.declared.checkpoint.Checkpoint.{Checkpoint}
 use Rattle.cx_keep.specs.Tests.{begun}
-use Rattle.cx_keep.specs.Keeping.{output_file}
 use Rattle.cx_keep.specs.Resuming.{AreTrails}
-use Rattle.cx_keep.specs.Trails.{NewestIs}
+use Rattle.cx_keep.specs.Trails.{NewestIs, file_of_output, total}
 use Rattle.law_course.specs.Beginnings.{run_from}
 use Rattle.law_course.specs.Starts.{BeginsOn}
 use Rattle.law_course.specs.Works.{LastIs}
 use Rattle.cx_job.specs.Making.{Made, Makes as MakesWith}
 use Rattle.cx_job.specs.declared.fault.JobFault.{JobFault}
 use Rattle.cx_run_loop.specs.Lent.{HasRisen}
-use Rattle.cx_run_loop.specs.Drives.{Drive, course, AreTold, StartsWell, HasWholeOutput, HasWorked, IsRefused, LeavesTrails}
+use Rattle.cx_run_loop.specs.Drives.{Drive, course, AreTold, HasWholeOutput, HasWorked, IsRefused, LeavesTrails}
 use Rattle.cx_run.specs.Answers.{answer_of}
 use Rattle.cx_job_files.specs.Shelf.{Held}
 use Rattle.cx_run_made.specs.Summaries.{live_variable}
@@ -34,6 +36,14 @@ use Rattle.cx_run.specs.declared.reply.Answer.TheVariants as a
 use Rattle.cx_run.specs.declared.words.Command.{Command}
 use Rattle.cx_run.specs.declared.words.Command.TheVariants.{Run, Make}
 
+-- each image of the disk was a trail of the job
+abbrev pub WereTrails : Work → Job → Type 0
+WereTrails w job = AreTrails (course (driven w job)) w.disk.old
+
+-- or old checkpoints are given up
+abbrev pub CanGoOn : Work → Job → Type 0
+CanGoOn w job = WereTrails w job ⊎ (job.recover ≡ No)
+
 -- ---- a run that came to its end
 
 -- the last checkpoint of the run is the newest one of each image
@@ -42,7 +52,7 @@ HasLast d =
     (image : Files) → d.disk.new.images image
     → (n : Option ℕ) × NewestIs image n × LastIs (course d) n
 
--- from a disk that it can go on from: the undivided run's output and end, and its work where it is
+-- from a disk that it can go on from: the undivided run's outputs and end, and its work where it is
 -- done
 pub record HasCome (d : Drive) (end : End) : Type 0 where
   pub output : HasWholeOutput d
@@ -51,26 +61,32 @@ pub record HasCome (d : Drive) (end : End) : Type 0 where
   pub last : HasLast d
 
 -- The run began with the checkpoint that was found on the disk, or with none, and ended as the
--- undivided run does from there, in the job's folders.
+-- undivided run does from there, in the job's folders and files.
 pub record HasRun (w : Work) (job : Job) (end : End) : Type 0 where
   pub found : Option Checkpoint
   pub began : w.disk.tells → begun job w.disk.old.seen ≡ Ok found
   pub ends : AreTold (driven w job) → end_by (run_from (setup_of job) w.rules found).outcome ≡ end
-  pub come : AreTold (driven w job) → StartsWell (driven w job) → HasCome (driven w job) end
-  pub folders : IsNamed job.out_dir [] job.chk_dir w.folders
+  pub come : AreTold (driven w job) → CanGoOn w job → HasCome (driven w job) end
+  pub folders : IsNamed job.out_dir (output_names (setup_of job)) job.chk_dir w.folders
 
 -- how many cells live in the last state of a run that is done
 abbrev pub LiveIs : Job → Trace → ℤ → Type 0
 LiveIs job run live = (state : State) → run.outcome ≡ Goes state
     → live ≡ live_by (live_variable (setup_of job)) (scalar_of state)
 
--- What is told of a run that is done: how long the output's file is, and how many cells live in the
--- last state of the run, and of the undivided run where it went on from trails.
+-- how long the files of so many outputs are together
+abbrev pub length_of_files : ℕ → Files → ℕ
+length_of_files count files =
+    total (map (λ (j : ℕ). length (files (file_of_output j))) (range_with_len 0 count))
+
+-- What is told of a run that is done: how long the outputs' files are together, and how many cells
+-- live in the last state of the run, and of the undivided run where it went on from trails.
 pub record IsSummed (w : Work) (job : Job) (found : Option Checkpoint) (output : ℕ) (live : ℤ)
     : Type 0 where
-  pub output_is : w.disk.tells → output ≡ length (w.disk.new.seen output_file)
+  pub output_is : w.disk.tells
+      → output ≡ length_of_files (output_count (setup_of job)) w.disk.new.seen
   pub ran : AreTold (driven w job) → LiveIs job (run_from (setup_of job) w.rules found) live
-  pub undivided : AreTold (driven w job) → StartsWell (driven w job)
+  pub undivided : AreTold (driven w job) → CanGoOn w job
       → LiveIs job (undivided_run (setup_of job) w.rules) live
 
 -- ---- a command with a job
@@ -115,10 +131,6 @@ Comes w command job a.Memory = (Runs command → ⊥) → IsStill w
 Comes w command job a.Usage = ⊥
 Comes w command job (a.Refused fault) = ⊥
 Comes w command job a.Shelf = ⊥
-
--- each image of the disk was a trail of the job
-abbrev pub WereTrails : Work → Job → Type 0
-WereTrails w job = AreTrails (course (driven w job)) w.disk.old
 
 -- A run that began on trails is refused only where a checkpoint is asked for and there is none, and
 -- leaves trails at each moment.

@@ -1,13 +1,14 @@
 -- The clauses of the top call.
-use Rattle.std.specs.Prelude.{◌≡◌, ◌≢◌, ◌⊎◌, ℕ, ℤ, ◌<◌, ◌≤◌, List, length, Option, None, Some, Ok, Err}
+use Rattle.std.specs.Prelude.{◌≡◌, ◌≢◌, ◌⊎◌, ℕ, ℤ, ◌<◌, ◌≤◌, List, length, map, Option, None, Some, Ok, Err}
 use Rattle.cx_disk.specs.Moments.{IsQuiet}
 use Rattle.cx_plan.specs.Setups.{setup_of}
 use Rattle.cx_plan.specs.declared.job.Job.{Job}
-use Rattle.cx_model.specs.Runs.{undivided_run, output, end as end_of, end_by}
+use Rattle.cx_model.specs.Runs.{undivided_run, outputs, end as end_of, end_by}
 use Rattle.cx_model.specs.declared.ends.End.{End}
 use Rattle.cx_model.specs.declared.ends.End.TheVariants.{Done, Overflow, WhileLimit, OutputLimit}
 use Rattle.cx_chk.specs.declared.checkpoint.Checkpoint.{Checkpoint}
 use Rattle.cx_keep.specs.Tests.{begun}
+use Rattle.cx_keep.specs.Trails.{total}
 use Rattle.cx_keep.specs.declared.fault.BeginFault.{BeginFault}
 use Rattle.cx_keep.specs.declared.fault.BeginFault.TheVariants.{NoCheckpoint}
 use Rattle.law_course.specs.Beginnings.{run_from}
@@ -17,7 +18,7 @@ use Rattle.cx_run_loop.specs.Lent.{HasRisen}
 use Rattle.cx_run_loop.specs.Drives.{StartsWell, HasWholeOutput, HasWorked, LeavesTrails}
 use Rattle.cx_run.specs.Answers.{text_of, Says, WasSaid}
 use Rattle.cx_run.specs.Calls.{Lent, Work, Call, Makes, TellsFiles, Runs, IsRun, AreTold, IsStill, SparesShelf, driven}
-use Rattle.cx_run.specs.Causes.{HasLast, LiveIs, Explains, WereTrails}
+use Rattle.cx_run.specs.Causes.{HasLast, LiveIs, Explains, WereTrails, CanGoOn}
 use Rattle.cx_run.specs.Sink.{Adds}
 use Rattle.cx_run.specs.Texts.{made_text}
 use Rattle.cx_run.specs.Words.{Request, asked}
@@ -31,7 +32,7 @@ use Rattle.cx_run.specs.declared.words.Command.TheVariants.{Make}
 abbrev pub IsEnd : ℕ → Type 0
 IsEnd result = (result ≡ 0) ⊎ (result ≡ 3)
 
--- What it leaves of a disk that it could go on from: the undivided run's output, its last
+-- What it leaves of a disk that it could go on from: the undivided run's outputs, its last
 -- checkpoint as the newest one, and no other end than the undivided run's. Where it is done, what
 -- was computed and exchanged is what was left to do.
 pub record Leaves (w : Work) (job : Job) (result : ℕ) : Type 0 where
@@ -43,7 +44,7 @@ pub record Leaves (w : Work) (job : Job) (result : ℕ) : Type 0 where
 
 abbrev pub RunsWell : Call → ℕ → Type 0
 RunsWell c result =
-    (job : Job) → IsRun c job → StartsWell (driven c.work job) → Leaves c.work job result
+    (job : Job) → IsRun c job → CanGoOn c.work job → Leaves c.work job result
 
 -- at every status: from trails each image of each moment is a trail
 abbrev pub KeepsTrails : Call → Type 0
@@ -57,19 +58,24 @@ pub record IsAnswered (c : Call) (sink : Lent (List ℕ)) (result : ℕ) : Type 
   pub cause : Explains c answer
   pub said : WasSaid sink answer result
 
--- `make` tells the length of the undivided run's output, and how many cells live in its last state
+-- how long texts are together
+abbrev pub length_of_all : List (List ℕ) → ℕ
+length_of_all texts = total (map (λ (text : List ℕ). length text) texts)
+
+-- `make` tells how long the undivided run's outputs are together, and how many cells live in its
+-- last state
 pub record IsToldOf (c : Call) (sink : Lent (List ℕ)) (job : Job) (seed size : ℕ) : Type 0 where
   pub live : ℤ
   pub live_is : LiveIs job (undivided_run (setup_of job) c.work.rules) live
   pub text_is : sink.tells → Adds
-      (made_text job.itlast seed size (length (output (setup_of job) c.work.rules)) live)
+      (made_text job.itlast seed size (length_of_all (outputs (setup_of job) c.work.rules)) live)
       sink.old sink.new
 
 -- where it is done, from a disk that it could go on from
 abbrev pub SumsUp : Call → Lent (List ℕ) → ℕ → Type 0
 SumsUp c sink result =
     (seed size : ℕ) (job : Job) (run : IsRun c job) → run.request.command ≡ Make seed size
-    → StartsWell (driven c.work job) → result ≡ 0 → IsToldOf c sink job seed size
+    → CanGoOn c.work job → result ≡ 0 → IsToldOf c sink job seed size
 
 -- ---- what isn't touched
 
@@ -118,8 +124,8 @@ pub data Gives (c : Call) : ℕ → Type 0 where
   run : AreTold c → (job : Job) (found : Option Checkpoint) → IsRun c job
       → begun job c.work.disk.old.seen ≡ Ok found
       → Gives c (status_at (end_by (run_from (setup_of job) c.work.rules found).outcome))
-  -- from trails, or where old checkpoints are given up, unless a checkpoint is asked for and none
-  -- is there
+  -- from trails on which no old output is too long to be split, or where old checkpoints are given
+  -- up, unless a checkpoint is asked for and none is there
   well : AreTold c → (job : Job) → IsRun c job → StartsWell (driven c.work job)
       → begun job c.work.disk.old.seen ≢ Err NoCheckpoint
       → Gives c (status_at (end_of (setup_of job) c.work.rules))

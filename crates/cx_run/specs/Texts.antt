@@ -16,7 +16,7 @@ use Rattle.cx_run.specs.declared.words.Command.TheVariants as commands
 abbrev pub done_text : ℕ → List ℕ
 done_text iteration = codes "done: iteration " ++ decimal iteration ++ 10 ∷ []
 
--- and of one that was made, by the length of its output and how many cells live at the end
+-- and of one that was made, by the length of its outputs and how many cells live at the end
 abbrev pub made_text : ℕ → ℕ → ℕ → ℕ → ℤ → List ℕ
 made_text iteration seed size output live =
     done_text iteration ++ summary seed size output live
@@ -43,6 +43,8 @@ begin_words (begins.OtherJob kept own) = codes "OtherJob" ++ 10 ∷ kept ++ 10 �
 begin_words (begins.Damaged slot) = spaced (codes "Damaged" ∷ decimal slot ∷ [])
 begin_words (begins.OutputShort has recorded) =
     spaced (codes "OutputShort" ∷ decimal has ∷ decimal recorded ∷ [])
+begin_words (begins.OldTooLong recorded most) =
+    spaced (codes "OldTooLong" ∷ decimal recorded ∷ decimal most ∷ [])
 begin_words begins.Memory = codes "Memory"
 
 -- what is printed of it

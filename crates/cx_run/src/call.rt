@@ -48,13 +48,14 @@ use std::alloc::Global;
 ///
 /// `make` takes a SEED of one to twenty digits below 2^63 and a SIZE of one to four digits from 8 to 1024. Its files are those of
 /// `made_files` of cx_run_made, which the shelf doesn't see: the shelf is left alone. It is done as `run made.par` does. Where the run is
-/// done it tells how many points there are, how long the output is, and how many cells live in the last state.
+/// done it tells how many points there are, how long the outputs are together, and how many cells live in the last state.
 ///
 /// A run goes by `drive` of cx_run_loop: the grid is cut into parts, which exchange messages by the wire, in the order that `turns`
-/// picks; the output goes into the file `OLD_OUTPUT` of the disk, and checkpoints into its slots. By the job's `IO::recover` it begins afresh
-/// or resumes from the newest checkpoint. Where the shelf, the disk and the wire tell what they hold, and each image of the disk is a
-/// trail of the job at the start, or old checkpoints are given up, then at status 0 and 3 the output is that of the undivided run, also
-/// in what a crash may leave; and at any status each image at each moment of the call is a trail of the job.
+/// picks; what is written of a variable goes into a file of its own, from `named_output(0)` of cx_disk on, and checkpoints go into the
+/// slots of the disk. By the job's `IO::recover` it begins afresh or resumes from the newest checkpoint; from one of version 1 the file
+/// `OLD_OUTPUT` is split into the variables' files. Where the shelf, the disk and the wire tell what they hold, and each image of the disk
+/// is a trail of the job at the start, or old checkpoints are given up, then at status 0 and 3 each output is that of the undivided run,
+/// also in what a crash may leave; and at any status each image at each moment of the call is a trail of the job.
 ///
 /// The wire serves 512 parts, and its queues are empty. After status 3, 4 or 5 of a run they may hold messages.
 ///
@@ -69,8 +70,8 @@ use std::alloc::Global;
 /// | 6 | its run can't begin on what the disk holds | `recovery: ` and the words of the fault |
 ///
 /// Each text ends with a line feed. The ends are `Overflow`, `WhileLimit` and `OutputLimit` (`End` of cx_model), the faults of status 6
-/// `NoCheckpoint`, `Damaged`, `OtherJob` and `OutputShort` (`BeginFault` of cx_keep). The commands but `run` and `make` touch neither the
-/// disk nor the wire nor the meter; at status 1, 2 and 6 no byte of the disk is changed, and neither the wire nor the meter. At status 0 of a run
+/// `NoCheckpoint`, `Damaged`, `OtherJob`, `OutputShort` and `OldTooLong` (`BeginFault` of cx_keep). The commands but `run` and `make`
+/// touch neither the disk nor the wire nor the meter; at status 1, 2 and 6 no byte of the disk is changed, and neither the wire nor the meter. At status 0 of a run
 /// from such a disk the meter has risen by the points that the parts compute after the newest checkpoint, and the wire has given out
 /// the values that they exchange there.
 pub fn cactus<H: Shelf, D: Disk, W: Wire, T: Turns, O: Sink>(

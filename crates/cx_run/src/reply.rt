@@ -5,6 +5,7 @@ ghost use Rattle.cx_core.specs.declared.answers.Outcome.{Outcome};
 ghost use Rattle.cx_core.specs.Hands.{last_number};
 ghost use Rattle.cx_run_loop.specs.Drives.{LendsScalars};
 ghost use Rattle.cx_run_made.specs.Summaries.{live_variable};
+ghost use Rattle.cx_keep.specs.Trails.{total};
 ghost use Rattle.cx_plan.specs.Setups.{setup_of};
 ghost use Rattle.cx_plan.specs.Whole.{IsWhole};
 ghost use Rattle.cx_run.specs.Answers.{answer_at, answer_for, answer_of, done_by, end_in, summed, Says, IsCutOff, WasSaid};
@@ -34,12 +35,13 @@ const USAGE: &[u8] =
 pub enum Answer {
     /// A run of a file is done up to this iteration.
     Done(u64),
-    /// A run that was made from a seed and a size is done up to this iteration: how long its output is, and how many cells live.
+    /// A run that was made from a seed and a size is done up to this iteration: how long its outputs are together, and how many
+    /// cells live.
     Made {
         iteration: u64,
         seed: u64,
         size: u32,
-        output: u64,
+        output: u128,
         live: i64,
     },
     /// The file makes a job, and this is what was asked of it.
@@ -203,11 +205,22 @@ fn done_by(command: Command, job: &Job, core: &Core, iteration: u64) -> Answer
             iteration,
             seed,
             size,
-            output: core.length(),
+            output: total(core.lengths()),
             live: live_cells(job, core),
         },
         _ => Answer::Done(iteration),
     }
+}
+
+/// How long outputs of these lengths are together.
+fn total(lengths: &[u64]) -> u128
+    ensures { result ≡ total lengths.now }
+{
+    let mut sum = 0;
+    'each: for length in lengths {
+        sum += u128::from(*length);
+    }
+    sum
 }
 
 /// How many cells live at the end of a run, or 0 where no scalar says it.
@@ -236,7 +249,7 @@ fn made_text(
     iteration: u64,
     seed: u64,
     size: u32,
-    output: u64,
+    output: u128,
     live: i64,
 ) -> Result<Text, Memory>
     ensures { IfOk result (λ text. text ≡ made_text iteration seed size output live) }
@@ -325,6 +338,9 @@ fn push_begin(text: &mut Text, alloc: Global, fault: &BeginFault) -> Result<(), 
         BeginFault::Damaged(slot) => push_numbered(text, alloc, b"Damaged", u64::from(*slot)),
         BeginFault::OutputShort(has, recorded) => {
             push_both(text, alloc, b"OutputShort", *has, *recorded)
+        }
+        BeginFault::OldTooLong(recorded, most) => {
+            push_both(text, alloc, b"OldTooLong", *recorded, *most)
         }
         BeginFault::Memory => text.push_slice(b"Memory"),
     }

@@ -8,6 +8,8 @@ use Rattle.cx_keep.specs.declared.fault.BeginFault.{BeginFault}
 use Rattle.cx_keep.specs.declared.fault.BeginFault.TheVariants as begin
 use Rattle.cx_keep.specs.Beginning.{HasLengths, IsStarted, LeavesAsIs, StartMoments}
 use Rattle.cx_keep.specs.Tests.{IsFaultOf, begun}
+use Rattle.cx_plan.specs.Setups.{setup_of}
+use Rattle.cx_outputs.specs.Names.{output_count}
 use Rattle.cx_core.specs.Cores.{Cores}
 use Rattle.cx_run_loop.specs.declared.fault.DriveFault.{DriveFault}
 use Rattle.cx_run_loop.specs.declared.fault.DriveFault.TheVariants as faults
@@ -36,11 +38,13 @@ module _ (d : Drive) (laws : DriveLaws d.wire.tells d.job d.rules) (fault : Begi
       record { refusal = tt; began = began; quiet = λ t. quiet t tt; wire = wire; meter = meter }
   comes_refused A (begin.OutputShort a b) is began quiet cause wire meter =
       record { refusal = tt; began = began; quiet = λ t. quiet t tt; wire = wire; meter = meter }
+  comes_refused A (begin.OldTooLong a b) is began quiet cause wire meter =
+      record { refusal = tt; began = began; quiet = λ t. quiet t tt; wire = wire; meter = meter }
 
   pub refused : (A : Type 0)
       → (d.disk.tells → IsFaultOf {A = Option Checkpoint} fault (begun d.job d.disk.old.seen))
       → (d.disk.tells → LeavesAsIs d.disk.old d.disk.new fault)
-      → (d.disk.tells → StartMoments d.job.recover d.disk.old d.disk.new)
+      → (d.disk.tells → StartMoments d.job d.job.recover d.disk.old d.disk.new)
       → HasCause {T = A} begin.Disk d.disk.faults.old d.disk.faults.new (Err fault) → d.wire.same
       → d.meter.new ≡ d.meter.old → d.wire.faults.old ≤ d.wire.faults.new
       → Drives d (Err (of_begin fault))
@@ -58,8 +62,8 @@ module _ (d : Drive) (laws : DriveLaws d.wire.tells d.job d.rules) (mid : View)
     (found : Option Checkpoint)
     (reads : d.disk.tells → d.disk.old.images d.disk.old.seen)
     (is_begun : d.disk.tells → begun d.job d.disk.old.seen ≡ Ok found)
-    (lengths : HasLengths found)
-    (started : d.disk.tells → IsStarted d.job.recover found d.disk.old mid) where
+    (lengths : HasLengths (output_count (setup_of d.job)) found)
+    (started : d.disk.tells → IsStarted d.job d.job.recover found d.disk.old mid) where
   comes_run : (r : Result Cores DriveFault)
       → IfOk r (λ core. RunsFrom (setting d) found (counts_before d) mid (place_behind d core))
       → Why d.disk.faults d.wire.faults r → Comes d r
@@ -78,7 +82,7 @@ module _ (d : Drive) (laws : DriveLaws d.wire.tells d.job d.rules) (mid : View)
 
   pub drives : (r : Result Cores DriveFault)
       → IfOk r (λ core. RunsFrom (setting d) found (counts_before d) mid (place_behind d core))
-      → (d.disk.tells → StartMoments d.job.recover d.disk.old mid)
+      → (d.disk.tells → StartMoments d.job d.job.recover d.disk.old mid)
       → RunLeaves (setting d) found mid d.disk.new → (begun_at : ℕ)
       → d.disk.faults.old ≤ begun_at
       → Stops (record { old = begun_at; new = d.disk.faults.new }) d.wire.faults r → Drives d r

@@ -1,60 +1,78 @@
 -- From where a run begins to its end.
-use Rattle.std.proofs.Common.{◌≡◌, ℕ, List, [], ◌∷◌, length, refl, sym, ◌∙◌, ap, subst, arith}
-use Rattle.std.specs.Prelude.{Option, Some, None, Result, Ok, Err, IfOk, slice_index, slice_index_or}
-use Rattle.cx_plan.specs.Setups.{setup_of}
+use Rattle.std.proofs.Common.{◌≡◌, ℕ, List, [], length, refl, sym, ◌∙◌, ap, subst}
+use Rattle.std.proofs.lemmas.List.{length-map}
+use Rattle.std.specs.Prelude.{Option, Some, None, Result, Ok, Err, IfOk}
+use Rattle.cx_plan.specs.Setups.{Setup, setup_of}
+use Rattle.cx_plan.specs.declared.variable.VarId.{VarId}
+use Rattle.cx_outputs.specs.Names.{output_count}
 use Rattle.cx_plan.specs.declared.job.Job.{Job}
 use Rattle.cx_model.specs.Traces.{Entry}
+use Rattle.cx_model.specs.Runs.{Lengths}
 use Rattle.law_network.specs.Machine.{World}
 use Rattle.cx_disk.specs.Disk.{View}
+use Rattle.cx_disk.specs.Moments.{IsQuiet}
 use Rattle.cx_chk.specs.declared.checkpoint.Checkpoint.{Checkpoint}
 use Rattle.cx_chk.specs.Slots.{SlotsSettled}
-use Rattle.cx_keep.specs.Beginning.{HasLengths, lengths_left}
+use Rattle.cx_keep.specs.Beginning.{lengths_left}
 use Rattle.cx_keep.specs.Keeping.{Keeper, keeper_of}
-use Rattle.cx_keep.specs.Trails.{Counts as AreCounted}
-use Rattle.law_parts.specs.Beginnings.{IsBeginning}
+use Rattle.cx_keep.specs.Trails.{Counts as AreCounted, OutputsSettled, file_of_output}
+use Rattle.law_parts.specs.Beginnings.{IsBeginning, run_of}
 use Rattle.law_parts.specs.Holding.{Held}
 use Rattle.law_parts.specs.Moves.{Message, Channel}
 use Rattle.law_reached.specs.Works.{handed_out}
 use Rattle.cx_core.specs.declared.answers.Outcome.TheVariants.{Going}
 use Rattle.cx_core.specs.Cores.{Cores}
-use Rattle.cx_core.specs.Starts.{begins_in, length_in}
-use Rattle.cx_core.specs.Steps.{Begins}
+use Rattle.cx_core.specs.Starts.{begins_in, lengths_first}
+use Rattle.cx_core.specs.Steps.{Begins, IsRunning}
+use Rattle.cx_run_loop.proofs.TurnLaws.{setup_is}
 use Rattle.cx_run_loop.specs.Going.{Setting, Place, EndsAt, IsDriving, IsDriven, IsKept, LeavesImages, Moves, RunLeaves, RunsFrom, run_in, kept_in, handed}
 
 -- ---- the keeper and the core as a run begins
 
-one_of : (l : List ℕ) → length l ≡ 1 → l ≡ slice_index_or l 0 0 ∷ []
-one_of [] h = absurd (omega arith)
-one_of (x ∷ []) h = refl
-one_of (x ∷ y ∷ l) h = absurd (omega arith)
-
-pub lengths_one : (found : Option Checkpoint) → HasLengths found
-    → lengths_left found ≡ length_in found ∷ []
-lengths_one None h = refl
-lengths_one (Some c) h = one_of c.lengths h
+lengths_same : (setup : Setup) (found : Option Checkpoint)
+    → lengths_left (output_count setup) found ≡ lengths_first setup found
+lengths_same setup None = refl
+lengths_same setup (Some c) = refl
 
 pub starts_kept : (job : Job) (tells : Type 0) (found : Option Checkpoint) (k : Keeper)
-    (core : Cores) (v : View) → k ≡ keeper_of job found → HasLengths found
-    → core.buffers.state.key ≡ job.key → core.length ≡ length_in found
-    → (tells → AreCounted k.lengths v) → (tells → SlotsSettled v) → IsKept job tells k core v
-starts_kept job tells found k core v is lengths key long counts slots =
-    let all : lengths_left found ≡ core.length ∷ [] =
-    lengths_one found lengths ∙ ap (λ (n : ℕ). n ∷ []) (sym long) in
-    let keeper : k ≡ record { keep = job.keep; lengths = core.length ∷ [] } =
-    is ∙ ap (λ (l : List ℕ). record { keep = job.keep; lengths = l }) all in
-    let one : length k.lengths ≡ 1 = ap (λ (x : Keeper). length x.lengths) keeper in
+    (core : Cores) (v : View) → k ≡ keeper_of job found → core.buffers.state.key ≡ job.key
+    → core.lengths ≡ lengths_first (setup_of job) found → (tells → AreCounted k.lengths v)
+    → (tells → SlotsSettled v) → IsKept job tells k core v
+starts_kept job tells found k core v is key lengths counts slots =
+    let keeper : k ≡ record { keep = job.keep; vars = job.out_vars; lengths = core.lengths } =
+    is ∙ ap (λ (l : List ℕ). record { keep = job.keep; vars = job.out_vars; lengths = l })
+    (lengths_same (setup_of job) found ∙ sym lengths) in
     record {
       keeper = keeper;
       key = key;
-      counts = λ t. sym (counts t 0 (omega arith))
-          ∙ ap (λ (x : Keeper). slice_index x.lengths 0) keeper;
+      counts = λ t. subst (λ (l : List ℕ). AreCounted l v)
+          (ap (λ (x : Keeper). x.lengths) keeper) (counts t);
       slots = slots;
     }
 
--- a keeper knows the length of the one output
-pub one_length : (job : Job) (tells : Type 0) (k : Keeper) (core : Cores) (v : View)
-    → IsKept job tells k core v → length k.lengths ≡ 1
-one_length job tells k core v kept = ap (λ (x : Keeper). length x.lengths) kept.keeper
+-- a core counts each output
+pub length_count : (s : Setting) (p : Place s) → IsRunning s.wire s.job s.rules p.is
+    → length p.is.core.lengths ≡ output_count (setup_of s.job)
+length_count s p running =
+    ap (λ (l : List ℕ). length l) running.at.shows.book
+    ∙ length-map (run_of s.job s.rules running.beginning).setup.out_vars
+    (λ (v : VarId). running.at.world.book v.0)
+    ∙ ap (λ (u : Setup). output_count u) (setup_is s.job s.rules running.beginning)
+
+-- where a keeper has finished, each output is settled that the core counts, and no count has
+-- changed
+pub settled_by : (s : Setting) (p : Place s) (k : Keeper) (new : View)
+    → IsKept s.job s.disk k p.is.core p.view → IsRunning s.wire s.job s.rules p.is
+    → OutputsSettled (length k.lengths) new → OutputsSettled (output_count (setup_of s.job)) new
+settled_by s p k new kept running settled =
+    let count : length k.lengths ≡ output_count (setup_of s.job) =
+    ap (λ (x : Keeper). length x.lengths) kept.keeper ∙ length_count s p running in
+    subst (λ (n : ℕ). OutputsSettled n new) count settled
+
+pub counted_quiet : (lengths : List ℕ) (old new : View) → IsQuiet old new → AreCounted lengths old
+    → AreCounted lengths new
+counted_quiet lengths old new quiet counts j lt =
+    counts j lt ∙ sym (ap (λ (l : List ℕ). length l) (quiet.same (file_of_output j)))
 
 -- ---- the run from there
 
@@ -66,7 +84,8 @@ module _ (s : Setting) (found : Option Checkpoint) (was : Place s)
   here = record { begins = begins; at = begun.at; over = λ t over. absurd (over going) }
 
   nothing_handed : handed here ≡ []
-  nothing_handed = ap (λ (w : World Held (Message s.wire) Channel ℕ). handed_out (run_in s found) w)
+  nothing_handed =
+      ap (λ (w : World Held (Message s.wire) Channel Lengths). handed_out (run_in s found) w)
       begun.nothing_done
 
   pub runs_from : (is : Place s) → EndsAt s was is → RunsFrom s found was.is.now was.view is
@@ -80,7 +99,7 @@ module _ (s : Setting) (found : Option Checkpoint) (was : Place s)
             (subst (λ (l : List Entry). IsDriven (kept_in s found) l was.view) (sym nothing_handed)
             y);
         settled = ends.settled;
-        length_is = ends.length_is;
+        counts = ends.counts;
       }
 
   pub run_leaves : (new : View) → LeavesImages s was new → RunLeaves s found was.view new

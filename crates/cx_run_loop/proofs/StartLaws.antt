@@ -7,6 +7,8 @@ use Rattle.cx_rule.specs.Routine.{Rule}
 use Rattle.cx_chk.specs.declared.checkpoint.Checkpoint.{Checkpoint}
 use Rattle.law_parts.specs.Beginnings.{Beginning, IsBeginning, run_of}
 use Rattle.law_parts.specs.Totals.{undivided_from}
+use Rattle.cx_outputs.specs.Names.{output_count}
+use Rattle.cx_keep.specs.Beginning.{HasLengths}
 use Rattle.cx_keep.specs.Fits.{fits_job}
 use Rattle.cx_core.specs.declared.answers.Outcome.TheVariants.{Going}
 use Rattle.cx_core.specs.Cores.{enabled_in}
@@ -15,11 +17,13 @@ use Rattle.cx_core.specs.Starts.{CanBegin, begins_in}
 use Rattle.cx_core.specs.Steps.{Counts, Standing, IsAt, IsRunning}
 use Rattle.law_course.specs.Beginnings.{FittingCanBegin}
 
--- a checkpoint that fits the job
+-- a checkpoint that fits the job, with a length for each output
 pub can_start : (job : Job) → FittingCanBegin job → (found : Option Checkpoint)
-    → IfSome found (λ c. fits_job job c ≡ true) → CanBegin (setup_of job) found
-can_start job can None fits = tt
-can_start job can (Some c) fits = let one = can c fits in (one.begins.0, one.holds)
+    → IfSome found (λ c. fits_job job c ≡ true)
+    → HasLengths (output_count (setup_of job)) found → CanBegin (setup_of job) found
+can_start job can None fits lengths = tt
+can_start job can (Some c) fits lengths = let one = can c fits in
+    (one.begins.0, one.holds, lengths)
 
 pub is_beginning : (job : Job) → FittingCanBegin job → (found : Option Checkpoint)
     → IfSome found (λ c. fits_job job c ≡ true)

@@ -1,20 +1,23 @@
 -- One turn of a run: where its core is, and what the disk has of it.
-use Rattle.std.proofs.Common.{◌≡◌, ◌≢◌, ℕ, ◌+◌, ◌<◌, List, [], ◌∷◌, ◌++◌, length, length-append, refl, sym, ◌∙◌, ap, subst, arith, inl, inr}
-use Rattle.std.specs.Prelude.{Option, Some, None, Result, Ok, Err, OnOk}
+use Rattle.std.proofs.Common.{◌≡◌, ◌≢◌, ℕ, ◌+◌, ◌<◌, Bool, true, false, List, [], ◌∷◌, ◌++◌, length, length-append, refl, sym, ◌∙◌, ap, subst, arith, inl, inr}
+use Rattle.std.proofs.Math.Path.{fun_ext}
+use Rattle.std.proofs.lemmas.List.{length-take-le}
+use Rattle.std.specs.Prelude.{Option, Some, None, Result, Ok, Err, OnOk, ◌==◌, if◌then◌else◌}
 use Rattle.cx_plan.specs.Setups.{Setup, setup_of}
 use Rattle.cx_plan.specs.declared.job.Job.{Job}
+use Rattle.cx_plan.specs.declared.variable.VarId.{VarId}
+use Rattle.cx_outputs.specs.Names.{place_in}
 use Rattle.cx_rule.specs.Routine.{Rule}
 use Rattle.cx_rule.specs.States.{State}
-use Rattle.cx_model.specs.Runs.{output_of}
-use Rattle.cx_model.specs.Traces.{Entry, Wrote, Saved, Trace}
+use Rattle.cx_model.specs.Runs.{Lengths, grown_by, lengths_behind, output, output_of, text_to}
+use Rattle.cx_model.specs.Traces.{Entry, Turned, Overflowed, Exchanged, Tested, Rotated, Wrote, Saved, Trace}
 use Rattle.cx_disk.specs.Disk.{View, LeavesOnly}
 use Rattle.cx_disk.specs.Moments.{IsQuiet}
 use Rattle.cx_disk.proofs.Moments.{started, joins}
 use Rattle.cx_chk.specs.declared.checkpoint.Checkpoint.{Checkpoint}
 use Rattle.cx_core_buffers.specs.Checkpoints.{HoldsState}
 use Rattle.cx_core_buffers.specs.Gathering.{piece_of}
-use Rattle.cx_keep.specs.Beginning.{length_left}
-use Rattle.cx_keep.specs.Keeping.{Keeper, IsAppended, AppendMoments, output_file}
+use Rattle.cx_keep.specs.Keeping.{Keeper, IsAppended, AppendMoments}
 use Rattle.law_parts.specs.Beginnings.{Beginning, Afresh, From, run_of}
 use Rattle.law_parts.specs.Runs.{Run}
 use Rattle.law_parts.specs.Totals.{undivided_from}
@@ -28,9 +31,9 @@ use Rattle.cx_core.specs.Left.{steps_left}
 use Rattle.cx_core.specs.Starts.{begins_in}
 use Rattle.cx_core.specs.Steps.{Counts}
 use Rattle.cx_core.specs.Texts.{text_of_piece}
-use Rattle.law_course.specs.Beginnings.{beginning_of}
+use Rattle.law_course.specs.Beginnings.{GoesOn, beginning_of, lengths_found}
 use Rattle.law_course.specs.Courses.{StatesPackAgain, checkpoint_of}
-use Rattle.law_course.specs.Works.{KeptRun, WorksFollow, works_by, output_found}
+use Rattle.law_course.specs.Works.{KeptRun, WorksFollow, lengths_done, works_by, output_found}
 use Rattle.cx_run_loop.specs.Going.{Setting, Place, IsBehind, IsGoing, IsKept, IsDriving, IsDriven, IsImageOf, Moves, MovesOn, LeavesImages, Steps, KeepsEvent, EventMoments, run_in, trace_in, kept_in, handed}
 use Rattle.cx_run_loop.specs.Laws.{DriveLaws}
 use Rattle.cx_run_loop.proofs.Works.{next_is, driven_quiet, images_quiet, is_packed, text_driven, text_images, state_driven, state_images}
@@ -48,40 +51,73 @@ setup_is job rules Afresh = refl
 setup_is job rules (From c state so_far) = refl
 
 pub so_far_is : (job : Job) (rules : List Rule) (found : Option Checkpoint)
-    → (run_of job rules (begins_in (setup_of job) found)).so_far ≡ length_left found 0
+    → (run_of job rules (begins_in (setup_of job) found)).so_far
+    ≡ lengths_found (setup_of job) found
 so_far_is job rules None = refl
 so_far_is job rules (Some c) = refl
 
 -- ---- one event
 
--- how long the file is
-file_length : (r : KeptRun) (follow : WorksFollow r) (so_far : ℕ) → so_far ≡ length_left r.found 0
-    → (done : List Entry) (file : List ℕ)
-    → file ≡ output_found r ++ output_of done → so_far + length (output_of done) ≡ length file
-file_length r follow so_far is done file file_is =
-    let whole : length file ≡ length (output_found r) + length (output_of done) =
-    ap (λ (l : List ℕ). length l) file_is ∙ length-append (output_found r) (output_of done) in
-    let first : length (output_found r) ≡ length_left r.found 0 = follow.begun.length in
-    omega arith
+-- how long an output is behind some entries
+longer_by : (so_far : Lengths) (w v : VarId) (text : List ℕ) (rest : ℕ)
+    → grown_by so_far w (length text) v.0 + rest
+    ≡ so_far v.0 + (length (if w.0 == v.0 then text else []) + rest)
+longer_by so_far w v text rest = by (w.0 == v.0)
+  where
+    by : (b : Bool) → (if b then so_far v.0 + length text else so_far v.0) + rest
+        ≡ so_far v.0 + (length (if b then text else []) + rest)
+    by true = omega arith
+    by false = omega arith
+
+length_more : (text more : List ℕ) (so_far : ℕ)
+    → so_far + (length text + length more) ≡ so_far + length (text ++ more)
+length_more text more so_far = ap (λ (n : ℕ). so_far + n) (sym (length-append text more))
+
+lengths_are : (es : List Entry) (so_far : Lengths) (v : VarId)
+    → lengths_behind so_far es v.0 ≡ so_far v.0 + length (output_of v es)
+lengths_are [] so_far v = omega arith
+lengths_are (Wrote w i text state ∷ es) so_far v =
+    lengths_are es (grown_by so_far w (length text)) v
+    ∙ longer_by so_far w v text (length (output_of v es))
+    ∙ length_more (text_to v (Wrote w i text state)) (output_of v es) (so_far v.0)
+lengths_are (Turned k i state ∷ es) so_far v = lengths_are es so_far v
+lengths_are (Overflowed k i state ∷ es) so_far v = lengths_are es so_far v
+lengths_are (Exchanged vars path state ∷ es) so_far v = lengths_are es so_far v
+lengths_are (Tested w path state ∷ es) so_far v = lengths_are es so_far v
+lengths_are (Rotated state ∷ es) so_far v = lengths_are es so_far v
+lengths_are (Saved i state ∷ es) so_far v = lengths_are es so_far v
+
+-- a core counts the outputs as they are
+counted_as : (r : KeptRun) → GoesOn r.setup r.rules r.found → (so_far : Lengths)
+    → so_far ≡ lengths_found r.setup r.found → (done : List Entry)
+    → lengths_behind so_far done ≡ lengths_done r done
+counted_as r goes so_far is done = fun_ext (λ v.
+    let var : VarId = record { 0 = v } in
+    let begun : length (output_found r var) ≡ lengths_found r.setup r.found v =
+    length-take-le (lengths_found r.setup r.found v) (output r.setup r.rules var)
+    (goes.within var) in
+    lengths_are done so_far var
+    ∙ ap (λ (n : ℕ). n + length (output_of var done))
+    (ap (λ (n : Lengths). n v) is ∙ sym begun)
+    ∙ sym (length-append (output_found r var) (output_of var done)))
 
 module _ (q : Run) (trace : Trace) (r : KeptRun) (follow : WorksFollow r)
+    (goes : GoesOn r.setup r.rules r.found)
     (pack : StatesPackAgain r.setup) (one_setup : q.setup ≡ r.setup)
-    (one_length : q.so_far ≡ length_left r.found 0)
+    (one_length : q.so_far ≡ lengths_found r.setup r.found)
     (before now rest : List Entry) (works : works_by r ≡ now ++ rest) (was is : Cores)
     (old new : View) (x : IsDriven r before old) where
   packed : (iteration : ℕ) (state : State) → HoldsState r.setup is.buffers.state
       → is.buffers.state.key ≡ r.key
-      → IsCheckpointOf q.setup is.buffers.state iteration state
-      (q.so_far + length (output_of before))
-      → is.buffers.state ≡ checkpoint_of r.setup r.key iteration state
-      (length (old.seen output_file))
+      → IsCheckpointOf q.setup is.buffers.state iteration state (lengths_behind q.so_far before)
+      → is.buffers.state ≡ checkpoint_of r.setup r.key iteration state (lengths_done r before)
   packed iteration state holds key named =
       is_packed r.setup r.key pack is.buffers.state holds key iteration state
-      (length (old.seen output_file))
-      (subst (λ (n : ℕ). IsCheckpointOf r.setup is.buffers.state iteration state n)
-      (file_length r follow q.so_far one_length before (old.seen output_file) x.has.file_is)
+      (lengths_done r before)
+      (subst (λ (n : Lengths). IsCheckpointOf r.setup is.buffers.state iteration state n)
+      (counted_as r goes q.so_far one_length before)
       (subst (λ (u : Setup). IsCheckpointOf u is.buffers.state iteration state
-      (q.so_far + length (output_of before))) one_setup named))
+      (lengths_behind q.so_far before)) one_setup named))
 
   pub event_driven : (event : Event) → Leaves r.setup was is event → is.buffers.state.key ≡ r.key
       → HandsOut q trace is before now event → KeepsEvent r.setup is old new event
@@ -97,15 +133,16 @@ module _ (q : Run) (trace : Trace) (r : KeptRun) (follow : WorksFollow r)
       subst (λ (d : List Entry). IsDriven r d new) (sym added)
       (text_driven r follow before rest old new x v iteration hands.0 hands.1
       (next_is (works_by r) before x.left now rest (Wrote v iteration hands.0 hands.1)
-      x.has.works works added)
-      (subst (λ (t : List ℕ). IsAppended t old new) (sym is_text) keeps))
+      x.has works added)
+      (subst (λ (t : List ℕ). IsAppended (place_in r.setup.out_vars v) t old new) (sym is_text)
+      keeps))
   event_driven (Save iteration) leaves key hands keeps =
       let added : now ≡ before ++ Saved iteration hands.0 ∷ [] = hands.1 in
       subst (λ (d : List Entry). IsDriven r d new) (sym added)
       (state_driven r follow before rest old new x iteration hands.0 is.buffers.state
       (next_is (works_by r) before x.left now rest (Saved iteration hands.0)
-      x.has.works works added)
-      (packed iteration hands.0 leaves.1 key hands.2) keeps.0 keeps.1)
+      x.has works added)
+      (packed iteration hands.0 leaves.1.state key hands.2) keeps.0 keeps.1)
   event_driven End leaves key hands keeps =
       subst (λ (d : List Entry). IsDriven r d new) (sym hands.0)
       (driven_quiet r before old new keeps x)
@@ -123,15 +160,16 @@ module _ (q : Run) (trace : Trace) (r : KeptRun) (follow : WorksFollow r)
         | inl quiet ↦ images_quiet r before old new quiet x
         | inr more ↦ text_images r follow before rest old new x v iteration hands.0 hands.1
             (next_is (works_by r) before x.left now rest (Wrote v iteration hands.0 hands.1)
-            x.has.works works added)
-            (subst (λ (t : List ℕ). AppendMoments t old new) (sym is_text) more)
+            x.has works added)
+            (subst (λ (t : List ℕ). AppendMoments (place_in r.setup.out_vars v) t old new)
+            (sym is_text) more)
       ]
   event_images (Save iteration) leaves key hands moments =
       let added : now ≡ before ++ Saved iteration hands.0 ∷ [] = hands.1 in
       state_images r follow before rest old new x iteration hands.0 is.buffers.state
       (next_is (works_by r) before x.left now rest (Saved iteration hands.0)
-      x.has.works works added)
-      (packed iteration hands.0 leaves.1 key hands.2) moments
+      x.has works added)
+      (packed iteration hands.0 leaves.1.state key hands.2) moments
   event_images End leaves key hands moments = images_quiet r before old new moments x
 
 -- a run that goes on before an event is over after it only where that is the end
@@ -183,7 +221,7 @@ module _ (s : Setting) (laws : DriveLaws s.wire s.job s.rules) (was is : Place s
       → IsDriven (kept_in s found) (handed there) is.view
   turn_driven keeps d t y =
       event_driven (run_in s found) (trace_in s found) (kept_in s found)
-      (laws.follow found y.of_run) laws.pack
+      (laws.follow found y.of_run) (laws.goes_on found y.of_run) laws.pack
       (setup_is s.job s.rules (begins_in (setup_of s.job) found))
       (so_far_is s.job s.rules found)
       (handed x) (handed there) (works_left (run_in s found) (trace_in s found) step.there.world)
@@ -196,7 +234,7 @@ module _ (s : Setting) (laws : DriveLaws s.wire s.job s.rules) (was is : Place s
       → LeavesOnly was.view new (IsImageOf (kept_in s found))
   turn_images new moments d t y =
       event_images (run_in s found) (trace_in s found) (kept_in s found)
-      (laws.follow found y.of_run) laws.pack
+      (laws.follow found y.of_run) (laws.goes_on found y.of_run) laws.pack
       (setup_is s.job s.rules (begins_in (setup_of s.job) found))
       (so_far_is s.job s.rules found)
       (handed x) (handed there) (works_left (run_in s found) (trace_in s found) step.there.world)

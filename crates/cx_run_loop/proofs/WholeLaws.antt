@@ -1,14 +1,15 @@
 -- A whole run: from what its start found to what its end leaves.
 use Rattle.std.proofs.Common.{◌≡◌, ◌≢◌, ℕ, ◌+◌, ◌≤◌, ◌<◌, List, [], ◌++◌, length, take, refl, sym, ◌∙◌, ap, subst, arith, inl, inr, append-nil}
-use Rattle.std.proofs.lemmas.List.{append_cancel_left}
-use Rattle.std.specs.Prelude.{Option, Some, None, IfSome, ◌⊎◌, Ok, true, ◌%◌, ◌^◌}
+use Rattle.std.proofs.lemmas.List.{append_cancel_left, get_or-replicate}
+use Rattle.std.specs.Prelude.{Option, Some, None, IfSome, ◌⊎◌, Ok, Err, true, slice_index, ◌%◌, ◌^◌}
 use Rattle.cx_plan.specs.declared.job.Job.{Job}
 use Rattle.cx_plan.specs.declared.job.Recover.TheVariants.{No}
 use Rattle.cx_plan.specs.Lookups.{is_scalar, levels_of}
 use Rattle.cx_plan.specs.Setups.{Setup, setup_of}
+use Rattle.cx_outputs.specs.Names.{output_count}
 use Rattle.cx_rule.specs.Meter.{raised}
 use Rattle.cx_rule.specs.Routine.{Rule}
-use Rattle.cx_model.specs.Runs.{undivided_run, output}
+use Rattle.cx_model.specs.Runs.{undivided_run}
 use Rattle.cx_model.specs.Traces.{Entry, Trace}
 use Rattle.cx_cut.specs.Cuts.{Parts}
 use Rattle.cx_cut.specs.Faults.{parts_of}
@@ -22,32 +23,40 @@ use Rattle.law_parts.specs.Work.{work, carried_count, total_sum}
 use Rattle.law_reached.specs.Works.{works_of}
 use Rattle.cx_chk.specs.declared.checkpoint.Checkpoint.{Checkpoint}
 use Rattle.cx_chk.specs.Slots.{newest_below}
-use Rattle.cx_keep.specs.Beginning.{CanStart, HasLengths, IsStarted, IsWithinStart, StartMoments, length_left, newest_left}
-use Rattle.cx_keep.specs.Keeping.{output_file}
+use Rattle.cx_keep.specs.Beginning.{CanStart, HasLengths, IsOfNewest, IsStarted, IsWithinStart, StartMoments, length_left, lengths_left, newest_left}
 use Rattle.cx_keep.specs.Resuming.{AreTrails}
-use Rattle.cx_keep.specs.Tests.{begun}
-use Rattle.cx_keep.specs.Trails.{NewestIs, Stands, length_in, file_of_output}
+use Rattle.cx_keep.specs.Tests.{begun, greatest_former}
+use Rattle.cx_keep.specs.Trails.{AreWithin, Has, NewestIs, Stands, former_length, length_in, text_of, file_of_output}
+use Rattle.cx_keep.specs.declared.fault.BeginFault.TheVariants as begin_faults
 use Rattle.cx_keep.proofs.Stays.{newest_same}
 use Rattle.law_course.specs.Beginnings.{GoesOn, IsFound, entries_from, run_from}
 use Rattle.law_course.specs.Starts.{BeginsOn}
-use Rattle.law_course.specs.Works.{KeptRun, HasDone, IsAllDone, IsAtLeast, IsBegun, WorksFollow, course_by, works_by, newest_of, next_of, output_found}
+use Rattle.law_course.specs.Works.{KeptRun, HasDone, IsAllDone, IsAtLeast, WorksFollow, course_by, works_by, newest_of, next_of}
 use Rattle.cx_core.specs.Cores.{Cores}
 use Rattle.cx_core.specs.Hands.{IsDone as IsCoreDone, ended_as}
 use Rattle.cx_core.specs.declared.answers.Outcome.TheVariants.{Done}
 use Rattle.cx_core.specs.Starts.{begins_in}
 use Rattle.cx_core.specs.Steps.{Counts, counts, stands_at}
-use Rattle.cx_run_loop.specs.Drives.{Drive, AreTold, StartsWell, HasEnded, HasRun, HasScalarsOf, HasWorked, ResumesFrom, KeepsTrail, LeavesTrails, LendsScalars, IsNotBelow, cut_in, course}
+use Rattle.cx_run_loop.specs.Drives.{Drive, AreTold, FitsOld, StartsWell, HasEnded, HasRun, HasScalarsOf, HasWorked, ResumesFrom, KeepsTrail, LeavesTrails, LendsScalars, IsNotBelow, cut_in, course}
 use Rattle.cx_run_loop.specs.Going.{Setting, Place, IsDriven, IsImageOf, RunsFrom, RunLeaves, run_in, trace_in, kept_in, handed}
 use Rattle.cx_run_loop.specs.Laws.{DriveLaws}
 use Rattle.cx_run_loop.proofs.FoundLaws.{found_is, found_none, only_newest, not_below_same, resumes_from_newest, resumes_from_none}
+use Rattle.cx_run_loop.proofs.FromLaws.{length_count}
 use Rattle.cx_run_loop.proofs.TurnLaws.{same_beginning, setup_is}
 use Rattle.cx_disk.specs.Files.{slot_count}
-use Rattle.cx_run_loop.proofs.Works.{driven_at}
+use Rattle.cx_disk.specs.MemoryLaws.{cases_le}
+use Rattle.cx_run_loop.proofs.Works.{output_count_is}
 
 cut_is : (job : Job) (rules : List Rule) (b : Beginning)
     → cut_of (run_of job rules b) ≡ parts_of job.shape job.cut
 cut_is job rules Afresh = refl
 cut_is job rules (From c state so_far) = refl
+
+-- the length that a start leaves of an output
+left_at : (count : ℕ) (found : Option Checkpoint) (j : ℕ) → j < count
+    → slice_index (lengths_left count found) j ≡ length_left found j
+left_at count None j lt = get_or-replicate count j 0 0 lt
+left_at count (Some c) j lt = refl
 
 -- at least, by place
 at_least : (newest : Option ℕ) (n : ℕ) → IsAtLeast newest n → IsNotBelow newest (Some n)
@@ -68,13 +77,38 @@ place_behind d core = record {
 }
 
 module _ (d : Drive) (laws : DriveLaws d.wire.tells d.job d.rules) where
-  pub can_start : StartsWell d → CanStart (course d) d.job.recover d.disk.old
-  can_start well = record {
+  pub can_start : (d.job.recover ≢ No → AreTrails (course d) d.disk.old)
+      → CanStart (setup_of d.job) (course d) d.job.recover d.disk.old
+  can_start trails = record {
     monotone = laws.rises.monotone;
-    outputs = laws.rises.one_output;
-    trails = λ not. elim well as (λ _. AreTrails (course d) d.disk.old)
-        [ inl trails ↦ trails | inr given ↦ absurd (not given) ];
+    outputs = laws.rises.outputs;
+    fronts = laws.splits.fronts;
+    splits = laws.splits.splits;
+    trails = trails;
   }
+
+  -- from trails, or where old checkpoints are given up
+  pub trails_or_given : StartsWell d → d.job.recover ≢ No → AreTrails (course d) d.disk.old
+  trails_or_given well not = elim well as (λ _. AreTrails (course d) d.disk.old)
+      [ inl trails ↦ trails.0 | inr given ↦ absurd (not given) ]
+
+  -- an output that is longer than at a checkpoint, and no longer than at the newest one, is of a
+  -- newer one
+  newer_by : (image : Files) (c : Checkpoint) (j : ℕ) → Has (course d).checkpoints c
+      → j < length (course d).outputs → length_in c j < length (image (file_of_output j))
+      → IsOfNewest (course d) j image → (n : Option ℕ) → NewestIs image n
+      → IsNotBelow n (Some c.iteration)
+  newer_by image c j has lt long of n is =
+      subst (λ (x : Option ℕ). IsNotBelow x (Some c.iteration))
+      (only_newest image (Some of.checkpoint.iteration) n of.newest is)
+      (let both : length (image (file_of_output j)) ≤ length_in of.checkpoint j = of.within in
+      elim (cases_le of.checkpoint.iteration c.iteration)
+      as (λ _. c.iteration ≤ of.checkpoint.iteration) [
+        | inl less ↦ let same : length_in of.checkpoint j ≤ length_in c j =
+            laws.rises.monotone of.checkpoint c of.of_run has less j lt in
+            let bad : ⊥ = omega arith in absurd bad
+        | inr more ↦ more
+      ])
 
   within_start : (image : Files) → IsWithinStart (course d) d.job.recover d.disk.old image
       → KeepsTrail d image
@@ -84,25 +118,25 @@ module _ (d : Drive) (laws : DriveLaws d.wire.tells d.job d.rules) where
       first = w.before;
       was = w.was;
       not_below = λ n m one other. subst (λ (x : Option ℕ). IsNotBelow n x)
-          (only_newest w.before n m
-          (newest_same image w.before (λ slot lt. elim (w.slots slot lt)
-          as (λ _. w.before slot ≡ image slot)
-          [ inl same ↦ sym same | inr closed ↦ absurd (not closed.0) ]) n one) other)
-          (not_below_same n);
+          (only_newest image n m one (w.newest not m other)) (not_below_same n);
     };
-    pace = λ c has long longer n is.
-        let a : length (w.before output_file) < length (image output_file) =
-        longer w.before w.was in
-        let b : length (image output_file) ≤ length (w.before output_file) =
-        w.shorter 0 (omega arith) in
-        absurd (omega arith);
+    pace = λ c j has lt long longer n is.
+        elim (w.outputs j lt) as (λ _. IsNotBelow n (Some c.iteration)) [
+          | inl shorter ↦
+              let a : length (w.before (file_of_output j)) < length (image (file_of_output j)) =
+              longer w.before w.was in
+              let b : length (image (file_of_output j)) ≤ length (w.before (file_of_output j)) =
+              shorter in
+              let bad : ⊥ = omega arith in absurd bad
+          | inr of ↦ newer_by image c j has lt long of n is
+        ];
   }
 
   -- a start that leaves no run
-  pub start_trails : (new : View) → (d.disk.tells → StartMoments d.job.recover d.disk.old new)
+  pub start_trails : (new : View) → (d.disk.tells → StartMoments d.job d.job.recover d.disk.old new)
       → d.disk.tells → AreTrails (course d) d.disk.old → LeavesOnly d.disk.old new (KeepsTrail d)
   start_trails new moments t trails =
-      weaker (KeepsTrail d) (moments t (course d) (can_start (inl trails)) trails) within_start
+      weaker (KeepsTrail d) (moments t (course d) (can_start (λ not. trails)) trails) within_start
 
 module _ (d : Drive) (laws : DriveLaws d.wire.tells d.job d.rules) (mid : View)
     (found : Option Checkpoint)
@@ -121,10 +155,15 @@ module _ (d : Drive) (laws : DriveLaws d.wire.tells d.job d.rules) (mid : View)
   finds : StartsWell d → d.disk.tells → Finds
   finds (inl trails) t =
       let b : BeginsOn d.job d.rules d.disk.old.seen =
-      laws.begin d.disk.old.seen (trails d.disk.old.seen (reads t)) in
-      elim (found_is d.job.recover b.newest found (sym b.begun_is ∙ is_begun t)) as (λ _. Finds) [
-        | inl none ↦ inl none
-        | inr same ↦ inr (b, same.0, same.1)
+      laws.begin d.disk.old.seen (trails.0 d.disk.old.seen (reads t)) in
+      elim b.begun_is as (λ _. Finds) [
+        | inl begun_is ↦
+            elim (found_is d.job.recover b.newest found (sym begun_is ∙ is_begun t))
+            as (λ _. Finds) [
+              | inl none ↦ inl none
+              | inr same ↦ inr (b, same.0, same.1)
+            ]
+        | inr long ↦ absurd (trails.1 (former_length long.checkpoint) greatest_former long.begun_is)
       ]
   finds (inr given) t = inl (
     found_none d.job d.disk.old.seen d.job.recover (newest_below slot_count d.disk.old.seen)
@@ -151,27 +190,28 @@ module _ (d : Drive) (laws : DriveLaws d.wire.tells d.job d.rules) (mid : View)
 
   -- ---- the disk as the run begins
 
-  module _ (lengths : HasLengths found)
-      (started : d.disk.tells → IsStarted d.job.recover found d.disk.old mid) where
+  module _ (lengths : HasLengths (output_count (setup_of d.job)) found)
+      (started : d.disk.tells → IsStarted d.job d.job.recover found d.disk.old mid) where
     pub begins_driven : StartsWell d → d.disk.tells → IsDriven r [] mid
     begins_driven well t =
         let fs : Finds = finds well t in
         let follow : WorksFollow r = laws.follow found (of_run fs) in
-        let first : IsBegun r = follow.begun in
-        let st : Stands (course_by r) (newest_left found)
-        (next_of r (length_left found 0) (works_by r)) mid =
-        (started t).stands (course d) (can_start d laws well)
-        (next_of r (length_left found 0) (works_by r)) first.later in
-        let counted_is : length_left found 0 ≡ length (mid.seen output_file) =
-        (started t).left.counts 0 (omega arith) in
-        let front : mid.seen output_file
-        ≡ take (length (mid.seen output_file)) (output (setup_of d.job) d.rules) =
-        st.fronts 0 (omega arith) in
-        let file_is : mid.seen output_file ≡ output_found r =
-        front ∙ ap (λ (n : ℕ). take n (output (setup_of d.job) d.rules)) (sym counted_is) in
-        driven_at r [] (works_by r) (output_found r) mid file_is (of_run fs) first.nothing_done
-        (subst (λ (n : ℕ). Stands (course_by r) (newest_left found) (next_of r n (works_by r)) mid)
-        (sym first.length) st)
+        let st : Stands (course_by r) (newest_left found) (next_of r [] (works_by r)) mid =
+        (started t).stands (course d) (can_start d laws (trails_or_given d laws well))
+        (next_of r [] (works_by r)) follow.begun.later in
+        record {
+          of_run = of_run fs;
+          left = works_by r;
+          has = refl;
+          files = λ j lt.
+              let counted_is : length_left found j ≡ length (mid.seen (file_of_output j)) =
+              sym (left_at (output_count (setup_of d.job)) found j lt)
+              ∙ (started t).left.counts j (subst (λ (n : ℕ). j < n) (sym lengths) lt) in
+              st.fronts j (subst (λ (n : ℕ). j < n) (sym (output_count_is r)) lt)
+              ∙ ap (λ (n : ℕ). take n (text_of (course d) j)) (sym counted_is)
+              ∙ sym (follow.begun.outputs j lt);
+          stands = st;
+        }
 
   -- ---- each moment
 
@@ -189,33 +229,40 @@ module _ (d : Drive) (laws : DriveLaws d.wire.tells d.job d.rules) (mid : View)
               (only_newest d.disk.old.seen (newest_left found) m (newest_found fs not) other)
               (behind found refl follow));
         };
-        pace = λ c has long longer n is. subst (λ (x : Option ℕ). IsNotBelow x (Some c.iteration))
+        pace = λ c j has lt long longer n is.
+            subst (λ (x : Option ℕ). IsNotBelow x (Some c.iteration))
             (only_newest image (newest_of r w.done) n w.trail.newest_is is)
             (at_least (newest_of r w.done) c.iteration
-            (follow.pace w.done w.left w.file c (length (image output_file)) w.has
-            (bound (next_of r (length w.file) w.left) w.trail.within) has long));
+            (follow.pace w.done w.left c j (length (image (file_of_output j))) w.has
+            (subst (λ (k : ℕ). j < k) (output_count_is r) lt)
+            (bound j lt (next_of r w.done w.left) w.trail.within) has long));
       }
     where
-      bound : (next : Option Checkpoint)
-          → IfSome next (λ e. (j : ℕ) → j < 1 → length (image (file_of_output j)) ≤ length_in e j)
-          → IfSome next (λ e. length (image output_file) ≤ length_in e 0)
-      bound None h = tt
-      bound (Some e) h = h 0 (omega arith)
+      bound : (j : ℕ) → j < length (course d).outputs → (next : Option Checkpoint)
+          → AreWithin (course d) next image
+          → IfSome next (λ e. length (image (file_of_output j)) ≤ length_in e j)
+      bound j lt None h = tt
+      bound j lt (Some e) h = h j lt
 
       behind : (f : Option Checkpoint) → found ≡ f → WorksFollow r
           → IsNotBelow (newest_of r w.done) (newest_left f)
       behind None is follow = tt
       behind (Some c) is follow =
           at_least (newest_of r w.done) c.iteration
-          (follow.not_behind w.done w.left w.file c w.has is)
+          (follow.not_behind w.done w.left c w.has is)
 
-  pub leaves_trails : HasLengths found
-      → (d.disk.tells → IsStarted d.job.recover found d.disk.old mid)
-      → (d.disk.tells → StartMoments d.job.recover d.disk.old mid)
+  -- a start that is done has split its former output
+  fits_old : d.disk.tells → FitsOld d
+  fits_old t a b long =
+      let bad : Ok found ≡ Err (begin_faults.OldTooLong a b) = sym (is_begun t) ∙ long in absurd cc
+
+  pub leaves_trails : HasLengths (output_count (setup_of d.job)) found
+      → (d.disk.tells → IsStarted d.job d.job.recover found d.disk.old mid)
+      → (d.disk.tells → StartMoments d.job d.job.recover d.disk.old mid)
       → RunLeaves (setting d) found mid d.disk.new
       → AreTold d → AreTrails (course d) d.disk.old → LeavesTrails d
   leaves_trails lengths started moments runs told trails =
-      let well : StartsWell d = inl trails in
+      let well : StartsWell d = inl (trails, fits_old told.0) in
       let fs : Finds = finds well told.0 in
       joins (KeepsTrail d)
       (start_trails d laws mid moments told.0 trails)
@@ -245,6 +292,14 @@ module _ (d : Drive) (laws : DriveLaws d.wire.tells d.job d.rules) (mid : View)
         ((runs.stands.told t).done is).last state v (same ∙ goes)
         (subst (λ (u : Setup). is_scalar u v ≡ true) (sym run_setup) scalar)
 
+    count_is : length core.lengths ≡ output_count (setup_of d.job)
+    count_is = length_count (setting d) (place_behind d core) (record {
+      beginning = begins_in (setup_of d.job) found;
+      begins = runs.there.begins;
+      first = counts_before d;
+      at = runs.there.at;
+    })
+
     pub has_run : HasRun d core
     has_run = record {
       over = runs.over;
@@ -253,7 +308,10 @@ module _ (d : Drive) (laws : DriveLaws d.wire.tells d.job d.rules) (mid : View)
       ended = λ told. ended_by told.1;
       scalars = λ told is. has_scalars told.1 is (run_from (setup_of d.job) d.rules found)
           (ap (λ (u : Trace). u.outcome) trace_is);
-      length_is = λ t. sym (runs.length_is t);
+      length_is = λ t. record {
+        count = count_is;
+        each = λ j lt. runs.counts t j (subst (λ (n : ℕ). j < n) (sym count_is) lt);
+      };
     }
 
     -- nothing is left of the works
@@ -261,14 +319,14 @@ module _ (d : Drive) (laws : DriveLaws d.wire.tells d.job d.rules) (mid : View)
     none_left done left first second =
         append_cancel_left done left [] (sym first ∙ second ∙ sym (append-nil done))
 
-    all_done : Finds → (driven : IsDriven r (handed runs.there) d.disk.new) → d.wire.tells
-        → IsAllDone r (handed runs.there) (d.disk.new.seen output_file)
+    all_done : Finds → IsDriven r (handed runs.there) d.disk.new → d.wire.tells
+        → IsAllDone r (handed runs.there)
     all_done fs driven t =
         let works : works_by r ≡ handed runs.there =
         ap (λ (u : Trace). works_of u.entries) (sym trace_is) ∙ runs.there.over t runs.over in
-        (laws.follow found (of_run fs)).all_done (handed runs.there) (d.disk.new.seen output_file)
-        (subst (λ (l : List Entry). HasDone r (handed runs.there) l (d.disk.new.seen output_file))
-        (none_left (handed runs.there) driven.left driven.has.works works) driven.has)
+        (laws.follow found (of_run fs)).all_done (handed runs.there)
+        (subst (λ (l : List Entry). HasDone r (handed runs.there) l)
+        (none_left (handed runs.there) driven.left driven.has works) driven.has)
 
     goes_on : Finds → GoesOn (setup_of d.job) d.rules found
     goes_on fs = laws.goes_on found (of_run fs)
@@ -313,19 +371,22 @@ module _ (d : Drive) (laws : DriveLaws d.wire.tells d.job d.rules) (mid : View)
       };
     }
 
-    pub has_ended : HasLengths found → (d.disk.tells → IsStarted d.job.recover found d.disk.old mid)
+    pub has_ended : HasLengths (output_count (setup_of d.job)) found
+        → (d.disk.tells → IsStarted d.job d.job.recover found d.disk.old mid)
         → AreTold d → StartsWell d → HasEnded d core
     has_ended lengths started told well =
         let fs : Finds = finds well told.0 in
         let driven : IsDriven r (handed runs.there) d.disk.new =
         runs.driven told.0 told.1 (begins_driven lengths started well told.0) in
-        let all : IsAllDone r (handed runs.there) (d.disk.new.seen output_file) =
-        all_done fs driven told.1 in
+        let all : IsAllDone r (handed runs.there) = all_done fs driven told.1 in
         record {
-          output = record {
-            reads = all.file_is;
-            images = λ image now. runs.settled told.0 image now ∙ all.file_is;
-          };
+          output = λ j lt.
+              let file_is : d.disk.new.seen (file_of_output j) ≡ text_of (course d) j =
+              driven.files j lt ∙ all.outputs j lt in
+              record {
+                reads = file_is;
+                images = λ image now. runs.settled told.0 j lt image now ∙ file_is;
+              };
           end = (runs.stands.told told.1).ended runs.over ∙ ap ended_as (outcome fs);
           work = λ is. has_worked fs ((runs.stands.told told.1).done is);
           scalars = λ is. has_scalars told.1 is (undivided_run (setup_of d.job) d.rules)

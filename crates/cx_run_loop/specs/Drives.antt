@@ -1,15 +1,16 @@
 -- What a run of a job leaves of the disk, the wire and the meter, and what it answers.
-use Rattle.std.specs.Prelude.{ℕ, ◌+◌, ◌%◌, ◌^◌, ◌<◌, ◌≤◌, ◌≡◌, ◌≢◌, ◌⊎◌, true, List, [], length, Option, Some, None, Result, Ok, Err, IfOk}
+use Rattle.std.specs.Prelude.{ℕ, ◌+◌, ◌%◌, ◌^◌, ◌<◌, ◌≤◌, ◌≡◌, ◌≢◌, ◌⊎◌, true, List, [], length, slice_index, Option, Some, None, Result, Ok, Err, IfOk}
 use Rattle.cx_plan.specs.declared.job.Job.{Job}
 use Rattle.cx_plan.specs.declared.job.Recover.{Recover}
 use Rattle.cx_plan.specs.declared.job.Recover.TheVariants.{No, Auto, Autoprobe}
 use Rattle.cx_plan.specs.declared.variable.VarId.{VarId}
 use Rattle.cx_plan.specs.Lookups.{is_scalar, levels_of}
-use Rattle.cx_plan.specs.Setups.{setup_of}
+use Rattle.cx_plan.specs.Setups.{Setup, setup_of}
+use Rattle.cx_outputs.specs.Names.{output_count}
 use Rattle.cx_rule.specs.Meter.{raised}
 use Rattle.cx_rule.specs.Routine.{Rule}
 use Rattle.cx_rule.specs.States.{State, scalar_of}
-use Rattle.cx_model.specs.Runs.{undivided_run, output}
+use Rattle.cx_model.specs.Runs.{undivided_run}
 use Rattle.cx_model.specs.Traces.{Entry, Trace, Goes}
 use Rattle.cx_cut.specs.Cuts.{Parts}
 use Rattle.cx_cut.specs.Faults.{parts_of}
@@ -21,10 +22,9 @@ use Rattle.cx_wire.specs.declared.wire.Wire.{Ghosts as WireGhosts}
 use Rattle.law_parts.specs.Work.{work, carried_count, total_sum}
 use Rattle.cx_chk.specs.declared.checkpoint.Checkpoint.{Checkpoint}
 use Rattle.cx_keep.specs.Beginning.{IsRefusal}
-use Rattle.cx_keep.specs.Keeping.{output_file}
 use Rattle.cx_keep.specs.Resuming.{AreTrails}
 use Rattle.cx_keep.specs.Tests.{begun}
-use Rattle.cx_keep.specs.Trails.{Course, Has, IsTrail, NewestIs, length_in}
+use Rattle.cx_keep.specs.Trails.{Course, Has, IsTrail, NewestIs, length_in, text_of, file_of_output}
 use Rattle.law_course.specs.Beginnings.{run_from, entries_from}
 use Rattle.law_course.specs.Starts.{course_in}
 use Rattle.law_course.specs.Works.{LastIs}
@@ -33,6 +33,7 @@ use Rattle.cx_core.specs.Hands.{HasScalar, ended_as, last_number}
 use Rattle.cx_core.specs.declared.answers.Outcome.TheVariants.{Going, Done}
 use Rattle.cx_run_loop.specs.Lent.{Count, HasRisen, LentDisk, LentWire, lent_disk, lent_wire}
 use Rattle.cx_keep.specs.declared.fault.BeginFault.{BeginFault}
+use Rattle.cx_keep.specs.declared.fault.BeginFault.TheVariants as begin_faults
 use Rattle.cx_run_loop.specs.declared.fault.DriveFault.{DriveFault}
 use Rattle.cx_run_loop.specs.declared.fault.DriveFault.TheVariants as faults
 
@@ -67,20 +68,27 @@ cut_in d = parts_of d.job.shape d.job.cut
 abbrev pub AreTold : Drive → Type 0
 AreTold d = d.disk.tells × d.wire.tells
 
--- each image of the disk at the start is a trail of the job, or old checkpoints are given up
+-- a former output that a start must split isn't too long for it
+abbrev pub FitsOld : Drive → Type 0
+FitsOld d = (a b : ℕ) → begun d.job d.disk.old.seen ≢ Err (begin_faults.OldTooLong a b)
+
+-- each image of the disk at the start is a trail of the job, and a former output isn't too long; or
+-- old checkpoints are given up
 abbrev pub StartsWell : Drive → Type 0
-StartsWell d = AreTrails (course d) d.disk.old ⊎ (d.job.recover ≡ No)
+StartsWell d = (AreTrails (course d) d.disk.old × FitsOld d) ⊎ (d.job.recover ≡ No)
 
 -- ---- at the end of the run
 
--- the output's file reads so, and so does it in each image
-pub record HasOutput (text : List ℕ) (v : View) : Type 0 where
-  pub reads : v.seen output_file ≡ text
-  pub images : (image : Files) → v.images image → image output_file ≡ text
+-- an output's file reads so, and so does it in each image
+pub record HasOutput (file : ℕ) (text : List ℕ) (v : View) : Type 0 where
+  pub reads : v.seen file ≡ text
+  pub images : (image : Files) → v.images image → image file ≡ text
 
--- the output is that of the undivided run
+-- each variable's output is that of the undivided run
 abbrev pub HasWholeOutput : Drive → Type 0
-HasWholeOutput d = HasOutput (output (setup_of d.job) d.rules) d.disk.new
+HasWholeOutput d =
+    (j : ℕ) → j < output_count (setup_of d.job)
+    → HasOutput (file_of_output j) (text_of (course d) j) d.disk.new
 
 -- the run has ended as the undivided run does
 abbrev pub EndsAsUndivided : Drive → Cores → Type 0
@@ -141,13 +149,14 @@ pub record IsNotBehind (start : View) (image : Files) : Type 0 where
   pub was : start.images first
   pub not_below : (n m : Option ℕ) → NewestIs image n → NewestIs first m → IsNotBelow n m
 
--- an image whose output is longer than at a checkpoint of the run, and longer than in each image of
--- the start, has that one or a newer one
+-- an image in which an output is longer than at a checkpoint of the run, and longer than in each
+-- image of the start, has that one or a newer one
 abbrev pub KeepsPace : Course → View → Files → Type 0
 KeepsPace run start image =
-    (c : Checkpoint) → Has run.checkpoints c → length_in c 0 < length (image output_file)
+    (c : Checkpoint) (j : ℕ) → Has run.checkpoints c → j < length run.outputs
+    → length_in c j < length (image (file_of_output j))
     → ((first : Files) → start.images first
-    → length (first output_file) < length (image output_file))
+    → length (first (file_of_output j)) < length (image (file_of_output j)))
     → (n : Option ℕ) → NewestIs image n → IsNotBelow n (Some c.iteration)
 
 pub record KeepsTrail (d : Drive) (image : Files) : Type 0 where
@@ -161,8 +170,14 @@ LeavesTrails d = LeavesOnly d.disk.old d.disk.new (KeepsTrail d)
 
 -- ---- answers
 
+-- a core tells the length of each output's file
+pub record AreLengths (setup : Setup) (core : Cores) (files : Files) : Type 0 where
+  pub count : length core.lengths ≡ output_count setup
+  pub each : (j : ℕ) → j < output_count setup
+      → slice_index core.lengths j ≡ length (files (file_of_output j))
+
 -- the run began with this checkpoint or none, and ended as the undivided run does that goes on from
--- there; its core tells how long the output's file is
+-- there; its core tells how long each output's file is
 pub record HasRun (d : Drive) (core : Cores) : Type 0 where
   pub over : core.outcome ≢ Going
   pub found : Option Checkpoint
@@ -170,7 +185,7 @@ pub record HasRun (d : Drive) (core : Cores) : Type 0 where
   pub ended : AreTold d → core.outcome ≡ ended_as (run_from (setup_of d.job) d.rules found).outcome
   pub scalars : AreTold d → core.outcome ≡ Done
       → HasScalarsOf (run_from (setup_of d.job) d.rules found) d core
-  pub length_is : d.disk.tells → core.length ≡ length (d.disk.new.seen output_file)
+  pub length_is : d.disk.tells → AreLengths (setup_of d.job) core d.disk.new.seen
 
 -- a start that was refused: why, and nothing has changed
 pub record IsRefused (d : Drive) (fault : BeginFault) : Type 0 where

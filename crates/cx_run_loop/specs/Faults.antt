@@ -17,6 +17,7 @@ of_begin begin.NoCheckpoint = faults.Recovery begin.NoCheckpoint
 of_begin (begin.OtherJob a b) = faults.Recovery (begin.OtherJob a b)
 of_begin (begin.Damaged slot) = faults.Recovery (begin.Damaged slot)
 of_begin (begin.OutputShort a b) = faults.Recovery (begin.OutputShort a b)
+of_begin (begin.OldTooLong a b) = faults.Recovery (begin.OldTooLong a b)
 
 abbrev pub of_disk : DiskFault → DriveFault
 of_disk disk.Failed = faults.Disk

@@ -1,17 +1,17 @@
 -- Where a run is between two turns: its core, and what its keeper has written.
-use Rattle.std.specs.Prelude.{ℕ, ◌≡◌, ◌≢◌, ◌⊎◌, IsTrue, List, [], ◌∷◌, length, Option}
+use Rattle.std.specs.Prelude.{ℕ, ◌≡◌, ◌≢◌, ◌⊎◌, IsTrue, List, [], Option}
 use Rattle.cx_plan.specs.declared.job.Job.{Job}
 use Rattle.cx_plan.specs.Setups.{Setup, setup_of}
 use Rattle.cx_rule.specs.Routine.{Rule}
 use Rattle.cx_model.specs.Traces.{Entry, Trace}
-use Rattle.cx_disk.specs.Disk.{Files, View, LeavesOnly, IsSettled}
+use Rattle.cx_disk.specs.Disk.{Files, View, LeavesOnly}
 use Rattle.cx_disk.specs.Moments.{IsQuiet}
 use Rattle.cx_disk.specs.declared.disk.Disk.{Ghosts as DiskGhosts}
 use Rattle.cx_wire.specs.declared.wire.Wire.{Ghosts as WireGhosts}
 use Rattle.cx_chk.specs.declared.checkpoint.Checkpoint.{Checkpoint}
 use Rattle.cx_chk.specs.Slots.{SlotsSettled, OutputsSame}
-use Rattle.cx_keep.specs.Keeping.{Keeper, IsAppended, AppendMoments, SaveStands, SaveMoments, output_file}
-use Rattle.cx_keep.specs.Trails.{IsTrailOf, Stands as KeeperStands}
+use Rattle.cx_keep.specs.Keeping.{Keeper, IsAppended, AppendMoments, SaveStands, SaveMoments}
+use Rattle.cx_keep.specs.Trails.{Counts as AreCounted, IsTrailOf, OutputsSettled, Stands as KeeperStands}
 use Rattle.law_parts.specs.Beginnings.{Beginning, IsBeginning, run_of}
 use Rattle.law_parts.specs.Runs.{Run}
 use Rattle.law_parts.specs.Totals.{undivided_from}
@@ -26,7 +26,8 @@ use Rattle.cx_core.specs.Starts.{begins_in}
 use Rattle.cx_core.specs.Steps.{Counts, Standing, IsAt, IsRunning, stands_at}
 use Rattle.cx_core.specs.Texts.{text_of_piece}
 use Rattle.law_course.specs.Beginnings.{IsFound}
-use Rattle.law_course.specs.Works.{KeptRun, kept_run, course_by, HasDone, newest_of, next_of}
+use Rattle.cx_outputs.specs.Names.{output_count, place_in}
+use Rattle.law_course.specs.Works.{KeptRun, kept_run, course_by, HasDone, FilesAre, newest_of, next_of}
 
 -- a job's run by these rules, and whether wire and disk tell what they hold
 pub record Setting : Type 1 where
@@ -80,17 +81,16 @@ handed {s} {found} {first} {p} x = handed_out (run_in s found) x.at.world
 pub record IsDriven (r : KeptRun) (done : List Entry) (v : View) : Type 0 where
   pub of_run : IsFound r.setup r.key r.rules r.found
   pub left : List Entry
-  pub has : HasDone r done left (v.seen output_file)
-  pub stands : KeeperStands (course_by r) (newest_of r done)
-      (next_of r (length (v.seen output_file)) left) v
+  pub has : HasDone r done left
+  pub files : FilesAre r done v.seen
+  pub stands : KeeperStands (course_by r) (newest_of r done) (next_of r done left) v
 
 -- an image at some moment of the run
 pub record IsImageOf (r : KeptRun) (image : Files) : Type 0 where
   pub done : List Entry
   pub left : List Entry
-  pub file : List ℕ
-  pub has : HasDone r done left file
-  pub trail : IsTrailOf (course_by r) (newest_of r done) (next_of r (length file) left) image
+  pub has : HasDone r done left
+  pub trail : IsTrailOf (course_by r) (newest_of r done) (next_of r done left) image
 
 -- ---- turns
 
@@ -115,9 +115,13 @@ LeavesImages s was new =
 
 -- what a keeper and a core have in common, on whatever disk
 pub record IsKept (job : Job) (tells : Type 0) (k : Keeper) (core : Cores) (v : View) : Type 0 where
-  pub keeper : k ≡ record { keep = job.keep; lengths = core.length ∷ [] }
+  pub keeper : k ≡ record {
+    keep = job.keep;
+    vars = job.out_vars;
+    lengths = core.lengths;
+  }
   pub key : core.buffers.state.key ≡ job.key
-  pub counts : tells → length (v.seen output_file) ≡ core.length
+  pub counts : tells → AreCounted core.lengths v
   pub slots : tells → SlotsSettled v
 
 -- the run goes on, or is over
@@ -148,7 +152,8 @@ pub record IsBehind (job : Job) (tells : Type 0) (k : Keeper) (is : Cores) (even
 abbrev pub KeepsEvent : Setup → Cores → (old new : View) → Event → Type 0
 KeepsEvent setup is old new (Part k) = IsQuiet old new
 KeepsEvent setup is old new (Section v iteration) =
-    IsAppended (text_of_piece setup iteration v (piece_of is.buffers v)) old new
+    IsAppended (place_in setup.out_vars v) (text_of_piece setup iteration v (piece_of is.buffers v))
+    old new
 KeepsEvent setup is old new (Save iteration) =
     OutputsSame old.seen new.seen × SaveStands is.buffers.state old new
 KeepsEvent setup is old new End = IsQuiet old new
@@ -156,25 +161,26 @@ KeepsEvent setup is old new End = IsQuiet old new
 abbrev pub EventMoments : Setup → Cores → (old new : View) → Event → Type 0
 EventMoments setup is old new (Part k) = IsQuiet old new
 EventMoments setup is old new (Section v iteration) =
-    IsQuiet old new ⊎ AppendMoments (text_of_piece setup iteration v (piece_of is.buffers v))
-    old new
+    IsQuiet old new
+    ⊎ AppendMoments (place_in setup.out_vars v)
+    (text_of_piece setup iteration v (piece_of is.buffers v)) old new
 EventMoments setup is old new (Save iteration) = SaveMoments is.buffers.state old new
 EventMoments setup is old new End = IsQuiet old new
 
 -- ---- the end
 
--- a run that is over, with its output settled
+-- a run that is over, with its outputs settled
 pub record EndsAt (s : Setting) (was is : Place s) : Type 0 where
   pub over : is.is.core.outcome ≢ Going
   pub moves : MovesOn s was is
   pub stands : (found : Option Checkpoint) (first : Counts) (x : IsDriving s found first is)
       → Stands s.wire (run_in s found) (trace_in s found) first is.is x.at
-  pub settled : s.disk → IsSettled is.view output_file
-  pub length_is : s.disk → length (is.view.seen output_file) ≡ is.is.core.length
+  pub settled : s.disk → OutputsSettled (output_count (setup_of s.job)) is.view
+  pub counts : s.disk → AreCounted is.is.core.lengths is.view
 
 -- ---- the whole of it
 
--- a run from what was found: it is over, and what was driven is driven, with its output settled
+-- a run from what was found: it is over, and what was driven is driven, with its outputs settled
 pub record RunsFrom (s : Setting) (found : Option Checkpoint) (first : Counts) (old : View)
     (p : Place s) : Type 0 where
   pub over : p.is.core.outcome ≢ Going
@@ -182,8 +188,8 @@ pub record RunsFrom (s : Setting) (found : Option Checkpoint) (first : Counts) (
   pub stands : Stands s.wire (run_in s found) (trace_in s found) first p.is there.at
   pub driven : s.disk → s.wire → IsDriven (kept_in s found) [] old
       → IsDriven (kept_in s found) (handed there) p.view
-  pub settled : s.disk → IsSettled p.view output_file
-  pub length_is : s.disk → length (p.view.seen output_file) ≡ p.is.core.length
+  pub settled : s.disk → OutputsSettled (output_count (setup_of s.job)) p.view
+  pub counts : s.disk → AreCounted p.is.core.lengths p.view
 
 -- and what it leaves at each moment
 abbrev pub RunLeaves : (s : Setting) (found : Option Checkpoint) (old new : View) → Type 0

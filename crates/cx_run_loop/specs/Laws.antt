@@ -7,7 +7,7 @@ use Rattle.law_parts.specs.Beginnings.{Beginning, IsBeginning, run_of}
 use Rattle.law_parts.specs.Totals.{undivided_from}
 use Rattle.law_reached.specs.Works.{WorksInOrder}
 use Rattle.law_course.specs.Beginnings.{CourseGoesOn, FittingCanBegin}
-use Rattle.law_course.specs.Courses.{CourseRises, CourseFits, StatesPackAgain}
+use Rattle.law_course.specs.Courses.{CourseRises, CourseSplits, CourseFits, StatesPackAgain}
 use Rattle.law_course.specs.Starts.{TrailsBegin, course_in}
 use Rattle.law_course.specs.Works.{EachWorkFollows}
 
@@ -16,7 +16,8 @@ pub record DriveLaws (tells : Type 0) (job : Job) (rules : List Rule) : Type 0 w
       → WorksInOrder tells (run_of job rules b) (undivided_from (setup_of job) rules b)
   pub goes_on : CourseGoesOn (setup_of job) job.key rules
   pub follow : EachWorkFollows (setup_of job) job.key rules
-  pub rises : CourseRises (course_in job rules)
+  pub rises : CourseRises (setup_of job) (course_in job rules)
+  pub splits : CourseSplits (setup_of job) (course_in job rules)
   pub fits : CourseFits job rules
   pub pack : StatesPackAgain (setup_of job)
   pub can_begin : FittingCanBegin job

@@ -6,6 +6,7 @@ ghost use Rattle.cx_disk.specs.Disk.{IsNamed};
 ghost use Rattle.cx_disk.specs.Files.{count_with};
 ghost use Rattle.cx_chk.specs.Slots.{SlotsSettled};
 ghost use Rattle.cx_plan.specs.Setups.{setup_of};
+ghost use Rattle.cx_outputs.specs.Names.{HasShortNames, output_count, output_names};
 ghost use Rattle.cx_rule.specs.Jobs.{FitJob};
 ghost use Rattle.cx_rule.specs.Routine.{Rule};
 ghost use Rattle.cx_wire.specs.Messages.{Sent};
@@ -14,7 +15,7 @@ ghost use Rattle.cx_keep.specs.Beginning.{HasLengths};
 ghost use Rattle.cx_keep.specs.Fits.{fits_job};
 ghost use Rattle.cx_keep.specs.Keeping.{keeper_of};
 ghost use Rattle.cx_keep.specs.Trails.{Counts as AreCounted};
-ghost use Rattle.cx_core.specs.Starts.{AreEmpty, IsReady, begins_in, length_in};
+ghost use Rattle.cx_core.specs.Starts.{AreEmpty, IsReady, begins_in, lengths_first};
 ghost use Rattle.cx_core.specs.Steps.{Begins, Counts, counts};
 ghost use Rattle.cx_core.specs.declared.answers.Outcome.TheVariants as outcomes;
 ghost use Rattle.cx_run_loop.specs.Drives.{Drives, LendsScalars, driven_by};
@@ -37,8 +38,8 @@ use std::alloc::Global;
 /// Runs a job to its end, and answers the core as it is then: how the run has ended, and the scalars of its last state.
 ///
 /// The keeper begins on the disk, and the core from the checkpoint that it finds, or from the job's start. Then `turns` picks each
-/// time which of the events that can happen does, until the run is over. Each text is appended to the output as it comes, and each
-/// checkpoint is saved; the output is synced at the end.
+/// time which of the events that can happen does, until the run is over. Each text is appended to its variable's output as it
+/// comes, and each checkpoint is saved; the outputs are synced at the end.
 ///
 /// # Errors
 ///
@@ -54,13 +55,15 @@ pub fn drive<D: Disk, W: Wire, T: Turns>(
     meter: &mut Meter,
 ) -> Result<Core, DriveFault>
     requires ready { IsReady job.now }
+    requires short { HasShortNames (setup_of job.now) }
     requires routines { FitJob (map spec_of routines.now) job.now }
     requires parts { part_count (parts_of job.now.shape job.now.cut) ≤ W.parts wire.old }
     requires empty { AreEmpty (W.queue wire.old) }
     ensures drives { Drives (driven_by job.now (map rule routines.now) D.Disk W.Wire
         disk.old disk.new wire.old wire.new meter.old meter.new) result }
     ensures folders { OnOk result
-        (IsNamed job.now.out_dir [] job.now.chk_dir (D.folders disk.new)) }
+        (IsNamed job.now.out_dir (output_names (setup_of job.now)) job.now.chk_dir
+        (D.folders disk.new)) }
     ensures begun { T.begun turns.new ≡ T.begun turns.old }
     ensures scalars { IfOk result (LendsScalars job.now) }
 {
@@ -85,9 +88,12 @@ fn drive_from<D: Disk, W: Wire, T: Turns>(
     requires routines { FitJob (map spec_of routines.now) job.now }
     requires parts { part_count (parts_of job.now.shape job.now.cut) ≤ W.parts wire.old }
     requires mounted { IsTrue (D.mounted disk.old) }
-    requires files { D.file_count disk.old ≡ count_with 0 }
+    requires files { D.file_count disk.old ≡ count_with (output_count (setup_of job.now)) }
+    requires names { (D.folders disk.old).names ≡ output_names (setup_of job.now) }
+    requires short { HasShortNames (setup_of job.now) }
     requires empty { AreEmpty (W.queue wire.old) }
-    requires keeper { (keep ≡ keeper_of job.now found) × HasLengths found }
+    requires keeper { (keep ≡ keeper_of job.now found)
+        × HasLengths (output_count (setup_of job.now)) found }
     requires fits { IfSome found (λ c. fits_job job.now c ≡ true) }
     requires counts { D.tells → AreCounted keep.lengths (D.view disk.old) }
     requires slots { D.tells → SlotsSettled (D.view disk.old) }
@@ -111,13 +117,15 @@ fn drive_from<D: Disk, W: Wire, T: Turns>(
 fn start(alloc: Global, job: &Job, found: &Option<Checkpoint>) -> Result<Core, DriveFault>
     requires job { IsReady job.now }
     requires fits { IfSome found.now (λ c. fits_job job.now c ≡ true) }
+    requires lengths { HasLengths (output_count (setup_of job.now)) found.now }
     ensures begins { (told : Bool) (rules : List Rule) (queue : ℕ → ℕ → List (Sent (IsTrue told)))
         (first : Counts) → AreEmpty queue → (IsTrue told → first.sum < 2 ^ 64)
         → IfOk result (λ core. Begins (IsTrue told)
         (run_of job.now rules (begins_in (setup_of job.now) found.now)) first core queue) }
     ensures can { IsBeginning (setup_of job.now) (begins_in (setup_of job.now) found.now) }
     ensures key { IfOk result (λ core. core.buffers.state.key ≡ job.now.key) }
-    ensures length { IfOk result (λ core. core.length ≡ length_in found.now) }
+    ensures lengths { IfOk result
+        (λ core. core.lengths ≡ lengths_first (setup_of job.now) found.now) }
     ensures going { IfOk result (λ core. core.outcome ≡ outcomes.Going) }
     ensures stops { (m n : ℕ) → Stops
         (record { old = m; new = m }) (record { old = n; new = n }) result }
@@ -142,7 +150,9 @@ fn run_to_end<D: Disk, W: Wire, T: Turns>(
     requires routines { FitJob (map spec_of routines.now) job.now }
     requires parts { part_count (parts_of job.now.shape job.now.cut) ≤ W.parts wire.old }
     requires mounted { IsTrue (D.mounted disk.old) }
-    requires files { D.file_count disk.old ≡ count_with 0 }
+    requires files { D.file_count disk.old ≡ count_with (output_count (setup_of job.now)) }
+    requires names { (D.folders disk.old).names ≡ output_names (setup_of job.now) }
+    requires short { HasShortNames (setup_of job.now) }
     requires going { IsGoing (setting D.Disk W.Wire job.now (map rule routines.now)) keep
         (place_at D.Disk W.Wire core disk.old wire.old meter.old) }
     ensures ends { IfOk result (λ now. EndsAt
@@ -181,7 +191,9 @@ fn run<D: Disk, W: Wire, T: Turns>(
     requires routines { FitJob (map spec_of routines.now) job.now }
     requires parts { part_count (parts_of job.now.shape job.now.cut) ≤ W.parts wire.old }
     requires mounted { IsTrue (D.mounted disk.old) }
-    requires files { D.file_count disk.old ≡ count_with 0 }
+    requires files { D.file_count disk.old ≡ count_with (output_count (setup_of job.now)) }
+    requires names { (D.folders disk.old).names ≡ output_names (setup_of job.now) }
+    requires short { HasShortNames (setup_of job.now) }
     requires going { IsGoing (setting D.Disk W.Wire job.now (map rule routines.now)) keep.old
         (place_at D.Disk W.Wire core.old disk.old wire.old meter.old) }
     ensures moves { OnOk result (MovesOn (setting D.Disk W.Wire job.now (map rule routines.now))
@@ -194,7 +206,7 @@ fn run<D: Disk, W: Wire, T: Turns>(
         (setting D.Disk W.Wire job.now (map rule routines.now)) keep.new
         (place_at D.Disk W.Wire core.new disk.new wire.new meter.new)) }
     ensures mounted { IsTrue (D.mounted disk.new) }
-    ensures files { D.file_count disk.new ≡ count_with 0 }
+    ensures files { D.file_count disk.new ≡ count_with (output_count (setup_of job.now)) }
     ensures folders { D.folders disk.new ≡ D.folders disk.old }
     ensures begun { T.begun turns.new ≡ T.begun turns.old }
     ensures stops { Stops

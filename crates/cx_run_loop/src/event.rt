@@ -3,6 +3,7 @@ ghost use Rattle.std.specs.Prelude.{◌≡◌, ℕ, length, IsTrue, OnOk, IfOk};
 ghost use Rattle.cx_disk.specs.Files.{count_with};
 ghost use Rattle.cx_plan.specs.Lookups.{variable};
 ghost use Rattle.cx_plan.specs.Setups.{setup_of};
+ghost use Rattle.cx_outputs.specs.Names.{HasShortNames, output_count, output_names};
 ghost use Rattle.cx_plan.specs.Whole.{IsWhole, IsVariable};
 ghost use Rattle.cx_model.specs.States.{number_count};
 ghost use Rattle.cx_core.specs.Texts.{text_of_piece};
@@ -31,14 +32,16 @@ pub(crate) fn keep_event<D: Disk>(
     requires whole { IsWhole job.now }
     requires behind { IsBehind job.now D.tells keep.old core.now event (D.view disk.old) }
     requires mounted { IsTrue (D.mounted disk.old) }
-    requires files { D.file_count disk.old ≡ count_with 0 }
+    requires files { D.file_count disk.old ≡ count_with (output_count (setup_of job.now)) }
+    requires names { (D.folders disk.old).names ≡ output_names (setup_of job.now) }
+    requires short { HasShortNames (setup_of job.now) }
     ensures keeps { D.tells → OnOk result (KeepsEvent (setup_of job.now) core.now
         (D.view disk.old) (D.view disk.new) event) }
     ensures moments { D.tells → EventMoments (setup_of job.now) core.now
         (D.view disk.old) (D.view disk.new) event }
     ensures kept { OnOk result (IsKept job.now D.tells keep.new core.now (D.view disk.new)) }
     ensures mounted { IsTrue (D.mounted disk.new) }
-    ensures files { D.file_count disk.new ≡ count_with 0 }
+    ensures files { D.file_count disk.new ≡ count_with (output_count (setup_of job.now)) }
     ensures folders { D.folders disk.new ≡ D.folders disk.old }
     ensures stops { (n : ℕ) → Stops
         (record { old = D.faults disk.old; new = D.faults disk.new })
@@ -54,7 +57,7 @@ pub(crate) fn keep_event<D: Disk>(
     }
 }
 
-/// Appends the text that comes next to the output.
+/// Appends the text that comes next to its variable's output.
 fn keep_text<D: Disk>(
     alloc: Global,
     job: &Job,
@@ -68,21 +71,21 @@ fn keep_text<D: Disk>(
     requires behind { IsBehind job.now D.tells keep.old core.now
         (Event.Section var iteration) (D.view disk.old) }
     requires mounted { IsTrue (D.mounted disk.old) }
-    requires files { D.file_count disk.old ≡ count_with 0 }
+    requires files { D.file_count disk.old ≡ count_with (output_count (setup_of job.now)) }
     ensures keeps { D.tells → OnOk result (KeepsEvent (setup_of job.now) core.now
         (D.view disk.old) (D.view disk.new) (Event.Section var iteration)) }
     ensures moments { D.tells → EventMoments (setup_of job.now) core.now
         (D.view disk.old) (D.view disk.new) (Event.Section var iteration) }
     ensures kept { OnOk result (IsKept job.now D.tells keep.new core.now (D.view disk.new)) }
     ensures mounted { IsTrue (D.mounted disk.new) }
-    ensures files { D.file_count disk.new ≡ count_with 0 }
+    ensures files { D.file_count disk.new ≡ count_with (output_count (setup_of job.now)) }
     ensures folders { D.folders disk.new ≡ D.folders disk.old }
     ensures stops { (n : ℕ) → Stops
         (record { old = D.faults disk.old; new = D.faults disk.new })
         (record { old = n; new = n }) result }
 {
     let text = text_of(alloc, job, iteration, var, core.piece().as_slice())?;
-    Ok(keep.write_out(disk, text.as_slice())?)
+    Ok(keep.write_out(disk, var, text.as_slice())?)
 }
 
 /// Saves the checkpoint that comes next.
@@ -98,14 +101,16 @@ fn keep_state<D: Disk>(
     requires behind { IsBehind job.now D.tells keep.old core.now
         (Event.Save iteration) (D.view disk.old) }
     requires mounted { IsTrue (D.mounted disk.old) }
-    requires files { D.file_count disk.old ≡ count_with 0 }
+    requires files { D.file_count disk.old ≡ count_with (output_count (setup_of job.now)) }
+    requires names { (D.folders disk.old).names ≡ output_names (setup_of job.now) }
+    requires short { HasShortNames (setup_of job.now) }
     ensures keeps { D.tells → OnOk result (KeepsEvent (setup_of job.now) core.now
         (D.view disk.old) (D.view disk.new) (Event.Save iteration)) }
     ensures moments { D.tells → EventMoments (setup_of job.now) core.now
         (D.view disk.old) (D.view disk.new) (Event.Save iteration) }
     ensures kept { OnOk result (IsKept job.now D.tells keep.new core.now (D.view disk.new)) }
     ensures mounted { IsTrue (D.mounted disk.new) }
-    ensures files { D.file_count disk.new ≡ count_with 0 }
+    ensures files { D.file_count disk.new ≡ count_with (output_count (setup_of job.now)) }
     ensures folders { D.folders disk.new ≡ D.folders disk.old }
     ensures stops { (n : ℕ) → Stops
         (record { old = D.faults disk.old; new = D.faults disk.new })

@@ -12,7 +12,8 @@ use thiserror::Error;
 /// Why a run stopped before its end.
 #[derive(Debug, Drop, Error)]
 pub enum DriveFault {
-    /// The disk's files refuse the start: `NoCheckpoint`, `Damaged`, `OtherJob` or `OutputShort`. Nothing has changed.
+    /// The disk's files refuse the start: `NoCheckpoint`, `Damaged`, `OtherJob`, `OutputShort` or `OldTooLong`. Nothing has
+    /// changed.
     #[error(transparent)]
     Recovery(BeginFault),
     /// The disk failed.
@@ -40,6 +41,9 @@ impl From<BeginFault> for DriveFault {
             BeginFault::Damaged(slot) => DriveFault::Recovery(BeginFault::Damaged(slot)),
             BeginFault::OutputShort(length, recorded) => {
                 DriveFault::Recovery(BeginFault::OutputShort(length, recorded))
+            }
+            BeginFault::OldTooLong(length, most) => {
+                DriveFault::Recovery(BeginFault::OldTooLong(length, most))
             }
         }
     }

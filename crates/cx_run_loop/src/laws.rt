@@ -6,8 +6,8 @@ ghost use Rattle.cx_run_loop.specs.Laws.{DriveLaws};
 
 use cx_plan::Job;
 use law_course::{
-    course_fits, course_goes_on, course_rises, fitting_can_begin, states_pack_again, trails_begin,
-    works_follow,
+    course_fits, course_goes_on, course_rises, course_splits, fitting_can_begin, states_pack_again,
+    trails_begin, works_follow,
 };
 use law_reached::works_in_order;
 
@@ -20,6 +20,7 @@ pub(crate) fn drive_laws(job: &Job)
     course_goes_on(job);
     works_follow(job);
     course_rises(job);
+    course_splits(job);
     course_fits(job);
     states_pack_again(job);
     fitting_can_begin(job);

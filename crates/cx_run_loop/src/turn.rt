@@ -4,6 +4,7 @@ ghost use Rattle.cx_disk.specs.Files.{count_with};
 ghost use Rattle.cx_cut.specs.Cuts.{part_count};
 ghost use Rattle.cx_cut.specs.Faults.{parts_of};
 ghost use Rattle.cx_plan.specs.Setups.{setup_of};
+ghost use Rattle.cx_outputs.specs.Names.{HasShortNames, output_count, output_names};
 ghost use Rattle.cx_rule.specs.Jobs.{FitJob};
 ghost use Rattle.cx_core.specs.Left.{steps_left};
 ghost use Rattle.cx_core.specs.Starts.{IsReady};
@@ -40,7 +41,9 @@ pub(crate) fn turn<D: Disk, W: Wire, T: Turns>(
     requires routines { FitJob (map spec_of routines.now) job.now }
     requires parts { part_count (parts_of job.now.shape job.now.cut) ≤ W.parts wire.old }
     requires mounted { IsTrue (D.mounted disk.old) }
-    requires files { D.file_count disk.old ≡ count_with 0 }
+    requires files { D.file_count disk.old ≡ count_with (output_count (setup_of job.now)) }
+    requires names { (D.folders disk.old).names ≡ output_names (setup_of job.now) }
+    requires short { HasShortNames (setup_of job.now) }
     requires going { IsGoing (setting D.Disk W.Wire job.now (map rule routines.now)) keep.old
         (place_at D.Disk W.Wire core.old disk.old wire.old meter.old) }
     requires outcome { core.old.outcome ≡ outcomes.Going }
@@ -56,7 +59,7 @@ pub(crate) fn turn<D: Disk, W: Wire, T: Turns>(
         < steps_left (setup_of job.now) core.old.pace) }
     ensures parts { W.parts wire.new ≡ W.parts wire.old }
     ensures mounted { IsTrue (D.mounted disk.new) }
-    ensures files { D.file_count disk.new ≡ count_with 0 }
+    ensures files { D.file_count disk.new ≡ count_with (output_count (setup_of job.now)) }
     ensures folders { D.folders disk.new ≡ D.folders disk.old }
     ensures begun { T.begun turns.new ≡ T.begun turns.old }
     ensures stops { Stops

@@ -12,8 +12,8 @@ words_line [] = 10 ∷ []
 words_line (word ∷ []) = word ++ 10 ∷ []
 words_line (word ∷ next ∷ more) = word ++ 32 ∷ words_line (next ∷ more)
 
--- the line: the seed and the size, the numbers of points and of parts, the length of the output,
--- and how many cells live at the end
+-- the line: the seed and the size, the numbers of points and of parts, the length of the
+-- outputs, and how many cells live at the end
 abbrev pub summary : ℕ → ℕ → ℕ → ℤ → List ℕ
 summary seed size output live =
     words_line

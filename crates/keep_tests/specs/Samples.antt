@@ -1,7 +1,8 @@
--- The job of the tests: a scalar and a grid variable of two points, with checkpoints at iterations
--- 20 and 40.
-use Rattle.std.specs.Prelude.{◌∷◌, [], List, false, true, pos, negsuc, None, codes}
+-- The job of the tests: a grid variable of two points and a scalar, both of which are written or
+-- neither, with checkpoints at iterations 20 and 40.
+use Rattle.std.specs.Prelude.{◌∷◌, [], List, Bool, false, true, pos, negsuc, None, codes}
 use Rattle.cx_text.specs.declared.ctype.CType.TheVariants.{Int8, Byte}
+use Rattle.cx_plan.specs.declared.variable.VarId.{VarId}
 use Rattle.cx_plan.specs.declared.variable.VarInfo.{VarInfo}
 use Rattle.cx_plan.specs.declared.tree.Tree.{Tree, Seq}
 use Rattle.cx_plan.specs.declared.job.Recover.{Recover}
@@ -10,8 +11,8 @@ use Rattle.cx_chk.specs.declared.checkpoint.Checkpoint.{Checkpoint}
 
 abbrev pub sample_variables : List VarInfo
 sample_variables =
-    record { full = codes "phi"; ctype = Byte; scalar = false; levels = 1 }
-    ∷ record { full = codes "on"; ctype = Int8; scalar = true; levels = 1 } ∷ []
+    record { full = codes "wave::phi"; ctype = Byte; scalar = false; levels = 1 }
+    ∷ record { full = codes "wave::total"; ctype = Int8; scalar = true; levels = 1 } ∷ []
 
 abbrev pub nothing : Tree
 nothing = Seq []
@@ -20,8 +21,12 @@ abbrev pub no_bins : List Tree
 no_bins = nothing ∷ nothing ∷ nothing ∷ nothing ∷ nothing ∷ nothing ∷ nothing ∷ nothing ∷ nothing
     ∷ nothing ∷ nothing ∷ nothing ∷ nothing ∷ nothing ∷ nothing ∷ nothing ∷ nothing ∷ []
 
-abbrev pub sample : Recover → Job
-sample recover =
+abbrev pub written_variables : Bool → List VarId
+written_variables true = record { 0 = 0 } ∷ record { 0 = 1 } ∷ []
+written_variables false = []
+
+abbrev pub sample : Bool → Recover → Job
+sample written recover =
     record {
       shape = record {
         dims = 1;
@@ -41,7 +46,7 @@ sample recover =
       weight = None;
       weight_factor = 1;
       out_every = negsuc 0;
-      out_vars = [];
+      out_vars = written_variables written;
       chk_every = pos 20;
       keep = 1;
       on_end = false;
@@ -53,12 +58,14 @@ sample recover =
       starred = [];
     }
 
--- the checkpoint of iteration 20 of the tests, behind three bytes of output
+-- the checkpoint of iteration 20 of the tests, behind three bytes of one output and two of the other
 abbrev pub sample_checkpoint : Checkpoint
 sample_checkpoint = record {
+  version = 2;
   iteration = 20;
   key = codes "k\nv 5";
-  lengths = 3 ∷ [];
+  names = codes "wave::phi.asc" ∷ codes "wave::total.asc" ∷ [];
+  lengths = 3 ∷ 2 ∷ [];
   scalars = negsuc 0 ∷ [];
   levels = (pos 0 ∷ pos 1 ∷ []) ∷ [];
 }

@@ -1,15 +1,14 @@
 //! Starts over files whose bytes were worked out by hand.
 
-ghost use Rattle.std.specs.Prelude.{◌≡◌, IfOk};
-ghost use Rattle.cx_text.specs.declared.ctype.CType.{CType};
+ghost use Rattle.std.specs.Prelude.{◌≡◌, true, IfOk};
 ghost use Rattle.cx_plan.specs.Whole.{IsWhole};
-ghost use Rattle.keep_tests.specs.Samples.{sample, sample_variables, nothing, no_bins};
+ghost use Rattle.keep_tests.specs.Samples.{sample, sample_variables, written_variables, nothing, no_bins};
 
 use cx_chk::Checkpoint;
-use cx_disk::{MemoryDisk, OLD_OUTPUT, SLOTS};
+use cx_disk::{Disk, MemoryDisk, OLD_OUTPUT, SLOTS};
 use cx_grid::{Point, Shape};
 use cx_keep::{BeginFault, Keep};
-use cx_plan::{Cuts, Job, Recover, Schedule, Tree, VarInfo};
+use cx_plan::{Cuts, Job, Recover, Schedule, Tree, VarId, VarInfo};
 use cx_text::{CType, List, Text};
 use std::alloc::Global;
 use std::test::Fail;
@@ -19,19 +18,81 @@ pub(crate) const VALUES: &[u8] =
     b"\0\0\0\x01\xff\xff\xff\xff\xff\xff\xff\xff\0\0\0\x01\0\0\0\0\0\0\0\x02\0\0\0\0\0\0\0\0\0\0\0\0\0\0\0\x01";
 
 // The last byte is wanting.
-const CUT_OFF: &[u8] =
+pub(crate) const CUT_OFF: &[u8] =
     b"\0\0\0\x01\xff\xff\xff\xff\xff\xff\xff\xff\0\0\0\x01\0\0\0\0\0\0\0\x02\0\0\0\0\0\0\0\0\0\0\0\0\0\0\0";
 
 // No scalar.
-const NO_SCALAR: &[u8] = b"\0\0\0\0\0\0\0\x01\0\0\0\0\0\0\0\x02\0\0\0\0\0\0\0\0\0\0\0\0\0\0\0\x01";
+pub(crate) const NO_SCALAR: &[u8] =
+    b"\0\0\0\0\0\0\0\x01\0\0\0\0\0\0\0\x02\0\0\0\0\0\0\0\0\0\0\0\0\0\0\0\x01";
 
 // One level with 0 and 256, which a BYTE can't have.
-const TOO_GREAT: &[u8] =
+pub(crate) const TOO_GREAT: &[u8] =
     b"\0\0\0\x01\xff\xff\xff\xff\xff\xff\xff\xff\0\0\0\x01\0\0\0\0\0\0\0\x02\0\0\0\0\0\0\0\0\0\0\0\0\0\0\x01\0";
 
 // One level with one point.
-const ONE_POINT: &[u8] =
+pub(crate) const ONE_POINT: &[u8] =
     b"\0\0\0\x01\xff\xff\xff\xff\xff\xff\xff\xff\0\0\0\x01\0\0\0\0\0\0\0\x01\0\0\0\0\0\0\0\0";
+
+// What a slot of version 2 records: both outputs with 3 and 2 bytes, with 227 and 73, or no output.
+pub(crate) const BOTH: &[u8] =
+    b"\0\0\0\x02\0\0\0\x0dwave::phi.asc\0\0\0\0\0\0\0\x03\0\0\0\x0fwave::total.asc\0\0\0\0\0\0\0\x02";
+
+pub(crate) const WHOLE: &[u8] =
+    b"\0\0\0\x02\0\0\0\x0dwave::phi.asc\0\0\0\0\0\0\0\xe3\0\0\0\x0fwave::total.asc\0\0\0\0\0\0\0\x49";
+
+pub(crate) const NONE: &[u8] = b"\0\0\0\0";
+
+// One output alone, and one with another name.
+pub(crate) const ONE: &[u8] = b"\0\0\0\x01\0\0\0\x0dwave::phi.asc\0\0\0\0\0\0\0\x03";
+
+pub(crate) const OTHER: &[u8] =
+    b"\0\0\0\x02\0\0\0\x0dwave::phi.asc\0\0\0\0\0\0\0\x03\0\0\0\x0fwave::Total.asc\0\0\0\0\0\0\0\x02";
+
+// What a slot of version 1 records: an old output of 300 bytes, of none, of 3, of 300,000,000, or of one more than are split; and two.
+pub(crate) const OLD: &[u8] = b"\0\0\0\x01\0\0\0\0\0\0\x01\x2c";
+
+pub(crate) const OLD_EMPTY: &[u8] = b"\0\0\0\x01\0\0\0\0\0\0\0\0";
+
+pub(crate) const OLD_3: &[u8] = b"\0\0\0\x01\0\0\0\0\0\0\0\x03";
+
+pub(crate) const OLD_HUGE: &[u8] = b"\0\0\0\x01\0\0\0\0\x11\xe1\xa3\0";
+
+pub(crate) const OLD_TOO_LONG: &[u8] = b"\0\0\0\x01\0\0\0\0\x10\0\0\x01";
+
+pub(crate) const OLD_TWO: &[u8] = b"\0\0\0\x02\0\0\0\0\0\0\0\x03\0\0\0\0\0\0\0\x02";
+
+// An old output of 300 bytes and what it splits into, 227 and 73 bytes.
+pub(crate) const OLD_BYTES: &[u8] = b"# wave::phi iteration 0 size 40\n\
+    5 5 5 5 5 5 5 5 5 5 5 5 5 5 5 5 5 5 5 5 5 5 5 5 5 5 5 5 5 5 5 5 5 5 5 5 5 5 5 5\n\
+    \n\
+    # wave::total iteration 0 value 200\n\
+    # wave::phi iteration 20 size 40\n\
+    5 5 5 5 5 5 5 5 5 5 5 5 5 5 5 5 5 5 5 5 5 5 5 5 5 5 5 5 5 5 5 5 5 5 5 5 5 5 5 5\n\
+    \n\
+    # wave::total iteration 20 value 200\n";
+
+pub(crate) const PHI: &[u8] = b"# wave::phi iteration 0 size 40\n\
+    5 5 5 5 5 5 5 5 5 5 5 5 5 5 5 5 5 5 5 5 5 5 5 5 5 5 5 5 5 5 5 5 5 5 5 5 5 5 5 5\n\
+    \n\
+    # wave::phi iteration 20 size 40\n\
+    5 5 5 5 5 5 5 5 5 5 5 5 5 5 5 5 5 5 5 5 5 5 5 5 5 5 5 5 5 5 5 5 5 5 5 5 5 5 5 5\n\
+    \n";
+
+pub(crate) const TOTAL: &[u8] = b"# wave::total iteration 0 value 200\n\
+    # wave::total iteration 20 value 200\n";
+
+// The same, of which a record has another name.
+pub(crate) const STRANGE: &[u8] = b"# wave::phi iteration 0 size 40\n\
+    5 5 5 5 5 5 5 5 5 5 5 5 5 5 5 5 5 5 5 5 5 5 5 5 5 5 5 5 5 5 5 5 5 5 5 5 5 5 5 5\n\
+    \n\
+    # wave::total iteration 0 value 200\n\
+    # wave::phi iteration 20 size 40\n\
+    5 5 5 5 5 5 5 5 5 5 5 5 5 5 5 5 5 5 5 5 5 5 5 5 5 5 5 5 5 5 5 5 5 5 5 5 5 5 5 5\n\
+    \n\
+    # wave::other iteration 20 value 200\n";
+
+/// A slot of a test: its number, its version, its iteration, the last byte of its key, what it records, and its values.
+pub(crate) type Slot = (usize, u8, u8, u8, &'static [u8], &'static [u8]);
 
 pub(crate) fn text(alloc: Global, bytes: &[u8]) -> Result<Text, Fail>
     ensures { IfOk result (λ text. text ≡ bytes.now) }
@@ -43,18 +104,28 @@ fn variables(alloc: Global) -> Result<List<VarInfo>, Fail>
     ensures { IfOk result (λ vars. vars ≡ sample_variables) }
 {
     let phi = VarInfo {
-        full: text(alloc, b"phi")?,
+        full: text(alloc, b"wave::phi")?,
         ctype: CType::Byte,
         scalar: false,
         levels: 1,
     };
-    let on = VarInfo {
-        full: text(alloc, b"on")?,
+    let total = VarInfo {
+        full: text(alloc, b"wave::total")?,
         ctype: CType::Int8,
         scalar: true,
         levels: 1,
     };
-    Ok(List::new(Vec::from_array(alloc, [phi, on])?))
+    Ok(List::new(Vec::from_array(alloc, [phi, total])?))
+}
+
+fn written(alloc: Global, written: bool) -> Result<List<VarId>, Fail>
+    ensures { IfOk result (λ vars. vars ≡ written_variables written) }
+{
+    if written {
+        Ok(List::new(Vec::from_array(alloc, [VarId(0), VarId(1)])?))
+    } else {
+        Ok(List::empty(alloc))
+    }
 }
 
 fn nothing(alloc: Global) -> Tree
@@ -89,7 +160,7 @@ fn bins(alloc: Global) -> Result<List<Tree>, Fail>
 }
 
 fn line(recover: Recover) -> Shape
-    ensures { result ≡ (sample recover).shape }
+    ensures { result ≡ (sample true recover).shape }
 {
     Shape {
         dims: 1,
@@ -99,9 +170,9 @@ fn line(recover: Recover) -> Shape
     }
 }
 
-/// A job of two variables, with checkpoints at iterations 20 and 40.
-pub(crate) fn job(alloc: Global, recover: Recover) -> Result<Job, Fail>
-    ensures { IfOk result (λ job. job ≡ sample recover) }
+/// A job of two variables, both of which are written or neither, with checkpoints at iterations 20 and 40.
+pub(crate) fn job(alloc: Global, outputs: bool, recover: Recover) -> Result<Job, Fail>
+    ensures { IfOk result (λ job. job ≡ sample outputs recover) }
 {
     Ok(Job {
         shape: line(recover),
@@ -121,7 +192,7 @@ pub(crate) fn job(alloc: Global, recover: Recover) -> Result<Job, Fail>
         weight: None,
         weight_factor: 1,
         out_every: -1,
-        out_vars: List::empty(alloc),
+        out_vars: written(alloc, outputs)?,
         chk_every: 20,
         keep: 1,
         on_end: false,
@@ -134,26 +205,40 @@ pub(crate) fn job(alloc: Global, recover: Recover) -> Result<Job, Fail>
     })
 }
 
-/// A slot with a key of two lines that ends with this byte, the output's length 3, and these values.
-pub(crate) fn slot(alloc: Global, iteration: u8, last: u8, values: &[u8]) -> Result<Vec<u8>, Fail> {
+/// The bytes of an open slot.
+pub(crate) fn slot_bytes(alloc: Global, slot: &Slot) -> Result<Text, Fail> {
+    let (_, version, iteration, last, outputs, values) = slot;
     let mut bytes = Vec::new(alloc);
-    bytes.extend_from_slice(b"\x01CXCHKPT\x01\0\0\0\0\0\0\0")?;
-    bytes.push(iteration)?;
+    bytes.extend_from_slice(b"\x01CXCHKPT")?;
+    bytes.push(*version)?;
+    bytes.extend_from_slice(b"\0\0\0\0\0\0\0")?;
+    bytes.push(*iteration)?;
     bytes.extend_from_slice(b"\0\0\0\x05k\nv ")?;
-    bytes.push(last)?;
-    bytes.extend_from_slice(b"\0\0\0\x01\0\0\0\0\0\0\0\x03")?;
+    bytes.push(*last)?;
+    bytes.extend_from_slice(outputs)?;
     bytes.extend_from_slice(values)?;
-    Ok(bytes)
+    Ok(Text::new(bytes))
 }
 
-/// A disk with this slot 0 and this output.
-pub(crate) fn disk(alloc: Global, slot: Vec<u8>, output: &[u8]) -> Result<MemoryDisk, Fail> {
-    let mut files = List::empty(alloc);
-    files.push(Text::new(slot))?;
-    for _ in 1..SLOTS {
-        files.push(text(alloc, b"")?)?;
+/// The bytes of the slot with this number, which may be empty.
+fn slot_at(alloc: Global, slots: &[Slot], number: usize) -> Result<Text, Fail> {
+    for slot in slots {
+        if slot.0 == number {
+            return slot_bytes(alloc, slot);
+        }
     }
-    files.push(text(alloc, output)?)?;
+    text(alloc, b"")
+}
+
+/// A disk with these slots, and these bytes of the old output and of both outputs.
+pub(crate) fn disk(alloc: Global, slots: &[Slot], outputs: &[&[u8]]) -> Result<MemoryDisk, Fail> {
+    let mut files = List::empty(alloc);
+    for number in 0..SLOTS {
+        files.push(slot_at(alloc, slots, number as usize)?)?;
+    }
+    for bytes in outputs {
+        files.push(text(alloc, bytes)?)?;
+    }
     Ok(MemoryDisk::new(alloc, files))
 }
 
@@ -171,23 +256,27 @@ fn fault_words(alloc: Global, fault: &BeginFault) -> Result<String, Fail> {
         BeginFault::OutputShort(length, recorded) => {
             Ok(format!(in alloc; "OutputShort {length} {recorded}")?)
         }
+        BeginFault::OldTooLong(length, greatest) => {
+            Ok(format!(in alloc; "OldTooLong {length} {greatest}")?)
+        }
         BeginFault::Memory => Ok(format!(in alloc; "Memory")?),
     }
 }
 
-/// The iteration that a run goes on from.
+/// The iteration that a run goes on from, and how many bytes each output has there.
 fn found_words(alloc: Global, found: &Option<Checkpoint>) -> Result<String, Fail> {
-    match found {
-        Some(found) => {
-            let iteration = found.iteration;
-            Ok(format!(in alloc; "from {iteration}")?)
-        }
-        None => Ok(format!(in alloc; "afresh")?),
-    }
+    let Some(found) = found else {
+        return Ok(format!(in alloc; "afresh")?);
+    };
+    let version = found.version;
+    let iteration = found.iteration;
+    let names = found.names.len();
+    let lengths = found.lengths.as_slice();
+    Ok(format!(in alloc; "from {iteration}, version {version}, {names} names, {lengths:?}")?)
 }
 
 /// What a start comes to: where the run goes on, or what its fault says.
-fn begin_words(alloc: Global, disk: &mut MemoryDisk, job: &Job) -> Result<String, Fail>
+pub(crate) fn begin_words<D: Disk>(alloc: Global, disk: &mut D, job: &Job) -> Result<String, Fail>
     requires { IsWhole job.now }
 {
     match Keep::begin(alloc, disk, job) {
@@ -196,68 +285,34 @@ fn begin_words(alloc: Global, disk: &mut MemoryDisk, job: &Job) -> Result<String
     }
 }
 
-/// The same with the output behind it.
+/// Whether the old output and the outputs behind it have these bytes.
+pub(crate) fn has_outputs(disk: &MemoryDisk, outputs: &[&[u8]]) -> bool {
+    let mut file = OLD_OUTPUT as usize;
+    for bytes in outputs {
+        if disk.bytes(file) != *bytes {
+            return false;
+        }
+        file = file.saturating_add(1);
+    }
+    true
+}
+
+/// The gates of slots 0 and 1, as far as they have bytes.
+fn gates(disk: &MemoryDisk) -> (u8, u8) {
+    let first = disk.bytes(0).first();
+    let second = disk.bytes(1).first();
+    (first.copied().unwrap_or(9), second.copied().unwrap_or(9))
+}
+
+/// What a start comes to, with the gates behind it.
 pub(crate) fn start_words(
     alloc: Global,
-    mut disk: MemoryDisk,
+    disk: &mut MemoryDisk,
+    outputs: bool,
     recover: Recover,
 ) -> Result<String, Fail> {
-    let job = job(alloc, recover)?;
-    let words = begin_words(alloc, &mut disk, &job)?;
-    let output = str::from_utf8(disk.bytes(OLD_OUTPUT as usize))?;
-    Ok(format!(in alloc; "{words}: {output}")?)
-}
-
-#[test]
-fn a_start_without_a_slot(rt: HostRuntime) -> Result<(), Fail> {
-    let alloc = rt.alloc();
-    for (recover, words) in [
-        (Recover::Auto, "NoCheckpoint: old"),
-        (Recover::Autoprobe, "afresh: "),
-        (Recover::No, "afresh: "),
-    ] {
-        let disk = disk(alloc, Vec::new(alloc), b"old")?;
-        let shown = start_words(alloc, disk, recover)?;
-        assert_eq!(rt; shown.as_str(), words, "{recover:?}");
-    }
-    Ok(())
-}
-
-#[test]
-fn a_start_with_a_slot(rt: HostRuntime) -> Result<(), Fail> {
-    let alloc = rt.alloc();
-    for (recover, words) in [
-        (Recover::Auto, "from 20: abc"),
-        (Recover::Autoprobe, "from 20: abc"),
-        (Recover::No, "afresh: "),
-    ] {
-        let disk = disk(alloc, slot(alloc, 20, b'5', VALUES)?, b"abcde")?;
-        let shown = start_words(alloc, disk, recover)?;
-        assert_eq!(rt; shown.as_str(), words, "{recover:?}");
-    }
-    Ok(())
-}
-
-const REFUSED: &[(u8, u8, &[u8], &[u8], &str)] = &[
-    (20, b'5', CUT_OFF, b"abc", "Damaged 0: abc"),
-    (20, b'6', VALUES, b"abc", "OtherJob v 6, v 5: abc"),
-    (21, b'6', NO_SCALAR, b"ab", "OtherJob v 6, v 5: ab"),
-    (21, b'5', VALUES, b"abc", "Damaged 0: abc"),
-    (60, b'5', VALUES, b"abc", "Damaged 0: abc"),
-    (20, b'5', NO_SCALAR, b"abc", "Damaged 0: abc"),
-    (20, b'5', ONE_POINT, b"abc", "Damaged 0: abc"),
-    (20, b'5', TOO_GREAT, b"ab", "Damaged 0: ab"),
-    (20, b'5', VALUES, b"ab", "OutputShort 2 3: ab"),
-];
-
-#[test]
-fn a_start_that_is_refused(rt: HostRuntime) -> Result<(), Fail> {
-    let alloc = rt.alloc();
-    for (iteration, last, values, output, words) in REFUSED {
-        let slot = slot(alloc, *iteration, *last, values)?;
-        let disk = disk(alloc, slot, output)?;
-        let shown = start_words(alloc, disk, Recover::Auto)?;
-        assert_eq!(rt; shown.as_str(), *words, "wanted: {words}");
-    }
-    Ok(())
+    let job = job(alloc, outputs, recover)?;
+    let words = begin_words(alloc, disk, &job)?;
+    let (first, second) = gates(disk);
+    Ok(format!(in alloc; "{words}, gates {first} {second}")?)
 }

@@ -1,23 +1,26 @@
 -- The run from a checkpoint of the course, or from the start, is what is left of the undivided run.
-use Rattle.std.proofs.Common.{◌≡◌, ℕ, ◌<◌, ◌≤◌, refl, sym, ap, ◌∙◌, subst, Bool, true, false, ◌==◌, List, [], ◌∷◌, ◌++◌, length, length-append, take, append_assoc, append-nil, Option, Some, None, if◌then◌else◌, lt_trans, arith}
-use Rattle.std.proofs.lemmas.List.{take_at}
+use Rattle.std.proofs.Common.{◌≡◌, ℕ, ◌<◌, ◌≤◌, refl, sym, ap, ◌∙◌, subst, Bool, true, false, ◌==◌, List, [], ◌∷◌, ◌++◌, length, take, append_assoc, Option, Some, None, if◌then◌else◌, lt_trans, arith}
+use Rattle.std.specs.Prelude.{slice_index}
 use Rattle.std.proofs.lemmas.Bool.{eq-eqb, ne_eqb}
+use Rattle.cx_plan.specs.declared.variable.VarId.{VarId}
 use Rattle.cx_plan.specs.Setups.{Setup}
 use Rattle.cx_rule.specs.Routine.{Rule}
 use Rattle.cx_rule.specs.States.{State}
 use Rattle.cx_model.specs.Traces.{Entry, Turned, Overflowed, Exchanged, Tested, Rotated, Wrote, Saved, Trace}
-use Rattle.cx_model.specs.Runs.{output, output_of, undivided_run, continued_run, Reaches}
+use Rattle.cx_model.specs.Runs.{Lengths, no_lengths, lengths_behind, output, output_of, undivided_run, continued_run, Reaches}
 use Rattle.cx_model.specs.Checkpoints.{Continues}
 use Rattle.cx_model.specs.Values.{KeepsStates}
+use Rattle.cx_model.proofs.SaveLaws.{output-both, lengths-both}
+use Rattle.cx_model.proofs.WalkLaws.{Each}
 use Rattle.law_parts.specs.Beginnings.{IsBeginning}
 use Rattle.cx_chk.specs.declared.checkpoint.Checkpoint.{Checkpoint}
+use Rattle.cx_outputs.specs.Names.{lengths_in, lengths_by}
 use Rattle.cx_keep.specs.Beginning.{length_left, newest_left}
-use Rattle.cx_keep.specs.Trails.{Has, length_in}
 use Rattle.cx_core_buffers.specs.Checkpoints.{state_of}
-use Rattle.cx_model.proofs.SaveLaws.{output-both}
-use Rattle.law_course.specs.Courses.{course_of, IsPlace}
-use Rattle.law_course.specs.Beginnings.{beginning_of, run_from, behind_place, entries_from, IsFound, GoesOn, CourseGoesOn}
+use Rattle.law_course.specs.Courses.{IsPlace}
+use Rattle.law_course.specs.Beginnings.{lengths_found, beginning_of, run_from, behind_place, entries_from, IsFound, GoesOn, CourseGoesOn}
 use Rattle.law_course.specs.Works.{newest_after}
+use Rattle.law_course.proofs.OutputLaws.{WritesTo, run_writes, each_front, first_behind, lengths_again, var_at, length_at, front_at, front_within}
 use Rattle.law_course.proofs.PlaceLaws.{Rises, run_rises, has_places}
 use Rattle.law_course.proofs.StateLaws.{states_unpack, due_within}
 
@@ -75,7 +78,9 @@ behind_is (Rotated t ∷ es) b c s rest r = behind_is es b c s rest r
 pub record Behind (setup : Setup) (rules : List Rule) (found : Option Checkpoint) : Type 0 where
   pub earlier : List Entry
   pub all : (undivided_run setup rules).entries ≡ earlier ++ (run_from setup rules found).entries
-  pub length : length_left found 0 ≡ length (output_of earlier)
+  pub lengths : lengths_found setup found ≡ lengths_behind no_lengths earlier
+  pub left : (j : ℕ) → j < length setup.out_vars
+      → length_left found j ≡ lengths_found setup found (var_at setup.out_vars j).0
   pub outcome : (run_from setup rules found).outcome ≡ (undivided_run setup rules).outcome
   pub newest : newest_after None earlier ≡ newest_left found
   pub begins : IsBeginning setup (beginning_of setup found)
@@ -83,29 +88,48 @@ pub record Behind (setup : Setup) (rules : List Rule) (found : Option Checkpoint
 
 module _ (setup : Setup) (key : List ℕ) (rules : List Rule) (laws : Continues setup rules)
     (keeps : KeepsStates setup rules) where
-  -- the place of a checkpoint of the course, in the state that it holds
-  found_place : (c : Checkpoint) → Has (course_of setup key rules).checkpoints c
-      → Reaches setup rules c.iteration (state_of setup.vars c) (length_in c 0)
-  found_place c h =
-      let p : IsPlace setup key rules c = (has_places setup rules laws key).places c h in
+  -- the lengths at the place of a checkpoint of the course
+  found_lengths : (c : Checkpoint) (p : IsPlace setup key rules c)
+      → lengths_found setup (Some c) ≡ p.so_far
+  found_lengths c p =
+      ap (λ (d : Checkpoint). lengths_by setup.out_vars d.lengths) p.packed
+      ∙ ap (λ (n : Lengths). lengths_by setup.out_vars (lengths_in setup.out_vars n))
+      p.reached.lengths_there
+      ∙ lengths_again setup.out_vars p.reached.earlier
+      (each_front (WritesTo setup.out_vars) p.reached.earlier
+      (Saved c.iteration p.state ∷ p.reached.later)
+      (subst (Each (WritesTo setup.out_vars)) p.reached.there (run_writes setup rules)))
+      ∙ sym p.reached.lengths_there
+
+  -- the place, in the state that it holds, with its lengths
+  found_place : (c : Checkpoint) → IsPlace setup key rules c
+      → Reaches setup rules c.iteration (state_of setup.vars c) (lengths_found setup (Some c))
+  found_place c p =
       let is : state_of setup.vars c ≡ p.state =
       ap (state_of setup.vars) p.packed
-      ∙ (states_unpack setup key c.iteration p.state (length_in c 0)
-      (keeps.reached c.iteration p.state (length_in c 0) p.reached)).state_is in
-      subst (λ (s : State). Reaches setup rules c.iteration s (length_in c 0)) (sym is) p.reached
+      ∙ (states_unpack setup key c.iteration p.state p.so_far
+      (keeps.reached c.iteration p.state p.so_far p.reached)).state_is in
+      subst (λ (s : State). Reaches setup rules c.iteration s (lengths_found setup (Some c)))
+      (sym is)
+      (subst (λ (n : Lengths). Reaches setup rules c.iteration p.state n)
+      (sym (found_lengths c p)) p.reached)
 
-  no_text : (a : List Entry) (i : ℕ) (s : State) (n : ℕ) → n ≡ length (output_of a)
-      → n ≡ length (output_of (a ++ Saved i s ∷ []))
-  no_text a i s n e = e ∙ ap length
-      (sym (output-both a (Saved i s ∷ []) ∙ append-nil (output_of a)))
+  found_left : (c : Checkpoint) → IsPlace setup key rules c → (j : ℕ) → j < length setup.out_vars
+      → length_left (Some c) j ≡ lengths_found setup (Some c) (var_at setup.out_vars j).0
+  found_left c p j lt =
+      ap (λ (d : Checkpoint). slice_index d.lengths j) p.packed
+      ∙ length_at setup.out_vars p.so_far j lt
+      ∙ ap (λ (n : Lengths). n (var_at setup.out_vars j).0) (sym (found_lengths c p))
 
   behind_found : (c : Checkpoint)
-      → Reaches setup rules c.iteration (state_of setup.vars c) (length_in c 0)
+      → Reaches setup rules c.iteration (state_of setup.vars c) (lengths_found setup (Some c))
+      → ((j : ℕ) → j < length setup.out_vars
+      → length_left (Some c) j ≡ lengths_found setup (Some c) (var_at setup.out_vars j).0)
       → Behind setup rules (Some c)
-  behind_found c r =
+  behind_found c r left =
       let i = c.iteration in
       let s = state_of setup.vars c in
-      let n = length_in c 0 in
+      let n : Lengths = lengths_found setup (Some c) in
       let run = laws.run i s n r in
       let there : (undivided_run setup rules).entries
       ≡ r.earlier ++ Saved i s ∷ (continued_run setup rules i s n).entries =
@@ -114,7 +138,8 @@ module _ (setup : Setup) (key : List ℕ) (rules : List Rule) (laws : Continues 
       record {
         earlier = r.earlier ++ Saved i s ∷ [];
         all = ap (λ (t : Trace). t.entries) run;
-        length = no_text r.earlier i s n r.length_there;
+        lengths = r.lengths_there ∙ sym (lengths-both r.earlier (Saved i s ∷ []) no_lengths);
+        left = left;
         outcome = sym (ap (λ (t : Trace). t.outcome) run);
         newest = newest_both None r.earlier (Saved i s ∷ []);
         begins = (due_within setup i (laws.due i s n r), keeps.reached i s n r);
@@ -129,43 +154,56 @@ module _ (setup : Setup) (key : List ℕ) (rules : List Rule) (laws : Continues 
       record {
         earlier = [];
         all = refl;
-        length = refl;
+        lengths = refl;
+        left = λ j lt. refl;
         outcome = refl;
         newest = refl;
         begins = tt;
         entries = refl;
       }
-  behind (Some c) is = behind_found c (found_place c is)
+  behind (Some c) is =
+      let p : IsPlace setup key rules c = (has_places setup rules laws key).places c is in
+      behind_found c (found_place c p) (found_left c p)
 
--- ---- the output
-
-front_is : (all a b : List ℕ) (n : ℕ) → all ≡ a ++ b → n ≡ length a → take n all ≡ a
-front_is all a b n e l = ap (take n) e ∙ take_at a b n (sym l)
-
-front_within : (all a b : List ℕ) (n : ℕ) → all ≡ a ++ b → n ≡ length a → n ≤ length all
-front_within all a b n e l = let f = ap length e ∙ length-append a b in omega (arith, f, l)
+-- ---- the outputs
 
 module _ (setup : Setup) (rules : List Rule) (found : Option Checkpoint)
-    (b : Behind setup rules found) where
-  split : output setup rules ≡ output_of b.earlier ++ output_of (run_from setup rules found).entries
-  split = ap output_of b.all ∙ output-both b.earlier (run_from setup rules found).entries
+    (b : Behind setup rules found) (v : VarId) where
+  split : output setup rules v
+      ≡ output_of v b.earlier ++ output_of v (run_from setup rules found).entries
+  split = ap (output_of v) b.all ∙ output-both v b.earlier (run_from setup rules found).entries
 
-  pub front_earlier : take (length_left found 0) (output setup rules) ≡ output_of b.earlier
-  front_earlier = front_is (output setup rules) (output_of b.earlier)
-      (output_of (run_from setup rules found).entries) (length_left found 0) split b.length
+  pub length_earlier : lengths_found setup found v.0 ≡ length (output_of v b.earlier)
+  length_earlier = ap (λ (n : Lengths). n v.0) b.lengths ∙ first_behind b.earlier v
 
-  pub goes_on : GoesOn setup rules found
-  goes_on =
-      record {
-        begins = b.begins;
-        entries = b.entries;
-        outcome = b.outcome;
-        within = front_within (output setup rules) (output_of b.earlier)
-            (output_of (run_from setup rules found).entries) (length_left found 0) split b.length;
-        output =
-            split ∙ ap (λ (front : List ℕ). front ++ output_of (run_from setup rules found).entries)
-            (sym front_earlier);
-      }
+  pub front_earlier : take (lengths_found setup found v.0) (output setup rules v)
+      ≡ output_of v b.earlier
+  front_earlier =
+      ap (λ (n : ℕ). take n (output setup rules v)) length_earlier
+      ∙ ap (λ (es : List Entry). take (length (output_of v b.earlier)) (output_of v es)) b.all
+      ∙ front_at v b.earlier (run_from setup rules found).entries
+
+  pub within_output : lengths_found setup found v.0 ≤ length (output setup rules v)
+  within_output =
+      let e = length_earlier in
+      let all : length (output setup rules v)
+      ≡ length (output_of v (b.earlier ++ (run_from setup rules found).entries)) =
+      ap (λ (es : List Entry). length (output_of v es)) b.all in
+      let le = front_within v b.earlier (run_from setup rules found).entries in
+      omega (arith, e, all, le)
+
+pub goes_on : (setup : Setup) (rules : List Rule) (found : Option Checkpoint)
+    → Behind setup rules found → GoesOn setup rules found
+goes_on setup rules found b =
+    record {
+      begins = b.begins;
+      entries = b.entries;
+      outcome = b.outcome;
+      within = within_output setup rules found b;
+      output = λ v. split setup rules found b v
+          ∙ ap (λ (front : List ℕ). front ++ output_of v (run_from setup rules found).entries)
+          (sym (front_earlier setup rules found b v));
+    }
 
 pub course_goes_on : (setup : Setup) (key : List ℕ) (rules : List Rule) → Continues setup rules
     → KeepsStates setup rules → CourseGoesOn setup key rules

@@ -1,16 +1,18 @@
 -- Each checkpoint of a run's course fits the job, and has a spelling.
-use Rattle.std.proofs.Common.{◌≡◌, ◌∙◌, sym, subst, refl, ℕ, zero, suc, ◌+◌, ◌-◌, ◌*◌, ◌<◌, ◌≤◌, ◌^◌, Bool, true, false, ◌&&◌, ◌==◌, ℤ, pos, negsuc, int_le, List, [], ◌∷◌, ◌++◌, length, get_or, replicate, All, if◌then◌else◌, lt_of_le_of_lt, arith, true≢false, leb-true, eqb-true, SFits, w64}
+use Rattle.std.proofs.Common.{◌≡◌, ◌∙◌, sym, ap, subst, refl, ℕ, zero, suc, ◌+◌, ◌-◌, ◌*◌, ◌<◌, ◌≤◌, ◌^◌, Bool, true, false, ◌&&◌, ◌==◌, ℤ, pos, negsuc, int_le, List, [], ◌∷◌, ◌++◌, map, length, get_or, replicate, inr, codes, bytes_eq, All, if◌then◌else◌, lt_of_le_of_lt, arith, true≢false, leb-true, eqb-true, SFits, w64}
 use Rattle.std.specs.List.{list_all, AllByRecursion}
 use Rattle.std.proofs.lemmas.Bool.{eq-eqb}
+use Rattle.std.proofs.lemmas.Slice.Eq.{bytes_eq-Decides}
 use Rattle.std.proofs.lemmas.List.Elements.{All-head, All-tail}
 use Rattle.cx_text.specs.declared.ctype.CType.{CType}
 use Rattle.cx_text.specs.declared.ctype.CType.TheVariants.{Char, Byte, Int, Int2, Int4, Int8, Real, Complex}
 use Rattle.cx_grid.specs.Boxes.{point_count}
 use Rattle.cx_grid.specs.Grid.{whole}
 use Rattle.cx_plan.specs.declared.job.Job.{Job}
+use Rattle.cx_plan.specs.declared.variable.VarId.{VarId}
 use Rattle.cx_plan.specs.declared.variable.VarInfo.{VarInfo}
 use Rattle.cx_plan.specs.Dues.{is_due}
-use Rattle.cx_plan.specs.Lookups.{no_variable}
+use Rattle.cx_plan.specs.Lookups.{variable, no_variable}
 use Rattle.cx_plan.specs.Setups.{Setup, setup_of}
 use Rattle.cx_plan.specs.Types.{least, greatest}
 use Rattle.cx_plan.specs.Whole.{IsWhole, scalar_count, level_count}
@@ -18,14 +20,15 @@ use Rattle.cx_rule.specs.Routine.{Rule}
 use Rattle.cx_rule.specs.States.{State}
 use Rattle.cx_rule.specs.Sweeps.{fits}
 use Rattle.cx_model.specs.Checkpoints.{Continues}
-use Rattle.cx_model.specs.Runs.{greatest_output}
+use Rattle.cx_model.specs.Runs.{Lengths, greatest_output}
 use Rattle.cx_model.specs.Values.{KeepsStates}
 use Rattle.cx_chk.specs.declared.checkpoint.Checkpoint.{Checkpoint}
-use Rattle.cx_chk.specs.Encoding.{IsLevel}
-use Rattle.cx_keep.specs.Fits.{scalars_fit, levels_fit, variables_by, each_fits, holds_value, holds_level}
-use Rattle.cx_keep.specs.Trails.{length_in}
+use Rattle.cx_chk.specs.Encoding.{IsLevel, IsWord}
+use Rattle.cx_outputs.specs.Names.{output_names, lengths_in}
+use Rattle.cx_keep.specs.Fits.{scalars_fit, levels_fit, variables_by, each_fits, holds_value, holds_level, same_texts}
 use Rattle.cx_core_buffers.specs.Checkpoints.{total, scalars_in, levels_in}
 use Rattle.law_course.specs.Courses.{checkpoint_of, IsPlace, FitsJob, CourseFits}
+use Rattle.law_course.proofs.OutputLaws.{IsAmong, count_in, rise_from, few_among, among_all}
 use Rattle.law_course.proofs.PlaceLaws.{has_places}
 use Rattle.law_course.proofs.StateLaws.{AreStored, is_stored, due_within, fits_each, joined, AreSingles, singles_of, joined_count, scalars_count, levels_count, both_true}
 use Rattle.law_course.proofs.TypeLaws.{IsTypedLevel, AreTypedLevels, reached_typed}
@@ -231,38 +234,71 @@ turns_few i most h l = omega (arith, h, l)
 output_few : (n : ℕ) → n ≤ greatest_output → n < 2 ^ 64
 output_few n h = omega (arith, h)
 
+-- ---- the outputs
+
+texts_same : (ts : List (List ℕ)) → same_texts ts ts ≡ true
+texts_same [] = refl
+texts_same (t ∷ ts) =
+    and_true (bytes_eq t t) (same_texts ts ts) ((bytes_eq-Decides t t).1 refl) (texts_same ts)
+
+words_few : (vs : List VarId) (so_far : Lengths) → ((v : ℕ) → so_far v ≤ greatest_output)
+    → AllByRecursion IsWord (lengths_in vs so_far)
+words_few [] so_far small = tt
+words_few (v ∷ vs) so_far small = (output_few (so_far v.0) (small v.0), words_few vs so_far small)
+
+count_named : (setup : Setup) (vs : List VarId) (so_far : Lengths)
+    → length (map (λ (v : VarId). (variable setup v).full ++ codes ".asc") vs)
+    ≡ length (lengths_in vs so_far)
+count_named setup [] so_far = refl
+count_named setup (v ∷ vs) so_far = ap suc (count_named setup vs so_far)
+
+pub stored_outputs : (job : Job) → IsWhole job → (v : VarId) → IsAmong job.out_vars v
+    → v.0 < length job.vars
+stored_outputs job job_is v there =
+    among_all (λ (n : ℕ). n < length job.vars) job.out_vars
+    (λ k d within. (job_is.outputs k d within).0) v there
+
+few_outputs : (job : Job) → IsWhole job → (so_far : Lengths)
+    → length (lengths_in job.out_vars so_far) < 2 ^ 32
+few_outputs job job_is so_far =
+    let few = few_among (length job.vars) job.out_vars
+    (rise_from job.out_vars job_is.outputs_rise) (stored_outputs job job_is) in
+    let many = count_in job.out_vars so_far in
+    let limit = job_is.variables_limit in
+    omega (arith, few, many, limit)
+
 -- ---- a checkpoint of the course
 
 module _ (job : Job) (job_is : IsWhole job) (rules : List Rule)
     (laws : Continues (setup_of job) rules) (keeps : KeepsStates (setup_of job) rules) where
   place_fits : (c : Checkpoint) (p : IsPlace (setup_of job) job.key rules c)
-      → FitsJob job (checkpoint_of (setup_of job) job.key c.iteration p.state (length_in c 0))
+      → FitsJob job (checkpoint_of (setup_of job) job.key c.iteration p.state p.so_far)
   place_fits c p =
       let setup = setup_of job in
       let points = point_count (whole job.shape) in
       let are = is_stored setup p.state
-      (keeps.reached c.iteration p.state (length_in c 0) p.reached) in
+      (keeps.reached c.iteration p.state p.so_far p.reached) in
       let typed = typed_from job.vars p.state
-      (reached_typed setup rules c.iteration p.state (length_in c 0) p.reached) in
-      let due = laws.due c.iteration p.state (length_in c 0) p.reached in
+      (reached_typed setup rules c.iteration p.state p.so_far p.reached) in
+      let due = laws.due c.iteration p.state p.so_far p.reached in
       let scalars = scalars_all setup job.vars p.state are typed in
       let levels = levels_all setup job.vars p.state are typed in
       record {
         key = refl;
         fits = and_true (is_due setup c.iteration) _ due
+            (and_true (same_texts (output_names setup) (output_names setup)) _
+            (texts_same (output_names setup))
             (and_true (scalars_fit job.vars (scalars_in job.vars p.state))
-            (levels_fit points job.vars (levels_in job.vars p.state)) scalars levels);
-        in_range = record {
+            (levels_fit points job.vars (levels_in job.vars p.state)) scalars levels));
+        in_range = λ short. record {
+          version = inr (refl, count_named setup job.out_vars p.so_far, short);
           iteration = turns_few c.iteration job.itlast (due_within setup c.iteration due)
               job_is.itlast_limit;
           key = job_is.key_limit;
           lengths = (
-            omega arith,
-            (
-              output_few (length_in c 0)
-                  (laws.within c.iteration p.state (length_in c 0) p.reached),
-              tt,
-            ),
+            few_outputs job job_is p.so_far,
+            words_few job.out_vars p.so_far
+                (laws.within c.iteration p.state p.so_far p.reached),
           );
           scalars = (
             few_of (length (scalars_in job.vars p.state)) (total scalar_count job.vars)

@@ -1,3 +1,4 @@
+pub mod OutputLaws
 pub mod PlaceLaws
 pub mod StateLaws
 pub mod BeginLaws
@@ -5,4 +6,6 @@ pub mod WorkLaws
 pub mod WalkLaws
 pub mod TypeLaws
 pub mod FitLaws
+pub mod SplitLaws
 pub mod StartLaws
+pub mod FormerLaws

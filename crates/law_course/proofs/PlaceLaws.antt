@@ -1,5 +1,6 @@
 -- The checkpoints among a run's entries, and that they rise.
-use Rattle.std.proofs.Common.{◌≡◌, ℕ, zero, suc, ◌+◌, ◌<◌, ◌≤◌, refl, sym, ap, ◌∙◌, subst, true, List, [], ◌∷◌, ◌++◌, inl, inr, length, length-append, get_or, append_assoc, add-zero, zero-add, lt_trans, le_of_eq, arith, true≢false}
+use Rattle.std.proofs.Common.{◌≡◌, ℕ, zero, suc, ◌<◌, ◌≤◌, refl, sym, ap, ◌∙◌, subst, true, List, [], ◌∷◌, ◌++◌, inl, inr, length, get_or, append_assoc, lt_trans, le_of_eq, arith, true≢false}
+use Rattle.std.specs.Prelude.{slice_index}
 use Rattle.std.specs.List.{AllPairs}
 use Rattle.std.proofs.lemmas.List.{append_cancel_left}
 use Rattle.cx_plan.specs.Setups.{Setup}
@@ -7,66 +8,61 @@ use Rattle.cx_plan.specs.Dues.{is_due}
 use Rattle.cx_rule.specs.Routine.{Rule}
 use Rattle.cx_rule.specs.States.{State}
 use Rattle.cx_model.specs.Traces.{Entry, Turned, Overflowed, Exchanged, Tested, Rotated, Wrote, Saved, Trace}
-use Rattle.cx_model.specs.Runs.{output_of, undivided_run, continued_run, Reaches}
+use Rattle.cx_model.specs.Runs.{Lengths, no_lengths, grown_by, lengths_after, lengths_behind, output, undivided_run, continued_run, Reaches}
 use Rattle.cx_model.specs.Checkpoints.{ReachesFrom, Continues}
 use Rattle.cx_model.proofs.ListLaws.{tails}
+use Rattle.cx_model.proofs.SaveLaws.{lengths-more}
 use Rattle.cx_chk.specs.declared.checkpoint.Checkpoint.{Checkpoint}
+use Rattle.cx_outputs.specs.Names.{output_count, lengths_in}
 use Rattle.cx_keep.specs.Resuming.{IsMonotone}
 use Rattle.cx_keep.specs.Trails.{Has, length_in}
 use Rattle.law_course.specs.Courses.{checkpoint_of, checkpoints_in, course_of, IsBehind, CourseRises, HasPlaces}
+use Rattle.law_course.proofs.OutputLaws.{longer_in, count_of}
 
 -- ---- where checkpoints stand
 
-more : (n : ℕ) (text rest : List ℕ) → n + length text + length rest ≡ n + length (text ++ rest)
-more n text rest = let e = length-append text rest in omega (arith, e)
-
 -- a checkpoint is that of a place among entries
-pub record Origin (setup : Setup) (key : List ℕ) (n : ℕ) (es : List Entry)
+pub record Origin (setup : Setup) (key : List ℕ) (n : Lengths) (es : List Entry)
     (c : Checkpoint) : Type 0 where
   pub earlier : List Entry
   pub later : List Entry
   pub state : State
   pub there : es ≡ earlier ++ Saved c.iteration state ∷ later
-  pub length : length_in c 0 ≡ n + length (output_of earlier)
-  pub packed : c ≡ checkpoint_of setup key c.iteration state (length_in c 0)
+  pub packed : c ≡ checkpoint_of setup key c.iteration state (lengths_behind n earlier)
 
 module _ (setup : Setup) (key : List ℕ) where
   -- those of the entries behind others
-  pub has_behind : (a b : List Entry) (n : ℕ) (c : Checkpoint)
-      → Has (checkpoints_in setup key (n + length (output_of a)) b) c
+  pub has_behind : (a b : List Entry) (n : Lengths) (c : Checkpoint)
+      → Has (checkpoints_in setup key (lengths_behind n a) b) c
       → Has (checkpoints_in setup key n (a ++ b)) c
-  has_behind [] b n c h = subst (λ m. Has (checkpoints_in setup key m b) c) (add-zero n) h
+  has_behind [] b n c h = h
   has_behind (Saved i s ∷ es) b n c h = inr (has_behind es b n c h)
-  has_behind (Wrote v i text s ∷ es) b n c h =
-      has_behind es b (n + length text) c
-      (subst (λ m. Has (checkpoints_in setup key m b) c) (sym (more n text (output_of es))) h)
+  has_behind (Wrote v i text s ∷ es) b n c h = has_behind es b (grown_by n v (length text)) c h
   has_behind (Turned k i s ∷ es) b n c h = has_behind es b n c h
   has_behind (Overflowed k i s ∷ es) b n c h = has_behind es b n c h
   has_behind (Exchanged vars path s ∷ es) b n c h = has_behind es b n c h
   has_behind (Tested v path s ∷ es) b n c h = has_behind es b n c h
   has_behind (Rotated s ∷ es) b n c h = has_behind es b n c h
 
-  pub has_there : (a b : List Entry) (n i : ℕ) (s : State)
+  pub has_there : (a b : List Entry) (n : Lengths) (i : ℕ) (s : State)
       → Has (checkpoints_in setup key n (a ++ Saved i s ∷ b))
-      (checkpoint_of setup key i s (n + length (output_of a)))
+      (checkpoint_of setup key i s (lengths_behind n a))
   has_there a b n i s = has_behind a (Saved i s ∷ b) n
-      (checkpoint_of setup key i s (n + length (output_of a))) (inl refl)
+      (checkpoint_of setup key i s (lengths_behind n a)) (inl refl)
 
-  longer : (e : Entry) (es : List Entry) (n m : ℕ) (c : Checkpoint) (o : Origin setup key m es c)
-      → m + length (output_of o.earlier) ≡ n + length (output_of (e ∷ o.earlier))
-      → Origin setup key n (e ∷ es) c
-  longer e es n m c o is =
+  longer : (e : Entry) (es : List Entry) (n : Lengths) (c : Checkpoint)
+      → Origin setup key (lengths_after n e) es c → Origin setup key n (e ∷ es) c
+  longer e es n c o =
       record {
         earlier = e ∷ o.earlier;
         later = o.later;
         state = o.state;
         there = ap (λ l. e ∷ l) o.there;
-        length = o.length ∙ is;
         packed = o.packed;
       }
 
-  pub origin : (es : List Entry) (n : ℕ) (c : Checkpoint) → Has (checkpoints_in setup key n es) c
-      → Origin setup key n es c
+  pub origin : (es : List Entry) (n : Lengths) (c : Checkpoint)
+      → Has (checkpoints_in setup key n es) c → Origin setup key n es c
   origin [] n c h = absurd h
   origin (Saved i s ∷ es) n c (inl e) =
       record {
@@ -74,24 +70,28 @@ module _ (setup : Setup) (key : List ℕ) where
         later = es;
         state = s;
         there = ap (λ (k : ℕ). Saved k s ∷ es) (sym (ap (λ (d : Checkpoint). d.iteration) e));
-        length = ap (λ (d : Checkpoint). length_in d 0) e ∙ sym (add-zero n);
-        packed = subst (λ (d : Checkpoint). d
-            ≡ checkpoint_of setup key d.iteration s (length_in d 0)) (sym e) refl;
+        packed = subst (λ (d : Checkpoint). d ≡ checkpoint_of setup key d.iteration s n) (sym e)
+            refl;
       }
-  origin (Saved i s ∷ es) n c (inr h) = let o = origin es n c h in
-      longer (Saved i s) es n n c o refl
+  origin (Saved i s ∷ es) n c (inr h) = longer (Saved i s) es n c (origin es n c h)
   origin (Wrote v i text s ∷ es) n c h =
-      let o = origin es (n + length text) c h in
-      longer (Wrote v i text s) es n (n + length text) c o (more n text (output_of o.earlier))
-  origin (Turned k i s ∷ es) n c h = let o = origin es n c h in
-      longer (Turned k i s) es n n c o refl
-  origin (Overflowed k i s ∷ es) n c h = let o = origin es n c h in
-      longer (Overflowed k i s) es n n c o refl
-  origin (Exchanged vars path s ∷ es) n c h = let o = origin es n c h in
-      longer (Exchanged vars path s) es n n c o refl
-  origin (Tested v path s ∷ es) n c h = let o = origin es n c h in
-      longer (Tested v path s) es n n c o refl
-  origin (Rotated s ∷ es) n c h = let o = origin es n c h in longer (Rotated s) es n n c o refl
+      longer (Wrote v i text s) es n c (origin es (grown_by n v (length text)) c h)
+  origin (Turned k i s ∷ es) n c h = longer (Turned k i s) es n c (origin es n c h)
+  origin (Overflowed k i s ∷ es) n c h = longer (Overflowed k i s) es n c (origin es n c h)
+  origin (Exchanged vars path s ∷ es) n c h =
+      longer (Exchanged vars path s) es n c (origin es n c h)
+  origin (Tested v path s ∷ es) n c h = longer (Tested v path s) es n c (origin es n c h)
+  origin (Rotated s ∷ es) n c h = longer (Rotated s) es n c (origin es n c h)
+
+  -- it records no shorter outputs than there were
+  pub no_shorter : (es : List Entry) (n : Lengths) (c : Checkpoint) (j : ℕ)
+      → Has (checkpoints_in setup key n es) c
+      → slice_index (lengths_in setup.out_vars n) j ≤ length_in c j
+  no_shorter es n c j h =
+      let o = origin es n c h in
+      subst (λ (l : List ℕ). slice_index (lengths_in setup.out_vars n) j ≤ slice_index l j)
+      (sym (ap (λ (d : Checkpoint). d.lengths) o.packed))
+      (longer_in setup.out_vars n (lengths_behind n o.earlier) (lengths-more o.earlier n) j)
 
 -- ---- the iterations of places rise
 
@@ -123,16 +123,18 @@ due_positive setup (suc c) due = omega arith
 module _ (setup : Setup) (rules : List Rule) (laws : Continues setup rules) where
   abbrev pub place_at : (before : List Entry) (d : ℕ) (t : State) (es : List Entry)
       → (undivided_run setup rules).entries ≡ before ++ Saved d t ∷ es
-      → Reaches setup rules d t (length (output_of before))
-  place_at before d t es e = record { earlier = before; later = es; there = e; length_there = refl }
+      → Reaches setup rules d t (lengths_behind no_lengths before)
+  place_at before d t es e =
+      record { earlier = before; later = es; there = e; lengths_there = refl }
 
-  rises_from : (c : ℕ) (s : State) (n : ℕ) → Reaches setup rules c s n → (between es : List Entry)
+  rises_from : (c : ℕ) (s : State) (n : Lengths) → Reaches setup rules c s n
+      → (between es : List Entry)
       → (continued_run setup rules c s n).entries ≡ between ++ es → Rises c es
   rises_from c s n r between [] e = tt
   rises_from c s n r between (Saved d t ∷ es) e =
-      let m = n + length (output_of between) in
+      let m : Lengths = lengths_behind n between in
       let f : ReachesFrom setup rules c s n d t m =
-      record { earlier = between; later = es; there = e; length_there = refl } in (
+      record { earlier = between; later = es; there = e; lengths_there = refl } in (
         (laws.due_later c s n d t m f).1,
         rises_from d t m (laws.joins c d s t n m r f) [] es
             (cut_behind between (Saved d t) es (continued_run setup rules c s n).entries
@@ -160,7 +162,7 @@ module _ (setup : Setup) (rules : List Rule) (laws : Continues setup rules) wher
       → Rises 0 es
   rises_first before [] e = tt
   rises_first before (Saved d t ∷ es) e =
-      let m = length (output_of before) in
+      let m : Lengths = lengths_behind no_lengths before in
       let r = place_at before d t es e in (
         due_positive setup d (laws.due d t m r),
         rises_from d t m r [] es
@@ -191,45 +193,39 @@ module _ (setup : Setup) (rules : List Rule) (laws : Continues setup rules) wher
   has_places key =
       record {
         places = λ c h.
-            let o = origin setup key (undivided_run setup rules).entries 0 c h in
+            let o = origin setup key (undivided_run setup rules).entries no_lengths c h in
             record {
               state = o.state;
+              so_far = lengths_behind no_lengths o.earlier;
               reached = record {
                 earlier = o.earlier;
                 later = o.later;
                 there = o.there;
-                length_there = o.length ∙ zero-add (length (output_of o.earlier));
+                lengths_there = refl;
               };
               packed = o.packed;
             };
         all = λ iteration state so_far r.
             subst (λ (es : List Entry).
-            Has (checkpoints_in setup key 0 es)
+            Has (checkpoints_in setup key no_lengths es)
             (checkpoint_of setup key iteration state so_far)) (sym r.there)
-            (subst (λ (n : ℕ). Has
-            (checkpoints_in setup key 0 (r.earlier ++ Saved iteration state ∷ r.later))
-            (checkpoint_of setup key iteration state n))
-            (zero-add (length (output_of r.earlier)) ∙ sym r.length_there)
-            (has_there setup key r.earlier r.later 0 iteration state));
+            (subst (λ (n : Lengths). Has
+            (checkpoints_in setup key no_lengths (r.earlier ++ Saved iteration state ∷ r.later))
+            (checkpoint_of setup key iteration state n)) (sym r.lengths_there)
+            (has_there setup key r.earlier r.later no_lengths iteration state));
       }
 
 -- ---- checkpoints of entries whose places rise
 
 module _ (setup : Setup) (key : List ℕ) where
-  pub later_than : (b n : ℕ) (es : List Entry) → Rises b es → (c : Checkpoint)
-      → Has (checkpoints_in setup key n es) c → (b < c.iteration) × (n ≤ length_in c 0)
+  pub later_than : (b : ℕ) (n : Lengths) (es : List Entry) → Rises b es → (c : Checkpoint)
+      → Has (checkpoints_in setup key n es) c → b < c.iteration
   later_than b n [] r c h = absurd h
-  later_than b n (Saved i s ∷ es) r c (inl e) = (
-    subst (λ (k : ℕ). b < k) (sym (ap (λ (d : Checkpoint). d.iteration) e)) r.0,
-    le_of_eq (sym (ap (λ (d : Checkpoint). length_in d 0) e)),
-  )
-  later_than b n (Saved i s ∷ es) r c (inr h) = let l = later_than i n es r.1 c h in
-      (lt_trans r.0 l.0, l.1)
-  later_than b n (Wrote v i text s ∷ es) r c h = let l = later_than b (n + length text) es r c h in
-      (l.0, shorter n (length text) (length_in c 0) l.1)
-    where
-      shorter : (a b c : ℕ) → a + b ≤ c → a ≤ c
-      shorter a b c h = omega (arith, h)
+  later_than b n (Saved i s ∷ es) r c (inl e) =
+      subst (λ (k : ℕ). b < k) (sym (ap (λ (d : Checkpoint). d.iteration) e)) r.0
+  later_than b n (Saved i s ∷ es) r c (inr h) = lt_trans r.0 (later_than i n es r.1 c h)
+  later_than b n (Wrote v i text s ∷ es) r c h =
+      later_than b (grown_by n v (length text)) es r c h
   later_than b n (Turned k i s ∷ es) r c h = later_than b n es r c h
   later_than b n (Overflowed k i s ∷ es) r c h = later_than b n es r c h
   later_than b n (Exchanged vars path s ∷ es) r c h = later_than b n es r c h
@@ -239,26 +235,26 @@ module _ (setup : Setup) (key : List ℕ) where
   absurd_order : (a b c : ℕ) → a ≡ b → b < c → c ≤ a → ⊥
   absurd_order a b c e l h = omega (arith, e, l, h)
 
-  monotone_in : (b n : ℕ) (es : List Entry) → Rises b es → (c d : Checkpoint)
+  monotone_in : (b : ℕ) (n : Lengths) (es : List Entry) → Rises b es → (c d : Checkpoint)
       → Has (checkpoints_in setup key n es) c → Has (checkpoints_in setup key n es) d
-      → c.iteration ≤ d.iteration → length_in c 0 ≤ length_in d 0
-  monotone_in b n [] r c d h k l = absurd h
-  monotone_in b n (Saved i s ∷ es) r c d (inl e) (inl f) l =
-      le_of_eq (ap (λ (x : Checkpoint). length_in x 0) (e ∙ sym f))
-  monotone_in b n (Saved i s ∷ es) r c d (inl e) (inr k) l =
-      subst (λ (m : ℕ). m ≤ length_in d 0) (sym (ap (λ (x : Checkpoint). length_in x 0) e))
-      (later_than i n es r.1 d k).1
-  monotone_in b n (Saved i s ∷ es) r c d (inr h) (inl f) l =
+      → c.iteration ≤ d.iteration → (j : ℕ) → length_in c j ≤ length_in d j
+  monotone_in b n [] r c d h k l j = absurd h
+  monotone_in b n (Saved i s ∷ es) r c d (inl e) (inl f) l j =
+      le_of_eq (ap (λ (x : Checkpoint). length_in x j) (e ∙ sym f))
+  monotone_in b n (Saved i s ∷ es) r c d (inl e) (inr k) l j =
+      subst (λ (m : ℕ). m ≤ length_in d j) (sym (ap (λ (x : Checkpoint). length_in x j) e))
+      (no_shorter setup key es n d j k)
+  monotone_in b n (Saved i s ∷ es) r c d (inr h) (inl f) l j =
       absurd (absurd_order d.iteration i c.iteration (ap (λ (x : Checkpoint). x.iteration) f)
-      (later_than i n es r.1 c h).0 l)
-  monotone_in b n (Saved i s ∷ es) r c d (inr h) (inr k) l = monotone_in i n es r.1 c d h k l
-  monotone_in b n (Wrote v i text s ∷ es) r c d h k l =
-      monotone_in b (n + length text) es r c d h k l
-  monotone_in b n (Turned k i s ∷ es) r c d h q l = monotone_in b n es r c d h q l
-  monotone_in b n (Overflowed k i s ∷ es) r c d h q l = monotone_in b n es r c d h q l
-  monotone_in b n (Exchanged vars path s ∷ es) r c d h q l = monotone_in b n es r c d h q l
-  monotone_in b n (Tested v path s ∷ es) r c d h q l = monotone_in b n es r c d h q l
-  monotone_in b n (Rotated s ∷ es) r c d h q l = monotone_in b n es r c d h q l
+      (later_than i n es r.1 c h) l)
+  monotone_in b n (Saved i s ∷ es) r c d (inr h) (inr k) l j = monotone_in i n es r.1 c d h k l j
+  monotone_in b n (Wrote v i text s ∷ es) r c d h k l j =
+      monotone_in b (grown_by n v (length text)) es r c d h k l j
+  monotone_in b n (Turned k i s ∷ es) r c d h q l j = monotone_in b n es r c d h q l j
+  monotone_in b n (Overflowed k i s ∷ es) r c d h q l j = monotone_in b n es r c d h q l j
+  monotone_in b n (Exchanged vars path s ∷ es) r c d h q l j = monotone_in b n es r c d h q l j
+  monotone_in b n (Tested v path s ∷ es) r c d h q l j = monotone_in b n es r c d h q l j
+  monotone_in b n (Rotated s ∷ es) r c d h q l j = monotone_in b n es r c d h q l j
 
   -- an element of a list is among it
   has_at : (cs : List Checkpoint) (i : ℕ) (d : Checkpoint) → i < length cs → Has cs (get_or cs i d)
@@ -267,8 +263,9 @@ module _ (setup : Setup) (key : List ℕ) where
   has_at (c ∷ cs) (suc i) d h = inr (has_at cs i d (omega (arith, h)))
 
   pairs_cons : (c : Checkpoint) (cs : List Checkpoint)
-      → ((d : Checkpoint) → Has cs d → IsBehind c d) → AllPairs IsBehind cs
-      → AllPairs IsBehind (c ∷ cs)
+      → ((d : Checkpoint) → Has cs d → IsBehind (output_count setup) c d)
+      → AllPairs (IsBehind (output_count setup)) cs
+      → AllPairs (IsBehind (output_count setup)) (c ∷ cs)
   pairs_cons c cs first rest zero zero d l h = absurd (omega (arith, l))
   pairs_cons c cs first rest zero (suc j) d l h =
       first (get_or cs j d) (has_at cs j d (omega (arith, h)))
@@ -276,17 +273,20 @@ module _ (setup : Setup) (key : List ℕ) where
   pairs_cons c cs first rest (suc i) (suc j) d l h =
       rest i j d (omega (arith, l)) (omega (arith, h))
 
-  pairs_none : AllPairs IsBehind []
+  pairs_none : AllPairs (IsBehind (output_count setup)) []
   pairs_none i j d l h = absurd (omega (arith, h))
 
-  pairs_in : (b n : ℕ) (es : List Entry) → Rises b es
-      → AllPairs IsBehind (checkpoints_in setup key n es)
+  pairs_in : (b : ℕ) (n : Lengths) (es : List Entry) → Rises b es
+      → AllPairs (IsBehind (output_count setup)) (checkpoints_in setup key n es)
   pairs_in b n [] r = pairs_none
   pairs_in b n (Saved i s ∷ es) r =
       pairs_cons (checkpoint_of setup key i s n) (checkpoints_in setup key n es)
-      (λ d h. let l = later_than i n es r.1 d h in record { iteration = l.0; length = l.1 })
+      (λ d h. record {
+        iteration = later_than i n es r.1 d h;
+        lengths = λ j lt. no_shorter setup key es n d j h;
+      })
       (pairs_in i n es r.1)
-  pairs_in b n (Wrote v i text s ∷ es) r = pairs_in b (n + length text) es r
+  pairs_in b n (Wrote v i text s ∷ es) r = pairs_in b (grown_by n v (length text)) es r
   pairs_in b n (Turned k i s ∷ es) r = pairs_in b n es r
   pairs_in b n (Overflowed k i s ∷ es) r = pairs_in b n es r
   pairs_in b n (Exchanged vars path s ∷ es) r = pairs_in b n es r
@@ -295,16 +295,15 @@ module _ (setup : Setup) (key : List ℕ) where
 
   pub monotone : (rules : List Rule) → Rises 0 (undivided_run setup rules).entries
       → IsMonotone (course_of setup key rules)
-  monotone rules r c d h k l zero j =
-      monotone_in 0 0 (undivided_run setup rules).entries r c d h k l
-  monotone rules r c d h k l (suc i) j = absurd (omega (arith, j))
+  monotone rules r c d h k l j lt =
+      monotone_in 0 no_lengths (undivided_run setup rules).entries r c d h k l j
 
   pub course_rises : (rules : List Rule) → Continues setup rules
-      → CourseRises (course_of setup key rules)
+      → CourseRises setup (course_of setup key rules)
   course_rises rules laws =
       let r = run_rises setup rules laws in
       record {
-        one_output = refl;
-        rises = pairs_in 0 0 (undivided_run setup rules).entries r;
+        outputs = count_of setup.out_vars (output setup rules);
+        rises = pairs_in 0 no_lengths (undivided_run setup rules).entries r;
         monotone = monotone rules r;
       }

@@ -12,8 +12,9 @@ use Rattle.cx_plan.specs.Lookups.{no_variable}
 use Rattle.cx_plan.specs.Setups.{Setup, setup_of}
 use Rattle.cx_rule.specs.States.{State}
 use Rattle.cx_model.specs.States.{IsState, number_count}
-use Rattle.cx_keep.specs.Fits.{scalars_fit, levels_fit, variables_by, each_fits, holds_value, holds_level, output_count}
-use Rattle.cx_keep.specs.Trails.{length_in}
+use Rattle.cx_model.specs.Runs.{Lengths}
+use Rattle.cx_outputs.specs.Names.{output_names, lengths_in}
+use Rattle.cx_keep.specs.Fits.{scalars_fit, levels_fit, variables_by, each_fits, holds_value, holds_level, outputs_fit}
 use Rattle.cx_core_buffers.specs.Checkpoints.{total, state_from, scalars_in, levels_in, HoldsState}
 use Rattle.law_course.specs.Courses.{checkpoint_of, StatesUnpack, StatesPackAgain}
 use Rattle.law_course.specs.Beginnings.{FittingCanBegin}
@@ -231,8 +232,8 @@ levels_points setup (v ∷ vs) (l ∷ state) are =
     (points_of_one v.scalar (point_count (whole setup.shape)) l are.0.numbers)
     (levels_points setup vs state are.1)
 
-pub packed_holds : (setup : Setup) (key : List ℕ) (iteration : ℕ) (state : State) (so_far : ℕ)
-    → AreStored setup setup.vars state
+pub packed_holds : (setup : Setup) (key : List ℕ) (iteration : ℕ) (state : State)
+    (so_far : Lengths) → AreStored setup setup.vars state
     → HoldsState setup (checkpoint_of setup key iteration state so_far)
 packed_holds setup key iteration state so_far are =
     record {
@@ -306,26 +307,20 @@ packed_again [] ms ls count counts = (none_left ms count, none_left ls counts)
 packed_again (v ∷ vs) ms ls count counts =
     pack_one v vs v.scalar refl ms ls count counts (λ ns ks c d. packed_again vs ns ks c d)
 
-one_length : (ns : List ℕ) → length ns ≡ 1 → ns ≡ get_or ns 0 0 ∷ []
-one_length [] e = absurd (omega (arith, e))
-one_length (n ∷ []) e = refl
-one_length (n ∷ m ∷ ns) e = absurd (omega (arith, e))
-
 pub states_pack_again : (setup : Setup) → StatesPackAgain setup
-states_pack_again setup c holds one =
+states_pack_again setup c so_far holds second named lengths =
     let p = packed_again setup.vars c.scalars c.levels holds.scalars holds.levels in
-    ap (λ (ns : List ℕ). record {
-      iteration = c.iteration;
-      key = c.key;
-      lengths = ns;
-      scalars = c.scalars;
-      levels = c.levels;
-    }) (one_length c.lengths one)
+    ap (λ (n : ℕ). record c { version = n }) second
+    ∙ ap (λ (ns : List (List ℕ)). record c { version = 2; names = ns }) named
+    ∙ ap (λ (ls : List ℕ). record c { version = 2; names = output_names setup; lengths = ls })
+    lengths
     ∙ ap₂ (λ (ms : List ℤ) (ls : List (List ℤ)).
     record {
+      version = 2;
       iteration = c.iteration;
       key = c.key;
-      lengths = length_in c 0 ∷ [];
+      names = output_names setup;
+      lengths = lengths_in setup.out_vars so_far;
       scalars = ms;
       levels = ls;
     })
@@ -438,10 +433,10 @@ due_within setup (suc n) due =
 pub fitting_can_begin : (job : Job) → FittingCanBegin job
 fitting_can_begin job c fits =
     let due = both_true (is_due (setup_of job) c.iteration)
-    (length c.lengths == output_count
+    (outputs_fit job c
     && (scalars_fit job.vars c.scalars
     && levels_fit (point_count (whole job.shape)) job.vars c.levels)) fits in
-    let counts = both_true (length c.lengths == output_count)
+    let counts = both_true (outputs_fit job c)
     (scalars_fit job.vars c.scalars
     && levels_fit (point_count (whole job.shape)) job.vars c.levels) due.1 in
     let values = both_true (scalars_fit job.vars c.scalars)

@@ -23,7 +23,7 @@ use Rattle.cx_rule.specs.States.{State, level_of, scalar_of, with_level, with_sc
 use Rattle.cx_rule.specs.Sweeps.{Values, fits, all_fit, if_fit, seen_at, place_at, in_region, window_point, number_or, level_after, levels_after, scalars_after, scalar_turn, first_point}
 use Rattle.cx_model.specs.States.{zeros, start, number_count}
 use Rattle.cx_model.specs.Turns.{values_of, swept_at, reduced, first_read, turn_by, turn}
-use Rattle.cx_model.specs.Runs.{Reaches}
+use Rattle.cx_model.specs.Runs.{Lengths, Reaches}
 use Rattle.law_course.proofs.WalkLaws.{IfState, holds_where_reached}
 
 -- ---- numbers of a type
@@ -326,7 +326,7 @@ turn_typed setup rules x state iteration is = by x.kind
     by Count = scalar_turn_typed setup x state
         (Some (reduced x.kind (first_read state x.reads) ∷ [])) is
 
-pub reached_typed : (setup : Setup) (rules : List Rule) (c : ℕ) (state : State) (so_far : ℕ)
+pub reached_typed : (setup : Setup) (rules : List Rule) (c : ℕ) (state : State) (so_far : Lengths)
     → Reaches setup rules c state so_far → IsTyped setup state
 reached_typed setup rules =
     holds_where_reached setup rules (IsTyped setup)

@@ -1,5 +1,5 @@
 -- What turns and rotations keep of a state holds of each state of a run.
-use Rattle.std.proofs.Common.{ℕ, zero, suc, ◌+◌, ℤ, pos, negsuc, subst, List, [], ◌∷◌, ◌++◌, length, Option, Some, None}
+use Rattle.std.proofs.Common.{ℕ, zero, suc, ℤ, pos, negsuc, subst, List, [], ◌∷◌, ◌++◌, Option, Some, None}
 use Rattle.cx_plan.specs.declared.variable.VarId.{VarId}
 use Rattle.cx_plan.specs.declared.item.Item.{Item}
 use Rattle.cx_plan.specs.declared.tree.Tree.{Tree, Seq', Call, Sync, If', While', Row_of-Tree, end_of-Tree, more_of-Tree}
@@ -15,7 +15,7 @@ use Rattle.cx_model.specs.declared.ends.End.TheVariants.{WhileLimit}
 use Rattle.cx_model.specs.Traces.{Entry, Tested, Rotated, Saved, Outcome, Goes, Ends, Trace, stays, ends, does, after, follow, then_go}
 use Rattle.cx_model.specs.Trees.{at_zero, test, turn_trace, loop, run_tree, run_row}
 use Rattle.cx_model.specs.Stages.{Stage, Bin, Rotate, Save, Write, stages}
-use Rattle.cx_model.specs.Runs.{all_written, run_stage, run_stages, text_added, passing, stop_or, within_limit, Reaches}
+use Rattle.cx_model.specs.Runs.{all_written, run_stage, run_stages, Lengths, no_lengths, lengths_after, passing, stop_or, within_limit, Reaches}
 use Rattle.cx_model.specs.Values.{state_before}
 use Rattle.cx_model.proofs.WalkLaws.{Each, each-both}
 
@@ -133,12 +133,12 @@ module _ (setup : Setup) (rules : List Rule) (P : State → Type 0) (kept : IsKe
         (record { entries = keeps_texts n state setup.out_vars is; outcome = is })
         (keeps_stages ss)
 
-    each_within : (so_far : ℕ) (es : List Entry) (o : Outcome) → Each Holds es
+    each_within : (so_far : Lengths) (es : List Entry) (o : Outcome) → Each Holds es
         → Each Holds (within_limit so_far es o).entries
     each_within so_far [] o each = tt
     each_within so_far (e ∷ es) o each =
-        by (passing so_far e) (within_limit (so_far + length (text_added e)) es o)
-        (each_within (so_far + length (text_added e)) es o each.1)
+        by (passing so_far e) (within_limit (lengths_after so_far e) es o)
+        (each_within (lengths_after so_far e) es o each.1)
       where
         by : (p : Option ℕ) (rest : Trace) → Each Holds rest.entries
             → Each Holds (stop_or p (after (e ∷ []) rest)).entries
@@ -150,11 +150,11 @@ module _ (setup : Setup) (rules : List Rule) (P : State → Type 0) (kept : IsKe
     each_there [] e ys each = each.0
     each_there (x ∷ xs) e ys each = each_there xs e ys each.1
 
-    pub holds_where_reached : P (start setup) → (c : ℕ) (state : State) (so_far : ℕ)
+    pub holds_where_reached : P (start setup) → (c : ℕ) (state : State) (so_far : Lengths)
         → Reaches setup rules c state so_far → P state
     holds_where_reached first c state so_far r =
         let t = run_stages setup rules (stages setup) (start setup) in
         each_there r.earlier (Saved c state) r.later
         (subst (Each Holds) r.there
-        (each_within 0 t.entries t.outcome
+        (each_within no_lengths t.entries t.outcome
         (keeps_stages (stages setup) (start setup) first).entries))

@@ -5,22 +5,30 @@ use Rattle.cx_plan.specs.declared.job.Job.{Job}
 use Rattle.cx_plan.specs.Setups.{Setup, setup_of}
 use Rattle.cx_rule.specs.Routine.{Rule}
 use Rattle.cx_model.specs.Traces.{Entry, Turned, Overflowed, Exchanged, Tested, Rotated, Wrote, Saved, Trace}
-use Rattle.cx_model.specs.Runs.{undivided_run, output, output_of}
+use Rattle.cx_model.specs.Runs.{Lengths, no_lengths, undivided_run, output, output_of}
 use Rattle.law_parts.specs.Beginnings.{Beginning, Afresh, From, IsBeginning}
 use Rattle.law_parts.specs.Totals.{undivided_from}
 use Rattle.cx_chk.specs.declared.checkpoint.Checkpoint.{Checkpoint}
-use Rattle.cx_keep.specs.Beginning.{length_left, newest_left}
+use Rattle.cx_plan.specs.declared.variable.VarId.{VarId}
+use Rattle.cx_outputs.specs.Names.{lengths_by}
+use Rattle.cx_keep.specs.Beginning.{newest_left}
 use Rattle.cx_keep.specs.Fits.{fits_job}
-use Rattle.cx_keep.specs.Trails.{Has, length_in}
+use Rattle.cx_keep.specs.Trails.{Has}
 use Rattle.cx_core_buffers.specs.Checkpoints.{state_of, HoldsState}
 use Rattle.law_course.specs.Courses.{course_of}
 
 -- ---- the run from a beginning
 
--- at its start, or in the state of a checkpoint with the length of its output
+-- how long the outputs were there, by the variables' numbers
+abbrev pub lengths_found : Setup → Option Checkpoint → Lengths
+lengths_found setup None = no_lengths
+lengths_found setup (Some c) = lengths_by setup.out_vars c.lengths
+
+-- at its start, or in the state of a checkpoint with the lengths of its outputs
 abbrev pub beginning_of : Setup → Option Checkpoint → Beginning
 beginning_of setup None = Afresh
-beginning_of setup (Some c) = From c.iteration (state_of setup.vars c) (length_in c 0)
+beginning_of setup (Some c) =
+    From c.iteration (state_of setup.vars c) (lengths_found setup (Some c))
 
 -- the undivided run from there
 abbrev pub run_from : Setup → List Rule → Option Checkpoint → Trace
@@ -49,15 +57,15 @@ abbrev pub IsFound : Setup → List ℕ → List Rule → Option Checkpoint → 
 IsFound setup key rules found = IfSome found (Has (course_of setup key rules).checkpoints)
 
 -- The run from there begins in a whole state, has the undivided run's entries from its place on,
--- and ends as it does. The output is as much of it as was there, and the texts from there on.
+-- and ends as it does. Each output is as much of it as was there, and the texts from there on.
 pub record GoesOn (setup : Setup) (rules : List Rule) (found : Option Checkpoint) : Type 0 where
   pub begins : IsBeginning setup (beginning_of setup found)
   pub entries : (run_from setup rules found).entries ≡ entries_from setup rules (newest_left found)
   pub outcome : (run_from setup rules found).outcome ≡ (undivided_run setup rules).outcome
-  pub within : length_left found 0 ≤ length (output setup rules)
-  pub output : output setup rules
-      ≡ take (length_left found 0) (output setup rules)
-      ++ output_of (run_from setup rules found).entries
+  pub within : (v : VarId) → lengths_found setup found v.0 ≤ length (output setup rules v)
+  pub output : (v : VarId) → output setup rules v
+      ≡ take (lengths_found setup found v.0) (output setup rules v)
+      ++ output_of v (run_from setup rules found).entries
 
 abbrev pub CourseGoesOn : Setup → List ℕ → List Rule → Type 0
 CourseGoesOn setup key rules = (found : Option Checkpoint) → IsFound setup key rules found

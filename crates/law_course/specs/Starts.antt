@@ -1,5 +1,5 @@
 -- Starts on trails of a run.
-use Rattle.std.specs.Prelude.{◌≡◌, List, Option, Some, None, Result, Ok, Err, IfSome}
+use Rattle.std.specs.Prelude.{◌≡◌, ◌<◌, ◌⊎◌, Bool, List, Option, Some, None, Result, Ok, Err, IfSome}
 use Rattle.cx_disk.specs.Disk.{Files}
 use Rattle.cx_plan.specs.declared.job.Job.{Job}
 use Rattle.cx_plan.specs.declared.job.Recover.{Recover}
@@ -11,8 +11,8 @@ use Rattle.cx_chk.specs.declared.checkpoint.Checkpoint.{Checkpoint}
 use Rattle.cx_keep.specs.declared.fault.BeginFault.{BeginFault}
 use Rattle.cx_keep.specs.declared.fault.BeginFault.TheVariants as faults
 use Rattle.cx_keep.specs.Beginning.{newest_left}
-use Rattle.cx_keep.specs.Tests.{begun}
-use Rattle.cx_keep.specs.Trails.{Course, IsTrail, NewestIs, OutputsReach}
+use Rattle.cx_keep.specs.Tests.{begun, greatest_former}
+use Rattle.cx_keep.specs.Trails.{Course, IsTrail, NewestIs, Reaches, former_length}
 use Rattle.law_course.specs.Courses.{course_of}
 use Rattle.law_course.specs.Beginnings.{IsFound}
 
@@ -27,14 +27,23 @@ begun_with Auto None = Err faults.NoCheckpoint
 begun_with Auto (Some c) = Ok (Some c)
 begun_with Autoprobe newest = Ok newest
 
--- the newest checkpoint of files is one of the run, which the output reaches, or there is none; and
--- no start on the files is refused, but where a checkpoint is asked for and there is none
+-- a former output that is too long to be split is refused
+pub record IsTooLong (job : Job) (files : Files) (newest : Option Checkpoint) : Type 0 where
+  pub checkpoint : Checkpoint
+  pub is_newest : newest ≡ Some checkpoint
+  pub long : greatest_former < former_length checkpoint
+  pub begun_is : begun job files
+      ≡ Err (faults.OldTooLong (former_length checkpoint) greatest_former)
+
+-- The newest checkpoint of files is one of the run, which the files reach in some version, or there
+-- is none. No start on the files is refused, but where a checkpoint is asked for and there is none,
+-- or a former output is too long.
 pub record BeginsOn (job : Job) (rules : List Rule) (files : Files) : Type 0 where
   pub newest : Option Checkpoint
   pub of_run : IsFound (setup_of job) job.key rules newest
   pub newest_is : NewestIs files (newest_left newest)
-  pub reached : IfSome newest (λ c. OutputsReach (course_in job rules) c files)
-  pub begun_is : begun job files ≡ begun_with job.recover newest
+  pub reached : IfSome newest (λ c. (second : Bool) × Reaches (course_in job rules) second c files)
+  pub begun_is : (begun job files ≡ begun_with job.recover newest) ⊎ IsTooLong job files newest
 
 abbrev pub TrailsBegin : Job → List Rule → Type 0
 TrailsBegin job rules = (files : Files) → IsTrail (course_in job rules) files

@@ -1,19 +1,19 @@
--- The works of a run as they go to its keeper: texts to the output's file, states to its slots.
-use Rattle.std.specs.Prelude.{ℕ, ◌^◌, ◌<◌, ◌≤◌, ◌≡◌, List, [], ◌∷◌, ◌++◌, length, take, Option, Some, None, IfSome}
+-- The works of a run as they go to its keeper: texts to the outputs' files, states to its slots.
+use Rattle.std.specs.Prelude.{ℕ, ◌^◌, ◌<◌, ◌≤◌, ◌≡◌, ◌≢◌, List, [], ◌∷◌, ◌++◌, length, map, take, slice_index_or, Option, Some, None, IfSome}
 use Rattle.cx_plan.specs.declared.variable.VarId.{VarId}
 use Rattle.cx_plan.specs.Setups.{Setup}
 use Rattle.cx_rule.specs.Routine.{Rule}
 use Rattle.cx_rule.specs.States.{State}
 use Rattle.cx_model.specs.Traces.{Entry, Turned, Overflowed, Exchanged, Tested, Rotated, Wrote, Saved}
-use Rattle.cx_model.specs.Runs.{output, output_of}
+use Rattle.cx_model.specs.Runs.{Lengths, output, output_of}
+use Rattle.cx_outputs.specs.Names.{place_in}
 use Rattle.cx_disk.specs.Disk.{Files}
 use Rattle.cx_chk.specs.declared.checkpoint.Checkpoint.{Checkpoint}
 use Rattle.cx_keep.specs.Beginning.{IsLater, length_left, newest_left}
-use Rattle.cx_keep.specs.Keeping.{output_file}
-use Rattle.cx_keep.specs.Trails.{Course, Has, IsNextPiece, length_in, file_of_output}
+use Rattle.cx_keep.specs.Trails.{Course, Has, IsNextPiece, text_of, length_in, file_of_output}
 use Rattle.law_reached.specs.Works.{works_of}
 use Rattle.law_course.specs.Courses.{checkpoint_of, checkpoints_in, course_of}
-use Rattle.law_course.specs.Beginnings.{IsFound, run_from}
+use Rattle.law_course.specs.Beginnings.{IsFound, run_from, lengths_found}
 
 -- ---- where a run stands
 
@@ -35,23 +35,38 @@ course_by r = course_of r.setup r.key r.rules
 abbrev pub works_by : KeptRun → List Entry
 works_by r = works_of (run_from r.setup r.rules r.found).entries
 
-abbrev pub output_found : KeptRun → List ℕ
-output_found r = take (length_left r.found 0) (output r.setup r.rules)
+abbrev pub output_found : KeptRun → VarId → List ℕ
+output_found r v = take (lengths_found r.setup r.found v.0) (output r.setup r.rules v)
 
--- of the works of a run some are done and the others are left, and the output's file is what was
--- there where the run began, and the texts that are done
-pub record HasDone (r : KeptRun) (done left : List Entry) (file : List ℕ) : Type 0 where
-  pub works : works_by r ≡ done ++ left
-  pub file_is : file ≡ output_found r ++ output_of done
+-- where some works are done: a variable's output is what was there where the run began, and the
+-- texts that are done
+abbrev pub text_done : KeptRun → List Entry → VarId → List ℕ
+text_done r done v = output_found r v ++ output_of v done
+
+abbrev pub lengths_done : KeptRun → List Entry → Lengths
+lengths_done r done v = length (text_done r done (record { 0 = v }))
+
+-- the j-th output
+abbrev pub output_done : KeptRun → List Entry → ℕ → List ℕ
+output_done r done j = slice_index_or (map (text_done r done) r.setup.out_vars) j []
+
+-- of the works of a run some are done and the others are left
+abbrev pub HasDone : KeptRun → List Entry → List Entry → Type 0
+HasDone r done left = works_by r ≡ done ++ left
+
+-- the outputs' files are so far
+abbrev pub FilesAre : KeptRun → List Entry → Files → Type 0
+FilesAre r done files = (j : ℕ) → j < length r.setup.out_vars
+    → files (file_of_output j) ≡ output_done r done j
 
 -- the first of some checkpoints, or none
 abbrev pub first_of : List Checkpoint → Option Checkpoint
 first_of [] = None
 first_of (c ∷ cs) = Some c
 
--- the next checkpoint among the works that are left, with an output of this length
-abbrev pub next_of : KeptRun → ℕ → List Entry → Option Checkpoint
-next_of r so_far left = first_of (checkpoints_in r.setup r.key so_far left)
+-- the next checkpoint among the works that are left, behind those that are done
+abbrev pub next_of : KeptRun → (done left : List Entry) → Option Checkpoint
+next_of r done left = first_of (checkpoints_in r.setup r.key (lengths_done r done) left)
 
 -- the iteration of the last checkpoint place among works that are done, or of that before them
 abbrev pub newest_after : Option ℕ → List Entry → Option ℕ
@@ -71,41 +86,46 @@ newest_of r done = newest_after (newest_left r.found) done
 
 -- ---- one work
 
--- a text comes next in the output's file, and the checkpoint that comes next stays the same
-pub record PieceIsNext (r : KeptRun) (done left : List Entry) (work : Entry)
-    (text file : List ℕ) : Type 0 where
-  pub piece : IsNextPiece (course_by r) (next_of r (length file) (work ∷ left)) 0 text file
-  pub next : next_of r (length file) (work ∷ left) ≡ next_of r (length (file ++ text)) left
+-- a text comes next in the j-th output's file, and the checkpoint that comes next stays the same
+pub record PieceIsNext (r : KeptRun) (done left : List Entry) (work : Entry) (j : ℕ)
+    (text : List ℕ) : Type 0 where
+  pub piece : IsNextPiece (course_by r) (next_of r done (work ∷ left)) j text (output_done r done j)
+  pub next : next_of r done (work ∷ left) ≡ next_of r (done ++ work ∷ []) left
   pub newest : newest_of r (done ++ work ∷ []) ≡ newest_of r done
-  pub behind : HasDone r (done ++ work ∷ []) left (file ++ text)
+  -- what the outputs are behind it: this one has the text at its end, and no other has changed
+  pub this : output_done r (done ++ work ∷ []) j ≡ output_done r done j ++ text
+  pub others : (i : ℕ) → i ≢ j → output_done r (done ++ work ∷ []) i ≡ output_done r done i
 
--- a checkpoint comes next on each disk whose output reads so: it is what IsNextCheckpoint of
+-- a checkpoint comes next on each disk whose outputs read so: it is what IsNextCheckpoint of
 -- cx_keep says, without a view
-pub record ComesNext (course : Course) (newest : Option ℕ) (c : Checkpoint)
-    (file : List ℕ) : Type 0 where
-  pub of_run : Has course.checkpoints c
+pub record ComesNext (r : KeptRun) (done : List Entry) (c : Checkpoint) : Type 0 where
+  pub of_run : Has (course_by r).checkpoints c
+  pub version : c.version ≡ 2
   pub in_range : c.iteration < 2 ^ 64
-  pub later : IfSome newest (λ n. n < c.iteration)
-  pub lengths : (files : Files) → files output_file ≡ file
-      → (j : ℕ) → j < length course.outputs → length_in c j ≡ length (files (file_of_output j))
+  pub later : IfSome (newest_of r done) (λ n. n < c.iteration)
+  pub lengths : (files : Files) → FilesAre r done files
+      → (j : ℕ) → j < length (course_by r).outputs
+      → length_in c j ≡ length (files (file_of_output j))
 
--- a checkpoint comes next, and records no longer an output than the one behind it
-pub record SaveIsNext (r : KeptRun) (done left : List Entry) (work : Entry) (c : Checkpoint)
-    (file : List ℕ) : Type 0 where
-  pub next : next_of r (length file) (work ∷ left) ≡ Some c
-  pub comes : ComesNext (course_by r) (newest_of r done) c file
-  pub later : IsLater (course_by r) (Some c) (next_of r (length file) left)
+-- a checkpoint comes next, and records no longer outputs than the one behind it
+pub record SaveIsNext (r : KeptRun) (done left : List Entry) (work : Entry)
+    (c : Checkpoint) : Type 0 where
+  pub next : next_of r done (work ∷ left) ≡ Some c
+  pub comes : ComesNext r done c
+  pub later : IsLater (course_by r) (Some c) (next_of r done left)
   pub newest : newest_of r (done ++ work ∷ []) ≡ Some c.iteration
-  pub behind : HasDone r (done ++ work ∷ []) left file
+  pub same : (j : ℕ) → output_done r (done ++ work ∷ []) j ≡ output_done r done j
 
 -- ---- the first work, and behind the last one
 
--- where a run begins nothing is done, and no checkpoint of it is of a shorter output than the one
--- that was found
+-- where a run begins each output is as much as the checkpoint records that was found, and no
+-- checkpoint of the run is of a shorter one
 pub record IsBegun (r : KeptRun) : Type 0 where
-  pub nothing_done : HasDone r [] (works_by r) (output_found r)
-  pub length : length (output_found r) ≡ length_left r.found 0
-  pub later : IsLater (course_by r) r.found (next_of r (length_left r.found 0) (works_by r))
+  pub outputs : (j : ℕ) → j < length r.setup.out_vars
+      → output_done r [] j ≡ take (length_left r.found j) (text_of (course_by r) j)
+  pub lengths : (j : ℕ) → j < length r.setup.out_vars
+      → length (output_done r [] j) ≡ length_left r.found j
+  pub later : IsLater (course_by r) r.found (next_of r [] (works_by r))
 
 -- a checkpoint of a course with this iteration, and no other one is later
 pub record IsLast (course : Course) (iteration : ℕ) : Type 0 where
@@ -118,10 +138,10 @@ abbrev pub LastIs : Course → Option ℕ → Type 0
 LastIs course None = course.checkpoints ≡ []
 LastIs course (Some iteration) = IsLast course iteration
 
--- where nothing is left the file is the whole output, and the newest checkpoint the last one of the
--- run
-pub record IsAllDone (r : KeptRun) (done : List Entry) (file : List ℕ) : Type 0 where
-  pub file_is : file ≡ output r.setup r.rules
+-- where nothing is left each output is whole, and the newest checkpoint is the last one of the run
+pub record IsAllDone (r : KeptRun) (done : List Entry) : Type 0 where
+  pub outputs : (j : ℕ) → j < length r.setup.out_vars
+      → output_done r done j ≡ text_of (course_by r) j
   pub newest : LastIs (course_by r) (newest_of r done)
 
 -- a newest checkpoint of at least this iteration
@@ -134,28 +154,27 @@ pub record IsAtLeast (newest : Option ℕ) (iteration : ℕ) : Type 0 where
 
 pub record WorksFollow (r : KeptRun) : Type 0 where
   pub begun : IsBegun r
-  pub piece : (done left : List Entry) (file : List ℕ) (v : VarId) (iteration : ℕ) (text : List ℕ)
-      (state : State)
-      → HasDone r done (Wrote v iteration text state ∷ left) file
-      → PieceIsNext r done left (Wrote v iteration text state) text file
-  pub save : (done left : List Entry) (file : List ℕ) (iteration : ℕ) (state : State)
-      → HasDone r done (Saved iteration state ∷ left) file
+  pub piece : (done left : List Entry) (v : VarId) (iteration : ℕ) (text : List ℕ) (state : State)
+      → HasDone r done (Wrote v iteration text state ∷ left)
+      → PieceIsNext r done left (Wrote v iteration text state) (place_in r.setup.out_vars v) text
+  pub save : (done left : List Entry) (iteration : ℕ) (state : State)
+      → HasDone r done (Saved iteration state ∷ left)
       → SaveIsNext r done left (Saved iteration state)
-      (checkpoint_of r.setup r.key iteration state (length file)) file
-  pub all_done : (done : List Entry) (file : List ℕ) → HasDone r done [] file
-      → IsAllDone r done file
-  -- the file is never past the next checkpoint; and of an output that isn't, each checkpoint that
-  -- it is longer than is done
-  pub within : (done left : List Entry) (file : List ℕ) → HasDone r done left file
-      → IfSome (next_of r (length file) left) (λ d. length file ≤ length_in d 0)
-  pub pace : (done left : List Entry) (file : List ℕ) (c : Checkpoint) (count : ℕ)
-      → HasDone r done left file
-      → IfSome (next_of r (length file) left) (λ d. count ≤ length_in d 0)
-      → Has (course_by r).checkpoints c → length_in c 0 < count
+      (checkpoint_of r.setup r.key iteration state (lengths_done r done))
+  pub all_done : (done : List Entry) → HasDone r done [] → IsAllDone r done
+  -- no output is ever past the next checkpoint; and of one that isn't, each checkpoint that it is
+  -- longer than is done
+  pub within : (done left : List Entry) → HasDone r done left
+      → IfSome (next_of r done left)
+      (λ d. (j : ℕ) → j < length r.setup.out_vars
+      → length (output_done r done j) ≤ length_in d j)
+  pub pace : (done left : List Entry) (c : Checkpoint) (j count : ℕ) → HasDone r done left
+      → j < length r.setup.out_vars
+      → IfSome (next_of r done left) (λ d. count ≤ length_in d j)
+      → Has (course_by r).checkpoints c → length_in c j < count
       → IsAtLeast (newest_of r done) c.iteration
   -- the newest checkpoint is never older than the one that was found
-  pub not_behind : (done left : List Entry) (file : List ℕ) (c : Checkpoint)
-      → HasDone r done left file
+  pub not_behind : (done left : List Entry) (c : Checkpoint) → HasDone r done left
       → r.found ≡ Some c → IsAtLeast (newest_of r done) c.iteration
 
 abbrev pub EachWorkFollows : Setup → List ℕ → List Rule → Type 0

@@ -10,8 +10,8 @@ use cx_model::{run_continues, run_keeps_states};
 use cx_plan::Job;
 
 /// The run from a checkpoint of its course, or from its start, does what the undivided run does from there on, and ends as it
-/// does. It begins in a whole state of an iteration of the run. The whole output is as much of it as the checkpoint records, and
-/// then the texts of the run from there.
+/// does. It begins in a whole state of an iteration of the run. Each whole output is as much of it as the checkpoint records, and
+/// then its texts of the run from there.
 pub fn course_goes_on(job: &Job)
     requires whole { IsWhole job.now }
     requires shapes { HasShapes (setup_of job.now) }

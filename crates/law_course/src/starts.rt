@@ -6,23 +6,32 @@ ghost use Rattle.cx_plan.specs.Setups.{setup_of};
 ghost use Rattle.cx_plan.specs.Whole.{IsWhole};
 ghost use Rattle.cx_rule.specs.Routine.{Rule};
 ghost use Rattle.cx_keep.specs.Trails.{IsTrail, NewestIs};
+ghost use Rattle.law_course.specs.Formers.{FormerIsTrail};
 ghost use Rattle.law_course.specs.Starts.{HaveOneCourse, TrailsBegin, course_in};
 
-use cx_model::{run_continues, run_keeps_states};
+use crate::course::{course_fits, course_splits};
 use cx_plan::Job;
 
-/// A start on a trail of a whole job's run finds the newest checkpoint of it, which is one of the run, and none of its tests
-/// fails: it is refused only where a checkpoint is asked for and no slot is open.
+/// A start on a trail of a whole job's run finds the newest checkpoint of it, which is one of the run. None of its tests fails,
+/// but that of a former output that is too long to be split: else it is refused only where a checkpoint is asked for and no slot
+/// is open.
 pub fn trails_begin(job: &Job)
     requires whole { IsWhole job.now }
     requires shapes { HasShapes (setup_of job.now) }
     ensures { (rules : List Rule) → TrailsBegin job.now rules }
 {
-    run_continues(job);
-    run_keeps_states(job);
+    course_fits(job);
+    course_splits(job);
 }
 
-/// Files without a checkpoint are a trail of each job's run, whatever the output's file holds.
+/// A trail of the program before this one, which wrote all outputs to one file with one limit, is a trail of this program, at
+/// whatever place of its run it was left. So is that of a run that ended at this limit, which now goes on.
+pub fn former_is_trail(job: &Job)
+    requires whole { IsWhole job.now }
+    ensures { (rules : List Rule) → FormerIsTrail job.now rules }
+{}
+
+/// Files without a checkpoint are a trail of each job's run, whatever the outputs' files hold.
 pub fn empty_is_trail(job: &Job)
     ensures { (rules : List Rule) (files : Files) → NewestIs files None
         → IsTrail (course_in job.now rules) files }

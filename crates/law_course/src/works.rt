@@ -9,9 +9,9 @@ ghost use Rattle.law_course.specs.Works.{EachWorkFollows};
 use cx_model::{run_continues, run_keeps_states};
 use cx_plan::Job;
 
-/// The works of a run from a checkpoint of its course, or from its start, are what its keeper's calls ask for, one after another:
-/// each text is what comes next in the output's file, and not past the next checkpoint; each state is that of the next checkpoint
-/// of the course, behind all that are done, and records the file as long as it is. Behind the last work the file is the whole
+/// The works of a run from a checkpoint of its course, or from its start, are what its keeper's calls ask for, one after another.
+/// Each text is what comes next in its output's file, and not past the next checkpoint. Each state is that of the next checkpoint
+/// of the course, behind all that are done, and records the files as long as they are. Behind the last work each file is a whole
 /// output, and the newest checkpoint the last one of the run. Of an output that isn't past the next checkpoint, each one that it
 /// is longer than is done; and the newest one is never older than the one that was found.
 pub fn works_follow(job: &Job)

@@ -1,4 +1,4 @@
 mod NumberLaws
-mod WalkLaws
-mod RecordLaws
+pub mod WalkLaws
+pub mod RecordLaws
 mod RecordSamples

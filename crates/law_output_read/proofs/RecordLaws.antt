@@ -1,8 +1,10 @@
--- The output of a run spells the run's records.
+-- The outputs of a run spell the run's records.
 use Rattle.std.proofs.Common.{◌≡◌, refl, sym, subst, ℕ, ◌<◌, ◌≤◌, ◌^◌, Bool, true, false, nat_le, List, [], ◌∷◌, length, All, if◌then◌else◌, arith, le-leb}
+use Rattle.std.specs.Prelude.{◌==◌, Option, Some, Result, Ok, Err, IfOk}
 use Rattle.std.specs.List.{list_all}
 use Rattle.std.proofs.lemmas.Bool.{and_from}
 use Rattle.std.proofs.lemmas.List.Elements.{All-head, All-tail, All-get_or, recursion_from_All}
+use Rattle.cx_text.specs.declared.memory.Memory.{Memory}
 use Rattle.cx_text.specs.Bytes.{is_printable}
 use Rattle.cx_grid.specs.Boxes.{point_count}
 use Rattle.cx_grid.specs.Grid.{whole}
@@ -17,12 +19,13 @@ use Rattle.cx_rule.specs.States.{State, level_of, scalar_of}
 use Rattle.cx_ascii.specs.Output.{section, line}
 use Rattle.cx_model.specs.States.{IsState, start}
 use Rattle.cx_model.specs.Traces.{Entry, Turned, Overflowed, Exchanged, Tested, Rotated, Wrote, Saved}
-use Rattle.cx_model.specs.Runs.{text_added, output_of, undivided_run}
+use Rattle.cx_model.specs.Runs.{text_to, text_added, output_of, former_output, undivided_run}
 use Rattle.cx_model.specs.Values.{state_before, KeepsStates}
 use Rattle.cx_model.proofs.WalkLaws.{Each}
+use Rattle.cx_ascii_read.specs.declared.record.Record.{Record}
 use Rattle.cx_ascii_read.specs.Records.{is_name, Spells}
 use Rattle.cx_ascii_read.specs.Printed.{level_record, value_record, IsHead, SectionsAreRecords, LinesAreRecords, TextsJoin}
-use Rattle.law_output_read.specs.RunRecords.{record_of, records_added, records_of, IsReread}
+use Rattle.law_output_read.specs.RunRecords.{record_of, records_to, records_added, records_of, former_records, IsReread}
 use Rattle.law_output_read.proofs.NumberLaws.{level_small, scalar_small, IsSmall}
 use Rattle.law_output_read.proofs.WalkLaws.{IsText, IsTold, run_told}
 
@@ -96,15 +99,60 @@ module _ (job : Job) (job_is : IsWhole job) (laws : Laws) where
   entry_spelled (Saved n state) told is = nothing_spelled
   entry_spelled (Wrote v n text state) told is = one_spelled v n text state told is
 
-  all_spelled : (es : List Entry) → Each (IsTold job) es
-      → All (λ e. IsState setup (state_before e)) es → Spells (output_of es) (records_of setup es)
-  all_spelled [] told are = nothing_spelled
-  all_spelled (e ∷ es) told are =
-      laws.joined (text_added e) (output_of es) (records_added setup e) (records_of setup es)
+  -- a text and its records, where they are of the variable
+  if_spelled : (there : Bool) (text : List ℕ) (rs : List Record) → Spells text rs
+      → Spells (if there then text else []) (if there then rs else [])
+  if_spelled true text rs is = is
+  if_spelled false text rs is = nothing_spelled
+
+  spelled_to : (v : VarId) (e : Entry) → IsTold job e → IsState setup (state_before e)
+      → Spells (text_to v e) (records_to setup v e)
+  spelled_to v (Turned k n state) told is = nothing_spelled
+  spelled_to v (Overflowed k n state) told is = nothing_spelled
+  spelled_to v (Exchanged vars path state) told is = nothing_spelled
+  spelled_to v (Tested w path state) told is = nothing_spelled
+  spelled_to v (Rotated state) told is = nothing_spelled
+  spelled_to v (Saved n state) told is = nothing_spelled
+  spelled_to v (Wrote w n text state) told is =
+      if_spelled (w.0 == v.0) text (record_of setup n state w ∷ [])
+      (one_spelled w n text state told is)
+
+  output_spelled : (v : VarId) (es : List Entry) → Each (IsTold job) es
+      → All (λ e. IsState setup (state_before e)) es
+      → Spells (output_of v es) (records_of setup v es)
+  output_spelled v [] told are = nothing_spelled
+  output_spelled v (e ∷ es) told are =
+      laws.joined (text_to v e) (output_of v es) (records_to setup v e) (records_of setup v es)
+      (spelled_to v e told.0 (All-head (λ (x : Entry). IsState setup (state_before x)) e es are))
+      (output_spelled v es told.1
+      (All-tail (λ (x : Entry). IsState setup (state_before x)) e es are))
+
+  pub former_spelled : (es : List Entry) → Each (IsTold job) es
+      → All (λ e. IsState setup (state_before e)) es
+      → Spells (former_output es) (former_records setup es)
+  former_spelled [] told are = nothing_spelled
+  former_spelled (e ∷ es) told are =
+      laws.joined (text_added e) (former_output es) (records_added setup e)
+      (former_records setup es)
       (entry_spelled e told.0 (All-head (λ (x : Entry). IsState setup (state_before x)) e es are))
-      (all_spelled es told.1 (All-tail (λ (x : Entry). IsState setup (state_before x)) e es are))
+      (former_spelled es told.1
+      (All-tail (λ (x : Entry). IsState setup (state_before x)) e es are))
 
   pub is_reread : (rules : List Rule) → KeepsStates setup rules → IsReread setup rules
   is_reread rules keeps =
-      all_spelled (undivided_run setup rules).entries (run_told job job_is.outputs rules)
-      (keeps.run (start setup) keeps.begins)
+      let told = run_told job job_is.outputs rules in
+      let are = keeps.run (start setup) keeps.begins in
+      record {
+        each = λ v. output_spelled v (undivided_run setup rules).entries told are;
+        former = former_spelled (undivided_run setup rules).entries told are;
+      }
+
+-- ---- what is read of them
+
+pub read_as :
+    (found : Result (Option (List Record)) Memory) {bytes text : List ℕ} (rs : List Record)
+    → IfOk found (λ x. (ss : List Record) → Spells bytes ss → x ≡ Some ss) → bytes ≡ text
+    → Spells text rs → IfOk found (λ x. x ≡ Some rs)
+read_as (Ok x) {bytes} rs only is spelled =
+    only rs (subst (λ (b : List ℕ). Spells b rs) (sym is) spelled)
+read_as (Err e) rs only is spelled = tt

@@ -1,11 +1,12 @@
 -- The records of a few entries of a small grid.
-use Rattle.std.specs.Prelude.{◌≡◌, refl, true, false, pos, negsuc, [], ◌∷◌, codes}
+use Rattle.std.specs.Prelude.{◌≡◌, refl, ℕ, true, false, pos, negsuc, List, [], ◌∷◌, codes}
 use Rattle.cx_text.specs.declared.ctype.CType.TheVariants.{Int}
 use Rattle.cx_plan.specs.declared.variable.VarId.{VarId}
 use Rattle.cx_plan.specs.Setups.{Setup}
 use Rattle.cx_rule.specs.States.{State}
-use Rattle.cx_model.specs.Traces.{Rotated, Wrote, Saved}
-use Rattle.law_output_read.specs.RunRecords.{records_of}
+use Rattle.cx_model.specs.Traces.{Entry, Rotated, Wrote, Saved}
+use Rattle.cx_ascii_read.specs.declared.record.Record.{Record}
+use Rattle.law_output_read.specs.RunRecords.{records_of, former_records}
 
 -- three points along x and two along y, a grid variable with two levels and a scalar
 abbrev small : Setup
@@ -44,17 +45,36 @@ state =
     ∷ ((negsuc 6 ∷ []) ∷ [])
     ∷ []
 
--- the sizes along x and y, and the values of the current level, x fastest; then the scalar's one
--- value. What is no text is no record.
-in_order :
-    records_of small (Saved 4 state ∷ Wrote phi 4 [] state ∷ Wrote energy 4 [] state ∷ Rotated state
-    ∷ [])
-    ≡ record {
+-- both variables are written in iteration 4, phi again in iteration 6; the other entries are no
+-- texts
+abbrev entries : List Entry
+entries =
+    Saved 4 state ∷ Wrote phi 4 [] state ∷ Wrote energy 4 [] state ∷ Rotated state
+    ∷ Wrote phi 6 [] state ∷ []
+
+-- the sizes along x and y, and the values of the current level, x fastest
+abbrev phi_at : ℕ → Record
+phi_at iteration =
+    record {
       full = codes "wave::phi";
-      iteration = 4;
+      iteration = iteration;
       size = 3 ∷ 2 ∷ [];
       values = pos 1 ∷ pos 2 ∷ pos 3 ∷ pos 4 ∷ pos 5 ∷ pos 6 ∷ [];
     }
-    ∷ record { full = codes "wave::energy"; iteration = 4; size = []; values = negsuc 6 ∷ [] }
-    ∷ []
+
+-- the scalar's one value
+abbrev energy_at : ℕ → Record
+energy_at iteration =
+    record { full = codes "wave::energy"; iteration = iteration; size = []; values = negsuc 6 ∷ [] }
+
+of_phi : records_of small phi entries ≡ phi_at 4 ∷ phi_at 6 ∷ []
+of_phi = refl
+
+of_energy : records_of small energy entries ≡ energy_at 4 ∷ []
+of_energy = refl
+
+of_none : records_of small (record { 0 = 2 }) entries ≡ []
+of_none = refl
+
+in_order : former_records small entries ≡ phi_at 4 ∷ energy_at 4 ∷ phi_at 6 ∷ []
 in_order = refl

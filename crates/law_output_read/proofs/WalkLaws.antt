@@ -1,5 +1,5 @@
 -- What each text of a run is: its variable, its iteration and the numbers that it prints.
-use Rattle.std.proofs.Common.{◌≡◌, refl, ℕ, zero, suc, ◌+◌, ◌≤◌, Bool, true, false, cond, ℤ, pos, negsuc, List, [], ◌∷◌, ◌++◌, length, All, Option, Some, None, arith}
+use Rattle.std.proofs.Common.{◌≡◌, refl, ℕ, zero, suc, ◌+◌, ◌≤◌, Bool, true, false, cond, ℤ, pos, negsuc, List, [], ◌∷◌, ◌++◌, All, Option, Some, None, arith}
 use Rattle.std.specs.List.{flat_map, range_with_len}
 use Rattle.std.proofs.lemmas.List.Elements.{All-head, All-tail}
 use Rattle.cx_plan.specs.declared.variable.VarId.{VarId}
@@ -20,7 +20,7 @@ use Rattle.cx_model.specs.declared.ends.End.TheVariants.{WhileLimit}
 use Rattle.cx_model.specs.Traces.{Entry, Turned, Overflowed, Exchanged, Tested, Rotated, Wrote, Saved, Outcome, Goes, Ends, Trace, stays, ends, does, after, follow, then_go}
 use Rattle.cx_model.specs.Trees.{at_zero, test, turn_trace, loop, run_tree, run_row}
 use Rattle.cx_model.specs.Stages.{Stage, Bin, Rotate, Save, Write, bins, before_analysis, from_analysis, iteration, rest_behind, stages}
-use Rattle.cx_model.specs.Runs.{text_of, all_written, run_stage, run_stages, text_added, passing, stop_or, within_limit, undivided_run}
+use Rattle.cx_model.specs.Runs.{text_of, all_written, run_stage, run_stages, Lengths, no_lengths, lengths_after, passing, stop_or, within_limit, undivided_run}
 use Rattle.cx_model.proofs.WalkLaws.{Each, each-both, OfTrees, walk-tree}
 use Rattle.law_output_read.proofs.NumberLaws.{AreSmall, AreSmallOr, start_small, rotate_small, turn_small}
 
@@ -244,12 +244,12 @@ module _ (job : Job) (outputs : All (λ v. IsStored job v 0) job.out_vars) (rule
         outcome = small;
       }) (keeps_stages ss within.1)
 
-  each_within : (so_far : ℕ) (es : List Entry) (o : Outcome) → Each (IsTold job) es
+  each_within : (so_far : Lengths) (es : List Entry) (o : Outcome) → Each (IsTold job) es
       → Each (IsTold job) (within_limit so_far es o).entries
   each_within so_far [] o each = tt
   each_within so_far (e ∷ es) o each =
-      by (passing so_far e) (within_limit (so_far + length (text_added e)) es o)
-      (each_within (so_far + length (text_added e)) es o each.1)
+      by (passing so_far e) (within_limit (lengths_after so_far e) es o)
+      (each_within (lengths_after so_far e) es o each.1)
     where
       by : (p : Option ℕ) (rest : Trace) → Each (IsTold job) rest.entries
           → Each (IsTold job) (stop_or p (after (e ∷ []) rest)).entries
@@ -259,6 +259,6 @@ module _ (job : Job) (outputs : All (λ v. IsStored job v 0) job.out_vars) (rule
   pub run_told : Each (IsTold job) (undivided_run (setup_of job) rules).entries
   run_told =
       let t = run_stages (setup_of job) rules (stages (setup_of job)) (start (setup_of job)) in
-      each_within 0 t.entries t.outcome
+      each_within no_lengths t.entries t.outcome
       (keeps_stages (stages (setup_of job)) (stages_within (setup_of job))
       (start (setup_of job)) (start_small (setup_of job))).entries

@@ -1,4 +1,4 @@
-//! The output of a job's run, read back.
+//! The outputs of a job's run, read back.
 #![tactic(auto)]
 
 mod reread;

@@ -5,6 +5,7 @@ use Rattle.std.specs.List.{list_any, range_with_len}
 use Rattle.std.proofs.lemmas.Bool.{or_parts}
 use Rattle.law_network.specs.Machine.{IsWork}
 use Rattle.law_network.specs.Agreement.{Ends, takes}
+use Rattle.cx_model.specs.Runs.{Lengths}
 use Rattle.law_parts.specs.Holding.{Held}
 use Rattle.law_parts.specs.Runs.{Run, Oracle, next_op, undivided, op_of, last_of, first_from, parts_in}
 use Rattle.law_parts.specs.Moves.{Message, Channel, receiver, Moves}
@@ -20,10 +21,10 @@ pub record OwedEnds (tells : Type 0) (Near : Nearness) (r : Run) (oracle : Oracl
       → (o : Option Held) → Moves tells r k x mails (next_op r x.control) o
       → MatchOption o (is_faulty r k (op_of r n) (undivided r n) ≡ true)
       (λ y. is_faulty r k (op_of r n) (undivided r n) ≡ false)
-  pub bursts : (n b : ℕ) (pieces : ℕ → List (Message tells)) → IsWork (net tells Near r oracle) n
-      → n < last_of r oracle → Books tells r n b
+  pub bursts : (n : ℕ) (b : Lengths) (pieces : ℕ → List (Message tells))
+      → IsWork (net tells Near r oracle) n → n < last_of r oracle → Books tells r n b
       → ((k : ℕ) → k < parts_in r → pieces k ≡ piece_at tells r oracle k n)
-      → (o : Option ℕ) → (net tells Near r oracle).Writes n pieces b o
+      → (o : Option Lengths) → (net tells Near r oracle).Writes n pieces b o
       → MatchOption o (is_full r n ≡ true) (λ c. is_full r n ≡ false)
   -- the first place at which the output is too long is that of a work
   pub full_work : (n : ℕ) → is_full r n ≡ true → ((m : ℕ) → m < n → is_full r m ≡ false)

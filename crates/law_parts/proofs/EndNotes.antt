@@ -1,9 +1,8 @@
 -- What single operations note, and how a run of these notes ends.
-use Rattle.std.proofs.Common.{◌≡◌, ℕ, suc, ◌+◌, Bool, true, false, ltb, leb, List, [], ◌∷◌, ◌++◌, length, length-append, Option, Some, None, is_some, arith, refl, sym, ap, ◌∙◌}
+use Rattle.std.proofs.Common.{◌≡◌, ℕ, suc, ◌+◌, Bool, true, false, ltb, leb, List, [], ◌∷◌, ◌++◌, length, Option, Some, None, is_some, arith, refl, ap, ◌∙◌}
 use Rattle.std.specs.Prelude.{if◌then◌else◌, ◌==◌, slice_index_or}
-use Rattle.std.proofs.lemmas.Bool.{ltb-true, ltb-false, le-leb, leb-true, false_from_ne_true}
-use Rattle.std.proofs.lemmas.List.{append-nil}
-use Rattle.cx_plan.specs.Lookups.{item}
+use Rattle.std.proofs.lemmas.Bool.{eq-eqb, ltb-true, ltb-false, le-leb, leb-true, false_from_ne_true}
+use Rattle.cx_plan.specs.declared.variable.VarId.{VarId}
 use Rattle.cx_plan.specs.Steering.{item_at}
 use Rattle.cx_rule.specs.States.{State}
 use Rattle.cx_model.specs.declared.ends.End.{End}
@@ -11,116 +10,105 @@ use Rattle.cx_model.specs.declared.ends.End.TheVariants.{WhileLimit, OutputLimit
 use Rattle.cx_model.specs.Traces.{Exchanged, Tested, Outcome, Ends, Trace, after}
 use Rattle.cx_model.specs.Turns.{turn}
 use Rattle.cx_model.specs.Courses.{Note, note, turn_note, limit_note, cut, stop_at}
-use Rattle.cx_model.specs.Runs.{within_limit, text_added, text_of, output_of, passing, stop_or, greatest_output}
+use Rattle.cx_model.specs.Runs.{Lengths, grown_by, lengths_after, lengths_behind, within_limit, text_of, passing, stop_or, greatest_output}
 use Rattle.cx_flat.specs.declared.op.Op.{Op}
 use Rattle.cx_flat.specs.declared.op.Op.TheVariants.{Sweep, Apply, Give, Join, Post, Take, Test, Open, Turn, Again, Rotate, Due, Written, Skip, Next, Piece, Save, Halt}
 use Rattle.cx_flat.specs.Flats.{Control, last_turns, notes_at}
 use Rattle.law_parts.specs.Ends.{or_end, met_of}
 use Rattle.law_parts.specs.Runs.{Run, notes_of}
-use Rattle.law_parts.specs.Truths.{entries_of, length_before, passes_limit}
+use Rattle.law_parts.specs.Truths.{entries_of, lengths_before, passes_limit}
 use Rattle.law_parts.proofs.TraceTotals.{AllQuiet}
 
 -- ---- outcomes
 
 -- how a run of these notes ends, with an output of this length before them
-abbrev pub outcome_from : ℕ → List Note → State → Outcome
+abbrev pub outcome_from : Lengths → List Note → State → Outcome
 outcome_from so_far ns state =
     (within_limit so_far (cut ns state).entries (cut ns state).outcome).outcome
 
 -- no text passes the limit
-abbrev pub AllFit : ℕ → List Note → Type 0
+abbrev pub AllFit : Lengths → List Note → Type 0
 AllFit so_far [] = Unit {0}
-AllFit so_far (n ∷ ns) =
-    (passing so_far n.entry ≡ None) × AllFit (so_far + length (text_added n.entry)) ns
+AllFit so_far (n ∷ ns) = (passing so_far n.entry ≡ None) × AllFit (lengths_after so_far n.entry) ns
 
-plus_assoc : (a b c : ℕ) → a + (b + c) ≡ a + b + c
-plus_assoc a b c = omega arith
-
-plus_none : (a : ℕ) → a ≡ a + 0
-plus_none a = omega arith
-
-first_outcome : (so_far : ℕ) (n : Note) (ns : List Note) (state : State) → n.met ≡ None
+first_outcome : (so_far : Lengths) (n : Note) (ns : List Note) (state : State) → n.met ≡ None
     → passing so_far n.entry ≡ None
-    → outcome_from so_far (n ∷ ns) state
-    ≡ outcome_from (so_far + length (text_added n.entry)) ns state
+    → outcome_from so_far (n ∷ ns) state ≡ outcome_from (lengths_after so_far n.entry) ns state
 first_outcome so_far n ns state quiet fit =
     ap (λ (p : Option ℕ). (stop_or p
-    (after (n.entry ∷ []) (within_limit (so_far + length (text_added n.entry))
+    (after (n.entry ∷ []) (within_limit (lengths_after so_far n.entry)
     (stop_at n.met (cut ns state)).entries (stop_at n.met (cut ns state)).outcome))).outcome)
     fit
     ∙ ap (λ (o : Option End).
-    (within_limit (so_far + length (text_added n.entry)) (stop_at o (cut ns state)).entries
+    (within_limit (lengths_after so_far n.entry) (stop_at o (cut ns state)).entries
     (stop_at o (cut ns state)).outcome).outcome) quiet
 
 -- notes that meet no end and pass no limit
-pub goes_through : (so_far : ℕ) (ns more : List Note) (state : State) → AllQuiet ns
+pub goes_through : (so_far : Lengths) (ns more : List Note) (state : State) → AllQuiet ns
     → AllFit so_far ns
     → outcome_from so_far (ns ++ more) state
-    ≡ outcome_from (so_far + length (output_of (entries_of ns))) more state
-goes_through so_far [] more state quiet fit = ap (λ n. outcome_from n more state) (plus_none so_far)
+    ≡ outcome_from (lengths_behind so_far (entries_of ns)) more state
+goes_through so_far [] more state quiet fit = refl
 goes_through so_far (n ∷ ns) more state quiet fit =
     first_outcome so_far n (ns ++ more) state quiet.0 fit.0
-    ∙ goes_through (so_far + length (text_added n.entry)) ns more state quiet.1 fit.1
-    ∙ ap (λ m. outcome_from m more state)
-    (sym (plus_assoc so_far (length (text_added n.entry)) (length (output_of (entries_of ns))))
-    ∙ ap (λ m. so_far + m)
-    (sym (length-append (text_added n.entry) (output_of (entries_of ns)))))
+    ∙ goes_through (lengths_after so_far n.entry) ns more state quiet.1 fit.1
 
 -- and the trace of that run
-abbrev pub trace_from : ℕ → List Note → State → Trace
+abbrev pub trace_from : Lengths → List Note → State → Trace
 trace_from so_far ns state = within_limit so_far (cut ns state).entries (cut ns state).outcome
 
-first_trace : (so_far : ℕ) (n : Note) (ns : List Note) (state : State) → n.met ≡ None
+first_trace : (so_far : Lengths) (n : Note) (ns : List Note) (state : State) → n.met ≡ None
     → passing so_far n.entry ≡ None
     → trace_from so_far (n ∷ ns) state
-    ≡ after (n.entry ∷ []) (trace_from (so_far + length (text_added n.entry)) ns state)
+    ≡ after (n.entry ∷ []) (trace_from (lengths_after so_far n.entry) ns state)
 first_trace so_far n ns state quiet fit =
     ap (λ (p : Option ℕ). stop_or p
-    (after (n.entry ∷ []) (within_limit (so_far + length (text_added n.entry))
+    (after (n.entry ∷ []) (within_limit (lengths_after so_far n.entry)
     (stop_at n.met (cut ns state)).entries (stop_at n.met (cut ns state)).outcome))) fit
     ∙ ap (λ (o : Option End).
-    after (n.entry ∷ []) (within_limit (so_far + length (text_added n.entry))
+    after (n.entry ∷ []) (within_limit (lengths_after so_far n.entry)
     (stop_at o (cut ns state)).entries (stop_at o (cut ns state)).outcome)) quiet
 
-pub trace_through : (so_far : ℕ) (ns more : List Note) (state : State) → AllQuiet ns
+pub trace_through : (so_far : Lengths) (ns more : List Note) (state : State) → AllQuiet ns
     → AllFit so_far ns
     → trace_from so_far (ns ++ more) state
-    ≡ after (entries_of ns)
-    (trace_from (so_far + length (output_of (entries_of ns))) more state)
-trace_through so_far [] more state quiet fit = ap (λ n. trace_from n more state) (plus_none so_far)
+    ≡ after (entries_of ns) (trace_from (lengths_behind so_far (entries_of ns)) more state)
+trace_through so_far [] more state quiet fit = refl
 trace_through so_far (n ∷ ns) more state quiet fit =
     first_trace so_far n (ns ++ more) state quiet.0 fit.0
     ∙ ap (after (n.entry ∷ []))
-    (trace_through (so_far + length (text_added n.entry)) ns more state quiet.1 fit.1)
-    ∙ ap (λ m. after (n.entry ∷ entries_of ns) (trace_from m more state))
-    (sym (plus_assoc so_far (length (text_added n.entry)) (length (output_of (entries_of ns))))
-    ∙ ap (λ m. so_far + m)
-    (sym (length-append (text_added n.entry) (output_of (entries_of ns)))))
+    (trace_through (lengths_after so_far n.entry) ns more state quiet.1 fit.1)
 
 -- an end that is met
-stops_there : (so_far : ℕ) (n : Note) (ns : List Note) (state : State) (end : End)
+stops_there : (so_far : Lengths) (n : Note) (ns : List Note) (state : State) (end : End)
     → n.met ≡ Some end → passing so_far n.entry ≡ None
     → outcome_from so_far (n ∷ ns) state ≡ Ends end
 stops_there so_far n ns state end met fit =
     ap (λ (p : Option ℕ). (stop_or p
-    (after (n.entry ∷ []) (within_limit (so_far + length (text_added n.entry))
+    (after (n.entry ∷ []) (within_limit (lengths_after so_far n.entry)
     (stop_at n.met (cut ns state)).entries (stop_at n.met (cut ns state)).outcome))).outcome)
     fit
     ∙ ap (λ (o : Option End).
-    (within_limit (so_far + length (text_added n.entry)) (stop_at o (cut ns state)).entries
+    (within_limit (lengths_after so_far n.entry) (stop_at o (cut ns state)).entries
     (stop_at o (cut ns state)).outcome).outcome) met
 
 -- a text that passes the limit
-passes_there : (so_far : ℕ) (n : Note) (ns : List Note) (state : State) (iteration : ℕ)
+passes_there : (so_far : Lengths) (n : Note) (ns : List Note) (state : State) (iteration : ℕ)
     → passing so_far n.entry ≡ Some iteration
     → outcome_from so_far (n ∷ ns) state ≡ Ends (OutputLimit iteration)
 passes_there so_far n ns state iteration pass =
     ap (λ (p : Option ℕ). (stop_or p
-    (after (n.entry ∷ []) (within_limit (so_far + length (text_added n.entry))
+    (after (n.entry ∷ []) (within_limit (lengths_after so_far n.entry)
     (stop_at n.met (cut ns state)).entries (stop_at n.met (cut ns state)).outcome))).outcome)
     pass
 
 -- ---- numbers and limits
+
+-- the variable's own length behind its text
+pub grown_there : (so_far : Lengths) (v : VarId) (count : ℕ)
+    → grown_by so_far v count v.0 ≡ so_far v.0 + count
+grown_there so_far v count =
+    ap (λ (b : Bool). if b then so_far v.0 + count else so_far v.0) (eq-eqb v.0 v.0 refl)
 
 not_passed : false ≡ true → ⊥
 not_passed e = absurd cc
@@ -153,32 +141,32 @@ or_some None end e = absurd cc
 
 module _ (r : Run) where
   -- a note whose entry is no text: it passes no limit
-  abbrev pub OneNote : ℕ → List Note → Type 0
+  abbrev pub OneNote : Lengths → List Note → Type 0
   OneNote so_far [] = Unit {0}
   OneNote so_far (n ∷ []) = passing so_far n.entry ≡ None
   OneNote so_far (n ∷ m ∷ ns) = ⊥
 
-  pub fits_one : (so_far : ℕ) (ns : List Note) → OneNote so_far ns → met_of ns ≡ None
+  pub fits_one : (so_far : Lengths) (ns : List Note) → OneNote so_far ns → met_of ns ≡ None
       → AllQuiet ns × AllFit so_far ns
   fits_one so_far [] h e = (tt, tt)
   fits_one so_far (n ∷ []) h e = ((or_none n.met e, tt), (h, tt))
   fits_one so_far (n ∷ m ∷ ns) h e = absurd h
 
-  pub ends_one : (so_far : ℕ) (ns more : List Note) (state : State) (end : End) → OneNote so_far ns
-      → met_of ns ≡ Some end → outcome_from so_far (ns ++ more) state ≡ Ends end
+  pub ends_one : (so_far : Lengths) (ns more : List Note) (state : State) (end : End)
+      → OneNote so_far ns → met_of ns ≡ Some end → outcome_from so_far (ns ++ more) state ≡ Ends end
   ends_one so_far [] more state end h e = absurd cc
   ends_one so_far (n ∷ []) more state end h e =
       stops_there so_far n more state end (or_some n.met end e) h
   ends_one so_far (n ∷ m ∷ ns) more state end h e = absurd h
 
-  turn_one : (so_far k iteration : ℕ) (before : State) (o : Option State)
+  turn_one : (so_far : Lengths) (k iteration : ℕ) (before : State) (o : Option State)
       → OneNote so_far (turn_note k (item_at r.setup k iteration) iteration before o ∷ [])
   turn_one so_far k iteration before None = refl
   turn_one so_far k iteration before (Some s) = refl
 
   -- whether a text passes the limit by its length
-  abbrev pub passes_by : ℕ → Op → List Note → Bool
-  passes_by so_far (Piece v) ns = ltb greatest_output (so_far + length (output_of (entries_of ns)))
+  abbrev pub passes_by : Lengths → Op → List Note → Bool
+  passes_by so_far (Piece v) ns = ltb greatest_output (lengths_behind so_far (entries_of ns) v.0)
   passes_by so_far _ ns = false
 
   text_fits : (a b : ℕ) (iteration : ℕ) → leb a b ≡ true
@@ -189,11 +177,12 @@ module _ (r : Run) where
       → ◌≡◌ {A = Option ℕ} (if leb a b then None else Some iteration) (Some iteration)
   text_passes a b iteration e = ap (λ (t : Bool). if t then None else Some iteration) e
 
-  text_length : (so_far : ℕ) (text : List ℕ) → so_far + length (text ++ []) ≡ so_far + length text
-  text_length so_far text = ap (λ (xs : List ℕ). so_far + length xs) (append-nil text)
+  text_length : (so_far : Lengths) (v : VarId) (count : ℕ)
+      → grown_by so_far v count v.0 ≡ so_far v.0 + count
+  text_length so_far v count = grown_there so_far v count
 
   -- an operation that passes no limit notes nothing that does
-  pub op_one : (o : Op) (c : Control) (s : State) (so_far : ℕ)
+  pub op_one : (o : Op) (c : Control) (s : State) (so_far : Lengths)
       → passes_by so_far o (notes_at r.setup r.rules o c s) ≡ false
       → OneNote so_far (notes_at r.setup r.rules o c s)
   op_one (Sweep i) c s so_far h =
@@ -229,24 +218,24 @@ module _ (r : Run) where
   op_one (Next back) c s so_far h = tt
   op_one (Piece v) c s so_far h =
       let text = text_of r.setup c.iteration s v in
-      text_fits (so_far + length text) greatest_output c.iteration
-      (within greatest_output (so_far + length text) (so_far + length (text ++ [])) h
-      (text_length so_far text))
+      text_fits (so_far v.0 + length text) greatest_output c.iteration
+      (within greatest_output (so_far v.0 + length text) (grown_by so_far v (length text) v.0) h
+      (text_length so_far v (length text)))
   op_one Save c s so_far h = refl
   op_one Halt c s so_far h = tt
 
   -- one that passes it ends the run there
-  pub op_full : (o : Op) (c : Control) (s : State) (so_far : ℕ) (more : List Note) (state : State)
-      → passes_by so_far o (notes_at r.setup r.rules o c s) ≡ true
+  pub op_full : (o : Op) (c : Control) (s : State) (so_far : Lengths) (more : List Note)
+      (state : State) → passes_by so_far o (notes_at r.setup r.rules o c s) ≡ true
       → outcome_from so_far (notes_at r.setup r.rules o c s ++ more) state
       ≡ Ends (OutputLimit c.iteration)
   op_full (Piece v) c s so_far more state h =
       let text = text_of r.setup c.iteration s v in
       passes_there so_far (slice_index_or (notes_at r.setup r.rules (Piece v) c s) 0
       (note (Tested v [] s))) more state c.iteration
-      (text_passes (so_far + length text) greatest_output c.iteration
-      (beyond greatest_output (so_far + length text) (so_far + length (text ++ [])) h
-      (text_length so_far text)))
+      (text_passes (so_far v.0 + length text) greatest_output c.iteration
+      (beyond greatest_output (so_far v.0 + length text) (grown_by so_far v (length text) v.0) h
+      (text_length so_far v (length text))))
   op_full (Sweep i) c s so_far more state h = absurd (not_passed h)
   op_full (Apply i) c s so_far more state h = absurd (not_passed h)
   op_full (Give i) c s so_far more state h = absurd (not_passed h)
@@ -266,7 +255,7 @@ module _ (r : Run) where
   op_full Halt c s so_far more state h = absurd (not_passed h)
 
   pub by_length : (n : ℕ) (o : Op)
-      → passes_limit r n o ≡ passes_by (length_before r n) o (notes_of r n)
+      → passes_limit r n o ≡ passes_by (lengths_before r n) o (notes_of r n)
   by_length n (Piece v) = refl
   by_length n (Sweep i) = refl
   by_length n (Apply i) = refl

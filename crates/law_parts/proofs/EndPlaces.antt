@@ -16,7 +16,7 @@ use Rattle.cx_flat.specs.Flats.{notes_at, noted_from, flat_from}
 use Rattle.cx_flat.specs.Laws.{RunsAs}
 use Rattle.law_parts.specs.Ends.{noted, met_of, end_at, EndsBy}
 use Rattle.law_parts.specs.Runs.{Run, parts_in, undivided, op_of, notes_of}
-use Rattle.law_parts.specs.Truths.{entries_of, is_faulty, length_before, passes_limit, is_full, ends_at}
+use Rattle.law_parts.specs.Truths.{entries_of, is_faulty, lengths_before, passes_limit, is_full, ends_at}
 use Rattle.law_parts.proofs.TraceTotals.{entries_both}
 use Rattle.law_parts.proofs.EndTiles.{tiles_meet}
 use Rattle.law_parts.proofs.WholeRun.{IsRun, names_at}
@@ -27,7 +27,7 @@ use Rattle.law_parts.proofs.EndNotes.{outcome_from, trace_from, trace_through, O
 module _ (r : Run) (run : IsRun r) (some_part : 0 < parts_in r) (state : State) where
   -- how the run goes on from a place, over so many operations
   abbrev pub rest_outcome : ℕ → ℕ → Outcome
-  rest_outcome n m = outcome_from (length_before r n)
+  rest_outcome n m = outcome_from (lengths_before r n)
       (noted_from r.setup r.rules (code r.setup) m (undivided r n)) state
 
   meets : (n : ℕ) → list_any (λ k. is_faulty r k (op_of r n) (undivided r n))
@@ -35,18 +35,18 @@ module _ (r : Run) (run : IsRun r) (some_part : 0 < parts_in r) (state : State) 
   meets n = tiles_meet r run some_part (op_of r n) (undivided r n)
       (names_at r run (undivided r n).control.pc)
 
-  one_there : (n : ℕ) → is_full r n ≡ false → OneNote r (length_before r n) (notes_of r n)
+  one_there : (n : ℕ) → is_full r n ≡ false → OneNote r (lengths_before r n) (notes_of r n)
   one_there n h = op_one r (op_of r n) (undivided r n).control (undivided r n).state
-      (length_before r n) (sym (by_length r n (op_of r n)) ∙ h)
+      (lengths_before r n) (sym (by_length r n (op_of r n)) ∙ h)
 
   step : (n m : ℕ) → ends_at r n ≡ false → rest_outcome n (suc m) ≡ rest_outcome (suc n) m
   step n m h =
       let both =
       or_parts (list_any (λ k. is_faulty r k (op_of r n) (undivided r n))
       (range_with_len 0 (parts_in r))) (is_full r n) h in
-      let fine = fits_one r (length_before r n) (notes_of r n) (one_there n both.1)
+      let fine = fits_one r (lengths_before r n) (notes_of r n) (one_there n both.1)
       (met_none (met_of (notes_of r n)) (sym (meets n) ∙ both.0)) in
-      goes_through (length_before r n) (notes_of r n)
+      goes_through (lengths_before r n) (notes_of r n)
       (noted_from r.setup r.rules (code r.setup) m (undivided r (suc n))) state fine.0 fine.1
 
   through : (n m : ℕ) → ((j : ℕ) → j < n → ends_at r j ≡ false)
@@ -71,7 +71,7 @@ module _ (r : Run) (run : IsRun r) (some_part : 0 < parts_in r) (state : State) 
       by_met : is_full r n ≡ false → (end : End) × (met_of (notes_of r n) ≡ Some end)
           → EndsBy (met_of (notes_of r n)) (rest_outcome n (suc m))
       by_met f x = subst (λ (o : Option End). EndsBy o (rest_outcome n (suc m))) (sym x.1)
-          (ends_one r (length_before r n) (notes_of r n) more state x.0 (one_there n f) x.1)
+          (ends_one r (lengths_before r n) (notes_of r n) more state x.0 (one_there n f) x.1)
 
       go : (b : Bool) → is_full r n ≡ b
           → EndsBy (if is_full r n then Some (OutputLimit (undivided r n).control.iteration)
@@ -80,7 +80,7 @@ module _ (r : Run) (run : IsRun r) (some_part : 0 < parts_in r) (state : State) 
           subst (λ (b : Bool). EndsBy
           (if b then Some (OutputLimit (undivided r n).control.iteration)
           else met_of (notes_of r n)) (rest_outcome n (suc m))) (sym e)
-          (op_full r (op_of r n) (undivided r n).control (undivided r n).state (length_before r n)
+          (op_full r (op_of r n) (undivided r n).control (undivided r n).state (lengths_before r n)
           more state (sym (by_length r n (op_of r n)) ∙ e))
       go false e =
           subst (λ (b : Bool). EndsBy
@@ -129,7 +129,7 @@ module _ (r : Run) (run : IsRun r) (some_part : 0 < parts_in r) (state : State) 
   -- ---- what is noted before
 
   abbrev pub rest_trace : ℕ → ℕ → Trace
-  rest_trace n m = trace_from (length_before r n)
+  rest_trace n m = trace_from (lengths_before r n)
       (noted_from r.setup r.rules (code r.setup) m (undivided r n)) state
 
   trace_step : (n m : ℕ) → ends_at r n ≡ false
@@ -138,9 +138,9 @@ module _ (r : Run) (run : IsRun r) (some_part : 0 < parts_in r) (state : State) 
       let both =
       or_parts (list_any (λ k. is_faulty r k (op_of r n) (undivided r n))
       (range_with_len 0 (parts_in r))) (is_full r n) h in
-      let fine = fits_one r (length_before r n) (notes_of r n) (one_there n both.1)
+      let fine = fits_one r (lengths_before r n) (notes_of r n) (one_there n both.1)
       (met_none (met_of (notes_of r n)) (sym (meets n) ∙ both.0)) in
-      trace_through (length_before r n) (notes_of r n)
+      trace_through (lengths_before r n) (notes_of r n)
       (noted_from r.setup r.rules (code r.setup) m (undivided r (suc n))) state fine.0 fine.1
 
   after_both : (a b : List Entry) (t : Trace) → after a (after b t) ≡ after (a ++ b) t

@@ -2,7 +2,7 @@
 use Rattle.std.proofs.Common.{◌≡◌, ℕ, suc, ◌<◌, ◌≤◌, ℤ, pos, ◌≤ℤ◌, true, List, [], ◌∷◌, length, Option, None, Some, arith, refl, sym, ap, ◌∙◌}
 use Rattle.std.specs.Prelude.{is_some}
 use Rattle.std.proofs.lemmas.Int.{ints}
-use Rattle.cx_model.specs.Runs.{output_of}
+use Rattle.cx_model.specs.Runs.{Lengths}
 use Rattle.cx_cut.specs.Axis.{IsAxisCut}
 use Rattle.cx_cut.specs.Cuts.{parts_along, part_count}
 use Rattle.cx_cut.proofs.Boxed.{by_direction, part_below}
@@ -12,8 +12,8 @@ use Rattle.law_network.specs.Machine.{IsWork}
 use Rattle.law_network.specs.Agreement.{Fits}
 use Rattle.law_parts.specs.Moves.{buffer_of}
 use Rattle.law_parts.specs.Nets.{Nearness, net, within_lead, in_lockstep}
-use Rattle.law_parts.specs.Runs.{Run, Oracle, cut_of, parts_in, next_op, undivided, op_of, notes_of, guided}
-use Rattle.law_parts.specs.Truths.{truth, script, entries_of, Agrees, GivesAt, Books}
+use Rattle.law_parts.specs.Runs.{Run, Oracle, cut_of, parts_in, next_op, undivided, op_of, guided}
+use Rattle.law_parts.specs.Truths.{truth, script, lengths_before, Agrees, GivesAt, Books}
 use Rattle.law_parts.proofs.BookLaws.{kept_by}
 use Rattle.law_parts.proofs.HandLaws.{hands_on}
 use Rattle.law_parts.proofs.MoveLaws.{IsTrueOracle, same, exchanges, moves_on}
@@ -98,17 +98,16 @@ module _ (tells : Type 0) (r : Run) (run : IsRun r) (oracle : Oracle)
         refl work.0 b c work.1 (old t) w;
   }
     where
-      stay : (Near : Nearness) (n b : ℕ)
+      stay : (Near : Nearness) (n : ℕ) (b : Lengths)
           → (net tells Near r oracle).buffer ((net tells Near r oracle).way n) ≡ None
           → Books tells r n b → Books tells r (suc n) b
       stay Near n b e old t =
           let q : buffer_of r (op_of r n) ≡ None =
           ap (λ g. buffer_of r (next_op r g.control))
           (sym (same tells r run oracle is_true t n)) ∙ e in
-          let z : length (output_of (entries_of (notes_of r n))) ≡ 0 =
-          ap length (op_silent r (op_of r n) (undivided r n).control (undivided r n).state q) in
-          let was = old t in
-          omega (arith, was, z)
+          old t
+          ∙ sym (op_silent r (op_of r n) (undivided r n).control (undivided r n).state q
+          (lengths_before r n))
 
   -- by the lead, and in lockstep
   pub lead_fits : Fits (net tells within_lead r oracle) (script tells r oracle)

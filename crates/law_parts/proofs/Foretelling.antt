@@ -9,6 +9,7 @@ use Rattle.cx_flat.specs.Ways.{WayEnds}
 use Rattle.law_network.specs.Machine.{World}
 use Rattle.law_network.specs.Agreement.{Woven}
 use Rattle.law_network.proofs.Prefix.{Frees, oracle_kept}
+use Rattle.cx_model.specs.Runs.{Lengths}
 use Rattle.law_parts.specs.Holding.{Held}
 use Rattle.law_parts.specs.Runs.{Run, Oracle, next_op, undivided, guided, halts, last_of, parts_in}
 use Rattle.law_parts.specs.Moves.{Message, Channel, Board, sender, receiver, is_there, op_posts, op_hands, faces_by, piece_by, state_by}
@@ -132,7 +133,7 @@ module _ (r : Run) (oracle other : Oracle) where
           inner m l h (inr q) = absurd (not_before m l h q)
 
       -- what holds by one oracle holds by the other
-      pub woven_other : (w : World Held (Message tells) Channel ℕ)
+      pub woven_other : (w : World Held (Message tells) Channel Lengths)
           → Woven (net tells Near r oracle) (script tells r oracle) (Agrees tells r oracle)
           (Books tells r) w → w.place k < p
           → Woven (net tells Near r other) (script tells r other) (Agrees tells r other)

@@ -7,6 +7,7 @@ use Rattle.cx_flat.specs.Ways.{WayEnds}
 use Rattle.law_network.specs.Machine.{World, CanMove, taken_now, moved}
 use Rattle.law_network.specs.Agreement.{Fits, Woven, takes}
 use Rattle.law_network.proofs.Steps.{inside, found, move_kept}
+use Rattle.cx_model.specs.Runs.{Lengths}
 use Rattle.law_parts.specs.Holding.{Held}
 use Rattle.law_parts.specs.Laws.{IsOracle}
 use Rattle.law_parts.specs.Moves.{Message, Channel, receiver, number_by, buffer_of, Moves, held_values}
@@ -40,7 +41,7 @@ foretold_else o k p number j n out = go (cases_eq j k) (cases_eq n p)
     go (inr e) f = ap (λ b. cond b (cond (eqb n p) number (o j n)) (o j n)) (ne_eqb j k e)
 
 module _ (tells : Type 0) (r : Run) (run : IsRun r) (o : Oracle) (is : IsOracle tells r o)
-    (w : World Held (Message tells) Channel ℕ)
+    (w : World Held (Message tells) Channel Lengths)
     (inv : Woven (net tells within_lead r o) (script tells r o) (Agrees tells r o) (Books tells r)
     w) (k : ℕ) (can : CanMove (net tells within_lead r o) w k)
     (y : Held) (move : Moves tells r k (w.held k) (taken_now (net tells within_lead r o) w k)

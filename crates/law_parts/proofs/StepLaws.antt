@@ -4,6 +4,7 @@ use Rattle.std.proofs.Math.Path.{fun_ext}
 use Rattle.law_network.specs.Machine.{World, Event, Part, Write, End, Can, After, IsWork}
 use Rattle.law_network.specs.Agreement.{Fits, Ends, Woven, Ended}
 use Rattle.law_network.proofs.Runs as runs
+use Rattle.cx_model.specs.Runs.{Lengths}
 use Rattle.law_parts.specs.Holding.{Held}
 use Rattle.law_parts.specs.Laws.{IsOracle, IsReachedState, StepsKeep}
 use Rattle.law_parts.specs.Moves.{Message, Channel, buffer_of}
@@ -40,7 +41,7 @@ module _ (tells : Type 0) (r : Run) (run : IsRun r) where
         → IsWork (net tells within_lead r o) n
     work_same n w = (w.0, ap (λ c. buffer_of r (next_op r c)) (way_same n) ∙ w.1)
 
-    pub ended_other : (v : World Held (Message tells) Channel ℕ)
+    pub ended_other : (v : World Held (Message tells) Channel Lengths)
         → Ended (net tells within_lead r o) (script tells r o) v
         → Ended (net tells within_lead r other) (script tells r other) v
     ended_other v e = record {
@@ -55,7 +56,7 @@ module _ (tells : Type 0) (r : Run) (run : IsRun r) where
           );
     }
 
-  module _ (o : Oracle) (w v : World Held (Message tells) Channel ℕ)
+  module _ (o : Oracle) (w v : World Held (Message tells) Channel Lengths)
       (st : IsReachedState tells r o w) where
     -- an event behind which the same numbers were foretold
     same_oracle : (e : Event) → Can (net tells within_lead r o) w e
@@ -91,7 +92,7 @@ module _ (tells : Type 0) (r : Run) (run : IsRun r) where
     step (Part k) can (inr a) = (
       o,
       same_oracle (Part k) can (inr a)
-          (subst (λ (u : World Held (Message tells) Channel ℕ).
+          (subst (λ (u : World Held (Message tells) Channel Lengths).
           GivesAt r o k (u.place k) (u.held k)) (sym a.2) (st.woven.agrees k can.part).gives),
     )
     step (Write n) can a = (o, same_oracle (Write n) can a tt)

@@ -1,7 +1,6 @@
 -- The text that the pieces of all parts make is the undivided run's.
-use Rattle.std.proofs.Common.{◌≡◌, ℕ, suc, ◌+◌, ◌<◌, Bool, true, false, List, [], ◌∷◌, ◌++◌, length, get_or, arith, refl, sym, ap, ◌∙◌, ℤ, pos}
+use Rattle.std.proofs.Common.{◌≡◌, ℕ, suc, ◌<◌, Bool, true, false, List, [], ◌∷◌, length, get_or, refl, sym, ap, ◌∙◌, ℤ, pos}
 use Rattle.std.specs.Prelude.{if◌then◌else◌}
-use Rattle.std.proofs.lemmas.List.{append-nil}
 use Rattle.cx_grid.specs.declared.boxes.Point.{Point}
 use Rattle.cx_grid.specs.Boxes.{IsIn, index_in, point_count, numbers_in}
 use Rattle.cx_grid.specs.Grid.{at, whole}
@@ -10,7 +9,7 @@ use Rattle.cx_plan.specs.declared.variable.VarId.{VarId}
 use Rattle.cx_plan.specs.Lookups.{is_scalar, variable}
 use Rattle.cx_rule.specs.States.{State, level_of, scalar_of}
 use Rattle.cx_rule.specs.Sweeps.{first_point}
-use Rattle.cx_model.specs.Runs.{text_of, output_of}
+use Rattle.cx_model.specs.Runs.{text_of, grown_by, lengths_behind}
 use Rattle.cx_model.specs.Turns.{values_of}
 use Rattle.cx_model.proofs.PointLaws.{wrap-own}
 use Rattle.cx_ascii.specs.Output.{section, line}
@@ -23,7 +22,7 @@ use Rattle.law_parts.specs.Moves.{Message, op_hands, piece_by, state_by}
 use Rattle.law_parts.specs.Nets.{only_level, IsGathered, IsTextOf}
 use Rattle.law_parts.specs.Operations.{IsCurrent}
 use Rattle.law_parts.specs.Runs.{Run, Oracle, cut_of, parts_in, undivided, guided}
-use Rattle.law_parts.specs.Truths.{piece_at, entries_of, length_before}
+use Rattle.law_parts.specs.Truths.{piece_at, entries_of, lengths_before}
 use Rattle.law_parts.proofs.ListLaws.{number_in}
 use Rattle.law_parts.proofs.MoveLaws.{IsTrueOracle, same, op_same}
 use Rattle.law_parts.proofs.Places.{guided_op}
@@ -97,23 +96,19 @@ module _ (tells : Type 0) (r : Run) (run : IsRun r) (oracle : Oracle)
         go true e = ap (line (variable r.setup v).full iteration) (sym (scalar_number e))
         go false e = (level_of now v 0, gathered e, refl)
 
-    pub grew : length_before r (suc n)
-        ≡ length_before r n + length (text_of r.setup (guided r oracle n).control.iteration now v)
+    pub grew : lengths_before r (suc n)
+        ≡ grown_by (lengths_before r n) v
+        (length (text_of r.setup (guided r oracle n).control.iteration now v))
     grew =
-        ap (λ o. length_before r n
-        + length
-        (output_of (entries_of (notes_at r.setup r.rules o (undivided r n).control now))))
+        ap (λ o. lengths_behind (lengths_before r n)
+        (entries_of (notes_at r.setup r.rules o (undivided r n).control now)))
         (op_same tells r run oracle is_true n (Piece v) there t)
-        ∙ ap (λ g. length_before r n + length (text_of r.setup g.control.iteration now v ++ []))
+        ∙ ap (λ g. grown_by (lengths_before r n) v
+        (length (text_of r.setup g.control.iteration now v)))
         (sym (same tells r run oracle is_true t n))
-        ∙ ap (λ xs. length_before r n + length xs)
-        (append-nil (text_of r.setup (guided r oracle n).control.iteration now v))
 
-  pub stays : guided_op r oracle n ≡ Save → length_before r (suc n) ≡ length_before r n
+  pub stays : guided_op r oracle n ≡ Save → lengths_before r (suc n) ≡ lengths_before r n
   stays e =
-      let q : length_before r (suc n) ≡ length_before r n + 0 =
-      ap (λ o. length_before r n
-      + length
-      (output_of (entries_of (notes_at r.setup r.rules o (undivided r n).control now))))
-      (op_same tells r run oracle is_true n Save e t) in
-      omega (arith, q)
+      ap (λ o. lengths_behind (lengths_before r n)
+      (entries_of (notes_at r.setup r.rules o (undivided r n).control now)))
+      (op_same tells r run oracle is_true n Save e t)

@@ -1,5 +1,5 @@
 -- A run that comes to no end has all entries that its operations note.
-use Rattle.std.proofs.Common.{◌≡◌, ℕ, zero, suc, ◌+◌, ◌<◌, false, List, [], ◌∷◌, ◌++◌, length, Option, Some, None, arith, refl, sym, ap, ◌∙◌, subst, append_assoc}
+use Rattle.std.proofs.Common.{◌≡◌, ℕ, zero, suc, ◌<◌, false, List, [], ◌∷◌, ◌++◌, Option, Some, None, arith, refl, sym, ap, ◌∙◌, subst, append_assoc}
 use Rattle.std.proofs.lemmas.List.{append-nil}
 use Rattle.cx_plan.specs.Setups.{Setup}
 use Rattle.cx_rule.specs.Routine.{Rule}
@@ -7,7 +7,7 @@ use Rattle.cx_rule.specs.States.{State}
 use Rattle.cx_model.specs.declared.ends.End.{End}
 use Rattle.cx_model.specs.Traces.{Entry, Outcome, Goes, Trace, after}
 use Rattle.cx_model.specs.Courses.{Note, cut, stop_at}
-use Rattle.cx_model.specs.Runs.{within_limit, text_added, passing, stop_or}
+use Rattle.cx_model.specs.Runs.{Lengths, lengths_after, within_limit, passing, stop_or}
 use Rattle.cx_flat.specs.declared.op.Op.{Op}
 use Rattle.cx_flat.specs.Code.{op_at, code}
 use Rattle.cx_flat.specs.Flats.{Flat, stepped, flat_from, noted_from, notes_at, is_halt, GoesOn}
@@ -53,15 +53,15 @@ cut_goes (n ∷ ns) state last e = go (cut_goes ns state last) n.met refl e
         )
     go more (Some end) q h = absurd cc
 
-limit_goes : (so_far : ℕ) (es : List Entry) (o : Outcome) (last : State)
+limit_goes : (so_far : Lengths) (es : List Entry) (o : Outcome) (last : State)
     → (within_limit so_far es o).outcome ≡ Goes last
     → ((within_limit so_far es o).entries ≡ es) × (o ≡ Goes last)
 limit_goes so_far [] o last e = (refl, e)
 limit_goes so_far (x ∷ es) o last e =
-    go (limit_goes (so_far + length (text_added x)) es o last) (passing so_far x) refl e
+    go (limit_goes (lengths_after so_far x) es o last) (passing so_far x) refl e
   where
     rest : Trace
-    rest = within_limit (so_far + length (text_added x)) es o
+    rest = within_limit (lengths_after so_far x) es o
 
     go : (rest.outcome ≡ Goes last → (rest.entries ≡ es) × (o ≡ Goes last)) → (p : Option ℕ)
         → passing so_far x ≡ p → (stop_or p (after (x ∷ []) rest)).outcome ≡ Goes last

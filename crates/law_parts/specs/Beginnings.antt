@@ -4,14 +4,15 @@ use Rattle.cx_plan.specs.declared.job.Job.{Job}
 use Rattle.cx_plan.specs.Setups.{Setup, setup_of}
 use Rattle.cx_rule.specs.Routine.{Rule}
 use Rattle.cx_rule.specs.States.{State}
+use Rattle.cx_model.specs.Runs.{Lengths}
 use Rattle.cx_model.specs.States.{IsState}
 use Rattle.law_parts.specs.Runs.{Run, from_start, from_state}
 
--- where a run begins: at its start, or in a state of the checkpoint place of an iteration, with an
--- output of this length
+-- where a run begins: at its start, or in a state of the checkpoint place of an iteration, with
+-- outputs of these lengths
 pub data Beginning : Type 0 where
   Afresh : Beginning
-  From : (c : ℕ) → State → (so_far : ℕ) → Beginning
+  From : (c : ℕ) → State → (so_far : Lengths) → Beginning
 
 -- such a state is a whole one, of an iteration of the run
 abbrev pub IsBeginning : Setup → Beginning → Type 0

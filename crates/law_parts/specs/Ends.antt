@@ -5,6 +5,7 @@ use Rattle.cx_model.specs.declared.ends.End.{End}
 use Rattle.cx_model.specs.declared.ends.End.TheVariants.{OutputLimit}
 use Rattle.cx_model.specs.Courses.{Note}
 use Rattle.cx_model.specs.Traces.{Entry, Outcome, Goes, Ends, Trace}
+use Rattle.cx_model.specs.Runs.{Lengths}
 use Rattle.law_network.specs.Machine.{World, Event, begun}
 use Rattle.law_network.specs.Orders.{Order}
 use Rattle.law_parts.specs.Holding.{Held}
@@ -23,7 +24,7 @@ abbrev pub met_of : List Note → Option End
 met_of [] = None
 met_of (n ∷ ns) = or_end n.met (met_of ns)
 
--- the end that is met at a place, by the limit of the output or by what is noted there
+-- the end that is met at a place, by the limit of an output or by what is noted there
 abbrev pub end_at : Run → ℕ → Option End
 end_at r n = if is_full r n then Some (OutputLimit (undivided r n).control.iteration)
     else met_of (notes_of r n)
@@ -48,7 +49,7 @@ pub record EndsAt (r : Run) (trace : Trace) (n : ℕ) : Type 0 where
 -- there.
 abbrev pub OneEnd : Nearness → Run → Trace → Type 0
 OneEnd Near r trace =
-    (events : List Event) (w : World Held (Message (Unit {0})) Channel ℕ)
+    (events : List Event) (w : World Held (Message (Unit {0})) Channel Lengths)
     → Order (net (Unit {0}) Near r (truth r)) (λ k n x. Unit {0})
     (begun (net (Unit {0}) Near r (truth r))) events w
     → (n : ℕ) → w.over ≡ Some n → EndsAt r trace n

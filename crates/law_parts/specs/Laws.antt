@@ -1,5 +1,6 @@
 -- What holds of a run in parts.
 use Rattle.std.specs.Prelude.{ℕ, ◌<◌, ◌≡◌}
+use Rattle.cx_model.specs.Runs.{Lengths}
 use Rattle.law_network.specs.Machine.{World, Event, Can, After, begun}
 use Rattle.law_network.specs.Agreement.{Woven, Ended}
 use Rattle.law_network.specs.Orders.{EveryOrder}
@@ -31,7 +32,7 @@ pub record IsOracle (tells : Type 0) (r : Run) (oracle : Oracle) : Type 0 where
 -- a state that is reached: by what the parts have given and are to give, each of them agrees at its
 -- own place and each queue is right; and where wires tell, ends are the undivided run's
 pub record IsReachedState (tells : Type 0) (r : Run) (oracle : Oracle)
-    (w : World Held (Message tells) Channel ℕ) : Type 0 where
+    (w : World Held (Message tells) Channel Lengths) : Type 0 where
   pub oracle_is : IsOracle tells r oracle
   pub woven : Woven (net tells within_lead r oracle) (script tells r oracle) (Agrees tells r oracle)
       (Books tells r) w
@@ -41,7 +42,7 @@ pub record IsReachedState (tells : Type 0) (r : Run) (oracle : Oracle)
 -- may differ in what the part is to give next.
 pub record StepsKeep (tells : Type 0) (r : Run) : Type 0 where
   pub begins : IsReachedState tells r (truth r) (begun (net tells within_lead r (truth r)))
-  pub keeps : (oracle : Oracle) (w v : World Held (Message tells) Channel ℕ) (e : Event)
+  pub keeps : (oracle : Oracle) (w v : World Held (Message tells) Channel Lengths) (e : Event)
       → IsReachedState tells r oracle w
       → Can (net tells within_lead r oracle) w e → After (net tells within_lead r oracle) w e v
       → (other : Oracle) × IsReachedState tells r other v

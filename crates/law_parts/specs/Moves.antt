@@ -3,7 +3,7 @@
 -- A wire tells what it carries, or nothing is known of it. What a wire tells is a function from
 -- `tells`, the wire's own statement that it carries the truth: of a wire that tells nothing such a
 -- function says nothing, so these definitions serve for both.
-use Rattle.std.specs.Prelude.{ℕ, zero, suc, ◌+◌, ◌*◌, ◌<◌, ◌≡◌, Bool, true, false, ◌&&◌, ◌==◌, nat_lt, ℤ, pos, List, [], ◌∷◌, ◌++◌, map, length, drop, Option, Some, None, cond, if◌then◌else◌, slice_index_or}
+use Rattle.std.specs.Prelude.{ℕ, zero, suc, ◌+◌, ◌*◌, ◌<◌, ◌≡◌, Bool, true, ◌&&◌, ◌==◌, nat_lt, ℤ, pos, List, [], ◌∷◌, ◌++◌, map, length, drop, Option, Some, None, cond, if◌then◌else◌, slice_index_or}
 use Rattle.cx_grid.specs.declared.boxes.Point.{Point}
 use Rattle.cx_grid.specs.declared.shapes.Side.{Side}
 use Rattle.cx_grid.specs.declared.shapes.Side.TheVariants.{Low, High}

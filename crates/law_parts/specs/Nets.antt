@@ -11,7 +11,7 @@ use Rattle.cx_plan.specs.Lookups.{item, is_scalar, variable}
 use Rattle.cx_plan.specs.Regions.{region_of}
 use Rattle.cx_rule.specs.States.{State, level_of}
 use Rattle.cx_model.specs.Turns.{values_of}
-use Rattle.cx_model.specs.Runs.{greatest_output}
+use Rattle.cx_model.specs.Runs.{Lengths, grown_by, greatest_output}
 use Rattle.cx_ascii.specs.Output.{section, line}
 use Rattle.cx_cut.specs.Cuts.{halo_of, owned, local}
 use Rattle.cx_cut.specs.Neighbours.{partner}
@@ -83,17 +83,17 @@ IsTextOf false t r v iteration pieces text =
     (level : List ℤ) × IsGathered t r pieces level
     × (text ≡ section (variable r.setup v).full iteration r.setup.shape level)
 
-abbrev pub OneOutcome : ℕ → List ℕ → Option ℕ → Type 0
-OneOutcome length_so_far text None = greatest_output < length_so_far + length text
-OneOutcome length_so_far text (Some n) =
-    (length_so_far + length text ≤ greatest_output) × (n ≡ length_so_far + length text)
+abbrev pub OneOutcome : Lengths → VarId → List ℕ → Option Lengths → Type 0
+OneOutcome so_far v text None = greatest_output < so_far v.0 + length text
+OneOutcome so_far v text (Some n) =
+    (so_far v.0 + length text ≤ greatest_output) × (n ≡ grown_by so_far v (length text))
 
--- the length of the output after a work; none where it would pass its limit
-abbrev pub WritesAt : (tells : Type 0) → Run → Op → ℕ → (ℕ → List (Message tells)) → ℕ → Option ℕ
-    → Type 0
+-- the lengths of the outputs after a work; none where its own one would pass the limit
+abbrev pub WritesAt : (tells : Type 0) → Run → Op → ℕ → (ℕ → List (Message tells)) → Lengths
+    → Option Lengths → Type 0
 WritesAt tells r (Piece v) iteration pieces so_far o =
     (t : tells) (text : List ℕ) → IsTextOf (is_scalar r.setup v) t r v iteration pieces text
-    → OneOutcome so_far text o
+    → OneOutcome so_far v text o
 WritesAt tells r _ iteration pieces so_far o = o ≡ Some so_far
 
 -- ---- the network
@@ -138,7 +138,7 @@ in_lockstep r oracle = InLockstep (parts_in r)
     (λ m. is_some (buffer_of r (next_op r (guided r oracle m).control)) ≡ true)
 
 abbrev pub net : (tells : Type 0) → Nearness → Run → Oracle
-    → Net Held (Message tells) Channel Control ℕ
+    → Net Held (Message tells) Channel Control Lengths
 net tells Near r oracle =
     record {
       parts = (parts_in r);
@@ -173,7 +173,7 @@ values_sum t (Handed n state ∷ ms) = values_sum t ms
 
 -- of all messages that were taken of wires
 abbrev pub taken_sum : {tells : Type 0} → tells → Run → Oracle
-    → World Held (Message tells) Channel ℕ → ℕ
+    → World Held (Message tells) Channel Lengths → ℕ
 taken_sum {tells} t r oracle w =
     sum_below (parts_in r) (λ a.
     sum_below (parts_in r) (λ b.

@@ -11,6 +11,7 @@ use Rattle.cx_plan.specs.Regions.{Flags, cleared, is_among}
 use Rattle.cx_rule.specs.Routine.{Rule}
 use Rattle.cx_rule.specs.States.{State, scalar_of}
 use Rattle.cx_model.specs.Courses.{Note, state_or}
+use Rattle.cx_model.specs.Runs.{Lengths, no_lengths}
 use Rattle.cx_model.specs.Needs.{all_set}
 use Rattle.cx_cut.specs.Cuts.{Parts, part_count}
 use Rattle.cx_cut.specs.Faults.{parts_of}
@@ -22,7 +23,7 @@ use Rattle.cx_flat.specs.Ways.{most_operations, most_after}
 use Rattle.cx_flat.specs.Places as places
 use Rattle.law_parts.specs.Holding.{joined, join_turn}
 
--- a run of a setup by these rules over this cut, from a beginning with an output of this length
+-- a run of a setup by these rules over this cut, from a beginning with outputs of these lengths
 pub record Run : Type 0 where
   pub setup : Setup
   pub rules : List Rule
@@ -30,7 +31,7 @@ pub record Run : Type 0 where
   -- how many iterations a part may be ahead of another one
   pub lead : ℕ
   pub first : Flat
-  pub so_far : ℕ
+  pub so_far : Lengths
   -- no way from there has more operations
   pub most : ℕ
   -- the flags at the beginning: none, or all where it is continued from a whole state
@@ -51,13 +52,13 @@ from_start setup rules cuts lead =
       cuts = cuts;
       lead = lead;
       first = first_flat setup;
-      so_far = 0;
+      so_far = no_lengths;
       most = most_operations setup;
       flags = cleared;
     }
 
 -- continued from a state of the checkpoint place of an iteration
-abbrev pub from_state : Setup → List Rule → Cuts → ℕ → ℕ → State → ℕ → Run
+abbrev pub from_state : Setup → List Rule → Cuts → ℕ → ℕ → State → Lengths → Run
 from_state setup rules cuts lead c state so_far =
     record {
       setup = setup;

@@ -3,7 +3,7 @@ use Rattle.std.specs.Prelude.{ℕ, ◌≡◌, List, Some}
 use Rattle.cx_plan.specs.Setups.{Setup}
 use Rattle.cx_rule.specs.Routine.{Rule}
 use Rattle.cx_model.specs.Traces.{Entry, Trace}
-use Rattle.cx_model.specs.Runs.{undivided_run, continued_run}
+use Rattle.cx_model.specs.Runs.{Lengths, undivided_run, continued_run}
 use Rattle.cx_cut.specs.Cuts.{Parts}
 use Rattle.law_network.specs.Machine.{World, Event, begun}
 use Rattle.law_network.specs.Orders.{Order}
@@ -30,7 +30,7 @@ pub record CountsAll (setup : Setup) (cut : Parts) (entries : List Entry)
 -- the undivided run's entries say.
 abbrev pub DoneCounts : Nearness → Run → Trace → Type 0
 DoneCounts Near r trace =
-    (events : List Event) (w : World Held (Message (Unit {0})) Channel ℕ)
+    (events : List Event) (w : World Held (Message (Unit {0})) Channel Lengths)
     → Order (net (Unit {0}) Near r (truth r)) (λ k n x. Unit {0})
     (begun (net (Unit {0}) Near r (truth r))) events w
     → w.over ≡ Some (last_of r (truth r))

@@ -1,6 +1,6 @@
 -- What the undivided run has for parts: what each posts, hands in and gives at each place, where a
--- part meets an end, which work passes the limit of the output, and when a part agrees with it.
-use Rattle.std.specs.Prelude.{ℕ, zero, suc, ◌+◌, ◌<◌, ◌≡◌, Bool, true, false, ◌&&◌, ◌||◌, ◌==◌, nat_lt, ℤ, pos, List, [], ◌∷◌, length, is_none, cond}
+-- part meets an end, which work passes the limit of its output, and when a part agrees with it.
+use Rattle.std.specs.Prelude.{ℕ, zero, suc, ◌<◌, ◌≡◌, Bool, true, false, ◌&&◌, ◌||◌, ◌==◌, nat_lt, ℤ, pos, List, [], ◌∷◌, length, is_none, cond}
 use Rattle.std.specs.List.{list_any, range_with_len}
 use Rattle.cx_grid.specs.declared.boxes.Point.{Point}
 use Rattle.cx_grid.specs.Boxes.{points_in}
@@ -13,7 +13,7 @@ use Rattle.cx_rule.specs.States.{State, level_of, scalar_of}
 use Rattle.cx_model.specs.Courses.{Note, by_zero}
 use Rattle.cx_model.specs.Traces.{Entry}
 use Rattle.cx_model.specs.Turns.{turn, values_of, swept_at}
-use Rattle.cx_model.specs.Runs.{output_of, greatest_output}
+use Rattle.cx_model.specs.Runs.{Lengths, lengths_behind, greatest_output}
 use Rattle.cx_cut.specs.Cuts.{owned, local, IsReached}
 use Rattle.cx_flat.specs.declared.op.Op.{Op}
 use Rattle.cx_flat.specs.declared.op.Op.TheVariants.{Sweep, Apply, Give, Join, Turn, Piece}
@@ -58,14 +58,14 @@ abbrev pub entries_of : List Note → List Entry
 entries_of [] = []
 entries_of (n ∷ ns) = n.entry ∷ entries_of ns
 
--- how long the output is before place n
-abbrev pub length_before : Run → ℕ → ℕ
-length_before r zero = r.so_far
-length_before r (suc n) = length_before r n + length (output_of (entries_of (notes_of r n)))
+-- how long the outputs are before place n
+abbrev pub lengths_before : Run → ℕ → Lengths
+lengths_before r zero = r.so_far
+lengths_before r (suc n) = lengths_behind (lengths_before r n) (entries_of (notes_of r n))
 
--- whether the work at a place is a text with which the output would pass its limit
+-- whether the work at a place is a text with which its own output would pass the limit
 abbrev pub passes_limit : Run → ℕ → Op → Bool
-passes_limit r n (Piece v) = nat_lt greatest_output (length_before r (suc n))
+passes_limit r n (Piece v) = nat_lt greatest_output (lengths_before r (suc n) v.0)
 passes_limit r n _ = false
 
 abbrev pub is_full : Run → ℕ → Bool
@@ -130,6 +130,6 @@ pub record Agrees (tells : Type 0) (r : Run) (oracle : Oracle) (k n : ℕ) (x : 
   pub stands : Stands tells r oracle k n x
   pub gives : GivesAt r oracle k n x
 
--- the writer's book is the length of the output before a place
-abbrev pub Books : (tells : Type 0) → Run → ℕ → ℕ → Type 0
-Books tells r n length = tells → length ≡ length_before r n
+-- the writer's book is the lengths of the outputs before a place
+abbrev pub Books : (tells : Type 0) → Run → ℕ → Lengths → Type 0
+Books tells r n lengths = tells → lengths ≡ lengths_before r n

@@ -1,7 +1,6 @@
 -- How many points a run in parts computes, and what it exchanges: folds over the entries of a run,
 -- whatever the order of its events.
-use Rattle.std.specs.Prelude.{ℕ, zero, suc, ◌+◌, ◌%◌, ◌^◌, ℤ, List, [], ◌∷◌, length, filter, is_some, cond}
-use Rattle.std.specs.Int.{cast_unsigned, w64}
+use Rattle.std.specs.Prelude.{ℕ, ◌+◌, ◌%◌, ◌^◌, List, [], ◌∷◌, length, filter, is_some, cond}
 use Rattle.cx_grid.specs.Boxes.{point_count, points_in, numbers_in}
 use Rattle.cx_plan.specs.declared.variable.VarId.{VarId}
 use Rattle.cx_plan.specs.declared.item.Region.{Region}

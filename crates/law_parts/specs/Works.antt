@@ -6,6 +6,7 @@ use Rattle.cx_model.specs.Traces.{Wrote, Saved}
 use Rattle.cx_model.specs.Turns.{values_of}
 use Rattle.cx_cut.specs.Cuts.{owned}
 use Rattle.cx_flat.specs.declared.op.Op.TheVariants.{Piece, Save}
+use Rattle.cx_model.specs.Runs.{Lengths}
 use Rattle.law_network.specs.Machine.{World, Event, Write, Can, fronts, begun}
 use Rattle.law_network.specs.Orders.{Order}
 use Rattle.law_parts.specs.Holding.{Held, state_in}
@@ -32,7 +33,7 @@ pub record IsOneWork (r : Run) (n : ℕ) (pieces : ℕ → List (Message (Unit {
 -- In every order of events, at each work that the writer can do next.
 abbrev pub OneWork : Nearness → Run → Type 0
 OneWork Near r =
-    (events : List Event) (w : World Held (Message (Unit {0})) Channel ℕ)
+    (events : List Event) (w : World Held (Message (Unit {0})) Channel Lengths)
     → Order (net (Unit {0}) Near r (truth r)) (λ k n x. Unit {0})
     (begun (net (Unit {0}) Near r (truth r))) events w
     → (n : ℕ) → Can (net (Unit {0}) Near r (truth r)) w (Write n) → IsOneWork r n (fronts w)

@@ -81,7 +81,7 @@ pub fn done_totals(job: &Job)
 }
 
 /// In every order of events the end that is reported is the undivided run's: the Overflow, with its path, the WHILE limit or the
-/// limit of the output that is met at the place that is reported; and none where none is met there. The entries noted before
+/// limit of an output that is met at the place that is reported; and none where none is met there. The entries noted before
 /// that place are the first ones of the undivided run, in order. It does nothing that shows; its clauses are the law.
 pub fn one_end(job: &Job)
     requires whole { IsWhole job.now }

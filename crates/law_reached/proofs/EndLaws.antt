@@ -18,12 +18,13 @@ use Rattle.cx_flat.specs.Flats.{Flat, flat_from, noted_from, notes_at}
 use Rattle.cx_flat.specs.Laws.{RunsAs}
 use Rattle.cx_flat.proofs.AtLaws.{halt_is}
 use Rattle.law_network.specs.Machine.{World}
+use Rattle.cx_model.specs.Runs.{Lengths}
 use Rattle.law_parts.specs.Ends.{noted, met_of, end_at, EndsBy, EndsAt}
 use Rattle.law_parts.specs.Holding.{Held}
 use Rattle.law_parts.specs.Laws.{IsReachedState}
 use Rattle.law_parts.specs.Moves.{Message, Channel}
 use Rattle.law_parts.specs.Runs.{Run, Oracle, parts_in, undivided, op_of, notes_of, last_of}
-use Rattle.law_parts.specs.Truths.{entries_of, is_faulty, length_before, passes_limit, is_full, ends_at}
+use Rattle.law_parts.specs.Truths.{entries_of, is_faulty, lengths_before, passes_limit, is_full, ends_at}
 use Rattle.law_parts.proofs.DoneTotals.{halted_there}
 use Rattle.law_parts.proofs.EndNotes.{OneNote, trace_from, trace_through, met_some, met_none, fits_one, op_one, by_length}
 use Rattle.law_parts.proofs.EndPlaces.{end_is, entries_at, trace_outcome}
@@ -66,9 +67,9 @@ module _ (r : Run) (run : IsRun r) where
   meets n = tiles_meet r run (some_part r run) (op_of r n) (undivided r n)
       (names_at r run (undivided r n).control.pc)
 
-  one_there : (n : ℕ) → is_full r n ≡ false → OneNote r (length_before r n) (notes_of r n)
+  one_there : (n : ℕ) → is_full r n ≡ false → OneNote r (lengths_before r n) (notes_of r n)
   one_there n h = op_one r (op_of r n) (undivided r n).control (undivided r n).state
-      (length_before r n) (sym (by_length r n (op_of r n)) ∙ h)
+      (lengths_before r n) (sym (by_length r n (op_of r n)) ∙ h)
 
   end_there : (n : ℕ) → ends_at r n ≡ true → is_full r n ≡ false
       → (end : End) × (met_of (notes_of r n) ≡ Some end)
@@ -93,7 +94,7 @@ module _ (r : Run) (run : IsRun r) where
           × (end_at r n ≡ Some end)
       go true e = (
         OutputLimit (undivided r n).control.iteration,
-        full_is r (op_of r n) (length_before r n) (undivided r n).control.iteration (notes_of r n)
+        full_is r (op_of r n) (lengths_before r n) (undivided r n).control.iteration (notes_of r n)
             (sym (by_length r n (op_of r n)) ∙ e),
         ap (λ (b : Bool). if b then Some (OutputLimit (undivided r n).control.iteration)
             else met_of (notes_of r n)) e,
@@ -109,7 +110,7 @@ module _ (r : Run) (run : IsRun r) where
   module _ (state : State) where
     -- the trace of the run from a place on, over so many operations
     abbrev rest_trace : ℕ → ℕ → Trace
-    rest_trace n m = trace_from (length_before r n)
+    rest_trace n m = trace_from (lengths_before r n)
         (noted_from r.setup r.rules (code r.setup) m (undivided r n)) state
 
     trace_step : (n m : ℕ) → ends_at r n ≡ false
@@ -118,9 +119,9 @@ module _ (r : Run) (run : IsRun r) where
         let both =
         or_parts (list_any (λ k. is_faulty r k (op_of r n) (undivided r n))
         (range_with_len 0 (parts_in r))) (is_full r n) h in
-        let fine = fits_one r (length_before r n) (notes_of r n) (one_there n both.1)
+        let fine = fits_one r (lengths_before r n) (notes_of r n) (one_there n both.1)
         (met_none (met_of (notes_of r n)) (sym (meets n) ∙ both.0)) in
-        trace_through (length_before r n) (notes_of r n)
+        trace_through (lengths_before r n) (notes_of r n)
         (noted_from r.setup r.rules (code r.setup) m (undivided r (suc n))) state fine.0 fine.1
 
     after_both : (a b : List Entry) (t : Trace) → after a (after b t) ≡ after (a ++ b) t
@@ -147,10 +148,10 @@ module _ (r : Run) (run : IsRun r) where
 
         go : (b : Bool) → is_full r n ≡ b → works_of (rest_trace n (suc m)).entries ≡ []
         go true e = full_rest r (op_of r n) (undivided r n).control (undivided r n).state
-            (length_before r n) more state (sym (by_length r n (op_of r n)) ∙ e)
+            (lengths_before r n) more state (sym (by_length r n (op_of r n)) ∙ e)
         go false e = let met = end_there n h e in
-            met_rest r (op_of r n) (undivided r n).control (undivided r n).state (length_before r n)
-            more state met.0 (one_there n e) met.1
+            met_rest r (op_of r n) (undivided r n).control (undivided r n).state
+            (lengths_before r n) more state met.0 (one_there n e) met.1
 
 -- ---- the whole run
 
@@ -215,7 +216,7 @@ module _ (r : Run) (run : IsRun r) (trace : Trace)
 
 module _ (tells : Type 0) (r : Run) (run : IsRun r) (trace : Trace)
     (runs : RunsAs r.setup r.rules r.first r.so_far trace)
-    (o : Oracle) (w : World Held (Message tells) Channel ℕ) (st : IsReachedState tells r o w)
+    (o : Oracle) (w : World Held (Message tells) Channel Lengths) (st : IsReachedState tells r o w)
     (t : tells) (n : ℕ) (over : w.over ≡ Some n) where
   abbrev there : ℕ
   there = end_place tells r run o st.oracle_is t

@@ -1,7 +1,6 @@
 -- What single operations note where they meet an end, and what a run has behind it.
 use Rattle.std.proofs.Common.{◌≡◌, ℕ, suc, ◌+◌, Bool, true, false, leb, ltb, List, [], ◌∷◌, ◌++◌, length, Option, Some, None, refl, ap, ◌∙◌, ℤ, pos, negsuc, zero, arith}
 use Rattle.std.specs.Prelude.{if◌then◌else◌, ◌==◌}
-use Rattle.std.proofs.lemmas.List.{append-nil}
 use Rattle.std.proofs.lemmas.Bool.{ltb-true, leb-true, false_from_ne_true}
 use Rattle.cx_plan.specs.Lookups.{item}
 use Rattle.cx_plan.specs.Steering.{item_at}
@@ -9,7 +8,7 @@ use Rattle.cx_rule.specs.States.{State, scalar_of}
 use Rattle.cx_model.specs.declared.ends.End.{End}
 use Rattle.cx_model.specs.declared.ends.End.TheVariants.{Overflow, WhileLimit, OutputLimit}
 use Rattle.cx_model.specs.Courses.{Note, note, turn_note, limit_note, cut, stop_at, by_zero}
-use Rattle.cx_model.specs.Runs.{within_limit, text_added, text_of, passing, stop_or, greatest_output}
+use Rattle.cx_model.specs.Runs.{Lengths, grown_by, lengths_after, within_limit, text_of, passing, stop_or, greatest_output}
 use Rattle.cx_model.specs.Traces.{Entry, Exchanged, Tested, Wrote, after}
 use Rattle.cx_model.specs.Turns.{turn}
 use Rattle.cx_flat.specs.declared.op.Op.{Op}
@@ -19,7 +18,7 @@ use Rattle.law_parts.specs.Ends.{or_end, met_of}
 use Rattle.law_parts.specs.Moves.{buffer_of}
 use Rattle.law_parts.specs.Runs.{Run}
 use Rattle.law_parts.specs.Truths.{entries_of}
-use Rattle.law_parts.proofs.EndNotes.{OneNote, passes_by, trace_from}
+use Rattle.law_parts.proofs.EndNotes.{grown_there, OneNote, passes_by, trace_from}
 use Rattle.law_reached.specs.Endings.{end_met_by}
 use Rattle.law_reached.specs.Works.{works_of}
 use Rattle.law_reached.proofs.SilentWorks.{silent}
@@ -93,8 +92,8 @@ module _ (r : Run) where
   met_is Halt c s end e = absurd (not_some e)
 
   -- by the limit of the output
-  pub full_is : (o : Op) (so_far iteration : ℕ) (ns : List Note) → passes_by r so_far o ns ≡ true
-      → end_met_by r o iteration ≡ Some (OutputLimit iteration)
+  pub full_is : (o : Op) (so_far : Lengths) (iteration : ℕ) (ns : List Note)
+      → passes_by r so_far o ns ≡ true → end_met_by r o iteration ≡ Some (OutputLimit iteration)
   full_is (Piece v) so_far iteration ns e = refl
   full_is (Sweep i) so_far iteration ns e = absurd (not_full e)
   full_is (Apply i) so_far iteration ns e = absurd (not_full e)
@@ -117,13 +116,13 @@ module _ (r : Run) where
   -- ---- what a run has behind an end that is met
 
   -- a text that passes the limit isn't among the entries
-  pub full_rest : (o : Op) (c : Control) (s : State) (so_far : ℕ) (more : List Note) (state : State)
-      → passes_by r so_far o (notes_at r.setup r.rules o c s) ≡ true
+  pub full_rest : (o : Op) (c : Control) (s : State) (so_far : Lengths) (more : List Note)
+      (state : State) → passes_by r so_far o (notes_at r.setup r.rules o c s) ≡ true
       → works_of (trace_from so_far (notes_at r.setup r.rules o c s ++ more) state).entries ≡ []
   full_rest (Piece v) c s so_far more state h =
       ap (λ (p : Option ℕ). works_of
       (stop_or p (after (entry_there ∷ [])
-      (within_limit (so_far + length text) (cut more state).entries
+      (within_limit (grown_by so_far v (length text)) (cut more state).entries
       (cut more state).outcome))).entries) passes
     where
       text : List ℕ
@@ -134,8 +133,8 @@ module _ (r : Run) where
 
       passes : passing so_far entry_there ≡ Some c.iteration
       passes = ap (λ (b : Bool). if b then None else Some c.iteration)
-          (beyond greatest_output (so_far + length text) (so_far + length (text ++ [])) h
-          (ap (λ (xs : List ℕ). so_far + length xs) (append-nil text)))
+          (beyond greatest_output (so_far v.0 + length text) (grown_by so_far v (length text) v.0) h
+          (grown_there so_far v (length text)))
   full_rest (Sweep i) c s so_far more state h = absurd (not_full h)
   full_rest (Apply i) c s so_far more state h = absurd (not_full h)
   full_rest (Give i) c s so_far more state h = absurd (not_full h)
@@ -155,19 +154,18 @@ module _ (r : Run) where
   full_rest Halt c s so_far more state h = absurd (not_full h)
 
   -- behind an entry where an end is met there is none
-  pub met_entries : (so_far : ℕ) (ns more : List Note) (state : State) (end : End)
+  pub met_entries : (so_far : Lengths) (ns more : List Note) (state : State) (end : End)
       → OneNote r so_far ns → met_of ns ≡ Some end
       → (trace_from so_far (ns ++ more) state).entries ≡ entries_of ns
   met_entries so_far [] more state end h e = absurd (not_some e)
   met_entries so_far (n ∷ []) more state end h e =
       ap (λ (p : Option ℕ). (stop_or p
-      (after (n.entry ∷ []) (within_limit (so_far + length (text_added n.entry))
+      (after (n.entry ∷ []) (within_limit (lengths_after so_far n.entry)
       (stop_at n.met (cut more state)).entries
       (stop_at n.met (cut more state)).outcome))).entries) h
       ∙ ap (λ (o : Option End). n.entry
-      ∷ (within_limit (so_far + length (text_added n.entry))
-      (stop_at o (cut more state)).entries (stop_at o (cut more state)).outcome).entries)
-      (or_some n.met end e)
+      ∷ (within_limit (lengths_after so_far n.entry) (stop_at o (cut more state)).entries
+      (stop_at o (cut more state)).outcome).entries) (or_some n.met end e)
   met_entries so_far (n ∷ m ∷ ns) more state end h e = absurd h
 
   -- a work meets no end but that of the limit
@@ -192,8 +190,8 @@ module _ (r : Run) where
   met_no_work (Next back) c s end e = refl
   met_no_work Halt c s end e = refl
 
-  pub met_rest : (o : Op) (c : Control) (s : State) (so_far : ℕ) (more : List Note) (state : State)
-      (end : End) → OneNote r so_far (notes_at r.setup r.rules o c s)
+  pub met_rest : (o : Op) (c : Control) (s : State) (so_far : Lengths) (more : List Note)
+      (state : State) (end : End) → OneNote r so_far (notes_at r.setup r.rules o c s)
       → met_of (notes_at r.setup r.rules o c s) ≡ Some end
       → works_of (trace_from so_far (notes_at r.setup r.rules o c s ++ more) state).entries ≡ []
   met_rest o c s so_far more state end one e =

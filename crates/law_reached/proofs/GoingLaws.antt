@@ -3,6 +3,7 @@ use Rattle.std.proofs.Common.{◌≡◌, ℕ, inl, inr, Option, Some, None, ap, 
 use Rattle.law_network.specs.Machine.{World, Event, Part, Write, End, Can, After, fronts, over_at}
 use Rattle.law_network.specs.Agreement.{Fits}
 use Rattle.law_network.proofs.Runs as runs
+use Rattle.cx_model.specs.Runs.{Lengths}
 use Rattle.law_parts.specs.Holding.{Held}
 use Rattle.law_parts.specs.Laws.{IsReachedState}
 use Rattle.law_parts.specs.Moves.{Message, Channel}
@@ -21,7 +22,7 @@ same_place : {m n : ℕ} {o : Option ℕ} → o ≡ Some n → o ≡ Some m → 
 same_place e f = cc
 
 module _ (tells : Type 0) (r : Run) (run : IsRun r) (o : Oracle)
-    (w : World Held (Message tells) Channel ℕ) (st : IsReachedState tells r o w) where
+    (w : World Held (Message tells) Channel Lengths) (st : IsReachedState tells r o w) where
   fits : Fits (net tells within_lead r o) (script tells r o) (Agrees tells r o) (GivesAt r o)
       (Books tells r)
   fits = lead_fits tells r run o st.oracle_is.told st.oracle_is.first
@@ -51,18 +52,18 @@ module _ (tells : Type 0) (r : Run) (run : IsRun r) (o : Oracle)
         (GivesAt r o) (Books tells r) fits w st.woven;
   }
 
-  over_stays : (k : ℕ) (v : World Held (Message tells) Channel ℕ) → w.over ≡ None
+  over_stays : (k : ℕ) (v : World Held (Message tells) Channel Lengths) → w.over ≡ None
       → After (net tells within_lead r o) w (Part k) v → v.over ≡ None
   over_stays k v e (inl a) = ap (λ u. u.over) a.2 ∙ e
   over_stays k v e (inr a) = ap (λ u. u.over) a.2 ∙ e
 
-  over_by_work : (n m : ℕ) (v : World Held (Message tells) Channel ℕ) → w.over ≡ None
+  over_by_work : (n m : ℕ) (v : World Held (Message tells) Channel Lengths) → w.over ≡ None
       → After (net tells within_lead r o) w (Write n) v → v.over ≡ Some m
       → (m ≡ n) × (v ≡ over_at w n) × (net tells within_lead r o).Writes n (fronts w) w.book None
   over_by_work n m v e (inl a) q = absurd (not_none (ap (λ u. u.over) a.2 ∙ e) q)
   over_by_work n m v e (inr a) q = (same_place (ap (λ u. u.over) a.1) q, a.1, a.0)
 
-  becomes_over : (v : World Held (Message tells) Channel ℕ) → BecomesOver tells r o w v
+  becomes_over : (v : World Held (Message tells) Channel Lengths) → BecomesOver tells r o w v
   becomes_over v = record {
     by_part = λ k can a. over_stays k v can.going a;
     by_work = λ n m can a q. over_by_work n m v can.going a q;

@@ -8,7 +8,6 @@ use Rattle.cx_grid.specs.Boxes.{numbers_in}
 use Rattle.cx_grid.specs.declared.shapes.Side.{Side}
 use Rattle.cx_grid.specs.declared.shapes.Side.TheVariants.{Low, High}
 use Rattle.cx_plan.specs.declared.variable.VarId.{VarId}
-use Rattle.cx_plan.specs.Lookups.{item}
 use Rattle.cx_plan.specs.Steering.{item_at}
 use Rattle.cx_rule.specs.States.{State}
 use Rattle.cx_model.specs.declared.ends.End.TheVariants.{WhileLimit}

@@ -1,14 +1,13 @@
 -- Which operations note works: a piece of output and a checkpoint place, and no other.
-use Rattle.std.proofs.Common.{◌≡◌, ℕ, zero, suc, ◌+◌, ◌<◌, ◌≤◌, ◌⊎◌, inl, inr, Bool, true, false, List, [], ◌∷◌, ◌++◌, length, Option, Some, None, refl, sym, ap, ◌∙◌, arith, length-append}
+use Rattle.std.proofs.Common.{◌≡◌, ℕ, zero, suc, ◌<◌, ◌≤◌, ◌⊎◌, inl, inr, Bool, true, false, List, [], ◌∷◌, ◌++◌, length, Option, Some, None, refl, sym, ap, ◌∙◌, arith}
 use Rattle.std.specs.Prelude.{if◌then◌else◌, ◌==◌}
 use Rattle.std.proofs.lemmas.List.{append-nil}
 use Rattle.std.proofs.lemmas.Bool.{cases_lt}
-use Rattle.cx_plan.specs.Lookups.{item}
 use Rattle.cx_plan.specs.Steering.{item_at}
 use Rattle.cx_rule.specs.States.{State}
 use Rattle.cx_model.specs.declared.ends.End.TheVariants.{WhileLimit}
 use Rattle.cx_model.specs.Courses.{note, turn_note, limit_note}
-use Rattle.cx_model.specs.Runs.{output_of, text_added}
+use Rattle.cx_model.specs.Runs.{Lengths, grown_by, lengths_after, lengths_behind}
 use Rattle.cx_model.specs.Traces.{Entry, Turned, Overflowed, Exchanged, Tested, Rotated, Wrote, Saved}
 use Rattle.cx_model.specs.Turns.{turn}
 use Rattle.cx_flat.specs.declared.op.Op.{Op}
@@ -17,7 +16,7 @@ use Rattle.cx_flat.specs.Flats.{Control, last_turns, notes_at}
 use Rattle.law_parts.specs.Ends.{noted}
 use Rattle.law_parts.specs.Moves.{buffer_of}
 use Rattle.law_parts.specs.Runs.{Run, op_of, notes_of, undivided}
-use Rattle.law_parts.specs.Truths.{entries_of, length_before}
+use Rattle.law_parts.specs.Truths.{entries_of, lengths_before}
 use Rattle.law_parts.proofs.TraceTotals.{entries_both}
 use Rattle.law_reached.specs.Works.{works_of}
 
@@ -35,25 +34,22 @@ works_both (Tested v path state ∷ es) b = works_both es b
 works_both (Rotated state ∷ es) b = works_both es b
 
 -- only works have texts
-pub output_same : (es : List Entry) → output_of (works_of es) ≡ output_of es
-output_same [] = refl
-output_same (Wrote v iteration text state ∷ es) = ap (λ xs. text ++ xs) (output_same es)
-output_same (Saved iteration state ∷ es) = output_same es
-output_same (Turned k iteration state ∷ es) = output_same es
-output_same (Overflowed k iteration state ∷ es) = output_same es
-output_same (Exchanged vars path state ∷ es) = output_same es
-output_same (Tested v path state ∷ es) = output_same es
-output_same (Rotated state ∷ es) = output_same es
+pub lengths_same : (so_far : Lengths) (es : List Entry)
+    → lengths_behind so_far (works_of es) ≡ lengths_behind so_far es
+lengths_same so_far [] = refl
+lengths_same so_far (Wrote v iteration text state ∷ es) =
+    lengths_same (grown_by so_far v (length text)) es
+lengths_same so_far (Saved iteration state ∷ es) = lengths_same so_far es
+lengths_same so_far (Turned k iteration state ∷ es) = lengths_same so_far es
+lengths_same so_far (Overflowed k iteration state ∷ es) = lengths_same so_far es
+lengths_same so_far (Exchanged vars path state ∷ es) = lengths_same so_far es
+lengths_same so_far (Tested v path state ∷ es) = lengths_same so_far es
+lengths_same so_far (Rotated state ∷ es) = lengths_same so_far es
 
-output_both : (a b : List Entry) → output_of (a ++ b) ≡ output_of a ++ output_of b
-output_both [] b = refl
-output_both (e ∷ es) b =
-    ap (λ xs. text_added e ++ xs) (output_both es b)
-    ∙ sym (append_three (text_added e) (output_of es) (output_of b))
-  where
-    append_three : (x y z : List ℕ) → (x ++ y) ++ z ≡ x ++ (y ++ z)
-    append_three [] y z = refl
-    append_three (n ∷ ns) y z = ap (λ xs. n ∷ xs) (append_three ns y z)
+lengths_both : (so_far : Lengths) (a b : List Entry)
+    → lengths_behind so_far (a ++ b) ≡ lengths_behind (lengths_behind so_far a) b
+lengths_both so_far [] b = refl
+lengths_both so_far (e ∷ es) b = lengths_both (lengths_after so_far e) es b
 
 -- ---- single operations
 
@@ -157,22 +153,11 @@ module _ (r : Run) where
           (none b h (omega arith)))
           ∙ append-nil (works_before b) ∙ more h (λ m x y. none m x (omega (arith, y)))
 
-  -- ---- the length of the output
+  -- ---- the lengths of the outputs
 
-  sum_lengths : (s a b c : ℕ) → c ≡ a + b → s + a + b ≡ s + c
-  sum_lengths s a b c e = omega (arith, e)
-
-  pub length_is : (n : ℕ) → length_before r n
-      ≡ r.so_far + length (output_of (entries_of (noted r n)))
-  length_is zero = zero_more r.so_far
-    where
-      zero_more : (a : ℕ) → a ≡ a + 0
-      zero_more a = omega arith
-  length_is (suc n) =
-      ap (λ m. m + length (output_of (entries_of (notes_of r n)))) (length_is n)
-      ∙ sum_lengths r.so_far (length (output_of (entries_of (noted r n))))
-      (length (output_of (entries_of (notes_of r n))))
-      (length (output_of (entries_of (noted r n ++ notes_of r n))))
-      (ap (λ es. length (output_of es)) (entries_both (noted r n) (notes_of r n))
-      ∙ ap length (output_both (entries_of (noted r n)) (entries_of (notes_of r n)))
-      ∙ length-append (output_of (entries_of (noted r n))) (output_of (entries_of (notes_of r n))))
+  pub lengths_are : (n : ℕ) → lengths_before r n ≡ lengths_behind r.so_far (entries_of (noted r n))
+  lengths_are zero = refl
+  lengths_are (suc n) =
+      ap (λ (m : Lengths). lengths_behind m (entries_of (notes_of r n))) (lengths_are n)
+      ∙ sym (lengths_both r.so_far (entries_of (noted r n)) (entries_of (notes_of r n)))
+      ∙ sym (ap (lengths_behind r.so_far) (entries_both (noted r n) (notes_of r n)))

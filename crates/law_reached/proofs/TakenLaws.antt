@@ -7,6 +7,7 @@ use Rattle.law_network.specs.Agreement.{Script, taken, takes}
 use Rattle.law_network.proofs.Prefix.{taken_same}
 use Rattle.law_network.proofs.Put.{put_same, put_other, sum_more}
 use Rattle.law_network.proofs.Steps.{found}
+use Rattle.cx_model.specs.Runs.{Lengths}
 use Rattle.law_parts.specs.Holding.{Held}
 use Rattle.law_parts.specs.Laws.{IsOracle, IsReachedState}
 use Rattle.law_parts.specs.Moves.{Message, Sent, Given, Handed, Channel, Wire, sender, is_there, op_posts, faces_by}
@@ -64,8 +65,8 @@ module _ (tells : Type 0) (r : Run) (run : IsRun r) (t : tells) where
       (others.told t (sender c) m l ∙ sym (is.told t (sender c) m l))
 
   module _ (o other : Oracle) (is : IsOracle tells r o) (others : IsOracle tells r other)
-      (w : World Held (Message tells) Channel ℕ) where
-    pub sum_stays : (v : World Held (Message tells) Channel ℕ)
+      (w : World Held (Message tells) Channel Lengths) where
+    pub sum_stays : (v : World Held (Message tells) Channel Lengths)
         → ((k : ℕ) → k < parts_in r → v.place k ≡ w.place k)
         → taken_sum t r other v ≡ taken_sum t r o w
     sum_stays v h =
@@ -74,54 +75,55 @@ module _ (tells : Type 0) (r : Run) (run : IsRun r) (t : tells) where
         ∙ taken_same (script tells r o) (script tells r other) (Wire a b) (w.place b)
         (λ m i. mail_same o other is others (Wire a b) m l))))
 
-  module _ (o : Oracle) (w : World Held (Message tells) Channel ℕ) (st : IsReachedState tells r o w)
-      (k : ℕ) (can : CanMove (net tells within_lead r o) w k) where
-    taken_here : (a : ℕ) → taken_now (net tells within_lead r o) w k (Wire a k)
-        ≡ takes (script tells r o) (Wire a k) (w.place k)
-    taken_here a =
-        (found (net tells within_lead r o) (script tells r o) (Agrees tells r o) (GivesAt r o)
-        (Books tells r) (fits tells r run o st.oracle_is t) w st.woven k can (Wire a k) refl).0
+  module _ (o : Oracle) (w : World Held (Message tells) Channel Lengths)
+      (st : IsReachedState tells r o w) (k : ℕ) (can : CanMove (net tells within_lead r o) w k)
+    where
+      taken_here : (a : ℕ) → taken_now (net tells within_lead r o) w k (Wire a k)
+          ≡ takes (script tells r o) (Wire a k) (w.place k)
+      taken_here a =
+          (found (net tells within_lead r o) (script tells r o) (Agrees tells r o) (GivesAt r o)
+          (Books tells r) (fits tells r run o st.oracle_is t) w st.woven k can (Wire a k) refl).0
 
-    -- of one sender
-    one_more : (a : ℕ) → sum_below (parts_in r)
-        (λ b. values_sum t (taken (script tells r o) (Wire a b)
-        (put w.place k (suc (w.place k)) b)))
-        ≡ sum_below (parts_in r)
-        (λ b. values_sum t (taken (script tells r o) (Wire a b) (w.place b)))
-        + values_sum t (taken_now (net tells within_lead r o) w k (Wire a k))
-    one_more a =
-        over_below (parts_in r)
-        (λ b. values_sum t (taken (script tells r o) (Wire a b)
-        (put w.place k (suc (w.place k)) b)))
-        ∙ sum_more (parts_in r) k
-        (values_sum t (taken_now (net tells within_lead r o) w k (Wire a k)))
-        (λ b. values_sum t (taken (script tells r o) (Wire a b) (w.place b)))
-        (λ b. values_sum t (taken (script tells r o) (Wire a b)
-        (put w.place k (suc (w.place k)) b))) can.part
-        (ap (λ m. values_sum t (taken (script tells r o) (Wire a k) m))
-        (put_same w.place k (suc (w.place k)) k refl)
-        ∙ ap (values_sum t) (taken_next (script tells r o) (Wire a k) (w.place k))
-        ∙ values_both t (taken (script tells r o) (Wire a k) (w.place k))
-        (takes (script tells r o) (Wire a k) (w.place k))
-        ∙ ap (λ (ms : List (Message tells)).
-        values_sum t (taken (script tells r o) (Wire a k) (w.place k)) + values_sum t ms)
-        (sym (taken_here a)))
-        (λ j e. ap (λ m. values_sum t (taken (script tells r o) (Wire a j) m))
-        (put_other w.place k (suc (w.place k)) j e))
-        ∙ ap (λ n. n + values_sum t (taken_now (net tells within_lead r o) w k (Wire a k)))
-        (sym (over_below (parts_in r)
-        (λ b. values_sum t (taken (script tells r o) (Wire a b) (w.place b)))))
+      -- of one sender
+      one_more : (a : ℕ) → sum_below (parts_in r)
+          (λ b. values_sum t (taken (script tells r o) (Wire a b)
+          (put w.place k (suc (w.place k)) b)))
+          ≡ sum_below (parts_in r)
+          (λ b. values_sum t (taken (script tells r o) (Wire a b) (w.place b)))
+          + values_sum t (taken_now (net tells within_lead r o) w k (Wire a k))
+      one_more a =
+          over_below (parts_in r)
+          (λ b. values_sum t (taken (script tells r o) (Wire a b)
+          (put w.place k (suc (w.place k)) b)))
+          ∙ sum_more (parts_in r) k
+          (values_sum t (taken_now (net tells within_lead r o) w k (Wire a k)))
+          (λ b. values_sum t (taken (script tells r o) (Wire a b) (w.place b)))
+          (λ b. values_sum t (taken (script tells r o) (Wire a b)
+          (put w.place k (suc (w.place k)) b))) can.part
+          (ap (λ m. values_sum t (taken (script tells r o) (Wire a k) m))
+          (put_same w.place k (suc (w.place k)) k refl)
+          ∙ ap (values_sum t) (taken_next (script tells r o) (Wire a k) (w.place k))
+          ∙ values_both t (taken (script tells r o) (Wire a k) (w.place k))
+          (takes (script tells r o) (Wire a k) (w.place k))
+          ∙ ap (λ (ms : List (Message tells)).
+          values_sum t (taken (script tells r o) (Wire a k) (w.place k)) + values_sum t ms)
+          (sym (taken_here a)))
+          (λ j e. ap (λ m. values_sum t (taken (script tells r o) (Wire a j) m))
+          (put_other w.place k (suc (w.place k)) j e))
+          ∙ ap (λ n. n + values_sum t (taken_now (net tells within_lead r o) w k (Wire a k)))
+          (sym (over_below (parts_in r)
+          (λ b. values_sum t (taken (script tells r o) (Wire a b) (w.place b)))))
 
-    pub sum_grows : sum_below (parts_in r)
-        (λ a. sum_below (parts_in r)
-        (λ b. values_sum t (taken (script tells r o) (Wire a b)
-        (put w.place k (suc (w.place k)) b)))) ≡ taken_sum t r o w + sum_taken_now t r o w k
-    sum_grows =
-        sum_same (parts_in r) _ _ (λ a l. one_more a)
-        ∙ sum_add (parts_in r)
-        (λ a. sum_below (parts_in r)
-        (λ b. values_sum t (taken (script tells r o) (Wire a b) (w.place b))))
-        (λ a. values_sum t (taken_now (net tells within_lead r o) w k (Wire a k)))
+      pub sum_grows : sum_below (parts_in r)
+          (λ a. sum_below (parts_in r)
+          (λ b. values_sum t (taken (script tells r o) (Wire a b)
+          (put w.place k (suc (w.place k)) b)))) ≡ taken_sum t r o w + sum_taken_now t r o w k
+      sum_grows =
+          sum_same (parts_in r) _ _ (λ a l. one_more a)
+          ∙ sum_add (parts_in r)
+          (λ a. sum_below (parts_in r)
+          (λ b. values_sum t (taken (script tells r o) (Wire a b) (w.place b))))
+          (λ a. values_sum t (taken_now (net tells within_lead r o) w k (Wire a k)))
 
   pub other_sum : (o other : Oracle) → IsOracle tells r o → IsOracle tells r other → (place : ℕ → ℕ)
       → sum_below (parts_in r)

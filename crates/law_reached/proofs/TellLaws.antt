@@ -5,6 +5,7 @@ use Rattle.cx_model.specs.Traces.{Trace}
 use Rattle.cx_flat.specs.Laws.{RunsAs}
 use Rattle.law_network.specs.Machine.{World, IsNext}
 use Rattle.law_network.specs.Agreement.{Fits, Ends}
+use Rattle.cx_model.specs.Runs.{Lengths}
 use Rattle.law_parts.specs.Holding.{Held}
 use Rattle.law_parts.specs.Laws.{IsOracle, IsReachedState}
 use Rattle.law_parts.specs.Moves.{Message, Channel}
@@ -64,29 +65,30 @@ module _ (tells : Type 0) (r : Run) (run : IsRun r) (o : Oracle) (is : IsOracle 
         count_is
 
 module _ (tells : Type 0) (r : Run) (run : IsRun r) (o : Oracle)
-    (w : World Held (Message tells) Channel ℕ) (st : IsReachedState tells r o w) (t : tells) where
-  pub wrote_before : w.wrote ≤ end_place tells r run o st.oracle_is t
-  wrote_before =
-      wrote_within (net tells within_lead r o) (script tells r o) (Agrees tells r o) (GivesAt r o)
-      (Books tells r) (fits tells r run o st.oracle_is t) w st.woven
-      (ends tells r run o st.oracle_is t) (st.ended t)
+    (w : World Held (Message tells) Channel Lengths) (st : IsReachedState tells r o w) (t : tells)
+  where
+    pub wrote_before : w.wrote ≤ end_place tells r run o st.oracle_is t
+    wrote_before =
+        wrote_within (net tells within_lead r o) (script tells r o) (Agrees tells r o) (GivesAt r o)
+        (Books tells r) (fits tells r run o st.oracle_is t) w st.woven
+        (ends tells r run o st.oracle_is t) (st.ended t)
 
-  pub quiet_before : (j : ℕ) → j < w.wrote → ends_at r j ≡ false
-  quiet_before j l = before_end tells r run o st.oracle_is t j
-      (before_both j w.wrote (end_place tells r run o st.oracle_is t) l wrote_before)
+    pub quiet_before : (j : ℕ) → j < w.wrote → ends_at r j ≡ false
+    quiet_before j l = before_end tells r run o st.oracle_is t j
+        (before_both j w.wrote (end_place tells r run o st.oracle_is t) l wrote_before)
 
-  pub next_before : (n : ℕ) → IsNext (net tells within_lead r o) w n
-      → n ≤ end_place tells r run o st.oracle_is t
-  next_before =
-      next_within (net tells within_lead r o) (script tells r o) (Agrees tells r o) (GivesAt r o)
-      (Books tells r) (fits tells r run o st.oracle_is t) w st.woven
-      (ends tells r run o st.oracle_is t) (st.ended t)
+    pub next_before : (n : ℕ) → IsNext (net tells within_lead r o) w n
+        → n ≤ end_place tells r run o st.oracle_is t
+    next_before =
+        next_within (net tells within_lead r o) (script tells r o) (Agrees tells r o) (GivesAt r o)
+        (Books tells r) (fits tells r run o st.oracle_is t) w st.woven
+        (ends tells r run o st.oracle_is t) (st.ended t)
 
-  pub quiet_next : (n : ℕ) → IsNext (net tells within_lead r o) w n → (j : ℕ) → j < n
-      → ends_at r j ≡ false
-  quiet_next n nx j l = before_end tells r run o st.oracle_is t j
-      (before_both j n (end_place tells r run o st.oracle_is t) l (next_before n nx))
+    pub quiet_next : (n : ℕ) → IsNext (net tells within_lead r o) w n → (j : ℕ) → j < n
+        → ends_at r j ≡ false
+    quiet_next n nx j l = before_end tells r run o st.oracle_is t j
+        (before_both j n (end_place tells r run o st.oracle_is t) l (next_before n nx))
 
-  pub next_place : (n : ℕ) → IsNext (net tells within_lead r o) w n → n < last_of r o
-  next_place = next_inside (net tells within_lead r o) (script tells r o) (Agrees tells r o)
-      (GivesAt r o) (Books tells r) (fits tells r run o st.oracle_is t) w st.woven
+    pub next_place : (n : ℕ) → IsNext (net tells within_lead r o) w n → n < last_of r o
+    next_place = next_inside (net tells within_lead r o) (script tells r o) (Agrees tells r o)
+        (GivesAt r o) (Books tells r) (fits tells r run o st.oracle_is t) w st.woven

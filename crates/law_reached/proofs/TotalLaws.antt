@@ -14,6 +14,7 @@ use Rattle.law_network.specs.Machine.{World, sum_below}
 use Rattle.law_network.specs.Agreement.{Script, posted, taken, takes}
 use Rattle.law_network.proofs.Put as put
 use Rattle.law_network.proofs.Runs as runs_of
+use Rattle.cx_model.specs.Runs.{Lengths}
 use Rattle.law_parts.specs.Ends.{noted}
 use Rattle.law_parts.specs.Holding.{Held}
 use Rattle.law_parts.specs.Laws.{IsReachedState}
@@ -50,7 +51,7 @@ plus_nothing a b c h e = omega (arith, h, e)
 
 module _ (tells : Type 0) (r : Run) (run : IsRun r) (trace : Trace)
     (runs : RunsAs r.setup r.rules r.first r.so_far trace)
-    (o : Oracle) (w : World Held (Message tells) Channel ℕ) (st : IsReachedState tells r o w)
+    (o : Oracle) (w : World Held (Message tells) Channel Lengths) (st : IsReachedState tells r o w)
     (t : tells) (over : w.over ≡ Some (last_of r o)) where
   all_at : (k : ℕ) → k < parts_in r → w.place k ≡ last_of r o
   all_at k l = ((st.ended t).ended (last_of r o) over).2 refl k l

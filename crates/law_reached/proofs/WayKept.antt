@@ -11,6 +11,7 @@ use Rattle.law_network.proofs.Prefix.{not_taken}
 use Rattle.law_network.proofs.Put.{at_put}
 use Rattle.law_network.proofs.Runs as runs
 use Rattle.law_network.proofs.Steps.{inside, found, move_kept}
+use Rattle.cx_model.specs.Runs.{Lengths}
 use Rattle.law_parts.specs.Holding.{Held}
 use Rattle.law_parts.specs.Laws.{IsOracle, IsReachedState}
 use Rattle.law_parts.specs.Moves.{Message, Channel, sender, receiver, number_by, buffer_of, Moves, held_values}
@@ -50,7 +51,7 @@ up_to : (a b c : ℕ) → a ≤ b → b ≤ c → a ≤ c
 up_to a b c h q = omega (arith, h, q)
 
 module _ (tells : Type 0) (r : Run) (run : IsRun r) (o : Oracle) (is : IsOracle tells r o)
-    (w : World Held (Message tells) Channel ℕ)
+    (w : World Held (Message tells) Channel Lengths)
     (inv : Woven (net tells within_lead r o) (script tells r o) (Agrees tells r o) (Books tells r)
     w) (k : ℕ) (can : CanMove (net tells within_lead r o) w k)
     (y : Held) (move : Moves tells r k (w.held k) (taken_now (net tells within_lead r o) w k)
@@ -210,7 +211,7 @@ module _ (tells : Type 0) (r : Run) (run : IsRun r) (o : Oracle) (is : IsOracle 
 -- ---- all events
 
 module _ (tells : Type 0) (r : Run) (run : IsRun r) (o : Oracle)
-    (w v : World Held (Message tells) Channel ℕ) (st : IsReachedState tells r o w) where
+    (w v : World Held (Message tells) Channel Lengths) (st : IsReachedState tells r o w) where
   abbrev Leads : Type 0
   Leads = (other : Oracle) × IsReachedState tells r other v
       × ((j n : ℕ) → j < parts_in r → n ≤ v.place j → guided r other n ≡ guided r o n)
@@ -257,11 +258,11 @@ module _ (tells : Type 0) (r : Run) (run : IsRun r) (o : Oracle)
               (Part k) can (inl a));
         },
         λ j n l h. kept.3 j n l
-            (subst (λ (u : World Held (Message tells) Channel ℕ). n ≤ u.place j) a.2 h),
+            (subst (λ (u : World Held (Message tells) Channel Lengths). n ≤ u.place j) a.2 h),
       )
   leads (Part k) can (inr a) =
       same_oracle (Part k) can (inr a)
-      (subst (λ (u : World Held (Message tells) Channel ℕ).
+      (subst (λ (u : World Held (Message tells) Channel Lengths).
       GivesAt r o k (u.place k) (u.held k)) (sym a.2) (st.woven.agrees k can.part).gives)
   leads (Write n) can a = same_oracle (Write n) can a tt
   leads End can a = same_oracle End can a tt

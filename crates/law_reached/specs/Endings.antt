@@ -8,6 +8,7 @@ use Rattle.cx_model.specs.declared.ends.End.TheVariants.{Overflow, WhileLimit, O
 use Rattle.cx_model.specs.Traces.{Trace, Goes}
 use Rattle.cx_flat.specs.declared.op.Op.{Op}
 use Rattle.cx_flat.specs.declared.op.Op.TheVariants.{Sweep, Apply, Give, Join, Post, Take, Test, Open, Turn, Again, Rotate, Due, Written, Skip, Next, Piece, Save, Halt}
+use Rattle.cx_model.specs.Runs.{Lengths}
 use Rattle.law_network.specs.Machine.{World}
 use Rattle.law_parts.specs.Ends.{EndsBy, EndsAt}
 use Rattle.law_parts.specs.Holding.{Held}
@@ -41,7 +42,7 @@ end_met_by r Halt iteration = None
 -- operation there meets or, at its last place, by none, and all its works have been handed out.
 -- Behind the last place all parts hold the scalars of its last state.
 pub record EndsAsRun {tells : Type 0} (r : Run) (trace : Trace) (oracle : Oracle)
-    (w : World Held (Message tells) Channel ℕ) (n : ℕ) : Type 0 where
+    (w : World Held (Message tells) Channel Lengths) (n : ℕ) : Type 0 where
   pub ends : EndsAt r trace n
   pub works : works_of trace.entries ≡ handed_out r w
   pub last : n ≡ last_of r oracle → EndsBy None trace.outcome
@@ -55,6 +56,6 @@ pub record EndsAsRun {tells : Type 0} (r : Run) (trace : Trace) (oracle : Oracle
 -- of each state that is reached and over
 abbrev pub EndIsTheRuns : Type 0 → Run → Trace → Type 0
 EndIsTheRuns tells r trace =
-    tells → (oracle : Oracle) (w : World Held (Message tells) Channel ℕ)
+    tells → (oracle : Oracle) (w : World Held (Message tells) Channel Lengths)
     → IsReachedState tells r oracle w
     → (n : ℕ) → w.over ≡ Some n → EndsAsRun r trace oracle w n

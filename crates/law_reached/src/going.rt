@@ -17,7 +17,7 @@ use cx_plan::Job;
 /// In each state that a run in parts reaches, whatever its wires tell: some event can happen until the run is over, each event
 /// lessens what is left to do, and at most one event of the writer can happen.
 ///
-/// No operation of a part makes the run over: only a work that passes the limit of the output, and the report of the end, which
+/// No operation of a part makes the run over: only a work that passes the limit of its output, and the report of the end, which
 /// stands where a part met it, or at the last place where none did.
 pub fn each_state_goes_on(job: &Job)
     requires whole { IsWhole job.now }

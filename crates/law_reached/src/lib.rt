@@ -7,5 +7,5 @@ mod told;
 
 pub use going::{each_event_keeps_way, each_state_goes_on};
 pub use told::{
-    book_is_length, done_matches, end_is_the_runs, one_way, taken_adds_up, works_in_order,
+    book_is_lengths, done_matches, end_is_the_runs, one_way, taken_adds_up, works_in_order,
 };

@@ -12,7 +12,7 @@ ghost use Rattle.law_parts.specs.Beginnings.{Beginning, IsBeginning, run_of};
 ghost use Rattle.law_parts.specs.Totals.{undivided_from};
 ghost use Rattle.law_reached.specs.Endings.{EndIsTheRuns};
 ghost use Rattle.law_reached.specs.Sums.{DoneMatches, TakenAddsUp};
-ghost use Rattle.law_reached.specs.Works.{BookIsLength, OneWay, WorksInOrder};
+ghost use Rattle.law_reached.specs.Works.{BookIsLengths, OneWay, WorksInOrder};
 
 use cx_flat::{all_ways, flat_is_run, operation_needs_met};
 use cx_plan::Job;
@@ -51,16 +51,16 @@ pub fn works_in_order(job: &Job)
     operation_needs_met(job);
 }
 
-/// Where wires tell, the writer knows how long the output is: as long as the texts that have been handed out, and what was there
-/// at the beginning.
-pub fn book_is_length(job: &Job)
+/// Where wires tell, the writer knows how long the output of each variable is: as long as its texts that have been handed out, and
+/// what was there at the beginning.
+pub fn book_is_lengths(job: &Job)
     requires whole { IsWhole job.now }
     requires shapes { HasShapes (setup_of job.now) }
     requires interior { HasInterior job.now.shape }
     requires sound { Sound (setup_of job.now) }
     requires cut { IsCut (parts_of job.now.shape job.now.cut) }
     ensures { (told : Bool) (rules : List Rule) (b : Beginning) → IsBeginning (setup_of job.now) b
-        → BookIsLength (IsTrue told) (run_of job.now rules b) }
+        → BookIsLengths (IsTrue told) (run_of job.now rules b) }
 {
     flat_is_run(job);
     all_ways(job);
@@ -69,7 +69,7 @@ pub fn book_is_length(job: &Job)
 
 /// Where wires tell, a run in parts that is over has ended as the undivided run does, and has handed out all its works.
 ///
-/// The end is the Overflow, the WHILE limit or the output's limit that the operation at the end's place meets, with its iteration
+/// The end is the Overflow, the WHILE limit or the limit of an output that the operation at the end's place meets, with its iteration
 /// and path. At the last place there is none, and each part holds the scalars of the last state.
 pub fn end_is_the_runs(job: &Job)
     requires whole { IsWhole job.now }

@@ -5,12 +5,11 @@ use Rattle.cx_disk.specs.Disk.{Files}
 use Rattle.cx_plan.specs.Setups.{Setup, setup_of}
 use Rattle.cx_rule.specs.Routine.{Rule}
 use Rattle.cx_plan.specs.declared.job.Job.{Job}
-use Rattle.cx_model.specs.Runs.{output, end as end_of}
+use Rattle.cx_model.specs.Runs.{end as end_of}
 use Rattle.cx_model.specs.declared.ends.End.TheVariants.{Done}
 use Rattle.cx_keep.specs.Trails.{IsTrail}
-use Rattle.cx_run_loop.specs.Drives.{HasOutput}
 use Rattle.law_course.specs.Courses.{course_of}
-use Rattle.law_restarts.specs.Restarts.{Start, IsStart, GoesOn, MayLeave, BeginsOnTrails, EndsAlike}
+use Rattle.law_restarts.specs.Restarts.{Start, IsStart, GoesOn, HasOutputsOf, MayLeave, BeginsOnTrails, EndsAlike}
 
 -- a trail of one job is one of a job with the same run and key, by the same routines
 trail_of_other :
@@ -75,10 +74,10 @@ ends_alike first last is f =
       last_is = leaves.last;
       output = λ ended.
           let out = leaves.output ended in
-          let one = subst (λ (s : Setup). HasOutput (output s rules) last.call.work.disk.new)
+          let one = subst (λ (s : Setup). HasOutputsOf s rules last.call.work.disk.new)
           (sym f.setup) out in
-          subst (λ (rs : List Rule).
-          HasOutput (output (setup_of first.job) rs) last.call.work.disk.new) (sym f.rules) one;
+          subst (λ (rs : List Rule). HasOutputsOf (setup_of first.job) rs last.call.work.disk.new)
+          (sym f.rules) one;
       done = λ zero_.
           let one = subst (λ (s : Setup). end_of s rules ≡ Done) (sym f.setup) (leaves.done zero_)
           in

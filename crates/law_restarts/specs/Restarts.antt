@@ -1,11 +1,14 @@
 -- A run that is stopped and started again: what each start was handed, and what the last one
 -- leaves.
-use Rattle.std.specs.Prelude.{◌≡◌, ◌≢◌, ℕ, List}
-use Rattle.cx_disk.specs.Disk.{Files, IsView, SameFiles}
-use Rattle.cx_plan.specs.Setups.{setup_of}
+use Rattle.std.specs.Prelude.{◌≡◌, ◌≢◌, ◌<◌, ℕ, List, [], slice_index_or}
+use Rattle.cx_disk.specs.Disk.{Files, View, IsView, SameFiles}
+use Rattle.cx_plan.specs.Setups.{Setup, setup_of}
+use Rattle.cx_outputs.specs.Names.{output_count}
+use Rattle.cx_rule.specs.Routine.{Rule}
 use Rattle.cx_plan.specs.declared.job.Job.{Job}
-use Rattle.cx_model.specs.Runs.{output, end as end_of}
+use Rattle.cx_model.specs.Runs.{outputs, end as end_of}
 use Rattle.cx_model.specs.declared.ends.End.TheVariants.{Done}
+use Rattle.cx_keep.specs.Trails.{file_of_output}
 use Rattle.cx_run_loop.specs.Drives.{HasOutput, HasWorked}
 use Rattle.law_restarts.specs.Chains.{HaveOneRun}
 use Rattle.cx_run.specs.Calls.{Lent, Call, IsRun, AreTold, driven}
@@ -42,13 +45,19 @@ pub record GoesOn (before after : Start) : Type 0 where
 abbrev pub BeginsOnTrails : Start → Type 0
 BeginsOnTrails s = WereTrails s.call.work s.job
 
--- The last start begins on trails. Where it comes to an end, it leaves the output of the first one's
--- undivided run and the run's last checkpoint as the newest one, and its end is that run's; where it
--- is done, what it computed and exchanged is what was left to do.
+-- each output file has the text of the undivided run
+abbrev pub HasOutputsOf : Setup → List Rule → View → Type 0
+HasOutputsOf setup rules v =
+    (j : ℕ) → j < output_count setup
+    → HasOutput (file_of_output j) (slice_index_or (outputs setup rules) j []) v
+
+-- The last start begins on trails. Where it comes to an end, it leaves the outputs of the first
+-- one's undivided run and the run's last checkpoint as the newest one, and its end is that run's;
+-- where it is done, what it computed and exchanged is what was left to do.
 pub record EndsAlike (first last : Start) : Type 0 where
   pub began : BeginsOnTrails last
   pub output : IsEnd last.status
-      → HasOutput (output (setup_of first.job) first.call.work.rules) last.call.work.disk.new
+      → HasOutputsOf (setup_of first.job) first.call.work.rules last.call.work.disk.new
   pub last_is : IsEnd last.status → HasLast (driven last.call.work last.job)
   pub done : last.status ≡ 0 → end_of (setup_of first.job) first.call.work.rules ≡ Done
   pub ended : last.status ≡ 3 → end_of (setup_of first.job) first.call.work.rules ≢ Done

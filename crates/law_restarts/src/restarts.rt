@@ -22,9 +22,9 @@ pub trait Restarts {
 /// nothing; its clause is the law.
 ///
 /// The first start begins on trails: a disk without checkpoints is one. The starts may be of different parameter files, which say
-/// otherwise how and where the run is done (`one_run` says which). Where the last start ends with status 0 or 3 the output
-/// is that of the undivided run of the first one's job, in each image that a crash may leave, too; at 0 the points computed and the
-/// values exchanged by this start are those of what was left to do after the newest checkpoint.
+/// otherwise how and where the run is done (`one_run` says which). Where the last start ends with status 0 or 3 the output of
+/// each variable is that of the undivided run of the first one's job, in each image that a crash may leave, too; at 0 the points
+/// computed and the values exchanged by this start are those of what was left to do after the newest checkpoint.
 pub fn restarts_end_alike<R: Restarts>(restarts: &R)
     ensures { BeginsOnTrails (R.start restarts.now 0)
         → EndsAlike (R.start restarts.now 0) (R.start restarts.now (R.times restarts.now)) }

@@ -5,11 +5,13 @@ ghost use Rattle.cx_cut.specs.Cuts.{part_count};
 ghost use Rattle.cx_cut.specs.Faults.{parts_of};
 ghost use Rattle.cx_rule.specs.Jobs.{FitJob};
 ghost use Rattle.cx_wire.specs.Memory.{told_queue};
+ghost use Rattle.cx_plan.specs.Setups.{setup_of};
+ghost use Rattle.cx_outputs.specs.Names.{HasShortNames};
 ghost use Rattle.cx_core.specs.Starts.{AreEmpty, IsReady};
 
 use cx_ascii_read::{Record, read_output};
 use cx_cut::cut;
-use cx_disk::{MemoryDisk, OLD_OUTPUT};
+use cx_disk::{MemoryDisk, named_output};
 use cx_job::make_job;
 use cx_job_files::MemoryShelf;
 use cx_parfile::{Settings, read_parfile};
@@ -65,6 +67,7 @@ fn job(alloc: Global, routines: &[Box<dyn Routine>]) -> Result<Job, Fail>
     requires few { length routines.now ≤ 2 ^ 32 }
     ensures ready { IfOk result (λ job. IsReady job) }
     ensures fit { IfOk result (λ job. FitJob (map spec_of routines.now) job) }
+    ensures names { IfOk result (λ job. HasShortNames (setup_of job)) }
 {
     let mut shelf = shelf(alloc)?;
     let name = Text::from_slice(alloc, b"row.par")?;
@@ -84,10 +87,11 @@ fn wire(alloc: Global, job: &Job) -> Result<MemoryWire, Fail>
     Ok(wire)
 }
 
-/// The bytes of the output file after the run of a job on an empty disk.
+/// The bytes of the first variable's output after the run of a job on an empty disk.
 fn output(rt: &HostRuntime, job: &Job, routines: &[Box<dyn Routine>]) -> Result<Vec<u8>, Fail>
     requires ready { IsReady job.now }
     requires fit { FitJob (map spec_of routines.now) job.now }
+    requires names { HasShortNames (setup_of job.now) }
 {
     let alloc = rt.alloc();
     let mut disk = MemoryDisk::new(alloc, List::empty(alloc));
@@ -97,7 +101,7 @@ fn output(rt: &HostRuntime, job: &Job, routines: &[Box<dyn Routine>]) -> Result<
     drive(
         alloc, job, routines, &mut disk, &mut wire, &mut turns, &mut meter,
     )?;
-    Ok(disk.bytes(OLD_OUTPUT as usize).to_vec(alloc)?)
+    Ok(disk.bytes(named_output(0) as usize).to_vec(alloc)?)
 }
 
 /// The sections of the output of the row's run.

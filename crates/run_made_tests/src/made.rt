@@ -87,7 +87,7 @@ fn files_of_a_seed_and_a_size(rt: HostRuntime) -> Result<(), Fail> {
 struct Sum {
     seed: u64,
     size: u32,
-    output: u64,
+    output: u128,
     live: i64,
     line: &'static str,
 }

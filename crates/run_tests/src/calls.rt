@@ -6,7 +6,7 @@ use crate::faults::{FAULTS, PLAIN, SAMPLE_FAULTS};
 use crate::jobs::{CA_OUTPUT, RUNS};
 use crate::samples::{BOX, CA, CONTROL, GLIDER, HEAT, LIFE, WAVE};
 use crate::schedules;
-use cx_disk::{Disk, MemoryDisk, OLD_OUTPUT};
+use cx_disk::{Disk, MemoryDisk};
 use cx_program::answer;
 use cx_rule::Meter;
 use cx_run::{FolderShelf, MemoryShelf, MemorySink, Shelf, Sink};
@@ -370,18 +370,24 @@ pub(crate) fn sink(alloc: Global, fail: &[u64]) -> Result<MemorySink, Memory> {
     MemorySink::new(alloc, 10_000, List::new(fail.to_vec(alloc)?))
 }
 
-/// What a call came to: its status, what is printed, the output file, and how much is computed and exchanged.
+/// The output files of the first variable that is written, and of the second one.
+pub(crate) const FIRST_OUTPUT: usize = 9;
+
+pub(crate) const SECOND_OUTPUT: usize = 10;
+
+/// What a call came to: its status, what is printed, the two output files, and how much is computed and exchanged.
 #[derive(Drop)]
 pub(crate) struct Outcome {
     pub(crate) status: u8,
     pub(crate) printed: Vec<u8>,
-    pub(crate) output: Vec<u8>,
+    pub(crate) first: Vec<u8>,
+    pub(crate) second: Vec<u8>,
     pub(crate) points: u128,
     pub(crate) received: u64,
     pub(crate) sum: u64,
 }
 
-/// What a command comes to over a shelf and a disk, whose output isn't looked at.
+/// What a command comes to over a shelf and a disk, whose outputs aren't looked at.
 pub(crate) fn answer_over<H: Shelf, D: Disk>(
     rt: &HostRuntime,
     words: &[&str],
@@ -400,7 +406,8 @@ pub(crate) fn answer_over<H: Shelf, D: Disk>(
     Ok(Outcome {
         status,
         printed: out.bytes().to_vec(alloc)?,
-        output: Vec::new(alloc),
+        first: Vec::new(alloc),
+        second: Vec::new(alloc),
         points: meter.count(),
         received: wire.received(),
         sum: wire.received_sum(),
@@ -415,7 +422,8 @@ pub(crate) fn answer_on(
     disk: &mut MemoryDisk,
 ) -> Result<Outcome, Fail> {
     let mut came = answer_over(rt, words, shelf, disk)?;
-    came.output = disk.bytes(OLD_OUTPUT as usize).to_vec(rt.alloc())?;
+    came.first = disk.bytes(FIRST_OUTPUT).to_vec(rt.alloc())?;
+    came.second = disk.bytes(SECOND_OUTPUT).to_vec(rt.alloc())?;
     Ok(came)
 }
 
@@ -569,9 +577,10 @@ fn runs_of_jobs(rt: HostRuntime) -> Result<(), Fail> {
     for run in RUNS {
         let mut shelf = shelf_with(alloc, run.file, run.more, run.others)?;
         let came = answer_to(&rt, &["run", "t.par"], &mut shelf)?;
-        let found = (came.status, came.printed.as_slice(), came.output.as_slice());
-        let want = (run.status, run.printed, run.output);
-        assert_eq!(rt; found, want, "{}", run.name);
+        let found = (came.status, came.printed.as_slice());
+        assert_eq!(rt; found, (run.status, run.printed), "{}", run.name);
+        let found = (came.first.as_slice(), came.second.as_slice());
+        assert_eq!(rt; found, (run.first, run.second), "{}", run.name);
         let points = run.points.unwrap_or(came.points);
         assert_eq!(rt; came.points, points, "points of {}", run.name);
     }

@@ -1,12 +1,12 @@
 //! Each call of each device fails once, and what the next call over the same devices comes to.
 
-use crate::calls::{answer_to, shelf_with, sink, texts};
+use crate::calls::{FIRST_OUTPUT, SECOND_OUTPUT, answer_to, shelf_with, sink, texts};
 use crate::carriers::{failing, wire};
 use crate::devices::{failing_disk, failing_shelf};
 use crate::jobs::CA_OUTPUT;
 use crate::samples::CA;
-use crate::stops::{BOX_FILE, BOX_OUTPUT, BOX_THORNS, EACH};
-use cx_disk::{Disk, MemoryDisk, OLD_OUTPUT};
+use crate::stops::{BOX_FIELDS, BOX_FILE, BOX_SUMS, BOX_THORNS, EACH};
+use cx_disk::{Disk, MemoryDisk};
 use cx_program::answer;
 use cx_rule::Meter;
 use cx_run::{MemorySink, Shelf};
@@ -27,7 +27,8 @@ struct Job {
     shelf: u64,
     status: u8,
     printed: &'static [u8],
-    output: &'static [u8],
+    first: &'static [u8],
+    second: &'static [u8],
 }
 
 /// The automaton with a checkpoint in each iteration, in one part and in two, and a run that ends earlier. The automaton exchanges twice,
@@ -39,12 +40,13 @@ const JOBS: &[Job] = &[
         file: CA,
         more: EACH,
         others: &[],
-        disk: 48,
+        disk: 49,
         wire: 8,
         shelf: 6,
         status: 0,
         printed: b"done: iteration 2\n",
-        output: CA_OUTPUT,
+        first: CA_OUTPUT,
+        second: b"",
     },
     Job {
         name: "cells in two parts",
@@ -53,12 +55,13 @@ const JOBS: &[Job] = &[
             IO::checkpoint_every = 1\n\
             IO::recover = \"autoprobe\"\n",
         others: &[],
-        disk: 48,
+        disk: 49,
         wire: 16,
         shelf: 6,
         status: 0,
         printed: b"done: iteration 2\n",
-        output: CA_OUTPUT,
+        first: CA_OUTPUT,
+        second: b"",
     },
     Job {
         name: "a count past its limit",
@@ -67,23 +70,25 @@ const JOBS: &[Job] = &[
             IO::out_vars = \"control::count\"\n",
         more: "IO::recover = \"autoprobe\"\n",
         others: &[],
-        disk: 21,
+        disk: 22,
         wire: 0,
         shelf: 6,
         status: 3,
         printed: b"ended: WhileLimit 1 EVOL/control_spin\n",
-        output: b"# control::count iteration 0 value 3\n",
+        first: b"# control::count iteration 0 value 3\n",
+        second: b"",
     },
 ];
 
-/// What two calls over the same devices come to, of which one fails once: their statuses, what each prints, and the output.
+/// What two calls over the same devices come to, of which one fails once: their statuses, what each prints, and the two output files.
 #[derive(Drop)]
 struct Twice {
     first: u8,
     said: Vec<u8>,
     second: u8,
     printed: Vec<u8>,
-    output: Vec<u8>,
+    first_output: Vec<u8>,
+    second_output: Vec<u8>,
 }
 
 /// Runs `t.par` over these devices and a new wire.
@@ -136,7 +141,8 @@ fn both_calls(
         said,
         second,
         printed,
-        output: disk.bytes(OLD_OUTPUT as usize).to_vec(alloc)?,
+        first_output: disk.bytes(FIRST_OUTPUT).to_vec(alloc)?,
+        second_output: disk.bytes(SECOND_OUTPUT).to_vec(alloc)?,
     })
 }
 
@@ -195,7 +201,8 @@ fn is_whole(came: &Twice, said: &[u8], job: &Job) -> bool {
         && came.said.as_slice() == said
         && came.second == job.status
         && came.printed.as_slice() == job.printed
-        && came.output.as_slice() == job.output
+        && came.first_output.as_slice() == job.first
+        && came.second_output.as_slice() == job.second
 }
 
 /// The box with checkpoints of iterations 20 and 40, with one call of each device that fails: the disk's first sync, after the mount and a
@@ -210,7 +217,8 @@ const BOX_JOB: &Job = &Job {
     shelf: 1,
     status: 0,
     printed: b"done: iteration 40\n",
-    output: BOX_OUTPUT,
+    first: BOX_FIELDS,
+    second: BOX_SUMS,
 };
 
 /// A device of a call.

@@ -12,7 +12,9 @@ pub struct Run {
     pub others: &'static [File],
     pub status: u8,
     pub printed: &'static [u8],
-    pub output: &'static [u8],
+    /// The output files of the first variable that is written, and of the second one.
+    pub first: &'static [u8],
+    pub second: &'static [u8],
     /// How many points the parts compute, where the run is done.
     pub points: Option<u128>,
 }
@@ -48,8 +50,8 @@ const FIRST_ROW: &[u8] = b"ActiveThorns = \"ElemCA\"\n\
     ca::start = 3\n\
     IO::out_vars = \"ca::cell\"\n";
 
-/// A glider's four steps, which take it one cell further in both directions.
-pub const LIFE_OUTPUT: &[u8] = b"# life::cell iteration 0 size 8 8\n\
+/// A glider's four steps, which take it one cell further in both directions, and how many of its cells live.
+pub const LIFE_CELLS: &[u8] = b"# life::cell iteration 0 size 8 8\n\
     0 1 0 0 0 0 0 0\n\
     0 0 1 0 0 0 0 0\n\
     1 1 1 0 0 0 0 0\n\
@@ -59,7 +61,6 @@ pub const LIFE_OUTPUT: &[u8] = b"# life::cell iteration 0 size 8 8\n\
     0 0 0 0 0 0 0 0\n\
     0 0 0 0 0 0 0 0\n\
     \n\
-    # life::live iteration 0 value 5\n\
     # life::cell iteration 1 size 8 8\n\
     0 0 0 0 0 0 0 0\n\
     1 0 1 0 0 0 0 0\n\
@@ -70,7 +71,6 @@ pub const LIFE_OUTPUT: &[u8] = b"# life::cell iteration 0 size 8 8\n\
     0 0 0 0 0 0 0 0\n\
     0 0 0 0 0 0 0 0\n\
     \n\
-    # life::live iteration 1 value 5\n\
     # life::cell iteration 2 size 8 8\n\
     0 0 0 0 0 0 0 0\n\
     0 0 1 0 0 0 0 0\n\
@@ -81,7 +81,6 @@ pub const LIFE_OUTPUT: &[u8] = b"# life::cell iteration 0 size 8 8\n\
     0 0 0 0 0 0 0 0\n\
     0 0 0 0 0 0 0 0\n\
     \n\
-    # life::live iteration 2 value 5\n\
     # life::cell iteration 3 size 8 8\n\
     0 0 0 0 0 0 0 0\n\
     0 1 0 0 0 0 0 0\n\
@@ -92,7 +91,6 @@ pub const LIFE_OUTPUT: &[u8] = b"# life::cell iteration 0 size 8 8\n\
     0 0 0 0 0 0 0 0\n\
     0 0 0 0 0 0 0 0\n\
     \n\
-    # life::live iteration 3 value 5\n\
     # life::cell iteration 4 size 8 8\n\
     0 0 0 0 0 0 0 0\n\
     0 0 1 0 0 0 0 0\n\
@@ -102,7 +100,12 @@ pub const LIFE_OUTPUT: &[u8] = b"# life::cell iteration 0 size 8 8\n\
     0 0 0 0 0 0 0 0\n\
     0 0 0 0 0 0 0 0\n\
     0 0 0 0 0 0 0 0\n\
-    \n\
+    \n";
+
+pub const LIFE_COUNTS: &[u8] = b"# life::live iteration 0 value 5\n\
+    # life::live iteration 1 value 5\n\
+    # life::live iteration 2 value 5\n\
+    # life::live iteration 3 value 5\n\
     # life::live iteration 4 value 5\n";
 
 /// Heat that sees the count of turns.
@@ -141,7 +144,8 @@ pub const RUNS: &[Run] = &[
         others: &[],
         status: 0,
         printed: b"done: iteration 2\n",
-        output: CA_OUTPUT,
+        first: CA_OUTPUT,
+        second: b"",
         points: Some(26),
     },
     Run {
@@ -151,7 +155,8 @@ pub const RUNS: &[Run] = &[
         others: &[],
         status: 0,
         printed: b"done: iteration 2\n",
-        output: CA_OUTPUT,
+        first: CA_OUTPUT,
+        second: b"",
         points: Some(26),
     },
     Run {
@@ -161,7 +166,8 @@ pub const RUNS: &[Run] = &[
         others: &[],
         status: 0,
         printed: b"done: iteration 2\n",
-        output: CA_OUTPUT,
+        first: CA_OUTPUT,
+        second: b"",
         points: Some(28),
     },
     Run {
@@ -171,7 +177,8 @@ pub const RUNS: &[Run] = &[
         others: &[],
         status: 0,
         printed: b"done: iteration 2\n",
-        output: CA_OUTPUT,
+        first: CA_OUTPUT,
+        second: b"",
         points: Some(40),
     },
     Run {
@@ -181,7 +188,8 @@ pub const RUNS: &[Run] = &[
         others: &[],
         status: 0,
         printed: b"done: iteration 2\n",
-        output: CA_OUTPUT,
+        first: CA_OUTPUT,
+        second: b"",
         points: Some(28),
     },
     Run {
@@ -191,9 +199,10 @@ pub const RUNS: &[Run] = &[
         others: &[],
         status: 0,
         printed: b"done: iteration 0\n",
-        output: b"# ca::cell iteration 0 size 8\n\
+        first: b"# ca::cell iteration 0 size 8\n\
             0 0 0 1 0 0 0 0\n\
             \n",
+        second: b"",
         points: Some(10),
     },
     // The other examples.
@@ -204,7 +213,8 @@ pub const RUNS: &[Run] = &[
         others: &[],
         status: 0,
         printed: b"done: iteration 4\n",
-        output: LIFE_OUTPUT,
+        first: LIFE_CELLS,
+        second: LIFE_COUNTS,
         points: Some(356),
     },
     Run {
@@ -215,7 +225,8 @@ pub const RUNS: &[Run] = &[
         others: &[],
         status: 0,
         printed: b"done: iteration 4\n",
-        output: LIFE_OUTPUT,
+        first: LIFE_CELLS,
+        second: LIFE_COUNTS,
         points: Some(424),
     },
     Run {
@@ -225,7 +236,7 @@ pub const RUNS: &[Run] = &[
         others: &[],
         status: 0,
         printed: b"done: iteration 48\n",
-        output: b"# life::cell iteration 0 size 12 12\n\
+        first: b"# life::cell iteration 0 size 12 12\n\
             0 1 0 0 0 0 0 0 0 0 0 0\n\
             0 0 1 0 0 0 0 0 0 0 0 0\n\
             1 1 1 0 0 0 0 0 0 0 0 0\n\
@@ -239,7 +250,6 @@ pub const RUNS: &[Run] = &[
             0 0 0 0 0 0 0 0 0 0 0 0\n\
             0 0 0 0 0 0 0 0 0 0 0 0\n\
             \n\
-            # life::live iteration 0 value 5\n\
             # life::cell iteration 24 size 12 12\n\
             0 0 0 0 0 0 0 0 0 0 0 0\n\
             0 0 0 0 0 0 0 0 0 0 0 0\n\
@@ -254,7 +264,6 @@ pub const RUNS: &[Run] = &[
             0 0 0 0 0 0 0 0 0 0 0 0\n\
             0 0 0 0 0 0 0 0 0 0 0 0\n\
             \n\
-            # life::live iteration 24 value 5\n\
             # life::cell iteration 48 size 12 12\n\
             0 1 0 0 0 0 0 0 0 0 0 0\n\
             0 0 1 0 0 0 0 0 0 0 0 0\n\
@@ -268,7 +277,9 @@ pub const RUNS: &[Run] = &[
             0 0 0 0 0 0 0 0 0 0 0 0\n\
             0 0 0 0 0 0 0 0 0 0 0 0\n\
             0 0 0 0 0 0 0 0 0 0 0 0\n\
-            \n\
+            \n",
+        second: b"# life::live iteration 0 value 5\n\
+            # life::live iteration 24 value 5\n\
             # life::live iteration 48 value 5\n",
         points: Some(7108),
     },
@@ -279,12 +290,13 @@ pub const RUNS: &[Run] = &[
         others: &[],
         status: 0,
         printed: b"done: iteration 1\n",
-        output: b"# wave::phi iteration 0 size 6\n\
+        first: b"# wave::phi iteration 0 size 6\n\
             0 0 8 0 0 0\n\
             \n\
             # wave::phi iteration 1 size 6\n\
             0 8 -8 8 0 0\n\
             \n",
+        second: b"",
         points: Some(14),
     },
     Run {
@@ -294,49 +306,49 @@ pub const RUNS: &[Run] = &[
         others: &[],
         status: 0,
         printed: b"done: iteration 10\n",
-        output: b"# diff::u iteration 0 size 16\n\
+        first: b"# diff::u iteration 0 size 16\n\
             0 0 0 0 0 0 0 0 1000 0 0 0 0 0 0 0\n\
             \n\
-            # diff::total iteration 0 value 1000\n\
             # diff::u iteration 1 size 16\n\
             0 0 0 0 0 0 0 250 500 250 0 0 0 0 0 0\n\
             \n\
-            # diff::total iteration 1 value 1000\n\
             # diff::u iteration 2 size 16\n\
             0 0 0 0 0 0 62 250 375 250 62 0 0 0 0 0\n\
             \n\
-            # diff::total iteration 2 value 999\n\
             # diff::u iteration 3 size 16\n\
             0 0 0 0 0 15 93 234 312 234 93 15 0 0 0 0\n\
             \n\
-            # diff::total iteration 3 value 996\n\
             # diff::u iteration 4 size 16\n\
             0 0 0 0 3 30 108 218 273 218 108 30 3 0 0 0\n\
             \n\
-            # diff::total iteration 4 value 991\n\
             # diff::u iteration 5 size 16\n\
             0 0 0 0 9 42 116 204 245 204 116 42 9 0 0 0\n\
             \n\
-            # diff::total iteration 5 value 987\n\
             # diff::u iteration 6 size 16\n\
             0 0 0 2 15 52 119 192 224 192 119 52 15 2 0 0\n\
             \n\
-            # diff::total iteration 6 value 984\n\
             # diff::u iteration 7 size 16\n\
             0 0 0 4 21 59 120 181 208 181 120 59 21 4 0 0\n\
             \n\
-            # diff::total iteration 7 value 978\n\
             # diff::u iteration 8 size 16\n\
             0 0 1 7 26 64 120 172 194 172 120 64 26 7 1 1\n\
             \n\
-            # diff::total iteration 8 value 975\n\
             # diff::u iteration 9 size 16\n\
             0 0 2 10 30 68 119 164 183 164 119 68 30 10 2 2\n\
             \n\
-            # diff::total iteration 9 value 971\n\
             # diff::u iteration 10 size 16\n\
             0 0 3 13 34 71 117 157 173 157 117 71 34 13 4 4\n\
-            \n\
+            \n",
+        second: b"# diff::total iteration 0 value 1000\n\
+            # diff::total iteration 1 value 1000\n\
+            # diff::total iteration 2 value 999\n\
+            # diff::total iteration 3 value 996\n\
+            # diff::total iteration 4 value 991\n\
+            # diff::total iteration 5 value 987\n\
+            # diff::total iteration 6 value 984\n\
+            # diff::total iteration 7 value 978\n\
+            # diff::total iteration 8 value 975\n\
+            # diff::total iteration 9 value 971\n\
             # diff::total iteration 10 value 968\n",
         points: Some(176),
     },
@@ -347,8 +359,9 @@ pub const RUNS: &[Run] = &[
         others: &[],
         status: 0,
         printed: b"done: iteration 1\n",
-        output: b"# control::count iteration 0 value 5\n\
+        first: b"# control::count iteration 0 value 5\n\
             # control::count iteration 1 value 0\n",
+        second: b"",
         points: Some(6),
     },
     Run {
@@ -358,17 +371,17 @@ pub const RUNS: &[Run] = &[
         others: &[],
         status: 0,
         printed: b"done: iteration 40\n",
-        output: b"# wave::phi iteration 0 size 40\n\
+        first: b"# wave::phi iteration 0 size 40\n\
             5 5 5 5 5 5 5 5 5 5 5 5 5 5 5 5 5 5 5 5 5 5 5 5 5 5 5 5 5 5 5 5 5 5 5 5 5 5 5 5\n\
             \n\
-            # wave::total iteration 0 value 200\n\
             # wave::phi iteration 20 size 40\n\
             5 5 5 5 5 5 5 5 5 5 5 5 5 5 5 5 5 5 5 5 5 5 5 5 5 5 5 5 5 5 5 5 5 5 5 5 5 5 5 5\n\
             \n\
-            # wave::total iteration 20 value 200\n\
             # wave::phi iteration 40 size 40\n\
             5 5 5 5 5 5 5 5 5 5 5 5 5 5 5 5 5 5 5 5 5 5 5 5 5 5 5 5 5 5 5 5 5 5 5 5 5 5 5 5\n\
-            \n\
+            \n",
+        second: b"# wave::total iteration 0 value 200\n\
+            # wave::total iteration 20 value 200\n\
             # wave::total iteration 40 value 200\n",
         points: Some(4944),
     },
@@ -387,7 +400,8 @@ pub const RUNS: &[Run] = &[
         others: &[],
         status: 3,
         printed: b"ended: Overflow 0 ANALYSIS/wave_sum\n",
-        output: b"",
+        first: b"",
+        second: b"",
         points: None,
     },
     Run {
@@ -424,10 +438,10 @@ pub const RUNS: &[Run] = &[
         }],
         status: 0,
         printed: b"done: iteration 0\n",
-        output: b"# wave::phi iteration 0 size 5\n\
+        first: b"# wave::phi iteration 0 size 5\n\
             -9223372036854775807 9223372036854775807 9223372036854775807 9223372036854775807 -9223372036854775807\n\
-            \n\
-            # wave::total iteration 0 value 9223372036854775807\n",
+            \n",
+        second: b"# wave::total iteration 0 value 9223372036854775807\n",
         points: Some(7),
     },
     // Numbers that leave 16 bits, and 64 bits.
@@ -452,7 +466,7 @@ pub const RUNS: &[Run] = &[
         }],
         status: 3,
         printed: b"ended: Overflow 7 EVOL/diff_step\n",
-        output: b"# diff::u iteration 0 size 16\n\
+        first: b"# diff::u iteration 0 size 16\n\
             0 0 100 0 0 0 0 0 0 0 0 0 0 0 0 0\n\
             \n\
             # diff::u iteration 1 size 16\n\
@@ -473,6 +487,7 @@ pub const RUNS: &[Run] = &[
             # diff::u iteration 6 size 16\n\
             9000 -12600 14100 -12600 9000 -5000 2100 -600 100 0 0 0 100 -600 2100 -5000\n\
             \n",
+        second: b"",
         points: None,
     },
     Run {
@@ -489,7 +504,7 @@ pub const RUNS: &[Run] = &[
         others: &[],
         status: 3,
         printed: b"ended: Overflow 3 EVOL/wave_step\n",
-        output: b"# wave::phi iteration 0 size 6\n\
+        first: b"# wave::phi iteration 0 size 6\n\
             0 0 5000000000000000000 0 0 0\n\
             \n\
             # wave::phi iteration 1 size 6\n\
@@ -498,6 +513,7 @@ pub const RUNS: &[Run] = &[
             # wave::phi iteration 2 size 6\n\
             5000000000000000000 -5000000000000000000 5000000000000000000 -5000000000000000000 5000000000000000000 0\n\
             \n",
+        second: b"",
         points: None,
     },
     Run {
@@ -514,9 +530,10 @@ pub const RUNS: &[Run] = &[
         others: &[],
         status: 3,
         printed: b"ended: Overflow 1 EVOL/diff_step\n",
-        output: b"# diff::u iteration 0 size 4\n\
+        first: b"# diff::u iteration 0 size 4\n\
             0 1000000 0 0\n\
             \n",
+        second: b"",
         points: None,
     },
     // A WHILE past its limit, and one that just keeps it.
@@ -531,7 +548,8 @@ pub const RUNS: &[Run] = &[
         others: &[],
         status: 3,
         printed: b"ended: WhileLimit 1 EVOL/control_spin\n",
-        output: b"# control::count iteration 0 value 3\n",
+        first: b"# control::count iteration 0 value 3\n",
+        second: b"",
         points: None,
     },
     Run {
@@ -545,9 +563,10 @@ pub const RUNS: &[Run] = &[
         others: &[],
         status: 0,
         printed: b"done: iteration 2\n",
-        output: b"# control::count iteration 0 value 5\n\
+        first: b"# control::count iteration 0 value 5\n\
             # control::count iteration 1 value 0\n\
             # control::count iteration 2 value 0\n",
+        second: b"",
         points: Some(6),
     },
     // An IF whose scalar is 0, and one whose scalar becomes 0 in the first iteration.
@@ -573,7 +592,7 @@ pub const RUNS: &[Run] = &[
         ],
         status: 0,
         printed: b"done: iteration 2\n",
-        output: b"# diff::u iteration 0 size 6\n\
+        first: b"# diff::u iteration 0 size 6\n\
             0 0 8 0 0 0\n\
             \n\
             # diff::u iteration 1 size 6\n\
@@ -582,6 +601,7 @@ pub const RUNS: &[Run] = &[
             # diff::u iteration 2 size 6\n\
             0 0 8 0 0 0\n\
             \n",
+        second: b"",
         points: Some(9),
     },
     Run {
@@ -606,17 +626,17 @@ pub const RUNS: &[Run] = &[
         ],
         status: 0,
         printed: b"done: iteration 2\n",
-        output: b"# diff::u iteration 0 size 6\n\
+        first: b"# diff::u iteration 0 size 6\n\
             0 0 8 0 0 0\n\
             \n\
-            # control::count iteration 0 value 2\n\
             # diff::u iteration 1 size 6\n\
             0 2 4 2 0 0\n\
             \n\
-            # control::count iteration 1 value 0\n\
             # diff::u iteration 2 size 6\n\
             0 2 4 2 0 0\n\
-            \n\
+            \n",
+        second: b"# control::count iteration 0 value 2\n\
+            # control::count iteration 1 value 0\n\
             # control::count iteration 2 value 0\n",
         points: Some(17),
     },
@@ -646,7 +666,7 @@ pub const RUNS: &[Run] = &[
         }],
         status: 0,
         printed: b"done: iteration 2\n",
-        output: b"# diff::u iteration 0 size 4 4 2\n\
+        first: b"# diff::u iteration 0 size 4 4 2\n\
             604 487 804 346\n\
             203 674 305 798\n\
             182 985 425 83\n\
@@ -666,6 +686,7 @@ pub const RUNS: &[Run] = &[
             184 184 797 797\n\
             184 184 797 797\n\
             \n",
+        second: b"",
         points: Some(176),
     },
     // A scalar alone, and nothing.
@@ -682,10 +703,11 @@ pub const RUNS: &[Run] = &[
         others: &[],
         status: 0,
         printed: b"done: iteration 3\n",
-        output: b"# life::live iteration 0 value 71\n\
+        first: b"# life::live iteration 0 value 71\n\
             # life::live iteration 1 value 36\n\
             # life::live iteration 2 value 35\n\
             # life::live iteration 3 value 35\n",
+        second: b"",
         points: Some(576),
     },
     Run {
@@ -695,7 +717,8 @@ pub const RUNS: &[Run] = &[
         others: &[],
         status: 0,
         printed: b"done: iteration 2\n",
-        output: b"",
+        first: b"",
+        second: b"",
         points: Some(26),
     },
     Run {
@@ -705,7 +728,8 @@ pub const RUNS: &[Run] = &[
         others: &[],
         status: 0,
         printed: b"done: iteration 2\n",
-        output: b"",
+        first: b"",
+        second: b"",
         points: Some(26),
     },
     Run {
@@ -719,7 +743,8 @@ pub const RUNS: &[Run] = &[
         others: &[],
         status: 0,
         printed: b"done: iteration 2\n",
-        output: b"",
+        first: b"",
+        second: b"",
         points: Some(26),
     },
     // Checkpoints that are never due.
@@ -731,7 +756,8 @@ pub const RUNS: &[Run] = &[
         others: &[],
         status: 0,
         printed: b"done: iteration 2\n",
-        output: CA_OUTPUT,
+        first: CA_OUTPUT,
+        second: b"",
         points: Some(26),
     },
 ];

@@ -73,11 +73,11 @@ fn runs_that_are_made(rt: HostRuntime) -> Result<(), Fail> {
     let mut shelf = MemoryShelf::new(List::empty(rt.alloc()));
     for made in MADE {
         let came = answer_to(&rt, made.words, &mut shelf)?;
-        let found = (came.status, came.printed.as_slice(), came.output.len());
+        let found = (came.status, came.printed.as_slice(), came.first.len());
         let want = (0, made.printed.as_bytes(), made.length);
         assert_eq!(rt; found, want, "{:?}", made.words);
-        let output = made.output.unwrap_or(came.output.as_slice());
-        assert_eq!(rt; came.output.as_slice(), output, "{:?}", made.words);
+        let output = made.output.unwrap_or(came.first.as_slice());
+        assert_eq!(rt; came.first.as_slice(), output, "{:?}", made.words);
     }
     Ok(())
 }

@@ -199,7 +199,7 @@ fn work_of_the_automaton(rt: HostRuntime) -> Result<(), Fail> {
     for work in WORKS {
         let mut shelf = shelf_with(rt.alloc(), CA, work.more, &[])?;
         let came = answer_to(&rt, &["run", "t.par"], &mut shelf)?;
-        assert_eq!(rt; came.output.as_slice(), CA_OUTPUT, "{:?}", work.more);
+        assert_eq!(rt; came.first.as_slice(), CA_OUTPUT, "{:?}", work.more);
         let found = (came.points, came.received, came.sum);
         let want = (work.points, work.received, work.sum);
         assert_eq!(rt; found, want, "{:?}", work.more);
@@ -237,8 +237,8 @@ fn sample_thorns_in_parts(rt: HostRuntime) -> Result<(), Fail> {
         for cut in thorn.cuts {
             let runs = runs_by_seeds(&rt, thorn.file, cut, &[])?;
             for (k, came) in runs.iter().enumerate() {
-                let found = (came.status, came.output.as_slice());
-                let want = (0, one.output.as_slice());
+                let found = (came.status, came.first.as_slice(), came.second.as_slice());
+                let want = (0, one.first.as_slice(), one.second.as_slice());
                 assert_eq!(rt; found, want, "{name} {cut:?}, turns {k}");
             }
         }
@@ -252,7 +252,7 @@ fn overflow_wherever_other_parts_stand(rt: HostRuntime) -> Result<(), Fail> {
     for lead in LEADS {
         let runs = runs_by_seeds(&rt, LEAVES, lead, SHORT_FIELD)?;
         for (k, came) in runs.iter().enumerate() {
-            let found = (came.status, came.printed.as_slice(), came.output.as_slice());
+            let found = (came.status, came.printed.as_slice(), came.first.as_slice());
             assert_eq!(rt; found, (3, ended, LEFT), "{lead:?}, turns {k}");
         }
     }

@@ -1,6 +1,9 @@
 //! Checkpoints: runs that stop anywhere and are started again, and starts that are refused.
 
-use crate::calls::{Outcome, answer_on, answer_over, answer_to, shelf_with};
+use crate::calls::{
+    FIRST_OUTPUT, Outcome, SECOND_OUTPUT, answer_on, answer_over, answer_to, shelf_with,
+};
+use crate::devices::LongDisk;
 use crate::jobs::CA_OUTPUT;
 use crate::parts::{LEFT, SHORT_FIELD};
 use crate::samples::CA;
@@ -64,19 +67,30 @@ pub(crate) const BOX_THORNS: &[File] = &[File {
         Integer/Control\n",
 }];
 
-/// Its output, 451 bytes.
-pub(crate) const BOX_OUTPUT: &[u8] = b"# wave::phi iteration 0 size 40\n\
+/// Its fields and its sums, of 341 and 110 bytes.
+pub(crate) const BOX_FIELDS: &[u8] = b"# wave::phi iteration 0 size 40\n\
+    5 5 5 5 5 5 5 5 5 5 5 5 5 5 5 5 5 5 5 5 5 5 5 5 5 5 5 5 5 5 5 5 5 5 5 5 5 5 5 5\n\
+    \n\
+    # wave::phi iteration 20 size 40\n\
+    5 5 5 5 5 5 5 5 5 5 5 5 5 5 5 5 5 5 5 5 5 5 5 5 5 5 5 5 5 5 5 5 5 5 5 5 5 5 5 5\n\
+    \n\
+    # wave::phi iteration 40 size 40\n\
+    5 5 5 5 5 5 5 5 5 5 5 5 5 5 5 5 5 5 5 5 5 5 5 5 5 5 5 5 5 5 5 5 5 5 5 5 5 5 5 5\n\
+    \n";
+
+pub(crate) const BOX_SUMS: &[u8] = b"# wave::total iteration 0 value 200\n\
+    # wave::total iteration 20 value 200\n\
+    # wave::total iteration 40 value 200\n";
+
+/// All of them in one file, as a former version wrote them, up to the checkpoint of iteration 40: 300 bytes.
+const BOX_FORMER: &[u8] = b"# wave::phi iteration 0 size 40\n\
     5 5 5 5 5 5 5 5 5 5 5 5 5 5 5 5 5 5 5 5 5 5 5 5 5 5 5 5 5 5 5 5 5 5 5 5 5 5 5 5\n\
     \n\
     # wave::total iteration 0 value 200\n\
     # wave::phi iteration 20 size 40\n\
     5 5 5 5 5 5 5 5 5 5 5 5 5 5 5 5 5 5 5 5 5 5 5 5 5 5 5 5 5 5 5 5 5 5 5 5 5 5 5 5\n\
     \n\
-    # wave::total iteration 20 value 200\n\
-    # wave::phi iteration 40 size 40\n\
-    5 5 5 5 5 5 5 5 5 5 5 5 5 5 5 5 5 5 5 5 5 5 5 5 5 5 5 5 5 5 5 5 5 5 5 5 5 5 5 5\n\
-    \n\
-    # wave::total iteration 40 value 200\n";
+    # wave::total iteration 20 value 200\n";
 
 const RUN: &[&str] = &["run", "t.par"];
 
@@ -114,7 +128,7 @@ fn empty_disk(alloc: Global) -> MemoryDisk {
 /// A disk with the files of another, of which one is cut to a length.
 fn cut_disk(alloc: Global, disk: &MemoryDisk, cut: usize, to: usize) -> Result<MemoryDisk, Fail> {
     let mut files = List::empty(alloc);
-    for file in 0..OLD_OUTPUT as usize + 1 {
+    for file in 0..SECOND_OUTPUT + 1 {
         let bytes = disk.bytes(file);
         let kept = if file == cut {
             bytes.get(..to).unwrap_or(bytes)
@@ -135,19 +149,23 @@ fn box_disk(rt: &HostRuntime) -> Result<MemoryDisk, Fail> {
 
 /// How its two slots begin, with the checkpoints of iterations 20 and 40.
 const BOX_SLOTS: &[(usize, &[u8])] = &[
-    (0, b"\x01CXCHKPT\x01\0\0\0\0\0\0\0\x14"),
-    (1, b"\x01CXCHKPT\x01\0\0\0\0\0\0\0\x28"),
+    (0, b"\x01CXCHKPT\x02\0\0\0\0\0\0\0\x14"),
+    (1, b"\x01CXCHKPT\x02\0\0\0\0\0\0\0\x28"),
 ];
 
 #[test]
 fn box_with_checkpoints(rt: HostRuntime) -> Result<(), Fail> {
     let mut disk = empty_disk(rt.alloc());
     let came = run_on(&rt, BOX_FILE, "", BOX_THORNS, &mut disk)?;
-    let found = (came.status, came.printed.as_slice(), came.output.as_slice());
-    let want = (0, b"done: iteration 40\n".as_slice(), BOX_OUTPUT);
+    let found = (came.status, came.printed.as_slice());
+    let want = (0, b"done: iteration 40\n".as_slice());
     assert_eq!(rt; found, want, "the run");
-    let found = (came.output.len(), came.points, came.received);
-    assert_eq!(rt; found, (451, 4944, 480), "bytes, points and values");
+    let found = (came.first.as_slice(), came.second.as_slice());
+    assert_eq!(rt; found, (BOX_FIELDS, BOX_SUMS), "both outputs");
+    let found = (came.first.len(), came.second.len());
+    assert_eq!(rt; found, (341, 110), "bytes");
+    let found = (came.points, came.received);
+    assert_eq!(rt; found, (4944, 480), "points and values");
     for (slot, front) in BOX_SLOTS {
         assert!(rt; disk.bytes(*slot).starts_with(front), "slot {slot}");
     }
@@ -164,7 +182,7 @@ struct Start {
     status: u8,
     printed: &'static [u8],
     points: u128,
-    output: &'static [u8],
+    first: &'static [u8],
 }
 
 const STARTS: &[Start] = &[
@@ -177,7 +195,7 @@ const STARTS: &[Start] = &[
             parameter wave::amount = \"5\"\n\
             parameter wave::amount = \"6\"\n",
         points: 0,
-        output: BOX_OUTPUT,
+        first: BOX_FIELDS,
     },
     Start {
         name: "a damaged slot",
@@ -186,16 +204,16 @@ const STARTS: &[Start] = &[
         status: 6,
         printed: b"recovery: Damaged 1\n",
         points: 0,
-        output: BOX_OUTPUT,
+        first: BOX_FIELDS,
     },
     Start {
         name: "a short output",
-        cut: Some((OLD_OUTPUT as usize, 441)),
+        cut: Some((FIRST_OUTPUT, 331)),
         more: "driver::parts_x = 3\nwave::amount = 5\nIO::recover = \"autoprobe\"\n",
         status: 6,
-        printed: b"recovery: OutputShort 10 300\n",
+        printed: b"recovery: OutputShort 10 227\n",
         points: 0,
-        output: b"# wave::ph",
+        first: b"# wave::ph",
     },
     // The newest checkpoint, that of iteration 40, has nothing left to do but the output of iteration 40.
     Start {
@@ -205,7 +223,7 @@ const STARTS: &[Start] = &[
         status: 0,
         printed: b"done: iteration 40\n",
         points: 0,
-        output: BOX_OUTPUT,
+        first: BOX_FIELDS,
     },
     Start {
         name: "without recovery",
@@ -214,7 +232,7 @@ const STARTS: &[Start] = &[
         status: 0,
         printed: b"done: iteration 40\n",
         points: 4944,
-        output: BOX_OUTPUT,
+        first: BOX_FIELDS,
     },
 ];
 
@@ -227,9 +245,10 @@ fn starts_from_the_box(rt: HostRuntime) -> Result<(), Fail> {
         let length = left.bytes(file).len();
         let mut disk = cut_disk(alloc, &left, file, length.saturating_sub(less))?;
         let came = run_on(&rt, BOX_REST, start.more, &[], &mut disk)?;
-        let found = (came.status, came.printed.as_slice(), came.output.as_slice());
-        let want = (start.status, start.printed, start.output);
-        assert_eq!(rt; found, want, "{}", start.name);
+        let found = (came.status, came.printed.as_slice());
+        assert_eq!(rt; found, (start.status, start.printed), "{}", start.name);
+        let found = (came.first.as_slice(), came.second.as_slice());
+        assert_eq!(rt; found, (start.first, BOX_SUMS), "{}", start.name);
         assert_eq!(rt; came.points, start.points, "points: {}", start.name);
     }
     Ok(())
@@ -245,7 +264,7 @@ fn start_from_nothing(rt: HostRuntime) -> Result<(), Fail> {
     assert_eq!(rt; found, (6, want, 0), "auto");
     let mut shelf = shelf_with(alloc, CA, "IO::recover = \"autoprobe\"\n", &[])?;
     let came = answer_to(&rt, RUN, &mut shelf)?;
-    let found = (came.status, came.output.as_slice());
+    let found = (came.status, came.first.as_slice());
     assert_eq!(rt; found, (0, CA_OUTPUT), "autoprobe");
     Ok(())
 }
@@ -262,14 +281,15 @@ const BOX_LEADS: &[(&str, &str)] = &[
     ),
 ];
 
-// The calls of the first run are: the mount, 8 looks at slots, 8 syncs of slots, a cut and a sync of the output (19); two pieces (21); the
-// first checkpoint, with the output's sync, 2 looks, a cut, a sync, a write of 0, a sync, the body and the gate with their syncs (32); two
-// pieces (34); the second one, with the output's sync, 5 looks, a cut, a sync, a write of 0 and a sync (44); and its body.
-const WITHIN_BODY: u64 = 44;
+// The calls of the first run are: the mount, 8 looks at slots, 8 syncs of slots, a cut and a sync of each output, and a look at the old one
+// (22); two pieces (24); the first checkpoint, with the outputs' syncs, 2 looks, a cut, a sync, a write of 0, a sync, the body and the gate
+// with their syncs (36); two pieces (38); the second one, with the outputs' syncs, 5 looks, a cut, a sync, a write of 0 and a sync (49); and
+// its body.
+const WITHIN_BODY: u64 = 49;
 
-// Those of the second run are: the mount, 10 looks at slots, or one more where the body is left; 2 at the newest, one at the output, and 8
-// syncs of slots; and the output's cut.
-const STOPS: &[(u64, u64)] = &[(0, 22), (1, 23)];
+// Those of the second run are: the mount, 11 looks at slots, or one more where the body is left; 2 at the newest, one at each output, and 8
+// syncs of slots; and the first output's cut.
+const STOPS: &[(u64, u64)] = &[(0, 24), (1, 25)];
 
 /// A run of the box that goes on behind two that have stopped, by a choice of what a crash leaves and the calls of the second run.
 fn third_run(rt: &HostRuntime, three: &str, four: &str, stop: (u64, u64)) -> Result<Outcome, Fail> {
@@ -289,8 +309,9 @@ fn box_that_stops_twice(rt: HostRuntime) -> Result<(), Fail> {
     for (three, four) in BOX_LEADS {
         for stop in STOPS {
             let came = third_run(&rt, three, four, *stop)?;
-            let found = (came.status, came.output.as_slice());
-            assert_eq!(rt; found, (0, BOX_OUTPUT), "{four:?} after {stop:?}");
+            let found = (came.status, came.first.as_slice(), came.second.as_slice());
+            let want = (0, BOX_FIELDS, BOX_SUMS);
+            assert_eq!(rt; found, want, "{four:?} after {stop:?}");
             let found = (came.points, came.received);
             assert_eq!(rt; found, (2400, 360), "{four:?} after {stop:?}");
         }
@@ -298,19 +319,163 @@ fn box_that_stops_twice(rt: HostRuntime) -> Result<(), Fail> {
     Ok(())
 }
 
+// ---- what a former version left
+
+/// How long the part of the box's checkpoint is that has its two output files, with their names and their lengths.
+const BOX_FILES: usize = 56;
+
+/// Where the key of a checkpoint in a slot ends: its length is told by the four bytes before it.
+fn key_end(slot: &[u8]) -> usize {
+    let high = slot.get(19).copied().unwrap_or(0) as usize;
+    let low = slot.get(20).copied().unwrap_or(0) as usize;
+    21 + 256 * high + low
+}
+
+/// The same checkpoint of the box as a former version saved it: of version 1, with one length, of four bytes here, and no name.
+fn former_slot(alloc: Global, slot: &[u8], length: &[u8]) -> Result<Text, Fail> {
+    let end = key_end(slot);
+    let mut text = Text::from_slice(alloc, slot.get(..8).unwrap_or(&[]))?;
+    text.push_slice(b"\x01")?;
+    text.push_slice(slot.get(9..end).unwrap_or(&[]))?;
+    text.push_slice(b"\0\0\0\x01\0\0\0\0")?;
+    text.push_slice(length)?;
+    text.push_slice(slot.get(end.saturating_add(BOX_FILES)..).unwrap_or(&[]))?;
+    Ok(text)
+}
+
+/// The disk of the box as a former version left it behind the checkpoint of iteration 40: one output of 300 bytes, of which that
+/// of iteration 20 records 149. The slot of iteration 20 may be of today's version.
+fn former_disk(rt: &HostRuntime, older_is_new: bool) -> Result<MemoryDisk, Fail> {
+    let alloc = rt.alloc();
+    let left = box_disk(rt)?;
+    let older = if older_is_new {
+        Text::from_slice(alloc, left.bytes(0))?
+    } else {
+        former_slot(alloc, left.bytes(0), b"\0\0\0\x95")?
+    };
+    let mut files = List::empty(alloc);
+    files.push(older)?;
+    files.push(former_slot(alloc, left.bytes(1), b"\0\0\x01\x2c")?)?;
+    for _ in 2..OLD_OUTPUT {
+        files.push(Text::from_slice(alloc, b"")?)?;
+    }
+    files.push(Text::from_slice(alloc, BOX_FORMER)?)?;
+    Ok(MemoryDisk::new(alloc, files))
+}
+
+#[test]
+fn former_output_that_is_too_long(rt: HostRuntime) -> Result<(), Fail> {
+    let alloc = rt.alloc();
+    let left = box_disk(&rt)?;
+    // 300,000,000 bytes.
+    let slot = former_slot(alloc, left.bytes(1), b"\x11\xe1\xa3\x00")?;
+    let mut disk = LongDisk::new(alloc, slot, 300_000_000);
+    let mut shelf = shelf_with(alloc, BOX_FILE, "", BOX_THORNS)?;
+    let came = answer_over(&rt, RUN, &mut shelf, &mut disk)?;
+    let found = (came.status, came.printed.as_slice(), came.points);
+    let want = b"recovery: OldTooLong 300000000 268435456\n".as_slice();
+    assert_eq!(rt; found, (6, want, 0), "300,000,000 bytes");
+    Ok(())
+}
+
+/// Whether a run of the box has come to its end from the checkpoint of iteration 40, with both outputs, and the former one is there.
+fn is_split(came: &Outcome, disk: &MemoryDisk) -> bool {
+    came.status == 0
+        && came.points == 0
+        && came.printed.as_slice() == b"done: iteration 40\n".as_slice()
+        && came.first.as_slice() == BOX_FIELDS
+        && came.second.as_slice() == BOX_SUMS
+        && disk.bytes(OLD_OUTPUT as usize) == BOX_FORMER
+}
+
+/// Whether a run is whole that goes on from this disk.
+fn goes_on_whole(rt: &HostRuntime, mut disk: MemoryDisk) -> Result<bool, Fail> {
+    let came = run_on(rt, BOX_FILE, "", BOX_THORNS, &mut disk)?;
+    Ok(is_split(&came, &disk))
+}
+
+/// The status of a run of the box that stops behind so many calls of a copy of a disk, and the image of that choice.
+fn box_stopped(rt: &HostRuntime, left: &MemoryDisk, calls: u64) -> Result<(u8, MemoryDisk), Fail> {
+    let alloc = rt.alloc();
+    let mut shelf = shelf_with(alloc, BOX_FILE, "", BOX_THORNS)?;
+    let mut fuse = FuseDisk::new(same_disk(alloc, left)?, calls);
+    let came = answer_over(rt, RUN, &mut shelf, &mut fuse)?;
+    Ok((came.status, fuse.into_image(calls)?))
+}
+
+/// How many calls a run makes on the files of a disk, where runs that stop at each of them are followed by a whole one.
+fn box_calls_from(rt: &HostRuntime, left: &MemoryDisk) -> Result<Option<u64>, Fail> {
+    for calls in 0..MANY_CALLS {
+        let (stopped, disk) = box_stopped(rt, left, calls)?;
+        if !goes_on_whole(rt, disk)? {
+            return Ok(None);
+        }
+        match stopped {
+            0 => return Ok(Some(calls)),
+            4 => {}
+            _ => return Ok(None),
+        }
+    }
+    Ok(None)
+}
+
+/// How many calls a run of the box makes from what a former version left, with slots of that version alone, and where the older slot is of
+/// today's version: the mount, 14 looks at slots, 2 at the newest, 2 at the old output, 8 syncs of slots, 14 looks at what is to be closed,
+/// for an open slot of today's version a write and a sync, three calls for each output, two pieces, and the outputs' syncs.
+const FORMER_CALLS: &[(bool, u64)] = &[(false, 51), (true, 53)];
+
+#[test]
+fn start_from_a_former_version(rt: HostRuntime) -> Result<(), Fail> {
+    for (older_is_new, calls) in FORMER_CALLS {
+        let disk = former_disk(&rt, *older_is_new)?;
+        let found = box_calls_from(&rt, &disk)?;
+        assert_eq!(rt; found, Some(*calls), "calls, {older_is_new}");
+        let whole = goes_on_whole(&rt, disk)?;
+        assert!(rt; whole, "without a stop, {older_is_new}");
+    }
+    Ok(())
+}
+
+/// Whether runs on the files of a disk that stop at each fifth of their calls, from one of the first on, are each followed by a whole one.
+fn fifths_are_whole(rt: &HostRuntime, left: &MemoryDisk, first: u64) -> Result<bool, Fail> {
+    for k in 0..MANY_CALLS / 5 {
+        let (stopped, disk) = box_stopped(rt, left, first.saturating_add(5 * k))?;
+        if !goes_on_whole(rt, disk)? {
+            return Ok(false);
+        }
+        if stopped != 4 {
+            return Ok(stopped == 0);
+        }
+    }
+    Ok(false)
+}
+
+/// A first run stops at each call, and a second one at each fifth of its own, from another one each time; the third one is whole.
+#[test]
+fn start_from_a_former_version_that_stops_twice(rt: HostRuntime) -> Result<(), Fail> {
+    for (older_is_new, calls) in FORMER_CALLS {
+        let disk = former_disk(&rt, *older_is_new)?;
+        for stop in 0..*calls {
+            let (status, left) = box_stopped(&rt, &disk, stop)?;
+            let found = (status, fifths_are_whole(&rt, &left, stop % 5)?);
+            assert_eq!(rt; found, (4, true), "after {stop} calls, {older_is_new}");
+        }
+    }
+    Ok(())
+}
+
 pub(crate) const EACH: &str = "IO::checkpoint_every = 1\nIO::recover = \"autoprobe\"\n";
 
-/// How many calls a run of the automaton makes on an empty disk, with a checkpoint in each iteration: 19 up to the first piece, three
+/// How many calls a run of the automaton makes on an empty disk, with a checkpoint in each iteration: 20 up to the first piece, three
 /// pieces, 11 for the first checkpoint, 14 for the second one, and the output's sync.
-const AUTOMATON_CALLS: u64 = 48;
+const AUTOMATON_CALLS: u64 = 49;
 
 /// More calls than any run of it makes.
 const MANY_CALLS: u64 = 100;
 
 /// A disk with the files of another.
 fn same_disk(alloc: Global, disk: &MemoryDisk) -> Result<MemoryDisk, Fail> {
-    let output = OLD_OUTPUT as usize;
-    cut_disk(alloc, disk, output, disk.bytes(output).len())
+    cut_disk(alloc, disk, FIRST_OUTPUT, disk.bytes(FIRST_OUTPUT).len())
 }
 
 /// The status of a run of the automaton that stops behind so many calls of the disk, and the image of that choice.
@@ -334,7 +499,7 @@ fn started_again(rt: &HostRuntime, left: &MemoryDisk, calls: u64) -> Result<(u8,
 fn is_whole(came: &Outcome) -> bool {
     came.status == 0
         && came.printed.as_slice() == b"done: iteration 2\n".as_slice()
-        && came.output.as_slice() == CA_OUTPUT
+        && came.first.as_slice() == CA_OUTPUT
 }
 
 /// How many calls a run makes on the files of a disk, where runs that stop at each of them are followed by one with the whole output.
@@ -375,7 +540,7 @@ fn stopped_anywhere(rt: &HostRuntime, calls: u64) -> Result<(u8, bool), Fail> {
 /// Up to the first piece.
 #[test]
 fn automaton_that_stops_at_its_start_and_again(rt: HostRuntime) -> Result<(), Fail> {
-    for calls in 0..20 {
+    for calls in 0..21 {
         let found = stopped_anywhere(&rt, calls)?;
         assert_eq!(rt; found, (4, true), "after {calls} calls");
     }
@@ -385,7 +550,7 @@ fn automaton_that_stops_at_its_start_and_again(rt: HostRuntime) -> Result<(), Fa
 /// Up to the second piece.
 #[test]
 fn automaton_that_stops_at_its_first_checkpoint_and_again(rt: HostRuntime) -> Result<(), Fail> {
-    for calls in 20..32 {
+    for calls in 21..33 {
         let found = stopped_anywhere(&rt, calls)?;
         assert_eq!(rt; found, (4, true), "after {calls} calls");
     }
@@ -395,7 +560,7 @@ fn automaton_that_stops_at_its_first_checkpoint_and_again(rt: HostRuntime) -> Re
 /// Up to its end.
 #[test]
 fn automaton_that_stops_at_its_second_checkpoint_and_again(rt: HostRuntime) -> Result<(), Fail> {
-    for calls in 32..AUTOMATON_CALLS {
+    for calls in 33..AUTOMATON_CALLS {
         let found = stopped_anywhere(&rt, calls)?;
         assert_eq!(rt; found, (4, true), "after {calls} calls");
     }
@@ -420,13 +585,13 @@ const LEAVES: &[u8] = b"ActiveThorns = \"DiffInt\"\n\
 fn overflow_twice(rt: HostRuntime) -> Result<(), Fail> {
     let mut disk = empty_disk(rt.alloc());
     let first = run_on(&rt, LEAVES, "", SHORT_FIELD, &mut disk)?;
-    let found = (first.status, first.output.as_slice());
+    let found = (first.status, first.first.as_slice());
     assert_eq!(rt; found, (3, LEFT), "the first run");
     let second = run_on(&rt, LEAVES, "", SHORT_FIELD, &mut disk)?;
     let found = (
         second.status,
         second.printed.as_slice(),
-        second.output.as_slice(),
+        second.first.as_slice(),
     );
     let ended = b"ended: Overflow 7 EVOL/diff_step\n".as_slice();
     assert_eq!(rt; found, (3, ended, LEFT), "the second run");
@@ -434,9 +599,9 @@ fn overflow_twice(rt: HostRuntime) -> Result<(), Fail> {
     Ok(())
 }
 
-/// What stands in a slot behind the key of the automaton's checkpoint of iteration 2: one output of 94 bytes, 2 living cells, and
-/// one level of 8 points.
-const VALUES: &[u8] = b"\0\0\0\x01\0\0\0\0\0\0\0\x5e\
+/// What stands in a slot behind the key of the automaton's checkpoint of iteration 2: one output with its name and
+/// its 94 bytes, 2 living cells, and one level of 8 points.
+const VALUES: &[u8] = b"\0\0\0\x01\0\0\0\x0cca::cell.asc\0\0\0\0\0\0\0\x5e\
     \0\0\0\x01\0\0\0\0\0\0\0\x02\
     \0\0\0\x01\0\0\0\0\0\0\0\x08\
     \0\0\0\0\0\0\0\0\0\0\0\0\0\0\0\x01\0\0\0\0\0\0\0\0\0\0\0\0\0\0\0\0\
@@ -452,7 +617,7 @@ fn checkpoint_of_the_automaton(rt: HostRuntime) -> Result<(), Fail> {
     let mut shelf = shelf_with(alloc, CA, TWO, &[])?;
     let described = answer_to(&rt, &["describe", "t.par"], &mut shelf)?;
     let slot = disk.bytes(0);
-    let front = b"\x01CXCHKPT\x01\0\0\0\0\0\0\0\x02\0\0".as_slice();
+    let front = b"\x01CXCHKPT\x02\0\0\0\0\0\0\0\x02\0\0".as_slice();
     assert!(rt; slot.starts_with(front), "the iteration before the key");
     assert!(rt; slot.ends_with(VALUES), "the values after the key");
     let end = slot.len().saturating_sub(VALUES.len());

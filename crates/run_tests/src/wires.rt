@@ -1,11 +1,11 @@
 //! Runs over wires that alter or note, and turns that always pick alike.
 
-use crate::calls::{shelf_with, sink, texts};
+use crate::calls::{FIRST_OUTPUT, shelf_with, sink, texts};
 use crate::carriers::{altering, noting};
 use crate::devices::{FirstTurns, LastTurns};
 use crate::jobs::CA_OUTPUT;
 use crate::samples::CA;
-use cx_disk::{MemoryDisk, OLD_OUTPUT};
+use cx_disk::MemoryDisk;
 use cx_program::answer;
 use cx_rule::Meter;
 use cx_text::List;
@@ -38,7 +38,7 @@ fn a_value_that_is_altered(rt: HostRuntime) -> Result<(), Fail> {
     let status = answer(
         alloc, &words, &mut shelf, &mut disk, &mut wire, &mut turns, &mut out, &mut meter,
     )?;
-    let found = (status, disk.bytes(OLD_OUTPUT as usize));
+    let found = (status, disk.bytes(FIRST_OUTPUT));
     assert_eq!(rt; found, (0, ALTERED), "the altered value is used");
     Ok(())
 }
@@ -55,7 +55,7 @@ fn first_sender<T: Turns>(rt: &HostRuntime, turns: &mut T) -> Result<(bool, Opti
     let status = answer(
         alloc, &words, &mut shelf, &mut disk, &mut wire, turns, &mut out, &mut meter,
     )?;
-    let right = status == 0 && disk.bytes(OLD_OUTPUT as usize) == CA_OUTPUT;
+    let right = status == 0 && disk.bytes(FIRST_OUTPUT) == CA_OUTPUT;
     match wire.notes().as_slice() {
         [] => Ok((right, None)),
         [note, ..] => Ok((right, Some(note.0))),

@@ -38,12 +38,12 @@ events-preserved-in_ok-push_text-in-Section g c =
       parts = c.in_ok-step.ensures.parts ∙ c.events.invariant.parts;
     }
 
-pub events-smaller-in-Save : goal.events-smaller-in-Save
-events-smaller-in-Save g c =
+pub events-smaller-in_ok-push_saved-in-Save : goal.events-smaller-in_ok-push_saved-in-Save
+events-smaller-in_ok-push_saved-in-Save g c =
     less_left _ _ _ _ _ _ _ c.events.invariant.there c.in_ok-step.ensures.does
 
-pub events-preserved-in-Save : goal.events-preserved-in-Save
-events-preserved-in-Save g c =
+pub events-preserved-in_ok-push_saved-in-Save : goal.events-preserved-in_ok-push_saved-in-Save
+events-preserved-in_ok-push_saved-in-Save g c =
     record {
       there = goes_on _ _ _ _ _ _ _ c.events.invariant.there c.in_ok-step.ensures.does;
       parts = c.in_ok-step.ensures.parts ∙ c.events.invariant.parts;

@@ -51,9 +51,9 @@ returns-in_ok-moved-in-None-clause-follows c = λ scalars tested.
     ∙ items_moved setup inside.pace c.args.part below inside.items.items items scalars
     in
     ap (λ (p : Paces). with_pace p inside.patches.items c.renew.new.items.items inside.boards
-    inside.gathering inside.met inside.outcome inside.length inside.section) moved
+    inside.gathering inside.met inside.outcome inside.lengths.items inside.section) moved
     ∙ ap (λ xs. with_pace (moved_on setup inside.pace c.args.part scalars)
     inside.patches.items xs inside.boards inside.gathering inside.met inside.outcome
-    inside.length inside.section) renewed
+    inside.lengths.items inside.section) renewed
     ∙ ap (λ (o : Cores). followed setup o c.args.part scalars None) c.core.view_is
     ∙ ap (followed setup c.args.core.now c.args.part scalars) (sym c.in-None.is)

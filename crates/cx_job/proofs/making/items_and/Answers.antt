@@ -3,7 +3,7 @@ use Rattle.std.proofs.lemmas.Result.{err_from_is_err_and}
 use Rattle.cx_order.specs.Files.{input_of}
 use Rattle.cx_job.proofs.CountLaws.{few_runs}
 use Rattle.cx_job.proofs.PlanFacts.{not_large}
-use Rattle.cx_job.proofs.ReadyLaws.{over_limits, items_made, whole_of, run_of, ready_of}
+use Rattle.cx_job.proofs.ReadyLaws.{over_limits, items_made, whole_of, run_of, names_of, ready_of}
 use Rattle.cx_job.proofs.making.items_and.Goals as goal
 
 pub run_count-run-requires : goal.run_count-run-requires
@@ -54,6 +54,10 @@ returns-clause-ready c =
     c.in_ok-job.job c.in_ok-items.ensures.items c.in_ok-job.ensures c.requires.planned
     c.requires.read c.requires.written)
     (run_of specs c.args.bound.now c.args.values.now c.args.ordered c.args.out_vars
+    c.match_items.new.ordered c.run_count-run.result c.in_ok-items.items
+    c.in_ok-items.ensures.others c.run_count-run.ensures
+    c.in_ok-job.job c.in_ok-items.ensures.items c.in_ok-job.ensures c.requires.planned)
+    (names_of specs c.args.bound.now c.args.values.now c.args.ordered c.args.out_vars
     c.match_items.new.ordered c.run_count-run.result c.in_ok-items.items
     c.in_ok-items.ensures.others c.run_count-run.ensures
     c.in_ok-job.job c.in_ok-items.ensures.items c.in_ok-job.ensures c.requires.planned)

@@ -8,6 +8,7 @@ use Rattle.cx_plan.specs.Setups.{setup_of}
 use Rattle.cx_plan.specs.Regions.{HasShapes}
 use Rattle.cx_plan.specs.Paths.{Sound}
 use Rattle.cx_plan.specs.Whole.{IsWhole}
+use Rattle.cx_outputs.specs.Names.{HasShortNames}
 use Rattle.cx_rule.specs.Jobs.{FitJob}
 use Rattle.cx_job.specs.Making.{Yields, MadeOf}
 use Rattle.cx_job.proofs.MakingLaws.{makes_pass, makes_halt, makes_memory}
@@ -68,6 +69,11 @@ pub returns-clause-few_cells : goal.returns-clause-few_cells
 returns-clause-few_cells g c =
     if_ready _ (λ job. local_cells job ≤ 2 ^ 27) c.made_of.result (λ job ready. ready.few_cells)
     c.made_of.ensures.ready
+
+pub returns-clause-names : goal.returns-clause-names
+returns-clause-names g c =
+    if_ready _ (λ job. HasShortNames (setup_of job)) c.made_of.result
+    (λ job ready. ready.names) c.made_of.ensures.ready
 
 pub returns-clause-fit : goal.returns-clause-fit
 returns-clause-fit g c =

@@ -1,4 +1,4 @@
-use Rattle.std.proofs.Common.{◌≡◌, ◌∙◌, ap, length, arith}
+use Rattle.std.proofs.Common.{◌≡◌, ◌∙◌, ℕ, ap, subst, length, arith}
 use Rattle.cx_disk.proofs.Moments.{quiet_more, quiet_call}
 use Rattle.cx_keep.proofs.Tested.{short_step}
 use Rattle.cx_keep.specs.Trails.{file_of_output}
@@ -15,7 +15,8 @@ each-preserved g c = record {
   short = λ tells.
       let is : c.in_ok-count.count
       ≡ length ((g.D.Disk.view c.each.disk).seen (file_of_output c.each.output)) =
-      c.in_ok-count.ensures.length tells in
+      subst (λ (f : ℕ). c.in_ok-count.count ≡ length ((g.D.Disk.view c.each.disk).seen f))
+      c.named_output.ensures (c.in_ok-count.ensures.length tells) in
       let was : length ((g.D.Disk.view c.each.disk).seen (file_of_output c.each.output))
       ≡ length ((g.D.Disk.view c.args.disk.now).seen (file_of_output c.each.output)) =
       ap length ((c.each.invariant.quiet tells).same (file_of_output c.each.output)) in

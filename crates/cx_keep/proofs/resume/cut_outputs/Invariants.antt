@@ -2,7 +2,6 @@ use Rattle.std.proofs.Common.{◌≡◌, ◌≤◌, ◌<◌, ℕ, IsTrue, length
 use Rattle.std.specs.Prelude.{slice_index}
 use Rattle.cx_disk.specs.Disk.{Files, LeavesOnly}
 use Rattle.cx_keep.specs.Resuming.{IsCutTo, IsTrimmed}
-use Rattle.cx_disk.specs.Files.{slot_count}
 use Rattle.cx_keep.specs.Trails.{file_of_output}
 use Rattle.cx_keep.proofs.resume.cut_outputs.Given as goal
 
@@ -17,8 +16,8 @@ invariant-each g l = record {
   moments : g.D.Disk.tells
       → LeavesOnly (g.D.Disk.view l.fn.disk) (g.D.Disk.view l.disk)
       (IsCutTo l.lengths (length l.lengths) (g.D.Disk.view l.fn.disk));
-  slots : g.D.Disk.tells → (slot : ℕ) → slot < slot_count
-      → (g.D.Disk.view l.disk).seen slot ≡ (g.D.Disk.view l.fn.disk).seen slot;
+  earlier : g.D.Disk.tells → (file : ℕ) → file < file_of_output 0
+      → (g.D.Disk.view l.disk).seen file ≡ (g.D.Disk.view l.fn.disk).seen file;
   cut : g.D.Disk.tells → (j : ℕ) → j < l.output
       → IsTrimmed (slice_index l.lengths j) (file_of_output j) (g.D.Disk.view l.fn.disk)
       (g.D.Disk.view l.disk);

@@ -1,4 +1,4 @@
-use Rattle.std.proofs.Common.{◌∙◌, ℕ, List, ap, subst, length}
+use Rattle.std.proofs.Common.{◌∙◌, ℕ, List, ap, subst, length, arith}
 use Rattle.std.specs.Prelude.{slice_index}
 use Rattle.std.proofs.lemmas.Result.{on_ok_weaker}
 use Rattle.cx_keep.specs.Resuming.{LeavesCut}
@@ -34,4 +34,5 @@ returns-clause-stands g c = λ tells.
     (trails_quiet course (g.D.Disk.view c.args.disk.now) (g.D.Disk.view c.settle_slots.new.disk)
     can.trails quiet) (c.in_ok-settle_slots.ensures.settled tells) r.newest
     (g.D.Disk.view c.cut_outputs.new.disk) next r.reach later (c.cut_outputs.ensures.crash tells)
-    (c.cut_outputs.ensures.slots tells) own) (c.cut_outputs.ensures.cut tells)
+    (λ s lt. c.cut_outputs.ensures.earlier tells s (omega arith)) own)
+    (c.cut_outputs.ensures.cut tells)

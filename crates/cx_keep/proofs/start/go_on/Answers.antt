@@ -1,103 +1,52 @@
-use Rattle.std.proofs.Common.{◌≡◌, ◌≤◌, ◌+◌, ◌∙◌, ℕ, sym, ap, subst, length, arith}
-use Rattle.cx_disk.proofs.Moments.{joins}
+use Rattle.std.proofs.Common.{subst, sym, ◌∙◌}
+use Rattle.std.specs.Prelude.{Result}
 use Rattle.cx_plan.specs.declared.job.Recover.TheVariants.{Autoprobe}
-use Rattle.cx_keep.specs.Beginning.{IsWithinStart}
-use Rattle.cx_keep.specs.Trails.{length_in, file_of_output}
-use Rattle.cx_keep.proofs.Afresh.{within_from}
-use Rattle.cx_keep.proofs.Begins.{trails_quiet, resumed_quiet, left_back}
-use Rattle.cx_keep.proofs.Starting.{quiet_alone, probe_keeps}
-use Rattle.cx_keep.proofs.Tested.{tested_ok, long_from, resumed_of}
+use Rattle.cx_chk.specs.declared.checkpoint.Checkpoint.{Checkpoint}
+use Rattle.cx_chk.specs.Encoding.{SpellsSlot}
+use Rattle.cx_keep.specs.declared.fault.BeginFault.{BeginFault}
+use Rattle.cx_keep.specs.Tests.{Answers}
+use Rattle.cx_keep.proofs.Starting.{newest_files, tested_same, quiet_alone, moments_quiet, started_quiet, refused_quiet, if_ok_more}
 use Rattle.cx_keep.proofs.start.go_on.Goals as goal
 
 pub returns-in_err-found-clause-moments : goal.returns-in_err-found-clause-moments
 returns-in_err-found-clause-moments g c =
-    λ tells. quiet_alone Autoprobe (g.D.Disk.view c.args.disk.now) (g.D.Disk.view c.judge.new.disk)
-    (c.judge.ensures.quiet tells)
+    λ tells. quiet_alone c.args.job.now Autoprobe (g.D.Disk.view c.args.disk.now)
+    (g.D.Disk.view c.judge.new.disk) (c.judge.ensures.quiet tells)
 
-pub resume-requires-clause-long : goal.resume-requires-clause-long
-resume-requires-clause-long g c = λ tells j lt.
-    let t = tested_ok c.args.job.now
-    (g.D.Disk.view c.args.disk.now).seen c.args.slot c.in_ok-found.found
-    (c.in_ok-found.ensures.tests tells) in
-    let z : 0 + j ≡ j = omega arith in
-    let le : length_in c.in_ok-found.found j
-    ≤ length ((g.D.Disk.view c.args.disk.now).seen (file_of_output j)) =
-    subst (λ (i : ℕ). length_in c.in_ok-found.found j
-    ≤ length ((g.D.Disk.view c.args.disk.now).seen (file_of_output i))) z
-    (long_from 0 c.in_ok-found.found.lengths (g.D.Disk.view c.args.disk.now).seen t.long j lt)
-    in
-    let e = ap length ((c.in_ok-found.ensures.quiet tells).same (file_of_output j)) in omega arith
+pub go_on_from-requires-clause-newest : goal.go_on_from-requires-clause-newest
+go_on_from-requires-clause-newest g c = λ tells.
+    newest_files (g.D.Disk.view c.args.disk.now).seen (g.D.Disk.view c.judge.new.disk).seen
+    (c.in_ok-found.ensures.quiet tells).same ∙ c.requires.newest tells
 
-pub returns-in_err-resume-clause-moments : goal.returns-in_err-resume-clause-moments
-returns-in_err-resume-clause-moments g c = λ tells course can trails.
-    let quiet = c.in_ok-found.ensures.quiet tells in
-    let t = tested_ok c.args.job.now
-    (g.D.Disk.view c.args.disk.now).seen c.args.slot c.in_ok-found.found
-    (c.in_ok-found.ensures.tests tells) in
-    let is = resumed_of course (g.D.Disk.view c.args.disk.now)
-    (g.met.D.Disk.sound c.args.disk.now tells)
-    c.args.slot c.args.iteration c.in_ok-found.found trails (c.requires.newest tells)
-    t.spelled in
-    joins (IsWithinStart course Autoprobe (g.D.Disk.view c.args.disk.now))
-    (quiet_alone Autoprobe (g.D.Disk.view c.args.disk.now) (g.D.Disk.view c.judge.new.disk)
-    quiet course can trails)
-    (c.resume.ensures.moments tells course (record {
-      monotone = can.monotone;
-      counts = c.in_ok-found.ensures.one ∙ sym can.outputs;
-      trails = trails_quiet course (g.D.Disk.view c.args.disk.now) (g.D.Disk.view c.judge.new.disk)
-          trails quiet;
-      resumed = resumed_quiet course c.in_ok-found.found (g.D.Disk.view c.args.disk.now)
-          (g.D.Disk.view c.judge.new.disk) is quiet;
-    }))
-    (within_from course (g.D.Disk.view c.args.disk.now) (g.D.Disk.view c.judge.new.disk) quiet)
+pub go_on_from-requires-clause-spelled : goal.go_on_from-requires-clause-spelled
+go_on_from-requires-clause-spelled g c = λ tells.
+    subst (λ b. SpellsSlot b c.in_ok-found.found)
+    (sym ((c.in_ok-found.ensures.quiet tells).same c.args.slot))
+    (c.in_ok-found.ensures.spelled tells)
+
+pub returns-clause-tests : goal.returns-clause-tests
+returns-clause-tests g c = λ tells.
+    subst (λ (s : Result Checkpoint BeginFault).
+    Answers (λ (d : Checkpoint). d) c.go_on_from.result s)
+    (tested_same c.args.job.now (g.D.Disk.view c.args.disk.now).seen
+    (g.D.Disk.view c.judge.new.disk).seen c.args.slot (c.in_ok-found.ensures.quiet tells).same)
+    (c.go_on_from.ensures.tests tells)
+
+pub returns-clause-refused : goal.returns-clause-refused
+returns-clause-refused g c = λ tells.
+    refused_quiet c.go_on_from.result (g.D.Disk.view c.args.disk.now)
+    (g.D.Disk.view c.judge.new.disk) (g.D.Disk.view c.go_on_from.new.disk)
+    (c.in_ok-found.ensures.quiet tells) (c.go_on_from.ensures.refused tells)
 
 pub returns-clause-started : goal.returns-clause-started
-returns-clause-started g c = λ tells. record {
-  stands = λ course can.
-      let quiet = c.in_ok-found.ensures.quiet tells in
-      let trails = can.trails probe_keeps in
-      let t = tested_ok c.args.job.now
-      (g.D.Disk.view c.args.disk.now).seen c.args.slot c.in_ok-found.found
-      (c.in_ok-found.ensures.tests tells) in
-      let is = resumed_of course (g.D.Disk.view c.args.disk.now)
-      (g.met.D.Disk.sound c.args.disk.now tells)
-      c.args.slot c.args.iteration c.in_ok-found.found trails (c.requires.newest tells)
-      t.spelled in
-      c.in_ok-resume.ensures.stands tells course (record {
-        monotone = can.monotone;
-        counts = c.in_ok-found.ensures.one ∙ sym can.outputs;
-        trails = trails_quiet course (g.D.Disk.view c.args.disk.now)
-            (g.D.Disk.view c.judge.new.disk) trails quiet;
-        resumed = resumed_quiet course c.in_ok-found.found (g.D.Disk.view c.args.disk.now)
-            (g.D.Disk.view c.judge.new.disk) is quiet;
-      });
-  left = left_back _ (g.D.Disk.view c.args.disk.now) (g.D.Disk.view c.judge.new.disk)
-      (g.D.Disk.view c.resume.new.disk)
-      (λ j. (c.in_ok-found.ensures.quiet tells).same (file_of_output j))
-      (c.in_ok-resume.ensures.left tells);
-  kept = λ not s lt. c.resume.ensures.slots tells s lt ∙ (c.in_ok-found.ensures.quiet tells).same s;
-  closed = λ is. absurd (probe_keeps is);
-}
+returns-clause-started g c = λ tells.
+    if_ok_more c.go_on_from.result
+    (λ found s. started_quiet c.args.job.now Autoprobe _ (g.D.Disk.view c.args.disk.now)
+    (g.D.Disk.view c.judge.new.disk) (g.D.Disk.view c.go_on_from.new.disk)
+    (c.in_ok-found.ensures.quiet tells) s) (c.go_on_from.ensures.started tells)
 
 pub returns-clause-moments : goal.returns-clause-moments
-returns-clause-moments g c = λ tells course can trails.
-    let quiet = c.in_ok-found.ensures.quiet tells in
-    let t = tested_ok c.args.job.now
-    (g.D.Disk.view c.args.disk.now).seen c.args.slot c.in_ok-found.found
-    (c.in_ok-found.ensures.tests tells) in
-    let is = resumed_of course (g.D.Disk.view c.args.disk.now)
-    (g.met.D.Disk.sound c.args.disk.now tells)
-    c.args.slot c.args.iteration c.in_ok-found.found trails (c.requires.newest tells)
-    t.spelled in
-    joins (IsWithinStart course Autoprobe (g.D.Disk.view c.args.disk.now))
-    (quiet_alone Autoprobe (g.D.Disk.view c.args.disk.now) (g.D.Disk.view c.judge.new.disk)
-    quiet course can trails)
-    (c.resume.ensures.moments tells course (record {
-      monotone = can.monotone;
-      counts = c.in_ok-found.ensures.one ∙ sym can.outputs;
-      trails = trails_quiet course (g.D.Disk.view c.args.disk.now) (g.D.Disk.view c.judge.new.disk)
-          trails quiet;
-      resumed = resumed_quiet course c.in_ok-found.found (g.D.Disk.view c.args.disk.now)
-          (g.D.Disk.view c.judge.new.disk) is quiet;
-    }))
-    (within_from course (g.D.Disk.view c.args.disk.now) (g.D.Disk.view c.judge.new.disk) quiet)
+returns-clause-moments g c = λ tells.
+    moments_quiet c.args.job.now Autoprobe (g.D.Disk.view c.args.disk.now)
+    (g.D.Disk.view c.judge.new.disk) (g.D.Disk.view c.go_on_from.new.disk)
+    (c.in_ok-found.ensures.quiet tells) (c.go_on_from.ensures.moments tells)

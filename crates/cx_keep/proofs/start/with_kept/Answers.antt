@@ -8,7 +8,7 @@ use Rattle.cx_keep.proofs.start.with_kept.Goals as goal
 
 pub returns-in_err-newest-clause-moments : goal.returns-in_err-newest-clause-moments
 returns-in_err-newest-clause-moments g c =
-    λ tells. quiet_alone c.args.job.now.recover (g.D.Disk.view c.args.disk.now)
+    λ tells. quiet_alone c.args.job.now c.args.job.now.recover (g.D.Disk.view c.args.disk.now)
     (g.D.Disk.view c.newest.new.disk) (c.newest.ensures.quiet tells)
 
 pub with_slot-requires-clause-newest : goal.with_slot-requires-clause-newest
@@ -33,12 +33,13 @@ returns-clause-refused g c = λ tells.
 pub returns-clause-started : goal.returns-clause-started
 returns-clause-started g c = λ tells.
     if_ok_more c.with_slot.result
-    (λ found s. started_quiet c.args.job.now.recover found (g.D.Disk.view c.args.disk.now)
+    (λ found s. started_quiet c.args.job.now c.args.job.now.recover found
+    (g.D.Disk.view c.args.disk.now)
     (g.D.Disk.view c.newest.new.disk) (g.D.Disk.view c.with_slot.new.disk)
     (c.in_ok-newest.ensures.quiet tells) s) (c.with_slot.ensures.started tells)
 
 pub returns-clause-moments : goal.returns-clause-moments
 returns-clause-moments g c = λ tells.
-    moments_quiet c.args.job.now.recover (g.D.Disk.view c.args.disk.now)
+    moments_quiet c.args.job.now c.args.job.now.recover (g.D.Disk.view c.args.disk.now)
     (g.D.Disk.view c.newest.new.disk) (g.D.Disk.view c.with_slot.new.disk)
     (c.in_ok-newest.ensures.quiet tells) (c.with_slot.ensures.moments tells)

@@ -12,6 +12,9 @@ drive-came-requires-clause-parts g c =
     running.enough_parts c.args.job.now _ c.requires.ready.whole c.requires.ready.cut
     c.requires.parts
 
+pub drive-came-requires-clause-short : goal.drive-came-requires-clause-short
+drive-came-requires-clause-short g c = c.requires.ready.names
+
 pub answer_to_run-requires-clause-over : goal.answer_to_run-requires-clause-over
 answer_to_run-requires-clause-over g c =
     running.over _ c.drive-came.result c.drive-came.ensures.drives

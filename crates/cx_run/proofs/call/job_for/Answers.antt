@@ -78,4 +78,4 @@ returns-clause-spared g c =
 pub returns-clause-ready : goal.returns-clause-ready
 returns-clause-ready g c =
     ready_of _ c.make_job.result c.make_job.ensures.whole c.make_job.ensures.sound
-    c.make_job.ensures.cut c.make_job.ensures.fit c.make_job.ensures.few_cells
+    c.make_job.ensures.cut c.make_job.ensures.fit c.make_job.ensures.few_cells c.make_job.ensures.names

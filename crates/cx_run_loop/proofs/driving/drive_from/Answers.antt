@@ -38,8 +38,8 @@ run_to_end-requires-clause-going g c =
         at = begun.at;
       };
       kept = starts_kept s.job s.disk c.args.found c.args.keep c.in_ok-core.core was.view
-          c.requires.keeper.0 c.requires.keeper.1 c.in_ok-core.ensures.key
-          c.in_ok-core.ensures.length c.requires.counts c.requires.slots;
+          c.requires.keeper.0 c.in_ok-core.ensures.key c.in_ok-core.ensures.lengths
+          c.requires.counts c.requires.slots;
     }
 
 pub returns-clause-runs : goal.returns-clause-runs

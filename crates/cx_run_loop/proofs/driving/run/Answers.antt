@@ -1,5 +1,6 @@
-use Rattle.std.proofs.Common.{◌≤◌, map, arith, refl, ◌∙◌}
+use Rattle.std.proofs.Common.{◌≤◌, map, ap, arith, refl, ◌∙◌}
 use Rattle.std.specs.Prelude.{IsTrue}
+use Rattle.cx_disk.specs.Disk.{Folders}
 use Rattle.cx_core.specs.Steps.{stands_at}
 use Rattle.cx_run_loop.specs.Going.{Setting, Place}
 use Rattle.cx_run_loop.proofs.TurnLaws.{moves_none, moves_more, images_none, images_more}
@@ -27,6 +28,7 @@ turns-init g c =
       parts = refl;
       mounted = c.requires.mounted;
       files = c.requires.files;
+      names = c.requires.names;
       folders = refl;
       begun = refl;
       disk_later = omega arith;
@@ -76,6 +78,8 @@ turns-preserved g c =
       parts = c.in_ok-turn.ensures.parts ∙ c.turns.invariant.parts;
       mounted = c.in_ok-turn.ensures.mounted;
       files = c.in_ok-turn.ensures.files;
+      names = ap (λ (f : Folders). f.names) c.in_ok-turn.ensures.folders
+          ∙ c.turns.invariant.names;
       folders = c.in_ok-turn.ensures.folders ∙ c.turns.invariant.folders;
       begun = c.in_ok-turn.ensures.begun ∙ c.turns.invariant.begun;
       disk_later = omega arith;

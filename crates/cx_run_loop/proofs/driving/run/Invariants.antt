@@ -2,6 +2,7 @@
 use Rattle.std.proofs.Common.{◌≡◌, ◌≤◌, map, IsTrue}
 use Rattle.cx_disk.specs.Files.{count_with}
 use Rattle.cx_plan.specs.Setups.{setup_of}
+use Rattle.cx_outputs.specs.Names.{output_count, output_names}
 use Rattle.cx_core.specs.Left.{steps_left}
 use Rattle.cx_core.specs.Steps.{stands_at}
 use Rattle.cx_run_loop.specs.Going.{Setting, Place, IsGoing, LeavesImages, MovesOn}
@@ -31,7 +32,8 @@ invariant-turns g l =
       going : IsGoing s l.keep is;
       parts : g.W.Wire.parts l.wire ≡ g.W.Wire.parts l.initial.wire;
       mounted : IsTrue (g.D.Disk.mounted l.disk);
-      files : g.D.Disk.file_count l.disk ≡ count_with 0;
+      files : g.D.Disk.file_count l.disk ≡ count_with (output_count (setup_of l.job));
+      names : (g.D.Disk.folders l.disk).names ≡ output_names (setup_of l.job);
       folders : g.D.Disk.folders l.disk ≡ g.D.Disk.folders l.initial.disk;
       begun : g.T.Turns.begun l.turns ≡ g.T.Turns.begun l.initial.turns;
       disk_later : g.D.Disk.faults l.initial.disk ≤ g.D.Disk.faults l.disk;

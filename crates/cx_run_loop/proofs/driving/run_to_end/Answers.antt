@@ -1,13 +1,12 @@
-use Rattle.std.proofs.Common.{◌≡◌, ◌∙◌, ◌≤◌, ℕ, length, map, ap, arith}
+use Rattle.std.proofs.Common.{◌≤◌, ℕ, map, arith}
 use Rattle.std.proofs.lemmas.Result.{err_from_is_err_and}
 use Rattle.std.specs.Prelude.{IsTrue, Err}
 use Rattle.cx_plan.specs.Setups.{setup_of}
-use Rattle.cx_keep.specs.Keeping.{output_file}
 use Rattle.cx_core.specs.Starts.{begins_in}
 use Rattle.cx_core.specs.Steps.{stands_at}
 use Rattle.cx_run_loop.specs.Going.{Setting, Place}
 use Rattle.cx_run_loop.specs.Faults.{of_disk}
-use Rattle.cx_run_loop.proofs.FromLaws.{one_length}
+use Rattle.cx_run_loop.proofs.FromLaws.{counted_quiet, settled_by}
 use Rattle.cx_run_loop.proofs.StopLaws.{count, disk_stops, stopped_after}
 use Rattle.cx_run_loop.proofs.TurnLaws.{moves_more, moves_quiet, images_more, leaves_quiet}
 use Rattle.cx_run_loop.proofs.driving.run_to_end.Goals as goal
@@ -39,9 +38,6 @@ returns-clause-ends g c =
           (g.W.Wire.received c.run.new.wire) (g.W.Wire.sum c.run.new.wire);
       view = g.D.Disk.view c.finish.new.disk;
     } in
-    let one : length c.run.new.keep.lengths ≡ 1 =
-    one_length s.job s.disk c.run.new.keep c.run.new.core mid.view
-    c.in_ok-run.ensures.going.kept in
     record {
       over = c.in_ok-run.ensures.over;
       moves = moves_more s was mid now c.in_ok-run.ensures.moves
@@ -49,9 +45,12 @@ returns-clause-ends g c =
       stands = λ found first x.
           c.core_stands.ensures g.W.Wire.tells s.rules (begins_in (setup_of s.job) found)
           x.begins first now.is x.at;
-      settled = λ d. c.in_ok-finish.ensures.settled d 0 (omega arith);
-      length_is = λ d. ap length ((c.in_ok-finish.ensures.quiet d).same output_file)
-          ∙ c.in_ok-run.ensures.going.kept.counts d;
+      settled = λ d. settled_by s mid c.run.new.keep (g.D.Disk.view c.finish.new.disk)
+          c.in_ok-run.ensures.going.kept c.in_ok-run.ensures.going.running
+          (c.in_ok-finish.ensures.settled d);
+      counts = λ d. counted_quiet c.run.new.core.lengths mid.view
+          (g.D.Disk.view c.finish.new.disk) (c.in_ok-finish.ensures.quiet d)
+          (c.in_ok-run.ensures.going.kept.counts d);
     }
 
 pub returns-clause-moments : goal.returns-clause-moments

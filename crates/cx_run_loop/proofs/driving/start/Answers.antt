@@ -17,7 +17,8 @@ pub start-requires-clause-state : goal.start-requires-clause-state
 start-requires-clause-state c =
     subst (λ (o : Option Checkpoint). CanBegin (setup_of c.args.job.now) o) (sym (lent c))
     (can_start c.args.job.now
-    (c.drive_laws.ensures true []).can_begin c.args.found.now c.requires.fits)
+    (c.drive_laws.ensures true []).can_begin c.args.found.now c.requires.fits
+    c.requires.lengths)
 
 pub returns-in_err-start-clause-can : goal.returns-in_err-start-clause-can
 returns-in_err-start-clause-can c =

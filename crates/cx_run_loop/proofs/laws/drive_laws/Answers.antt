@@ -6,6 +6,7 @@ returns c told rules = record {
   goes_on = c.course_goes_on.ensures c.args.job.now.key rules;
   follow = c.works_follow.ensures c.args.job.now.key rules;
   rises = c.course_rises.ensures c.args.job.now.key rules;
+  splits = c.course_splits.ensures c.args.job.now.key rules;
   fits = c.course_fits.ensures rules;
   pack = c.states_pack_again.ensures;
   can_begin = c.fitting_can_begin.ensures;

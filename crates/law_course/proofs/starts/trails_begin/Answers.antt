@@ -3,5 +3,5 @@ use Rattle.law_course.proofs.starts.trails_begin.Goals as goal
 
 pub returns : goal.returns
 returns c = λ rules.
-    trails_begin c.args.job.now c.requires.whole rules (c.run_continues.ensures rules)
-    (c.run_keeps_states.ensures rules)
+    trails_begin c.args.job.now rules (c.course_fits.ensures rules)
+    (c.course_splits.ensures c.args.job.now.key rules)

@@ -23,7 +23,7 @@ returns-clause-begins c = λ told rules queue first empty small.
       buffers = c.in_ok-gathering.gathering;
       met = out.Going;
       outcome = out.Going;
-      length = c.length_in.result;
+      lengths = c.in_ok-lengths.lengths.items;
       section = record { 0 = 0 };
     } in
     let made : IsMade job c.in_ok-cut.cut state core = record {
@@ -45,9 +45,11 @@ returns-clause-begins c = λ told rules queue first empty small.
       buffers = c.in_ok-gathering.ensures;
       met = refl;
       outcome = refl;
-      length_is = c.length_in.ensures;
+      lengths_are = c.in_ok-lengths.ensures;
     } in
     begins_at (IsTrue told) (run_of job rules b) (undivided_from (setup_of job) rules b)
     (c.run_laws.ensures told rules b (can_begin (setup_of job) state c.requires.state)) core
-    (is_fresh job rules c.in_ok-cut.cut core state made)
+    (is_fresh job rules c.in_ok-cut.cut core state c.requires.job.whole.outputs_rise
+    c.requires.state
+    made)
     queue empty first small

@@ -9,7 +9,7 @@ use Rattle.cx_keep.proofs.keep.Keep.begin.Goals as goal
 
 pub returns-in_err-mount-clause-moments : goal.returns-in_err-mount-clause-moments
 returns-in_err-mount-clause-moments g c = λ tells.
-    quiet_alone c.args.job.now.recover (g.D.Disk.view c.args.disk.now)
+    quiet_alone c.args.job.now c.args.job.now.recover (g.D.Disk.view c.args.disk.now)
     (g.D.Disk.view c.mount.new.self)
     (quiet_call (c.mount.ensures.same tells) (c.mount.ensures.after tells))
 
@@ -31,14 +31,14 @@ returns-clause-refused g c = λ tells.
 pub returns-clause-started : goal.returns-clause-started
 returns-clause-started g c = λ tells.
     if_ok_more c.begin_mounted.result
-    (λ r s. started_quiet c.args.job.now.recover r.1 (g.D.Disk.view c.args.disk.now)
+    (λ r s. started_quiet c.args.job.now c.args.job.now.recover r.1 (g.D.Disk.view c.args.disk.now)
     (g.D.Disk.view c.mount.new.self) (g.D.Disk.view c.begin_mounted.new.disk)
     (quiet_call (c.mount.ensures.same tells) (c.mount.ensures.after tells)) s)
     (c.begin_mounted.ensures.started tells)
 
 pub returns-clause-moments : goal.returns-clause-moments
 returns-clause-moments g c = λ tells.
-    moments_quiet c.args.job.now.recover (g.D.Disk.view c.args.disk.now)
+    moments_quiet c.args.job.now c.args.job.now.recover (g.D.Disk.view c.args.disk.now)
     (g.D.Disk.view c.mount.new.self) (g.D.Disk.view c.begin_mounted.new.disk)
     (quiet_call (c.mount.ensures.same tells) (c.mount.ensures.after tells))
     (c.begin_mounted.ensures.moments tells)

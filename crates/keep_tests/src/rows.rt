@@ -1,0 +1,302 @@
+//! What a start answers and leaves, row by row.
+
+use crate::starts::{
+    BOTH, CUT_OFF, NO_SCALAR, NONE, OLD, OLD_3, OLD_BYTES, OLD_EMPTY, OLD_HUGE, OLD_TOO_LONG,
+    OLD_TWO, ONE, ONE_POINT, OTHER, PHI, STRANGE, Slot, TOO_GREAT, TOTAL, VALUES, WHOLE, disk,
+    has_outputs, slot_bytes, start_words,
+};
+use cx_disk::{MemoryDisk, SLOTS};
+use cx_plan::Recover;
+use cx_text::{List, Text};
+use std::alloc::Global;
+use std::test::Fail;
+
+// The old output and both outputs before a start, whether both variables are written, and how the run begins; what the start
+// comes to, and the same files behind it.
+type Start = (
+    &'static str,
+    &'static [Slot],
+    &'static [&'static [u8]],
+    bool,
+    Recover,
+    &'static str,
+    &'static [&'static [u8]],
+);
+
+const STARTS: &[Start] = &[
+    (
+        "no slot, which is asked for",
+        &[],
+        &[b"old", b"abc", b"xy"],
+        true,
+        Recover::Auto,
+        "NoCheckpoint, gates 9 9",
+        &[b"old", b"abc", b"xy"],
+    ),
+    (
+        "no slot",
+        &[],
+        &[b"old", b"abc", b"xy"],
+        true,
+        Recover::Autoprobe,
+        "afresh, gates 9 9",
+        &[b"", b"", b""],
+    ),
+    (
+        "version 2",
+        &[(0, 2, 20, b'5', BOTH, VALUES)],
+        &[b"old", b"abcde", b"xyz"],
+        true,
+        Recover::Auto,
+        "from 20, version 2, 2 names, [3, 2], gates 1 9",
+        &[b"old", b"abc", b"xy"],
+    ),
+    (
+        "version 2 given up",
+        &[(0, 2, 20, b'5', BOTH, VALUES)],
+        &[b"old", b"abcde", b"xyz"],
+        true,
+        Recover::No,
+        "afresh, gates 0 9",
+        &[b"", b"", b""],
+    ),
+    (
+        "version 1",
+        &[(0, 1, 20, b'5', OLD, VALUES)],
+        &[OLD_BYTES, b"abc", b""],
+        true,
+        Recover::Auto,
+        "from 20, version 2, 2 names, [227, 73], gates 1 9",
+        &[OLD_BYTES, PHI, TOTAL],
+    ),
+    (
+        "version 1 behind one of version 2",
+        &[
+            (0, 2, 20, b'5', BOTH, VALUES),
+            (1, 1, 40, b'5', OLD, VALUES),
+        ],
+        &[OLD_BYTES, b"abc", b"xy"],
+        true,
+        Recover::Autoprobe,
+        "from 40, version 2, 2 names, [227, 73], gates 0 1",
+        &[OLD_BYTES, PHI, TOTAL],
+    ),
+    (
+        "version 2 behind one of version 1",
+        &[
+            (0, 1, 20, b'5', OLD, VALUES),
+            (1, 2, 40, b'5', WHOLE, VALUES),
+        ],
+        &[b"old", PHI, TOTAL],
+        true,
+        Recover::Auto,
+        "from 40, version 2, 2 names, [227, 73], gates 1 1",
+        &[b"old", PHI, TOTAL],
+    ),
+    (
+        "both versions at once",
+        &[
+            (0, 1, 20, b'5', OLD, VALUES),
+            (1, 2, 20, b'5', BOTH, VALUES),
+        ],
+        &[OLD_BYTES, b"abcde", b"xyz"],
+        true,
+        Recover::Auto,
+        "from 20, version 2, 2 names, [3, 2], gates 1 1",
+        &[OLD_BYTES, b"abc", b"xy"],
+    ),
+    (
+        "version 1 given up behind a start from it",
+        &[
+            (0, 0, 20, b'5', BOTH, VALUES),
+            (1, 1, 40, b'5', OLD, VALUES),
+        ],
+        &[OLD_BYTES, PHI, TOTAL],
+        true,
+        Recover::No,
+        "afresh, gates 0 0",
+        &[b"", b"", b""],
+    ),
+    (
+        "no output, none of version 2",
+        &[(0, 2, 20, b'5', NONE, VALUES)],
+        &[b"old"],
+        false,
+        Recover::Auto,
+        "from 20, version 2, 0 names, [], gates 1 9",
+        &[b"old"],
+    ),
+    (
+        "no output, an empty one of version 1",
+        &[(0, 1, 20, b'5', OLD_EMPTY, VALUES)],
+        &[b"old"],
+        false,
+        Recover::Auto,
+        "from 20, version 2, 0 names, [], gates 1 9",
+        &[b"old"],
+    ),
+    (
+        "no output, records in the old one",
+        &[(0, 1, 20, b'5', OLD, VALUES)],
+        &[OLD_BYTES],
+        false,
+        Recover::Auto,
+        "Damaged 0, gates 1 9",
+        &[OLD_BYTES],
+    ),
+    (
+        "no output, afresh",
+        &[],
+        &[b"old"],
+        false,
+        Recover::Autoprobe,
+        "afresh, gates 9 9",
+        &[b""],
+    ),
+];
+
+#[test]
+fn starts(rt: HostRuntime) -> Result<(), Fail> {
+    let alloc = rt.alloc();
+    for (name, slots, given, outputs, recover, words, left) in STARTS {
+        let mut disk = disk(alloc, slots, given)?;
+        let shown = start_words(alloc, &mut disk, *outputs, *recover)?;
+        assert_eq!(rt; shown.as_str(), *words, "{name}");
+        assert!(rt; has_outputs(&disk, left), "{name}: the outputs");
+    }
+    Ok(())
+}
+
+// A slot, the old output and both outputs, and what a start comes to that is refused.
+type Refused = (Slot, &'static [&'static [u8]], &'static str);
+
+const REFUSED: &[Refused] = &[
+    (
+        (0, 2, 20, b'5', BOTH, CUT_OFF),
+        &[b"", b"abc", b"xy"],
+        "Damaged 0, gates 1 9",
+    ),
+    (
+        (1, 3, 20, b'5', BOTH, VALUES),
+        &[b"", b"abc", b"xy"],
+        "Damaged 1, gates 9 1",
+    ),
+    (
+        (0, 2, 20, b'6', BOTH, VALUES),
+        &[b"", b"abc", b"xy"],
+        "OtherJob v 6, v 5, gates 1 9",
+    ),
+    (
+        (0, 2, 21, b'6', OTHER, NO_SCALAR),
+        &[b"", b"", b""],
+        "OtherJob v 6, v 5, gates 1 9",
+    ),
+    (
+        (0, 1, 20, b'6', OLD_TWO, VALUES),
+        &[b"", b"", b""],
+        "OtherJob v 6, v 5, gates 1 9",
+    ),
+    (
+        (0, 2, 21, b'5', BOTH, VALUES),
+        &[b"", b"abc", b"xy"],
+        "Damaged 0, gates 1 9",
+    ),
+    (
+        (0, 2, 60, b'5', BOTH, VALUES),
+        &[b"", b"abc", b"xy"],
+        "Damaged 0, gates 1 9",
+    ),
+    (
+        (0, 2, 20, b'5', ONE, VALUES),
+        &[b"", b"abc", b"xy"],
+        "Damaged 0, gates 1 9",
+    ),
+    (
+        (0, 2, 20, b'5', OTHER, VALUES),
+        &[b"", b"abc", b"xy"],
+        "Damaged 0, gates 1 9",
+    ),
+    (
+        (0, 1, 20, b'5', OLD_TWO, VALUES),
+        &[b"abc", b"", b""],
+        "Damaged 0, gates 1 9",
+    ),
+    (
+        (0, 2, 20, b'5', BOTH, NO_SCALAR),
+        &[b"", b"abc", b"xy"],
+        "Damaged 0, gates 1 9",
+    ),
+    (
+        (0, 2, 20, b'5', BOTH, ONE_POINT),
+        &[b"", b"abc", b"xy"],
+        "Damaged 0, gates 1 9",
+    ),
+    (
+        (0, 2, 20, b'5', BOTH, TOO_GREAT),
+        &[b"", b"", b""],
+        "Damaged 0, gates 1 9",
+    ),
+    (
+        (0, 2, 20, b'5', BOTH, VALUES),
+        &[b"", b"abc", b"x"],
+        "OutputShort 1 2, gates 1 9",
+    ),
+    (
+        (0, 2, 20, b'5', BOTH, VALUES),
+        &[b"", b"ab", b"x"],
+        "OutputShort 2 3, gates 1 9",
+    ),
+    (
+        (0, 1, 20, b'5', OLD, VALUES),
+        &[b"abc", PHI, TOTAL],
+        "OutputShort 3 300, gates 1 9",
+    ),
+    (
+        (0, 1, 20, b'5', OLD_HUGE, VALUES),
+        &[b"abc", b"", b""],
+        "OutputShort 3 300000000, gates 1 9",
+    ),
+    (
+        (0, 1, 20, b'5', OLD_3, VALUES),
+        &[OLD_BYTES, b"", b""],
+        "Damaged 0, gates 1 9",
+    ),
+    (
+        (0, 1, 20, b'5', OLD, VALUES),
+        &[STRANGE, PHI, TOTAL],
+        "Damaged 0, gates 1 9",
+    ),
+];
+
+#[test]
+fn starts_that_are_refused(rt: HostRuntime) -> Result<(), Fail> {
+    let alloc = rt.alloc();
+    for (slot, given, words) in REFUSED {
+        let mut disk = disk(alloc, &[*slot], given)?;
+        let shown = start_words(alloc, &mut disk, true, Recover::Auto)?;
+        assert_eq!(rt; shown.as_str(), *words, "wanted: {words}");
+        assert!(rt; has_outputs(&disk, given), "wanted: {words}: the outputs");
+    }
+    Ok(())
+}
+
+/// A disk whose old output is longer than what is split.
+fn long_disk(alloc: Global) -> Result<MemoryDisk, Fail> {
+    let mut files = List::empty(alloc);
+    files.push(slot_bytes(alloc, &(0, 1, 20, b'5', OLD_TOO_LONG, VALUES))?)?;
+    for _ in 1..SLOTS {
+        files.push(Text::new(Vec::new(alloc)))?;
+    }
+    files.push(Text::new(vec![in alloc; 0u8; 268_435_457]?))?;
+    Ok(MemoryDisk::new(alloc, files))
+}
+
+#[test]
+fn an_old_output_that_is_too_long(rt: HostRuntime) -> Result<(), Fail> {
+    let alloc = rt.alloc();
+    let mut disk = long_disk(alloc)?;
+    let shown = start_words(alloc, &mut disk, true, Recover::Auto)?;
+    let words = "OldTooLong 268435457 268435456, gates 1 9";
+    assert_eq!(rt; shown.as_str(), words, "one byte past the limit");
+    Ok(())
+}
