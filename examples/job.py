@@ -11,6 +11,7 @@ PROVED = TOP / "crates" / "cactus" / "out" / "cactus"
 TRIED = TOP / "out" / "try" / "cactus"
 NO_JOB = 2
 PARAMETER = re.compile(r'parameter (\S+) = "((?:[^"\\]|\\.)*)"', re.S)
+VARIABLE = re.compile(r"^variable \d+ (\S+) ", re.M)
 DIRECTION = re.compile(r"direction ([xyz]) points (\d+) ghost (\d+) (\w+)")
 
 
@@ -52,6 +53,7 @@ class Job:
             sys.stdout.write(self.text)
             sys.exit(NO_JOB)
         self.values = {name.lower(): unescaped(value) for name, value in PARAMETER.findall(self.text)}
+        self.variables = VARIABLE.findall(self.key)
         self.directions = [Direction(it[0], int(it[1]), int(it[2])) for it in DIRECTION.findall(self.text)]
 
     def value(self, name):
@@ -59,10 +61,6 @@ class Job:
 
     def number(self, name):
         return int(self.value(name))
-
-    @property
-    def output(self):
-        return Path(self.value("IO::out_dir")) / "output.asc"
 
     @property
     def key(self):

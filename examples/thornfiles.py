@@ -7,6 +7,7 @@ import re
 import signal
 import sys
 from dataclasses import dataclass, field
+from pathlib import Path
 
 from job import Job, program
 
@@ -170,6 +171,23 @@ def list_groups():
 def list_variables():
     """The groups and variables that the thorns declare, by full names."""
     return [name for group, names in list_groups() for name in dict.fromkeys([group, *names])]
+
+
+def output_variables(out_vars, variables):
+    """Which of the job's variables IO::out_vars names, in the variables' order: by a full name, or else by a group's."""
+    known = [name.lower() for name in variables]
+    wanted = out_vars.lower().split()
+    for group, names in list_groups():
+        if group.lower() in wanted and group.lower() not in known:
+            # The copies of a variable end with a bracket.
+            wanted += [it for it in known if it.split("[")[0] in map(str.lower, names)]
+    return [name for name in variables if name.lower() in wanted]
+
+
+def output_files(job):
+    """The output files of a job, one for each variable that it writes, in the variables' order."""
+    names = output_variables(job.value("IO::out_vars"), job.variables)
+    return [Path(job.value("IO::out_dir")) / f"{name}.asc" for name in names]
 
 
 def group_of(variable):

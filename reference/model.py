@@ -2,8 +2,8 @@
 """A second source for the definitions: runs the job of a parameter file in one piece, as docs/GUIDE.md says it.
 
 It knows the five sample thorns by heart, by the guide's tables, and reads no CCL files. It expects a file that
-`cactus check` accepts: it refuses nothing. It writes output.asc into the folder IO::out_dir and prints the line that
-the program prints, `done: ..` or `ended: ..`. Status: 0 done, 3 ended.
+`cactus check` accepts: it refuses nothing. It writes a file for each output variable into the folder IO::out_dir, and
+prints the line that the program prints, `done: ..` or `ended: ..`. Status: 0 done, 3 ended.
 """
 import argparse
 import os
@@ -344,7 +344,7 @@ class Run:
     """The undivided run of a job. A variable is a list of timelevels, and each of these a list of numbers."""
 
     def __init__(self, job):
-        self.job, self.iteration, self.output, self.bytes = job, 0, None, 0
+        self.job, self.iteration, self.outputs = job, 0, {}
         groups = [group for thorn in job.thorns for group in thorn.groups if group.directions]
         self.grid = Grid(job, groups[0].directions if groups else 1)
         self.variables = {}
@@ -439,18 +439,19 @@ class Run:
         for thorn in self.job.thorns:
             for group in thorn.groups:
                 if self.is_named(thorn, group):
-                    text = self.section(f"{thorn.implementation}::{group.variable}", group).encode()
-                    self.bytes += len(text)
-                    if self.bytes > MOST_OUTPUT:
-                        raise Ended(f"OutputLimit {self.iteration}")
-                    self.append(text)
+                    name = f"{thorn.implementation}::{group.variable}"
+                    self.append(name, self.section(name, group).encode())
 
-    def append(self, text):
-        if self.output is None:
+    def append(self, name, text):
+        """Appends a text to the file of its variable."""
+        if name not in self.outputs:
             folder = self.job["IO::out_dir"] or "."
             os.makedirs(folder, exist_ok=True)
-            self.output = open(os.path.join(folder, "output.asc"), "wb")
-        self.output.write(text)
+            self.outputs[name] = open(os.path.join(folder, name + ".asc"), "wb")
+        file = self.outputs[name]
+        if file.tell() + len(text) > MOST_OUTPUT:
+            raise Ended(f"OutputLimit {self.iteration}")
+        file.write(text)
 
     def checkpoints(self):
         """Whether a checkpoint is due, so that the bin CHECKPOINT runs."""
@@ -480,8 +481,8 @@ def run(path, thorns=THORNS):
     except Ended as end:
         return 3, f"ended: {end}"
     finally:
-        if job.output:
-            job.output.close()
+        for file in job.outputs.values():
+            file.close()
 
 
 def main():
