@@ -16,6 +16,10 @@ use cx_thorn_pde::{
     ControlSet, ControlSpin, DiffFlat, DiffInit, DiffScalar, DiffStep, DiffSum, WaveCopy, WaveFlat,
     WaveInit, WaveInit1, WaveScalar, WaveStep, WaveSum,
 };
+use cx_thorn_physics::{
+    GasInit, GasMeasure, GasParticles, GasStep, GasTotalX, GasTotalY, GasZero, HeatInit, HeatStep,
+    HeatSum, HeatZero,
+};
 use cx_turns::Turns;
 use cx_wire::Wire;
 use std::alloc::Global;
@@ -73,6 +77,17 @@ pub fn answer<H: Shelf, D: Disk, W: Wire, T: Turns, O: Sink>(
     routines.push(Box::new(alloc, DiffSum::new(alloc)?)?)?;
     routines.push(Box::new(alloc, ControlSet::new(alloc)?)?)?;
     routines.push(Box::new(alloc, ControlSpin::new(alloc)?)?)?;
+    routines.push(Box::new(alloc, HeatInit::new(alloc)?)?)?;
+    routines.push(Box::new(alloc, HeatStep::new(alloc)?)?)?;
+    routines.push(Box::new(alloc, HeatZero::new(alloc)?)?)?;
+    routines.push(Box::new(alloc, HeatSum::new(alloc)?)?)?;
+    routines.push(Box::new(alloc, GasInit::new(alloc)?)?)?;
+    routines.push(Box::new(alloc, GasStep::new(alloc)?)?)?;
+    routines.push(Box::new(alloc, GasZero::new(alloc)?)?)?;
+    routines.push(Box::new(alloc, GasMeasure::new(alloc)?)?)?;
+    routines.push(Box::new(alloc, GasParticles::new(alloc)?)?)?;
+    routines.push(Box::new(alloc, GasTotalX::new(alloc)?)?)?;
+    routines.push(Box::new(alloc, GasTotalY::new(alloc)?)?)?;
     let line = CommandLine { alloc, words };
     Ok(answer_with(line, shelf, disk, wire, turns, out, &routines, meter))
 }

@@ -72,6 +72,6 @@ fn files_are_read_and_printed(rt: HostRuntime) -> Result<(), Fail> {
     let settings = tokens(rt.alloc(), PARAMETER_FILE, Style::Par)?;
     assert_eq!(rt; settings.len(), 4 * 17, "the parameter file");
     let thorns = tokens(rt.alloc(), THORN_LIST, Style::Thorns)?;
-    assert_eq!(rt; thorns.len(), 2 * 7, "the list of seven thorns");
+    assert_eq!(rt; thorns.len(), 2 * 9, "the list of nine thorns");
     Ok(())
 }

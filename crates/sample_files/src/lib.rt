@@ -4,6 +4,8 @@
 pub mod control;
 pub mod diffint;
 pub mod elemca;
+pub mod heatflux;
+pub mod latticegas;
 pub mod life2d;
 pub mod waveint;
 
@@ -23,6 +25,8 @@ Integer/Life2D
 Integer/WaveInt
 Integer/DiffInt
 Integer/Control
+Physics/HeatFlux
+Physics/LatticeGas
 "#;
 
 /// The list of thorns and the files of all sample thorns.
@@ -90,5 +94,29 @@ pub const FILES: &[File] = &[
     File {
         name: "arrangements/Integer/Control/schedule.ccl",
         bytes: control::SCHEDULE,
+    },
+    File {
+        name: "arrangements/Physics/HeatFlux/interface.ccl",
+        bytes: heatflux::INTERFACE,
+    },
+    File {
+        name: "arrangements/Physics/HeatFlux/param.ccl",
+        bytes: heatflux::PARAM,
+    },
+    File {
+        name: "arrangements/Physics/HeatFlux/schedule.ccl",
+        bytes: heatflux::SCHEDULE,
+    },
+    File {
+        name: "arrangements/Physics/LatticeGas/interface.ccl",
+        bytes: latticegas::INTERFACE,
+    },
+    File {
+        name: "arrangements/Physics/LatticeGas/param.ccl",
+        bytes: latticegas::PARAM,
+    },
+    File {
+        name: "arrangements/Physics/LatticeGas/schedule.ccl",
+        bytes: latticegas::SCHEDULE,
     },
 ];

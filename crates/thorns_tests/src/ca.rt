@@ -66,7 +66,7 @@ const LIVES: &[([[i64; 3]; 3], i64)] = &[
 fn next_cell(rt: &HostRuntime, rows: [[i64; 3]; 3]) -> Result<Option<i64>, Fail> {
     let step = LifeStep::new(rt.alloc())?;
     let w = around(rt.alloc(), rows)?;
-    let at = in_sheet(rt.alloc(), 0, 0, [12, 8])?;
+    let at = in_sheet(rt.alloc(), 0, 0, &[12, 8])?;
     number(rt, &step, &w, &at)
 }
 
@@ -101,7 +101,7 @@ fn three(sheet: &[i64], x: u8, y: u8) -> [i64; 3]
 }
 
 /// The cells of a sheet around a point.
-fn rows_around(sheet: &[i64], x: u8, y: u8) -> [[i64; 3]; 3]
+pub(crate) fn rows_around(sheet: &[i64], x: u8, y: u8) -> [[i64; 3]; 3]
     requires columns { x < 8 }
     requires rows { y < 8 }
 {
@@ -130,7 +130,7 @@ fn next_sheet(rt: &HostRuntime, sheet: &[i64]) -> Result<Vec<i64>, Fail> {
 fn first_life(rt: &HostRuntime, place: u8, pattern: i64, seed: i64) -> Result<i64, Fail> {
     let first = LifeInit::new(rt.alloc())?;
     let w = nothing(rt.alloc(), 2)?;
-    let at = in_sheet(rt.alloc(), place % 8, place / 8 % 8, [pattern, seed])?;
+    let at = in_sheet(rt.alloc(), place % 8, place / 8 % 8, &[pattern, seed])?;
     Ok(number(rt, &first, &w, &at)?.unwrap_or(-1))
 }
 

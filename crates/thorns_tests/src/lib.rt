@@ -12,6 +12,8 @@ mod grid;
 #[cfg(test)]
 mod pde;
 #[cfg(test)]
+mod physics;
+#[cfg(test)]
 mod plan;
 #[cfg(test)]
 mod points;

@@ -37,13 +37,14 @@ pub(crate) fn in_ring(alloc: Global, x: u8, params: &[i64]) -> Result<Place, Fai
 }
 
 /// A place of a sheet of eight by eight cells, with these parameters.
-pub(crate) fn in_sheet(alloc: Global, x: u8, y: u8, params: [i64; 2]) -> Result<Place, Fail>
+pub(crate) fn in_sheet(alloc: Global, x: u8, y: u8, params: &[i64]) -> Result<Place, Fail>
     requires columns { x < 8 }
     requires rows { y < 8 }
+    requires few { length params.now ≤ 32 }
     ensures shape { IfOk result (λ at. IsShape at.shape) }
     ensures point { IfOk result (λ at. IsIn (whole at.shape) at.at) }
     ensures dims { IfOk result (λ at. at.shape.dims ≡ 2) }
-    ensures params { IfOk result (λ at. length at.params ≡ 2) }
+    ensures params { IfOk result (λ at. at.params ≡ params.now) }
 {
     let at = Point {
         x: x as i32,
@@ -123,6 +124,38 @@ pub(crate) fn twice(alloc: Global, row: [i64; 3], before: i64) -> Result<Window,
     w.add_read(0);
     put_row(&mut w, row);
     w.put(1, Point { x: 0, y: 0, z: 0 }, before);
+    Ok(w)
+}
+
+/// Sets the second read's values to the left, at and to the right of the point.
+fn put_second_row(w: &mut Window, row: [i64; 3])
+    requires dims { w.old.seen.dims ≡ 1 }
+    requires reads { w.old.seen.reaches ≡ 1 ∷ 1 ∷ [] }
+    ensures dims { w.new.seen.dims ≡ 1 }
+    ensures reads { w.new.seen.reaches ≡ 1 ∷ 1 ∷ [] }
+    ensures values { length w.new.seen.values ≡ length w.old.seen.values }
+{
+    w.put(1, Point { x: -1, y: 0, z: 0 }, row[0]);
+    w.put(1, Point { x: 0, y: 0, z: 0 }, row[1]);
+    w.put(1, Point { x: 1, y: 0, z: 0 }, row[2]);
+}
+
+/// A window of a row that shows two variables at the point and its two neighbours.
+pub(crate) fn both_beside(
+    alloc: Global,
+    first: [i64; 3],
+    second: [i64; 3],
+) -> Result<Window, Fail>
+    ensures dims { IfOk result (λ w. w.seen.dims ≡ 1) }
+    ensures reads { IfOk result (λ w. w.seen.reaches ≡ 1 ∷ 1 ∷ []) }
+    ensures values { IfOk result (λ w. length w.seen.values ≡ volumes w.seen.dims w.seen.reaches) }
+{
+    let mut w = Window::new(alloc, 6)?;
+    w.clear(1);
+    w.add_read(1);
+    w.add_read(1);
+    put_row(&mut w, first);
+    put_second_row(&mut w, second);
     Ok(w)
 }
 

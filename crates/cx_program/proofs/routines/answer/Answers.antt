@@ -7,6 +7,8 @@ use Rattle.cx_thorn_ca.specs.Life.{life_init_rule, life_step_rule, life_zero_rul
 use Rattle.cx_thorn_pde.specs.Control.{control_set_rule, control_spin_rule, control_set_spec, control_spin_spec}
 use Rattle.cx_thorn_pde.specs.Heat.{diff_init_rule, diff_step_rule, diff_flat_rule, diff_scalar_rule, diff_sum_rule, diff_init_spec, diff_step_spec, diff_flat_spec, diff_scalar_spec, diff_sum_spec}
 use Rattle.cx_thorn_pde.specs.Wave.{wave_init_rule, wave_init1_rule, wave_step_rule, wave_copy_rule, wave_flat_rule, wave_scalar_rule, wave_sum_rule, wave_init_spec, wave_init1_spec, wave_step_spec, wave_copy_spec, wave_flat_spec, wave_scalar_spec, wave_sum_spec}
+use Rattle.cx_thorn_physics.specs.Flux.{heatflux_init_rule, heatflux_step_rule, heatflux_zero_rule, heatflux_sum_rule, heatflux_init_spec, heatflux_step_spec, heatflux_zero_spec, heatflux_sum_spec}
+use Rattle.cx_thorn_physics.specs.Gas.{gas_init_rule, gas_step_rule, gas_zero_rule, gas_measure_rule, gas_sum_rule, gas_init_spec, gas_step_spec, gas_zero_spec, gas_measure_spec, gas_particles_spec, gas_total_x_spec, gas_total_y_spec}
 use Rattle.cx_program.specs.contracts.routines.answer_with.{dyn-1-ghosts}
 use Rattle.cx_program.proofs.routines.answer.OwnLists.{own-1, lawful-own-1}
 use Rattle.cx_program.specs.Samples.{sample_rules, sample_specs}
@@ -15,7 +17,7 @@ use Rattle.cx_program.proofs.routines.answer.Given.{Over}
 use Rattle.cx_program.proofs.routines.answer.Goals as goal
 
 handed : (g : Over) (c : goal.After-answer_with-arg-6-1 g)
-    → Handed c.push-22.new.self.items
+    → Handed c.push-33.new.self.items
     (λ z.
     ((dyn-1-ghosts g.row.H g.row.D g.row.W g.row.T g.row.O g.H.Shelf g.H.Shelf-dict g.D.Disk
     g.D.Disk-dict g.W.Wire g.W.Wire-dict g.T.Turns g.T.Turns-dict g.O.Sink g.O.Sink-dict
@@ -87,7 +89,29 @@ handed g c =
     c.into_dyn_box-in_ok-new-42.ensures.0 (λ h. refl) (λ h. refl) in
     let h22 = more _ _ _ _ _ _ control_spin_rule control_spin_spec h21 c.in_ok-push-22.ensures.items
     c.into_dyn_box-in_ok-new-44.ensures.0 (λ h. refl) (λ h. refl) in
-    h22
+    let h23 = more _ _ _ _ _ _ heatflux_init_rule heatflux_init_spec h22 c.in_ok-push-23.ensures.items
+    c.into_dyn_box-in_ok-new-46.ensures.0 (λ h. refl) (λ h. refl) in
+    let h24 = more _ _ _ _ _ _ heatflux_step_rule heatflux_step_spec h23 c.in_ok-push-24.ensures.items
+    c.into_dyn_box-in_ok-new-48.ensures.0 (λ h. refl) (λ h. refl) in
+    let h25 = more _ _ _ _ _ _ heatflux_zero_rule heatflux_zero_spec h24 c.in_ok-push-25.ensures.items
+    c.into_dyn_box-in_ok-new-50.ensures.0 (λ h. refl) (λ h. refl) in
+    let h26 = more _ _ _ _ _ _ heatflux_sum_rule heatflux_sum_spec h25 c.in_ok-push-26.ensures.items
+    c.into_dyn_box-in_ok-new-52.ensures.0 (λ h. refl) (λ h. refl) in
+    let h27 = more _ _ _ _ _ _ gas_init_rule gas_init_spec h26 c.in_ok-push-27.ensures.items
+    c.into_dyn_box-in_ok-new-54.ensures.0 (λ h. refl) (λ h. refl) in
+    let h28 = more _ _ _ _ _ _ gas_step_rule gas_step_spec h27 c.in_ok-push-28.ensures.items
+    c.into_dyn_box-in_ok-new-56.ensures.0 (λ h. refl) (λ h. refl) in
+    let h29 = more _ _ _ _ _ _ gas_zero_rule gas_zero_spec h28 c.in_ok-push-29.ensures.items
+    c.into_dyn_box-in_ok-new-58.ensures.0 (λ h. refl) (λ h. refl) in
+    let h30 = more _ _ _ _ _ _ gas_measure_rule gas_measure_spec h29 c.in_ok-push-30.ensures.items
+    c.into_dyn_box-in_ok-new-60.ensures.0 (λ h. refl) (λ h. refl) in
+    let h31 = more _ _ _ _ _ _ gas_sum_rule gas_particles_spec h30 c.in_ok-push-31.ensures.items
+    c.into_dyn_box-in_ok-new-62.ensures.0 (λ h. refl) (λ h. refl) in
+    let h32 = more _ _ _ _ _ _ gas_sum_rule gas_total_x_spec h31 c.in_ok-push-32.ensures.items
+    c.into_dyn_box-in_ok-new-64.ensures.0 (λ h. refl) (λ h. refl) in
+    let h33 = more _ _ _ _ _ _ gas_sum_rule gas_total_y_spec h32 c.in_ok-push-33.ensures.items
+    c.into_dyn_box-in_ok-new-66.ensures.0 (λ h. refl) (λ h. refl) in
+    h33
 
 pub answer_with-requires-clause-rules : goal.answer_with-requires-clause-rules
 answer_with-requires-clause-rules g c = rules_of _ _ _ _ _ _ (handed g c) c.deref.ensures.value
@@ -123,4 +147,70 @@ pub returns-in_err-new-44 : goal.returns-in_err-new-44
 returns-in_err-new-44 g c =
     let p = err_from_is_err_and c.from_residual-in_err-new-44.result
     c.from_residual-in_err-new-44.ensures.1 in
+    rw p.1 tt
+
+pub returns-in_err-new-46 : goal.returns-in_err-new-46
+returns-in_err-new-46 g c =
+    let p = err_from_is_err_and c.from_residual-in_err-new-46.result
+    c.from_residual-in_err-new-46.ensures.1 in
+    rw p.1 tt
+
+pub returns-in_err-new-48 : goal.returns-in_err-new-48
+returns-in_err-new-48 g c =
+    let p = err_from_is_err_and c.from_residual-in_err-new-48.result
+    c.from_residual-in_err-new-48.ensures.1 in
+    rw p.1 tt
+
+pub returns-in_err-new-50 : goal.returns-in_err-new-50
+returns-in_err-new-50 g c =
+    let p = err_from_is_err_and c.from_residual-in_err-new-50.result
+    c.from_residual-in_err-new-50.ensures.1 in
+    rw p.1 tt
+
+pub returns-in_err-new-52 : goal.returns-in_err-new-52
+returns-in_err-new-52 g c =
+    let p = err_from_is_err_and c.from_residual-in_err-new-52.result
+    c.from_residual-in_err-new-52.ensures.1 in
+    rw p.1 tt
+
+pub returns-in_err-new-54 : goal.returns-in_err-new-54
+returns-in_err-new-54 g c =
+    let p = err_from_is_err_and c.from_residual-in_err-new-54.result
+    c.from_residual-in_err-new-54.ensures.1 in
+    rw p.1 tt
+
+pub returns-in_err-new-56 : goal.returns-in_err-new-56
+returns-in_err-new-56 g c =
+    let p = err_from_is_err_and c.from_residual-in_err-new-56.result
+    c.from_residual-in_err-new-56.ensures.1 in
+    rw p.1 tt
+
+pub returns-in_err-new-58 : goal.returns-in_err-new-58
+returns-in_err-new-58 g c =
+    let p = err_from_is_err_and c.from_residual-in_err-new-58.result
+    c.from_residual-in_err-new-58.ensures.1 in
+    rw p.1 tt
+
+pub returns-in_err-new-60 : goal.returns-in_err-new-60
+returns-in_err-new-60 g c =
+    let p = err_from_is_err_and c.from_residual-in_err-new-60.result
+    c.from_residual-in_err-new-60.ensures.1 in
+    rw p.1 tt
+
+pub returns-in_err-new-62 : goal.returns-in_err-new-62
+returns-in_err-new-62 g c =
+    let p = err_from_is_err_and c.from_residual-in_err-new-62.result
+    c.from_residual-in_err-new-62.ensures.1 in
+    rw p.1 tt
+
+pub returns-in_err-new-64 : goal.returns-in_err-new-64
+returns-in_err-new-64 g c =
+    let p = err_from_is_err_and c.from_residual-in_err-new-64.result
+    c.from_residual-in_err-new-64.ensures.1 in
+    rw p.1 tt
+
+pub returns-in_err-new-66 : goal.returns-in_err-new-66
+returns-in_err-new-66 g c =
+    let p = err_from_is_err_and c.from_residual-in_err-new-66.result
+    c.from_residual-in_err-new-66.ensures.1 in
     rw p.1 tt

@@ -1,0 +1,4 @@
+pub mod Exact
+pub mod Offsets
+pub mod Flux
+pub mod Gas
