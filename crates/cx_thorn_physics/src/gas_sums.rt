@@ -7,8 +7,7 @@ use cx_rule::{Cells, Overflow, Place, PointRule, RoutineOf, Spec, Window};
 use cx_text::Memory;
 use std::alloc::Global;
 
-/// The routine `gas_particles`: `gas::particles` becomes the sum of `gas::number`. Its rule gives what a point
-/// adds: the number there.
+/// The routine `gas_particles`: `gas::particles` becomes the sum of `gas::number`. Its rule gives what a point adds: the number there.
 pub type GasParticles = RoutineOf<GasParticlesRule>;
 
 /// The rule of `gas_particles`.
@@ -39,8 +38,7 @@ impl PointRule for GasParticlesRule {
     }
 }
 
-/// The routine `gas_total_x`: `gas::total_x` becomes the sum of `gas::momentum_x`. Its rule gives what a point
-/// adds: the number there.
+/// The routine `gas_total_x`: `gas::total_x` becomes the sum of `gas::momentum_x`. Its rule gives what a point adds: the number there.
 pub type GasTotalX = RoutineOf<GasTotalXRule>;
 
 /// The rule of `gas_total_x`.
@@ -71,8 +69,7 @@ impl PointRule for GasTotalXRule {
     }
 }
 
-/// The routine `gas_total_y`: `gas::total_y` becomes the sum of `gas::momentum_y`. Its rule gives what a point
-/// adds: the number there.
+/// The routine `gas_total_y`: `gas::total_y` becomes the sum of `gas::momentum_y`. Its rule gives what a point adds: the number there.
 pub type GasTotalY = RoutineOf<GasTotalYRule>;
 
 /// The rule of `gas_total_y`.

@@ -1,21 +1,23 @@
 //! How heat flows.
-ghost use Rattle.std.specs.Prelude.{◌≡◌, ◌≤◌, ◌≤ℤ◌, ◌^◌, ◌+ℤ◌, ◌∷◌, [], pos, negsuc};
+ghost use Rattle.std.specs.Prelude.{◌≡◌, ◌≤◌, ◌<◌, ◌≤ℤ◌, ◌+◌, ◌^◌, ◌+ℤ◌, ◌∷◌, [], pos, negsuc, length, OnOk, OnErr};
 ghost use Rattle.cx_rule.specs.Seen.{value_of};
 ghost use Rattle.cx_rule.specs.Single.{here};
 ghost use Rattle.cx_thorn_physics.specs.Exact.{in_64_bits};
 ghost use Rattle.cx_thorn_physics.specs.Flux.{heatflux_step_spec, heatflux_step_rule, gains};
+ghost use Rattle.cx_thorn_physics.specs.Rows.{AreGiven, HasPlaces, LacksIn, heat_at};
 
 use crate::exact::in_64_bits;
 use crate::flux_around::gains;
+use crate::rows_around::{RowsAround, rows_around};
 use cx_plan::{ItemKind, Region};
-use cx_rule::{Cells, Overflow, Place, PointRule, RoutineOf, Spec, Window};
+use cx_rule::{Cells, Overflow, Place, PointRule, Row, RowRule, RowsOf, Spec, Window};
 use cx_text::Memory;
 use std::alloc::Global;
 
 /// The routine `heatflux_step`: each point of the interior gains what flows in from its neighbours, and loses what flows
 /// out to them. Between two points flow `heatflux::factor` 256ths of their difference, rounded toward 0, and nothing
 /// where `heatflux::mask` is 0 at one of them.
-pub type HeatStep = RoutineOf<HeatStepRule>;
+pub type HeatStep = RowsOf<HeatStepRule>;
 
 /// The rule of `heatflux_step`.
 #[derive(Debug, Drop)]
@@ -44,6 +46,42 @@ impl PointRule for HeatStepRule {
     fn numbers(&self, w: &Window, at: &Place, out: &mut Cells) -> Result<(), Overflow> {
         out.set_if(next(w, at.shape.dims, at.param(0)))
     }
+}
+
+impl RowRule for HeatStepRule {
+    /// Computes a row of next heats.
+    fn row(&self, row: &Row, out: &mut [i64]) -> Result<(), Overflow> {
+        let heat = rows_around(row, 0);
+        let mask = rows_around(row, 1);
+        next_row(row.param(0), &heat, &mask, out)
+    }
+}
+
+/// The heats along a row with what they gain.
+///
+/// # Errors
+///
+/// `Overflow` exactly where one of these numbers leaves 64 bits.
+fn next_row(
+    factor: i64,
+    heat: &RowsAround,
+    mask: &RowsAround,
+    out: &mut [i64],
+) -> Result<(), Overflow>
+    requires heat { HasPlaces heat.now (length out.old) }
+    requires mask { HasPlaces mask.now (length out.old) }
+    ensures numbers { OnOk result (AreGiven (heat_at factor heat.now mask.now) out.new
+        (length out.old)) }
+    ensures overflow { OnErr result (LacksIn (heat_at factor heat.now mask.now) (length out.old)) }
+    ensures room { length out.new ≡ length out.old }
+{
+    'places: for i in 0..out.len() {
+        match heat.heat_at(mask, factor, i) {
+            Some(number) => out[i] = number,
+            None => return Err(Overflow),
+        }
+    }
+    Ok(())
 }
 
 /// The next heat at the point, if it has 64 bits.

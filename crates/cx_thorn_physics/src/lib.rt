@@ -12,6 +12,7 @@ mod gas_sums;
 mod heat_init;
 mod heat_step;
 mod heat_sum;
+mod rows_around;
 mod zero;
 
 pub use gas_init::{GasInit, GasInitRule};

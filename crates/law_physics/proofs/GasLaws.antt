@@ -139,8 +139,8 @@ abbrev pub Wraps : Shape → (Point → ℤ) → Type 0
 Wraps s f = (p q : Point) → wrap s p ≡ wrap s q → f p ≡ f q
 
 -- moved along a periodic direction, the grid has the same sum
-moved_down : (s : Shape) (d : ℕ) (f : Point → ℤ) → is_periodic s d ≡ true → Direction s d
-    → Wraps s f → grid_total s (λ p. f (shifted p (step d (negsuc 0)))) ≡ grid_total s f
+moved_down : (s : Shape) (d : ℕ) (f : Point → ℤ) → is_periodic s d ≡ true → Direction s d → Wraps s f
+    → grid_total s (λ p. f (shifted p (step d (negsuc 0)))) ≡ grid_total s f
 moved_down s d f round direction wraps =
     direction.turned (λ p. f (shifted p (step d (negsuc 0)))) f
     (record {
@@ -215,12 +215,10 @@ turns_at dims cells p =
 
 -- the sums over the grid of those that came are those of all there were
 record Arrived (s : Shape) (cells : Point → ℤ) : Type 0 where
-  to_east : grid_total s (λ p. easts cells (shifted p (step 0 (negsuc 0))))
-      ≡ grid_total s (easts cells)
+  to_east : grid_total s (λ p. easts cells (shifted p (step 0 (negsuc 0)))) ≡ grid_total s (easts cells)
   to_north : grid_total s (λ p. norths cells (shifted p (up_by s.dims (negsuc 0))))
       ≡ grid_total s (norths cells)
-  to_west : grid_total s (λ p. wests cells (shifted p (step 0 (pos 1))))
-      ≡ grid_total s (wests cells)
+  to_west : grid_total s (λ p. wests cells (shifted p (step 0 (pos 1)))) ≡ grid_total s (wests cells)
   to_south : grid_total s (λ p. souths cells (shifted p (up_by s.dims (pos 1))))
       ≡ grid_total s (souths cells)
 
@@ -392,8 +390,8 @@ particles_kept setup rules shape periodic x cells before after iteration is stat
     (λ p q one. value_wrapped setup before cells p q one) in
     record {
       number =
-          measured_after setup rules x cells before after iteration number_of shape periodic is
-          state comes
+          measured_after setup rules x cells before after iteration number_of shape periodic is state
+          comes
           ∙ numbers_kept setup.shape (field setup before cells) all
           ∙ sym (measured_before setup cells before number_of shape is.stored state);
       x =

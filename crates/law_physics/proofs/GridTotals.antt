@@ -93,8 +93,7 @@ grid_placed s h f same =
     ∙ total_rows (width s 1) (width s 2)
     (λ j. total 0 (width s 0) (λ i. h (i + width s 0 * j)))
     ∙ total_same 0 (width s 2)
-    (λ z. total 0 (width s 1)
-    (λ y. total 0 (width s 0) (λ x. h (x + width s 0 * (y + width s 1 * z)))))
+    (λ z. total 0 (width s 1) (λ y. total 0 (width s 0) (λ x. h (x + width s 0 * (y + width s 1 * z)))))
     (λ z. sheet_total s f z) (λ z low c.
     total_same 0 (width s 1)
     (λ y. total 0 (width s 0) (λ x. h (x + width s 0 * (y + width s 1 * z))))
@@ -189,8 +188,7 @@ pub sum_of_measured : (s : Shape) (measure : ℤ → ℤ) (ns : List ℤ) → Is
 sum_of_measured s measure ns shape count =
     reduced_listed (map measure ns) ∙ ap (λ n. total 0 n (λ i. get_or (map measure ns) i (pos 0)))
     (length_mapped measure ns)
-    ∙ total_same 0 (length ns) (λ i. get_or (map measure ns) i (pos 0))
-    (λ i. measure (get_or ns i (pos 0)))
+    ∙ total_same 0 (length ns) (λ i. get_or (map measure ns) i (pos 0)) (λ i. measure (get_or ns i (pos 0)))
     (λ i low high. get_mapped measure ns i (omega (arith, high)))
     ∙ ap (λ n. total 0 n (λ i. measure (get_or ns i (pos 0)))) count
     ∙ grid_placed s (λ i. measure (get_or ns i (pos 0))) (λ p. measure (at s ns p))

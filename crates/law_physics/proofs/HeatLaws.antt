@@ -174,8 +174,7 @@ no_gains s factor heat mask d fields direction = by (nat_lt d s.dims) refl
         (flow_up factor heat mask d)
         (follows s factor heat mask d (ltb-true d s.dims has) fields direction))
     by false lacks =
-        ap (λ (b : Bool). grid_total s (λ p. if b then gain_up factor heat mask d p else pos 0))
-        lacks
+        ap (λ (b : Bool). grid_total s (λ p. if b then gain_up factor heat mask d p else pos 0)) lacks
         ∙ grid_none s
 
 -- what a point gains from all sides

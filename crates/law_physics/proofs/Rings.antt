@@ -38,8 +38,8 @@ there_and_back p d by = same_point (back_along (nat_eq 0 d) p.x by)
 
 -- ---- rings
 
--- A function that is another one's of the neighbour before, along a direction; at the first point
--- it is that of the last one.
+-- A function that is another one's of the neighbour before, along a direction; at the first point it
+-- is that of the last one.
 pub record Follows (s : Shape) (d : ℕ) (f g : Point → ℤ) : Type 0 where
   pub next : (p : Point) → IsIn (whole s) p → f (shifted p (step d (pos 1))) ≡ g p
   pub first : (p : Point) → IsIn (whole s) p → along p d ≡ pos 0
@@ -210,8 +210,7 @@ face_first n g c some none =
 pub in_first : (s : Shape) (d : ℕ) (c : ℤ) → is_periodic s d ≡ false → pos 1 ≤ℤ along s.ghost_ d
     → c ≡ pos 0 → in_face s d c ≡ true
 in_first s d c flat some none =
-    ap (λ b. not b && (int_lt c (along s.ghost_ d) || int_le (along s.n d -ℤ along s.ghost_ d) c))
-    flat
+    ap (λ b. not b && (int_lt c (along s.ghost_ d) || int_le (along s.n d -ℤ along s.ghost_ d) c)) flat
     ∙ face_first (along s.n d) (along s.ghost_ d) c some none
 
 or_true : (b : Bool) → (b || true) ≡ true
@@ -222,8 +221,7 @@ pub in_last : (s : Shape) (d : ℕ) (c : ℤ) → is_periodic s d ≡ false → 
     → c ≡ along s.n d -ℤ pos 1 → in_face s d c ≡ true
 in_last s d c flat some last =
     let far : (along s.n d -ℤ along s.ghost_ d) ≤ℤ c = omega (arith, ints, some, last) in
-    ap (λ b. not b && (int_lt c (along s.ghost_ d) || int_le (along s.n d -ℤ along s.ghost_ d) c))
-    flat
+    ap (λ b. not b && (int_lt c (along s.ghost_ d) || int_le (along s.n d -ℤ along s.ghost_ d) c)) flat
     ∙ ap (λ b. int_lt c (along s.ghost_ d) || b) (le_from (along s.n d -ℤ along s.ghost_ d) c far)
     ∙ or_true (int_lt c (along s.ghost_ d))
 

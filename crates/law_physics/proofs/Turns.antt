@@ -41,8 +41,7 @@ some_of : (box : Box3) (values : Values) (zone : Point → Bool) (numbers : Poin
     → (if each then Some (with_level before w.var w.level
     (level_after box zone numbers 0 (values w.var w.level))) else None) ≡ Some after
     → Swept box values zone numbers w before after
-some_of box values zone numbers w before after true is comes =
-    record { each = is; state = same comes }
+some_of box values zone numbers w before after true is comes = record { each = is; state = same comes }
   where
     same : {x : State} → Some x ≡ Some after → after ≡ x
     same e = cc
@@ -168,8 +167,8 @@ where_here true some e h = h
 where_here false some e h = absurd (false≢true e)
 
 -- at an interior point of a sweep there are numbers
-pub gives_at : (setup : Setup) (numbers : Point → Option (List ℤ)) (v : VarId)
-    (before after : State) (p : Point)
+pub gives_at : (setup : Setup) (numbers : Point → Option (List ℤ)) (v : VarId) (before after : State)
+    (p : Point)
     → Swept (whole setup.shape) (values_of setup before) (in_region setup.shape Interior) numbers
     (touch_of v Interior 0) before after
     → IsIn (whole setup.shape) p → is_boundary setup.shape p ≡ false

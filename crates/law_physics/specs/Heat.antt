@@ -19,8 +19,8 @@ pub record IsHeatStep (setup : Setup) (rules : List Rule) (x : Item) (u mask : V
       (touch_of u Everywhere 1 ∷ touch_of mask Everywhere 1 ∷ []) u Interior
   pub heat : IsField setup u
 
--- no heat passes where the grid ends: the mask is 0 in the boundary. A grid that is periodic in
--- each direction has none
+-- no heat passes where the grid ends: the mask is 0 in the boundary. A grid that is periodic in each
+-- direction has none
 abbrev pub IsClosed : Setup → State → VarId → Type 0
 IsClosed setup state mask =
     (p : Point) → IsIn (whole setup.shape) p → is_boundary setup.shape p ≡ true
