@@ -1,0 +1,10 @@
+pub mod Tree
+pub mod Names
+pub mod Pulled
+pub mod Tended
+pub mod Placed
+pub mod Host
+pub mod PulledLaws
+pub mod Story
+pub mod StoryLaws
+pub mod Failing
