@@ -13,7 +13,7 @@ ghost use Rattle.cx_chunks.specs.Combining.{is_at, is_twin, is_output_of, is_out
 ghost use Rattle.cx_chunks.specs.Laws.{IsCutOf};
 
 use crate::fault::ChunkFault;
-use crate::iterations::iterations;
+use crate::rising::iterations;
 use crate::own_box::{OwnBox, own_box};
 use crate::piece::Piece;
 use cx_cut::Cut;

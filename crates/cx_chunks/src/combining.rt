@@ -14,7 +14,7 @@ ghost use Rattle.cx_chunks.specs.Laws.{IsCutOf};
 use crate::checks::{check_doubles, check_missing, check_strangers, chunk, info_of, is_at};
 use crate::cutting::value_at;
 use crate::fault::ChunkFault;
-use crate::iterations::iterations;
+use crate::rising::iterations;
 use crate::piece::Piece;
 use cx_ascii::{scalar_line, section};
 use cx_cut::Cut;

@@ -1,0 +1,5 @@
+pub mod EntryLaws
+pub mod CountLaws
+pub mod LoopLaws
+pub mod WriteLaws
+pub mod OutputLaws
