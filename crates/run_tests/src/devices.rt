@@ -117,13 +117,13 @@ impl LongDisk {
 
 /// Copies of texts.
 fn copies(alloc: Global, texts: &[Text]) -> Result<Vec<Text>, AllocError>
-    ensures { IfOk result (λ copies. copies.items ≡ texts.now) }
+    ensures { IfOk result (λ copy. copy.items ≡ texts.now) }
 {
-    let mut copies = Vec::new(alloc);
-    'texts: for text in texts {
-        copies.push(Text::new(text.as_slice().to_vec(alloc)?))?;
+    let mut copy = Vec::new(alloc);
+    'each: for text in texts {
+        copy.push(Text::new(text.as_slice().to_vec(alloc)?))?;
     }
-    Ok(copies)
+    Ok(copy)
 }
 
 /// Fills a place with what stands in a text from an offset on, where it is there.
