@@ -50,11 +50,11 @@ row_levels : map (λ (v : Variable). level_full v 2) (variables (elem_ca ∷ [])
     ≡ codes "ca::cell_p_p" ∷ codes "ca::live_p_p" ∷ []
 row_levels = refl
 
-row_table : length (table 2) ≡ 33
+row_table : length (table 2) ≡ 34
 row_table = refl
 
 row_parameters : map {B = List ℕ × ℕ} (λ (p : Param). (p.full, p.thorn))
-    (drop 33 (parameters (elem_ca ∷ [])))
+    (drop 34 (parameters (elem_ca ∷ [])))
     ≡ (codes "ca::rule", 0) ∷ (codes "ca::start", 0) ∷ (codes "ca::seed", 0) ∷ []
 row_parameters = refl
 
@@ -63,7 +63,7 @@ extending = thorn (codes "E") (codes "e") [] []
     (decl (scopes.Extends (codes "CA")) Int (codes "Rule") (from_to (pos 300) (pos 300) ∷ []) ∷ [])
 
 -- an extension adds ranges behind the declared ones
-row_extended : map (λ (p : Param). p.ranges) (drop 33 (parameters (extending ∷ elem_ca ∷ [])))
+row_extended : map (λ (p : Param). p.ranges) (drop 34 (parameters (extending ∷ elem_ca ∷ [])))
     ≡ (from_to (pos 0) (pos 255) ∷ from_to (pos 300) (pos 300) ∷ [])
     ∷ map (λ d. d.ranges) (drop 1 elem_ca.params)
 row_extended = refl

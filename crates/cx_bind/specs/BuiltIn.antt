@@ -31,7 +31,7 @@ starred_of_driver =
 
 abbrev pub starred_of_io : List (List ℕ)
 starred_of_io = codes "IO::out_dir" ∷ codes "IO::checkpoint_dir" ∷ codes "IO::recover_dir"
-    ∷ codes "IO::recover" ∷ []
+    ∷ codes "IO::recover" ∷ codes "IO::steer_file" ∷ []
 
 abbrev pub starred : List (List ℕ)
 starred = starred_of_driver ++ starred_of_io
@@ -160,6 +160,9 @@ recover_parameters n =
     ∷ flag_parameter n (codes "IO") (codes "checkpoint_ID") (codes "no")
     ∷ []
 
+abbrev pub steer_parameters : ℕ → List Param
+steer_parameters n = text_parameter n (codes "IO") (codes "steer_file") [] ∷ []
+
 abbrev pub driver_parameters : ℕ → List Param
 driver_parameters n =
     grid_parameters n
@@ -167,7 +170,9 @@ driver_parameters n =
     ++ (part_parameters n ++ (width_parameters n ++ turn_parameters n))))
 
 abbrev pub io_parameters : ℕ → List Param
-io_parameters n = output_parameters n ++ (checkpoint_parameters n ++ recover_parameters n)
+io_parameters n =
+    output_parameters n
+    ++ (checkpoint_parameters n ++ (recover_parameters n ++ steer_parameters n))
 
 -- all built-in parameters, for so many thorns
 abbrev pub table : ℕ → List Param

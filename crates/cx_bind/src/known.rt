@@ -166,6 +166,7 @@ fn is_starred_of_io(full: &[u8]) -> bool
         || same_name(full, b"IO::checkpoint_dir")
         || same_name(full, b"IO::recover_dir")
         || same_name(full, b"IO::recover")
+        || same_name(full, b"IO::steer_file")
 }
 
 /// Whether a parameter only says how and where a run is done.

@@ -3,7 +3,7 @@
 ghost use Rattle.std.specs.Prelude.{◌≡◌, ◌++◌, ◌∷◌, [], codes, IfOk, OnOk, None, Some};
 ghost use Rattle.cx_param.specs.declared.declarations.PType.TheVariants as ptypes;
 ghost use Rattle.cx_param.specs.declared.ranges.Range.TheVariants as kinds;
-ghost use Rattle.cx_bind.specs.BuiltIn.{from_to, parameter, int_parameter, unset_parameter, flag_parameter, text_parameter, terminate_parameter, cactus_parameters, grid_parameters, ghost_parameters, periodic_parameters, part_parameters, width_parameters, turn_parameters, output_parameters, checkpoint_parameters, recover_parameter, recover_parameters, driver_parameters, io_parameters, table};
+ghost use Rattle.cx_bind.specs.BuiltIn.{from_to, parameter, int_parameter, unset_parameter, flag_parameter, text_parameter, terminate_parameter, cactus_parameters, grid_parameters, ghost_parameters, periodic_parameters, part_parameters, width_parameters, turn_parameters, output_parameters, checkpoint_parameters, recover_parameter, recover_parameters, steer_parameters, driver_parameters, io_parameters, table};
 
 use crate::Param;
 use crate::copies::copy_ranges;
@@ -367,6 +367,17 @@ fn push_recover(alloc: Global, table: &mut List<Param>, n: u32) -> Result<(), Me
     Ok(())
 }
 
+/// Adds the name of the steer file.
+fn push_steer(alloc: Global, table: &mut List<Param>, n: u32) -> Result<(), Memory>
+    ensures { OnOk result (table.new ≡ table.old ++ steer_parameters n) }
+{
+    let owner = Owner {
+        number: n,
+        implementation: b"IO",
+    };
+    push_text(alloc, table, &owner, b"steer_file", b"")
+}
+
 /// Adds the parameters of the driver, in the order of their numbers.
 fn push_driver(alloc: Global, table: &mut List<Param>, n: u32) -> Result<(), Memory>
     ensures { OnOk result (table.new ≡ table.old ++ driver_parameters n) }
@@ -386,7 +397,9 @@ fn push_io(alloc: Global, table: &mut List<Param>, n: u32) -> Result<(), Memory>
 {
     push_output(alloc, table, n)?;
     push_checkpoint(alloc, table, n)?;
-    push_recover(alloc, table, n)
+    push_recover(alloc, table, n)?;
+    push_steer(alloc, table, n)?;
+    Ok(())
 }
 
 /// All built-in parameters, for so many thorns.

@@ -12,6 +12,8 @@ use Rattle.cx_plan.specs.declared.item.Touch.{Touch}
 use Rattle.cx_plan.specs.declared.item.Item.{Item}
 use Rattle.cx_sched.specs.declared.tree.ScheduleFile.{ScheduleFile}
 use Rattle.cx_bind.specs.declared.thorns.Thorn.{Thorn}
+use Rattle.cx_bind.specs.Parameters.{parameters}
+use Rattle.cx_values.specs.declared.steering.SteerStep.{SteerStep}
 use Rattle.cx_values.specs.declared.values.Values.{Values}
 use Rattle.cx_order.specs.Meanings.{World}
 use Rattle.cx_order.specs.declared.ordered.Ordered.{Ordered}
@@ -20,7 +22,7 @@ use Rattle.cx_order.specs.Ordering.{IsPlan}
 use Rattle.cx_rule.specs.declared.spec.Spec.{Spec}
 use Rattle.cx_rule.specs.declared.spec.Want.{Want}
 use Rattle.cx_rule.specs.Jobs.{of_touch, of_want, HasRoutine}
-use Rattle.cx_job.specs.Jobs.{job_of}
+use Rattle.cx_job.specs.Jobs.{job_of, steered_job}
 use Rattle.cx_job.specs.JobLimits.{run_count}
 use Rattle.cx_job.specs.Making.{Matches}
 use Rattle.cx_job_items.specs.Matching.{thorn_number, level_of, touch_by, touch_of, param_number, is_for, all_matched}
@@ -77,12 +79,14 @@ has_routine w v specs x y m =
 
 -- each item that is run was matched, and is one of the first
 pub fits : (thorns : List Thorn) (files : List ScheduleFile) (values : Values) (specs : List Spec)
-    (ordered : Ordered) (items : List Item) (out_vars : List VarId)
+    (steps : List SteerStep) (ordered : Ordered) (items : List Item) (out_vars : List VarId)
     → IsPlan (input_of thorns files values) ordered → Matches thorns values specs ordered (Ok items)
-    → All (IsRunWith specs (job_of thorns values ordered items out_vars))
-    (run_items (setup_of (job_of thorns values ordered items out_vars)))
-fits thorns files values specs ordered items out_vars planned matches i d within =
-    let setup : Setup = setup_of (job_of thorns values ordered items out_vars) in
+    → (let job = steered_job specs (parameters thorns) steps
+    (job_of thorns values ordered items out_vars) in
+    All (IsRunWith specs job) (run_items (setup_of job)))
+fits thorns files values specs steps ordered items out_vars planned matches i d within =
+    let setup : Setup = setup_of (steered_job specs (parameters thorns) steps
+    (job_of thorns values ordered items out_vars)) in
     let w : World = record { thorns = thorns; sight = matches.sight; storage = ordered.storage } in
     let k : ℕ = get_or (run_items setup) i d in
     let at = called_of_plan (input_of thorns files values) ordered planned setup refl i d within in

@@ -82,10 +82,13 @@ abbrev pub KeyNames : Job → Type 0
 KeyNames job = All (λ (v : VarInfo). 8 + length v.full ≤ length job.key) job.vars
 
 pub key_names : (job : Job) (shape : Shape) (thorns : List Thorn) (values : Values)
-    (plan_text : List ℕ) → job.key ≡ key shape thorns values job.vars plan_text → KeyNames job
-key_names job shape thorns values plan_text is k d within =
+    (plan_text rest : List ℕ) → job.key ≡ key shape thorns values job.vars plan_text ++ rest
+    → KeyNames job
+key_names job shape thorns values plan_text rest is k d within =
     subst (λ (text : List ℕ). 8 + length (get_or job.vars k d).full ≤ length text) (sym is)
-    (in_key shape thorns values job.vars plan_text k d within)
+    (at_front (key shape thorns values job.vars plan_text) rest
+    (8 + length (get_or job.vars k d).full)
+    (in_key shape thorns values job.vars plan_text k d within))
 
 shorter : (name : List ℕ) (full most : ℕ) → length name ≡ full + 4 → 8 + full ≤ most
     → most < 2 ^ 32 → length name < 2 ^ 32

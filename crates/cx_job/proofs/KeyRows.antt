@@ -14,7 +14,7 @@ use Rattle.cx_bind.specs.Parameters.{parameter_of}
 use Rattle.cx_bind.proofs.Samples.{decl, thorn, elem_ca}
 use Rattle.cx_values.specs.declared.values.Values.{Values}
 use Rattle.cx_values.specs.Assigned.{slot}
-use Rattle.cx_job.specs.Keys.{thorn_line, direction_line, direction_lines, variable_line, escaped, parameter_line, parameter_lines, lines_if_starred, lines_unless_starred, line_feed}
+use Rattle.cx_job.specs.Keys.{thorn_line, direction_line, direction_lines, variable_line, escaped, parameter_line, parameter_lines, lines_if_starred, lines_unless_starred, line_feed, step_lines}
 
 -- ---- thorns, directions and variables
 
@@ -136,3 +136,16 @@ row_not_starred = refl
 row_kept : lines_unless_starred both amount ≡ codes "parameter wave::amount = \"5\"" ++ line_feed
 unfolding digits
 row_kept = refl
+
+-- ---- steps
+
+-- a number, a keyword with its place, and an element of an array
+row_step : step_lines (amount ∷ pattern_ ∷ flags ∷ [])
+    (record { at = 2; param = 0; index = None; value = kinds.Number (pos 0) }
+    ∷ record { at = 10; param = 1; index = None; value = kinds.Text (codes "uniform") }
+    ∷ record { at = 10; param = 2; index = Some 1; value = kinds.Flag true } ∷ [])
+    ≡ codes "steer 2 wave::amount = \"0\"" ++ line_feed
+    ++ codes "steer 10 wave::pattern = \"uniform\" 1" ++ line_feed
+    ++ codes "steer 10 wave::flags[1] = \"yes\"" ++ line_feed
+unfolding digits
+row_step = refl

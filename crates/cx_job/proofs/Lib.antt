@@ -13,6 +13,7 @@ pub mod PlanFacts
 pub mod RunLaws
 pub mod MatchedLaws
 pub mod TouchLaws
+pub mod SteerLaws
 pub mod WholeJobs
 pub mod FitLaws
 pub mod KeyNameLaws

@@ -1,6 +1,6 @@
 -- The stages from thorns to a job, one behind another.
 use Rattle.std.proofs.Common.{◌≡◌, ◌≢◌, ◌∙◌, sym, ap, subst, refl, ◌⊎◌, inl, inr, ℕ, Bool, true, false, List, [], ◌∷◌, Option, Some, None, Result, Ok, Err, nat_lt, take, codes, ◌^◌, if◌then◌else◌, arith}
-use Rattle.std.specs.Prelude.{option_map, slice_get}
+use Rattle.std.specs.Prelude.{option_map, slice_get, ◌≤◌, ◌+◌, ◌-◌, min}
 use Rattle.cx_plan.specs.Lists.{or_else, first_of_each}
 use Rattle.cx_plan.specs.declared.item.Item.{Item}
 use Rattle.cx_plan.specs.declared.job.Job.{Job}
@@ -13,12 +13,16 @@ use Rattle.cx_bind.specs.declared.thorns.Thorn.{Thorn}
 use Rattle.cx_values.specs.Faults.{assign_fault}
 use Rattle.cx_values.specs.Assigned.{assigned}
 use Rattle.cx_values.specs.declared.fault.ValueFault.{ValueFault}
+use Rattle.cx_bind.specs.Parameters.{parameters}
+use Rattle.cx_parfile.specs.declared.steer.SteerLine.{SteerLine}
+use Rattle.cx_values.specs.Steering.{steer_fault, steps}
+use Rattle.cx_values.specs.declared.steering.SteerStep.{SteerStep}
 use Rattle.cx_values.specs.declared.values.Values.{Values}
 use Rattle.cx_order.specs.Files.{Input, input_of}
 use Rattle.cx_order.specs.declared.ordered.Ordered.{Ordered}
 use Rattle.cx_order.specs.declared.fault.OrderFault.TheVariants as orders
 use Rattle.cx_rule.specs.declared.spec.Spec.{Spec}
-use Rattle.cx_disk.specs.Cause.{HasCause}
+use Rattle.cx_disk.specs.Cause.{Rose, HasCause}
 use Rattle.cx_job.specs.declared.fault.JobFault.{JobFault}
 use Rattle.cx_job.specs.declared.fault.JobFault.TheVariants as faults
 use Rattle.cx_job_files.specs.declared.configuring.Configured.{Configured}
@@ -27,31 +31,32 @@ use Rattle.cx_cut.specs.Faults.{parts_of, cut_fault}
 use Rattle.cx_cut.specs.declared.faults.CutFault.{CutFault}
 use Rattle.cx_job.specs.LocalCells.{local_cells, items_run}
 use Rattle.cx_job.specs.Caps.{greatest_part, too_large, cap_fault, caps_fault}
-use Rattle.cx_job.specs.Jobs.{job_of}
+use Rattle.cx_job.specs.Jobs.{job_of, steered_job}
 use Rattle.cx_job.specs.Outputs.{output_variables}
 use Rattle.cx_job.specs.JobLimits.{over, writes_fault, reads_fault, parameters_fault, each_limit, item_limits, points_fault, cells_fault, grid_limits, key_limit, limit_fault, run_count}
 use Rattle.cx_job_files.specs.declared.fault.ConfigFault.{ConfigFault}
 use Rattle.cx_job_files.specs.declared.fault.ConfigFault.TheVariants as configs
-use Rattle.cx_job_files.specs.Reading.{Follows}
+use Rattle.cx_job_files.specs.Reading.{Follows, SaysSteers}
+use Rattle.cx_job_values.specs.RunNumbers.{steer_file}
 use Rattle.cx_job_files.proofs.Settled.{same_fault}
 use Rattle.cx_job_items.specs.declared.fault.MatchFault.{MatchFault}
 use Rattle.cx_job_items.specs.declared.fault.MatchFault.TheVariants as matches
 use Rattle.cx_job.specs.Faults.{config_fault, match_fault}
 use Rattle.cx_text.specs.Telling.{Stage, Then, Tells}
-use Rattle.cx_job_files.specs.Stages.{Is, unless, or_fault}
+use Rattle.cx_job_files.specs.Stages.{Is, unless, or_fault, Raised}
 use Rattle.cx_job_files.specs.Configuring.{Configures}
-use Rattle.cx_job.specs.Making.{Orders, Matches, Accepts, CutAnd, part_limits, cut_limits, within_cut, LimitsAnd, ItemsAnd, OutputsAnd, PlanAnd, ValuesAnd, MadeOf, Made, Makes, Yields, output_ids, within_limits}
+use Rattle.cx_job.specs.Making.{Orders, Matches, Accepts, CutAnd, part_limits, cut_limits, within_cut, LimitsAnd, ItemsAnd, OutputsAnd, PlanAnd, steered_steps, StepsAnd, SteersAnd, bound_thorns, assigned_values, MadeOf, Made, Reaches, Makes, Yields, output_ids, key_within, within_limits}
 use Rattle.cx_job.proofs.OnlyJob.{Comes, only_job, only_fault}
 use Rattle.cx_text.specs.Numbers.{in_64_bits}
 
 abbrev err : (A : Type 0) → JobFault → Result A JobFault
 err A e = Err e
 
-abbrev okay : Configured → Result Configured ConfigFault
-okay c = Ok c
+abbrev okay : (A : Type 0) → A → Result A ConfigFault
+okay A x = Ok x
 
-abbrev unread : ConfigFault → Result Configured ConfigFault
-unread e = Err e
+abbrev unread : (A : Type 0) → ConfigFault → Result A ConfigFault
+unread A e = Err e
 
 -- ---- two stages
 
@@ -112,6 +117,10 @@ bind_not (Some e) z = absurd cc
 value_not : (o : Option ValueFault) → NotShelf (option_map faults.Value o)
 value_not None z = absurd cc
 value_not (Some e) z = absurd cc
+
+steer_not : (name : List ℕ) (o : Option ValueFault) → NotShelf (option_map (faults.Steer name) o)
+steer_not name None z = absurd cc
+steer_not name (Some e) z = absurd cc
 
 or_fault_not : {A F : Type 0} (as_job : F → JobFault) (r : Result A F)
     → ((f : F) → as_job f ≢ faults.Shelf) → err A faults.Shelf ≡ or_fault as_job r → ⊥
@@ -207,88 +216,206 @@ module _ (specs : List Spec) where
       → Matches thorns values specs ordered (err (List Item) faults.Shelf) → ⊥
   items_not thorns values ordered m = or_fault_not match_fault _ match_not m.items
 
-  items_and_not : (thorns : List Thorn) (values : Values) (ordered : Ordered)
-      (out_vars : List VarId) → ItemsAnd specs thorns values ordered out_vars (err Job faults.Shelf)
-      → ⊥
-  items_and_not thorns values ordered out_vars =
+  items_and_not : (ss : List SteerStep) (thorns : List Thorn) (values : Values) (ordered : Ordered)
+      (out_vars : List VarId)
+      → ItemsAnd specs ss thorns values ordered out_vars (err Job faults.Shelf) → ⊥
+  items_and_not ss thorns values ordered out_vars =
       then_not (Matches thorns values specs ordered)
       (λ items. LimitsAnd specs (run_count ordered.plan)
-      (job_of thorns values ordered items out_vars)) (items_not thorns values ordered)
+      (steered_job specs (parameters thorns) ss (job_of thorns values ordered items out_vars)))
+      (items_not thorns values ordered)
       (λ items. limits_and_not specs (run_count ordered.plan)
-      (job_of thorns values ordered items out_vars))
+      (steered_job specs (parameters thorns) ss (job_of thorns values ordered items out_vars)))
 
-  outputs_not : (thorns : List Thorn) (values : Values) (ordered : Ordered)
-      → OutputsAnd specs thorns values ordered (err Job faults.Shelf) → ⊥
-  outputs_not thorns values ordered =
+  outputs_not : (ss : List SteerStep) (thorns : List Thorn) (values : Values) (ordered : Ordered)
+      → OutputsAnd specs ss thorns values ordered (err Job faults.Shelf) → ⊥
+  outputs_not ss thorns values ordered =
       then_not (Is (output_ids thorns values ordered.storage))
-      (ItemsAnd specs thorns values ordered)
+      (ItemsAnd specs ss thorns values ordered)
       (or_fault_not (λ f. faults.Order (orders.Scope (codes "output") f))
       (output_variables thorns values ordered.storage) (λ f z. absurd cc))
-      (items_and_not thorns values ordered)
+      (items_and_not ss thorns values ordered)
 
   order_not : (input : Input) → Orders input (err Ordered faults.Shelf) → ⊥
   order_not input (fault, is, other, told) = absurd cc
 
-  plan_not : (thorns : List Thorn) (schedules : List ScheduleFile) (values : Values)
-      → PlanAnd specs thorns schedules values (err Job faults.Shelf) → ⊥
-  plan_not thorns schedules values =
-      then_not (Orders (input_of thorns schedules values)) (OutputsAnd specs thorns values)
-      (order_not (input_of thorns schedules values)) (outputs_not thorns values)
+  plan_not : (schedules : List ScheduleFile) (thorns : List Thorn) (values : Values)
+      (ss : List SteerStep) → PlanAnd specs schedules thorns values ss (err Job faults.Shelf) → ⊥
+  plan_not schedules thorns values ss =
+      then_not (Orders (input_of thorns schedules values)) (OutputsAnd specs ss thorns values)
+      (order_not (input_of thorns schedules values)) (outputs_not ss thorns values)
 
-  values_not : (schedules : List ScheduleFile) (settings : List Setting) (thorns : List Thorn)
-      → ValuesAnd specs schedules settings thorns (err Job faults.Shelf) → ⊥
-  values_not schedules settings thorns =
-      then_not
-      (Is (unless (option_map faults.Value (assign_fault thorns settings))
-      (assigned thorns settings))) (PlanAnd specs thorns schedules)
-      (unless_not (option_map faults.Value (assign_fault thorns settings))
-      (assigned thorns settings) (value_not (assign_fault thorns settings)))
-      (plan_not thorns schedules)
+  steps_not : (schedules : List ScheduleFile) (thorns : List Thorn) (values : Values)
+      (lines : List SteerLine) → StepsAnd specs schedules thorns values lines (err Job faults.Shelf)
+      → ⊥
+  steps_not schedules thorns values lines =
+      then_not (Is (steered_steps (steer_file values) thorns values lines))
+      (PlanAnd specs schedules thorns values)
+      (unless_not (option_map (faults.Steer (steer_file values)) (steer_fault thorns values lines))
+      (steps thorns lines) (steer_not (steer_file values) (steer_fault thorns values lines)))
+      (plan_not schedules thorns values)
 
-  made_not : (c : Configured) → MadeOf specs c (err Job faults.Shelf) → ⊥
-  made_not c =
-      then_not (Is (unless (option_map faults.Bind (bind_fault c.thorns)) c.thorns))
-      (ValuesAnd specs c.schedules c.settings.list)
-      (unless_not (option_map faults.Bind (bind_fault c.thorns)) c.thorns
-      (bind_not (bind_fault c.thorns))) (values_not c.schedules c.settings.list)
+  steps_yield_not : (schedules : List ScheduleFile) (thorns : List Thorn) (values : Values)
+      (lines : List SteerLine) (r : Result Job JobFault)
+      → Yields (StepsAnd specs schedules thorns values lines) r → r ≢ err Job faults.Shelf
+  steps_yield_not schedules thorns values lines r (inl m) z = absurd cc
+  steps_yield_not schedules thorns values lines r (inr s) z =
+      steps_not schedules thorns values lines
+      (subst (λ (v : Result Job JobFault). StepsAnd specs schedules thorns values lines v) z s)
 
-  pub yields_not : (c : Configured) (r : Result Job JobFault) → Yields (MadeOf specs c) r
-      → r ≢ err Job faults.Shelf
-  yields_not c r (inl m) z = absurd cc
-  yields_not c r (inr s) z = made_not c (subst (λ (v : Result Job JobFault). MadeOf specs c v) z s)
+-- ---- over a shelf
 
-  -- ---- over a shelf
+-- only a failure of the shelf is told as one
+shelf_only : (e : ConfigFault) → config_fault e ≡ faults.Shelf → e ≡ configs.Shelf
+shelf_only configs.Shelf z = refl
+shelf_only (configs.NoFile name) z = absurd cc
+shelf_only (configs.Text name fault) z = absurd cc
+shelf_only (configs.Ccl name fault) z = absurd cc
+shelf_only (configs.Bind fault) z = absurd cc
+shelf_only configs.Memory z = absurd cc
 
-  -- only a failure of the shelf is told as one
-  shelf_only : (e : ConfigFault) → config_fault e ≡ faults.Shelf → e ≡ configs.Shelf
-  shelf_only configs.Shelf z = refl
-  shelf_only (configs.NoFile name) z = absurd cc
-  shelf_only (configs.Text name fault) z = absurd cc
-  shelf_only (configs.Ccl name fault) z = absurd cc
-  shelf_only (configs.Bind fault) z = absurd cc
-  shelf_only configs.Memory z = absurd cc
+since : {A : Type 0} (before now : ℕ) (x : A) (r : Result Job JobFault)
+    → HasCause configs.Shelf before now (okay A x) → r ≢ err Job faults.Shelf
+    → HasCause faults.Shelf before now r
+since before now x (Ok v) cause other = record { later = cause.later; failed = λ z. absurd cc }
+since before now x (Err e) cause other =
+    record { later = cause.later; failed = λ z. absurd (other z) }
 
-  since : (before now : ℕ) (c : Configured) (r : Result Job JobFault)
-      → HasCause configs.Shelf before now (okay c) → r ≢ err Job faults.Shelf
-      → HasCause faults.Shelf before now r
-  since before now c (Ok v) cause other = record { later = cause.later; failed = λ z. absurd cc }
-  since before now c (Err e) cause other =
-      record { later = cause.later; failed = λ z. absurd (other z) }
+raised_cause : (A : Type 0) (before now : ℕ) (e : ConfigFault)
+    → HasCause configs.Shelf before now (unread A e)
+    → HasCause faults.Shelf before now (err Job (config_fault e))
+raised_cause A before now e cause = record {
+  later = cause.later;
+  failed = λ z. cause.failed
+      (ap (unread A) (shelf_only e (same_fault Job (config_fault e) faults.Shelf z)));
+}
 
-  made_answers : (name : List ℕ) (files : Held) (c : Configured) (r : Result Job JobFault)
-      → (okay c ≡ unread configs.Memory) ⊎ (okay c ≡ unread configs.Shelf)
-      ⊎ Configures name files (Ok c) → Yields (MadeOf specs c) r
-      → (r ≡ err Job faults.Memory) ⊎ (r ≡ err Job faults.Shelf) ⊎ Made name specs files r
-  made_answers name files c r (inl m) b = absurd cc
-  made_answers name files c r (inr (inl m)) b = absurd cc
-  made_answers name files c r (inr (inr s)) (inl m) = inl m
-  made_answers name files c r (inr (inr s)) (inr t) = inr (inr (inr (c, s, t)))
+-- an answer is what a stage comes to, but for want of memory and failures of the shelf
+abbrev Meets : Stage Job JobFault → Result Job JobFault → Type 0
+Meets stage r = (r ≡ err Job faults.Memory) ⊎ (r ≡ err Job faults.Shelf) ⊎ stage r
 
+-- where the files were read
+passed : {A : Type 0} (p : Stage A ConfigFault) (q : A → Stage Job JobFault) (x : A)
+    (r : Result Job JobFault)
+    → (okay A x ≡ unread A configs.Memory) ⊎ (okay A x ≡ unread A configs.Shelf) ⊎ p (Ok x)
+    → Meets (q x) r → Meets (Then (Raised config_fault p) q) r
+passed p q x r (inl m) b = absurd cc
+passed p q x r (inr (inl m)) b = absurd cc
+passed p q x r (inr (inr s)) (inl m) = inl m
+passed p q x r (inr (inr s)) (inr (inl m)) = inr (inl m)
+passed p q x r (inr (inr s)) (inr (inr t)) = inr (inr (inr (x, s, t)))
+
+-- where they weren't
+halted : {A : Type 0} (p : Stage A ConfigFault) (q : A → Stage Job JobFault) (e : ConfigFault)
+    → (unread A e ≡ unread A configs.Memory) ⊎ (unread A e ≡ unread A configs.Shelf) ⊎ p (Err e)
+    → Meets (Then (Raised config_fault p) q) (err Job (config_fault e))
+halted {A} p q e (inl m) =
+    inl (ap (λ (f : ConfigFault). err Job (config_fault f)) (same_fault A e configs.Memory m))
+halted {A} p q e (inr (inl m)) =
+    inr (inl (ap (λ (f : ConfigFault). err Job (config_fault f)) (same_fault A e configs.Shelf m)))
+halted p q e (inr (inr s)) = inr (inr (inl (config_fault e, (e, refl, s), refl)))
+
+-- before a file is read
+pub reaches_memory : (tells : Type 0) (stage : Held → Stage Job JobFault) (h : Held) (f : ℕ)
+    → Reaches tells stage h h f f (err Job faults.Memory)
+reaches_memory tells stage h f = record {
+  answers = λ t. inl refl;
+  same = λ t. refl;
+  cause = record { later = omega arith; failed = λ z. absurd cc };
+}
+
+-- a stage without files, and then one with them
+module _ {A : Type 0} (p : Stage A JobFault) (q : Held → A → Stage Job JobFault) (tells : Type 0)
+  where
+    pub reaches_halt : (h : Held) (f : ℕ) (e : JobFault) → Yields p (err A e)
+        → (p (err A faults.Shelf) → ⊥)
+        → Reaches tells (λ files. Then p (q files)) h h f f (err Job e)
+    reaches_halt h f e (inl m) other =
+        subst (λ e. Reaches tells (λ files. Then p (q files)) h h f f (err Job e))
+        (sym (same_fault A e faults.Memory m))
+        (reaches_memory tells (λ files. Then p (q files)) h f)
+    reaches_halt h f e (inr s) other = record {
+      answers = λ t. inr (inr (inl (e, s, refl)));
+      same = λ t. refl;
+      cause = record {
+        later = omega arith;
+        failed = λ z. absurd (other (subst (λ e. p (err A e)) (same_fault Job e faults.Shelf z) s));
+      };
+    }
+
+    behind : (files : Held) (x : A) (r : Result Job JobFault) → p (Ok x) → Meets (q files x) r
+        → Meets (Then p (q files)) r
+    behind files x r s (inl m) = inl m
+    behind files x r s (inr (inl m)) = inr (inl m)
+    behind files x r s (inr (inr t)) = inr (inr (inr (x, s, t)))
+
+    pub reaches_pass : (h0 h1 : Held) (f0 f1 : ℕ) (x : A) (r : Result Job JobFault)
+        → Yields p (Ok x) → Reaches tells (λ files. q files x) h0 h1 f0 f1 r
+        → Reaches tells (λ files. Then p (q files)) h0 h1 f0 f1 r
+    reaches_pass h0 h1 f0 f1 x r (inl m) reached = absurd cc
+    reaches_pass h0 h1 f0 f1 x r (inr s) reached = record {
+      answers = λ t. behind h0 x r s (reached.answers t);
+      same = reached.same;
+      cause = reached.cause;
+    }
+
+-- the steer file, and what follows it
+module _ (specs : List Spec) (schedules : List ScheduleFile) (thorns : List Thorn) (values : Values)
+    (tells : Type 0) (h0 h1 : Held) (f0 f1 : ℕ) where
+  abbrev steers_stage : Held → Stage Job JobFault
+  steers_stage files = SteersAnd specs files schedules thorns values
+
+  met : (r : Result Job JobFault) (stage : Stage Job JobFault) → Yields stage r → Meets stage r
+  met r stage (inl m) = inl m
+  met r stage (inr s) = inr (inr s)
+
+  pub steers_halt : (e : ConfigFault)
+      → Follows tells (SaysSteers (steer_file values)) h0 h1 f0 f1 (Err e)
+      → Reaches tells steers_stage h0 h1 f0 f1 (err Job (config_fault e))
+  steers_halt e followed = record {
+    answers = λ t. halted (SaysSteers (steer_file values) h0)
+        (StepsAnd specs schedules thorns values) e (followed.answers t);
+    same = followed.same;
+    cause = raised_cause (List SteerLine) f0 f1 e followed.cause;
+  }
+
+  pub steers_pass : (lines : List SteerLine) (r : Result Job JobFault)
+      → Follows tells (SaysSteers (steer_file values)) h0 h1 f0 f1 (Ok lines)
+      → Yields (StepsAnd specs schedules thorns values lines) r
+      → Reaches tells steers_stage h0 h1 f0 f1 r
+  steers_pass lines r followed yielded = record {
+    answers = λ t. passed (SaysSteers (steer_file values) h0)
+        (StepsAnd specs schedules thorns values) lines r (followed.answers t)
+        (met r (StepsAnd specs schedules thorns values lines) yielded);
+    same = followed.same;
+    cause = since f0 f1 lines r followed.cause
+        (steps_yield_not specs schedules thorns values lines r yielded);
+  }
+
+-- from a configuration on
+pub bound_not : (thorns : List Thorn) → Is (bound_thorns thorns) (err (List Thorn) faults.Shelf) → ⊥
+bound_not thorns = unless_not (option_map faults.Bind (bind_fault thorns)) thorns
+    (bind_not (bind_fault thorns))
+
+pub values_not : (thorns : List Thorn) (settings : List Setting)
+    → Is (assigned_values thorns settings) (err Values faults.Shelf) → ⊥
+values_not thorns settings =
+    unless_not (option_map faults.Value (assign_fault thorns settings)) (assigned thorns settings)
+    (value_not (assign_fault thorns settings))
+
+less_min : (a b c most : ℕ) → a ≤ b → min (b + 1) most ≤ c → min (a + 1) most ≤ c
+less_min a b c most first rose = omega (arith, first, rose)
+
+rose_more : (a b c : ℕ) → a ≤ b → Rose b c → Rose a c
+rose_more a b c first rose = less_min a b c (2 ^ 64 - 1) first rose
+
+-- all files
+module _ (specs : List Spec) (tells : Type 0) (name : List ℕ) where
   -- what the files make is one
-  makes_of : (tells : Type 0) (name : List ℕ) (h0 h1 : Held) (f0 f1 : ℕ) (r : Result Job JobFault)
+  makes_of : (h0 h1 : Held) (f0 f1 : ℕ) (r : Result Job JobFault)
       → (tells → Comes h0 name specs r) → (tells → h1 ≡ h0) → HasCause faults.Shelf f0 f1 r
       → Makes tells (Made name specs) h0 h1 f0 f1 r
-  makes_of tells name h0 h1 f0 f1 r answers same cause = record {
+  makes_of h0 h1 f0 f1 r answers same cause = record {
     answers = answers;
     only = λ t. only_job h0 name specs r (answers t);
     faulty = λ t. only_fault h0 name specs r (answers t);
@@ -296,52 +423,54 @@ module _ (specs : List Spec) where
     cause = cause;
   }
 
-  pub makes_pass : (tells : Type 0) (name : List ℕ) (h0 h1 : Held) (f0 f1 : ℕ) (c : Configured)
-      (r : Result Job JobFault) → Follows tells (Configures name) h0 h1 f0 f1 (Ok c)
-      → Yields (MadeOf specs c) r → Makes tells (Made name specs) h0 h1 f0 f1 r
-  makes_pass tells name h0 h1 f0 f1 c r a b =
-      makes_of tells name h0 h1 f0 f1 r (λ t. made_answers name h0 c r (a.answers t) b) a.same
-      (since f0 f1 c r a.cause (yields_not c r b))
+  pub makes_pass : (h0 h1 h2 : Held) (f0 f1 f2 : ℕ) (c : Configured) (r : Result Job JobFault)
+      → Follows tells (Configures name) h0 h1 f0 f1 (Ok c)
+      → Reaches tells (λ files. MadeOf specs files c) h1 h2 f1 f2 r
+      → Makes tells (Made name specs) h0 h2 f0 f2 r
+  makes_pass h0 h1 h2 f0 f1 f2 c r a b =
+      makes_of h0 h2 f0 f2 r
+      (λ t. passed (Configures name h0) (MadeOf specs h0) c r (a.answers t)
+      (subst (λ files. Meets (MadeOf specs files c) r) (a.same t) (b.answers t)))
+      (λ t. b.same t ∙ a.same t)
+      (record {
+        later = at_last f0 f1 f2 a.cause.later b.cause.later;
+        failed = λ z. rose_more f0 f1 f2 a.cause.later (b.cause.failed z);
+      })
+    where
+      at_last : (a b c : ℕ) → a ≤ b → b ≤ c → a ≤ c
+      at_last a b c first second = omega (arith, first, second)
 
-  halt_answers : (name : List ℕ) (files : Held) (e : ConfigFault)
-      → (unread e ≡ unread configs.Memory) ⊎ (unread e ≡ unread configs.Shelf)
-      ⊎ Configures name files (Err e) → Comes files name specs (err Job (config_fault e))
-  halt_answers name files e (inl m) =
-      inl (ap (λ (f : ConfigFault). err Job (config_fault f))
-      (same_fault Configured e configs.Memory m))
-  halt_answers name files e (inr (inl m)) =
-      inr (inl (ap (λ (f : ConfigFault). err Job (config_fault f))
-      (same_fault Configured e configs.Shelf m)))
-  halt_answers name files e (inr (inr s)) = inr (inr (inl (config_fault e, (e, refl, s), refl)))
-
-  pub makes_halt : (tells : Type 0) (name : List ℕ) (h0 h1 : Held) (f0 f1 : ℕ) (e : ConfigFault)
+  pub makes_halt : (h0 h1 : Held) (f0 f1 : ℕ) (e : ConfigFault)
       → Follows tells (Configures name) h0 h1 f0 f1 (Err e)
       → Makes tells (Made name specs) h0 h1 f0 f1 (err Job (config_fault e))
-  makes_halt tells name h0 h1 f0 f1 e a =
-      makes_of tells name h0 h1 f0 f1 (err Job (config_fault e))
-      (λ t. halt_answers name h0 e (a.answers t)) a.same
-      (record {
-        later = a.cause.later;
-        failed = λ z. a.cause.failed
-            (ap unread (shelf_only e (same_fault Job (config_fault e) faults.Shelf z)));
-      })
+  makes_halt h0 h1 f0 f1 e a =
+      makes_of h0 h1 f0 f1 (err Job (config_fault e))
+      (λ t. halted (Configures name h0) (MadeOf specs h0) e (a.answers t)) a.same
+      (raised_cause Configured f0 f1 e a.cause)
 
-  pub makes_memory : (tells : Type 0) (name : List ℕ) (h : Held) (f : ℕ)
+  pub makes_memory : (h : Held) (f : ℕ)
       → Makes tells (Made name specs) h h f f (err Job faults.Memory)
-  makes_memory tells name h f =
-      makes_of tells name h h f f (err Job faults.Memory) (λ t. inl refl) (λ t. refl)
+  makes_memory h f =
+      makes_of h h f f (err Job faults.Memory) (λ t. inl refl) (λ t. refl)
       (record { later = omega arith; failed = λ z. absurd cc })
 
 -- ---- the limits, one after another
 
-pub key_over : (run : ℕ) (job : Job) (e : JobFault) → item_limits run job.items ≡ None
-    → grid_limits job.shape job.vars ≡ None → (e ≡ faults.Memory) ⊎ (key_limit job.key ≡ Some e)
-    → Yields (Is (within_limits run job)) (err Job e)
-key_over run job e items grid (inl m) = inl (ap (err Job) m)
-key_over run job e items grid (inr key) =
+-- the limits before the key's, and then the key's
+pub key_told : (run : ℕ) (job : Job) (r : Result Job JobFault) → item_limits run job.items ≡ None
+    → grid_limits job.shape job.vars ≡ None → Yields (Is (key_within job)) r
+    → Yields (Is (within_limits run job)) r
+key_told run job r items grid (inl m) = inl m
+key_told run job r items grid (inr is) =
     inr
-    (sym
-    (ap (λ (o : Option JobFault).
+    (is
+    ∙ sym (ap (λ (o : Option JobFault).
     unless (or_else o (or_else (grid_limits job.shape job.vars) (key_limit job.key))) job) items
-    ∙ ap (λ (o : Option JobFault). unless (or_else o (key_limit job.key)) job) grid
-    ∙ ap (λ (o : Option JobFault). unless o job) key))
+    ∙ ap (λ (o : Option JobFault). unless (or_else o (key_limit job.key)) job) grid))
+
+-- a job whose key is too long
+pub key_fault_told : (job : Job) (e : JobFault) → (e ≡ faults.Memory) ⊎ (key_limit job.key ≡ Some e)
+    → Yields (Is (key_within job)) (err Job e)
+key_fault_told job e (inl m) = inl (ap (err Job) m)
+key_fault_told job e (inr key) =
+    inr (sym (ap (λ (o : Option JobFault). unless o job) key))

@@ -18,9 +18,10 @@ module _ (files : Held) where
   job_settled : (name : List ℕ) (specs : List Spec)
       → Settled without_witness (Made name specs files)
   job_settled name specs =
-      then_settled without_witness (Raised config_fault (Configures name files)) (MadeOf specs)
+      then_settled without_witness (Raised config_fault (Configures name files))
+      (MadeOf specs files)
       (raised_settled without_witness config_fault (Configures name files)
-      (configures_settled files name)) (made_settled specs)
+      (configures_settled files name)) (made_settled specs files)
 
   -- ---- answers
 

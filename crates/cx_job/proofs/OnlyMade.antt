@@ -13,6 +13,9 @@ use Rattle.cx_bind.specs.Binding.{bind_fault}
 use Rattle.cx_bind.specs.declared.thorns.Thorn.{Thorn}
 use Rattle.cx_values.specs.Assigned.{assigned}
 use Rattle.cx_values.specs.Faults.{assign_fault}
+use Rattle.cx_bind.specs.Parameters.{parameters}
+use Rattle.cx_parfile.specs.declared.steer.SteerLine.{SteerLine}
+use Rattle.cx_values.specs.declared.steering.SteerStep.{SteerStep}
 use Rattle.cx_values.specs.declared.values.Values.{Values}
 use Rattle.cx_order.specs.Files.{Input, input_of}
 use Rattle.cx_order.specs.declared.ordered.Ordered.{Ordered}
@@ -26,13 +29,17 @@ use Rattle.cx_rule.specs.declared.spec.Spec.{Spec}
 use Rattle.cx_job.specs.declared.fault.JobFault.{JobFault}
 use Rattle.cx_job.specs.declared.fault.JobFault.TheVariants as faults
 use Rattle.cx_job_files.specs.declared.configuring.Configured.{Configured}
-use Rattle.cx_job.specs.Faults.{match_fault}
-use Rattle.cx_job.specs.Jobs.{job_of}
+use Rattle.cx_job.specs.Faults.{config_fault, match_fault}
+use Rattle.cx_job.specs.Jobs.{job_of, steered_job}
 use Rattle.cx_job_items.proofs.OnlyMatched.{all-same}
-use Rattle.cx_job_files.specs.Stages.{Is, unless, or_fault}
-use Rattle.cx_job_files.proofs.Settled.{Settled, same_fault, settled_is, then_settled}
+use Rattle.cx_job_files.specs.Reading.{SaysSteers}
+use Rattle.cx_job_files.specs.Shelf.{Held}
+use Rattle.cx_job_files.specs.Stages.{Is, unless, or_fault, Raised}
+use Rattle.cx_job_files.proofs.OnlyFiles.{steers_settled}
+use Rattle.cx_job_values.specs.RunNumbers.{steer_file}
+use Rattle.cx_job_files.proofs.Settled.{Settled, same_fault, settled_is, then_settled, raised_settled}
 use Rattle.cx_job.specs.JobLimits.{run_count}
-use Rattle.cx_job.specs.Making.{Orders, Matches, Accepts, CutAnd, within_cut, LimitsAnd, ItemsAnd, OutputsAnd, PlanAnd, ValuesAnd, MadeOf, output_ids, within_limits, without_witness}
+use Rattle.cx_job.specs.Making.{Orders, Matches, Accepts, CutAnd, within_cut, LimitsAnd, ItemsAnd, OutputsAnd, PlanAnd, steered_steps, StepsAnd, SteersAnd, ValuesAnd, MadeOf, output_ids, within_limits, without_witness}
 
 matches_same : (thorns : List Thorn) (values : Values) (specs : List Spec) (ordered : Ordered)
     (r s : Result (List Item) JobFault) → Matches thorns values specs ordered r
@@ -99,44 +106,67 @@ limits_settled specs run job =
     (settled_is without_witness (within_limits run job)) (cut_settled specs)
 
 module _ (specs : List Spec) where
-  items_settled : (thorns : List Thorn) (values : Values) (ordered : Ordered)
-      (out_vars : List VarId)
-      → Settled without_witness (ItemsAnd specs thorns values ordered out_vars)
-  items_settled thorns values ordered out_vars =
+  items_settled : (steps : List SteerStep) (thorns : List Thorn) (values : Values)
+      (ordered : Ordered) (out_vars : List VarId)
+      → Settled without_witness (ItemsAnd specs steps thorns values ordered out_vars)
+  items_settled steps thorns values ordered out_vars =
       then_settled without_witness (Matches thorns values specs ordered)
       (λ items. LimitsAnd specs (run_count ordered.plan)
-      (job_of thorns values ordered items out_vars))
+      (steered_job specs (parameters thorns) steps
+      (job_of thorns values ordered items out_vars)))
       (matches_settled thorns values specs ordered)
       (λ items. limits_settled specs (run_count ordered.plan)
-      (job_of thorns values ordered items out_vars))
+      (steered_job specs (parameters thorns) steps
+      (job_of thorns values ordered items out_vars)))
 
-  outputs_settled : (thorns : List Thorn) (values : Values) (ordered : Ordered)
-      → Settled without_witness (OutputsAnd specs thorns values ordered)
-  outputs_settled thorns values ordered =
+  outputs_settled : (steps : List SteerStep) (thorns : List Thorn) (values : Values)
+      (ordered : Ordered)
+      → Settled without_witness (OutputsAnd specs steps thorns values ordered)
+  outputs_settled steps thorns values ordered =
       then_settled without_witness (Is (output_ids thorns values ordered.storage))
-      (ItemsAnd specs thorns values ordered)
+      (ItemsAnd specs steps thorns values ordered)
       (settled_is without_witness (output_ids thorns values ordered.storage))
-      (items_settled thorns values ordered)
+      (items_settled steps thorns values ordered)
 
-  plan_settled : (thorns : List Thorn) (schedules : List ScheduleFile) (values : Values)
-      → Settled without_witness (PlanAnd specs thorns schedules values)
-  plan_settled thorns schedules values =
+  plan_settled : (schedules : List ScheduleFile) (thorns : List Thorn) (values : Values)
+      (steps : List SteerStep)
+      → Settled without_witness (PlanAnd specs schedules thorns values steps)
+  plan_settled schedules thorns values steps =
       then_settled without_witness (Orders (input_of thorns schedules values))
-      (OutputsAnd specs thorns values) (orders_settled (input_of thorns schedules values))
-      (outputs_settled thorns values)
+      (OutputsAnd specs steps thorns values) (orders_settled (input_of thorns schedules values))
+      (outputs_settled steps thorns values)
 
-  values_settled : (schedules : List ScheduleFile) (settings : List Setting) (thorns : List Thorn)
-      → Settled without_witness (ValuesAnd specs schedules settings thorns)
-  values_settled schedules settings thorns =
+  steps_settled : (schedules : List ScheduleFile) (thorns : List Thorn) (values : Values)
+      (lines : List SteerLine)
+      → Settled without_witness (StepsAnd specs schedules thorns values lines)
+  steps_settled schedules thorns values lines =
+      let told : Result (List SteerStep) JobFault =
+      steered_steps (steer_file values) thorns values lines in
+      then_settled without_witness (Is told) (PlanAnd specs schedules thorns values)
+      (settled_is without_witness told) (plan_settled schedules thorns values)
+
+  steers_and_settled : (files : Held) (schedules : List ScheduleFile) (thorns : List Thorn)
+      (values : Values) → Settled without_witness (SteersAnd specs files schedules thorns values)
+  steers_and_settled files schedules thorns values =
+      then_settled without_witness (Raised config_fault (SaysSteers (steer_file values) files))
+      (StepsAnd specs schedules thorns values)
+      (raised_settled without_witness config_fault (SaysSteers (steer_file values) files)
+      (steers_settled files (steer_file values))) (steps_settled schedules thorns values)
+
+  values_settled : (files : Held) (schedules : List ScheduleFile) (settings : List Setting)
+      (thorns : List Thorn)
+      → Settled without_witness (ValuesAnd specs files schedules settings thorns)
+  values_settled files schedules settings thorns =
       let told : Result Values JobFault =
       unless (option_map faults.Value (assign_fault thorns settings)) (assigned thorns settings)
       in
-      then_settled without_witness (Is told) (PlanAnd specs thorns schedules)
-      (settled_is without_witness told) (plan_settled thorns schedules)
+      then_settled without_witness (Is told) (SteersAnd specs files schedules thorns)
+      (settled_is without_witness told) (steers_and_settled files schedules thorns)
 
-  pub made_settled : (c : Configured) → Settled without_witness (MadeOf specs c)
-  made_settled c =
+  pub made_settled : (files : Held) (c : Configured)
+      → Settled without_witness (MadeOf specs files c)
+  made_settled files c =
       let told : Result (List Thorn) JobFault =
       unless (option_map faults.Bind (bind_fault c.thorns)) c.thorns in
-      then_settled without_witness (Is told) (ValuesAnd specs c.schedules c.settings.list)
-      (settled_is without_witness told) (values_settled c.schedules c.settings.list)
+      then_settled without_witness (Is told) (ValuesAnd specs files c.schedules c.settings.list)
+      (settled_is without_witness told) (values_settled files c.schedules c.settings.list)

@@ -1,5 +1,5 @@
 -- What the stages from thorns to a job make sure of.
-use Rattle.std.proofs.Common.{◌≡◌, ◌∙◌, sym, ap, subst, refl, ◌<◌, ◌+◌, ◌^◌, inl, inr, ℕ, List, [], ◌∷◌, ◌++◌, map, length, take, get_or, codes, Option, Some, None, Result, Ok, Err, IfOk}
+use Rattle.std.proofs.Common.{◌≡◌, ◌∙◌, sym, ap, subst, refl, ◌<◌, ◌≤◌, ◌+◌, ◌^◌, inl, inr, ℕ, List, [], ◌∷◌, ◌++◌, map, length, take, get_or, codes, Option, Some, None, Result, Ok, Err, IfOk, arith}
 use Rattle.std.specs.Prelude.{option_map, All}
 use Rattle.std.proofs.lemmas.List.{map-append, take_more}
 use Rattle.cx_plan.specs.Setups.{setup_of}
@@ -12,6 +12,10 @@ use Rattle.cx_plan.specs.declared.variable.VarId.{VarId}
 use Rattle.cx_sched.specs.declared.tree.ScheduleFile.{ScheduleFile}
 use Rattle.cx_bind.specs.Variables.{variable_infos}
 use Rattle.cx_bind.specs.declared.thorns.Thorn.{Thorn}
+use Rattle.cx_bind.specs.Parameters.{parameters}
+use Rattle.cx_parfile.specs.declared.steer.SteerLine.{SteerLine}
+use Rattle.cx_values.specs.Steering.{steer_fault, steps}
+use Rattle.cx_values.specs.declared.steering.SteerStep.{SteerStep}
 use Rattle.cx_values.specs.declared.values.Values.{Values}
 use Rattle.cx_scope.specs.Sight.{Sight, IsSightOf}
 use Rattle.cx_order.specs.Files.{input_of}
@@ -22,10 +26,12 @@ use Rattle.cx_cut.specs.Faults.{parts_of, cut_fault}
 use Rattle.cx_cut.specs.declared.faults.CutFault.{CutFault}
 use Rattle.cx_job.specs.declared.fault.JobFault.{JobFault}
 use Rattle.cx_job.specs.declared.fault.JobFault.TheVariants as faults
-use Rattle.cx_job.specs.JobLimits.{over, limit_fault, run_count}
+use Rattle.cx_plan.specs.Lists.{or_else, first_of_each}
+use Rattle.cx_job.specs.JobLimits.{over, writes_fault, reads_fault, parameters_fault, item_limits, limit_fault, run_count}
 use Rattle.cx_job.specs.LocalCells.{local_cells}
 use Rattle.cx_job.specs.Caps.{caps_fault}
-use Rattle.cx_job.specs.Jobs.{job_of}
+use Rattle.cx_job.specs.Keys.{step_lines}
+use Rattle.cx_job.specs.Jobs.{job_of, steered_job}
 use Rattle.cx_job.specs.Outputs.{output_variables}
 use Rattle.cx_job_items.specs.Matching.{all_matched}
 use Rattle.cx_text.specs.Telling.{Answers}
@@ -34,10 +40,13 @@ use Rattle.cx_job_files.specs.NamesAndLevels.{AreRead}
 use Rattle.cx_job_items.specs.declared.fault.MatchFault.{MatchFault}
 use Rattle.cx_job.specs.Faults.{match_fault}
 use Rattle.cx_job_files.specs.Stages.{Is, or_fault}
-use Rattle.cx_job.specs.Making.{Orders, Matches, CutAnd, part_limits, cut_limits, LimitsAnd, ItemsAnd, OutputsAnd, PlanAnd, Yields, IsReady, IsPlanned, output_ids, within_limits}
+use Rattle.cx_job.specs.Making.{Orders, Matches, CutAnd, part_limits, cut_limits, LimitsAnd, ItemsAnd, OutputsAnd, PlanAnd, steered_steps, StepsAnd, Yields, IsReady, IsPlanned, output_ids, within_limits}
 use Rattle.cx_job.proofs.MakingLaws.{yields_halt, yields_pass, yields_ok, unless_ok}
+use Rattle.cx_job_values.specs.RunNumbers.{steer_file}
+use Rattle.cx_job.proofs.SteerLaws.{steps_later}
 use Rattle.cx_job_values.proofs.NoneLaws.{first_none, second_none}
 use Rattle.cx_job.proofs.WholeJobs.{is_whole, not_over}
+use Rattle.cx_job.proofs.MeantLaws.{all_none}
 use Rattle.cx_job.proofs.KeyNameLaws.{KeyNames, key_names, short_names}
 use Rattle.cx_job.proofs.FitLaws.{fits}
 use Rattle.cx_job.proofs.CapLaws.{IsRunWith, job_fits}
@@ -57,6 +66,23 @@ kept_one f g xs xs2 x ys k y within at one before after =
     ∙ ap (λ v. map g (take k ys) ++ g v ∷ []) at
     ∙ sym (map-append g (take k ys) (get_or ys k y ∷ []))
     ∙ ap (map g) (sym (take_more ys k y within))
+
+-- ---- items within their limits
+
+fewer : (n : ℕ) → n ≤ 32 → n ≤ 2 ^ 32
+fewer n few = omega (arith, few)
+
+pub short_params : (run : ℕ) (items : List Item) → item_limits run items ≡ None
+    → All (λ (x : Item). length x.params ≤ 2 ^ 32) (take run items)
+short_params run items none k d within =
+    let first : List Item = take run items in
+    let behind = second_none (first_of_each writes_fault first)
+    (or_else (first_of_each reads_fault first) (first_of_each parameters_fault first)) none in
+    fewer (length (get_or first k d).params)
+    (not_over (codes "parameters") (length (get_or first k d).params) 32
+    (all_none parameters_fault first
+    (second_none (first_of_each reads_fault first) (first_of_each parameters_fault first) behind)
+    k d within))
 
 -- ---- items by what the thorns see
 
@@ -93,10 +119,11 @@ module _ (thorns : List Thorn) (values : Values) (specs : List Spec) (ordered : 
 
 -- ---- the job, of a plan whose items were taken out to be matched
 
-module _ (specs : List Spec) (thorns : List Thorn) (values : Values) (ordered : Ordered)
-    (out_vars : List VarId) where
+module _ (specs : List Spec) (steps : List SteerStep) (thorns : List Thorn) (values : Values)
+    (ordered : Ordered) (out_vars : List VarId) where
   abbrev job_by : List Item → Job
-  job_by items = job_of thorns values ordered items out_vars
+  job_by items =
+      steered_job specs (parameters thorns) steps (job_of thorns values ordered items out_vars)
 
   abbrev limits : ℕ → Job → Option JobFault
   limits run job = limit_fault run job.items job.shape job.vars job.key
@@ -104,10 +131,15 @@ module _ (specs : List Spec) (thorns : List Thorn) (values : Values) (ordered : 
   module _ (left : Ordered) (run : ℕ) (items : List Item)
       (taken : left ≡ record ordered { items = [] }) (counted : run ≡ run_count ordered.plan) where
     abbrev job_left : Job
-    job_left = job_of thorns values left items out_vars
+    job_left =
+        steered_job specs (parameters thorns) steps (job_of thorns values left items out_vars)
 
     one_job : job_left ≡ job_by items
-    one_job = ap (λ (o : Ordered). job_of thorns values o items out_vars) taken
+    one_job = ap (λ (o : Ordered).
+        steered_job specs (parameters thorns) steps (job_of thorns values o items out_vars)) taken
+
+    pub left_plan : left.plan ≡ ordered.plan
+    left_plan = ap (λ (o : Ordered). o.plan) taken
 
     limits_too : (r : Result Job JobFault) → Yields (LimitsAnd specs run job_left) r
         → Yields (LimitsAnd specs (run_count ordered.plan) (job_by items)) r
@@ -116,7 +148,7 @@ module _ (specs : List Spec) (thorns : List Thorn) (values : Values) (ordered : 
 
     pub over_limits : (e : JobFault) → Yields (Matches thorns values specs ordered) (Ok items)
         → Yields (Is (within_limits run job_left)) (err Job e)
-        → Yields (ItemsAnd specs thorns values ordered out_vars) (err Job e)
+        → Yields (ItemsAnd specs steps thorns values ordered out_vars) (err Job e)
     over_limits e matches limited =
         yields_pass (Matches thorns values specs ordered)
         (λ items. LimitsAnd specs (run_count ordered.plan) (job_by items)) items (Err e) matches
@@ -126,7 +158,7 @@ module _ (specs : List Spec) (thorns : List Thorn) (values : Values) (ordered : 
     pub items_made : (job : Job) (r : Result Job JobFault)
         → Yields (Matches thorns values specs ordered) (Ok items)
         → Yields (Is (within_limits run job_left)) (Ok job) → Yields (CutAnd specs job) r
-        → Yields (ItemsAnd specs thorns values ordered out_vars) r
+        → Yields (ItemsAnd specs steps thorns values ordered out_vars) r
     items_made job r matches limited accepted =
         yields_pass (Matches thorns values specs ordered)
         (λ items. LimitsAnd specs (run_count ordered.plan) (job_by items)) items r matches
@@ -135,7 +167,8 @@ module _ (specs : List Spec) (thorns : List Thorn) (values : Values) (ordered : 
 
     module _ (job : Job) (matches : Yields (Matches thorns values specs ordered) (Ok items))
         (limited : Yields (Is (within_limits run job_left)) (Ok job))
-        (planned : IsPlanned thorns values ordered) where
+        (planned : IsPlanned thorns values ordered)
+        (later : All (λ (step : SteerStep). 1 ≤ step.at) steps) where
       the_job : job ≡ job_by items
       the_job = (unless_ok (limits run job_left) job_left job limited).1 ∙ one_job
 
@@ -149,10 +182,11 @@ module _ (specs : List Spec) (thorns : List Thorn) (values : Values) (ordered : 
           → output_variables thorns values ordered.storage ≡ Ok out_vars → IsWhole job
       whole_of read outputs =
           subst IsWhole (sym the_job)
-          (is_whole thorns planned.files values specs ordered items out_vars
+          (is_whole thorns planned.files values specs steps ordered items out_vars
           (record {
             fit = planned.fit;
             planned = planned.plan;
+            later = later;
             few = none_over;
             written = outputs;
           }) read
@@ -161,12 +195,13 @@ module _ (specs : List Spec) (thorns : List Thorn) (values : Values) (ordered : 
       pub run_of : All (IsRunWith specs job) (run_items (setup_of job))
       run_of =
           subst (λ (j : Job). All (IsRunWith specs j) (run_items (setup_of j))) (sym the_job)
-          (fits thorns planned.files values specs ordered items out_vars planned.plan
+          (fits thorns planned.files values specs steps ordered items out_vars planned.plan
           (yields_ok (Matches thorns values specs ordered) items matches))
 
       pub names_of : KeyNames job
       names_of = subst KeyNames (sym the_job)
-          (key_names (job_by items) (job_by items).shape thorns values ordered.text refl)
+          (key_names (job_by items) (job_by items).shape thorns values ordered.text
+          (step_lines (parameters thorns) steps) refl)
 
 pub unmapped : (o : Option CutFault) → option_map faults.Cut o ≡ None → o ≡ None
 unmapped None none = refl
@@ -198,26 +233,58 @@ ready_of specs job (Ok other) whole run names (inr (inr (x, s, t))) =
 
 -- ---- the plan and the variables that are written
 
-module _ (specs : List Spec) (thorns : List Thorn) (schedules : List ScheduleFile) (values : Values)
-  where
-    pub unwritten : (ordered : Ordered) (e : JobFault)
-        → Yields (Orders (input_of thorns schedules values)) (Ok ordered)
-        → Yields (Is (output_ids thorns values ordered.storage)) (err (List VarId) e)
-        → Yields (PlanAnd specs thorns schedules values) (err Job e)
-    unwritten ordered e plan told =
-        yields_pass (Orders (input_of thorns schedules values)) (OutputsAnd specs thorns values)
-        ordered (Err e) plan (yields_halt (Is (output_ids thorns values ordered.storage))
-        (ItemsAnd specs thorns values ordered) e told)
+module _ (specs : List Spec) (schedules : List ScheduleFile) (thorns : List Thorn) (values : Values)
+    (steps : List SteerStep) where
+  pub unwritten : (ordered : Ordered) (e : JobFault)
+      → Yields (Orders (input_of thorns schedules values)) (Ok ordered)
+      → Yields (Is (output_ids thorns values ordered.storage)) (err (List VarId) e)
+      → Yields (PlanAnd specs schedules thorns values steps) (err Job e)
+  unwritten ordered e plan told =
+      yields_pass (Orders (input_of thorns schedules values)) (OutputsAnd specs steps thorns values)
+      ordered (Err e) plan (yields_halt (Is (output_ids thorns values ordered.storage))
+      (ItemsAnd specs steps thorns values ordered) e told)
 
-    pub plan_made : (ordered : Ordered) (out_vars : List VarId) (r : Result Job JobFault)
-        → Yields (Orders (input_of thorns schedules values)) (Ok ordered)
-        → Yields (Is (output_ids thorns values ordered.storage)) (Ok out_vars)
-        → Yields (ItemsAnd specs thorns values ordered out_vars) r
-        → Yields (PlanAnd specs thorns schedules values) r
-    plan_made ordered out_vars r plan told made =
-        yields_pass (Orders (input_of thorns schedules values)) (OutputsAnd specs thorns values)
-        ordered r plan (yields_pass (Is (output_ids thorns values ordered.storage))
-        (ItemsAnd specs thorns values ordered) out_vars r told made)
+  pub plan_made : (ordered : Ordered) (out_vars : List VarId) (r : Result Job JobFault)
+      → Yields (Orders (input_of thorns schedules values)) (Ok ordered)
+      → Yields (Is (output_ids thorns values ordered.storage)) (Ok out_vars)
+      → Yields (ItemsAnd specs steps thorns values ordered out_vars) r
+      → Yields (PlanAnd specs schedules thorns values steps) r
+  plan_made ordered out_vars r plan told made =
+      yields_pass (Orders (input_of thorns schedules values)) (OutputsAnd specs steps thorns values)
+      ordered r plan (yields_pass (Is (output_ids thorns values ordered.storage))
+      (ItemsAnd specs steps thorns values ordered) out_vars r told made)
+
+-- ---- the steps of the steer file
+
+module _ (specs : List Spec) (schedules : List ScheduleFile) (thorns : List Thorn) (values : Values)
+    (lines : List SteerLine) (name : List ℕ) (named : name ≡ steer_file values) where
+  abbrev told : Result (List SteerStep) JobFault → Type 0
+  told r = Yields (Is (steered_steps name thorns values lines)) r
+
+  same_name : (r : Result (List SteerStep) JobFault) → told r
+      → Yields (Is (steered_steps (steer_file values) thorns values lines)) r
+  same_name r here =
+      subst (λ (n : List ℕ). Yields (Is (steered_steps n thorns values lines)) r) named here
+
+  pub unsteered : (e : JobFault) → told (err (List SteerStep) e)
+      → Yields (StepsAnd specs schedules thorns values lines) (err Job e)
+  unsteered e here =
+      yields_halt (Is (steered_steps (steer_file values) thorns values lines))
+      (PlanAnd specs schedules thorns values) e (same_name (Err e) here)
+
+  pub steps_made : (ss : List SteerStep) (r : Result Job JobFault) → told (Ok ss)
+      → Yields (PlanAnd specs schedules thorns values ss) r
+      → Yields (StepsAnd specs schedules thorns values lines) r
+  steps_made ss r here made =
+      yields_pass (Is (steered_steps (steer_file values) thorns values lines))
+      (PlanAnd specs schedules thorns values) ss r (same_name (Ok ss) here) made
+
+  pub each_later : (ss : List SteerStep) → told (Ok ss)
+      → All (λ (l : SteerLine). 1 ≤ l.at) lines → All (λ (s : SteerStep). 1 ≤ s.at) ss
+  each_later ss here later =
+      subst (All (λ (s : SteerStep). 1 ≤ s.at))
+      (sym (unless_ok (option_map (faults.Steer name) (steer_fault thorns values lines))
+      (steps thorns lines) ss here).1) (steps_later thorns lines later)
 
 -- ---- the answer
 

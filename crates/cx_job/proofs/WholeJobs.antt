@@ -2,7 +2,6 @@
 use Rattle.std.proofs.Common.{◌≡◌, ◌≢◌, ◌⊎◌, inl, inr, refl, ap, sym, subst, ◌∙◌, ℕ, ◌*◌, ◌-◌, ◌^◌, ◌≤◌, ◌<◌, Bool, true, false, nat_lt, ltb-false, pos, negsuc, List, length, get_or, take, Some, None, Ok, if◌then◌else◌, codes, arith, ◌+◌}
 use Rattle.std.proofs.lemmas.Int.{ints}
 use Rattle.std.proofs.lemmas.List.{get_or-take, length-take}
-use Rattle.std.proofs.lemmas.List.Elements.{All-nil}
 use Rattle.std.specs.List.{flat_map}
 use Rattle.std.specs.Prelude.{All, AllPairs, slice_index_or}
 use Rattle.cx_grid.specs.Boxes.{point_count}
@@ -10,7 +9,6 @@ use Rattle.cx_grid.specs.Grid.{IsShape, whole}
 use Rattle.cx_plan.specs.Lists.{or_else, first_of_each}
 use Rattle.cx_plan.specs.Whole.{IsName, IsStored, IsItem, IsSmall, IsTree, IsWhole, grid_levels}
 use Rattle.cx_plan.specs.Setups.{setup_of}
-use Rattle.cx_plan.specs.Steering.{IsSteer}
 use Rattle.cx_plan.specs.Lookups.{item, no_item}
 use Rattle.cx_plan.specs.Regions.{run_items}
 use Rattle.cx_plan.specs.declared.variable.VarId.{VarId}
@@ -20,7 +18,9 @@ use Rattle.cx_plan.specs.declared.job.Job.{Job}
 use Rattle.cx_sched.specs.declared.tree.ScheduleFile.{ScheduleFile}
 use Rattle.cx_bind.specs.Binding.{bind_fault}
 use Rattle.cx_bind.specs.Variables.{variable_infos}
+use Rattle.cx_bind.specs.Parameters.{parameters}
 use Rattle.cx_bind.specs.declared.thorns.Thorn.{Thorn}
+use Rattle.cx_values.specs.declared.steering.SteerStep.{SteerStep}
 use Rattle.cx_values.specs.declared.values.Values.{Values}
 use Rattle.cx_order.specs.declared.ordered.Ordered.{Ordered}
 use Rattle.cx_order.specs.Files.{input_of}
@@ -30,7 +30,7 @@ use Rattle.cx_order.specs.Plans.{Forest, forests, forest_items, bin_trees}
 use Rattle.cx_rule.specs.declared.spec.Spec.{Spec}
 use Rattle.cx_job.specs.declared.fault.JobFault.TheVariants.{Limit}
 use Rattle.cx_job.specs.JobLimits.{over, writes_fault, reads_fault, parameters_fault, item_limits, points_fault, cells_fault, grid_limits, key_limit, limit_fault, run_count}
-use Rattle.cx_job.specs.Jobs.{job_of}
+use Rattle.cx_job.specs.Jobs.{job_of, steered_job}
 use Rattle.cx_job_files.specs.NamesAndLevels.{AreRead}
 use Rattle.cx_job.specs.Outputs.{output_variables}
 use Rattle.cx_job_values.specs.Stored.{stored_infos}
@@ -46,6 +46,7 @@ use Rattle.cx_job.proofs.NamesLaws.{are_names}
 use Rattle.cx_job.proofs.MeantLaws.{all_none}
 use Rattle.cx_job_items.specs.Matching.{all_matched}
 use Rattle.cx_job.proofs.MatchedLaws.{answered_below, IsMatched, as_many_matched, matched_or_kept}
+use Rattle.cx_job.proofs.SteerLaws.{each_steer}
 use Rattle.cx_job.proofs.TouchLaws.{matched_whole, planned_whole}
 use Rattle.cx_job.proofs.RunLaws.{called_of_plan}
 use Rattle.cx_job.proofs.PlanFacts.{each_variable, each_bin, not_deep, not_large, no_more_levels}
@@ -62,22 +63,26 @@ not_over what number limit none = by (nat_lt limit number) refl none
     by false e none = ltb-false limit number e
 
 -- what the stages before have made sure of
-pub record IsSound (thorns : List Thorn) (files : List ScheduleFile) (values : Values) (run : ℕ)
-    (ordered : Ordered) (items : List Item) (out_vars : List VarId) : Type 0 where
+pub record IsSound (specs : List Spec) (steps : List SteerStep) (thorns : List Thorn)
+    (files : List ScheduleFile) (values : Values) (run : ℕ) (ordered : Ordered) (items : List Item)
+    (out_vars : List VarId) : Type 0 where
   pub fit : bind_fault thorns ≡ None
   pub planned : IsPlan (input_of thorns files values) ordered
-  pub few : (let job = job_of thorns values ordered items out_vars in
+  pub later : All (λ (step : SteerStep). 1 ≤ step.at) steps
+  pub few : (let job = steered_job specs (parameters thorns) steps
+      (job_of thorns values ordered items out_vars) in
       limit_fault run job.items job.shape job.vars job.key) ≡ None
   pub written : output_variables thorns values ordered.storage ≡ Ok out_vars
 
 at_most : (a b c : ℕ) → a ≤ b → b ≤ c → a ≤ c
 at_most a b c h i = omega arith
 
-module _ (thorns : List Thorn) (files : List ScheduleFile) (values : Values) (run : ℕ)
-    (ordered : Ordered) (items : List Item) (out_vars : List VarId)
-    (sound : IsSound thorns files values run ordered items out_vars) where
+module _ (specs : List Spec) (steps : List SteerStep) (thorns : List Thorn)
+    (files : List ScheduleFile) (values : Values) (run : ℕ) (ordered : Ordered) (items : List Item)
+    (out_vars : List VarId)
+    (sound : IsSound specs steps thorns files values run ordered items out_vars) where
   abbrev job : Job
-  job = job_of thorns values ordered items out_vars
+  job = steered_job specs (parameters thorns) steps (job_of thorns values ordered items out_vars)
 
   -- ---- the grid and the key
 
@@ -198,7 +203,8 @@ module _ (thorns : List Thorn) (files : List ScheduleFile) (values : Values) (ru
         nodes_limit = not_large (input_of thorns files values) ordered sound.planned;
         depth_limit = not_deep (input_of thorns files values) ordered sound.planned;
         outputs = written_stored;
-        steers = All-nil (IsSteer (setup_of job));
+        steers = each_steer (setup_of job) specs (parameters thorns)
+            (run_count ordered.plan) steps sound.later;
         weight = tt;
         weight_factor = omega arith;
         outputs_rise = written_rise;
@@ -220,11 +226,11 @@ module _ (thorns : List Thorn) (files : List ScheduleFile) (values : Values) (ru
 -- ---- items that were matched
 
 module _ (thorns : List Thorn) (files : List ScheduleFile) (values : Values) (specs : List Spec)
-    (ordered : Ordered) (items : List Item) (out_vars : List VarId)
-    (sound : IsSound thorns files values (run_count ordered.plan) ordered items out_vars)
-    (matches : Matches thorns values specs ordered (Ok items)) where
+    (steps : List SteerStep) (ordered : Ordered) (items : List Item) (out_vars : List VarId)
+    (sound : IsSound specs steps thorns files values (run_count ordered.plan) ordered items
+    out_vars) (matches : Matches thorns values specs ordered (Ok items)) where
   abbrev made : Job
-  made = job_of thorns values ordered items out_vars
+  made = steered_job specs (parameters thorns) steps (job_of thorns values ordered items out_vars)
 
   abbrev seen : World
   seen = record { thorns = thorns; sight = matches.sight; storage = ordered.storage }
@@ -285,7 +291,7 @@ module _ (thorns : List Thorn) (files : List ScheduleFile) (values : Values) (sp
   small_at k low there =
       let first : List Item = take run items in
       let none : item_limits run items ≡ None =
-      items_fit thorns files values run ordered items out_vars sound in
+      items_fit specs steps thorns files values run ordered items out_vars sound in
       let behind = second_none (first_of_each writes_fault first)
       (or_else (first_of_each reads_fault first) (first_of_each parameters_fault first)) none in
       record {
@@ -311,12 +317,14 @@ module _ (thorns : List Thorn) (files : List ScheduleFile) (values : Values) (sp
 
 -- A job is whole where its parts are sound, its thorns were read and its items matched.
 pub is_whole : (thorns : List Thorn) (files : List ScheduleFile) (values : Values)
-    (specs : List Spec) (ordered : Ordered) (items : List Item) (out_vars : List VarId)
-    → IsSound thorns files values (run_count ordered.plan) ordered items out_vars
+    (specs : List Spec) (steps : List SteerStep) (ordered : Ordered) (items : List Item)
+    (out_vars : List VarId)
+    → IsSound specs steps thorns files values (run_count ordered.plan) ordered items out_vars
     → AreRead (variable_infos thorns) → Matches thorns values specs ordered (Ok items)
-    → IsWhole (job_of thorns values ordered items out_vars)
-is_whole thorns files values specs ordered items out_vars sound read matches =
-    whole_with thorns files values (run_count ordered.plan) ordered items out_vars sound read
-    (as_many thorns files values specs ordered items out_vars sound matches)
-    (of_items thorns files values specs ordered items out_vars sound matches)
-    (small_items thorns files values specs ordered items out_vars sound matches)
+    → IsWhole (steered_job specs (parameters thorns) steps
+    (job_of thorns values ordered items out_vars))
+is_whole thorns files values specs steps ordered items out_vars sound read matches =
+    whole_with specs steps thorns files values (run_count ordered.plan) ordered items out_vars sound
+    read (as_many thorns files values specs steps ordered items out_vars sound matches)
+    (of_items thorns files values specs steps ordered items out_vars sound matches)
+    (small_items thorns files values specs steps ordered items out_vars sound matches)

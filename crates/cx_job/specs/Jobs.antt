@@ -1,10 +1,12 @@
--- The job of bound thorns, by the values of their parameters, their plan, the items and the
--- variables that are written.
-use Rattle.std.specs.Prelude.{ℕ, false, List, [], None}
+-- The job of bound thorns, by the values of their parameters, their plan, the items, the variables
+-- that are written, and the steps of parameters.
+use Rattle.std.specs.Prelude.{ℕ, false, List, [], ◌++◌, None}
 use Rattle.cx_plan.specs.declared.variable.VarId.{VarId}
 use Rattle.cx_plan.specs.declared.item.Item.{Item}
 use Rattle.cx_plan.specs.declared.job.Job.{Job}
 use Rattle.cx_bind.specs.declared.thorns.Thorn.{Thorn}
+use Rattle.cx_bind.specs.declared.thorns.Param.{Param}
+use Rattle.cx_values.specs.declared.steering.SteerStep.{SteerStep}
 use Rattle.cx_values.specs.declared.values.Values.{Values}
 use Rattle.cx_order.specs.declared.ordered.Ordered.{Ordered}
 use Rattle.cx_job.specs.declared.job.Run.{Run}
@@ -12,7 +14,10 @@ use Rattle.cx_job.specs.declared.job.Layout.{Layout}
 use Rattle.cx_job.specs.declared.job.Texts.{Texts}
 use Rattle.cx_job.specs.declared.job.Parts.{Parts}
 use Rattle.cx_job_values.specs.Grids.{shape_of, cuts_of}
-use Rattle.cx_job.specs.Keys.{key, starred_lines}
+use Rattle.cx_rule.specs.declared.spec.Spec.{Spec}
+use Rattle.cx_job_items.specs.Steered.{steers_of}
+use Rattle.cx_job.specs.Keys.{key, starred_lines, step_lines}
+use Rattle.cx_job.specs.LocalCells.{items_run}
 use Rattle.cx_job_values.specs.RunNumbers.{itlast, while_limit, lead, out_every, checkpoint_every, keep, on_end, out_dir, checkpoint_dir, recover_of}
 use Rattle.cx_job_values.specs.Stored.{stored_infos}
 
@@ -88,3 +93,12 @@ job_with parts ordered items out_vars =
 abbrev pub job_of : List Thorn → Values → Ordered → List Item → List VarId → Job
 job_of thorns values ordered items out_vars =
     job_with (parts_of thorns values ordered.storage ordered.text) ordered items out_vars
+
+-- a job with the steps of a steer file: its items of the bins that are run are steered by them, and
+-- its key ends with their lines
+abbrev pub steered_job : List Spec → List Param → List SteerStep → Job → Job
+steered_job specs params steps job =
+    record job {
+      steers = steers_of specs params (items_run job) steps;
+      key = job.key ++ step_lines params steps;
+    }

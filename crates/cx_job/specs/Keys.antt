@@ -1,5 +1,5 @@
 -- The key of a job, and the lines of the parameters that only say how and where a run is done.
-use Rattle.std.specs.Prelude.{ℕ, zero, suc, ◌==◌, Bool, ℤ, List, [], ◌∷◌, ◌++◌, map, codes, Option, Some, None, if◌then◌else◌}
+use Rattle.std.specs.Prelude.{ℕ, zero, suc, ◌==◌, Bool, ℤ, List, [], ◌∷◌, ◌++◌, map, codes, slice_get, Option, Some, None, if◌then◌else◌}
 use Rattle.std.specs.List.{flat_map, enumerate_from, range_with_len}
 use Rattle.std.specs.Fmt.{decimal, signed_decimal}
 use Rattle.cx_text.specs.declared.ctype.CType.{CType}
@@ -19,7 +19,9 @@ use Rattle.cx_bind.specs.declared.thorns.Param.{Param}
 use Rattle.cx_bind.specs.BuiltIn.{starred}
 use Rattle.cx_bind.specs.Parameters.{parameters}
 use Rattle.cx_values.specs.declared.values.Values.{Values}
+use Rattle.cx_values.specs.declared.steering.SteerStep.{SteerStep}
 use Rattle.cx_values.specs.Assigned.{get, number}
+use Rattle.cx_values.specs.Spelling.{number_by}
 use Rattle.cx_bind.specs.Variables.{copies}
 
 abbrev pub line_feed : List ℕ
@@ -142,3 +144,20 @@ abbrev pub key : Shape → List Thorn → Values → List VarInfo → List ℕ �
 key shape thorns values vars plan_text =
     flat_map thorn_line thorns ++ direction_lines shape ++ variable_lines vars
     ++ other_lines thorns values ++ plan_text
+
+-- ---- steps
+
+-- a step of a parameter, with its value as in a parameter's line
+abbrev pub step_line_of : SteerStep → Option Param → List ℕ
+step_line_of s None = []
+step_line_of s (Some p) =
+    codes "steer " ++ decimal s.at ++ codes " " ++ element_name p.full s.index ++ codes " = \""
+    ++ value_text (Some s.value) ++ codes "\""
+    ++ place_text p.decl.ptype (number_by p.decl.ptype p.ranges s.value) ++ line_feed
+
+abbrev pub step_line : List Param → SteerStep → List ℕ
+step_line params s = step_line_of s (slice_get params s.param)
+
+-- the lines of steps, in the order of the steer file
+abbrev pub step_lines : List Param → List SteerStep → List ℕ
+step_lines params steps = flat_map (step_line params) steps

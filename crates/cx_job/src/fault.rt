@@ -39,6 +39,9 @@ pub enum JobFault {
     Bind(BindFault),
     #[error(transparent)]
     Value(ValueFault),
+    /// A line of the steer file can't steer: the file's name, and why.
+    #[error("{} {}", OrDash(.0), .1)]
+    Steer(Text, ValueFault),
     #[error(transparent)]
     Order(OrderFault),
     /// No object is handed in for the item of this path.

@@ -1,22 +1,26 @@
 //! The job, from its parts.
 
-ghost use Rattle.std.specs.Prelude.{◌≡◌, ◌≤◌, ◌^◌, IfOk};
+ghost use Rattle.std.specs.Prelude.{◌≡◌, ◌≤◌, ◌^◌, All, map, length, take, IfOk};
 ghost use Rattle.cx_grid.specs.Boxes.{point_count};
 ghost use Rattle.cx_grid.specs.Grid.{IsShape, whole};
 ghost use Rattle.cx_job_values.specs.Grids.{shape_of};
-ghost use Rattle.cx_job.specs.Jobs.{run_of, layout_of, texts_of, parts_of, job_with, job_of};
+ghost use Rattle.cx_job.specs.Jobs.{run_of, layout_of, texts_of, parts_of, job_with, job_of, steered_job};
+ghost use Rattle.cx_job.specs.JobLimits.{run_count};
 
-use crate::keys::{key, starred_lines};
-use cx_bind::Bound;
+use crate::keys::{key, push_steps, starred_lines};
+use crate::limits::first_items;
+use cx_bind::{Bound, Param};
 use cx_grid::Shape;
+use cx_job_items::steers_of;
 use cx_job_values::{
-    checkpoint_dir, checkpoint_every, cuts_of, itlast, keep, lead, on_end, out_dir, out_every,
-    recover_of, shape_of, stored_infos, while_limit,
+    checkpoint_dir, cuts_of, keep, lead, out_dir, out_every, recover_of, shape_of, stored_infos,
+    while_limit,
 };
 use cx_order::Ordered;
 use cx_plan::{Cuts, Item, Job, Recover, VarId, VarInfo};
+use cx_rule::Spec;
 use cx_text::{List, Memory, Text};
-use cx_values::Values;
+use cx_values::{SteerStep, Values, checkpoint_every, itlast, on_end};
 use std::alloc::Global;
 
 /// The numbers, the flags and the texts of a run.
@@ -180,4 +184,28 @@ pub(crate) fn job_of(
 {
     let parts = parts_of(alloc, bound, values, &ordered.storage, &ordered.text)?;
     Ok(job_with(alloc, parts, ordered, items, out_vars))
+}
+
+/// The job with the steps of a steer file: its first `run` items are steered by them, and its key ends with their lines.
+pub(crate) fn steered_job(
+    alloc: Global,
+    specs: &[&Spec],
+    params: &[Param],
+    steps: &[SteerStep],
+    run: usize,
+    job: Job,
+) -> Result<Job, Memory>
+    requires run { run ≡ run_count job.plan }
+    requires few { run ≤ 2 ^ 32 }
+    requires short { All (λ x. length x.params ≤ 2 ^ 32) (take run job.items) }
+    ensures { IfOk result
+        (λ steered. steered
+        ≡ steered_job (map (λ s. s.now) specs.now) params.now steps.now job) }
+{
+    let mut job = job;
+    let items = first_items(job.items.as_slice(), run);
+    let steers = steers_of(alloc, specs, params, items, steps)?;
+    job.steers = steers;
+    push_steps(alloc, &mut job.key, params, steps)?;
+    Ok(job)
 }

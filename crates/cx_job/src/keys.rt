@@ -3,16 +3,16 @@
 ghost use Rattle.std.specs.Prelude.{◌≡◌, ◌<◌, ◌++◌, Some, map, IfOk, OnOk};
 ghost use Rattle.std.specs.List.{flat_map};
 ghost use Rattle.cx_grid.specs.Grid.{IsShape};
-ghost use Rattle.cx_job.specs.Keys.{thorn_line, direction_line, direction_lines, variable_line, variable_lines, parameter_line, parameter_lines, lines_if_starred, lines_unless_starred, starred_lines, key, lines_at};
+ghost use Rattle.cx_job.specs.Keys.{thorn_line, direction_line, direction_lines, variable_line, variable_lines, parameter_line, parameter_lines, lines_if_starred, lines_unless_starred, starred_lines, key, lines_at, step_line, step_lines};
 ghost use Rattle.cx_bind.specs.Variables.{copies};
 
-use crate::lines::{direction_line, parameter_line, thorn_line, variable_line};
+use crate::lines::{direction_line, parameter_line, step_line, thorn_line, variable_line};
 use cx_bind::{Bound, Param, Thorn};
 use cx_grid::Shape;
-use cx_job_items::is_starred;
+use cx_job_items::{is_starred, param_of};
 use cx_plan::VarInfo;
 use cx_text::{List, Memory, Text};
-use cx_values::Values;
+use cx_values::{SteerStep, Values};
 use std::alloc::Global;
 
 /// Adds a line for each active thorn, in the order of activation.
@@ -209,4 +209,34 @@ pub fn key(
     push_others(alloc, &mut text, values, bound.parameters().as_slice())?;
     text.push_slice(plan_text.as_slice())?;
     Ok(text)
+}
+
+/// Adds the line of a step.
+fn push_step(
+    alloc: Global,
+    text: &mut Text,
+    params: &[Param],
+    step: &SteerStep,
+) -> Result<(), Memory>
+    ensures { OnOk result (text.new ≡ text.old ++ step_line params.now step.now) }
+{
+    match param_of(params, step) {
+        Some(param) => text.push_slice(step_line(alloc, param, step)?.as_slice()),
+        None => Ok(()),
+    }
+}
+
+/// Adds the lines of steps, in the order of the steer file.
+pub(crate) fn push_steps(
+    alloc: Global,
+    text: &mut Text,
+    params: &[Param],
+    steps: &[SteerStep],
+) -> Result<(), Memory>
+    ensures { OnOk result (text.new ≡ text.old ++ step_lines params.now steps.now) }
+{
+    'steps: for step in steps {
+        push_step(alloc, text, params, step)?;
+    }
+    Ok(())
 }

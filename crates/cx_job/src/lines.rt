@@ -1,17 +1,17 @@
 //! The lines of keys.
 
-ghost use Rattle.std.specs.Prelude.{◌≡◌, ◌<◌, ◌++◌, IfOk, OnOk};
+ghost use Rattle.std.specs.Prelude.{◌≡◌, ◌<◌, ◌++◌, Some, IfOk, OnOk};
 ghost use Rattle.std.specs.Option.{option_copied};
 ghost use Rattle.cx_grid.specs.Boxes.{along};
 ghost use Rattle.cx_grid.specs.Grid.{is_periodic};
-ghost use Rattle.cx_job.specs.Keys.{thorn_line, letter, side_text, direction_line, type_name, kind_text, variable_line, escaped_byte, escaped, value_text, place_text, element_name, parameter_line};
+ghost use Rattle.cx_job.specs.Keys.{thorn_line, letter, side_text, direction_line, type_name, kind_text, variable_line, escaped_byte, escaped, value_text, place_text, element_name, parameter_line, step_line_of};
 
 use cx_bind::{Param, Thorn};
 use cx_grid::{Point, Shape};
 use cx_param::{PType, Value};
 use cx_plan::VarInfo;
 use cx_text::{CType, Memory, Text};
-use cx_values::Values;
+use cx_values::{SteerStep, Values, number_by};
 use std::alloc::Global;
 
 /// The line of an active thorn.
@@ -202,6 +202,23 @@ pub(crate) fn parameter_line(
         param.decl.ptype,
         values.number(&param.full, index),
     )?;
+    line.push_slice(b"\n")?;
+    Ok(line)
+}
+
+/// The line of a step of a parameter.
+pub(crate) fn step_line(alloc: Global, param: &Param, step: &SteerStep) -> Result<Text, Memory>
+    ensures { IfOk result (λ line. line ≡ step_line_of step.now (Some param.now)) }
+{
+    let place = number_by(param.decl.ptype, param.ranges.as_slice(), &step.value);
+    let mut line = Text::from_slice(alloc, b"steer ")?;
+    line.push_number(alloc, step.at)?;
+    line.push_slice(b" ")?;
+    push_element_name(alloc, &mut line, param.full.as_slice(), step.index)?;
+    line.push_slice(b" = \"")?;
+    push_value(alloc, &mut line, Some(&step.value))?;
+    line.push_slice(b"\"")?;
+    push_place(alloc, &mut line, param.decl.ptype, place)?;
     line.push_slice(b"\n")?;
     Ok(line)
 }

@@ -1,6 +1,6 @@
 //! The job that files make.
 
-ghost use Rattle.std.specs.Prelude.{◌≡◌, ◌≤◌, ◌^◌, length, map, None, Ok, IfOk};
+ghost use Rattle.std.specs.Prelude.{◌≡◌, ◌≤◌, ◌^◌, All, length, map, None, Ok, IfOk};
 ghost use Rattle.cx_grid.specs.Grid.{HasInterior};
 ghost use Rattle.cx_cut.specs.Faults.{parts_of, cut_fault};
 ghost use Rattle.cx_job.specs.LocalCells.{local_cells};
@@ -14,21 +14,25 @@ ghost use Rattle.cx_bind.specs.Binding.{bind_fault};
 ghost use Rattle.cx_bind.specs.Variables.{variable_infos};
 ghost use Rattle.cx_job.specs.Outputs.{output_variables};
 ghost use Rattle.cx_job_files.specs.NamesAndLevels.{AreRead};
-ghost use Rattle.cx_job.specs.Making.{Made, MakesFrom, MadeOf, PlanAnd, ItemsAnd, Yields, IsReady, IsPlanned};
+ghost use Rattle.cx_job.specs.Making.{Made, MakesFrom, MadeOf, SteersAnd, StepsAnd, PlanAnd, ItemsAnd, ReachesFrom, Yields, IsReady, IsPlanned};
+ghost use Rattle.cx_job_values.specs.RunNumbers.{steer_file};
 
 use crate::counting::run_count;
 use crate::fault::JobFault;
 use crate::stages::{
-    Contents, assign_all, bind_all, cut_and, match_items, order_all, output_ids, within_limits,
+    Contents, assign_all, bind_all, cut_and, match_items, order_all, output_ids, steer_all,
+    within_limits,
 };
 use cx_bind::Bound;
-use cx_job_files::{Configured, Shelf, configure};
+use cx_job_files::{Configured, Shelf, configure, steer_lines};
+use cx_job_values::steer_file;
 use cx_order::Ordered;
+use cx_parfile::SteerLine;
 use cx_plan::{Job, VarId};
 use cx_rule::{Routine, Spec};
 use cx_sched::ScheduleFile;
 use cx_text::{List, Text};
-use cx_values::Values;
+use cx_values::{SteerStep, Values};
 use std::alloc::{AllocError, Global};
 
 /// What an object says of itself.
@@ -55,6 +59,7 @@ fn items_and(
     specs: &[&Spec],
     bound: &Bound,
     values: &Values,
+    steps: &List<SteerStep>,
     ordered: Ordered,
     out_vars: List<VarId>,
 ) -> Result<Job, JobFault>
@@ -62,15 +67,17 @@ fn items_and(
     requires read { AreRead (variable_infos bound.now) }
     requires planned { IsPlanned bound.now values.now ordered }
     requires written { output_variables bound.now values.now ordered.storage ≡ Ok out_vars }
+    requires later { All (λ step. 1 ≤ step.at) steps.now }
     ensures made { Yields
-        (ItemsAnd (map (λ s. s.now) specs.now) bound.now values.now ordered out_vars) result }
+        (ItemsAnd (map (λ s. s.now) specs.now) steps.now bound.now values.now ordered out_vars)
+        result }
     ensures ready { IfOk result (IsReady (map (λ s. s.now) specs.now)) }
 {
     let mut ordered = ordered;
     let run = run_count(&ordered.plan);
     let items = match_items(alloc, bound, values, specs, run, &mut ordered)?;
     let contents = Contents { items, out_vars };
-    let job = within_limits(alloc, bound, values, run, ordered, contents)?;
+    let job = within_limits(alloc, specs, bound, values, steps, run, ordered, contents)?;
     cut_and(alloc, specs, job)
 }
 
@@ -81,26 +88,84 @@ fn plan_and(
     bound: &Bound,
     schedules: &List<ScheduleFile>,
     values: &Values,
+    steps: &List<SteerStep>,
 ) -> Result<Job, JobFault>
     requires few { length specs.now ≤ 2 ^ 32 }
     requires read { AreRead (variable_infos bound.now) }
     requires fit { bind_fault bound.now ≡ None }
     requires as_many { length schedules.now ≡ length bound.now }
+    requires later { All (λ step. 1 ≤ step.at) steps.now }
     ensures made { Yields
-        (PlanAnd (map (λ s. s.now) specs.now) bound.now schedules.now values.now) result }
+        (PlanAnd (map (λ s. s.now) specs.now) schedules.now bound.now values.now steps.now)
+        result }
     ensures ready { IfOk result (IsReady (map (λ s. s.now) specs.now)) }
 {
     let ordered = order_all(alloc, bound, schedules, values)?;
     let out_vars = output_ids(alloc, bound, values, &ordered.storage)?;
-    items_and(alloc, specs, bound, values, ordered, out_vars)
+    items_and(alloc, specs, bound, values, steps, ordered, out_vars)
 }
 
-/// The job of what the files of a configuration say.
-fn made_of(alloc: Global, configured: Configured, specs: &[&Spec]) -> Result<Job, JobFault>
+/// The steps of the lines of the steer file of this name, and what follows them.
+fn steps_and(
+    alloc: Global,
+    specs: &[&Spec],
+    bound: &Bound,
+    schedules: &List<ScheduleFile>,
+    values: &Values,
+    name: &Text,
+    lines: &List<SteerLine>,
+) -> Result<Job, JobFault>
+    requires few { length specs.now ≤ 2 ^ 32 }
+    requires read { AreRead (variable_infos bound.now) }
+    requires fit { bind_fault bound.now ≡ None }
+    requires as_many { length schedules.now ≡ length bound.now }
+    requires named { name.now ≡ steer_file values.now }
+    requires later { All (λ line. 1 ≤ line.at) lines.now }
+    ensures made { Yields
+        (StepsAnd (map (λ s. s.now) specs.now) schedules.now bound.now values.now lines.now)
+        result }
+    ensures ready { IfOk result (IsReady (map (λ s. s.now) specs.now)) }
+{
+    let steps = steer_all(alloc, bound, values, name, lines)?;
+    plan_and(alloc, specs, bound, schedules, values, &steps)
+}
+
+/// The steer file that the values name, and what follows it.
+fn steers_and<H: Shelf>(
+    alloc: Global,
+    shelf: &mut H,
+    specs: &[&Spec],
+    bound: &Bound,
+    schedules: &List<ScheduleFile>,
+    values: &Values,
+) -> Result<Job, JobFault>
+    requires few { length specs.now ≤ 2 ^ 32 }
+    requires read { AreRead (variable_infos bound.now) }
+    requires fit { bind_fault bound.now ≡ None }
+    requires as_many { length schedules.now ≡ length bound.now }
+    ensures made { ReachesFrom H.Shelf
+        (λ files. SteersAnd (map (λ s. s.now) specs.now) files schedules.now bound.now values.now)
+        shelf.old shelf.new result }
+    ensures ready { IfOk result (IsReady (map (λ s. s.now) specs.now)) }
+{
+    let name = steer_file(alloc, values)?;
+    let lines = steer_lines(alloc, shelf, &name)?;
+    steps_and(alloc, specs, bound, schedules, values, &name, &lines)
+}
+
+/// The job of what the files of a configuration say, with its steer file.
+fn made_of<H: Shelf>(
+    alloc: Global,
+    shelf: &mut H,
+    configured: Configured,
+    specs: &[&Spec],
+) -> Result<Job, JobFault>
     requires few { length specs.now ≤ 2 ^ 32 }
     requires read { AreRead (variable_infos configured.thorns) }
     requires as_many { length configured.schedules ≡ length configured.thorns }
-    ensures made { Yields (MadeOf (map (λ s. s.now) specs.now) configured) result }
+    ensures made { ReachesFrom H.Shelf
+        (λ files. MadeOf (map (λ s. s.now) specs.now) files configured)
+        shelf.old shelf.new result }
     ensures ready { IfOk result (IsReady (map (λ s. s.now) specs.now)) }
 {
     let Configured {
@@ -110,7 +175,7 @@ fn made_of(alloc: Global, configured: Configured, specs: &[&Spec]) -> Result<Job
     } = configured;
     let bound = bind_all(alloc, thorns)?;
     let values = assign_all(alloc, &bound, &settings)?;
-    plan_and(alloc, specs, &bound, &schedules, &values)
+    steers_and(alloc, shelf, specs, &bound, &schedules, &values)
 }
 
 /// The job that a parameter file makes, with the list of thorns `ThornList`, the active thorns' files and the objects of routines that are
@@ -118,13 +183,14 @@ fn made_of(alloc: Global, configured: Configured, specs: &[&Spec]) -> Result<Job
 ///
 /// The stages stand in this order, and the first fault counts. The parameter file; the list of thorns; each active thorn's place in it;
 /// per thorn `interface.ccl`, `param.ccl`, `schedule.ccl` and `configuration.ccl` under `arrangements/Arrangement/Thorn/`, of which the
-/// last one may be absent; binding; the parameters' values; the plan; the variables that are written, sought by their full names; the
+/// last one may be absent; binding; the parameters' values; the steer file, where
+/// `IO::steer_file` names one, and its lines; the plan; the variables that are written, sought by their full names; the
 /// items' routines, in the order of items; the limits but that of local cells; the cut of the grid; the limit of local cells; that
 /// each object of an item that is run sweeps the largest part, in the order of items; and the check that no routine reads a point that
 /// nobody has filled.
 ///
-/// Shelf: the shelf failed. NoFile: a file isn't there. Text, Ccl: a file's text has no tokens, or its tokens spell nothing. Bind, Value,
-/// Order, Region: the fault of that stage; Order has the path `output` for a name in `IO::out_vars`. UnknownRoutine: no object has the
+/// Shelf: the shelf failed. NoFile: a file isn't there. Text, Ccl: a file's text has no tokens, or its tokens spell nothing. Steer: a line
+/// of the steer file can't steer, with the file's name. Bind, Value, Order, Region: the fault of that stage; Order has the path `output` for a name in `IO::out_vars`. UnknownRoutine: no object has the
 /// thorn and the name of an item of a bin that is run. RoutineMismatch: its Spec names other variables, levels or regions than
 /// READS and WRITES, a name that means no one level, or a parameter that no thorn can use or that has no number. Limit: an item has more than
 /// 16 `writes`, 32 `reads` or 32 `parameters`, the grid more than 2^24 `points`, or its stored levels together more than 2^26 `owned cells`, or the
@@ -154,5 +220,5 @@ pub fn make_job<H: Shelf>(
 {
     let specs = specs_of(alloc, routines)?;
     let configured = configure(alloc, shelf, name)?;
-    made_of(alloc, configured, &specs)
+    made_of(alloc, shelf, configured, &specs)
 }

@@ -1,6 +1,6 @@
 //! The stages from thorns to a job, with their faults as a job's.
 
-ghost use Rattle.std.specs.Prelude.{◌≡◌, ◌≤◌, ◌^◌, ◌↔◌, [], length, map, codes, IsTrue, IfOk, option_map};
+ghost use Rattle.std.specs.Prelude.{◌≡◌, ◌≤◌, ◌^◌, ◌↔◌, [], None, All, length, map, codes, IsTrue, IfOk, option_map};
 ghost use Rattle.cx_cut.specs.Cuts.{IsWhole as IsWholeCut};
 ghost use Rattle.cx_cut.specs.Faults.{parts_of, cut_fault};
 ghost use Rattle.cx_grid.specs.Grid.{IsShape};
@@ -9,17 +9,20 @@ ghost use Rattle.cx_order.specs.Files.{input_of};
 ghost use Rattle.cx_scope.specs.declared.fault.ScopeFault.TheVariants as scopes;
 ghost use Rattle.cx_job.specs.declared.fault.JobFault.TheVariants as faults;
 ghost use Rattle.cx_text.specs.Telling.{Tells};
-ghost use Rattle.cx_job.specs.JobLimits.{grid_limits, run_count};
+ghost use Rattle.cx_job.specs.JobLimits.{grid_limits, item_limits, run_count};
+ghost use Rattle.cx_job.specs.Jobs.{steered_job};
+ghost use Rattle.cx_bind.specs.Parameters.{parameters};
+ghost use Rattle.cx_values.specs.declared.fault.ValueFault.TheVariants as value_faults;
 ghost use Rattle.cx_job.specs.Caps.{caps_fault};
 ghost use Rattle.cx_job_values.specs.Grids.{shape_of};
 ghost use Rattle.cx_job_values.specs.Stored.{stored_infos};
 ghost use Rattle.cx_job_files.specs.Stages.{Is};
-ghost use Rattle.cx_job.specs.Making.{Yields, Orders, Matches, Accepts, CutAnd, IsOutputFault, assigned_values, bound_thorns, job_within, part_limits, cut_limits, within_cut, output_ids};
+ghost use Rattle.cx_job.specs.Making.{Yields, Orders, Matches, Accepts, CutAnd, IsOutputFault, IsSteerFault, assigned_values, bound_thorns, steered_steps, key_within, job_within, part_limits, cut_limits, within_cut, output_ids};
 
 use crate::caps::{check_caps, greatest_part};
 use crate::counting::run_count;
 use crate::fault::JobFault;
-use crate::job::job_of;
+use crate::job::{job_of, steered_job};
 use crate::limits::{
     check_grid_limits, check_item_limits, check_key, check_local_cells, first_items,
 };
@@ -30,14 +33,14 @@ use cx_cut::{Cut, cut};
 use cx_job_items::Routines;
 use cx_job_values::{shape_of, stored_infos};
 use cx_order::{OrderFault, Ordered, order};
-use cx_parfile::Settings;
+use cx_parfile::{Settings, SteerLine};
 use cx_plan::{Item, Job, VarId};
 use cx_region::check;
 use cx_rule::Spec;
 use cx_sched::ScheduleFile;
 use cx_scope::{Scope, ScopeFault};
 use cx_text::{List, Memory, Text};
-use cx_values::{Values, assign};
+use cx_values::{SteerStep, ValueFault, Values, assign, steer};
 use std::alloc::Global;
 
 /// Whether a name couldn't be looked up because memory ran out.
@@ -83,6 +86,42 @@ pub(crate) fn assign_all(
     ensures { Yields (Is (assigned_values bound.now settings.now.list)) result }
 {
     Ok(assign(alloc, bound, settings)?)
+}
+
+/// Whether a line couldn't be tested because memory ran out.
+fn is_steer_memory(fault: &ValueFault) -> bool
+    ensures { IsTrue result ↔ (fault.now ≡ value_faults.Memory) }
+{
+    matches!(fault, ValueFault::Memory)
+}
+
+/// The fault of a line of the steer file of this name, or want of memory.
+fn steer_fault(alloc: Global, name: &Text, fault: ValueFault) -> JobFault
+    ensures { IsSteerFault name.now fault result }
+{
+    if is_steer_memory(&fault) {
+        return JobFault::Memory;
+    }
+    match Text::from_slice(alloc, name.as_slice()) {
+        Ok(name) => JobFault::Steer(name, fault),
+        Err(_) => JobFault::Memory,
+    }
+}
+
+/// The steps of the lines of the steer file of this name.
+pub(crate) fn steer_all(
+    alloc: Global,
+    bound: &Bound,
+    values: &Values,
+    name: &Text,
+    lines: &List<SteerLine>,
+) -> Result<List<SteerStep>, JobFault>
+    ensures { Yields (Is (steered_steps name.now bound.now values.now lines.now)) result }
+{
+    match steer(alloc, bound, values, lines) {
+        Ok(steps) => Ok(steps),
+        Err(fault) => Err(steer_fault(alloc, name, fault)),
+    }
 }
 
 /// The plan of the schedule files.
@@ -136,23 +175,55 @@ pub(crate) struct Contents {
     pub(crate) out_vars: List<VarId>,
 }
 
-/// The job, within its limits.
+/// The job, unless its key is too long.
+fn within_key(alloc: Global, job: Job) -> Result<Job, JobFault>
+    ensures { Yields (Is (key_within job)) result }
+{
+    check_key(alloc, &job.key)?;
+    Ok(job)
+}
+
+/// The job with the steps of a steer file, and with a key that isn't too long.
+fn steered_within(
+    alloc: Global,
+    specs: &[&Spec],
+    bound: &Bound,
+    steps: &List<SteerStep>,
+    run: usize,
+    job: Job,
+) -> Result<Job, JobFault>
+    requires run { run ≡ run_count job.plan }
+    requires few { run ≤ 4096 }
+    requires short { item_limits run job.items ≡ None }
+    ensures { Yields (Is (key_within
+        (steered_job (map (λ s. s.now) specs.now) (parameters bound.now) steps.now job))) result }
+{
+    let params = bound.parameters().as_slice();
+    let job = steered_job(alloc, specs, params, steps.as_slice(), run, job)?;
+    within_key(alloc, job)
+}
+
+/// The job with the steps of a steer file, within its limits.
 pub(crate) fn within_limits(
     alloc: Global,
+    specs: &[&Spec],
     bound: &Bound,
     values: &Values,
+    steps: &List<SteerStep>,
     run: usize,
     ordered: Ordered,
     contents: Contents,
 ) -> Result<Job, JobFault>
-    ensures { Yields (Is (job_within run bound.now values.now ordered contents)) result }
+    requires run { run ≡ run_count ordered.plan }
+    requires few { run ≤ 4096 }
+    ensures { Yields (Is (job_within (map (λ s. s.now) specs.now) steps.now run bound.now
+        values.now ordered contents)) result }
 {
     let Contents { items, out_vars } = contents;
     check_item_limits(alloc, run, items.as_slice())?;
     check_grid(alloc, bound, values, &ordered.storage)?;
     let job = job_of(alloc, bound, values, ordered, items, out_vars)?;
-    check_key(alloc, &job.key)?;
-    Ok(job)
+    steered_within(alloc, specs, bound, steps, run, job)
 }
 
 /// The grid, cut as the job says.

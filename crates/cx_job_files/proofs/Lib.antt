@@ -5,3 +5,4 @@ pub mod OnlyFiles
 pub mod ConfiguringLaws
 pub mod WordLaws
 pub mod ReadNames
+pub mod SteerLaws

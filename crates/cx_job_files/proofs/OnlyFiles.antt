@@ -1,5 +1,5 @@
 -- Files say one thing, or they have one fault.
-use Rattle.std.proofs.Common.{◌≡◌, ◌∙◌, sym, ap, refl, ℕ, Bool, true, List, [], ◌∷◌, codes, Option, Some, None, Result, Ok, Err, inl, inr}
+use Rattle.std.proofs.Common.{◌≡◌, ◌∙◌, sym, ap, refl, ℕ, Bool, true, false, not, List, [], ◌∷◌, codes, Option, Some, None, Result, Ok, Err, inl, inr}
 use Rattle.std.specs.Prelude.{◌≢◌, ◌⊎◌}
 use Rattle.cx_text.specs.declared.token.Token.{Token}
 use Rattle.cx_text.specs.declared.token.Style.{Style}
@@ -23,9 +23,11 @@ use Rattle.cx_conf.specs.declared.thorn_list.ThornList.{ThornList}
 use Rattle.cx_conf.proofs.ConfLaws.{configuration_good}
 use Rattle.cx_conf.proofs.ThornLaws.{thorn_list_good}
 use Rattle.cx_parfile.specs.ParFile.{parameter_file}
-use Rattle.cx_parfile.specs.Values.{base_of}
+use Rattle.cx_parfile.specs.SteerFile.{steer_file}
+use Rattle.cx_parfile.specs.Values.{base_of, is_empty}
 use Rattle.cx_parfile.specs.declared.settings.Settings.{Settings}
 use Rattle.cx_parfile.proofs.ParLaws.{parameter_file_good}
+use Rattle.cx_parfile.proofs.SteerLaws.{steer_file_good}
 use Rattle.cx_param.specs.Params.{params}
 use Rattle.cx_param.specs.declared.declarations.ParamDecl.{ParamDecl}
 use Rattle.cx_param.proofs.ParamLaws.{params_good, file_ends}
@@ -45,7 +47,7 @@ use Rattle.cx_job_files.specs.declared.reading.Trees.{Trees}
 use Rattle.cx_job_files.specs.Shelf.{Held}
 use Rattle.cx_text.specs.Telling.{Stage, Then}
 use Rattle.cx_job_files.specs.Stages.{Is, or_fault}
-use Rattle.cx_job_files.specs.Reading.{TextTokens, Tokens, TokensIfAny, Tree, TreeIfAny, File, FileOr, ConfAnd, ScheduleAnd, ParamsAnd, ThornSays, file_names, SaysConfiguration, files_of}
+use Rattle.cx_job_files.specs.Reading.{TextTokens, Tokens, TokensIfAny, Tree, TreeIfAny, File, FileOr, ConfAnd, ScheduleAnd, ParamsAnd, ThornSays, file_names, SaysConfiguration, SaysSteersIf, SaysSteers, files_of}
 use Rattle.cx_job_files.specs.Configuring.{configuration_of, ThornsSay, ThornsAnd, PlacesAnd, ListAnd, Configures}
 use Rattle.cx_job_files.proofs.Settled as settled
 
@@ -238,3 +240,13 @@ module _ (files : Held) where
       (λ settings. ListAnd settings files)
       (file_settled Par (parameter_file (base_of name)).derives name
       (clear (parameter_file_good (base_of name)) refl)) list_settled
+
+  -- ---- the steer file
+
+  steers_settled_if : (named : Bool) (name : List ℕ) → Settled (SaysSteersIf named name files)
+  steers_settled_if true name =
+      file_settled Par steer_file.derives name (clear steer_file_good refl)
+  steers_settled_if false name = settled_is (Ok [])
+
+  pub steers_settled : (name : List ℕ) → Settled (SaysSteers name files)
+  steers_settled name = steers_settled_if (not (is_empty name)) name

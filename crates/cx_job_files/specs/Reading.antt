@@ -1,5 +1,5 @@
 -- What the files of a configuration say, or what is wrong first.
-use Rattle.std.specs.Prelude.{◌≡◌, ◌≢◌, ◌≤◌, ◌⊎◌, ℕ, List, [], length, codes, ◌++◌, Option, Some, None, Result, Ok, Err}
+use Rattle.std.specs.Prelude.{Bool, true, false, not, ◌≡◌, ◌≢◌, ◌≤◌, ◌⊎◌, ℕ, List, [], length, codes, ◌++◌, Option, Some, None, Result, Ok, Err}
 use Rattle.cx_text.specs.declared.token.Token.{Token}
 use Rattle.cx_text.specs.declared.token.Style.{Style}
 use Rattle.cx_text.specs.declared.token.Style.TheVariants.{Ccl, Par, Thorns}
@@ -22,7 +22,9 @@ use Rattle.cx_conf.specs.declared.thorn_list.ThornList.{ThornList}
 use Rattle.cx_conf.specs.Thorns.{thorn_list}
 use Rattle.cx_parfile.specs.declared.settings.Settings.{Settings}
 use Rattle.cx_parfile.specs.ParFile.{parameter_file}
-use Rattle.cx_parfile.specs.Values.{base_of}
+use Rattle.cx_parfile.specs.SteerFile.{steer_file}
+use Rattle.cx_parfile.specs.Values.{base_of, is_empty}
+use Rattle.cx_parfile.specs.declared.steer.SteerLine.{SteerLine}
 use Rattle.cx_bind.specs.declared.thorns.Thorn.{Thorn}
 use Rattle.cx_job_files.specs.declared.fault.ConfigFault.{ConfigFault}
 use Rattle.cx_job_files.specs.declared.fault.ConfigFault.TheVariants as faults
@@ -105,6 +107,17 @@ SaysThornList name = File Thorns thorn_list.derives name
 
 abbrev pub SaysSettings : List ℕ → Held → Stage Settings ConfigFault
 SaysSettings name = File Par (parameter_file (base_of name)).derives name
+
+abbrev pub SaysSteerFile : List ℕ → Held → Stage (List SteerLine) ConfigFault
+SaysSteerFile name = File Par steer_file.derives name
+
+abbrev pub SaysSteersIf : Bool → List ℕ → Held → Stage (List SteerLine) ConfigFault
+SaysSteersIf true name files = SaysSteerFile name files
+SaysSteersIf false name files = Is (Ok [])
+
+-- the lines of the steer file of this name; without a name there are none
+abbrev pub SaysSteers : List ℕ → Held → Stage (List SteerLine) ConfigFault
+SaysSteers name files = SaysSteersIf (not (is_empty name)) name files
 
 -- ---- a thorn
 

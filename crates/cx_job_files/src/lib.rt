@@ -12,5 +12,5 @@ pub use configuring::{Configured, configure};
 pub use failing_shelf::FailingShelf;
 pub use fault::ConfigFault;
 pub use folder::FolderShelf;
-pub use reading::ThornFiles;
+pub use reading::{ThornFiles, steer_lines};
 pub use shelf::{MemoryShelf, Shelf, ShelfFault};

@@ -1,13 +1,13 @@
 //! Reading the files of a configuration.
 
-ghost use Rattle.std.specs.Prelude.{◌≡◌, ◌⊎◌, IfOk, Option, Some, None, Ok, codes};
+ghost use Rattle.std.specs.Prelude.{◌≡◌, ◌≤◌, ◌⊎◌, All, IfOk, Option, Some, None, Ok, codes};
 ghost use Rattle.cx_text.specs.declared.fault.TextFault.TheVariants as text_faults;
 ghost use Rattle.cx_text.specs.declared.fault.CclFault.TheVariants as ccl_faults;
 ghost use Rattle.cx_text.specs.Printing.{HasText};
 ghost use Rattle.cx_plan.specs.Whole.{IsName};
 ghost use Rattle.cx_parfile.specs.Values.{base_of};
 ghost use Rattle.cx_job_files.specs.declared.fault.ConfigFault.TheVariants as faults;
-ghost use Rattle.cx_job_files.specs.Reading.{Comes, ComesFrom, ConfAnd, Finds, IsTree, NamedText, NamedTree, ParamsAnd, SaysConfiguration, SaysInterface, SaysParams, SaysSchedule, SaysSettings, SaysThornList, ScheduleAnd, TextTokens, ThornSays, TokensOf, TokensOfAny, file_names, files_of, thorn_file};
+ghost use Rattle.cx_job_files.specs.Reading.{Comes, ComesFrom, ConfAnd, Finds, IsTree, NamedText, NamedTree, ParamsAnd, SaysConfiguration, SaysInterface, SaysParams, SaysSchedule, SaysSettings, SaysSteerFile, SaysSteers, SaysThornList, ScheduleAnd, TextTokens, ThornSays, TokensOf, TokensOfAny, file_names, files_of, thorn_file};
 ghost use Rattle.cx_job_files.specs.NamesAndLevels.{AreNamed, HasNames, IsReadThorn, SayOf};
 ghost use Rattle.cx_conf.specs.Conf.{no_configuration};
 
@@ -17,7 +17,7 @@ use cx_bind::Thorn;
 use cx_conf::{Configuration, ThornList, read_configuration, read_thornlist};
 use cx_iface::{Interface, read_interface};
 use cx_param::{ParamDecl, read_params};
-use cx_parfile::{Settings, base_of, read_parfile};
+use cx_parfile::{Settings, SteerLine, base_of, read_parfile, read_steer};
 use cx_sched::{ScheduleFile, read_schedule};
 use cx_text::{CclFault, List, Memory, Style, Text, TextFault, Token, tokens};
 use std::alloc::Global;
@@ -217,6 +217,35 @@ pub(crate) fn settings_file<H: Shelf>(
     let base = base_of(alloc, name)?;
     let tokens = required_tokens(alloc, shelf, name, Style::Par)?;
     named_tree(alloc, name, read_parfile(alloc, &tokens, &base))
+}
+
+/// What the steer file of this name says.
+fn steer_file<H: Shelf>(
+    alloc: Global,
+    shelf: &mut H,
+    name: &Text,
+) -> Result<List<SteerLine>, ConfigFault>
+    ensures follows { ComesFrom H.Shelf (SaysSteerFile name.now) shelf.old shelf.new result }
+    ensures later { IfOk result (All (λ line. 1 ≤ line.at)) }
+{
+    let tokens = required_tokens(alloc, shelf, name, Style::Par)?;
+    named_tree(alloc, name, read_steer(alloc, &tokens))
+}
+
+/// The lines of the steer file of this name, in the order of the file; without a name no file is read.
+pub fn steer_lines<H: Shelf>(
+    alloc: Global,
+    shelf: &mut H,
+    name: &Text,
+) -> Result<List<SteerLine>, ConfigFault>
+    ensures follows { ComesFrom H.Shelf (SaysSteers name.now) shelf.old shelf.new result }
+    // Each counts from an iteration after the beginning on.
+    ensures later { IfOk result (All (λ line. 1 ≤ line.at)) }
+{
+    if !name.is_empty() {
+        return steer_file(alloc, shelf, name);
+    }
+    Ok(List::empty(alloc))
 }
 
 /// What a configuration file says that is absent.

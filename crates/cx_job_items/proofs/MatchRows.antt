@@ -6,7 +6,13 @@ use Rattle.cx_plan.specs.declared.item.Region.TheVariants.{Interior, Everywhere}
 use Rattle.cx_plan.specs.declared.item.ItemKind.TheVariants.{Cell}
 use Rattle.cx_plan.specs.declared.item.Touch.{Touch}
 use Rattle.cx_plan.specs.declared.item.Item.{Item}
-use Rattle.cx_bind.proofs.Samples.{elem_ca}
+use Rattle.cx_param.specs.declared.declarations.PType.TheVariants.{Int}
+use Rattle.cx_param.specs.declared.declarations.Scope.TheVariants.{Restricted}
+use Rattle.cx_bind.specs.declared.thorns.Param.{Param}
+use Rattle.cx_bind.specs.BuiltIn.{from_to}
+use Rattle.cx_bind.specs.Parameters.{parameter_of}
+use Rattle.cx_bind.proofs.Samples.{decl, elem_ca}
+use Rattle.cx_values.specs.declared.steering.SteerStep.{SteerStep}
 use Rattle.cx_values.specs.declared.values.Slot.{Slot}
 use Rattle.cx_values.specs.declared.values.Values.{Values}
 use Rattle.cx_order.specs.Meanings.{World}
@@ -16,6 +22,7 @@ use Rattle.cx_rule.specs.declared.spec.Spec.{Spec}
 use Rattle.cx_rule.specs.Single.{want_of}
 use Rattle.cx_job_items.specs.declared.fault.MatchFault.TheVariants.{UnknownRoutine, RoutineMismatch}
 use Rattle.cx_job_items.specs.Matching.{ref_in, matched, all_matched}
+use Rattle.cx_job_items.specs.Steered.{steers_of}
 
 -- ---- names
 
@@ -189,3 +196,26 @@ row_first : all_matched world values (offering [] write_cell [] ∷ []) 2
     (record scheduled { name = codes "ca_count" } ∷ scheduled ∷ [])
     ≡ Err (UnknownRoutine (codes "EVOL/ca_step"))
 row_first = refl
+
+-- ---- steers
+
+abbrev rule : Param
+rule = parameter_of 0 elem_ca (decl Restricted Int (codes "rule") (from_to (pos 0) (pos 255) ∷ []))
+
+abbrev steps : List SteerStep
+steps =
+    record { at = 3; param = 0; index = None; value = Number (pos 30) }
+    ∷ record { at = 4; param = 0; index = Some 0; value = Number (pos 31) } ∷ []
+
+-- each use of the parameter in an item, in each item; an element of an array has none
+row_steers : steers_of
+    (other ∷ offering read_cell write_cell (codes "CA::rule" ∷ codes "ca::seed" ∷ codes "ca::rule"
+    ∷ []) ∷ []) (rule ∷ [])
+    (record (matched_step 1) { params = pos 1 ∷ pos 2 ∷ pos 3 ∷ [] }
+    ∷ record (matched_step 0) { params = [] }
+    ∷ record (matched_step 1) { params = pos 1 ∷ pos 2 ∷ pos 3 ∷ [] } ∷ []) steps
+    ≡ record { at = 3; item = 0; slot = 0; value = pos 30 }
+    ∷ record { at = 3; item = 0; slot = 2; value = pos 30 }
+    ∷ record { at = 3; item = 2; slot = 0; value = pos 30 }
+    ∷ record { at = 3; item = 2; slot = 2; value = pos 30 } ∷ []
+row_steers = refl

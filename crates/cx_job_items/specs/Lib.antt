@@ -1,2 +1,3 @@
 pub mod Matching
 pub mod Lookups
+pub mod Steered

@@ -7,7 +7,7 @@ ghost use Rattle.cx_bind.specs.BuiltIn.{starred};
 
 use cx_text::same_name;
 
-const STARRED: [&[u8]; 11] = [
+const STARRED: [&[u8]; 12] = [
     b"driver::parts_x",
     b"driver::parts_y",
     b"driver::parts_z",
@@ -19,6 +19,7 @@ const STARRED: [&[u8]; 11] = [
     b"IO::checkpoint_dir",
     b"IO::recover_dir",
     b"IO::recover",
+    b"IO::steer_file",
 ];
 
 /// Whether a name is one of these, in any case.

@@ -14,39 +14,17 @@ use Rattle.cx_bind.specs.declared.thorns.Thorn.{Thorn}
 use Rattle.cx_bind.specs.Faults.{is_grid}
 use Rattle.cx_values.specs.declared.values.Values.{Values}
 use Rattle.cx_text.specs.Digits.{natural_in}
-use Rattle.cx_values.specs.Assigned.{get, number}
+use Rattle.cx_values.specs.Assigned.{get}
+pub use Rattle.cx_values.specs.Numbers.{within, number_at, number_within, natural_within, is_on, holds_at}
 use Rattle.cx_job_values.specs.declared.direction.Direction.{Direction}
 use Rattle.cx_job_values.specs.declared.direction.Direction.TheVariants.{X, Y, Z}
 
 -- ---- the values of built-in parameters
 
--- A number between two ends is itself; any other one stands for the nearer end.
-abbrev pub within : ℤ → ℤ → ℤ → ℤ
-within low high n = int_max low (int_min n high)
-
--- the number of the built-in parameter of a full name
-abbrev pub number_at : Values → List ℕ → ℤ
-number_at v full = unwrap_or (number v full None) (pos 0)
-
--- the number of one whose range in the table of built-in parameters has these ends
-abbrev pub number_within : Values → ℤ → ℤ → List ℕ → ℤ
-number_within v low high full = within low high (number_at v full)
-
-abbrev pub natural_within : Values → ℕ → ℕ → List ℕ → ℕ
-natural_within v low high full = unsigned_abs (number_within v (pos low) (pos high) full)
-
-abbrev pub is_on : Value → Bool
-is_on (Flag b) = b
-is_on (Number n) = false
-is_on (Text text) = false
-
 abbrev pub text_of : Value → List ℕ
 text_of (Text text) = text
 text_of (Number n) = []
 text_of (Flag b) = []
-
-abbrev pub holds_at : Values → List ℕ → Bool
-holds_at v full = unwrap_or (option_map is_on (get v full None)) false
 
 abbrev pub text_at : Values → List ℕ → List ℕ
 text_at v full = unwrap_or (option_map text_of (get v full None)) []

@@ -1,13 +1,11 @@
 -- The numbers, the flags and the texts of a run, by the values of the built-in parameters.
-use Rattle.std.specs.Prelude.{ℕ, Bool, ℤ, pos, negsuc, List, codes, if◌then◌else◌}
+use Rattle.std.specs.Prelude.{ℕ, ℤ, pos, negsuc, List, codes, if◌then◌else◌}
 use Rattle.std.specs.Ordering.{int_eq}
 use Rattle.cx_plan.specs.declared.job.Recover.{Recover}
 use Rattle.cx_plan.specs.declared.job.Recover.TheVariants.{No, Auto, Autoprobe}
 use Rattle.cx_values.specs.declared.values.Values.{Values}
-use Rattle.cx_job_values.specs.Grids.{number_at, number_within, natural_within, holds_at, text_at}
-
-abbrev pub itlast : Values → ℕ
-itlast v = natural_within v 0 1000000 (codes "Cactus::cctk_itlast")
+pub use Rattle.cx_values.specs.Numbers.{itlast, checkpoint_every, on_end}
+use Rattle.cx_job_values.specs.Grids.{number_at, number_within, natural_within, text_at}
 
 abbrev pub while_limit : Values → ℕ
 while_limit v = natural_within v 1 1000000 (codes "driver::while_limit")
@@ -18,20 +16,18 @@ lead v = natural_within v 0 64 (codes "driver::lead")
 abbrev pub out_every : Values → ℤ
 out_every v = number_within v (negsuc 0) (pos 1000000) (codes "IO::out_every")
 
-abbrev pub checkpoint_every : Values → ℤ
-checkpoint_every v = number_within v (negsuc 0) (pos 1000000) (codes "IO::checkpoint_every")
-
 abbrev pub keep : Values → ℕ
 keep v = natural_within v 1 7 (codes "IO::checkpoint_keep")
-
-abbrev pub on_end : Values → Bool
-on_end v = holds_at v (codes "IO::checkpoint_on_terminate")
 
 abbrev pub out_dir : Values → List ℕ
 out_dir v = text_at v (codes "IO::out_dir")
 
 abbrev pub checkpoint_dir : Values → List ℕ
 checkpoint_dir v = text_at v (codes "IO::checkpoint_dir")
+
+-- the name of the steer file; without one no file steers
+abbrev pub steer_file : Values → List ℕ
+steer_file v = text_at v (codes "IO::steer_file")
 
 -- how a run begins, by the place of the word among no, auto and autoprobe
 abbrev pub recover_by : ℤ → Recover

@@ -6,12 +6,12 @@ ghost use Rattle.cx_bind.specs.Faults.{is_grid};
 ghost use Rattle.cx_job_values.specs.Grids.{number_along, dim_in, first_dim, dims, for_all_or, most_points, points_along, ghosts_along, is_periodic_along, shape_by, shape_of};
 
 use crate::Direction;
-use crate::built_in::{holds_along, holds_at, name_along, number_at, within};
+use crate::built_in::{holds_along, name_along};
 use cx_bind::{Bound, Thorn};
 use cx_grid::{Point, Shape};
 use cx_iface::{GType, Group};
 use cx_text::{Memory, Text};
-use cx_values::Values;
+use cx_values::{Values, holds_at, number_at, within};
 use std::alloc::Global;
 
 /// The most points of a direction.

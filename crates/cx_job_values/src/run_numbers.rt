@@ -1,21 +1,13 @@
-//! The numbers, the flags and the texts of a run, by the values of parameters.
+//! The numbers and the texts of a run, by the values of parameters.
 
 ghost use Rattle.std.specs.Prelude.{◌≡◌, IfOk};
-ghost use Rattle.cx_job_values.specs.RunNumbers.{itlast, while_limit, lead, out_every, checkpoint_every, keep, on_end, out_dir, checkpoint_dir, recover_by, recover_of};
+ghost use Rattle.cx_job_values.specs.RunNumbers.{while_limit, lead, out_every, keep, out_dir, checkpoint_dir, steer_file, recover_by, recover_of};
 
-use crate::built_in::{holds_at, natural_within, number_at, number_within, text_copy};
+use crate::built_in::text_copy;
 use cx_plan::Recover;
 use cx_text::{Memory, Text};
-use cx_values::Values;
+use cx_values::{Values, natural_within, number_at, number_within};
 use std::alloc::Global;
-
-/// The last iteration.
-pub fn itlast(alloc: Global, values: &Values) -> Result<u64, Memory>
-    ensures { IfOk result (λ n. n ≡ itlast values.now) }
-{
-    let n = natural_within(alloc, values, 0, 1_000_000, b"Cactus::cctk_itlast")?;
-    Ok(u64::from(n))
-}
 
 /// How many turns a WHILE takes at most.
 pub fn while_limit(alloc: Global, values: &Values) -> Result<u64, Memory>
@@ -40,25 +32,11 @@ pub fn out_every(alloc: Global, values: &Values) -> Result<i64, Memory>
     number_within(alloc, values, -1, 1_000_000, b"IO::out_every")
 }
 
-/// At which iterations checkpoints are written.
-pub fn checkpoint_every(alloc: Global, values: &Values) -> Result<i64, Memory>
-    ensures { IfOk result (λ n. n ≡ checkpoint_every values.now) }
-{
-    number_within(alloc, values, -1, 1_000_000, b"IO::checkpoint_every")
-}
-
 /// The number of the last checkpoint slot that is used.
 pub fn keep(alloc: Global, values: &Values) -> Result<u32, Memory>
     ensures { IfOk result (λ n. n ≡ keep values.now) }
 {
     natural_within(alloc, values, 1, 7, b"IO::checkpoint_keep")
-}
-
-/// Whether a checkpoint is written at the last iteration.
-pub fn on_end(alloc: Global, values: &Values) -> Result<bool, Memory>
-    ensures { IfOk result (λ flag. flag ≡ on_end values.now) }
-{
-    holds_at(alloc, values, b"IO::checkpoint_on_terminate")
 }
 
 /// The folder of the output.
@@ -73,6 +51,13 @@ pub fn checkpoint_dir(alloc: Global, values: &Values) -> Result<Text, Memory>
     ensures { IfOk result (λ dir. dir ≡ checkpoint_dir values.now) }
 {
     text_copy(alloc, values, b"IO::checkpoint_dir")
+}
+
+/// The name of the steer file, empty where no file steers.
+pub fn steer_file(alloc: Global, values: &Values) -> Result<Text, Memory>
+    ensures { IfOk result (λ name. name ≡ steer_file values.now) }
+{
+    text_copy(alloc, values, b"IO::steer_file")
 }
 
 /// How a run begins, by the place of the word among `no`, `auto` and `autoprobe`.

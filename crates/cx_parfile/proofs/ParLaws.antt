@@ -12,7 +12,7 @@ use Rattle.cx_text.proofs.Loops.{Short}
 use Rattle.cx_text.proofs.RuleLaws.{Good, Part, Any, Not, short_part, token_then, token_last, a_line_end, tail_loop, tail_then, tail_end, Tail, empty_then, option_good, option_empty, part_choice, weaker_good, part_then}
 use Rattle.cx_text.proofs.LexemeLaws.{a_word, sign_is}
 
-abbrev a_name : Means name_of
+abbrev pub a_name : Means name_of
 a_name = record {
   tok = a_word (97 ∷ []);
   x = record { owner = None; name = 97 ∷ []; line = 0 };
@@ -25,13 +25,13 @@ an_index = record { tok = a_word (48 ∷ []); x = 0; is = refl }
 abbrev a_value : (base : List ℕ) → Means (value_of base)
 a_value base = record { tok = a_word (97 ∷ []); x = 97 ∷ []; is = refl }
 
-bracketed_part : Part bracketed Any Any
+pub bracketed_part : Part bracketed Any Any
 bracketed_part = token_then (sign_is 91 refl) tt
     (λ u. token_then {F = Any} {G = Any} an_index tt
     (λ i. token_last {F = Any} (sign_is 93 refl) tt))
 
 -- what doesn't begin with a bracket
-abbrev NoBracket : Option Token → Type 0
+abbrev pub NoBracket : Option Token → Type 0
 NoBracket = Not (is_sign 91)
 
 active_part : (base : List ℕ) (s : Settings) → Part (active base s) NoBracket Any

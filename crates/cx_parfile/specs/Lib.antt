@@ -1,3 +1,4 @@
 pub mod Values
 pub mod ParFile
+pub mod SteerFile
 pub mod Printed

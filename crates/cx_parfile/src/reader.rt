@@ -47,7 +47,7 @@ fn is_long_owner(owner: &Option<Text>) -> bool
 }
 
 /// Reads the name of a parameter, with its owner if it has one. It is a fault if no more settings may come.
-fn name_here(reader: &mut Reader, alloc: Global, left: usize) -> Result<Name, Stop>
+pub(crate) fn name_here(reader: &mut Reader, alloc: Global, left: usize) -> Result<Name, Stop>
     ensures { Obeys (token name_of (name_mark left)) result reader.old reader.new }
 {
     match reader.rest {
@@ -133,7 +133,7 @@ fn bracketed(reader: &mut Reader) -> Result<Option<u32>, Stop>
 }
 
 /// Reads an optional index in brackets.
-fn index(reader: &mut Reader) -> Result<Option<u32>, Stop>
+pub(crate) fn index(reader: &mut Reader) -> Result<Option<u32>, Stop>
     ensures { Obeys index result reader.old reader.new }
 {
     if reader.at_sign(b'[') {
@@ -144,7 +144,7 @@ fn index(reader: &mut Reader) -> Result<Option<u32>, Stop>
 }
 
 /// The `=` before a value.
-fn equals(reader: &mut Reader) -> Result<(), Stop>
+pub(crate) fn equals(reader: &mut Reader) -> Result<(), Stop>
     ensures { Obeys (sign_here 61) result reader.old reader.new }
 {
     reader.sign_here(b'=')

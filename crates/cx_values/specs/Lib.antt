@@ -4,3 +4,5 @@ pub mod Special
 pub mod Faults
 pub mod Assigned
 pub mod Tables
+pub mod Numbers
+pub mod Steering

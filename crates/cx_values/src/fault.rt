@@ -7,7 +7,7 @@ use cx_text::{Memory, OrDash, Text};
 use std::alloc::{AllocError, AllocFailed};
 use thiserror::Error;
 
-/// Why parameters can't have values. The numbers are lines of the parameter file.
+/// Why parameters can't have values. The numbers are lines of the parameter file, or of the steer file.
 #[derive(Debug, Drop, Error)]
 pub enum ValueFault {
     /// The default of the parameter of this full name is no value, or lies outside the ranges of its own declaration.
@@ -28,6 +28,12 @@ pub enum ValueFault {
     /// A setting sets an element that an earlier one sets.
     #[error("Twice {0}")]
     Twice(u32),
+    /// A line of the steer file names a parameter that may not change, or not at that iteration.
+    #[error("NotSteerable {0}")]
+    NotSteerable(u32),
+    /// A line of the steer file has an iteration below that of the line before.
+    #[error("SteerOrder {0}")]
+    SteerOrder(u32),
     /// Memory is wanting.
     #[error("Memory")]
     Memory,

@@ -54,7 +54,12 @@ fn setting_value(
 }
 
 /// What a parameter holds that a setting sets.
-fn held_set(alloc: Global, dir: &[u8], param: &Param, setting: &Setting) -> Result<Held, ValueFault>
+pub(crate) fn held_set(
+    alloc: Global,
+    dir: &[u8],
+    param: &Param,
+    setting: &Setting,
+) -> Result<Held, ValueFault>
     ensures told { Tells faults.Memory
         (value_fault dir.now param.now setting.now.line setting.now.value) result }
     ensures held { IfOk result

@@ -144,7 +144,7 @@ fn number_of_word(text: &[u8], ranges: &[Range]) -> Option<i64>
 }
 
 /// The value as a number: a keyword's place among its words, 0 or 1 for a flag. A text has none.
-fn number_by(ptype: PType, ranges: &[Range], value: &Value) -> Option<i64>
+pub fn number_by(ptype: PType, ranges: &[Range], value: &Value) -> Option<i64>
     requires { length ranges.now < 2 ^ 63 }
     ensures { result ≡ number_by ptype ranges.now value.now }
 {

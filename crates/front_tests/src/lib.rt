@@ -14,4 +14,6 @@ mod region;
 #[cfg(test)]
 mod scope;
 #[cfg(test)]
+mod steers;
+#[cfg(test)]
 mod values;

@@ -82,18 +82,28 @@ const FAULTS: &[(&str, &str, u32)] = &[
         1,
     ),
     ("IO::checkpoint_ID = yes\n", "OutOfRange", 1),
+    ("IO::steer_file = s.txt\n", "", 0),
 ];
+
+/// The name of a fault, and its line; 0 where it keeps none.
+pub(crate) fn named(fault: &ValueFault) -> (&'static str, u32) {
+    match fault {
+        ValueFault::BadDefault(_) => ("BadDefault", 0),
+        ValueFault::UnknownParam(line) => ("UnknownParam", *line),
+        ValueFault::Index(line) => ("Index", *line),
+        ValueFault::BadSpelling(line) => ("BadSpelling", *line),
+        ValueFault::OutOfRange(line) => ("OutOfRange", *line),
+        ValueFault::Twice(line) => ("Twice", *line),
+        ValueFault::NotSteerable(line) => ("NotSteerable", *line),
+        ValueFault::SteerOrder(line) => ("SteerOrder", *line),
+        ValueFault::Memory => ("Memory", 0),
+    }
+}
 
 fn fault_of(answer: &Result<Values, ValueFault>) -> (&'static str, u32) {
     match answer {
         Ok(_) => ("", 0),
-        Err(ValueFault::BadDefault(_)) => ("BadDefault", 0),
-        Err(ValueFault::UnknownParam(line)) => ("UnknownParam", *line),
-        Err(ValueFault::Index(line)) => ("Index", *line),
-        Err(ValueFault::BadSpelling(line)) => ("BadSpelling", *line),
-        Err(ValueFault::OutOfRange(line)) => ("OutOfRange", *line),
-        Err(ValueFault::Twice(line)) => ("Twice", *line),
-        Err(ValueFault::Memory) => ("Memory", 0),
+        Err(fault) => named(fault),
     }
 }
 
@@ -194,7 +204,8 @@ const VALUES: &[Told] = &[
     ),
 ];
 
-fn words(alloc: Global, value: &Value) -> Result<Text, Fail> {
+/// A value in words.
+pub(crate) fn words(alloc: Global, value: &Value) -> Result<Text, Fail> {
     match value {
         Value::Number(n) => text(alloc, n.to_string(alloc)?.as_bytes()),
         Value::Flag(true) => text(alloc, b"yes"),
@@ -262,6 +273,7 @@ const DEFAULTS: &[(&str, &str)] = &[
     ("IO::recover_dir", "."),
     ("IO::recover", "no"),
     ("IO::checkpoint_ID", "no"),
+    ("IO::steer_file", ""),
 ];
 
 #[test]

@@ -1,10 +1,10 @@
 //! The first faults of all kinds of files, with their lines.
 
-use crate::{configurations, interfaces, parameter_files, params, schedules};
+use crate::{configurations, interfaces, parameter_files, params, schedules, steer_files};
 use cx_conf::{read_configuration, read_thornlist};
 use cx_iface::read_interface;
 use cx_param::read_params;
-use cx_parfile::read_parfile;
+use cx_parfile::{read_parfile, read_steer};
 use cx_sched::read_schedule;
 use cx_text::{CclFault, List, Memory, Style, Text, Token, tokens};
 use std::alloc::Global;
@@ -20,6 +20,7 @@ pub enum Kind {
     Configuration,
     ThornList,
     ParameterFile,
+    SteerFile,
 }
 
 /// Each reader's texts that have a fault.
@@ -30,12 +31,13 @@ const FAULTS: &[(Kind, &[(&str, CclFault)])] = &[
     (Kind::Configuration, configurations::FAULTS),
     (Kind::ThornList, configurations::LIST_FAULTS),
     (Kind::ParameterFile, parameter_files::FAULTS),
+    (Kind::SteerFile, steer_files::FAULTS),
 ];
 
 pub fn style_of(kind: Kind) -> Style {
     match kind {
         Kind::ThornList => Style::Thorns,
-        Kind::ParameterFile => Style::Par,
+        Kind::ParameterFile | Kind::SteerFile => Style::Par,
         _ => Style::Ccl,
     }
 }
@@ -50,6 +52,7 @@ pub fn fault_in(alloc: Global, kind: Kind, list: &List<Token>) -> Result<Option<
         Kind::Configuration => read_configuration(alloc, list).err(),
         Kind::ThornList => read_thornlist(alloc, list).err(),
         Kind::ParameterFile => read_parfile(alloc, list, &base).err(),
+        Kind::SteerFile => read_steer(alloc, list).err(),
     })
 }
 

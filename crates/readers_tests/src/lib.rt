@@ -33,4 +33,6 @@ mod schedule_rules;
 #[cfg(test)]
 mod schedules;
 #[cfg(test)]
+mod steer_files;
+#[cfg(test)]
 mod texts;

@@ -10,7 +10,7 @@ use Rattle.cx_plan.specs.Paths.{Sound}
 use Rattle.cx_plan.specs.Whole.{IsWhole}
 use Rattle.cx_outputs.specs.Names.{HasShortNames}
 use Rattle.cx_rule.specs.Jobs.{FitJob}
-use Rattle.cx_job.specs.Making.{Yields, MadeOf}
+use Rattle.cx_job.specs.Making.{MadeOf, ReachesFrom}
 use Rattle.cx_job.proofs.MakingLaws.{makes_pass, makes_halt, makes_memory}
 use Rattle.cx_job.proofs.ReadyLaws.{if_ready}
 use Rattle.cx_job.proofs.making.make_job.Goals as goal
@@ -38,10 +38,13 @@ pub returns-clause-made : goal.returns-clause-made
 returns-clause-made g c =
     makes_pass (map (λ r. (goal.Routine-dyn g (r.vtable, r.value)).spec_of r.value)
     c.args.routines.now) g.H.Shelf.tells c.args.name.now (g.H.Shelf.held c.args.shelf.now)
-    (g.H.Shelf.held c.configure.new.shelf)
+    (g.H.Shelf.held c.configure.new.shelf) (g.H.Shelf.held c.made_of.new.shelf)
     (g.H.Shelf.faults c.args.shelf.now) (g.H.Shelf.faults c.configure.new.shelf)
+    (g.H.Shelf.faults c.made_of.new.shelf)
     c.in_ok-configured.configured c.made_of.result c.in_ok-configured.ensures.follows
-    (subst (λ specs. Yields (MadeOf specs c.in_ok-configured.configured) c.made_of.result)
+    (subst (λ specs. ReachesFrom g.H.Shelf
+    (λ files. MadeOf specs files c.in_ok-configured.configured)
+    c.configure.new.shelf c.made_of.new.shelf c.made_of.result)
     (ap (map (λ s. s.now)) c.deref.ensures.value ∙ c.in_ok-specs.ensures)
     c.made_of.ensures.made)
 

@@ -13,20 +13,21 @@ returns-in_err-ordered-clause-made c =
     let values = c.args.values.now in
     let p = err_from_is_err_and c.from_residual.result c.from_residual.ensures.1 in
     rw (p.1, p.2) (yields_halt (Orders (input_of thorns c.args.schedules.now values))
-    (OutputsAnd specs thorns values) c.in_err-ordered.field-0.0 c.in_err-ordered.ensures)
+    (OutputsAnd specs c.args.steps.now thorns values)
+    c.in_err-ordered.field-0.0 c.in_err-ordered.ensures)
 
 pub returns-in_err-out_vars-clause-made : goal.returns-in_err-out_vars-clause-made
 returns-in_err-out_vars-clause-made c =
     let p = err_from_is_err_and c.from_residual-in_err-out_vars.result
     c.from_residual-in_err-out_vars.ensures.1 in
     rw (p.1, p.2)
-    (unwritten (map (λ s. s.now) c.args.specs.now)
-    c.args.bound.now c.args.schedules.now c.args.values.now c.in_ok-ordered.ordered
+    (unwritten (map (λ s. s.now) c.args.specs.now) c.args.schedules.now
+    c.args.bound.now c.args.values.now c.args.steps.now c.in_ok-ordered.ordered
     c.in_err-out_vars.field-0.0 c.in_ok-ordered.ensures c.in_err-out_vars.ensures)
 
 pub returns-clause-made : goal.returns-clause-made
 returns-clause-made c =
-    plan_made (map (λ s. s.now) c.args.specs.now)
-    c.args.bound.now c.args.schedules.now c.args.values.now c.in_ok-ordered.ordered
+    plan_made (map (λ s. s.now) c.args.specs.now) c.args.schedules.now
+    c.args.bound.now c.args.values.now c.args.steps.now c.in_ok-ordered.ordered
     c.in_ok-out_vars.out_vars c.items_and.result
     c.in_ok-ordered.ensures c.in_ok-out_vars.ensures c.items_and.ensures.made

@@ -1,19 +1,26 @@
-use Rattle.std.proofs.Common.{◌≡◌, ◌⊎◌, subst, Some}
-use Rattle.std.proofs.lemmas.Result.{err_from_is_err_and}
-use Rattle.cx_job.specs.declared.fault.JobFault.TheVariants as faults
-use Rattle.cx_job.specs.JobLimits.{key_limit}
-use Rattle.cx_job.specs.Jobs.{job_of}
-use Rattle.cx_job.proofs.MakingLaws.{key_over}
+use Rattle.std.proofs.Common.{◌≡◌, ◌∙◌, sym, ap, subst, map, None}
+use Rattle.cx_plan.specs.declared.job.Job.{Job}
+use Rattle.cx_bind.specs.Parameters.{parameters}
+use Rattle.cx_job.specs.Jobs.{job_of, steered_job}
+use Rattle.cx_job.specs.JobLimits.{item_limits, run_count}
+use Rattle.cx_job.proofs.MakingLaws.{key_told}
 use Rattle.cx_job.proofs.stages.within_limits.Goals as goal
 
-pub returns-in_err-check_key : goal.returns-in_err-check_key
-returns-in_err-check_key c =
-    let p = err_from_is_err_and c.from_residual-in_err-check_key.result
-    c.from_residual-in_err-check_key.ensures.1 in
-    let e = c.in_err-check_key.field-0.0 in
-    rw (p.1, p.2)
-    (key_over c.args.run (job_of c.args.bound.now c.args.values.now c.args.ordered
-    c.args.contents.items c.args.contents.out_vars) e
+pub steered_within-requires-clause-run : goal.steered_within-requires-clause-run
+steered_within-requires-clause-run c =
+    c.requires.run ∙ ap (λ (j : Job). run_count j.plan) (sym c.in_ok-job.ensures)
+
+pub steered_within-requires-clause-short : goal.steered_within-requires-clause-short
+steered_within-requires-clause-short c =
+    subst (λ (j : Job). item_limits c.args.run j.items ≡ None) (sym c.in_ok-job.ensures)
+    (rw c.as_slice.ensures at c.in_ok-check_item_limits.ensures)
+
+pub returns : goal.returns
+returns c =
+    let specs = map (λ s. s.now) c.args.specs.now in
+    let job = job_of c.args.bound.now c.args.values.now c.args.ordered c.args.contents.items
+    c.args.contents.out_vars in
+    key_told c.args.run
+    (steered_job specs (parameters c.args.bound.now) c.args.steps.now job) c.steered_within.result
     (rw c.as_slice.ensures at c.in_ok-check_item_limits.ensures) c.in_ok-check_grid.ensures
-    (subst (λ j. (e ≡ faults.Memory) ⊎ (key_limit j.key ≡ Some e))
-    c.in_ok-job.ensures c.in_err-check_key.ensures))
+    (rw c.in_ok-job.ensures at c.steered_within.ensures)

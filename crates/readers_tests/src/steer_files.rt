@@ -1,0 +1,76 @@
+//! Texts of steer files.
+
+use cx_parfile::read_steer;
+use cx_text::{CclFault, Style, Text, tokens};
+use std::test::Fail;
+
+const FILE: &[u8] = b"# steps\n@1 wave::factor = 0\n@0000002 edge[1023] = \"a b\"\n\n\
+    @2 ActiveThorns = $parfile\n@1000000 wave::factor = x";
+
+/// Iteration, owner, name, index, value and line.
+type Line = (
+    u64,
+    &'static str,
+    &'static str,
+    Option<u32>,
+    &'static str,
+    u32,
+);
+
+/// What each line says; an owner is empty where there is none.
+const LINES: &[Line] = &[
+    (1, "wave", "factor", None, "0", 2),
+    (2, "", "edge", Some(1023), "a b", 3),
+    (2, "", "ActiveThorns", None, "$parfile", 5),
+    (1_000_000, "wave", "factor", None, "x", 6),
+];
+
+/// Files, and their first faults.
+pub const FAULTS: &[(&str, CclFault)] = &[
+    ("wave::factor = 0\n", CclFault::Unexpected(1)),
+    ("@1 a = 1\n@ a = 1\n", CclFault::Unexpected(2)),
+    ("2 a = 1\n", CclFault::Unexpected(1)),
+    ("@12345678 a = 1\n", CclFault::Unexpected(1)),
+    ("@2x a = 1\n", CclFault::Unexpected(1)),
+    ("\"@2\" a = 1\n", CclFault::Unexpected(1)),
+    ("@2\na = 1\n", CclFault::Unexpected(1)),
+    ("@2 a = 1 b\n", CclFault::Unexpected(1)),
+    ("@2 a:b = 1\n", CclFault::Unexpected(1)),
+    ("@1 a = 1\n@0 a = 1\n", CclFault::BadNumber(2)),
+    ("@1000001 a = 1\n", CclFault::BadNumber(1)),
+    ("@9999999 a = 1\n", CclFault::BadNumber(1)),
+    ("@1 a[1024] = 1\n", CclFault::BadNumber(1)),
+    (
+        "@1 abcdefghijklmnopqrstuvwxyzabcdefghijklmnopqrstuvwxyz0123456789abc = 1\n",
+        CclFault::Limit(1),
+    ),
+];
+
+/// An owner's name, empty where there is none.
+fn owner_of(owner: &Option<Text>) -> &[u8] {
+    match owner {
+        Some(owner) => owner.as_slice(),
+        None => b"",
+    }
+}
+
+#[test]
+fn a_steer_file_is_read(rt: HostRuntime) -> Result<(), Fail> {
+    let alloc = rt.alloc();
+    let lines = read_steer(alloc, &tokens(alloc, FILE, Style::Par)?)?;
+    assert_eq!(rt; lines.len(), LINES.len(), "how many lines");
+    for (line, want) in lines.as_slice().iter().zip(LINES) {
+        let (at, owner, name, index, value, number) = *want;
+        let setting = &line.setting;
+        let texts = (
+            owner_of(&setting.owner),
+            setting.name.as_slice(),
+            setting.value.as_slice(),
+        );
+        let wanted = (owner.as_bytes(), name.as_bytes(), value.as_bytes());
+        assert_eq!(rt; texts, wanted, "line {number}");
+        let place = (line.at, setting.index, setting.line);
+        assert_eq!(rt; place, (at, index, number), "line {number}");
+    }
+    Ok(())
+}
