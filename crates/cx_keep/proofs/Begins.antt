@@ -171,6 +171,7 @@ trails_quiet course old mid trails quiet c now = let d = quiet.crash c now in
 pub resumed_quiet : (course : Course) (chk : Checkpoint) (old mid : View) → IsResumed course chk old
     → IsQuiet old mid → IsResumed course chk mid
 resumed_quiet course chk old mid r quiet = record {
+  key = r.key;
   of_run = r.of_run;
   newest = newest_same old.seen mid.seen (λ s lt. quiet.same s) (Some chk.iteration) r.newest;
   reach = reach_same course true chk old.seen mid.seen quiet.same r.reach;
@@ -205,7 +206,8 @@ cut_moments course monotone chk old mid new counts trails quiet settled sound re
       shorter = λ j out. let e = ap length (from.2 (file_of_output j)) in
           let le = cut_shorter (slice_index chk.lengths j) (cut.image (file_of_output j))
           (c (file_of_output j)) (cut.outputs j (omega arith)) in omega arith;
-      trail = cut_trail course monotone chk r.of_run chk.lengths (length chk.lengths) counts
+      trail = cut_trail course monotone (with_key r.key chk) r.of_run chk.lengths
+          (length chk.lengths) counts
           (λ j out. refl) mid sound (trails_quiet course old mid trails quiet)
           settled r.newest c cut;
     })

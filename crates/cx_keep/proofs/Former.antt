@@ -65,8 +65,8 @@ newest_at files slot n is =
     subst (λ (o : Option (ℕ × ℕ)). NewestBelow 8 files o) is (newest_law 8 files)
 
 module _ (course : Course) (v : View) (sound : IsView v) (trails : AreTrails course v) (slot n : ℕ)
-    (newest : newest_below 8 v.seen ≡ Some (slot, n)) (d : Checkpoint)
-    (spelled : decoded (v.seen slot) ≡ Some d) where
+    (newest : newest_below 8 v.seen ≡ Some (slot, n)) (d : Checkpoint) (kept : List ℕ)
+    (spelled : decoded (v.seen slot) ≡ Some (with_key kept d)) where
   top : IsNewest 8 v.seen slot n
   top = newest_at v.seen slot n newest
 
@@ -82,8 +82,10 @@ module _ (course : Course) (v : View) (sound : IsView v) (trails : AreTrails cou
   unfolding place
   place_of_run = at.0.of_run
 
-  place_is : with_key at.0.key (in_version (is_second (v.seen slot)) at.0.checkpoint) ≡ d
-  place_is = some_is (with_key at.0.key (in_version (is_second (v.seen slot)) at.0.checkpoint)) d
+  place_is : with_key at.0.key (in_version (is_second (v.seen slot)) at.0.checkpoint)
+      ≡ with_key kept d
+  place_is = some_is (with_key at.0.key (in_version (is_second (v.seen slot)) at.0.checkpoint))
+      (with_key kept d)
       (sym (decoded_again (v.seen slot)
       (with_key at.0.key (in_version (is_second (v.seen slot)) at.0.checkpoint)) at.0.spelled)
       ∙ spelled)
@@ -92,43 +94,35 @@ module _ (course : Course) (v : View) (sound : IsView v) (trails : AreTrails cou
   place_newest = some_is n at.0.checkpoint.iteration
       (sym top.header ∙ header_of_run course (v.seen slot) at.0)
 
-  -- its key is the slot's
-  place_key : at.0.checkpoint.key ≡ d.key
-  place_key = sym at.0.key_fits ∙ ap (λ (c : Checkpoint). c.key) place_is
-
-  -- version 2: with the run's key it is that checkpoint, and the outputs reach it
-  resumed_of : (own : List ℕ) → at.0.checkpoint.key ≡ own → is_second (v.seen slot) ≡ true
-      → IsResumed course (with_key own d) v
-  resumed_of own keyed second =
-      let one : with_key at.0.key at.0.checkpoint ≡ d =
+  -- version 2: under the run's key it is that checkpoint, and the outputs reach it
+  pub resumed : is_second (v.seen slot) ≡ true → IsResumed course d v
+  resumed second =
+      let one : with_key at.0.key at.0.checkpoint ≡ with_key kept d =
       ap (λ (b : Bool). with_key at.0.key (in_version b at.0.checkpoint)) (sym second)
       ∙ place_is in
-      let same : at.0.checkpoint ≡ with_key own d =
-      ap (λ (k : List ℕ). with_key k at.0.checkpoint) keyed
-      ∙ ap (with_key own) one in
+      let same : at.0.checkpoint ≡ with_key at.0.checkpoint.key d =
+      ap (with_key at.0.checkpoint.key) one in
       let reach : OutputsReach course at.0.checkpoint v.seen =
       subst (λ (b : Bool). Reaches course b at.0.checkpoint v.seen) second at.1 in
-      let is = place_newest in
-      subst (λ (x : Checkpoint). IsResumed course x v) same (record {
-        of_run = at.0.of_run;
+      let is : n ≡ d.iteration =
+      place_newest ∙ ap (λ (x : Checkpoint). x.iteration) same in
+      record {
+        key = at.0.checkpoint.key;
+        of_run = subst (Has course.checkpoints) same at.0.of_run;
         newest = record {
           slot = slot;
           known = top.known;
           header = top.header ∙ ap (λ (k : ℕ). Some k) is;
           greatest = λ o m lt head. let le = top.greatest o m lt head in omega arith;
         };
-        reach = reach;
-      })
-
-  -- the keys are the same
-  pub resumed : is_second (v.seen slot) ≡ true → IsResumed course d v
-  resumed second = resumed_of d.key place_key second
+        reach = subst (λ (x : Checkpoint). OutputsReach course x v.seen) same reach;
+      }
 
   -- version 1
   module _ (split : List ℕ → Option (List (List ℕ))) (names : List (List ℕ))
       (splits : Splits split names course) (fronts : RecordsFronts course)
       (first : is_second (v.seen slot) ≡ false) where
-    former_is : with_key at.0.key (former_of at.0.checkpoint) ≡ d
+    former_is : with_key at.0.key (former_of at.0.checkpoint) ≡ with_key kept d
     former_is = ap (λ (b : Bool). with_key at.0.key (in_version b at.0.checkpoint)) (sym first)
         ∙ place_is
 
@@ -171,29 +165,17 @@ module _ (course : Course) (v : View) (sound : IsView v) (trails : AreTrails cou
           long = λ j lt. fronts.within chk j has lt;
         }
 
-    -- what is answered, with the run's key, is the run's own checkpoint
-    renewed_of : (own : List ℕ) → at.0.checkpoint.key ≡ own
-        → with_key own (renewed_by names d (fronts_at course place)) ≡ place
+    -- what is answered is, under the run's key, the run's own checkpoint
+    pub renewed_is : with_key place.key (renewed_by names d (fronts_at course place)) ≡ place
     unfolding place
-    renewed_of own keyed =
+    renewed_is =
         let chk = at.0.checkpoint in
         let sizes : map (λ (t : List ℕ). length t) (fronts_at course chk) ≡ chk.lengths =
         fronts_sizes chk.lengths course.outputs (fronts.counts chk at.0.of_run)
         (λ j lt. fronts.within chk j at.0.of_run lt) in
-        ap (λ (c : Checkpoint). with_key own (renewed_by names c (fronts_at course chk)))
+        ap (λ (c : Checkpoint). with_key chk.key (renewed_by names c (fronts_at course chk)))
         (sym former_is)
-        ∙ ap (λ (l : List ℕ). record chk { version = 2; key = own; names = names; lengths = l })
-        sizes
-        ∙ ap (λ (ns : List (List ℕ)).
-        record chk { version = 2; key = own; names = ns; lengths = chk.lengths })
+        ∙ ap (λ (l : List ℕ). record chk { version = 2; names = names; lengths = l }) sizes
+        ∙ ap (λ (ns : List (List ℕ)). record chk { version = 2; names = ns })
         (sym (splits.named chk at.0.of_run))
-        ∙ ap (λ (m : ℕ). record chk
-        { version = m; key = own; names = chk.names; lengths = chk.lengths })
-        (sym (fronts.version chk at.0.of_run))
-        ∙ ap (λ (k : List ℕ). record chk
-        { version = chk.version; key = k; names = chk.names; lengths = chk.lengths })
-        (sym keyed)
-
-    pub renewed_is : renewed_by names d (fronts_at course place) ≡ place
-    unfolding place
-    renewed_is = renewed_of d.key place_key
+        ∙ ap (λ (m : ℕ). record chk { version = m }) (sym (fronts.version chk at.0.of_run))

@@ -14,15 +14,14 @@ use Rattle.cx_plan.specs.Whole.{IsWhole}
 use Rattle.cx_outputs.specs.Names.{output_count, output_names, full_names}
 use Rattle.cx_ascii_read.specs.Splitting.{split_of}
 use Rattle.cx_chk.specs.declared.checkpoint.Checkpoint.{Checkpoint}
-use Rattle.cx_chk.specs.Encoding.{SpellsSlot}
 use Rattle.cx_chk.specs.Reading.{decoded}
 use Rattle.cx_chk.specs.Slots.{header_of, is_second, newest_below, IsOrShut, SlotsSettled}
 use Rattle.cx_chk.proofs.Decoding.{decoded_again}
 use Rattle.cx_keep.specs.Beginning.{IsWithinStart, CanStart, IsLeft, IsStarted, ResumeStands, RenewStands, RenewMoments, Starts, StartMoments}
 use Rattle.cx_keep.specs.Renewing.{CanRenew, AreRenewed, fronts_at}
 use Rattle.cx_keep.specs.Resuming.{AreTrails, CanResume, EarlierSame, ResumeMoments, SlotsKept}
-use Rattle.cx_keep.specs.Tests.{renewed, split_at}
-use Rattle.cx_keep.specs.Trails.{Course}
+use Rattle.cx_keep.specs.Tests.{SpellsAgreeing, renewed, split_at}
+use Rattle.cx_keep.specs.Trails.{Course, with_key}
 use Rattle.cx_keep.proofs.Afresh.{within_from}
 use Rattle.cx_keep.proofs.Begins.{left_back, resumed_quiet, trails_quiet}
 use Rattle.cx_keep.proofs.Former.{second_is, place, resumed, former_splits, can_renew, renewed_is}
@@ -64,7 +63,7 @@ renew_quiet course chk texts old mid can quiet = record {
 
 module _ (job : Job) (old mid new : View) (sound : IsView old) (slot n : ℕ)
     (newest : newest_below slot_count old.seen ≡ Some (slot, n)) (found : Checkpoint)
-    (spells : SpellsSlot (old.seen slot) found) (quiet : IsQuiet old mid) where
+    (spells : SpellsAgreeing (old.seen slot) found) (quiet : IsQuiet old mid) where
   -- ---- version 2
   module _ (two : found.version ≡ 2)
       (many : length found.lengths ≡ output_count (setup_of job)) where
@@ -72,14 +71,16 @@ module _ (job : Job) (old mid new : View) (sound : IsView old) (slot n : ℕ)
         → AreTrails course old → CanResume course found mid
     can_resume course recover can trails =
         let second : is_second (old.seen slot) ≡ true =
-        second_is (old.seen slot) found spells ∙ ap (λ (v : ℕ). v == 2) two in
+        second_is (old.seen slot) (with_key spells.key found) spells.spelled
+        ∙ ap (λ (v : ℕ). v == 2) two in
         record {
           monotone = can.monotone;
           counts = many ∙ sym can.outputs;
           trails = trails_quiet course old mid trails quiet;
           resumed = resumed_quiet course found old mid
-              (resumed course old sound trails slot n newest found
-              (decoded_again (old.seen slot) found spells) second) quiet;
+              (resumed course old sound trails slot n newest found spells.key
+              (decoded_again (old.seen slot) (with_key spells.key found) spells.spelled) second)
+              quiet;
         }
 
     pub second_moments : ResumeMoments found mid new → StartMoments job Autoprobe old new
@@ -103,21 +104,22 @@ module _ (job : Job) (old mid new : View) (sound : IsView old) (slot n : ℕ)
   module _ (whole : IsWhole job) (not_two : found.version ≡ 2 → ⊥) (texts : List (List ℕ))
       (split : split_at job (slice_index found.lengths 0) old.seen ≡ Some texts) where
     first : is_second (old.seen slot) ≡ false
-    first = second_is (old.seen slot) found spells ∙ ne_eqb found.version 2 not_two
+    first = second_is (old.seen slot) (with_key spells.key found) spells.spelled
+        ∙ ne_eqb found.version 2 not_two
 
-    spelled : decoded (old.seen slot) ≡ Some found
-    spelled = decoded_again (old.seen slot) found spells
+    spelled : decoded (old.seen slot) ≡ Some (with_key spells.key found)
+    spelled = decoded_again (old.seen slot) (with_key spells.key found) spells.spelled
 
     module _ (course : Course) (recover : Recover)
         (can : CanStart (setup_of job) course recover old)
         (trails : AreTrails course old) where
       of_run : Checkpoint
-      of_run = place course old sound trails slot n newest found spelled
+      of_run = place course old sound trails slot n newest found spells.key spelled
 
       texts_are : texts ≡ fronts_at course of_run
       unfolding of_run
       texts_are = some_is texts _ (sym split
-          ∙ former_splits course old sound trails slot n newest found spelled
+          ∙ former_splits course old sound trails slot n newest found spells.key spelled
           (λ (b : List ℕ). split_of b (full_names (setup_of job))) (output_names (setup_of job))
           can.splits can.fronts first)
 
@@ -125,14 +127,14 @@ module _ (job : Job) (old mid new : View) (sound : IsView old) (slot n : ℕ)
       unfolding of_run
       renews = renew_quiet course of_run texts old mid
           (subst (λ (ts : List (List ℕ)). CanRenew course of_run ts old) (sym texts_are)
-          (can_renew course old sound trails slot n newest found spelled
+          (can_renew course old sound trails slot n newest found spells.key spelled
           (λ (b : List ℕ). split_of b (full_names (setup_of job))) (output_names (setup_of job))
           can.splits can.fronts first)) quiet
 
-      answer_is : renewed job found texts ≡ of_run
+      answer_is : with_key of_run.key (renewed job found texts) ≡ of_run
       unfolding of_run
-      answer_is = ap (renewed job found) texts_are
-          ∙ renewed_is course old sound trails slot n newest found spelled
+      answer_is = ap (λ (ts : List (List ℕ)). with_key of_run.key (renewed job found ts)) texts_are
+          ∙ renewed_is course old sound trails slot n newest found spells.key spelled
           (λ (b : List ℕ). split_of b (full_names (setup_of job))) (output_names (setup_of job))
           can.splits can.fronts first
 

@@ -1,4 +1,5 @@
 pub mod Afresh
+pub mod AgreementLaws
 pub mod Appends
 pub mod Begins
 pub mod Fitting

@@ -4,7 +4,7 @@ use Rattle.cx_disk.specs.Disk.{Files, View, CutShort, LeavesOnly, IsSettled}
 use Rattle.cx_chk.specs.declared.checkpoint.Checkpoint.{Checkpoint}
 use Rattle.cx_disk.specs.Files.{slot_count, old_output_file}
 use Rattle.cx_chk.specs.Slots.{SlotsSettled, IsOrShut}
-use Rattle.cx_keep.specs.Trails.{Course, Has, IsTrail, NewestIs, OutputsReach, text_of, former_length, length_in, file_of_output}
+use Rattle.cx_keep.specs.Trails.{Course, Has, IsTrail, NewestIs, OutputsReach, text_of, former_length, length_in, file_of_output, with_key}
 
 -- an image from before, where each of the first outputs may be cut, in part or whole
 pub record IsCutTo (lengths : List ℕ) (count : ℕ) (old : View) (c : Files) : Type 0 where
@@ -94,9 +94,11 @@ pub record IsTrailFrom (course : Course) (old : View) (c : Files) : Type 0 where
       → length (c (file_of_output j)) ≤ length (image (file_of_output j))
   pub trail : IsTrail course c
 
--- the newest open slot reads as this checkpoint of the run, and the outputs reach it
+-- the newest open slot reads as this checkpoint, which under the run's key is one of the run, and
+-- the outputs reach it
 pub record IsResumed (course : Course) (chk : Checkpoint) (v : View) : Type 0 where
-  pub of_run : Has course.checkpoints chk
+  pub key : List ℕ
+  pub of_run : Has course.checkpoints (with_key key chk)
   pub newest : NewestIs v.seen (Some chk.iteration)
   pub reach : OutputsReach course chk v.seen
 

@@ -1,5 +1,5 @@
 -- What a start comes to, test after test, by how the files read.
-use Rattle.std.specs.Prelude.{ℕ, ◌+◌, ◌≡◌, ◌==◌, bytes_eq, nat_le, List, [], ◌∷◌, length, map, take, slice_index, Option, Some, None, Result, Ok, Err, if◌then◌else◌}
+use Rattle.std.specs.Prelude.{ℕ, ◌+◌, ◌≡◌, ◌==◌, nat_le, List, [], ◌∷◌, length, map, take, slice_index, Option, Some, None, Result, Ok, Err, if◌then◌else◌}
 use Rattle.cx_plan.specs.declared.job.Job.{Job}
 use Rattle.cx_plan.specs.declared.job.Recover.{Recover}
 use Rattle.cx_plan.specs.declared.job.Recover.TheVariants.{No, Auto, Autoprobe}
@@ -8,14 +8,15 @@ use Rattle.cx_outputs.specs.Names.{full_names, output_count, output_names}
 use Rattle.cx_ascii_read.specs.Splitting.{split_of}
 use Rattle.cx_disk.specs.Disk.{Files}
 use Rattle.cx_chk.specs.declared.checkpoint.Checkpoint.{Checkpoint}
+use Rattle.cx_chk.specs.Encoding.{SpellsSlot}
 use Rattle.cx_chk.specs.Reading.{decoded}
 use Rattle.cx_disk.specs.Files.{slot_count, old_output_file}
 use Rattle.cx_chk.specs.Slots.{newest_below}
 use Rattle.cx_keep.specs.declared.fault.BeginFault.{BeginFault}
 use Rattle.cx_keep.specs.declared.fault.BeginFault.TheVariants as faults
 use Rattle.cx_keep.specs.Fits.{fits_job}
-use Rattle.cx_keep.specs.Keys.{first_difference}
-use Rattle.cx_keep.specs.Trails.{file_of_output}
+use Rattle.cx_keep.specs.Agreement.{Agree, first_apart, lines_to}
+use Rattle.cx_keep.specs.Trails.{file_of_output, with_key}
 
 -- the first output from this one on that is shorter than recorded, as both lengths
 abbrev pub short_from : ℕ → List ℕ → Files → Option (ℕ × ℕ)
@@ -30,8 +31,11 @@ abbrev pub or_short : Checkpoint → Option (ℕ × ℕ) → Result Checkpoint B
 or_short c None = Ok c
 or_short c (Some s) = Err (faults.OutputShort s.0 s.1)
 
-abbrev pub other_job : List ℕ × List ℕ → BeginFault
-other_job lines = faults.OtherJob lines.0 lines.1
+-- a slot's bytes spell a checkpoint under a key that agrees with its own up to its iteration
+pub record SpellsAgreeing (bytes : List ℕ) (c : Checkpoint) : Type 0 where
+  pub key : List ℕ
+  pub agrees : Agree c.iteration key c.key
+  pub spelled : SpellsSlot bytes (with_key key c)
 
 -- ---- version 1
 
@@ -85,13 +89,27 @@ outputs_judged job files slot c =
     if c.version == 2 then or_short c (short_in c files)
     else former_judged job files slot c (slice_index c.lengths 0)
 
+-- the key must agree with the job's up to the checkpoint's iteration, and the job's is taken
+abbrev pub under_own_key :
+    Job → Checkpoint → Option (List ℕ × List ℕ) → Result Checkpoint BeginFault
+under_own_key job c None = Ok (with_key job.key c)
+under_own_key job c (Some lines) = Err (faults.OtherJob lines.0 lines.1)
+
+abbrev pub key_judged : Job → Checkpoint → Result Checkpoint BeginFault
+key_judged job c = under_own_key job c
+    (first_apart (lines_to c.iteration c.key) (lines_to c.iteration job.key))
+
+-- and then it must fit the job
+abbrev pub fit_judged :
+    Job → Files → ℕ → Result Checkpoint BeginFault → Result Checkpoint BeginFault
+fit_judged job files slot (Err e) = Err e
+fit_judged job files slot (Ok c) =
+    if fits_job job c then outputs_judged job files slot c else Err (faults.Damaged slot)
+
 -- the tests of what a slot spells, in their order
 abbrev pub judged : Job → Files → ℕ → Option Checkpoint → Result Checkpoint BeginFault
 judged job files slot None = Err (faults.Damaged slot)
-judged job files slot (Some c) =
-    if bytes_eq c.key job.key
-    then (if fits_job job c then outputs_judged job files slot c else Err (faults.Damaged slot))
-    else Err (other_job (first_difference c.key job.key))
+judged job files slot (Some c) = fit_judged job files slot (key_judged job c)
 
 abbrev pub tested : Job → Files → ℕ → Result Checkpoint BeginFault
 tested job files slot = judged job files slot (decoded (files slot))

@@ -5,6 +5,7 @@ use Rattle.cx_chk.specs.declared.checkpoint.Checkpoint.{Checkpoint}
 use Rattle.cx_chk.specs.Encoding.{SpellsSlot}
 use Rattle.cx_disk.specs.Files.{slot_count, old_output_file, named_output_file}
 use Rattle.cx_chk.specs.Slots.{header_of, is_second, SlotsSettled}
+use Rattle.cx_keep.specs.Agreement.{Agree}
 
 -- A run as far as a disk is concerned: the text of each output file, the text of all of them in the
 -- run's order, as a former version wrote it, and the checkpoints, which name the output files and
@@ -63,9 +64,9 @@ abbrev pub Reaches : Course → Bool → Checkpoint → Files → Type 0
 Reaches course true c files = OutputsReach course c files
 Reaches course false c files = GoesAsFar (former_length c) course.former (files old_output_file)
 
--- the key that a slot with this checkpoint of the run has
+-- a slot with this checkpoint of the run has a key that agrees with the run's up to there
 abbrev pub FitsKey : Checkpoint → List ℕ → Type 0
-FitsKey c key = key ≡ c.key
+FitsKey c key = Agree c.iteration key c.key
 
 abbrev pub with_key : List ℕ → Checkpoint → Checkpoint
 with_key key c = record c { key = key }

@@ -14,8 +14,8 @@ pub enum BeginFault {
     /// A checkpoint was asked for, and no slot is open.
     #[error("NoCheckpoint")]
     NoCheckpoint,
-    /// The newest slot is of another job: the first lines in which the two keys differ, the kept one first. A key that has ended
-    /// there has an empty one.
+    /// The newest slot is of another job: the first lines in which the two keys differ, both without steer lines of iterations
+    /// after the slot's, the kept one first. A key that has ended there has an empty one.
     #[error("OtherJob\n{0}\n{1}")]
     OtherJob(Text, Text),
     /// The newest slot, this one, spells no checkpoint, or one that doesn't fit the job.

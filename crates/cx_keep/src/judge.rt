@@ -1,40 +1,67 @@
 //! The tests of what the newest slot holds.
-ghost use Rattle.std.specs.Prelude.{◌≡◌, ◌≢◌, ◌<◌, ◌≤◌, true, Some, length, bytes_eq, IsTrue, IfOk, IfErr, OnOk};
+ghost use Rattle.std.specs.Prelude.{◌≡◌, ◌≢◌, ◌<◌, ◌≤◌, true, Some, length, IsTrue, IfOk, IfErr, OnOk};
 ghost use Rattle.cx_disk.specs.Disk.{Files};
 ghost use Rattle.cx_disk.specs.Files.{output_limit, slot_count};
 ghost use Rattle.cx_disk.specs.Keeps.{Keeps};
 ghost use Rattle.cx_disk.specs.Moments.{IsQuiet};
 ghost use Rattle.cx_plan.specs.Whole.{IsWhole};
-ghost use Rattle.cx_chk.specs.Encoding.{IsVersion, SpellsSlot};
+ghost use Rattle.cx_chk.specs.Encoding.{IsVersion};
 ghost use Rattle.cx_chk.specs.Reading.{decoded};
+ghost use Rattle.cx_keep.specs.Agreement.{Agree};
 ghost use Rattle.cx_keep.specs.Fits.{fits_job};
 ghost use Rattle.cx_keep.specs.Resuming.{AreLong};
-ghost use Rattle.cx_keep.specs.Tests.{Answers, IsFaultOf, judged, tested, or_short, short_in, short_from};
-ghost use Rattle.cx_keep.specs.Trails.{file_of_output};
+ghost use Rattle.cx_keep.specs.Tests.{Answers, IsFaultOf, SpellsAgreeing, judged, key_judged, tested, or_short, short_in, short_from};
+ghost use Rattle.cx_keep.specs.Trails.{file_of_output, with_key};
 
+use crate::agreement::first_apart;
 use crate::fault::BeginFault;
 use crate::fits::fits;
-use crate::keys::first_difference;
 use cx_chk::{Checkpoint, decode};
 use cx_disk::{Disk, DiskFault, named_output, read_whole};
 use cx_outputs::output_names;
 use cx_plan::Job;
+use cx_text::{Memory, Text};
 use std::alloc::Global;
 
-// Whether a checkpoint has the job's key.
-fn has_key(found: &Checkpoint, job: &Job) -> bool
-    ensures { result ≡ bytes_eq found.now.key job.now.key }
+// Tests that a checkpoint's key agrees with the job's up to its iteration.
+fn test_key(alloc: Global, found: &Checkpoint, job: &Job) -> Result<(), BeginFault>
+    ensures fault { IfErr result (λ e. IsFaultOf e (key_judged job.now found.now)) }
+    ensures told { IfErr result (λ e. e ≢ BeginFault.Disk) }
+    ensures agrees { OnOk result (Agree found.now.iteration found.now.key job.now.key) }
 {
-    found.key.as_slice() == job.key.as_slice()
+    match first_apart(found.iteration, found.key.as_slice(), job.key.as_slice()) {
+        None => Ok(()),
+        Some((kept, own)) => {
+            let kept = Text::from_slice(alloc, kept)?;
+            let own = Text::from_slice(alloc, own)?;
+            Err(BeginFault::OtherJob(kept, own))
+        }
+    }
 }
 
-// The checkpoint that a slot's bytes spell, if it has the job's key and fits it.
+// A checkpoint under the job's own key.
+fn with_own_key(alloc: Global, found: Checkpoint, job: &Job) -> Result<Checkpoint, Memory>
+    ensures { IfOk result (λ c. c ≡ with_key job.now.key found) }
+{
+    let key = job.key.copy(alloc)?;
+    Ok(Checkpoint {
+        version: found.version,
+        iteration: found.iteration,
+        key,
+        names: found.names,
+        lengths: found.lengths,
+        scalars: found.scalars,
+        levels: found.levels,
+    })
+}
+
+// The checkpoint that a slot's bytes spell, if its key agrees with the job's and it fits the job.
 fn judge_bytes(alloc: Global, job: &Job, slot: u32, bytes: &[u8]) -> Result<Checkpoint, BeginFault>
     requires whole { IsWhole job.now }
     ensures fault { (files : Files) →
         IfErr result (λ e. IsFaultOf e (judged job.now files slot (decoded bytes.now))) }
     ensures told { IfErr result (λ e. e ≢ BeginFault.Disk) }
-    ensures spelled { IfOk result (λ c. SpellsSlot bytes.now c) }
+    ensures spelled { IfOk result (λ c. SpellsAgreeing bytes.now c) }
     ensures version { IfOk result (λ c. IsVersion c.version c.names c.lengths) }
     ensures key { IfOk result (λ c. c.key ≡ job.now.key) }
     ensures fits { IfOk result (λ c. fits_job job.now c ≡ true) }
@@ -42,19 +69,16 @@ fn judge_bytes(alloc: Global, job: &Job, slot: u32, bytes: &[u8]) -> Result<Chec
     let Some(found) = decode(alloc, bytes)? else {
         return Err(BeginFault::Damaged(slot));
     };
-    if !has_key(&found, job) {
-        let (kept, own) = first_difference(alloc, found.key.as_slice(), job.key.as_slice())?;
-        return Err(BeginFault::OtherJob(kept, own));
-    }
+    test_key(alloc, &found, job)?;
     let names = output_names(alloc, job)?;
     if !fits(job, names.as_slice(), &found) {
         return Err(BeginFault::Damaged(slot));
     }
-    Ok(found)
+    Ok(with_own_key(alloc, found, job)?)
 }
 
-/// The checkpoint of a slot, if it has the job's key and fits it; else the fault of the first of these tests that fails. It
-/// changes no byte.
+/// The checkpoint of a slot under the job's own key, if the slot's key agrees with it and the checkpoint fits the job; else the
+/// fault of the first of these tests that fails. It changes no byte.
 pub fn judge<D: Disk>(
     alloc: Global,
     disk: &mut D,
@@ -68,7 +92,7 @@ pub fn judge<D: Disk>(
     ensures fault { D.tells →
         IfErr result (λ e. IsFaultOf e (tested job.now (D.view disk.old).seen slot)) }
     ensures spelled { D.tells →
-        IfOk result (λ c. SpellsSlot ((D.view disk.old).seen slot) c) }
+        IfOk result (λ c. SpellsAgreeing ((D.view disk.old).seen slot) c) }
     ensures version { IfOk result (λ c. IsVersion c.version c.names c.lengths) }
     ensures key { IfOk result (λ c. c.key ≡ job.now.key) }
     ensures fits { IfOk result (λ c. fits_job job.now c ≡ true) }

@@ -130,7 +130,7 @@ impl Keep {
     /// Begins a run: mounts the disk with the job's folders and output files, tests its files, settles the slots, and cuts or
     /// makes the outputs. The run goes on from the checkpoint of the answer, whose recorded lengths the outputs then have, or with
     /// none from empty outputs. On any disk, a checkpoint that is answered has the job's key, fits the job and records a length for
-    /// each output.
+    /// each output. The key of its slot may differ from the job's in steer lines of later iterations alone.
     ///
     /// The newest slot is the open one of the greatest iteration; of equal ones those whose version byte is 2 go before the
     /// others, and then the first. From version 2 each output is cut to its recorded length. From version 1 the old output is
@@ -140,10 +140,11 @@ impl Keep {
     /// the tests, which are made in this order, changes no byte.
     ///
     /// `NoCheckpoint`: no slot is open, under `Recover::Auto`. `Damaged`: the newest slot spells no checkpoint. `OtherJob`: its
-    /// key isn't the job's. `Damaged`: its iteration isn't due, or its counts, names or values don't fit the job. `OutputShort`:
-    /// an output is shorter than it records, the first such one in the order of the variables, or for version 1 the old output.
-    /// `OldTooLong`: that of version 1 is recorded with more than 268,435,456 bytes. `Damaged`: it doesn't split. `Disk`: the disk
-    /// failed. After `Disk` and `Memory` some slots may be closed under `Recover::No` or from version 1, and the outputs cut.
+    /// key and the job's, both without steer lines of later iterations, have lines that differ. `Damaged`: its iteration isn't
+    /// due, or its counts, names or values don't fit the job. `OutputShort`: an output is shorter than it records, the first such
+    /// one in the order of the variables, or for version 1 the old output. `OldTooLong`: that of version 1 is recorded with more
+    /// than 268,435,456 bytes. `Damaged`: it doesn't split. `Disk`: the disk failed. After `Disk` and `Memory` some slots may be
+    /// closed under `Recover::No` or from version 1, and the outputs cut.
     pub fn begin<D: Disk>(
         alloc: Global,
         disk: &mut D,

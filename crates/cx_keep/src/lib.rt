@@ -1,11 +1,11 @@
 //! The keeper of a run's outputs and checkpoints.
 #![tactic(auto)]
 
+mod agreement;
 mod fault;
 mod fits;
 mod judge;
 mod keep;
-mod keys;
 mod renew;
 mod resume;
 mod splitting;

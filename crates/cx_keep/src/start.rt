@@ -6,10 +6,10 @@ ghost use Rattle.cx_plan.specs.Whole.{IsWhole};
 ghost use Rattle.cx_outputs.specs.Names.{output_count};
 ghost use Rattle.cx_plan.specs.declared.job.Recover.TheVariants as recovers;
 ghost use Rattle.cx_disk.specs.Files.{count_with, slot_count};
-ghost use Rattle.cx_chk.specs.Encoding.{IsVersion, SpellsSlot};
+ghost use Rattle.cx_chk.specs.Encoding.{IsVersion};
 ghost use Rattle.cx_chk.specs.Slots.{newest_below};
 ghost use Rattle.cx_keep.specs.Fits.{fits_job};
-ghost use Rattle.cx_keep.specs.Tests.{Answers, tested, begun, IsRenewal};
+ghost use Rattle.cx_keep.specs.Tests.{Answers, SpellsAgreeing, tested, begun, IsRenewal};
 ghost use Rattle.cx_keep.specs.Beginning.{HasLengths, LeavesAsIs, IsStarted, StartMoments};
 
 use crate::fault::BeginFault;
@@ -73,7 +73,7 @@ fn go_on_second<D: Disk>(
     requires whole { IsWhole job.now }
     requires newest { D.tells →
         newest_below slot_count (D.view disk.old).seen ≡ Some (slot, iteration) }
-    requires spelled { D.tells → SpellsSlot ((D.view disk.old).seen slot) found }
+    requires spelled { D.tells → SpellsAgreeing ((D.view disk.old).seen slot) found }
     requires key { found.key ≡ job.now.key }
     requires fits { fits_job job.now found ≡ true }
     requires version { found.version ≡ 2 }
@@ -109,7 +109,7 @@ fn go_on_first<D: Disk>(
     requires whole { IsWhole job.now }
     requires newest { D.tells →
         newest_below slot_count (D.view disk.old).seen ≡ Some (slot, iteration) }
-    requires spelled { D.tells → SpellsSlot ((D.view disk.old).seen slot) found }
+    requires spelled { D.tells → SpellsAgreeing ((D.view disk.old).seen slot) found }
     requires key { found.key ≡ job.now.key }
     requires fits { fits_job job.now found ≡ true }
     requires version { found.version ≢ 2 }
@@ -146,7 +146,7 @@ fn go_on_from<D: Disk>(
     requires whole { IsWhole job.now }
     requires newest { D.tells →
         newest_below slot_count (D.view disk.old).seen ≡ Some (slot, iteration) }
-    requires spelled { D.tells → SpellsSlot ((D.view disk.old).seen slot) found }
+    requires spelled { D.tells → SpellsAgreeing ((D.view disk.old).seen slot) found }
     requires key { found.key ≡ job.now.key }
     requires fits { fits_job job.now found ≡ true }
     requires version { IsVersion found.version found.names found.lengths }

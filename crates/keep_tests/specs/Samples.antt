@@ -1,6 +1,6 @@
 -- The job of the tests: a grid variable of two points and a scalar, both of which are written or
 -- neither, with checkpoints at iterations 20 and 40.
-use Rattle.std.specs.Prelude.{◌∷◌, [], List, Bool, false, true, pos, negsuc, None, codes}
+use Rattle.std.specs.Prelude.{ℕ, ◌∷◌, [], List, Bool, false, true, pos, negsuc, None, codes}
 use Rattle.cx_text.specs.declared.ctype.CType.TheVariants.{Int8, Byte}
 use Rattle.cx_plan.specs.declared.variable.VarId.{VarId}
 use Rattle.cx_plan.specs.declared.variable.VarInfo.{VarInfo}
@@ -20,6 +20,10 @@ nothing = Seq []
 abbrev pub no_bins : List Tree
 no_bins = nothing ∷ nothing ∷ nothing ∷ nothing ∷ nothing ∷ nothing ∷ nothing ∷ nothing ∷ nothing
     ∷ nothing ∷ nothing ∷ nothing ∷ nothing ∷ nothing ∷ nothing ∷ nothing ∷ nothing ∷ []
+
+-- a steer of the iteration of the first checkpoint, and one after the last
+abbrev pub sample_key : List ℕ
+sample_key = codes "k\nv 5\nsteer 20 wave::factor = \"0\"\nsteer 100 wave::factor = \"1\""
 
 abbrev pub written_variables : Bool → List VarId
 written_variables true = record { 0 = 0 } ∷ record { 0 = 1 } ∷ []
@@ -53,7 +57,7 @@ sample written recover =
       recover = recover;
       out_dir = codes "out";
       chk_dir = codes "chk";
-      key = codes "k\nv 5";
+      key = sample_key;
       plan_text = [];
       starred = [];
     }
@@ -63,7 +67,7 @@ abbrev pub sample_checkpoint : Checkpoint
 sample_checkpoint = record {
   version = 2;
   iteration = 20;
-  key = codes "k\nv 5";
+  key = sample_key;
   names = codes "wave::phi.asc" ∷ codes "wave::total.asc" ∷ [];
   lengths = 3 ∷ 2 ∷ [];
   scalars = negsuc 0 ∷ [];

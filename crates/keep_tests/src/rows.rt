@@ -52,6 +52,15 @@ const STARTS: &[Start] = &[
         &[b"old", b"abc", b"xy"],
     ),
     (
+        "version 2, with other steers after it",
+        &[(0, 2, 20, b'+', BOTH, VALUES)],
+        &[b"old", b"abcde", b"xyz"],
+        true,
+        Recover::Auto,
+        "from 20, version 2, 2 names, [3, 2], gates 1 9",
+        &[b"old", b"abc", b"xy"],
+    ),
+    (
         "version 2 given up",
         &[(0, 2, 20, b'5', BOTH, VALUES)],
         &[b"old", b"abcde", b"xyz"],
@@ -195,6 +204,16 @@ const REFUSED: &[Refused] = &[
         (0, 1, 20, b'6', OLD_TWO, VALUES),
         &[b"", b"", b""],
         "OtherJob v 6, v 5, gates 1 9",
+    ),
+    (
+        (0, 2, 20, b'-', BOTH, VALUES),
+        &[b"", b"abc", b"xy"],
+        "OtherJob , steer 20 wave::factor = \"0\", gates 1 9",
+    ),
+    (
+        (0, 1, 20, b'-', OLD, VALUES),
+        &[OLD_BYTES, b"abc", b"xy"],
+        "OtherJob , steer 20 wave::factor = \"0\", gates 1 9",
     ),
     (
         (0, 2, 21, b'5', BOTH, VALUES),

@@ -5,7 +5,7 @@ ghost use Rattle.cx_plan.specs.declared.job.Recover.TheVariants as recovers;
 ghost use Rattle.keep_tests.specs.Samples.{sample, sample_checkpoint};
 
 use crate::starts::{
-    BOTH, OLD, OLD_BYTES, PHI, Slot, TOTAL, VALUES, begin_words, disk, has_outputs, job,
+    BOTH, OLD, OLD_BYTES, PHI, Slot, TOTAL, VALUES, begin_words, disk, has_outputs, job, key,
     slot_bytes, start_words, text,
 };
 use cx_chk::Checkpoint;
@@ -28,7 +28,7 @@ fn checkpoint(alloc: Global) -> Result<Checkpoint, Fail>
     Ok(Checkpoint {
         version: 2,
         iteration: 20,
-        key: text(alloc, b"k\nv 5")?,
+        key: key(alloc)?,
         names: List::new(Vec::from_array(alloc, names)?),
         lengths: List::new(Vec::from_array(alloc, [3, 2])?),
         scalars: List::new(Vec::from_array(alloc, [-1])?),
@@ -66,7 +66,7 @@ fn a_run_saves_a_checkpoint(rt: HostRuntime) -> Result<(), Fail> {
     let alloc = rt.alloc();
     let (stopped, disk) = run_on(alloc, 100)?;
     let left = disk.into_image(0)?;
-    let saved = slot_bytes(alloc, &(0, 2, 20, b'5', BOTH, VALUES))?;
+    let saved = slot_bytes(alloc, &(0, 2, 20, b'=', BOTH, VALUES))?;
     assert!(rt; !stopped, "the run");
     assert_eq!(rt; left.bytes(0), saved.as_slice(), "slot 0");
     assert!(rt; has_outputs(&left, &[b"", b"abc", b"xy"]), "the outputs");

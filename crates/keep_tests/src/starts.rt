@@ -2,7 +2,7 @@
 
 ghost use Rattle.std.specs.Prelude.{◌≡◌, true, IfOk};
 ghost use Rattle.cx_plan.specs.Whole.{IsWhole};
-ghost use Rattle.keep_tests.specs.Samples.{sample, sample_variables, written_variables, nothing, no_bins};
+ghost use Rattle.keep_tests.specs.Samples.{sample, sample_key, sample_variables, written_variables, nothing, no_bins};
 
 use cx_chk::Checkpoint;
 use cx_disk::{Disk, MemoryDisk, OLD_OUTPUT, SLOTS};
@@ -91,7 +91,7 @@ pub(crate) const STRANGE: &[u8] = b"# wave::phi iteration 0 size 40\n\
     \n\
     # wave::other iteration 20 value 200\n";
 
-/// A slot of a test: its number, its version, its iteration, the last byte of its key, what it records, and its values.
+/// A slot of a test: its number, its version, its iteration, the kind of its key, what it records, and its values.
 pub(crate) type Slot = (usize, u8, u8, u8, &'static [u8], &'static [u8]);
 
 pub(crate) fn text(alloc: Global, bytes: &[u8]) -> Result<Text, Fail>
@@ -170,6 +170,16 @@ fn line(recover: Recover) -> Shape
     }
 }
 
+/// The key of the job: a steer of the iteration of the first checkpoint, and one after the last.
+pub(crate) fn key(alloc: Global) -> Result<Text, Fail>
+    ensures { IfOk result (λ key. key ≡ sample_key) }
+{
+    text(
+        alloc,
+        b"k\nv 5\nsteer 20 wave::factor = \"0\"\nsteer 100 wave::factor = \"1\"",
+    )
+}
+
 /// A job of two variables, both of which are written or neither, with checkpoints at iterations 20 and 40.
 pub(crate) fn job(alloc: Global, outputs: bool, recover: Recover) -> Result<Job, Fail>
     ensures { IfOk result (λ job. job ≡ sample outputs recover) }
@@ -199,22 +209,35 @@ pub(crate) fn job(alloc: Global, outputs: bool, recover: Recover) -> Result<Job,
         recover,
         out_dir: text(alloc, b"out")?,
         chk_dir: text(alloc, b"chk")?,
-        key: text(alloc, b"k\nv 5")?,
+        key: key(alloc)?,
         plan_text: text(alloc, b"")?,
         starred: text(alloc, b"")?,
     })
 }
 
+/// The key of a slot: the job's own, it without the later steer, with another one, without any steer, or with another line.
+fn slot_key(kind: u8) -> &'static [u8] {
+    match kind {
+        b'=' => b"k\nv 5\nsteer 20 wave::factor = \"0\"\nsteer 100 wave::factor = \"1\"".as_slice(),
+        b'5' => b"k\nv 5\nsteer 20 wave::factor = \"0\"".as_slice(),
+        b'+' => b"k\nv 5\nsteer 20 wave::factor = \"0\"\nsteer 90 wave::factor = \"2\"".as_slice(),
+        b'-' => b"k\nv 5".as_slice(),
+        _ => b"k\nv 6\nsteer 20 wave::factor = \"0\"".as_slice(),
+    }
+}
+
 /// The bytes of an open slot.
 pub(crate) fn slot_bytes(alloc: Global, slot: &Slot) -> Result<Text, Fail> {
-    let (_, version, iteration, last, outputs, values) = slot;
+    let (_, version, iteration, kind, outputs, values) = slot;
+    let key = slot_key(*kind);
     let mut bytes = Vec::new(alloc);
     bytes.extend_from_slice(b"\x01CXCHKPT")?;
     bytes.push(*version)?;
     bytes.extend_from_slice(b"\0\0\0\0\0\0\0")?;
     bytes.push(*iteration)?;
-    bytes.extend_from_slice(b"\0\0\0\x05k\nv ")?;
-    bytes.push(*last)?;
+    bytes.extend_from_slice(b"\0\0\0")?;
+    bytes.push(u8::try_from(key.len()).unwrap_or(0))?;
+    bytes.extend_from_slice(key)?;
     bytes.extend_from_slice(outputs)?;
     bytes.extend_from_slice(values)?;
     Ok(Text::new(bytes))

@@ -9,3 +9,5 @@ pub mod FitLaws
 pub mod SplitLaws
 pub mod StartLaws
 pub mod FormerLaws
+pub mod PlaceSteered
+pub mod SteerLaws

@@ -1,9 +1,8 @@
 -- A start on a trail of a run is not refused, and jobs of one setup and one key have one course.
-use Rattle.std.proofs.Common.{◌≡◌, ◌⊎◌, inl, inr, ℕ, suc, ◌+◌, ◌<◌, ◌≤◌, refl, sym, ap, ap₂, ◌∙◌, subst, Bool, true, false, ◌&&◌, List, [], ◌∷◌, map, length, take, Option, Some, None, Ok, Err, bytes_eq, nat_le, le-leb, arith, true≢false, if◌then◌else◌}
+use Rattle.std.proofs.Common.{◌≡◌, ◌⊎◌, inl, inr, ℕ, suc, ◌+◌, ◌<◌, ◌≤◌, refl, sym, ap, ap₂, ◌∙◌, subst, Bool, true, false, ◌&&◌, List, [], ◌∷◌, map, length, take, Option, Some, None, Ok, Err, nat_le, le-leb, arith, true≢false, if◌then◌else◌}
 use Rattle.std.specs.Prelude.{slice_index, slice_index_or}
 use Rattle.std.proofs.lemmas.Bool.Decides.{nat_tests}
 use Rattle.std.proofs.lemmas.List.{length-take-le}
-use Rattle.std.proofs.lemmas.Slice.Eq.{bytes_eq-Decides}
 use Rattle.cx_disk.specs.Disk.{Files}
 use Rattle.cx_disk.specs.Files.{slot_count, old_output_file}
 use Rattle.cx_plan.specs.declared.job.Job.{Job}
@@ -19,14 +18,14 @@ use Rattle.cx_chk.specs.declared.checkpoint.Checkpoint.{Checkpoint}
 use Rattle.cx_chk.specs.Encoding.{SpellsSlot}
 use Rattle.cx_chk.specs.Slots.{is_second, newest_below, NewestBelow}
 use Rattle.cx_chk.proofs.Choosing.{newest_law}
-use Rattle.cx_chk.proofs.Decoding.{decoded_again}
 use Rattle.cx_keep.specs.declared.fault.BeginFault.{BeginFault}
 use Rattle.cx_keep.specs.declared.fault.BeginFault.TheVariants as faults
 use Rattle.cx_keep.specs.Fits.{fits_job, outputs_fit}
 use Rattle.cx_keep.specs.Renewing.{fronts_in, fronts_at}
-use Rattle.cx_keep.specs.Tests.{begun_from, resumed, tested, judged, outputs_judged, former_judged, greatest_former, renewed, or_short, short_in, short_from}
+use Rattle.cx_keep.specs.Tests.{SpellsAgreeing, begun_from, resumed, tested, outputs_judged, former_judged, greatest_former, renewed, or_short, short_in, short_from}
 use Rattle.cx_keep.specs.Trails.{Course, Has, IsOfRun, IsTrail, NewestIs, Reaches, OutputsReach, GoesAsFar, former_of, former_length, in_version, with_key, length_in, file_of_output}
 use Rattle.cx_keep.proofs.Saves.{header_of_run}
+use Rattle.cx_keep.proofs.Tested.{passed}
 use Rattle.law_course.specs.Courses.{course_of, CourseFits, CourseSplits, FitsJob}
 use Rattle.law_course.specs.Starts.{course_in, begun_with, BeginsOn, IsTooLong, TrailsBegin, HaveOneCourse}
 
@@ -136,30 +135,30 @@ more_than n limit e = grind (arith, nat_tests)
 module _ (job : Job) (rules : List Rule) (fits : CourseFits job rules)
     (splits : CourseSplits (setup_of job) (course_in job rules)) (files : Files)
     (trail : IsTrail (course_in job rules) files) where
-  -- the tests of a slot's checkpoint, but for those of the outputs
-  passed : (slot : ℕ) (d : Checkpoint) → SpellsSlot (files slot) d → d.key ≡ job.key
-      → fits_job job d ≡ true → tested job files slot ≡ outputs_judged job files slot d
-  passed slot d spelled key fit =
-      let same : bytes_eq d.key job.key ≡ true = (bytes_eq-Decides d.key job.key).1 key in
-      ap (λ (o : Option Checkpoint). judged job files slot o) (decoded_again (files slot) d spelled)
-      ∙ rw (same, fit) refl
-
+  -- a slot spells a version of the run's checkpoint under a key that agrees with its own
   spelled_in : (slot : ℕ) (s : IsOfRun (course_in job rules) (files slot)) (second : Bool)
       → is_second (files slot) ≡ second
-      → SpellsSlot (files slot) (in_version second (with_key s.checkpoint.key s.checkpoint))
+      → SpellsAgreeing (files slot) (in_version second s.checkpoint)
   spelled_in slot s true is =
-      subst (λ (k : List ℕ). SpellsSlot (files slot) (with_key k s.checkpoint)) s.key_fits
-      (subst (λ (b : Bool). SpellsSlot (files slot) (with_key s.key (in_version b s.checkpoint))) is
-      s.spelled)
+      record {
+        key = s.key;
+        agrees = s.key_fits;
+        spelled = subst
+            (λ (b : Bool). SpellsSlot (files slot) (with_key s.key (in_version b s.checkpoint))) is
+            s.spelled;
+      }
   spelled_in slot s false is =
-      subst (λ (k : List ℕ). SpellsSlot (files slot) (with_key k (former_of s.checkpoint)))
-      s.key_fits
-      (subst (λ (b : Bool). SpellsSlot (files slot) (with_key s.key (in_version b s.checkpoint))) is
-      s.spelled)
+      record {
+        key = s.key;
+        agrees = s.key_fits;
+        spelled = subst
+            (λ (b : Bool). SpellsSlot (files slot) (with_key s.key (in_version b s.checkpoint))) is
+            s.spelled;
+      }
 
   -- in version 2 all tests pass
   second_passes : (slot : ℕ) (c : Checkpoint) → Has (course_in job rules).checkpoints c
-      → SpellsSlot (files slot) c → OutputsReach (course_in job rules) c files
+      → SpellsAgreeing (files slot) c → OutputsReach (course_in job rules) c files
       → tested job files slot ≡ Ok c
   second_passes slot c has spelled reach =
       let f : FitsJob job c = fits c has in
@@ -172,7 +171,7 @@ module _ (job : Job) (rules : List Rule) (fits : CourseFits job rules)
       (reach j (subst (λ (n : ℕ). j < n) many lt)).long_enough) in
       let outputs : outputs_judged job files slot c ≡ or_short c (short_in c files) =
       rw second refl in
-      passed slot c spelled f.key f.fits ∙ outputs ∙ ap (or_short c) none
+      passed job files slot c spelled f.key f.fits ∙ outputs ∙ ap (or_short c) none
 
   -- a checkpoint of version 1 is made anew as the run's own
   renewed_is : (c : Checkpoint) → Has (course_in job rules).checkpoints c
@@ -193,7 +192,7 @@ module _ (job : Job) (rules : List Rule) (fits : CourseFits job rules)
       × (tested job files slot ≡ Err (faults.OldTooLong (former_length c) greatest_former))
 
   first_passes : (slot : ℕ) (c : Checkpoint) → Has (course_in job rules).checkpoints c
-      → SpellsSlot (files slot) (former_of c)
+      → SpellsAgreeing (files slot) (former_of c)
       → GoesAsFar (former_length c) (course_in job rules).former (files old_output_file)
       → (tested job files slot ≡ Ok c) ⊎ TooLong slot c
   first_passes slot c has spelled reach =
@@ -212,7 +211,7 @@ module _ (job : Job) (rules : List Rule) (fits : CourseFits job rules)
 
       outputs : tested job files slot
           ≡ former_judged job files slot (former_of c) (former_length c)
-      outputs = passed slot (former_of c) spelled f.key (former_fits job c f.fits)
+      outputs = passed job files slot (former_of c) spelled f.key (former_fits job c f.fits)
 
       by : (b : Bool) → nat_le (former_length c) greatest_former ≡ b
           → (tested job files slot ≡ Ok c) ⊎ TooLong slot c

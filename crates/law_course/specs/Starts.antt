@@ -1,5 +1,5 @@
 -- Starts on trails of a run.
-use Rattle.std.specs.Prelude.{◌≡◌, ◌<◌, ◌⊎◌, Bool, List, Option, Some, None, Result, Ok, Err, IfSome}
+use Rattle.std.specs.Prelude.{ℕ, ◌≡◌, ◌<◌, ◌≤◌, ◌⊎◌, Bool, List, Option, Some, None, Result, Ok, Err, IfSome}
 use Rattle.cx_disk.specs.Disk.{Files}
 use Rattle.cx_plan.specs.declared.job.Job.{Job}
 use Rattle.cx_plan.specs.declared.job.Recover.{Recover}
@@ -7,12 +7,14 @@ use Rattle.cx_plan.specs.declared.job.Recover.TheVariants.{No, Auto, Autoprobe}
 use Rattle.cx_plan.specs.Setups.{setup_of}
 use Rattle.cx_rule.specs.Routine.{Rule}
 use Rattle.cx_model.specs.Runs.{undivided_run}
+use Rattle.cx_model.specs.Steers.{steered_as, steers_to, SameUpTo}
 use Rattle.cx_chk.specs.declared.checkpoint.Checkpoint.{Checkpoint}
 use Rattle.cx_keep.specs.declared.fault.BeginFault.{BeginFault}
 use Rattle.cx_keep.specs.declared.fault.BeginFault.TheVariants as faults
+use Rattle.cx_keep.specs.Agreement.{Agree}
 use Rattle.cx_keep.specs.Beginning.{newest_left}
 use Rattle.cx_keep.specs.Tests.{begun, greatest_former}
-use Rattle.cx_keep.specs.Trails.{Course, IsTrail, NewestIs, Reaches, former_length}
+use Rattle.cx_keep.specs.Trails.{Course, Has, IsTrail, NewestIs, Reaches, former_length, with_key}
 use Rattle.law_course.specs.Courses.{course_of}
 use Rattle.law_course.specs.Beginnings.{IsFound}
 
@@ -55,3 +57,21 @@ pub record HaveOneCourse (a b : Job) (rules : List Rule) : Type 0 where
   pub course : course_in a rules ≡ course_in b rules
   pub trails : (files : Files) → IsTrail (course_in a rules) files
       → IsTrail (course_in b rules) files
+
+-- ---- jobs that are steered alike up to an iteration
+
+-- one job's setup is the other's with other steers, which are the same up to c; and so are the keys
+pub record AreAlikeTo (c : ℕ) (a b : Job) : Type 0 where
+  pub setup : setup_of b ≡ steered_as (setup_of a) b.steers
+  pub steers : steers_to c a.steers ≡ steers_to c b.steers
+  pub key : Agree c a.key b.key
+
+-- Up to the checkpoint place of c they have one run, and each checkpoint of the one is under the
+-- other's key one of the other. So a trail of the one is a trail of the other, where no open slot
+-- has a later iteration.
+pub record HaveOneCourseTo (c : ℕ) (a b : Job) (rules : List Rule) : Type 0 where
+  pub run : SameUpTo (setup_of a) b.steers rules c
+  pub checkpoints : (chk : Checkpoint) → Has (course_in a rules).checkpoints chk
+      → chk.iteration ≤ c → Has (course_in b rules).checkpoints (with_key b.key chk)
+  pub trails : (files : Files) (newest : ℕ) → NewestIs files (Some newest) → newest ≤ c
+      → IsTrail (course_in a rules) files → IsTrail (course_in b rules) files

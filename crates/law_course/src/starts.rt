@@ -1,5 +1,5 @@
 //! Starts on trails of a run.
-ghost use Rattle.std.specs.Prelude.{◌≡◌, List, None};
+ghost use Rattle.std.specs.Prelude.{ℕ, ◌≡◌, List, None};
 ghost use Rattle.cx_disk.specs.Disk.{Files};
 ghost use Rattle.cx_plan.specs.Regions.{HasShapes};
 ghost use Rattle.cx_plan.specs.Setups.{setup_of};
@@ -7,7 +7,7 @@ ghost use Rattle.cx_plan.specs.Whole.{IsWhole};
 ghost use Rattle.cx_rule.specs.Routine.{Rule};
 ghost use Rattle.cx_keep.specs.Trails.{IsTrail, NewestIs};
 ghost use Rattle.law_course.specs.Formers.{FormerIsTrail};
-ghost use Rattle.law_course.specs.Starts.{HaveOneCourse, TrailsBegin, course_in};
+ghost use Rattle.law_course.specs.Starts.{AreAlikeTo, HaveOneCourse, HaveOneCourseTo, TrailsBegin, course_in};
 
 use crate::course::{course_fits, course_splits};
 use cx_plan::Job;
@@ -42,4 +42,12 @@ pub fn empty_is_trail(job: &Job)
 pub fn one_course(a: &Job, b: &Job)
     ensures { (rules : List Rule) → setup_of a.now ≡ setup_of b.now → a.now.key ≡ b.now.key
         → HaveOneCourse a.now b.now rules }
+{}
+
+/// Two jobs that are the same but for steers of later iterations than c have one undivided run and one course up to the checkpoint
+/// place of c. A trail of the one whose newest checkpoint isn't later is a trail of the other.
+pub fn one_course_to(a: &Job, b: &Job)
+    requires whole { IsWhole a.now }
+    ensures { (rules : List Rule) (c : ℕ) → AreAlikeTo c a.now b.now
+        → HaveOneCourseTo c a.now b.now rules }
 {}

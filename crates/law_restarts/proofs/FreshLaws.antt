@@ -125,7 +125,7 @@ table_fine n = (
                                                               inl (refl, refl),
                                                               (
                                                                 inl (refl, refl),
-                                                                (inl (refl, refl), tt),
+                                                                (inl (refl, refl), (inl (refl, refl), tt)),
                                                               ),
                                                             ),
                                                           ),
@@ -165,7 +165,7 @@ either full name b e h = both_false (same_name full name) b e h
 
 module _ (n : ℕ) (p : Param) (none : list_any (clash (known_by p)) (map known_by (table n)) ≡ false)
   where
-    is_other : (j : ℕ) → j < 33
+    is_other : (j : ℕ) → j < 34
         → same_name p.full (get_or (map known_by (table n)) j (known_by p)).full ≡ false
     is_other j within =
         first_false (same_name p.full (get_or (map known_by (table n)) j (known_by p)).full) _
@@ -183,7 +183,8 @@ module _ (n : ℕ) (p : Param) (none : list_any (clash (known_by p)) (map known_
         (either p.full (codes "IO::out_dir") _ (is_other 23 (omega arith))
         (either p.full (codes "IO::checkpoint_dir") _ (is_other 29 (omega arith))
         (either p.full (codes "IO::recover_dir") _ (is_other 30 (omega arith))
-        (either p.full (codes "IO::recover") _ (is_other 31 (omega arith)) refl)))))))))))
+        (either p.full (codes "IO::recover") _ (is_other 31 (omega arith))
+        (either p.full (codes "IO::steer_file") _ (is_other 33 (omega arith)) refl))))))))))))
 
 module _ (thorns : List Thorn) (none : bind_fault thorns ≡ None) where
   names_fit : names_fault (known thorns) (variable_infos thorns) thorns ≡ None

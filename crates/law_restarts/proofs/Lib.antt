@@ -9,3 +9,8 @@ pub mod ChainLaws
 pub mod NamedLaws
 pub mod RestartLaws
 mod Rows
+pub mod SteerKeyLaws
+pub mod SteerFileLaws
+pub mod SteerStepLaws
+pub mod ParamNameLaws
+pub mod KeyLineLaws

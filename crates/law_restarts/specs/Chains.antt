@@ -1,11 +1,14 @@
--- Parameter files that differ only in how and where a run is done.
-use Rattle.std.specs.Prelude.{◌≡◌, ℕ, List, codes, Ok}
-use Rattle.cx_plan.specs.Setups.{setup_of}
-use Rattle.cx_plan.specs.declared.job.Job.{Job}
+-- Parameter files that differ only in how and where a run is done, and steer files that differ only
+-- in later iterations.
+use Rattle.std.specs.Prelude.{◌≡◌, ℕ, nat_le, List, map, filter, codes, Ok}
+use Rattle.cx_parfile.specs.Printed.{without_line}
 use Rattle.cx_parfile.specs.declared.settings.Settings.{Settings}
+use Rattle.cx_parfile.specs.declared.steer.SteerLine.{SteerLine}
+use Rattle.cx_values.specs.Assigned.{assigned}
+use Rattle.cx_job_values.specs.RunNumbers.{steer_file}
 use Rattle.cx_job_files.specs.declared.configuring.Configured.{Configured}
 use Rattle.cx_job_files.specs.Shelf.{Held}
-use Rattle.cx_job_files.specs.Reading.{thorn_file, SaysSettings}
+use Rattle.cx_job_files.specs.Reading.{thorn_file, SaysSettings, SaysSteers}
 use Rattle.cx_job_files.specs.Configuring.{Configures}
 use Rattle.law_restarts.specs.Settings.{other_settings, unnamed_settings}
 
@@ -21,6 +24,29 @@ pub record HaveSameThorns (a b : Held) : Type 0 where
   pub thorns :
       (place : List ℕ × List ℕ) (file : List ℕ)
       → a (thorn_file place file) ≡ b (thorn_file place file)
+
+-- ---- the lines of steer files up to an iteration
+
+-- on whatever line of its file
+abbrev pub unplaced : SteerLine → SteerLine
+unplaced l = record l { setting = without_line l.setting }
+
+abbrev pub lines_up_to : ℕ → List SteerLine → List SteerLine
+lines_up_to c lines = map unplaced (filter (λ (l : SteerLine). nat_le l.at c) lines)
+
+-- the lines of the steer file that a configuration names
+abbrev pub SaysSteersOf : Configured → Held → List SteerLine → Type 0
+SaysSteersOf x files lines =
+    SaysSteers (steer_file (assigned x.thorns x.settings.list)) files (Ok lines)
+
+-- the steer files that two parameter files name have the same lines up to an iteration
+abbrev pub HaveSteersTo : ℕ → List ℕ → List ℕ → Held → Held → Type 0
+HaveSteersTo c name_a name_b a b =
+    (x y : Configured) (one other : List SteerLine) → Configures name_a a (Ok x)
+    → Configures name_b b (Ok y) → SaysSteersOf x a one → SaysSteersOf y b other
+    → lines_up_to c one ≡ lines_up_to c other
+
+-- ---- chained files
 
 -- The files beside the two parameter files are the same, and so is what these say, but for starred
 -- parameters.
@@ -41,8 +67,3 @@ pub record AreChainedByNames (name_a name_b : List ℕ) (a b : Held) : Type 0 wh
   pub settings :
       (s t : Settings) → SaysSettings name_a a (Ok s) → SaysSettings name_b b (Ok t)
       → DifferInNames s t
-
--- jobs of one undivided run, each of whose checkpoints serves the other too
-pub record HaveOneRun (a b : Job) : Type 0 where
-  pub setup : setup_of a ≡ setup_of b
-  pub key : a.key ≡ b.key

@@ -1,6 +1,6 @@
 -- A run that is stopped and started again: what each start was handed, and what the last one
 -- leaves.
-use Rattle.std.specs.Prelude.{◌≡◌, ◌≢◌, ◌<◌, ℕ, List, [], slice_index_or}
+use Rattle.std.specs.Prelude.{◌≡◌, ◌≢◌, ◌<◌, ℕ, List, [], slice_index_or, Some}
 use Rattle.cx_disk.specs.Disk.{Files, View, IsView, SameFiles}
 use Rattle.cx_plan.specs.Setups.{Setup, setup_of}
 use Rattle.cx_outputs.specs.Names.{output_count}
@@ -8,9 +8,9 @@ use Rattle.cx_rule.specs.Routine.{Rule}
 use Rattle.cx_plan.specs.declared.job.Job.{Job}
 use Rattle.cx_model.specs.Runs.{outputs, end as end_of}
 use Rattle.cx_model.specs.declared.ends.End.TheVariants.{Done}
-use Rattle.cx_keep.specs.Trails.{file_of_output}
+use Rattle.cx_keep.specs.Trails.{NewestIs, file_of_output}
 use Rattle.cx_run_loop.specs.Drives.{HasOutput, HasWorked}
-use Rattle.law_restarts.specs.Chains.{HaveOneRun}
+use Rattle.law_course.specs.Starts.{AreAlikeTo}
 use Rattle.cx_run.specs.Calls.{Lent, Call, IsRun, AreTold, driven}
 use Rattle.cx_run.specs.Causes.{HasLast, WereTrails}
 use Rattle.cx_run.specs.Clauses.{Obeys, IsEnd}
@@ -33,10 +33,12 @@ pub record IsStart (s : Start) : Type 0 where
 abbrev pub MayLeave : Start → Files → Type 0
 MayLeave s image = s.call.work.disk.new.left_since s.call.work.disk.old.moment image
 
--- One start after another: of a job with the same run and key, with the same routines, on a disk
--- that a crash may have left of the one before.
+-- One start after another, with the same routines, on a disk that a crash may have left of the one
+-- before. Its job may be steered otherwise after the newest checkpoint of each image of that disk;
+-- of an image without a checkpoint nothing is asked.
 pub record GoesOn (before after : Start) : Type 0 where
-  pub job : HaveOneRun before.job after.job
+  pub job : (image : Files) (newest : ℕ) → after.call.work.disk.old.images image
+      → NewestIs image (Some newest) → AreAlikeTo newest before.job after.job
   pub rules : before.call.work.rules ≡ after.call.work.rules
   pub disk : (image : Files) → after.call.work.disk.old.images image
       → (left : Files) × MayLeave before left × SameFiles left image
@@ -51,14 +53,14 @@ HasOutputsOf setup rules v =
     (j : ℕ) → j < output_count setup
     → HasOutput (file_of_output j) (slice_index_or (outputs setup rules) j []) v
 
--- The last start begins on trails. Where it comes to an end, it leaves the outputs of the first
--- one's undivided run and the run's last checkpoint as the newest one, and its end is that run's;
--- where it is done, what it computed and exchanged is what was left to do.
-pub record EndsAlike (first last : Start) : Type 0 where
+-- The last start begins on trails. Where it comes to an end, it leaves the outputs of its job's
+-- undivided run and the run's last checkpoint as the newest one, and its end is that run's; where
+-- it is done, what it computed and exchanged is what was left to do.
+pub record EndsAlike (last : Start) : Type 0 where
   pub began : BeginsOnTrails last
   pub output : IsEnd last.status
-      → HasOutputsOf (setup_of first.job) first.call.work.rules last.call.work.disk.new
+      → HasOutputsOf (setup_of last.job) last.call.work.rules last.call.work.disk.new
   pub last_is : IsEnd last.status → HasLast (driven last.call.work last.job)
-  pub done : last.status ≡ 0 → end_of (setup_of first.job) first.call.work.rules ≡ Done
-  pub ended : last.status ≡ 3 → end_of (setup_of first.job) first.call.work.rules ≢ Done
+  pub done : last.status ≡ 0 → end_of (setup_of last.job) last.call.work.rules ≡ Done
+  pub ended : last.status ≡ 3 → end_of (setup_of last.job) last.call.work.rules ≢ Done
   pub work : last.status ≡ 0 → HasWorked (driven last.call.work last.job)

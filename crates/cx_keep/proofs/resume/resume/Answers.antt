@@ -2,6 +2,7 @@ use Rattle.std.proofs.Common.{◌∙◌, ℕ, List, ap, subst, length, arith}
 use Rattle.std.specs.Prelude.{slice_index}
 use Rattle.std.proofs.lemmas.Result.{on_ok_weaker}
 use Rattle.cx_keep.specs.Resuming.{LeavesCut}
+use Rattle.cx_keep.specs.Trails.{with_key}
 use Rattle.cx_keep.proofs.Begins.{quiet_moments, cut_moments, cut_stands, trails_quiet, resumed_quiet}
 use Rattle.cx_keep.proofs.resume.resume.Goals as goal
 
@@ -27,7 +28,7 @@ returns-clause-stands g c = λ tells.
     on_ok_weaker c.cut_outputs.result (λ own course can next later.
     let r = resumed_quiet course c.args.c.now (g.D.Disk.view c.args.disk.now)
     (g.D.Disk.view c.settle_slots.new.disk) can.resumed quiet in
-    cut_stands course can.monotone c.args.c.now r.of_run c.as_slice.result.now
+    cut_stands course can.monotone (with_key r.key c.args.c.now) r.of_run c.as_slice.result.now
     (length c.as_slice.result.now) (ap length c.as_slice.ensures ∙ can.counts)
     (λ j out. ap (λ (l : List ℕ). slice_index l j) c.as_slice.ensures)
     (g.D.Disk.view c.settle_slots.new.disk) (g.met.D.Disk.sound c.settle_slots.new.disk tells)

@@ -2,9 +2,8 @@ use Rattle.std.proofs.Common.{subst, sym, ◌∙◌}
 use Rattle.std.specs.Prelude.{Result}
 use Rattle.cx_plan.specs.declared.job.Recover.TheVariants.{Autoprobe}
 use Rattle.cx_chk.specs.declared.checkpoint.Checkpoint.{Checkpoint}
-use Rattle.cx_chk.specs.Encoding.{SpellsSlot}
 use Rattle.cx_keep.specs.declared.fault.BeginFault.{BeginFault}
-use Rattle.cx_keep.specs.Tests.{Answers}
+use Rattle.cx_keep.specs.Tests.{Answers, SpellsAgreeing}
 use Rattle.cx_keep.proofs.Starting.{newest_files, tested_same, quiet_alone, moments_quiet, started_quiet, refused_quiet, if_ok_more}
 use Rattle.cx_keep.proofs.start.go_on.Goals as goal
 
@@ -20,7 +19,7 @@ go_on_from-requires-clause-newest g c = λ tells.
 
 pub go_on_from-requires-clause-spelled : goal.go_on_from-requires-clause-spelled
 go_on_from-requires-clause-spelled g c = λ tells.
-    subst (λ b. SpellsSlot b c.in_ok-found.found)
+    subst (λ b. SpellsAgreeing b c.in_ok-found.found)
     (sym ((c.in_ok-found.ensures.quiet tells).same c.args.slot))
     (c.in_ok-found.ensures.spelled tells)
 
