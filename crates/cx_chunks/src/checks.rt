@@ -13,9 +13,9 @@ ghost use Rattle.cx_chunks.specs.Combining.{is_at, is_twin, is_output_of, is_out
 ghost use Rattle.cx_chunks.specs.Laws.{IsCutOf};
 
 use crate::fault::ChunkFault;
-use crate::iterations::iterations;
 use crate::own_box::{OwnBox, own_box};
 use crate::piece::Piece;
+use crate::rising::iterations;
 use cx_cut::Cut;
 use cx_plan::{Job, VarId, VarInfo};
 use cx_text::{List, Text};

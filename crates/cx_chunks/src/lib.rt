@@ -5,12 +5,12 @@ mod checks;
 mod combining;
 mod cutting;
 mod fault;
-mod iterations;
 mod laws;
 mod own_box;
 mod piece;
 mod place;
 mod reading;
+mod rising;
 mod section;
 
 pub use combining::combine;
@@ -19,3 +19,4 @@ pub use fault::ChunkFault;
 pub use laws::chunks_are_whole;
 pub use piece::Piece;
 pub use reading::read_chunk;
+pub use rising::iterations;

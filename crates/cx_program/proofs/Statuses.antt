@@ -25,11 +25,13 @@ status_of_call c sink (Err e) obeys = tt
 
 -- ---- want of memory
 
-not_other : (s : ℕ) → s ≡ 5 → (s ≡ 0) ⊎ ((s ≡ 2) ⊎ ((s ≡ 3) ⊎ (s ≡ 6))) → ⊥
+not_other : (s : ℕ) → s ≡ 5
+    → (s ≡ 0) ⊎ ((s ≡ 2) ⊎ ((s ≡ 3) ⊎ ((s ≡ 6) ⊎ (s ≡ 7)))) → ⊥
 not_other s e (inl f) = omega (arith, e, f)
 not_other s e (inr (inl f)) = omega (arith, e, f)
 not_other s e (inr (inr (inl f))) = omega (arith, e, f)
-not_other s e (inr (inr (inr f))) = omega (arith, e, f)
+not_other s e (inr (inr (inr (inl f)))) = omega (arith, e, f)
+not_other s e (inr (inr (inr (inr f)))) = omega (arith, e, f)
 
 -- it says nothing of the words
 pub wanting_status : (words : List (List ℕ)) (s : ℕ) → s ≡ 5 → IsStatusFor words s
@@ -40,6 +42,8 @@ wanting_status words s five =
       usage = λ e. absurd (omega (arith, five, e));
       other = λ e. absurd (not_other s five e);
       plain = λ r asks none. inr (inr (inr five));
+      chunks = λ r asks on. inl (inr (inr (inr five)));
+      refused = λ r asks e. absurd (omega (arith, five, e));
     }
 
 pub same_status : (words : List (List ℕ)) (s t : ℕ) → t ≡ s → IsStatusFor words s

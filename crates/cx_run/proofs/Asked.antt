@@ -100,6 +100,7 @@ sorted (faults.Text name fault) = refused refl
 sorted (faults.Ccl name fault) = refused refl
 sorted (faults.Bind fault) = refused refl
 sorted (faults.Value fault) = refused refl
+sorted (faults.Steer name fault) = refused refl
 sorted (faults.Order fault) = refused refl
 sorted (faults.UnknownRoutine path) = refused refl
 sorted (faults.RoutineMismatch path declared offered) = refused refl

@@ -1,6 +1,7 @@
 -- The definitions on command lines and on what is printed for them.
 use Rattle.std.proofs.Common.{◌≡◌, [], ◌∷◌, codes, pos, Some, None, refl}
 use Rattle.std.specs.Fmt.{digits}
+use Rattle.cx_chunks.specs.declared.fault.ChunkFault.TheVariants as chunks
 use Rattle.cx_job.specs.declared.fault.JobFault.TheVariants as faults
 use Rattle.cx_keep.specs.declared.fault.BeginFault.TheVariants as begins
 use Rattle.cx_model.specs.declared.ends.End.TheVariants as ends
@@ -79,7 +80,7 @@ a_dash = refl
 -- the usage text as it stands on the screen
 usage_line : text_of a.Usage
     ≡ codes
-    "usage: cactus run FILE [--turns SEED]\n       cactus check FILE\n       cactus schedule FILE\n       cactus describe FILE\n       cactus parts FILE\n       cactus make SEED SIZE\n"
+    "usage: cactus run FILE [--turns SEED]\n       cactus check FILE\n       cactus schedule FILE\n       cactus describe FILE\n       cactus parts FILE\n       cactus make SEED SIZE\n       cactus chunk FILE\n       cactus recombine FILE\n"
 usage_line = refl
 
 done : text_of (a.Done 2) ≡ codes "done: iteration 2\n"
@@ -135,3 +136,22 @@ other_job : text_of (a.Recovery
     (codes "parameter wave::amount = \"6\"")))
     ≡ codes "recovery: OtherJob\nparameter wave::amount = \"5\"\nparameter wave::amount = \"6\"\n"
 other_job = refl
+
+a_chunk : asked (codes "chunk" ∷ codes "ca.par" ∷ [])
+    ≡ Some (request commands.Chunk (codes "ca.par") 0)
+a_chunk = refl
+
+chunked : text_of (a.Chunked (record { parts = 2; records = 3 }))
+    ≡ codes "chunked: parts 2 records 3\n"
+unfolding digits
+chunked = refl
+
+recombined : text_of (a.Recombined (record { records = 3; bytes = 141 }))
+    ≡ codes "recombined: records 3 bytes 141\n"
+unfolding digits
+recombined = refl
+
+missing_piece : text_of (a.Chunks (chunks.Missing 1 (codes "ca::cell") 1))
+    ≡ codes "chunks: Missing 1 ca::cell 1\n"
+unfolding digits
+missing_piece = refl

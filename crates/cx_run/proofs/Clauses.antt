@@ -27,7 +27,10 @@ use Rattle.cx_run.specs.Calls.{Lent, Work, Call, Runs, IsRun, AreTold, IsStill, 
 use Rattle.cx_run.specs.Causes.{HasCome, HasRun, Comes, ComesTo, CanGoOn, Follows, Explains}
 use Rattle.cx_run.specs.Sink.{Adds}
 use Rattle.cx_run.specs.Texts.{made_text}
-use Rattle.cx_run.specs.Clauses.{length_of_all, IsEnd, RunsWell, KeepsTrails, IsToldOf, SumsUp, IsUntouched, Spares, IsCalm, status_at, Gives, IsRefusedFor, Owes}
+use Rattle.cx_run.specs.Chunks.{IsApart, OnChunks, UsesDisk, files_fault, status_by}
+use Rattle.cx_run_chunks.specs.Commands.{outputs_fault, recombine_fault}
+use Rattle.cx_run.proofs.ChunkLaws.{is_chunk, is_recombine, not_both, not_chunk, not_recombine, still_apart, trails_stay}
+use Rattle.cx_run.specs.Clauses.{length_of_all, IsEnd, RunsWell, KeepsAllTrails, KeepsTrails, IsToldOf, SumsUp, IsUntouched, Spares, IsCalm, status_at, Gives, IsRefusedFor, Owes}
 use Rattle.cx_run.specs.Words.{Request, asked}
 use Rattle.cx_run.specs.declared.reply.Answer.{Answer}
 use Rattle.cx_run.specs.declared.reply.Answer.TheVariants as a
@@ -100,7 +103,11 @@ over w command job (a.Made iteration seed size output live) runs x e =
     record { end = ends.Done; run = x.run; status_is = refl }
 over w command job (a.Ended end) runs x e =
     record { end = end; run = x.run; status_is = status_other end x.other }
-over w command job (a.Text text) runs x e = absurd (x.other runs)
+over w command job (a.Text text) runs x e = absurd (x.other (inl runs))
+over w command job (a.Chunked done) runs x e = absurd (not_chunk command x.command_is runs)
+over w command job (a.Recombined done) runs x e =
+    absurd (not_recombine command x.command_is runs)
+over w command job (a.Chunks fault) runs x e = absurd (not_both command runs x.command_is)
 over w command job (a.Recovery fault) runs x e =
     absurd (not_end 6 (λ z. absurd cc) (λ z. absurd cc) e)
 over w command job a.Disk runs x e = absurd (not_end 4 (λ z. absurd cc) (λ z. absurd cc) e)
@@ -177,7 +184,7 @@ keeps_trails c answer x told job run trails = go (run_of c answer x job run)
   where
     go : ComesTo c.work run.request.command job answer ⊎ HasFailed c answer
         → LeavesTrails (driven c.work job)
-    go (inl comes) = comes.trails told trails
+    go (inl comes) = comes.trails run.runs told trails
     go (inr (shelf is rose still)) = still_trails c.work job still told.0 trails
     go (inr (memory is still)) = still_trails c.work job still told.0 trails
 
@@ -223,7 +230,12 @@ made_comes c sink command job seed size (a.Made iteration other_seed other_size 
 made_comes c sink command job seed size (a.Done iteration) is told well x e said =
     absurd (not_run seed size (sym x.command_is ∙ is))
 made_comes c sink command job seed size (a.Text text) is told well x e said =
-    absurd (x.other (runs_as command (commands.Make seed size) is tt))
+    absurd (x.other (inl (runs_as command (commands.Make seed size) is tt)))
+made_comes c sink command job seed size (a.Chunked done) is told well x e said =
+    absurd (not_chunk command x.command_is (runs_as command (commands.Make seed size) is tt))
+made_comes c sink command job seed size (a.Recombined done) is told well x e said =
+    absurd (not_recombine command x.command_is (runs_as command (commands.Make seed size) is tt))
+made_comes c sink command job seed size (a.Chunks fault) is told well x e said = absurd cc
 made_comes c sink command job seed size (a.Ended end) is told well x e said = absurd cc
 made_comes c sink command job seed size (a.Recovery fault) is told well x e said = absurd cc
 made_comes c sink command job seed size a.Disk is told well x e said = absurd cc
@@ -256,39 +268,49 @@ untouched : (w : Work) → IsStill w → IsUntouched w
 untouched w still = record { disk = still.quiet; wire = still.wire; meter = still.meter }
 
 abbrev IsRefusal : ℕ → Type 0
-IsRefusal s = (s ≡ 1) ⊎ ((s ≡ 2) ⊎ (s ≡ 6))
+IsRefusal s = (s ≡ 1) ⊎ ((s ≡ 2) ⊎ ((s ≡ 6) ⊎ (s ≡ 7)))
 
-no_refusal : (n : ℕ) → (n ≡ 1 → ⊥) → (n ≡ 2 → ⊥) → (n ≡ 6 → ⊥) → IsRefusal n → ⊥
-no_refusal n not1 not2 not6 (inl e) = not1 e
-no_refusal n not1 not2 not6 (inr (inl e)) = not2 e
-no_refusal n not1 not2 not6 (inr (inr e)) = not6 e
+no_refusal : (n : ℕ) → (n ≡ 1 → ⊥) → (n ≡ 2 → ⊥) → (n ≡ 6 → ⊥) → (n ≡ 7 → ⊥)
+    → IsRefusal n → ⊥
+no_refusal n not1 not2 not6 not7 (inl e) = not1 e
+no_refusal n not1 not2 not6 not7 (inr (inl e)) = not2 e
+no_refusal n not1 not2 not6 not7 (inr (inr (inl e))) = not6 e
+no_refusal n not1 not2 not6 not7 (inr (inr (inr e))) = not7 e
 
 refusal_comes : (w : Work) (command : Command) (job : Job) (answer : Answer)
+    → (OnChunks command → IsApart w)
     → Comes w command job answer → IsRefusal (status_of answer) → IsUntouched w
-refusal_comes w command job (a.Recovery fault) x e =
+refusal_comes w command job (a.Recovery fault) apart x e =
     record { disk = x.1.quiet; wire = x.1.wire; meter = x.1.meter }
-refusal_comes w command job (a.Done iteration) x e =
-    absurd (no_refusal 0 (λ z. absurd cc) (λ z. absurd cc) (λ z. absurd cc) e)
-refusal_comes w command job (a.Made iteration seed size output live) x e =
-    absurd (no_refusal 0 (λ z. absurd cc) (λ z. absurd cc) (λ z. absurd cc) e)
-refusal_comes w command job (a.Text text) x e =
-    absurd (no_refusal 0 (λ z. absurd cc) (λ z. absurd cc) (λ z. absurd cc) e)
-refusal_comes w command job (a.Ended end) x e =
-    absurd (no_refusal 3 (λ z. absurd cc) (λ z. absurd cc) (λ z. absurd cc) e)
-refusal_comes w command job a.Disk x e =
-    absurd (no_refusal 4 (λ z. absurd cc) (λ z. absurd cc) (λ z. absurd cc) e)
-refusal_comes w command job a.Wire x e =
-    absurd (no_refusal 4 (λ z. absurd cc) (λ z. absurd cc) (λ z. absurd cc) e)
-refusal_comes w command job a.Memory x e =
-    absurd (no_refusal 5 (λ z. absurd cc) (λ z. absurd cc) (λ z. absurd cc) e)
-refusal_comes w command job a.Usage x e = absurd x
-refusal_comes w command job (a.Refused fault) x e = absurd x
-refusal_comes w command job a.Shelf x e = absurd x
+refusal_comes w command job (a.Chunks fault) apart x e =
+    let left = apart x.command_is in
+    record { disk = x.quiet; wire = left.wire; meter = left.meter }
+refusal_comes w command job (a.Chunked done) apart x e =
+    absurd (no_refusal 0 (λ z. absurd cc) (λ z. absurd cc) (λ z. absurd cc) (λ z. absurd cc) e)
+refusal_comes w command job (a.Recombined done) apart x e =
+    absurd (no_refusal 0 (λ z. absurd cc) (λ z. absurd cc) (λ z. absurd cc) (λ z. absurd cc) e)
+refusal_comes w command job (a.Done iteration) apart x e =
+    absurd (no_refusal 0 (λ z. absurd cc) (λ z. absurd cc) (λ z. absurd cc) (λ z. absurd cc) e)
+refusal_comes w command job (a.Made iteration seed size output live) apart x e =
+    absurd (no_refusal 0 (λ z. absurd cc) (λ z. absurd cc) (λ z. absurd cc) (λ z. absurd cc) e)
+refusal_comes w command job (a.Text text) apart x e =
+    absurd (no_refusal 0 (λ z. absurd cc) (λ z. absurd cc) (λ z. absurd cc) (λ z. absurd cc) e)
+refusal_comes w command job (a.Ended end) apart x e =
+    absurd (no_refusal 3 (λ z. absurd cc) (λ z. absurd cc) (λ z. absurd cc) (λ z. absurd cc) e)
+refusal_comes w command job a.Disk apart x e =
+    absurd (no_refusal 4 (λ z. absurd cc) (λ z. absurd cc) (λ z. absurd cc) (λ z. absurd cc) e)
+refusal_comes w command job a.Wire apart x e =
+    absurd (no_refusal 4 (λ z. absurd cc) (λ z. absurd cc) (λ z. absurd cc) (λ z. absurd cc) e)
+refusal_comes w command job a.Memory apart x e =
+    absurd (no_refusal 5 (λ z. absurd cc) (λ z. absurd cc) (λ z. absurd cc) (λ z. absurd cc) e)
+refusal_comes w command job a.Usage apart x e = absurd x
+refusal_comes w command job (a.Refused fault) apart x e = absurd x
+refusal_comes w command job a.Shelf apart x e = absurd x
 
 refusal_follows : (c : Call) (command : Command) (found : Result Job JobFault) (answer : Answer)
     → Follows c command found answer → IsRefusal (status_of answer) → IsUntouched c.work
 refusal_follows c command (Ok job) answer x e =
-    refusal_comes c.work command job answer x.comes.cause e
+    refusal_comes c.work command job answer x.comes.apart x.comes.cause e
 refusal_follows c command (Err fault) answer x e = untouched c.work x.still
 
 refusal_untouched : (c : Call) (answer : Answer) → Explains c answer → IsRefusal (status_of answer)
@@ -303,43 +325,70 @@ refusal_said sink answer result said (inl e) =
     inl (said_status sink answer result 1 said e (λ z. absurd cc) (λ z. absurd cc))
 refusal_said sink answer result said (inr (inl e)) =
     inr (inl (said_status sink answer result 2 said e (λ z. absurd cc) (λ z. absurd cc)))
-refusal_said sink answer result said (inr (inr e)) =
-    inr (inr (said_status sink answer result 6 said e (λ z. absurd cc) (λ z. absurd cc)))
+refusal_said sink answer result said (inr (inr (inl e))) =
+    inr (inr (inl (said_status sink answer result 6 said e (λ z. absurd cc) (λ z. absurd cc))))
+refusal_said sink answer result said (inr (inr (inr e))) =
+    inr (inr (inr (said_status sink answer result 7 said e (λ z. absurd cc) (λ z. absurd cc))))
 
-still_comes : (w : Work) (command : Command) (job : Job) (answer : Answer) → (Runs command → ⊥)
-    → Comes w command job answer → IsStill w
+still_comes : (w : Work) (command : Command) (job : Job) (answer : Answer)
+    → (UsesDisk command → ⊥) → Comes w command job answer → IsStill w
 still_comes w command job (a.Done iteration) other x =
-    absurd (other (runs_as command commands.Run x.command_is tt))
+    absurd (other (inl (runs_as command commands.Run x.command_is tt)))
 still_comes w command job (a.Made iteration seed size output live) other x =
-    absurd (other (runs_as command (commands.Make seed size) x.command_is tt))
+    absurd (other (inl (runs_as command (commands.Make seed size) x.command_is tt)))
 still_comes w command job (a.Text text) other x = x.still
-still_comes w command job (a.Ended end) other x = absurd (other x.runs)
-still_comes w command job (a.Recovery fault) other x = absurd (other x.0)
+still_comes w command job (a.Ended end) other x = absurd (other (inl x.runs))
+still_comes w command job (a.Recovery fault) other x = absurd (other (inl x.0))
+still_comes w command job (a.Chunked done) other x =
+    absurd (other (inr (is_chunk command x.command_is)))
+still_comes w command job (a.Recombined done) other x =
+    absurd (other (inr (is_recombine command x.command_is)))
+still_comes w command job (a.Chunks fault) other x = absurd (other (inr x.command_is))
 still_comes w command job a.Disk other x = absurd (other x.0)
-still_comes w command job a.Wire other x = absurd (other x.0)
+still_comes w command job a.Wire other x = absurd (other (inl x.0))
 still_comes w command job a.Memory other x = x other
 still_comes w command job a.Usage other x = absurd x
 still_comes w command job (a.Refused fault) other x = absurd x
 still_comes w command job a.Shelf other x = absurd x
 
 still_follows : (c : Call) (command : Command) (found : Result Job JobFault) (answer : Answer)
-    → (Runs command → ⊥) → Follows c command found answer → IsStill c.work
+    → (UsesDisk command → ⊥) → Follows c command found answer → IsStill c.work
 still_follows c command (Ok job) answer other x =
     still_comes c.work command job answer other x.comes.cause
 still_follows c command (Err fault) answer other x = x.still
 
 other_still : (c : Call) (answer : Answer) → Explains c answer → (r : Request)
-    → asked c.words ≡ Some r → (Runs r.command → ⊥) → IsStill c.work
+    → asked c.words ≡ Some r → (UsesDisk r.command → ⊥) → IsStill c.work
 other_still c answer (inl wrong) r asks other = wrong.still
 other_still c answer (inr x) r asks other =
     still_follows c x.request.command x.found answer
-    (λ run. other (subst (λ (q : Request). Runs q.command) (same_request c answer x r asks) run))
-    x.follows
+    (λ uses. other (subst (λ (q : Request). UsesDisk q.command)
+    (same_request c answer x r asks) uses)) x.follows
 
 wrong_still : (c : Call) (answer : Answer) → Explains c answer → asked c.words ≡ None
     → c.shelf.same × IsStill c.work
 wrong_still c answer (inl wrong) none = (wrong.shelf, wrong.still)
 wrong_still c answer (inr x) none = absurd (not_asked (asked c.words) x.request none x.asks)
+
+-- a command on chunks leaves alone what isn't one of their files
+follows_apart : (c : Call) (command : Command) (found : Result Job JobFault) (answer : Answer)
+    → OnChunks command → Follows c command found answer → IsApart c.work
+follows_apart c command (Ok job) answer on x = x.comes.apart on
+follows_apart c command (Err fault) answer on x = still_apart c.work x.still
+
+pub chunks_apart : (c : Call) (answer : Answer) → Explains c answer → (r : Request)
+    → asked c.words ≡ Some r → OnChunks r.command → IsApart c.work
+chunks_apart c answer (inl wrong) r asks on = still_apart c.work wrong.still
+chunks_apart c answer (inr x) r asks on =
+    follows_apart c x.request.command x.found answer
+    (subst (λ (q : Request). OnChunks q.command) (sym (same_request c answer x r asks)) on)
+    x.follows
+
+pub keeps_all_trails : (c : Call) (answer : Answer) → Explains c answer → c.work.disk.tells
+    → KeepsAllTrails c
+keeps_all_trails c answer x tells r course asks on few trails =
+    trails_stay c.work.disk.old c.work.disk.new course few
+    ((chunks_apart c answer x r asks on).disk tells) trails
 
 pub spares : (c : Call) (sink : Lent (List ℕ)) (answer : Answer) (result : ℕ) → Explains c answer
     → WasSaid sink answer result → Spares c result
@@ -349,6 +398,7 @@ spares c sink answer result x said =
       wrong_use = λ none. wrong_still c answer x none;
       other_command = λ r asks other. other_still c answer x r asks other;
       no_job = λ r fault asks told made. (fault_of c answer x r fault asks told made).is.still;
+      chunks = λ r asks on. chunks_apart c answer x r asks on;
       shelf = λ r asks. spared c answer x r asks;
     }
 
@@ -376,15 +426,18 @@ failed_due : (c : Call) (answer : Answer) (s : ℕ) → (HasRisen c.shelf.faults
 failed_due c answer s calm (shelf is rose still) = absurd (calm rose)
 failed_due c answer s calm (memory is still) = inr (ap status_of is)
 
-told_due : (w : Work) (command : Command) (job : Job) (answer : Answer) → (Runs command → ⊥)
-    → Comes w command job answer → Due 0 (status_of answer)
+told_due : (w : Work) (command : Command) (job : Job) (answer : Answer)
+    → (UsesDisk command → ⊥) → Comes w command job answer → Due 0 (status_of answer)
 told_due w command job (a.Done iteration) other x = inl refl
 told_due w command job (a.Made iteration seed size output live) other x = inl refl
 told_due w command job (a.Text text) other x = inl refl
-told_due w command job (a.Ended end) other x = absurd (other x.runs)
-told_due w command job (a.Recovery fault) other x = absurd (other x.0)
+told_due w command job (a.Ended end) other x = absurd (other (inl x.runs))
+told_due w command job (a.Recovery fault) other x = absurd (other (inl x.0))
+told_due w command job (a.Chunked done) other x = inl refl
+told_due w command job (a.Recombined done) other x = inl refl
+told_due w command job (a.Chunks fault) other x = absurd (other (inr x.command_is))
 told_due w command job a.Disk other x = absurd (other x.0)
-told_due w command job a.Wire other x = absurd (other x.0)
+told_due w command job a.Wire other x = absurd (other (inl x.0))
 told_due w command job a.Memory other x = inr refl
 told_due w command job a.Usage other x = absurd x
 told_due w command job (a.Refused fault) other x = absurd x
@@ -422,7 +475,11 @@ module _ (c : Call) (sink : Lent (List ℕ)) (calm : IsCalm c sink) (told : AreT
       absurd (never_begun c job fault ends.Done told begins x.run)
   refused_due fault (a.Made iteration seed size output live) begins x =
       absurd (never_begun c job fault ends.Done told begins x.run)
-  refused_due fault (a.Text text) begins x = absurd (x.other runs)
+  refused_due fault (a.Text text) begins x = absurd (x.other (inl runs))
+  refused_due fault (a.Chunked done) begins x = absurd (not_chunk command x.command_is runs)
+  refused_due fault (a.Recombined done) begins x =
+      absurd (not_recombine command x.command_is runs)
+  refused_due fault (a.Chunks other) begins x = absurd (not_both command runs x.command_is)
   refused_due fault (a.Ended end) begins x = absurd (never_begun c job fault end told begins x.run)
   refused_due fault (a.Recovery other) begins x = inl refl
   refused_due fault a.Disk begins x = absurd (calm.disk x.1)
@@ -439,7 +496,10 @@ module _ (c : Call) (sink : Lent (List ℕ)) (calm : IsCalm c sink) (told : AreT
   run_due found (a.Done iteration) begins x = inl (end_due c job found ends.Done told begins x.run)
   run_due found (a.Made iteration seed size output live) begins x =
       inl (end_due c job found ends.Done told begins x.run)
-  run_due found (a.Text text) begins x = absurd (x.other runs)
+  run_due found (a.Text text) begins x = absurd (x.other (inl runs))
+  run_due found (a.Chunked done) begins x = absurd (not_chunk command x.command_is runs)
+  run_due found (a.Recombined done) begins x = absurd (not_recombine command x.command_is runs)
+  run_due found (a.Chunks fault) begins x = absurd (not_both command runs x.command_is)
   run_due found (a.Ended end) begins x =
       inl (status_other end x.other ∙ end_due c job found end told begins x.run)
   run_due found (a.Recovery other) begins x =
@@ -450,6 +510,43 @@ module _ (c : Call) (sink : Lent (List ℕ)) (calm : IsCalm c sink) (told : AreT
   run_due found a.Usage begins x = absurd x
   run_due found (a.Refused other) begins x = absurd x
   run_due found a.Shelf begins x = absurd x
+
+-- ---- a command on chunks
+
+module _ (c : Call) (sink : Lent (List ℕ)) (calm : IsCalm c sink) (tells : c.work.disk.tells)
+    (command : Command) (on : OnChunks command) (job : Job) where
+  no_chunk_fault : command ≡ commands.Chunk
+      → outputs_fault (setup_of job) c.work.disk.old.seen ≡ None
+      → Due (status_by (files_fault command job c.work.disk.old.seen)) 0
+  no_chunk_fault is none =
+      inl (sym (ap (λ (k : Command). status_by (files_fault k job c.work.disk.old.seen)) is
+      ∙ ap status_by none))
+
+  no_recombine_fault : command ≡ commands.Recombine
+      → recombine_fault job c.work.disk.old.seen ≡ None
+      → Due (status_by (files_fault command job c.work.disk.old.seen)) 0
+  no_recombine_fault is none =
+      inl (sym (ap (λ (k : Command). status_by (files_fault k job c.work.disk.old.seen)) is
+      ∙ ap status_by none))
+
+  chunks_due : (answer : Answer) → Comes c.work command job answer
+      → Due (status_by (files_fault command job c.work.disk.old.seen)) (status_of answer)
+  chunks_due (a.Done iteration) x =
+      absurd (not_both command (runs_as command commands.Run x.command_is tt) on)
+  chunks_due (a.Made iteration seed size output live) x =
+      absurd (not_both command (runs_as command (commands.Make seed size) x.command_is tt) on)
+  chunks_due (a.Text text) x = absurd (x.other (inr on))
+  chunks_due (a.Ended end) x = absurd (not_both command x.runs on)
+  chunks_due (a.Recovery fault) x = absurd (not_both command x.0 on)
+  chunks_due (a.Chunked done) x = no_chunk_fault x.command_is (x.no_fault tells)
+  chunks_due (a.Recombined done) x = no_recombine_fault x.command_is (x.no_fault tells)
+  chunks_due (a.Chunks fault) x = inl (sym (ap status_by (x.fault_is tells)))
+  chunks_due a.Disk x = absurd (calm.disk x.1)
+  chunks_due a.Wire x = absurd (calm.wire x.1)
+  chunks_due a.Memory x = inr refl
+  chunks_due a.Usage x = absurd x
+  chunks_due (a.Refused fault) x = absurd x
+  chunks_due a.Shelf x = absurd x
 
 -- ---- a run from trails
 
@@ -506,7 +603,10 @@ module _ (c : Call) (sink : Lent (List ℕ)) (calm : IsCalm c sink) (told : AreT
       → Due (status_at (end_of (setup_of job) c.work.rules)) (status_of answer)
   well_due (a.Done iteration) x = inl (come_due ends.Done x.run)
   well_due (a.Made iteration seed size output live) x = inl (come_due ends.Done x.run)
-  well_due (a.Text text) x = absurd (x.other runs)
+  well_due (a.Text text) x = absurd (x.other (inl runs))
+  well_due (a.Chunked done) x = absurd (not_chunk command x.command_is runs)
+  well_due (a.Recombined done) x = absurd (not_recombine command x.command_is runs)
+  well_due (a.Chunks fault) x = absurd (not_both command runs x.command_is)
   well_due (a.Ended end) x = inl (status_other end x.other ∙ come_due end x.run)
   well_due (a.Recovery other) x =
       absurd (ok_not_err begins.found other (sym (x.1.began told.0) ∙ begins.is))
@@ -528,6 +628,14 @@ due_of c sink answer x calm s (Gives.told r job asks other told made) =
     go : ComesTo c.work r.command job answer ⊎ HasFailed c answer → Due 0 (status_of answer)
     go (inl comes) = told_due c.work r.command job answer other comes.cause
     go (inr failed) = failed_due c answer 0 calm.shelf failed
+due_of c sink answer x calm s (Gives.chunks tells r job asks on told made) =
+    go (job_of c answer x r job asks told made)
+  where
+    go : ComesTo c.work r.command job answer ⊎ HasFailed c answer
+        → Due (status_by (files_fault r.command job c.work.disk.old.seen)) (status_of answer)
+    go (inl comes) = chunks_due c sink calm tells r.command on job answer comes.cause
+    go (inr failed) = failed_due c answer
+        (status_by (files_fault r.command job c.work.disk.old.seen)) calm.shelf failed
 due_of c sink answer x calm s (Gives.recovery told job fault run begins) =
     go (run_of c answer x job run)
   where

@@ -160,6 +160,16 @@ row_twice : fault_words (jobs.Value (values.Twice 4)) ≡ codes "Twice 4"
 unfolding digits
 row_twice = refl
 
+row_not_steerable : fault_words (jobs.Steer (codes "s.txt") (values.NotSteerable 1))
+    ≡ codes "s.txt NotSteerable 1"
+unfolding digits
+row_not_steerable = refl
+
+row_steer_order : fault_words (jobs.Steer (codes "s.txt") (values.SteerOrder 2))
+    ≡ codes "s.txt SteerOrder 2"
+unfolding digits
+row_steer_order = refl
+
 -- ---- schedules
 
 row_unknown_name : fault_words

@@ -2,6 +2,7 @@ pub mod Fronts
 pub mod Ends
 pub mod Totals
 pub mod Stillness
+pub mod ChunkLaws
 pub mod Running
 pub mod Asked
 pub mod MadeLaws

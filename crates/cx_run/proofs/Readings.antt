@@ -7,8 +7,12 @@ use Rattle.cx_job.specs.declared.fault.JobFault.{JobFault}
 use Rattle.cx_keep.specs.declared.fault.BeginFault.{BeginFault}
 use Rattle.cx_run_loop.specs.Drives.{IsRefused}
 use Rattle.cx_run.specs.Answers.{status_of, text_of, answer_of, Said, WasSaid, IsStatus, IsPlainStatus, IsStatusFor}
-use Rattle.cx_run.specs.Calls.{Lent, Work, Call, Makes, TellsFiles, Runs, IsStill, driven}
+use Rattle.cx_run.specs.Calls.{Lent, Work, Call, Makes, TellsFiles, IsStill, driven}
 use Rattle.cx_run.specs.Causes.{HasRun, IsSummed, Comes, Follows, Explains}
+use Rattle.cx_run_chunks.specs.declared.summary.Chunked.{Chunked}
+use Rattle.cx_run_chunks.specs.declared.summary.Recombined.{Recombined}
+use Rattle.cx_run.specs.Chunks.{HasChunked, HasRecombined, OnChunks, UsesDisk, chunked_text, recombined_text}
+use Rattle.cx_run.proofs.ChunkLaws.{not_both}
 use Rattle.cx_run.specs.Clauses.{Obeys}
 use Rattle.cx_run.specs.FaultWords.{refused_text}
 use Rattle.cx_run.specs.Sink.{Adds}
@@ -40,6 +44,9 @@ no_5 n e f = absurd cc
 no_6 : (n : ℕ) → n ≡ 6 → n ≡ 1 → ⊥
 no_6 n e f = absurd cc
 
+no_7 : (n : ℕ) → n ≡ 7 → n ≡ 1 → ⊥
+no_7 n e f = absurd cc
+
 -- ---- what a status says of the words
 
 status_is : (answer : Answer) → IsStatus (status_of answer)
@@ -53,7 +60,10 @@ status_is a.Shelf = inr (inr (inr (inr (inl refl))))
 status_is a.Disk = inr (inr (inr (inr (inl refl))))
 status_is a.Wire = inr (inr (inr (inr (inl refl))))
 status_is a.Memory = inr (inr (inr (inr (inr (inl refl)))))
-status_is (a.Recovery fault) = inr (inr (inr (inr (inr (inr refl)))))
+status_is (a.Recovery fault) = inr (inr (inr (inr (inr (inr (inl refl))))))
+status_is (a.Chunked counts) = inl refl
+status_is (a.Recombined counts) = inl refl
+status_is (a.Chunks fault) = inr (inr (inr (inr (inr (inr (inr refl))))))
 
 known : (sink : Lent (List ℕ)) (answer : Answer) (result : ℕ) → Said sink answer result
     → IsStatus result
@@ -91,6 +101,9 @@ comes_not_1 w command job a.Disk x e = absurd cc
 comes_not_1 w command job a.Wire x e = absurd cc
 comes_not_1 w command job a.Memory x e = absurd cc
 comes_not_1 w command job (a.Recovery fault) x e = absurd cc
+comes_not_1 w command job (a.Chunked counts) x e = absurd cc
+comes_not_1 w command job (a.Recombined counts) x e = absurd cc
+comes_not_1 w command job (a.Chunks fault) x e = absurd cc
 
 fault_not_1 : (fault : JobFault) (answer : Answer) → answer ≡ answer_of fault → IsSorted fault
     → status_of answer ≡ 1 → ⊥
@@ -117,7 +130,8 @@ asked_words c answer (inl wrong) other = absurd (other (ap status_of wrong.answe
 asked_words c answer (inr x) other = (x.request, x.asks)
 
 other_said : (sink : Lent (List ℕ)) (answer : Answer) (result : ℕ) → WasSaid sink answer result
-    → (result ≡ 0) ⊎ ((result ≡ 2) ⊎ ((result ≡ 3) ⊎ (result ≡ 6))) → status_of answer ≢ 1
+    → (result ≡ 0) ⊎ ((result ≡ 2) ⊎ ((result ≡ 3) ⊎ ((result ≡ 6) ⊎ (result ≡ 7))))
+    → status_of answer ≢ 1
 other_said sink answer result said (inl e) one =
     no_0 (status_of answer)
     (said_status sink answer result 0 said e (λ y. absurd cc) (λ y. absurd cc)) one
@@ -127,25 +141,32 @@ other_said sink answer result said (inr (inl e)) one =
 other_said sink answer result said (inr (inr (inl e))) one =
     no_3 (status_of answer)
     (said_status sink answer result 3 said e (λ y. absurd cc) (λ y. absurd cc)) one
-other_said sink answer result said (inr (inr (inr e))) one =
+other_said sink answer result said (inr (inr (inr (inl e)))) one =
     no_6 (status_of answer)
     (said_status sink answer result 6 said e (λ y. absurd cc) (λ y. absurd cc)) one
+other_said sink answer result said (inr (inr (inr (inr e)))) one =
+    no_7 (status_of answer)
+    (said_status sink answer result 7 said e (λ y. absurd cc) (λ y. absurd cc)) one
 
 -- ---- a command that isn't a run
 
-plain_comes : (w : Work) (command : Command) (job : Job) (answer : Answer) → (Runs command → ⊥)
+plain_comes : (w : Work) (command : Command) (job : Job) (answer : Answer)
+    → (UsesDisk command → ⊥)
     → Comes w command job answer → IsPlainStatus (status_of answer)
 plain_comes w command job (a.Done iteration) none x = inl refl
 plain_comes w command job (a.Made iteration seed size output live) none x = inl refl
 plain_comes w command job (a.Text text) none x = inl refl
 plain_comes w command job a.Usage none x = absurd x
 plain_comes w command job (a.Refused fault) none x = absurd x
-plain_comes w command job (a.Ended end) none x = absurd (none x.runs)
+plain_comes w command job (a.Ended end) none x = absurd (none (inl x.runs))
 plain_comes w command job a.Shelf none x = absurd x
 plain_comes w command job a.Disk none x = inr (inr (inl refl))
 plain_comes w command job a.Wire none x = inr (inr (inl refl))
 plain_comes w command job a.Memory none x = inr (inr (inr refl))
-plain_comes w command job (a.Recovery fault) none x = absurd (none x.0)
+plain_comes w command job (a.Recovery fault) none x = absurd (none (inl x.0))
+plain_comes w command job (a.Chunked counts) none x = inl refl
+plain_comes w command job (a.Recombined counts) none x = inl refl
+plain_comes w command job (a.Chunks fault) none x = absurd (none (inr x.command_is))
 
 plain_sorted : (fault : JobFault) → IsSorted fault → IsPlainStatus (status_of (answer_of fault))
 plain_sorted fault (by_shelf same e) = inr (inr (inl (ap status_of e)))
@@ -153,7 +174,8 @@ plain_sorted fault (by_memory e) = inr (inr (inr (ap status_of e)))
 plain_sorted fault (refused e) = inr (inl (ap status_of e))
 
 plain_follows : (c : Call) (command : Command) (found : Result Job JobFault) (answer : Answer)
-    → (Runs command → ⊥) → Follows c command found answer → IsPlainStatus (status_of answer)
+    → (UsesDisk command → ⊥) → Follows c command found answer
+    → IsPlainStatus (status_of answer)
 plain_follows c command (Ok job) answer none x =
     plain_comes c.work command job answer none x.comes.cause
 plain_follows c command (Err fault) answer none x =
@@ -161,12 +183,12 @@ plain_follows c command (Err fault) answer none x =
     (plain_sorted fault (sorted fault))
 
 plain_answer : (c : Call) (answer : Answer) → Explains c answer → (r : Request)
-    → asked c.words ≡ Some r → (Runs r.command → ⊥) → IsPlainStatus (status_of answer)
+    → asked c.words ≡ Some r → (UsesDisk r.command → ⊥) → IsPlainStatus (status_of answer)
 plain_answer c answer (inl wrong) r asks none =
     absurd (not_asked (asked c.words) r wrong.words asks)
 plain_answer c answer (inr x) r asks none =
     plain_follows c x.request.command x.found answer
-    (subst (λ (q : Request). Runs q.command → ⊥) (sym (same_request c answer x r asks)) none)
+    (subst (λ (q : Request). UsesDisk q.command → ⊥) (sym (same_request c answer x r asks)) none)
     x.follows
 
 plain_said : (sink : Lent (List ℕ)) (answer : Answer) (result : ℕ)
@@ -176,6 +198,103 @@ plain_said sink answer result plain (inl (inl p)) =
 plain_said sink answer result plain (inl (inr p)) = inr (inr (inl p.status_is))
 plain_said sink answer result plain (inr (inl p)) = inr (inr (inr p.status_is))
 plain_said sink answer result plain (inr (inr p)) = inr (inr (inl p.status_is))
+
+-- ---- a command on chunks
+
+abbrev IsChunksStatus : ℕ → Type 0
+IsChunksStatus status = IsPlainStatus status ⊎ (status ≡ 7)
+
+chunks_comes : (w : Work) (command : Command) (job : Job) (answer : Answer) → OnChunks command
+    → Comes w command job answer → IsChunksStatus (status_of answer)
+chunks_comes w command job (a.Done iteration) on x = inl (inl refl)
+chunks_comes w command job (a.Made iteration seed size output live) on x = inl (inl refl)
+chunks_comes w command job (a.Text text) on x = inl (inl refl)
+chunks_comes w command job a.Usage on x = absurd x
+chunks_comes w command job (a.Refused fault) on x = absurd x
+chunks_comes w command job (a.Ended end) on x = absurd (not_both command x.runs on)
+chunks_comes w command job a.Shelf on x = absurd x
+chunks_comes w command job a.Disk on x = inl (inr (inr (inl refl)))
+chunks_comes w command job a.Wire on x = inl (inr (inr (inl refl)))
+chunks_comes w command job a.Memory on x = inl (inr (inr (inr refl)))
+chunks_comes w command job (a.Recovery fault) on x = absurd (not_both command x.0 on)
+chunks_comes w command job (a.Chunked counts) on x = inl (inl refl)
+chunks_comes w command job (a.Recombined counts) on x = inl (inl refl)
+chunks_comes w command job (a.Chunks fault) on x = inr refl
+
+chunks_follows : (c : Call) (command : Command) (found : Result Job JobFault) (answer : Answer)
+    → OnChunks command → Follows c command found answer → IsChunksStatus (status_of answer)
+chunks_follows c command (Ok job) answer on x =
+    chunks_comes c.work command job answer on x.comes.cause
+chunks_follows c command (Err fault) answer on x =
+    subst (λ (y : Answer). IsChunksStatus (status_of y)) (sym x.answer_is)
+    (inl (plain_sorted fault (sorted fault)))
+
+chunks_answer : (c : Call) (answer : Answer) → Explains c answer → (r : Request)
+    → asked c.words ≡ Some r → OnChunks r.command → IsChunksStatus (status_of answer)
+chunks_answer c answer (inl wrong) r asks on =
+    absurd (not_asked (asked c.words) r wrong.words asks)
+chunks_answer c answer (inr x) r asks on =
+    chunks_follows c x.request.command x.found answer
+    (subst (λ (q : Request). OnChunks q.command) (sym (same_request c answer x r asks)) on)
+    x.follows
+
+chunks_said : (sink : Lent (List ℕ)) (answer : Answer) (result : ℕ)
+    → IsChunksStatus (status_of answer) → WasSaid sink answer result → IsChunksStatus result
+chunks_said sink answer result is (inl (inl p)) =
+    subst (λ (s : ℕ). IsChunksStatus s) (sym p.status_is) is
+chunks_said sink answer result is (inl (inr p)) = inl (inr (inr (inl p.status_is)))
+chunks_said sink answer result is (inr (inl p)) = inl (inr (inr (inr p.status_is)))
+chunks_said sink answer result is (inr (inr p)) = inl (inr (inr (inl p.status_is)))
+
+-- status 7 comes of these alone
+seven_comes : (w : Work) (command : Command) (job : Job) (answer : Answer)
+    → Comes w command job answer → status_of answer ≡ 7 → OnChunks command
+seven_comes w command job (a.Done iteration) x e = absurd cc
+seven_comes w command job (a.Made iteration seed size output live) x e = absurd cc
+seven_comes w command job (a.Text text) x e = absurd cc
+seven_comes w command job a.Usage x e = absurd x
+seven_comes w command job (a.Refused fault) x e = absurd x
+seven_comes w command job (a.Ended end) x e = absurd cc
+seven_comes w command job a.Shelf x e = absurd x
+seven_comes w command job a.Disk x e = absurd cc
+seven_comes w command job a.Wire x e = absurd cc
+seven_comes w command job a.Memory x e = absurd cc
+seven_comes w command job (a.Recovery fault) x e = absurd cc
+seven_comes w command job (a.Chunked counts) x e = absurd cc
+seven_comes w command job (a.Recombined counts) x e = absurd cc
+seven_comes w command job (a.Chunks fault) x e = x.command_is
+
+no_2_7 : (n : ℕ) → n ≡ 2 → n ≡ 7 → ⊥
+no_2_7 n e f = absurd cc
+
+no_4_7 : (n : ℕ) → n ≡ 4 → n ≡ 7 → ⊥
+no_4_7 n e f = absurd cc
+
+no_5_7 : (n : ℕ) → n ≡ 5 → n ≡ 7 → ⊥
+no_5_7 n e f = absurd cc
+
+seven_sorted : (fault : JobFault) → IsSorted fault → status_of (answer_of fault) ≡ 7 → ⊥
+seven_sorted fault (by_shelf same is) e =
+    absurd (no_4_7 (status_of (answer_of fault)) (ap status_of is) e)
+seven_sorted fault (by_memory is) e =
+    absurd (no_5_7 (status_of (answer_of fault)) (ap status_of is) e)
+seven_sorted fault (refused is) e =
+    absurd (no_2_7 (status_of (answer_of fault)) (ap status_of is) e)
+
+seven_follows : (c : Call) (command : Command) (found : Result Job JobFault) (answer : Answer)
+    → Follows c command found answer → status_of answer ≡ 7 → OnChunks command
+seven_follows c command (Ok job) answer x e =
+    seven_comes c.work command job answer x.comes.cause e
+seven_follows c command (Err fault) answer x e =
+    absurd (seven_sorted fault (sorted fault) (sym (ap status_of x.answer_is) ∙ e))
+
+seven_answer : (c : Call) (answer : Answer) → Explains c answer → (r : Request)
+    → asked c.words ≡ Some r → status_of answer ≡ 7 → OnChunks r.command
+seven_answer c answer (inl wrong) r asks e =
+    absurd (not_asked (asked c.words) r wrong.words asks)
+seven_answer c answer (inr x) r asks e =
+    subst (λ (q : Request). OnChunks q.command) (same_request c answer x r asks)
+    (seven_follows c x.request.command x.found answer x.follows e)
 
 -- every status is one for the words
 pub status_for : (c : Call) (sink : Lent (List ℕ)) (result : ℕ) → Obeys c sink result
@@ -190,7 +309,12 @@ status_for c sink result obeys =
       usage = λ e. usage_words c answer x
           (said_status sink answer result 1 said e (λ y. absurd cc) (λ y. absurd cc));
       other = λ e. asked_words c answer x (other_said sink answer result said e);
-      plain = λ r asks none. plain_said sink answer result (plain_answer c answer x r asks none) said;
+      plain = λ r asks none. plain_said sink answer result
+          (plain_answer c answer x r asks none) said;
+      chunks = λ r asks on. chunks_said sink answer result
+          (chunks_answer c answer x r asks on) said;
+      refused = λ r asks e. seven_answer c answer x r asks
+          (said_status sink answer result 7 said e (λ y. absurd cc) (λ y. absurd cc));
     }
 
 -- ---- by status
@@ -205,7 +329,7 @@ pub record IsMade (c : Call) (request : Request) (job : Job) : Type 0 where
   pub makes : TellsFiles c request → Makes c request (Ok job)
 
 -- 0: a run is done and has the undivided run's outputs, of a file or made, or another command has
--- its text
+-- its text, or has written chunks or the whole output
 pub data Done (c : Call) (sink : Lent (List ℕ)) : Type 0 where
   run : (r : Request) (job : Job) → IsMade c r job → r.command ≡ commands.Run
       → HasRun c.work job ends.Done → Prints sink (done_text job.itlast) → Done c sink
@@ -213,8 +337,13 @@ pub data Done (c : Call) (sink : Lent (List ℕ)) : Type 0 where
       → r.command ≡ commands.Make seed size → (ran : HasRun c.work job ends.Done)
       → IsSummed c.work job ran.found output live
       → Prints sink (made_text job.itlast seed size output live) → Done c sink
-  told : (r : Request) (job : Job) → IsMade c r job → (Runs r.command → ⊥) → IsStill c.work
+  told : (r : Request) (job : Job) → IsMade c r job → (UsesDisk r.command → ⊥) → IsStill c.work
       → Prints sink (command_text r.command job) → Done c sink
+  chunked : (r : Request) (job : Job) (done : Chunked) → IsMade c r job
+      → HasChunked c.work r.command job done → Prints sink (chunked_text done) → Done c sink
+  recombined : (r : Request) (job : Job) (done : Recombined) → IsMade c r job
+      → HasRecombined c.work r.command job done → Prints sink (recombined_text done)
+      → Done c sink
 
 -- 2: the file makes no job, for this reason
 pub record Refused (c : Call) (sink : Lent (List ℕ)) : Type 0 where
@@ -277,6 +406,9 @@ done_comes c sink r job a.Disk made x e said = absurd cc
 done_comes c sink r job a.Wire made x e said = absurd cc
 done_comes c sink r job a.Memory made x e said = absurd cc
 done_comes c sink r job (a.Recovery fault) made x e said = absurd cc
+done_comes c sink r job (a.Chunked counts) made x e said = chunked r job counts made x said
+done_comes c sink r job (a.Recombined counts) made x e said = recombined r job counts made x said
+done_comes c sink r job (a.Chunks fault) made x e said = absurd cc
 
 done_by : (c : Call) (sink : Lent (List ℕ)) (answer : Answer) → Explains c answer
     → status_of answer ≡ 0 → Printed sink answer → Done c sink
@@ -325,6 +457,9 @@ ended_comes c sink r job a.Disk made x e said = absurd cc
 ended_comes c sink r job a.Wire made x e said = absurd cc
 ended_comes c sink r job a.Memory made x e said = absurd cc
 ended_comes c sink r job (a.Recovery fault) made x e said = absurd cc
+ended_comes c sink r job (a.Chunked counts) made x e said = absurd cc
+ended_comes c sink r job (a.Recombined counts) made x e said = absurd cc
+ended_comes c sink r job (a.Chunks fault) made x e said = absurd cc
 
 ended_by : (c : Call) (sink : Lent (List ℕ)) (answer : Answer) → Explains c answer
     → status_of answer ≡ 3 → Printed sink answer → Ended c sink

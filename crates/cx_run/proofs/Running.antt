@@ -43,7 +43,8 @@ use Rattle.cx_run.specs.declared.reply.Answer.TheVariants as a
 use Rattle.cx_run.specs.declared.words.Command.{Command}
 use Rattle.cx_run.specs.declared.words.Command.TheVariants as commands
 use Rattle.cx_run.proofs.Ends.{end_with, done_is}
-use Rattle.cx_run.proofs.Stillness.{still_trails}
+use Rattle.cx_run.specs.Chunks.{UsesDisk}
+use Rattle.cx_run.proofs.ChunkLaws.{not_both}
 use Rattle.cx_run.proofs.Totals.{files_total}
 
 -- ---- a run
@@ -135,6 +136,8 @@ module _ (w : Work) (job : Job) (core : Cores) (drives : Drives (driven w job) (
         run = has_run ends.Done is;
         sums = summed_is (done_is core.outcome drives.comes.over is);
       }
+  done_cause commands.Chunk runs is = absurd runs
+  done_cause commands.Recombine runs is = absurd runs
   done_cause commands.Check runs is = absurd runs
   done_cause commands.Schedule runs is = absurd runs
   done_cause commands.Describe runs is = absurd runs
@@ -161,22 +164,27 @@ module _ (w : Work) (job : Job) (core : Cores) (drives : Drives (driven w job) (
   pub run_over : (command : Command) → Runs command → (answer : Answer)
       → AnswersRun command job (Ok core) answer → ComesTo w command job answer
   run_over command runs answer is =
-      record { cause = go is; begins = λ run. begins w job starts view; trails = drives.trails }
+      record {
+        cause = go is;
+        begins = λ run. begins w job starts view;
+        trails = λ run. drives.trails;
+        apart = λ on. absurd (not_both command runs on);
+      }
     where
       go : (answer ≡ a.Memory)
           ⊎ (answer ≡ summed command job core (answer_at job.itlast (end_in core.outcome)))
           → Comes w command job answer
       go (inl memory) = subst (λ (x : Answer). Comes w command job x) (sym memory)
-          (λ other. absurd (other runs))
+          (λ other. absurd (other (inl runs)))
       go (inr end) = subst (λ (x : Answer). Comes w command job x) (sym end)
           (ended_cause command runs (end_in core.outcome) refl)
 
 stopped_cause : (w : Work) (command : Command) (job : Job) (fault : DriveFault) → Runs command
     → DriveComes (driven w job) (Err fault) → Comes w command job (answer_for fault)
 stopped_cause w command job (stops.Recovery fault) runs comes = (runs, comes)
-stopped_cause w command job stops.Disk runs comes = (runs, comes)
+stopped_cause w command job stops.Disk runs comes = (inl runs, comes)
 stopped_cause w command job stops.Wire runs comes = (runs, comes)
-stopped_cause w command job stops.Memory runs comes = λ other. absurd (other runs)
+stopped_cause w command job stops.Memory runs comes = λ other. absurd (other (inl runs))
 
 -- what a run's answer comes from
 pub ran : (w : Work) (command : Command) (job : Job) → Runs command
@@ -191,7 +199,8 @@ ran w command job runs (Err fault) drives named starts view answer is =
       cause = subst (λ (x : Answer). Comes w command job x) (sym is)
           (stopped_cause w command job fault runs drives.comes);
       begins = λ run. begins w job starts view;
-      trails = drives.trails;
+      trails = λ run. drives.trails;
+      apart = λ on. absurd (not_both command runs on);
     }
 
 -- a run that gave its core is over
@@ -203,21 +212,22 @@ over d (Err fault) drives = tt
 -- ---- another command
 
 told_cause : (w : Work) (command : Command) (job : Job) (text : Result (List ℕ) Memory)
-    → (Runs command → ⊥) → IfOk text (λ t. t ≡ command_text command job) → IsStill w
+    → (UsesDisk command → ⊥) → IfOk text (λ t. t ≡ command_text command job) → IsStill w
     → Comes w command job (answer_with text)
 told_cause w command job (Ok text) other is still =
     record { other = other; text_is = is; still = still }
 told_cause w command job (Err e) other is still = λ o. still
 
 pub told : (w : Work) (command : Command) (job : Job) (text : Result (List ℕ) Memory)
-    (answer : Answer) → (Runs command → ⊥) → IfOk text (λ t. t ≡ command_text command job)
+    (answer : Answer) → (UsesDisk command → ⊥) → IfOk text (λ t. t ≡ command_text command job)
     → answer ≡ answer_with text → IsStill w → ComesTo w command job answer
 told w command job text answer other text_is is still =
     record {
       cause = subst (λ (x : Answer). Comes w command job x) (sym is)
           (told_cause w command job text other text_is still);
-      begins = λ run. absurd (other run);
-      trails = λ tells trails. still_trails w job still tells.0 trails;
+      begins = λ run. absurd (other (inl run));
+      trails = λ run. absurd (other (inl run));
+      apart = λ on. absurd (other (inr on));
     }
 
 -- ---- where a run can begin

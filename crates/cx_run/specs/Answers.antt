@@ -16,9 +16,18 @@ use Rattle.cx_keep.specs.Trails.{total}
 use Rattle.cx_plan.specs.Setups.{setup_of}
 use Rattle.cx_plan.specs.declared.job.Job.{Job}
 use Rattle.cx_run_made.specs.Summaries.{live_variable}
+use Rattle.cx_chunks.specs.declared.fault.ChunkFault.{ChunkFault}
+use Rattle.cx_chunks.specs.declared.fault.ChunkFault.TheVariants as chunk_faults
+use Rattle.cx_run_chunks.specs.declared.fault.ChunksFault.{ChunksFault}
+use Rattle.cx_run_chunks.specs.declared.fault.ChunksFault.TheVariants as chunk_stops
+use Rattle.cx_run_chunks.specs.declared.summary.Chunked.{Chunked}
+use Rattle.cx_run_chunks.specs.declared.summary.Recombined.{Recombined}
 use Rattle.cx_run.specs.Calls.{Lent, Runs, live_by}
+use Rattle.cx_run.specs.Chunks.{OnChunks, UsesDisk, chunked_text, chunks_text, recombined_text}
+use Rattle.cx_run.specs.declared.call.Way.{Way}
+use Rattle.cx_run.specs.declared.call.Way.TheVariants as ways
 use Rattle.cx_run.specs.declared.words.Command.{Command}
-use Rattle.cx_run.specs.declared.words.Command.TheVariants.{Make}
+use Rattle.cx_run.specs.declared.words.Command.TheVariants.{Make, Chunk, Recombine}
 use Rattle.cx_run.specs.FaultWords.{refused_text}
 use Rattle.cx_run.specs.Sink.{Adds, AddsFront}
 use Rattle.cx_run.specs.Texts.{command_text, done_text, made_text, ended_text, recovery_text, usage_text, shelf_text, disk_text, wire_text, memory_text}
@@ -38,6 +47,9 @@ status_of a.Disk = 4
 status_of a.Wire = 4
 status_of a.Memory = 5
 status_of (a.Recovery fault) = 6
+status_of (a.Chunked done) = 0
+status_of (a.Recombined done) = 0
+status_of (a.Chunks fault) = 7
 
 abbrev pub text_of : Answer → List ℕ
 text_of (a.Done iteration) = done_text iteration
@@ -51,6 +63,9 @@ text_of a.Disk = disk_text
 text_of a.Wire = wire_text
 text_of a.Memory = memory_text
 text_of (a.Recovery fault) = recovery_text fault
+text_of (a.Chunked done) = chunked_text done
+text_of (a.Recombined done) = recombined_text done
+text_of (a.Chunks fault) = chunks_text fault
 
 -- ---- faults and ends as answers
 
@@ -102,11 +117,30 @@ AnswersRun command job (Ok core) answer =
     ⊎ (answer ≡ summed command job core (answer_at job.itlast (end_in core.outcome)))
 AnswersRun command job (Err fault) answer = answer ≡ answer_for fault
 
--- the text of a command that isn't a run
-abbrev pub IsTextFor : Command → Job → Option (Result (List ℕ) Memory) → Type 0
-IsTextFor command job None = Runs command
-IsTextFor command job (Some text) =
-    (Runs command → ⊥) × IfOk text (λ t. t ≡ command_text command job)
+-- why a command on chunks wasn't done
+abbrev pub answer_to_fault : ChunkFault → Answer
+answer_to_fault chunk_faults.Memory = a.Memory
+answer_to_fault fault = a.Chunks fault
+
+abbrev pub answer_to_stop : ChunksFault → Answer
+answer_to_stop chunk_stops.Disk = a.Disk
+answer_to_stop (chunk_stops.Chunks fault) = answer_to_fault fault
+
+abbrev pub answer_to_chunk : Result Chunked ChunksFault → Answer
+answer_to_chunk (Ok done) = a.Chunked done
+answer_to_chunk (Err stop) = answer_to_stop stop
+
+abbrev pub answer_to_recombine : Result Recombined ChunksFault → Answer
+answer_to_recombine (Ok done) = a.Recombined done
+answer_to_recombine (Err stop) = answer_to_stop stop
+
+-- how a command is done with a job: it has a text, or uses the disk
+abbrev pub IsWayOf : Command → Job → Way → Type 0
+IsWayOf command job (ways.Told text) =
+    (UsesDisk command → ⊥) × IfOk text (λ t. t ≡ command_text command job)
+IsWayOf command job ways.Run = Runs command
+IsWayOf command job ways.Chunk = command ≡ Chunk
+IsWayOf command job ways.Recombine = command ≡ Recombine
 
 -- ---- what is said
 
@@ -135,18 +169,23 @@ WasSaid sink answer result = Said sink answer result ⊎ Said sink a.Memory resu
 abbrev pub IsStatus : ℕ → Type 0
 IsStatus status =
     (status ≡ 0) ⊎ ((status ≡ 1) ⊎ ((status ≡ 2)
-    ⊎ ((status ≡ 3) ⊎ ((status ≡ 4) ⊎ ((status ≡ 5) ⊎ (status ≡ 6))))))
+    ⊎ ((status ≡ 3) ⊎ ((status ≡ 4) ⊎ ((status ≡ 5) ⊎ ((status ≡ 6) ⊎ (status ≡ 7)))))))
 
--- that of a command that isn't a run
+-- that of a command that doesn't use the disk
 abbrev pub IsPlainStatus : ℕ → Type 0
 IsPlainStatus status = (status ≡ 0) ⊎ ((status ≡ 2) ⊎ ((status ≡ 4) ⊎ (status ≡ 5)))
 
 -- Where they ask for nothing it is 1, unless the sink failed or memory runs out, and only there;
--- 0, 2, 3 and 6 come where they ask for something, and 3 and 6 where they ask for a run.
+-- 0, 2, 3, 6 and 7 come where they ask for something, 3 and 6 where they ask for a run, and 7 where
+-- they ask for a command on chunks.
 pub record IsStatusFor (words : List (List ℕ)) (status : ℕ) : Type 0 where
   pub known : IsStatus status
   pub wrong_use : asked words ≡ None → (status ≡ 1) ⊎ ((status ≡ 4) ⊎ (status ≡ 5))
   pub usage : status ≡ 1 → asked words ≡ None
-  pub other : (status ≡ 0) ⊎ ((status ≡ 2) ⊎ ((status ≡ 3) ⊎ (status ≡ 6)))
+  pub other : (status ≡ 0) ⊎ ((status ≡ 2) ⊎ ((status ≡ 3) ⊎ ((status ≡ 6) ⊎ (status ≡ 7))))
       → (r : Request) × (asked words ≡ Some r)
-  pub plain : (r : Request) → asked words ≡ Some r → (Runs r.command → ⊥) → IsPlainStatus status
+  pub plain : (r : Request) → asked words ≡ Some r → (UsesDisk r.command → ⊥)
+      → IsPlainStatus status
+  pub chunks : (r : Request) → asked words ≡ Some r → OnChunks r.command
+      → IsPlainStatus status ⊎ (status ≡ 7)
+  pub refused : (r : Request) → asked words ≡ Some r → status ≡ 7 → OnChunks r.command

@@ -18,7 +18,7 @@ use Rattle.cx_run.specs.Words.{Request, asked}
 use Rattle.cx_run_made.specs.Files.{made_files}
 use Rattle.cx_run.specs.declared.sink.Sink.{Ghosts as SinkGhosts}
 use Rattle.cx_run.specs.declared.words.Command.{Command}
-use Rattle.cx_run.specs.declared.words.Command.TheVariants.{Run, Make, Check, Schedule, Describe, Parts}
+use Rattle.cx_run.specs.declared.words.Command.TheVariants.{Run, Make, Chunk, Recombine, Check, Schedule, Describe, Parts}
 
 -- a device: whether it tells what it holds, that it is as it was, what contracts see of it, and its
 -- count of faults
@@ -136,6 +136,8 @@ SparesShelf lent command = Unit {0}
 abbrev pub Runs : Command → Type 0
 Runs Run = Unit {0}
 Runs (Make seed size) = Unit {0}
+Runs Chunk = ⊥
+Runs Recombine = ⊥
 Runs Check = ⊥
 Runs Schedule = ⊥
 Runs Describe = ⊥

@@ -29,6 +29,7 @@ use Rattle.cx_run.specs.Answers.{answer_of}
 use Rattle.cx_job_files.specs.Shelf.{Held}
 use Rattle.cx_run_made.specs.Summaries.{live_variable}
 use Rattle.cx_run.specs.Calls.{Lent, Work, Call, IsStill, Runs, SparesShelf, driven, live_by, shelf_for}
+use Rattle.cx_run.specs.Chunks.{HasChunked, HasFileFault, HasRecombined, IsApart, OnChunks, UsesDisk}
 use Rattle.cx_run.specs.Texts.{command_text}
 use Rattle.cx_run.specs.Words.{Request, asked}
 use Rattle.cx_run.specs.declared.reply.Answer.{Answer}
@@ -111,9 +112,9 @@ pub record IsEnded (w : Work) (command : Command) (job : Job) (end : End) : Type
   pub other : end ≢ Done
   pub run : HasRun w job end
 
--- a command that isn't a run has this text
+-- a command that doesn't use the disk has this text
 pub record IsTold (w : Work) (command : Command) (job : Job) (text : List ℕ) : Type 0 where
-  pub other : Runs command → ⊥
+  pub other : UsesDisk command → ⊥
   pub text_is : text ≡ command_text command job
   pub still : IsStill w
 
@@ -125,19 +126,24 @@ Comes w command job (a.Made iteration seed size output live) =
 Comes w command job (a.Text text) = IsTold w command job text
 Comes w command job (a.Ended end) = IsEnded w command job end
 Comes w command job (a.Recovery fault) = Runs command × IsRefused (driven w job) fault
-Comes w command job a.Disk = Runs command × HasRisen w.disk.faults
+Comes w command job (a.Chunked done) = HasChunked w command job done
+Comes w command job (a.Recombined done) = HasRecombined w command job done
+Comes w command job (a.Chunks fault) = HasFileFault w command job fault
+Comes w command job a.Disk = UsesDisk command × HasRisen w.disk.faults
 Comes w command job a.Wire = Runs command × HasRisen w.wire.faults
-Comes w command job a.Memory = (Runs command → ⊥) → IsStill w
+Comes w command job a.Memory = (UsesDisk command → ⊥) → IsStill w
 Comes w command job a.Usage = ⊥
 Comes w command job (a.Refused fault) = ⊥
 Comes w command job a.Shelf = ⊥
 
 -- A run that began on trails is refused only where a checkpoint is asked for and there is none, and
--- leaves trails at each moment.
+-- leaves trails at each moment. A command on chunks leaves alone what isn't one of their files.
 pub record ComesTo (w : Work) (command : Command) (job : Job) (answer : Answer) : Type 0 where
   pub cause : Comes w command job answer
   pub begins : Runs command → w.disk.tells → WereTrails w job → BeginsOn job w.rules w.disk.old.seen
-  pub trails : AreTold (driven w job) → WereTrails w job → LeavesTrails (driven w job)
+  pub trails : Runs command → AreTold (driven w job) → WereTrails w job
+      → LeavesTrails (driven w job)
+  pub apart : OnChunks command → IsApart w
 
 -- ---- what was asked for
 

@@ -1,5 +1,7 @@
 -- The clauses of the top call.
 use Rattle.std.specs.Prelude.{◌≡◌, ◌≢◌, ◌⊎◌, ℕ, ℤ, ◌<◌, ◌≤◌, List, length, map, Option, None, Some, Ok, Err}
+use Rattle.cx_disk.specs.Disk.{LeavesOnly}
+use Rattle.cx_disk.specs.Files.{output_limit}
 use Rattle.cx_disk.specs.Moments.{IsQuiet}
 use Rattle.cx_plan.specs.Setups.{setup_of}
 use Rattle.cx_plan.specs.declared.job.Job.{Job}
@@ -8,7 +10,8 @@ use Rattle.cx_model.specs.declared.ends.End.{End}
 use Rattle.cx_model.specs.declared.ends.End.TheVariants.{Done, Overflow, WhileLimit, OutputLimit}
 use Rattle.cx_chk.specs.declared.checkpoint.Checkpoint.{Checkpoint}
 use Rattle.cx_keep.specs.Tests.{begun}
-use Rattle.cx_keep.specs.Trails.{total}
+use Rattle.cx_keep.specs.Resuming.{AreTrails}
+use Rattle.cx_keep.specs.Trails.{Course, IsTrail, total}
 use Rattle.cx_keep.specs.declared.fault.BeginFault.{BeginFault}
 use Rattle.cx_keep.specs.declared.fault.BeginFault.TheVariants.{NoCheckpoint}
 use Rattle.law_course.specs.Beginnings.{run_from}
@@ -19,6 +22,7 @@ use Rattle.cx_run_loop.specs.Drives.{StartsWell, HasWholeOutput, HasWorked, Leav
 use Rattle.cx_run.specs.Answers.{text_of, Says, WasSaid}
 use Rattle.cx_run.specs.Calls.{Lent, Work, Call, Makes, TellsFiles, Runs, IsRun, AreTold, IsStill, SparesShelf, driven}
 use Rattle.cx_run.specs.Causes.{HasLast, LiveIs, Explains, WereTrails, CanGoOn}
+use Rattle.cx_run.specs.Chunks.{IsApart, OnChunks, UsesDisk, files_fault, status_by}
 use Rattle.cx_run.specs.Sink.{Adds}
 use Rattle.cx_run.specs.Texts.{made_text}
 use Rattle.cx_run.specs.Words.{Request, asked}
@@ -49,6 +53,12 @@ RunsWell c result =
 -- at every status: from trails each image of each moment is a trail
 abbrev pub KeepsTrails : Call → Type 0
 KeepsTrails c = (job : Job) → IsRun c job → WereTrails c.work job → LeavesTrails (driven c.work job)
+
+-- and a command on chunks leaves the trails of every run as they are
+abbrev pub KeepsAllTrails : Call → Type 0
+KeepsAllTrails c = (r : Request) (course : Course) → asked c.words ≡ Some r → OnChunks r.command
+    → length course.outputs ≤ output_limit → AreTrails course c.work.disk.old
+    → LeavesOnly c.work.disk.old c.work.disk.new (IsTrail course)
 
 -- ---- what is printed
 
@@ -86,10 +96,12 @@ pub record IsUntouched (w : Work) : Type 0 where
   pub meter : w.meter.new ≡ w.meter.old
 
 pub record Spares (c : Call) (result : ℕ) : Type 0 where
-  pub refused : (result ≡ 1) ⊎ ((result ≡ 2) ⊎ (result ≡ 6)) → IsUntouched c.work
+  pub refused : (result ≡ 1) ⊎ ((result ≡ 2) ⊎ ((result ≡ 6) ⊎ (result ≡ 7)))
+      → IsUntouched c.work
   pub wrong_use : asked c.words ≡ None → c.shelf.same × IsStill c.work
-  pub other_command : (r : Request) → asked c.words ≡ Some r → (Runs r.command → ⊥)
+  pub other_command : (r : Request) → asked c.words ≡ Some r → (UsesDisk r.command → ⊥)
       → IsStill c.work
+  pub chunks : (r : Request) → asked c.words ≡ Some r → OnChunks r.command → IsApart c.work
   pub no_job : (r : Request) (fault : JobFault) → asked c.words ≡ Some r → TellsFiles c r
       → Makes c r (Err fault) → IsStill c.work
   pub shelf : (r : Request) → asked c.words ≡ Some r → SparesShelf c.shelf r.command
@@ -117,8 +129,11 @@ MakesNone c r = (job : Job) → Makes c r (Ok job) → ⊥
 pub data Gives (c : Call) : ℕ → Type 0 where
   usage : asked c.words ≡ None → Gives c 1
   refused : (r : Request) → asked c.words ≡ Some r → TellsFiles c r → MakesNone c r → Gives c 2
-  told : (r : Request) (job : Job) → asked c.words ≡ Some r → (Runs r.command → ⊥) → TellsFiles c r
-      → Makes c r (Ok job) → Gives c 0
+  told : (r : Request) (job : Job) → asked c.words ≡ Some r → (UsesDisk r.command → ⊥)
+      → TellsFiles c r → Makes c r (Ok job) → Gives c 0
+  chunks : c.work.disk.tells → (r : Request) (job : Job) → asked c.words ≡ Some r
+      → OnChunks r.command → TellsFiles c r → Makes c r (Ok job)
+      → Gives c (status_by (files_fault r.command job c.work.disk.old.seen))
   recovery : AreTold c → (job : Job) (fault : BeginFault) → IsRun c job
       → begun job c.work.disk.old.seen ≡ Err fault → Gives c 6
   run : AreTold c → (job : Job) (found : Option Checkpoint) → IsRun c job
@@ -158,6 +173,7 @@ pub record IsKept (c : Call) (sink : Lent (List ℕ)) : Type 0 where
 pub record Obeys (c : Call) (sink : Lent (List ℕ)) (result : ℕ) : Type 0 where
   pub run : AreTold c → RunsWell c result
   pub trails : AreTold c → KeepsTrails c
+  pub all_trails : c.work.disk.tells → KeepsAllTrails c
   pub printed : IsAnswered c sink result
   pub summed : AreTold c → SumsUp c sink result
   pub untouched : Spares c result

@@ -94,6 +94,8 @@ value_fault_words (values.Index line) = spaced (codes "Index" ∷ decimal line �
 value_fault_words (values.BadSpelling line) = spaced (codes "BadSpelling" ∷ decimal line ∷ [])
 value_fault_words (values.OutOfRange line) = spaced (codes "OutOfRange" ∷ decimal line ∷ [])
 value_fault_words (values.Twice line) = spaced (codes "Twice" ∷ decimal line ∷ [])
+value_fault_words (values.NotSteerable line) = spaced (codes "NotSteerable" ∷ decimal line ∷ [])
+value_fault_words (values.SteerOrder line) = spaced (codes "SteerOrder" ∷ decimal line ∷ [])
 value_fault_words values.Memory = codes "Memory"
 
 -- ---- schedules
@@ -153,6 +155,7 @@ fault_words (jobs.Text name fault) = spaced (or_dash name ∷ text_fault_words f
 fault_words (jobs.Ccl name fault) = spaced (or_dash name ∷ tree_fault_words fault ∷ [])
 fault_words (jobs.Bind fault) = bind_fault_words fault
 fault_words (jobs.Value fault) = value_fault_words fault
+fault_words (jobs.Steer name fault) = spaced (or_dash name ∷ value_fault_words fault ∷ [])
 fault_words (jobs.Order fault) = order_fault_words fault
 fault_words (jobs.UnknownRoutine path) = spaced (codes "UnknownRoutine" ∷ or_dash path ∷ [])
 fault_words (jobs.RoutineMismatch path declared offered) =

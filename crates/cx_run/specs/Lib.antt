@@ -5,6 +5,7 @@ pub mod FaultWords
 pub mod CutTexts
 pub mod Texts
 pub mod Calls
+pub mod Chunks
 pub mod Answers
 pub mod Causes
 pub mod Clauses

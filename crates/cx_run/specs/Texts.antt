@@ -59,6 +59,8 @@ accepted_text = codes "accepted" ++ 10 ∷ []
 abbrev pub command_text : Command → Job → List ℕ
 command_text commands.Run job = []
 command_text (commands.Make seed size) job = []
+command_text commands.Chunk job = []
+command_text commands.Recombine job = []
 command_text commands.Check job = accepted_text
 command_text commands.Schedule job = job.plan_text
 command_text commands.Describe job =
@@ -73,6 +75,8 @@ usage_text =
     ∷ codes "       cactus describe FILE" ++ 10
     ∷ codes "       cactus parts FILE" ++ 10
     ∷ codes "       cactus make SEED SIZE" ++ 10
+    ∷ codes "       cactus chunk FILE" ++ 10
+    ∷ codes "       cactus recombine FILE" ++ 10
     ∷ []
 
 abbrev pub shelf_text : List ℕ

@@ -5,7 +5,7 @@ use Rattle.cx_text.specs.Digits.{natural_in}
 use Rattle.cx_plan.specs.Lists.{or_else}
 use Rattle.cx_run_made.specs.Files.{file_name}
 use Rattle.cx_run.specs.declared.words.Command.{Command}
-use Rattle.cx_run.specs.declared.words.Command.TheVariants.{Run, Make, Check, Schedule, Describe, Parts}
+use Rattle.cx_run.specs.declared.words.Command.TheVariants.{Run, Make, Chunk, Recombine, Check, Schedule, Describe, Parts}
 
 -- a command, the name of its file, and the seed of its turns
 pub record Request : Type 0 where
@@ -84,7 +84,9 @@ command_of word =
     if bytes_eq word (codes "check") then Some Check
     else (if bytes_eq word (codes "schedule") then Some Schedule
     else (if bytes_eq word (codes "describe") then Some Describe
-    else (if bytes_eq word (codes "parts") then Some Parts else None)))
+    else (if bytes_eq word (codes "parts") then Some Parts
+    else (if bytes_eq word (codes "chunk") then Some Chunk
+    else (if bytes_eq word (codes "recombine") then Some Recombine else None)))))
 
 -- a file alone
 abbrev pub file_asked : Option Command → List (List ℕ) → Option Request

@@ -8,14 +8,16 @@ ghost use Rattle.cx_core.specs.declared.answers.Outcome.{Outcome};
 ghost use Rattle.cx_run_loop.specs.Drives.{LendsScalars};
 ghost use Rattle.cx_job.specs.Making.{IsReady};
 ghost use Rattle.cx_run_made.specs.Files.{made_files};
-ghost use Rattle.cx_run.specs.Answers.{AnswersRun, IsTextFor, answer_with};
+ghost use Rattle.cx_run.specs.Answers.{AnswersRun, IsWayOf, answer_with};
 ghost use Rattle.cx_run.specs.Calls.{Runs, SparesShelf, called_with, lent_shelf, lent_sink, made_from, shelf_for, shelf_of, work_on};
 ghost use Rattle.cx_run.specs.Causes.{ComesTo, Explains, MakesOn};
 ghost use Rattle.cx_run.specs.Clauses.{Obeys};
 ghost use Rattle.cx_run.specs.Texts.{accepted_text};
 
 use crate::cut_texts::parts_text;
-use crate::reply::{Answer, answer_for, answer_of, answer_to_core, reply};
+use crate::reply::{
+    Answer, answer_for, answer_of, answer_to_chunk, answer_to_core, answer_to_recombine, reply,
+};
 use crate::sink::Sink;
 use crate::texts::{describe, schedule_text};
 use crate::words::{Command, request_of};
@@ -24,6 +26,7 @@ use cx_disk::Disk;
 use cx_job::{JobFault, MemoryShelf, Shelf, make_job};
 use cx_plan::Job;
 use cx_rule::{Meter, Routine};
+use cx_run_chunks::{chunk, recombine};
 use cx_run_loop::{DriveFault, drive};
 use cx_run_made::made_files;
 use cx_text::{List, Memory, Text};
@@ -41,6 +44,8 @@ use std::alloc::Global;
 /// | `schedule FILE` | makes the job | its schedule text |
 /// | `describe FILE` | makes the job | its key, the other parameters' lines, and for each direction the widths of its parts |
 /// | `parts FILE` | makes the job | the parts of its grid, a line for each |
+/// | `chunk FILE` | makes the job and cuts its output into chunks, by `chunk` of cx_run_chunks | `chunked: parts P records R` |
+/// | `recombine FILE` | makes the job and puts its output together again, by `recombine` of cx_run_chunks | `recombined: records R bytes B` |
 /// | `make SEED SIZE` | makes a parameter file of Life, a list of thorns and the thorn's files, and runs their job | `done: iteration N`, and a line that sums the run up |
 ///
 /// FILE isn't empty and doesn't begin with `-`. What makes a job is said at `make_job` of cx_job. `run` takes `--turns SEED` or
@@ -68,10 +73,13 @@ use std::alloc::Global;
 /// | 4 | a device failed | `device: shelf`, `device: disk`, `device: wire`; after a failure of the sink nothing more |
 /// | 5 | memory runs out | `memory` |
 /// | 6 | its run can't begin on what the disk holds | `recovery: ` and the words of the fault |
+/// | 7 | the files aren't such as `chunk` or `recombine` asks for | `chunks: ` and the words of the fault |
 ///
 /// Each text ends with a line feed. The ends are `Overflow`, `WhileLimit` and `OutputLimit` (`End` of cx_model), the faults of status 6
-/// `NoCheckpoint`, `Damaged`, `OtherJob`, `OutputShort` and `OldTooLong` (`BeginFault` of cx_keep). The commands but `run` and `make`
-/// touch neither the disk nor the wire nor the meter; at status 1, 2 and 6 no byte of the disk is changed, and neither the wire nor the meter. At status 0 of a run
+/// `NoCheckpoint`, `Damaged`, `OtherJob`, `OutputShort` and `OldTooLong` (`BeginFault` of cx_keep). The faults of
+/// status 7 are those of `ChunkFault` of cx_chunks. `chunk` and `recombine` change no file of the disk below `FIRST_CHUNK`, so that each
+/// trail stays, and neither the wire nor the meter. The other commands but `run` and `make`
+/// touch neither the disk nor the wire nor the meter; at status 1, 2, 6 and 7 no byte of the disk is changed, and neither the wire nor the meter. At status 0 of a run
 /// from such a disk the meter has risen by the points that the parts compute after the newest checkpoint, and the wire has given out
 /// the values that they exchange there.
 pub fn cactus<H: Shelf, D: Disk, W: Wire, T: Turns, O: Sink>(
@@ -198,6 +206,19 @@ fn job_among(
     make_job(alloc, &mut shelf, name, routines)
 }
 
+/// How a command is done with the job of its file.
+#[derive(Drop)]
+enum Way {
+    /// It has a text, if there is memory for it.
+    Told(Result<Text, Memory>),
+    /// It runs the job.
+    Run,
+    /// It cuts the job's output into chunks.
+    Chunk,
+    /// It puts the output together again.
+    Recombine,
+}
+
 /// Does a command with the job of its file.
 fn done<D: Disk, W: Wire, T: Turns>(
     alloc: Global,
@@ -220,30 +241,34 @@ fn done<D: Disk, W: Wire, T: Turns>(
     ensures disk_count { D.faults disk.old ≤ D.faults disk.new }
     ensures wire_count { W.faults wire.old ≤ W.faults wire.new }
 {
-    match text_for(alloc, command, job) {
-        Some(text) => printed(text),
-        None => {
+    match way_of(alloc, command, job) {
+        Way::Told(text) => printed(text),
+        Way::Run => {
             trails_begin(job);
             turns.start(seed);
             let came = drive(alloc, job, routines, disk, wire, turns, meter);
             answer_to_run(alloc, command, job, came)
         }
+        Way::Chunk => answer_to_chunk(chunk(alloc, disk, job)),
+        Way::Recombine => answer_to_recombine(recombine(alloc, disk, job)),
     }
 }
 
-/// The text of a command that isn't a run.
-fn text_for(alloc: Global, command: Command, job: &Job) -> Option<Result<Text, Memory>>
+/// How a command is done with the job of its file.
+fn way_of(alloc: Global, command: Command, job: &Job) -> Way
     requires whole { IsWhole job.now }
     requires cut { cut_fault (parts_of job.now.shape job.now.cut) ≡ None }
-    ensures { IsTextFor command job.now result }
+    ensures { IsWayOf command job.now result }
 {
     match command {
-        Command::Run => None,
-        Command::Make { .. } => None,
-        Command::Check => Some(accepted(alloc)),
-        Command::Schedule => Some(schedule_text(alloc, job)),
-        Command::Describe => Some(describe(alloc, job)),
-        Command::Parts => Some(parts_text(alloc, job)),
+        Command::Run => Way::Run,
+        Command::Make { .. } => Way::Run,
+        Command::Chunk => Way::Chunk,
+        Command::Recombine => Way::Recombine,
+        Command::Check => Way::Told(accepted(alloc)),
+        Command::Schedule => Way::Told(schedule_text(alloc, job)),
+        Command::Describe => Way::Told(describe(alloc, job)),
+        Command::Parts => Way::Told(parts_text(alloc, job)),
     }
 }
 

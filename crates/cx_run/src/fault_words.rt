@@ -52,7 +52,7 @@ fn push_outer(text: &mut Text, name: &Text) -> Result<(), Memory>
 }
 
 /// Adds the name of a fault and what it keeps.
-fn push_one(text: &mut Text, fault: &[u8], name: &Text) -> Result<(), Memory>
+pub(crate) fn push_one(text: &mut Text, fault: &[u8], name: &Text) -> Result<(), Memory>
     ensures { OnOk result (text.new ≡ text.old ++ spaced (fault.now ∷ or_dash name.now ∷ [])) }
 {
     text.push_slice(fault)?;
@@ -85,7 +85,12 @@ fn push_three(
 }
 
 /// Adds the name of a fault and its line.
-fn push_line(text: &mut Text, alloc: Global, fault: &[u8], line: u32) -> Result<(), Memory>
+pub(crate) fn push_line(
+    text: &mut Text,
+    alloc: Global,
+    fault: &[u8],
+    line: u32,
+) -> Result<(), Memory>
     ensures { OnOk result (text.new ≡ text.old ++ spaced (fault.now ∷ decimal line ∷ [])) }
 {
     text.push_slice(fault)?;
@@ -102,7 +107,7 @@ fn push_limit(text: &mut Text, alloc: Global, of: &Text, number: u64) -> Result<
 }
 
 /// Adds the name of a fault and the two numbers that it keeps.
-fn push_numbers(
+pub(crate) fn push_numbers(
     text: &mut Text,
     alloc: Global,
     fault: &[u8],
@@ -222,8 +227,24 @@ fn push_value_fault(text: &mut Text, alloc: Global, fault: &ValueFault) -> Resul
         ValueFault::BadSpelling(line) => push_line(text, alloc, b"BadSpelling", *line),
         ValueFault::OutOfRange(line) => push_line(text, alloc, b"OutOfRange", *line),
         ValueFault::Twice(line) => push_line(text, alloc, b"Twice", *line),
+        ValueFault::NotSteerable(line) => push_line(text, alloc, b"NotSteerable", *line),
+        ValueFault::SteerOrder(line) => push_line(text, alloc, b"SteerOrder", *line),
         ValueFault::Memory => text.push_slice(b"Memory"),
     }
+}
+
+/// Adds a fault of a line of a steer file after the file's name.
+fn push_steer_of(
+    text: &mut Text,
+    alloc: Global,
+    file: &Text,
+    fault: &ValueFault,
+) -> Result<(), Memory>
+    ensures { OnOk result
+        (text.new ≡ text.old ++ spaced (or_dash file.now ∷ value_fault_words fault.now ∷ [])) }
+{
+    push_outer(text, file)?;
+    push_value_fault(text, alloc, fault)
 }
 
 /// Adds a fault of an expression.
@@ -421,6 +442,7 @@ pub(crate) fn push_fault(text: &mut Text, alloc: Global, fault: &JobFault) -> Re
         JobFault::Ccl(file, fault) => push_tree_of(text, alloc, file, *fault),
         JobFault::Bind(fault) => push_bind_fault(text, alloc, fault),
         JobFault::Value(fault) => push_value_fault(text, alloc, fault),
+        JobFault::Steer(file, fault) => push_steer_of(text, alloc, file, fault),
         JobFault::Order(fault) => push_order_fault(text, alloc, fault),
         JobFault::UnknownRoutine(path) => push_one(text, b"UnknownRoutine", path),
         JobFault::RoutineMismatch(path, declared, offered) => {

@@ -2,6 +2,7 @@
 #![tactic(auto)]
 
 mod call;
+mod chunk_texts;
 mod cut_texts;
 mod fault_words;
 mod reply;

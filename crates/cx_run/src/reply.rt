@@ -8,27 +8,30 @@ ghost use Rattle.cx_run_made.specs.Summaries.{live_variable};
 ghost use Rattle.cx_keep.specs.Trails.{total};
 ghost use Rattle.cx_plan.specs.Setups.{setup_of};
 ghost use Rattle.cx_plan.specs.Whole.{IsWhole};
-ghost use Rattle.cx_run.specs.Answers.{answer_at, answer_for, answer_of, done_by, end_in, summed, Says, IsCutOff, WasSaid};
+ghost use Rattle.cx_run.specs.Answers.{answer_at, answer_for, answer_of, answer_to_chunk, answer_to_fault, answer_to_recombine, answer_to_stop, done_by, end_in, summed, Says, IsCutOff, WasSaid};
 ghost use Rattle.cx_run.specs.Calls.{lent_sink, live_by};
 ghost use Rattle.cx_run.specs.FaultWords.{or_dash, spaced};
 ghost use Rattle.cx_run.specs.Texts.{begin_words, done_text, made_text, end_words, ended_text, recovery_text};
 ghost use Rattle.cx_run.specs.declared.reply.Answer.{Answer};
 
+use crate::chunk_texts::{chunked_text, chunks_text, recombined_text};
 use crate::fault_words::{push_name, push_number, refused_text};
 use crate::sink::Sink;
 use crate::words::Command;
+use cx_chunks::ChunkFault;
 use cx_core::{Core, Outcome};
 use cx_job::JobFault;
 use cx_keep::BeginFault;
 use cx_model::End;
 use cx_plan::Job;
+use cx_run_chunks::{Chunked, ChunksFault, Recombined};
 use cx_run_loop::DriveFault;
 use cx_run_made::{live_variable, summary};
 use cx_text::{Memory, Text};
 use std::alloc::Global;
 
 const USAGE: &[u8] =
-    b"usage: cactus run FILE [--turns SEED]\n       cactus check FILE\n       cactus schedule FILE\n       cactus describe FILE\n       cactus parts FILE\n       cactus make SEED SIZE\n";
+    b"usage: cactus run FILE [--turns SEED]\n       cactus check FILE\n       cactus schedule FILE\n       cactus describe FILE\n       cactus parts FILE\n       cactus make SEED SIZE\n       cactus chunk FILE\n       cactus recombine FILE\n";
 
 /// What came of a call.
 #[derive(Debug, Drop)]
@@ -62,6 +65,12 @@ pub enum Answer {
     Memory,
     /// A run couldn't begin on what the disk holds.
     Recovery(BeginFault),
+    /// Output was cut into chunks.
+    Chunked(Chunked),
+    /// Chunks were put together again.
+    Recombined(Recombined),
+    /// The files aren't such as a command on chunks asks for.
+    Chunks(ChunkFault),
 }
 
 impl Answer {
@@ -73,12 +82,14 @@ impl Answer {
     {
         match self {
             Answer::Done(_) | Answer::Made { .. } | Answer::Text(_) => 0,
+            Answer::Chunked(_) | Answer::Recombined(_) => 0,
             Answer::Usage => 1,
             Answer::Refused(_) => 2,
             Answer::Ended(_) => 3,
             Answer::Shelf | Answer::Disk | Answer::Wire => 4,
             Answer::Memory => 5,
             Answer::Recovery(_) => 6,
+            Answer::Chunks(_) => 7,
         }
     }
 
@@ -104,6 +115,9 @@ impl Answer {
             Answer::Wire => Text::from_slice(alloc, b"device: wire\n"),
             Answer::Memory => Text::from_slice(alloc, b"memory\n"),
             Answer::Recovery(fault) => recovery_text(alloc, &fault),
+            Answer::Chunked(done) => chunked_text(alloc, done),
+            Answer::Recombined(done) => recombined_text(alloc, done),
+            Answer::Chunks(fault) => chunks_text(alloc, &fault),
         }
     }
 }
@@ -128,6 +142,46 @@ pub(crate) fn answer_for(fault: DriveFault) -> Answer
         DriveFault::Disk => Answer::Disk,
         DriveFault::Wire => Answer::Wire,
         DriveFault::Memory => Answer::Memory,
+    }
+}
+
+/// A fault of the files that a command on chunks reads, as an answer.
+fn answer_to_fault(fault: ChunkFault) -> Answer
+    ensures { result ≡ answer_to_fault fault }
+{
+    match fault {
+        ChunkFault::Memory => Answer::Memory,
+        fault => Answer::Chunks(fault),
+    }
+}
+
+/// Why a command on chunks wasn't done, as an answer.
+fn answer_to_stop(stop: ChunksFault) -> Answer
+    ensures { result ≡ answer_to_stop stop }
+{
+    match stop {
+        ChunksFault::Disk => Answer::Disk,
+        ChunksFault::Chunks(fault) => answer_to_fault(fault),
+    }
+}
+
+/// What came of cutting output into chunks, as an answer.
+pub(crate) fn answer_to_chunk(came: Result<Chunked, ChunksFault>) -> Answer
+    ensures { result ≡ answer_to_chunk came }
+{
+    match came {
+        Ok(done) => Answer::Chunked(done),
+        Err(stop) => answer_to_stop(stop),
+    }
+}
+
+/// What came of putting chunks together again, as an answer.
+pub(crate) fn answer_to_recombine(came: Result<Recombined, ChunksFault>) -> Answer
+    ensures { result ≡ answer_to_recombine came }
+{
+    match came {
+        Ok(done) => Answer::Recombined(done),
+        Err(stop) => answer_to_stop(stop),
     }
 }
 

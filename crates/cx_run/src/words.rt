@@ -19,6 +19,10 @@ pub enum Command {
     Run,
     /// Makes the files of a run by a seed and a size, and runs the job that they make.
     Make { seed: u64, size: u32 },
+    /// Cuts the output of a job into chunks.
+    Chunk,
+    /// Puts the output of a job together again from its chunks.
+    Recombine,
     /// Makes the job of a file.
     Check,
     /// Makes the job and prints its schedule.
@@ -65,6 +69,10 @@ fn command_of(word: &[u8]) -> Option<Command>
         Some(Command::Describe)
     } else if word == b"parts".as_slice() {
         Some(Command::Parts)
+    } else if word == b"chunk".as_slice() {
+        Some(Command::Chunk)
+    } else if word == b"recombine".as_slice() {
+        Some(Command::Recombine)
     } else {
         None
     }

@@ -9,6 +9,7 @@ returns g c =
       obeys = record {
         run = clauses.runs_well _ _ c.answer_to-answer.result _ x said;
         trails = clauses.keeps_trails _ c.answer_to-answer.result x;
+        all_trails = clauses.keeps_all_trails _ c.answer_to-answer.result x;
         summed = clauses.sums_up _ _ c.answer_to-answer.result _ x said;
         printed = record { answer = c.answer_to-answer.result; cause = x; said = said };
         untouched = clauses.spares _ _ c.answer_to-answer.result _ x said;

@@ -1,5 +1,6 @@
-use Rattle.std.proofs.Common.{refl, ◌∙◌}
+use Rattle.std.proofs.Common.{refl, ◌∙◌, inl, arith}
 use Rattle.cx_disk.proofs.Moments.{quiet_at_start}
+use Rattle.cx_run.proofs.ChunkLaws as chunks
 use Rattle.cx_run.proofs.Running as running
 use Rattle.cx_run.proofs.call.done.Goals as goal
 
@@ -19,21 +20,63 @@ pub answer_to_run-requires-clause-over : goal.answer_to_run-requires-clause-over
 answer_to_run-requires-clause-over g c =
     running.over _ c.drive-came.result c.drive-came.ensures.drives
 
-pub returns-in-None-clause-comes : goal.returns-in-None-clause-comes
-returns-in-None-clause-comes g c =
-    running.ran _ c.args.command c.args.job.now c.in-None.ensures c.drive-came.result
+pub returns-in-Run-clause-comes : goal.returns-in-Run-clause-comes
+returns-in-Run-clause-comes g c =
+    running.ran _ c.args.command c.args.job.now c.in-Run.ensures c.drive-came.result
     c.drive-came.ensures.drives c.drive-came.ensures.folders
     (c.trails_begin.ensures _) (g.met.D.Disk.sound c.args.disk.now)
     c.answer_to_run.result c.answer_to_run.ensures
 
-pub returns-in-Some-clause-comes : goal.returns-in-Some-clause-comes
-returns-in-Some-clause-comes g c =
-    running.told _ c.args.command c.args.job.now c.in-Some.text c.printed.result c.in-Some.ensures.0
-    c.in-Some.ensures.1 c.printed.ensures
+pub returns-in-Told-clause-comes : goal.returns-in-Told-clause-comes
+returns-in-Told-clause-comes g c =
+    running.told _ c.args.command c.args.job.now c.in-Told.text c.printed.result c.in-Told.ensures.0
+    c.in-Told.ensures.1 c.printed.ensures
     (record { disk = refl; quiet = λ told. quiet_at_start _; wire = refl; meter = refl })
 
-pub returns-in-None-clause-begun : goal.returns-in-None-clause-begun
-returns-in-None-clause-begun g c = λ runs. c.drive-came.ensures.begun ∙ c.start.ensures.begun
+pub returns-in-Run-clause-begun : goal.returns-in-Run-clause-begun
+returns-in-Run-clause-begun g c = λ runs. c.drive-came.ensures.begun ∙ c.start.ensures.begun
 
-pub returns-in-Some-clause-begun : goal.returns-in-Some-clause-begun
-returns-in-Some-clause-begun g c = λ runs. absurd (c.in-Some.ensures.0 runs)
+pub returns-in-Told-clause-begun : goal.returns-in-Told-clause-begun
+returns-in-Told-clause-begun g c = λ runs. absurd (c.in-Told.ensures.0 (inl runs))
+
+pub returns-in-Chunk-clause-comes : goal.returns-in-Chunk-clause-comes
+returns-in-Chunk-clause-comes g c =
+    chunks.chunk_comes _ c.args.command c.args.job.now c.chunk.result c.answer_to_chunk.result
+    c.in-Chunk.ensures
+    (running.enough_parts c.args.job.now 512 c.requires.ready.whole c.requires.ready.cut
+    (omega arith))
+    (record {
+      told = c.chunk.ensures.told;
+      value_is = c.chunk.ensures.value;
+      written = c.chunk.ensures.written;
+      writes = c.chunk.ensures.writes;
+      refused = c.chunk.ensures.refused;
+      folders = c.chunk.ensures.folders;
+      cause = c.chunk.ensures.cause;
+      wire = refl;
+      meter = refl;
+    }) c.answer_to_chunk.ensures
+
+pub returns-in-Chunk-clause-begun : goal.returns-in-Chunk-clause-begun
+returns-in-Chunk-clause-begun g c = λ runs.
+    absurd (chunks.not_chunk c.args.command c.in-Chunk.ensures runs)
+
+pub returns-in-Recombine-clause-comes : goal.returns-in-Recombine-clause-comes
+returns-in-Recombine-clause-comes g c =
+    chunks.recombine_comes _ c.args.command c.args.job.now c.recombine.result
+    c.answer_to_recombine.result c.in-Recombine.ensures
+    (record {
+      told = c.recombine.ensures.told;
+      value_is = c.recombine.ensures.value;
+      written = c.recombine.ensures.written;
+      writes = c.recombine.ensures.writes;
+      refused = c.recombine.ensures.refused;
+      folders = c.recombine.ensures.folders;
+      cause = c.recombine.ensures.cause;
+      wire = refl;
+      meter = refl;
+    }) c.answer_to_recombine.ensures
+
+pub returns-in-Recombine-clause-begun : goal.returns-in-Recombine-clause-begun
+returns-in-Recombine-clause-begun g c = λ runs.
+    absurd (chunks.not_recombine c.args.command c.in-Recombine.ensures runs)

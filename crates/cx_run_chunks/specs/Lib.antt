@@ -1,0 +1,5 @@
+pub mod Entries
+pub mod Faults
+pub mod Commands
+pub mod Writing
+pub mod Laws
