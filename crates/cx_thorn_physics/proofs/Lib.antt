@@ -1,0 +1,5 @@
+pub mod Ranges
+pub mod Cells
+pub mod FlowLaws
+pub mod GasRows
+pub mod HeatRows

@@ -1,0 +1,5 @@
+pub mod Exact
+pub mod Offsets
+pub mod Flux
+pub mod Gas
+pub mod Rows
