@@ -69,7 +69,9 @@ const USAGE: &str = "usage: cactus run FILE [--turns SEED]\n\
         \x20      cactus schedule FILE\n\
         \x20      cactus describe FILE\n\
         \x20      cactus parts FILE\n\
-        \x20      cactus make SEED SIZE\n";
+        \x20      cactus make SEED SIZE\n\
+        \x20      cactus chunk FILE\n\
+        \x20      cactus recombine FILE\n";
 
 /// What `describe` prints before the schedule text.
 const KEY_BEGINS: &[u8] = b"thorn Integer/ElemCA ca\n\
@@ -114,6 +116,7 @@ const STARRED_AND_CUT: &[u8] = b"parameter driver::parts_x = \"1\"\n\
         parameter IO::checkpoint_dir = \".\"\n\
         parameter IO::recover_dir = \".\"\n\
         parameter IO::recover = \"no\" 0\n\
+        parameter IO::steer_file = \"\"\n\
         cut x 8\n";
 
 /// Words, the status that they give and the text that is printed.
@@ -238,6 +241,21 @@ const ANSWERS: &[Asked] = &[
         words: &["make", "--turns=1", "8"],
         status: 1,
         printed: USAGE,
+    },
+    Asked {
+        words: &["chunk"],
+        status: 1,
+        printed: USAGE,
+    },
+    Asked {
+        words: &["recombine", "ca.par", "--turns=1"],
+        status: 1,
+        printed: USAGE,
+    },
+    Asked {
+        words: &["recombine", "no.par"],
+        status: 2,
+        printed: "refused: NoFile no.par\n",
     },
     Asked {
         words: &["run", "no.par"],

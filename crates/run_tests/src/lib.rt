@@ -6,6 +6,8 @@ mod calls;
 #[cfg(test)]
 mod carriers;
 #[cfg(test)]
+mod chunks;
+#[cfg(test)]
 mod cuts;
 #[cfg(test)]
 mod devices;
@@ -25,6 +27,8 @@ mod parts;
 mod samples;
 #[cfg(test)]
 mod schedules;
+#[cfg(test)]
+mod steers;
 #[cfg(test)]
 mod stops;
 #[cfg(test)]

@@ -1,0 +1,203 @@
+//! Runs whose parameters are steered, and starts whose steer file has changed.
+
+use crate::calls::{Outcome, answer_on, answer_over, answer_to, shelf_with};
+use cx_disk::{FuseDisk, MemoryDisk};
+use cx_run::MemoryShelf;
+use cx_text::List;
+use sample_files::File;
+use std::alloc::Global;
+use std::test::Fail;
+
+/// The parameters of the wave: its factor may be steered anywhere, and its edge after a checkpoint.
+const PARAM: File = File {
+    name: "arrangements/Integer/WaveInt/param.ccl",
+    bytes: b"restricted:\n\
+        INT factor STEERABLE=ALWAYS { 0:* } 64\n\
+        KEYWORD pattern { \"point\" \"uniform\" \"alternate\" \"random\" } \"point\"\n\
+        INT amount { *:* } 8\n\
+        INT start { 0:* } 0\n\
+        INT seed { 0:* } 0\n\
+        INT edge STEERABLE=RECOVER { *:* } 0\n\
+        BOOLEAN sum { } \"no\"\n",
+};
+
+/// A wave on a ring of six points over two iterations.
+const WAVE: &[u8] = b"ActiveThorns = \"WaveInt\"\n\
+    Cactus::cctk_itlast = 2\n\
+    driver::global_nx = 6\n\
+    driver::periodic = yes\n\
+    wave::factor = 256\n\
+    wave::start = 2\n\
+    IO::out_vars = \"wave::phi\"\n\
+    IO::recover = \"autoprobe\"\n\
+    IO::steer_file = \"s.txt\"\n";
+
+/// A checkpoint of each iteration.
+const EACH: &str = "IO::checkpoint_every = 1\n";
+
+const FACTOR_FROM_2: &[u8] = b"@2 wave::factor = 0\n";
+
+/// The lines of a steer file, more lines of the parameter file, what the run prints, and the values of iteration 2.
+struct Case {
+    lines: &'static [u8],
+    more: &'static str,
+    status: u8,
+    printed: &'static [u8],
+    values: &'static [u8],
+}
+
+const CASES: &[Case] = &[
+    Case {
+        lines: b"",
+        more: EACH,
+        status: 0,
+        printed: b"done: iteration 2\n",
+        values: b"8 -8 8 -8 8 0\n\n",
+    },
+    Case {
+        lines: FACTOR_FROM_2,
+        more: EACH,
+        status: 0,
+        printed: b"done: iteration 2\n",
+        values: b"0 16 -24 16 0 0\n\n",
+    },
+    // parts that run ahead have the parameters of their own iterations
+    Case {
+        lines: FACTOR_FROM_2,
+        more: "driver::parts_x = 3\ndriver::lead = 8\n",
+        status: 0,
+        printed: b"done: iteration 2\n",
+        values: b"0 16 -24 16 0 0\n\n",
+    },
+    Case {
+        lines: b"@2 wave::edge = 3\n",
+        more: EACH,
+        status: 0,
+        printed: b"done: iteration 2\n",
+        values: b"8 -8 8 -8 8 0\n\n",
+    },
+    Case {
+        lines: b"@2 wave::edge = 3\n",
+        more: "",
+        status: 2,
+        printed: b"refused: s.txt NotSteerable 1\n",
+        values: b"",
+    },
+    Case {
+        lines: b"@2 wave::factor = -1\n",
+        more: EACH,
+        status: 2,
+        printed: b"refused: s.txt OutOfRange 1\n",
+        values: b"",
+    },
+    Case {
+        lines: b"@2 wave::factor = 1\n@1 wave::factor = 2\n",
+        more: EACH,
+        status: 2,
+        printed: b"refused: s.txt SteerOrder 2\n",
+        values: b"",
+    },
+    Case {
+        lines: b"@0 wave::factor = 1\n",
+        more: EACH,
+        status: 2,
+        printed: b"refused: s.txt BadNumber 1\n",
+        values: b"",
+    },
+];
+
+/// A shelf with the wave's files, whose steer file has these lines.
+fn wave_shelf(alloc: Global, lines: &'static [u8], more: &str) -> Result<MemoryShelf, Fail> {
+    let steers = File {
+        name: "s.txt",
+        bytes: lines,
+    };
+    Ok(shelf_with(alloc, WAVE, more, &[PARAM, steers])?)
+}
+
+#[test]
+fn waves_that_are_steered(rt: HostRuntime) -> Result<(), Fail> {
+    for case in CASES {
+        let mut shelf = wave_shelf(rt.alloc(), case.lines, case.more)?;
+        let came = answer_to(&rt, &["run", "t.par"], &mut shelf)?;
+        let found = (came.status, came.printed.as_slice());
+        assert_eq!(rt;
+            found,
+            (case.status, case.printed),
+            "{:?} {:?}",
+            case.lines,
+            case.more
+        );
+        let values = came.first.ends_with(case.values);
+        assert_eq!(rt; values, true, "values of {:?} {:?}", case.lines, case.more);
+    }
+    Ok(())
+}
+
+/// The iteration of the newest checkpoint on a disk, or 0.
+fn newest(disk: &MemoryDisk) -> u8 {
+    let mut newest = 0;
+    for slot in 0..8 {
+        let bytes = disk.bytes(slot);
+        if bytes.first() == Some(&1) {
+            newest = newest.max(bytes.get(16).copied().unwrap_or(0));
+        }
+    }
+    newest
+}
+
+/// What an unsteered run leaves that stops after so many calls of the disk, if it stops.
+fn stopped(rt: &HostRuntime, calls: u64) -> Result<Option<MemoryDisk>, Fail> {
+    let alloc = rt.alloc();
+    let mut shelf = wave_shelf(alloc, b"", EACH)?;
+    let mut fuse = FuseDisk::new(MemoryDisk::new(alloc, List::empty(alloc)), calls);
+    let came = answer_over(rt, &["run", "t.par"], &mut shelf, &mut fuse)?;
+    if came.status == 0 {
+        return Ok(None);
+    }
+    Ok(Some(fuse.into_image(calls)?))
+}
+
+/// What the next start comes to on that disk, where the steer file has these lines by now.
+fn resumed(rt: &HostRuntime, disk: &mut MemoryDisk, lines: &'static [u8]) -> Result<Outcome, Fail> {
+    let mut shelf = wave_shelf(rt.alloc(), lines, EACH)?;
+    answer_on(rt, &["run", "t.par"], &mut shelf, disk)
+}
+
+/// The answer to a start whose steer file has changed after the newest checkpoint, up to it, and at it.
+/// The start fills eight points, two of them ghost points, and each iteration six.
+fn changed(newest: u8) -> (u8, &'static [u8], u128) {
+    match newest {
+        0 => (0, b"done: iteration 2\n".as_slice(), 20),
+        1 => (0, b"done: iteration 2\n".as_slice(), 6),
+        _ => (
+            6,
+            b"recovery: OtherJob\n\nsteer 2 wave::factor = \"0\"\n".as_slice(),
+            0,
+        ),
+    }
+}
+
+#[test]
+fn steer_files_that_change_after_a_stop(rt: HostRuntime) -> Result<(), Fail> {
+    for calls in 0..200 {
+        let Some(mut disk) = stopped(&rt, calls)? else {
+            break;
+        };
+        let newest = newest(&disk);
+        if newest == 1 {
+            let came = resumed(&rt, &mut disk, b"@1 wave::factor = 0\n")?;
+            let found = (came.status, came.printed.as_slice());
+            let want = b"recovery: OtherJob\n\nsteer 1 wave::factor = \"0\"\n".as_slice();
+            assert_eq!(rt;
+                found,
+                (6, want),
+                "a line of iteration 1 after {calls} calls"
+            );
+        }
+        let came = resumed(&rt, &mut disk, FACTOR_FROM_2)?;
+        let found = (came.status, came.printed.as_slice(), came.points);
+        assert_eq!(rt; found, changed(newest), "stopped after {calls} calls");
+    }
+    Ok(())
+}
