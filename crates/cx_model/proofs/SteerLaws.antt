@@ -438,8 +438,8 @@ pub steered_alike : (setup : Setup) (rules : List Rule) → SteeredAlike setup r
 steered_alike setup rules other c same =
     record {
       places = λ d state so_far l r.
-          (place_same setup other rules d (up_to_earlier c d l setup.steers other same)
-          state so_far r).0;
+          place_same setup other rules d (up_to_earlier c d l setup.steers other same)
+          state so_far r;
       output = λ d state so_far l r v.
           let q = place_same setup other rules d (up_to_earlier c d l setup.steers other same)
           state so_far r in

@@ -15,13 +15,13 @@ steered_as setup steers = record setup { steers = steers }
 abbrev pub steers_to : ℕ → List Steered → List Steered
 steers_to c steers = filter (λ (s : Steered). nat_le s.at c) steers
 
--- up to the checkpoint place of c two runs are the same, and so is what they have written there of
+-- up to the checkpoint place of c two runs do the same, and so is what they have written there of
 -- each variable
 pub record SameUpTo (setup : Setup) (other : List Steered) (rules : List Rule)
     (c : ℕ) : Type 0 where
   pub places : (d : ℕ) (state : State) (so_far : Lengths) → d ≤ c
-      → Reaches setup rules d state so_far
-      → Reaches (steered_as setup other) rules d state so_far
+      → (r : Reaches setup rules d state so_far)
+      → (q : Reaches (steered_as setup other) rules d state so_far) × (q.earlier ≡ r.earlier)
   pub output : (d : ℕ) (state : State) (so_far : Lengths) → d ≤ c
       → Reaches setup rules d state so_far
       → (v : VarId) → take (so_far v.0) (output setup rules v)

@@ -94,7 +94,8 @@ fn is_of(full: &Text, sizes: &[u32], entry: &Record) -> bool
 
 /// Whether each record has this name and these sizes.
 fn are_of(full: &Text, sizes: &[u32], records: &[Record]) -> bool
-    ensures { result ≡ list_all (λ r. bytes_eq r.full full.now && bytes_eq r.size sizes.now) records.now }
+    ensures { result
+        ≡ list_all (λ r. bytes_eq r.full full.now && bytes_eq r.size sizes.now) records.now }
 {
     records.iter().all(|entry| is_of(full, sizes, entry))
 }

@@ -89,7 +89,8 @@ fn indexed_step(
     parameter: usize,
     param: &Param,
 ) -> Result<SteerStep, ValueFault>
-    ensures told { Tells faults.Memory (change_fault_of dues before line.now (Some param.now)) result }
+    ensures told { Tells faults.Memory
+        (change_fault_of dues before line.now (Some param.now)) result }
     ensures step { IfOk result (λ step. step ∷ [] ≡ step_of line.now parameter (Some param.now)) }
 {
     match element(param.decl.length, line.setting.index) {

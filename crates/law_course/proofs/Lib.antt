@@ -9,5 +9,4 @@ pub mod FitLaws
 pub mod SplitLaws
 pub mod StartLaws
 pub mod FormerLaws
-pub mod PlaceSteered
 pub mod SteerLaws

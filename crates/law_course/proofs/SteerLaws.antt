@@ -24,7 +24,6 @@ use Rattle.law_course.specs.Courses.{course_of, IsPlace}
 use Rattle.law_course.specs.Starts.{AreAlikeTo, HaveOneCourseTo}
 use Rattle.law_course.proofs.OutputLaws.{Rise, WritesTo, run_writes, each_front, var_at, length_at, text_at, count_of, former_size, former_front}
 use Rattle.law_course.proofs.PlaceLaws.{has_places}
-use Rattle.law_course.proofs.PlaceSteered.{place_same, up_to_earlier}
 
 some_is : (x y : ℕ) → Some x ≡ Some y → x ≡ y
 some_is x y e = cc
@@ -60,7 +59,7 @@ module _ (setup : Setup) (other : List Steered) (rules : List Rule) (rise : Rise
       let p = place chk has in
       subst (λ (d : Checkpoint). Has second.checkpoints (with_key own d)) (sym p.packed)
       ((has_places two rules (run-continues two rules) own).all chk.iteration p.state p.so_far
-      (same_run.places chk.iteration p.state p.so_far le p.reached))
+      (same_run.places chk.iteration p.state p.so_far le p.reached).0)
 
   module _ (chk : Checkpoint) (has : Has first.checkpoints chk) (le : chk.iteration ≤ c) where
     p : IsPlace setup key rules chk
@@ -92,8 +91,7 @@ module _ (setup : Setup) (other : List Steered) (rules : List Rule) (rise : Rise
 
     one_former : take (former_length chk) first.former ≡ take (former_length chk) second.former
     one_former =
-        let both = place_same setup other rules chk.iteration
-        (up_to_earlier c chk.iteration le setup.steers other same) p.state p.so_far p.reached in
+        let both = same_run.places chk.iteration p.state p.so_far le p.reached in
         let write : Each (WritesTo setup.out_vars) p.reached.earlier =
         each_front (WritesTo setup.out_vars) p.reached.earlier
         (Saved chk.iteration p.state ∷ p.reached.later)
