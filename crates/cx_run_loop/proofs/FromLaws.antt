@@ -1,14 +1,11 @@
 -- From where a run begins to its end.
-use Rattle.std.proofs.Common.{◌≡◌, ℕ, List, [], length, refl, sym, ◌∙◌, ap, subst}
+use Rattle.std.proofs.Common.{◌≡◌, ℕ, List, length, refl, sym, ◌∙◌, ap, subst}
 use Rattle.std.proofs.lemmas.List.{length-map}
 use Rattle.std.specs.Prelude.{Option, Some, None, Result, Ok, Err, IfOk}
 use Rattle.cx_plan.specs.Setups.{Setup, setup_of}
 use Rattle.cx_plan.specs.declared.variable.VarId.{VarId}
 use Rattle.cx_outputs.specs.Names.{output_count}
 use Rattle.cx_plan.specs.declared.job.Job.{Job}
-use Rattle.cx_model.specs.Traces.{Entry}
-use Rattle.cx_model.specs.Runs.{Lengths}
-use Rattle.law_network.specs.Machine.{World}
 use Rattle.cx_disk.specs.Disk.{View}
 use Rattle.cx_disk.specs.Moments.{IsQuiet}
 use Rattle.cx_chk.specs.declared.checkpoint.Checkpoint.{Checkpoint}
@@ -16,16 +13,12 @@ use Rattle.cx_chk.specs.Slots.{SlotsSettled}
 use Rattle.cx_keep.specs.Beginning.{lengths_left}
 use Rattle.cx_keep.specs.Keeping.{Keeper, keeper_of}
 use Rattle.cx_keep.specs.Trails.{Counts as AreCounted, OutputsSettled, file_of_output}
-use Rattle.law_parts.specs.Beginnings.{IsBeginning, run_of}
-use Rattle.law_parts.specs.Holding.{Held}
-use Rattle.law_parts.specs.Moves.{Message, Channel}
-use Rattle.law_reached.specs.Works.{handed_out}
-use Rattle.cx_core.specs.declared.answers.Outcome.TheVariants.{Going}
+use Rattle.law_parts.specs.Beginnings.{run_of}
 use Rattle.cx_core.specs.Cores.{Cores}
-use Rattle.cx_core.specs.Starts.{begins_in, lengths_first}
-use Rattle.cx_core.specs.Steps.{Begins, IsRunning}
+use Rattle.cx_core.specs.Starts.{lengths_first}
+use Rattle.cx_core.specs.Steps.{IsRunning}
 use Rattle.cx_run_loop.proofs.TurnLaws.{setup_is}
-use Rattle.cx_run_loop.specs.Going.{Setting, Place, EndsAt, IsDriving, IsDriven, IsKept, LeavesImages, Moves, RunLeaves, RunsFrom, run_in, kept_in, handed}
+use Rattle.cx_run_loop.specs.Going.{Setting, Place, IsKept}
 
 -- ---- the keeper and the core as a run begins
 
@@ -73,39 +66,6 @@ pub counted_quiet : (lengths : List ℕ) (old new : View) → IsQuiet old new �
     → AreCounted lengths new
 counted_quiet lengths old new quiet counts j lt =
     counts j lt ∙ sym (ap (λ (l : List ℕ). length l) (quiet.same (file_of_output j)))
-
--- ---- the run from there
-
-module _ (s : Setting) (found : Option Checkpoint) (was : Place s)
-    (begins : IsBeginning (setup_of s.job) (begins_in (setup_of s.job) found))
-    (begun : Begins s.wire (run_in s found) was.is.now was.is.core was.is.queue)
-    (going : was.is.core.outcome ≡ Going) where
-  abbrev pub here : IsDriving s found was.is.now was
-  here = record { begins = begins; at = begun.at; over = λ t over. absurd (over going) }
-
-  nothing_handed : handed here ≡ []
-  nothing_handed =
-      ap (λ (w : World Held (Message s.wire) Channel Lengths). handed_out (run_in s found) w)
-      begun.nothing_done
-
-  pub runs_from : (is : Place s) → EndsAt s was is → RunsFrom s found was.is.now was.view is
-  runs_from is ends =
-      let m : Moves s found was.is.now was is here = ends.moves found was.is.now here in
-      record {
-        over = ends.over;
-        there = m.there;
-        stands = ends.stands found was.is.now m.there;
-        driven = λ d t y. m.driven d t
-            (subst (λ (l : List Entry). IsDriven (kept_in s found) l was.view) (sym nothing_handed)
-            y);
-        settled = ends.settled;
-        counts = ends.counts;
-      }
-
-  pub run_leaves : (new : View) → LeavesImages s was new → RunLeaves s found was.view new
-  run_leaves new leaves d t y =
-      leaves found was.is.now here d t
-      (subst (λ (l : List Entry). IsDriven (kept_in s found) l was.view) (sym nothing_handed) y)
 
 pub if_ok_more : {A E : Type 0} {P Q : A → Type 0} (r : Result A E) → ((x : A) → P x → Q x)
     → IfOk r P → IfOk r Q

@@ -1,0 +1,18 @@
+use Rattle.std.proofs.Common.{length, subst}
+use Rattle.std.proofs.lemmas.Result.{err_from_is_err_and}
+use Rattle.cx_keep.specs.Trails.{OutputsSettled}
+use Rattle.cx_run_loop.specs.UnderWay.{Runs}
+use Rattle.cx_run_loop.proofs.StopLaws.{disk_stops}
+use Rattle.cx_run_loop.proofs.steps.Run.finish.Goals as goal
+
+pub returns-in_err-finish-clause-stops : goal.returns-in_err-finish-clause-stops
+returns-in_err-finish-clause-stops g c =
+    let p = err_from_is_err_and c.from_residual.result c.from_residual.ensures.1 in
+    λ n. rw (p.1, p.2) (disk_stops _ _ (g.D.Disk.faults c.args.disk.now)
+    (g.D.Disk.faults c.finish.new.disk) n c.in_err-finish.field-0.0
+    c.in_err-finish.ensures.kept.cause)
+
+pub returns-clause-settled : goal.returns-clause-settled
+returns-clause-settled g c =
+    λ t. subst (λ (r : Runs). OutputsSettled (length r.keeper.lengths)
+    (g.D.Disk.view c.finish.new.disk)) c.self.view_is (c.in_ok-finish.ensures.settled t)
