@@ -3,6 +3,7 @@
  *     gcc -O3 -o stencil stencil.c
  *     ./stencil ca 1048576 100        elementary automaton, rule 90, a ring of 1,048,576 cells, 100 steps
  *     ./stencil life 1024 100         Life (born 8, survive 12), a sheet of 1,024 by 1,024 cells
+ *     ./stencil gas 1024 100          the HPP gas, a sheet of 1,024 by 1,024 cells
  *     ./stencil wave 1048576 100      wave equation, factor 64, a ring; sums that leave 64 bits wrap untold
  *     ./stencil heat 1048576 100      heat equation, factor 64, the same
  *
@@ -20,12 +21,12 @@ static int64_t *numbers(size_t count) {
     return list;
 }
 
-/* the same picture of random bits as the thorns' `mix(seed, index) mod 2`, seed 7 */
-static int64_t mixed(uint64_t index) {
+/* the same random numbers as the thorns' `mix(seed, index) mod choices`, seed 7 */
+static int64_t mixed(uint64_t index, uint64_t choices) {
     uint64_t h = 7 + index * UINT64_C(0x9E3779B97F4A7C15);
     h = (h ^ (h >> 30)) * UINT64_C(0xBF58476D1CE4E5B9);
     h = (h ^ (h >> 27)) * UINT64_C(0x94D049BB133111EB);
-    return (int64_t)((h ^ (h >> 31)) % 2);
+    return (int64_t)((h ^ (h >> 31)) % choices);
 }
 
 static void swap(int64_t **a, int64_t **b) {
@@ -58,6 +59,17 @@ static void life_step(const int64_t *restrict old, int64_t *restrict new, size_t
     }
 }
 
+static void gas_step(const int64_t *restrict old, int64_t *restrict new, size_t n) {
+    size_t w = n + 2;
+    for (size_t y = 1; y <= n; y++) {
+        const int64_t *below = old + (y - 1) * w, *here = old + y * w, *above = old + (y + 1) * w;
+        for (size_t x = 1; x <= n; x++) {
+            int64_t cell = (here[x - 1] & 1) | (below[x] & 2) | (here[x + 1] & 4) | (above[x] & 8);
+            new[y * w + x] = cell == 5 ? 10 : cell == 10 ? 5 : cell;
+        }
+    }
+}
+
 /* `>> 8` of a negative number rounds down with gcc, as the thorns' `div 256` does */
 static void wave_step(const int64_t *restrict now, const int64_t *restrict before, int64_t *restrict new, size_t n, int64_t factor) {
     for (size_t i = 1; i <= n; i++) {
@@ -81,21 +93,24 @@ static double seconds(void) {
 
 int main(int count, char **words) {
     if (count != 4) return 1;
-    int is_life = !strcmp(words[1], "life"), is_ca = !strcmp(words[1], "ca"), is_wave = !strcmp(words[1], "wave");
-    size_t n = strtoull(words[2], 0, 10), steps = strtoull(words[3], 0, 10);
-    size_t rows = is_life ? n : 1, w = n + 2, all = is_life ? w * w : w;
+    int is_life = !strcmp(words[1], "life"), is_gas = !strcmp(words[1], "gas"), is_sheet = is_life || is_gas;
+    int is_ca = !strcmp(words[1], "ca"), is_wave = !strcmp(words[1], "wave");
+    size_t n = strtoull(words[2], 0, 10), steps = strtoull(words[3], 0, 10), choices = is_gas ? 16 : 2;
+    size_t rows = is_sheet ? n : 1, w = n + 2, all = is_sheet ? w * w : w;
     int64_t *now = numbers(all), *before = numbers(all), *next = numbers(all);
     for (size_t y = 0; y < rows; y++)
-        for (size_t x = 0; x < n; x++) now[(is_life ? y + 1 : 0) * w + x + 1] = mixed(y * n + x) * (is_ca || is_life ? 1 : 1000);
+        for (size_t x = 0; x < n; x++)
+            now[(is_sheet ? y + 1 : 0) * w + x + 1] = mixed(y * n + x, choices) * (is_ca || is_sheet ? 1 : 1000);
     memcpy(before, now, all * sizeof *now);
     double start = 0;
     for (size_t k = 0; k < steps; k++) {
         if (k == 1) start = seconds();
-        if (is_life) {
+        if (is_sheet) {
             for (size_t y = 1; y <= n; y++) wrap_row(now + y * w, n);
             memcpy(now, now + n * w, w * sizeof *now);
             memcpy(now + (n + 1) * w, now + w, w * sizeof *now);
-            life_step(now, next, n, 8, 12);
+            if (is_life) life_step(now, next, n, 8, 12);
+            else gas_step(now, next, n);
             swap(&now, &next);
         } else if (is_ca) {
             wrap_row(now, n);
@@ -115,7 +130,7 @@ int main(int count, char **words) {
     double took = seconds() - start;
     int64_t sum = 0;
     for (size_t y = 0; y < rows; y++)
-        for (size_t x = 0; x < n; x++) sum += now[(is_life ? y + 1 : 0) * w + x + 1];
+        for (size_t x = 0; x < n; x++) sum += now[(is_sheet ? y + 1 : 0) * w + x + 1];
     printf("%s %.2f ns a point, sum %" PRId64 "\n", words[1], 1e9 * took / ((double)(steps - 1) * (double)(rows * n)), sum);
     return 0;
 }

@@ -1,7 +1,7 @@
 #!/usr/bin/env python3
 """A second source for the definitions: runs the job of a parameter file in one piece, as docs/GUIDE.md says it.
 
-It knows the five sample thorns by heart, by the guide's tables, and reads no CCL files. It expects a file that
+It knows the five sample thorns and the two of physics by heart, by the guide's tables, and reads no CCL files. It expects a file that
 `cactus check` accepts: it refuses nothing. It writes a file for each output variable into the folder IO::out_dir, and
 prints the line that the program prints, `done: ..` or `ended: ..`. Status: 0 done, 3 ended.
 """
@@ -92,12 +92,60 @@ def diff_step(at):
     return at("u") + at.parameter("factor") * lap(at, "u") // 256
 
 
+def flow(at, here, there):
+    """The heat that flows from one offset to another: none where a mask is 0, else the share, rounded toward 0."""
+    if at("mask", here) == 0 or at("mask", there) == 0:
+        return 0
+    heat = at.parameter("factor") * (at("u", here) - at("u", there))
+    return heat // 256 if heat >= 0 else -(-heat // 256)
+
+
+def heatflux_init(at):
+    if at.is_boundary():
+        return 0, 0
+    if at.parameter("pattern") == "point":
+        return (at.parameter("amount") if at.place == at.parameter("start") else 0), 1
+    return mixed(at.parameter("seed"), at.place) % (max(at.parameter("amount"), 0) + 1), 1
+
+
+def heatflux_step(at):
+    here, total = (0,) * at.directions, at("u")
+    for direction in range(at.directions):
+        step = tuple(int(it == direction) for it in range(at.directions))
+        total += flow(at, tuple(-it for it in step), here) - flow(at, here, step)
+    return total
+
+
+EAST, NORTH, WEST, SOUTH = range(4)
+
+
+def gas_init(at):
+    in_block = all(abs(2 * c + 1 - n) < at.parameter("size") for c, n in zip(at.point[:2], at.run.grid.sizes))
+    return mixed(at.parameter("seed"), at.place) % 16 if in_block else 0
+
+
+def gas_step(at):
+    """Each particle comes from the neighbour behind it; two that meet head-on, alone, turn by a quarter."""
+    behind = {EAST: (-1, 0), NORTH: (0, -1), WEST: (1, 0), SOUTH: (0, 1)}
+    came = {way for way, offset in behind.items() if bit(at("cell", offset), way)}
+    turned = {frozenset({EAST, WEST}): {NORTH, SOUTH}, frozenset({NORTH, SOUTH}): {EAST, WEST}}
+    return sum(2**way for way in turned.get(frozenset(came), came))
+
+
+def gas_measure(at):
+    east, north, west, south = (bit(at("cell"), way) for way in (EAST, NORTH, WEST, SOUTH))
+    return east + north + west + south, east - west, north - south
+
+
 # The thorns, by the guide's tables.
 
 
 @dataclass
 class Routine:
-    """A routine: its rule, what it reads and writes, as a schedule.ccl has them, and, of a reduction, which one."""
+    """A routine: its rule, what it reads and writes, as a schedule.ccl has them, and, of a reduction, which one.
+
+    A rule gives one number for all that is written, or a number for each.
+    """
 
     rule: callable
     reads: str
@@ -219,6 +267,42 @@ THORNS = {
     ),
 }
 
+# Groups of several variables are here several groups of one name.
+PHYSICS = {
+    "HeatFlux": Thorn(
+        "heatflux",
+        {"factor": 32, "pattern": "point", "amount": 1000000, "start": 0, "seed": 0},
+        [Group("evolved", "INT", "u", 3), Group("walls", "BYTE", "mask", 3), Group("sums", "INT", "total")],
+        {
+            "heatflux_init": Routine(heatflux_init, "", "u(everywhere) mask(everywhere)"),
+            "heatflux_step": Routine(heatflux_step, "u(everywhere) mask(everywhere)", "u(interior)"),
+            "heatflux_zero": Routine(lambda at: 0, "", "u(boundary)"),
+            "heatflux_sum": Routine(lambda at: at("u"), "u(everywhere)", "total", sum),
+        },
+        schedule("heatflux_init", "heatflux_step", "evolved", "heatflux_zero") + [Entry("ANALYSIS", "heatflux_sum")],
+    ),
+    "LatticeGas": Thorn(
+        "gas",
+        {"size": 16, "seed": 0},
+        [Group("cells", "BYTE", "cell", 2)]
+        + [Group("measured", "INT", it, 2) for it in ("number", "momentum_x", "momentum_y")]
+        + [Group("sums", "INT", it) for it in ("particles", "total_x", "total_y")],
+        {
+            "gas_init": Routine(gas_init, "", "cell(everywhere)"),
+            "gas_step": Routine(gas_step, "cell(everywhere)", "cell(interior)"),
+            "gas_zero": Routine(lambda at: 0, "", "cell(boundary)"),
+            "gas_measure": Routine(
+                gas_measure, "cell(everywhere)", "number(everywhere) momentum_x(everywhere) momentum_y(everywhere)"
+            ),
+            "gas_particles": Routine(lambda at: at("number"), "number(everywhere)", "particles", sum),
+            "gas_total_x": Routine(lambda at: at("momentum_x"), "momentum_x(everywhere)", "total_x", sum),
+            "gas_total_y": Routine(lambda at: at("momentum_y"), "momentum_y(everywhere)", "total_y", sum),
+        },
+        schedule("gas_init", "gas_step", "cells", "gas_zero")
+        + [Entry("ANALYSIS", it) for it in ("gas_measure", "gas_particles", "gas_total_x", "gas_total_y")],
+    ),
+}
+
 BUILT_IN = {"cactus": "cactus", "pugh": "driver", "ioutil": "io"}
 DEFAULTS = {
     **{"cactus::cctk_itlast": 10, "driver::while_limit": 1000},
@@ -334,6 +418,9 @@ class At:
     def parameter(self, name):
         return self.run.job[f"{self.thorn.implementation}::{name}"]
 
+    def is_boundary(self):
+        return self.point != self.run.grid.nearest(self.point)
+
     def __call__(self, name, offset=()):
         """The value of a variable, at this offset."""
         moved = [c + d for c, d in zip(self.seen, (*offset, 0, 0, 0))]
@@ -366,8 +453,8 @@ class Run:
     def turn(self, thorn, routine, path):
         """One turn of a routine: all that it reads is from before, and where a number fails none is written."""
         targets, region = routine.targets()
-        group = next(it for it in thorn.groups if it.variable == re.sub("(_p)*$", "", targets[0]))
-        low, high = BITS[group.type]
+        written = [next(it for it in thorn.groups if it.variable == re.sub("(_p)*$", "", name)) for name in targets]
+        group = written[0]
         if routine.reduction:
             new = {0: routine.reduction(routine.rule(At(self, thorn, it, it)) for it in self.grid.points)}
         elif not group.directions:
@@ -376,11 +463,14 @@ class Run:
             own = region == "everywhere"
             places = [At(self, thorn, it, it if own else self.grid.nearest(it)) for it in self.grid.region(region)]
             new = {at.place: routine.rule(at) for at in places}
-        if not all(low <= number <= high for number in new.values()):
+        each = {at: it if isinstance(it, tuple) else (it,) * len(targets) for at, it in new.items()}
+        ranges = [BITS[it.type] for it in written]
+        if not all(low <= it <= high for numbers in each.values() for it, (low, high) in zip(numbers, ranges)):
             raise Ended(f"Overflow {self.iteration} {path}")
-        for name in targets:
-            for place, number in new.items():
-                self.level(thorn, name)[place] = number
+        for name, numbers in zip(targets, zip(*each.values())):
+            level = self.level(thorn, name)
+            for place, number in zip(each, numbers):
+                level[place] = number
 
     def scalar(self, name):
         return self.variables[name][0][0]
@@ -472,7 +562,7 @@ class Run:
         self.bins("TERMINATE", "SHUTDOWN")
 
 
-def run(path, thorns=THORNS):
+def run(path, thorns=THORNS | PHYSICS):
     """Runs the job of a parameter file; the status, and the line that the program prints last."""
     job = Run(Job(path, thorns))
     try:

@@ -1,5 +1,5 @@
--- A list of objects, as one more of them is pushed.
-use Rattle.std.proofs.Common.{◌≡◌, ◌∙◌, List, [], ◌∷◌, ◌++◌, map, sym, ap, subst, refl}
+-- A list of objects, as one more of them is put before it.
+use Rattle.std.proofs.Common.{◌≡◌, ◌∙◌, List, [], ◌∷◌, map, sym, ap, subst, refl}
 use Rattle.cx_rule.specs.Routine.{Rule}
 use Rattle.cx_rule.specs.declared.spec.Spec.{Spec}
 
@@ -9,33 +9,17 @@ pub record Handed {X : Type 0} (xs : List X) (f : X → Rule) (g : X → Spec) (
   pub rules_are : map f xs ≡ rules
   pub specs_are : map g xs ≡ specs
 
-map_one_more : {X Y : Type 0} (f : X → Y) (xs : List X) (x : X)
-    → map f (xs ++ x ∷ []) ≡ map f xs ++ f x ∷ []
-map_one_more f [] x = refl
-map_one_more {X} {Y} f (y ∷ xs) x = ap (λ (ys : List Y). f y ∷ ys) (map_one_more f xs x)
+pub none_yet : {X : Type 0} (f : X → Rule) (g : X → Spec) → Handed [] f g [] []
+none_yet f g = record { rules_are = refl; specs_are = refl }
 
-pub none_yet : {X : Type 0} (xs : List X) (f : X → Rule) (g : X → Spec) → xs ≡ []
-    → Handed xs f g [] []
-none_yet xs f g e = record { rules_are = ap (map f) e; specs_are = ap (map g) e }
-
-pub one_more : {X : Type 0} (xs ys : List X) (x : X) (f : X → Rule) (g : X → Spec)
+pub one_more : {X : Type 0} (xs : List X) (x : X) (f : X → Rule) (g : X → Spec)
     (rules : List Rule) (specs : List Spec) (rule : Rule) (spec : Spec)
-    → Handed xs f g rules specs → ys ≡ xs ++ x ∷ [] → f x ≡ rule → g x ≡ spec
-    → Handed ys f g (rules ++ rule ∷ []) (specs ++ spec ∷ [])
-one_more xs ys x f g rules specs rule spec h e r s = record {
-  rules_are = ap (map f) e ∙ map_one_more f xs x ∙ ap (λ (q : Rule). map f xs ++ q ∷ []) r
-      ∙ ap (λ (qs : List Rule). qs ++ rule ∷ []) h.rules_are;
-  specs_are = ap (map g) e ∙ map_one_more g xs x ∙ ap (λ (q : Spec). map g xs ++ q ∷ []) s
-      ∙ ap (λ (qs : List Spec). qs ++ spec ∷ []) h.specs_are;
+    → Handed xs f g rules specs → f x ≡ rule → g x ≡ spec
+    → Handed (x ∷ xs) f g (rule ∷ rules) (spec ∷ specs)
+one_more xs x f g rules specs rule spec h r s = record {
+  rules_are = ap (λ (q : Rule). q ∷ map f xs) r ∙ ap (λ (qs : List Rule). rule ∷ qs) h.rules_are;
+  specs_are = ap (λ (q : Spec). q ∷ map g xs) s ∙ ap (λ (qs : List Spec). spec ∷ qs) h.specs_are;
 }
-
-pub rules_of : {X : Type 0} (xs ys : List X) (f : X → Rule) (g : X → Spec) (rules : List Rule)
-    (specs : List Spec) → Handed xs f g rules specs → ys ≡ xs → map f ys ≡ rules
-rules_of xs ys f g rules specs h e = ap (map f) e ∙ h.rules_are
-
-pub specs_of : {X : Type 0} (xs ys : List X) (f : X → Rule) (g : X → Spec) (rules : List Rule)
-    (specs : List Spec) → Handed xs f g rules specs → ys ≡ xs → map g ys ≡ specs
-specs_of xs ys f g rules specs h e = ap (map g) e ∙ h.specs_are
 
 -- what is seen of an object by its table of methods alone
 pub by_table : {I A : Type 0} {H : I → Type 0} (look : (x : I) → H x → A) (x y : I) (a : A) → x ≡ y
@@ -43,17 +27,16 @@ pub by_table : {I A : Type 0} {H : I → Type 0} (look : (x : I) → H x → A) 
 by_table {I} {A} {H} look x y a e all = subst (λ (z : I). (h : H z) → look z h ≡ a) (sym e) all
 
 -- one more object, by its table of methods
-module _ {I X : Type 0} {H : I → Type 0} (first : List X) (rule_by : (t : I) → H t → Rule)
+module _ {I X : Type 0} {H : I → Type 0} (some : X) (rule_by : (t : I) → H t → Rule)
     (spec_by : (t : I) → H t → Spec) (table : X → I) (value : (x : X) → H (table x)) where
-  pub pushed : (xs ys : List X) (x : X) (own : I) (rules : List Rule) (specs : List Spec)
+  pub put : (xs : List X) (x : X) (own : I) (rules : List Rule) (specs : List Spec)
       (rule : Rule) (spec : Spec)
-      → Handed xs (λ z. rule_by (table z) (value z)) (λ z. spec_by (table z) (value z)) rules specs
-      → ys ≡ xs ++ x ∷ []
       → table x ≡ own → ((h : H own) → rule_by own h ≡ rule) → ((h : H own) → spec_by own h ≡ spec)
-      → Handed ys (λ z. rule_by (table z) (value z)) (λ z. spec_by (table z) (value z))
-      (rules ++ rule ∷ []) (specs ++ spec ∷ [])
-  pushed xs ys x own rules specs rule spec h e is r s =
-      one_more xs ys x (λ z. rule_by (table z) (value z)) (λ z. spec_by (table z) (value z))
-      rules specs rule spec h e
+      → Handed xs (λ z. rule_by (table z) (value z)) (λ z. spec_by (table z) (value z)) rules specs
+      → Handed (x ∷ xs) (λ z. rule_by (table z) (value z)) (λ z. spec_by (table z) (value z))
+      (rule ∷ rules) (spec ∷ specs)
+  put xs x own rules specs rule spec is r s h =
+      one_more xs x (λ z. rule_by (table z) (value z)) (λ z. spec_by (table z) (value z))
+      rules specs rule spec h
       (by_table rule_by (table x) own rule is r (value x))
       (by_table spec_by (table x) own spec is s (value x))

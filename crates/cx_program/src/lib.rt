@@ -1,8 +1,9 @@
-//! The program with the sample thorns' routines: its words, its devices and its exit code.
+//! The program with the built-in thorns' routines: its words, its devices and its exit code.
 #![tactic(auto)]
 
 mod program;
 mod routines;
+mod thorns;
 
 pub use program::{program_words, run_words};
 pub use routines::answer;

@@ -1,4 +1,4 @@
-//! The routines of the sample thorns, handed to the top call.
+//! The routines of the built-in thorns, handed to the top call.
 
 ghost use Rattle.std.specs.Prelude.{◌≡◌, ◌≤◌, ◌<◌, ◌^◌, IsTrue, IfOk, map};
 ghost use Rattle.cx_core.specs.Starts.{AreEmpty};
@@ -7,15 +7,11 @@ ghost use Rattle.cx_run.specs.Clauses.{Obeys};
 ghost use Rattle.cx_program.specs.SampleCalls.{sample_call};
 ghost use Rattle.cx_program.specs.Samples.{sample_rules, sample_specs};
 
+use crate::thorns::{Automata, Fields, Physics};
 use cx_disk::Disk;
 use cx_rule::{Meter, Routine};
 use cx_run::{Shelf, Sink, cactus};
 use cx_text::{Memory, Text};
-use cx_thorn_ca::{CaCount, CaInit, CaStep, CaZero, LifeCount, LifeInit, LifeStep, LifeZero};
-use cx_thorn_pde::{
-    ControlSet, ControlSpin, DiffFlat, DiffInit, DiffScalar, DiffStep, DiffSum, WaveCopy, WaveFlat,
-    WaveInit, WaveInit1, WaveScalar, WaveStep, WaveSum,
-};
 use cx_turns::Turns;
 use cx_wire::Wire;
 use std::alloc::Global;
@@ -27,8 +23,8 @@ struct CommandLine<'a> {
     words: &'a [Text],
 }
 
-/// What the top call answers over these devices, with the routines of all sample thorns: its status, which obeys the top call's clause.
-/// The wire serves 512 parts, and its queues are empty.
+/// What the top call answers over these devices, with the routines of all built-in thorns: its status, which obeys the
+/// top call's clause. The wire serves 512 parts, and its queues are empty.
 ///
 /// # Errors
 ///
@@ -50,34 +46,49 @@ pub fn answer<H: Shelf, D: Disk, W: Wire, T: Turns, O: Sink>(
         disk.old disk.new wire.old wire.new meter.old meter.new (T.begun turns.new))
         (lent_sink O.Sink out.old out.new)) }
 {
-    let mut routines: Vec<Box<dyn Routine>> = Vec::new(alloc);
-    routines.push(Box::new(alloc, CaInit::new(alloc)?)?)?;
-    routines.push(Box::new(alloc, CaStep::new(alloc)?)?)?;
-    routines.push(Box::new(alloc, CaZero::new(alloc)?)?)?;
-    routines.push(Box::new(alloc, CaCount::new(alloc)?)?)?;
-    routines.push(Box::new(alloc, LifeInit::new(alloc)?)?)?;
-    routines.push(Box::new(alloc, LifeStep::new(alloc)?)?)?;
-    routines.push(Box::new(alloc, LifeZero::new(alloc)?)?)?;
-    routines.push(Box::new(alloc, LifeCount::new(alloc)?)?)?;
-    routines.push(Box::new(alloc, WaveInit::new(alloc)?)?)?;
-    routines.push(Box::new(alloc, WaveInit1::new(alloc)?)?)?;
-    routines.push(Box::new(alloc, WaveStep::new(alloc)?)?)?;
-    routines.push(Box::new(alloc, WaveCopy::new(alloc)?)?)?;
-    routines.push(Box::new(alloc, WaveFlat::new(alloc)?)?)?;
-    routines.push(Box::new(alloc, WaveScalar::new(alloc)?)?)?;
-    routines.push(Box::new(alloc, WaveSum::new(alloc)?)?)?;
-    routines.push(Box::new(alloc, DiffInit::new(alloc)?)?)?;
-    routines.push(Box::new(alloc, DiffStep::new(alloc)?)?)?;
-    routines.push(Box::new(alloc, DiffFlat::new(alloc)?)?)?;
-    routines.push(Box::new(alloc, DiffScalar::new(alloc)?)?)?;
-    routines.push(Box::new(alloc, DiffSum::new(alloc)?)?)?;
-    routines.push(Box::new(alloc, ControlSet::new(alloc)?)?)?;
-    routines.push(Box::new(alloc, ControlSpin::new(alloc)?)?)?;
+    let automata = Automata::new(alloc)?;
+    let fields = Fields::new(alloc)?;
+    let physics = Physics::new(alloc)?;
+    let routines: [Box<dyn Routine>; 33] = [
+        automata.ca_init,
+        automata.ca_step,
+        automata.ca_zero,
+        automata.ca_count,
+        automata.life_init,
+        automata.life_step,
+        automata.life_zero,
+        automata.life_count,
+        fields.wave_init,
+        fields.wave_init1,
+        fields.wave_step,
+        fields.wave_copy,
+        fields.wave_flat,
+        fields.wave_scalar,
+        fields.wave_sum,
+        fields.diff_init,
+        fields.diff_step,
+        fields.diff_flat,
+        fields.diff_scalar,
+        fields.diff_sum,
+        fields.control_set,
+        fields.control_spin,
+        physics.heat_init,
+        physics.heat_step,
+        physics.heat_zero,
+        physics.heat_sum,
+        physics.gas_init,
+        physics.gas_step,
+        physics.gas_zero,
+        physics.gas_measure,
+        physics.gas_particles,
+        physics.gas_total_x,
+        physics.gas_total_y,
+    ];
     let line = CommandLine { alloc, words };
     Ok(answer_with(line, shelf, disk, wire, turns, out, &routines, meter))
 }
 
-/// The top call with the sample thorns' routines.
+/// The top call with the built-in thorns' routines.
 fn answer_with<H: Shelf, D: Disk, W: Wire, T: Turns, O: Sink>(
     line: CommandLine<'_>,
     shelf: &mut H,

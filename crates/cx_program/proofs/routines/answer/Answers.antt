@@ -1,21 +1,31 @@
--- The list that is handed over has the routines of the sample thorns, in order. Want of memory
--- behind many steps is no status.
-use Rattle.std.proofs.Common.{refl}
-use Rattle.std.proofs.lemmas.Result.{err_from_is_err_and}
+-- The array that is handed over has the routines of the built-in thorns, in order.
+use Rattle.std.proofs.Common.{[], ◌∷◌, refl}
 use Rattle.cx_thorn_ca.specs.Automaton.{ca_init_rule, ca_step_rule, ca_zero_rule, ca_count_rule, ca_init_spec, ca_step_spec, ca_zero_spec, ca_count_spec}
 use Rattle.cx_thorn_ca.specs.Life.{life_init_rule, life_step_rule, life_zero_rule, life_count_rule, life_init_spec, life_step_spec, life_zero_spec, life_count_spec}
 use Rattle.cx_thorn_pde.specs.Control.{control_set_rule, control_spin_rule, control_set_spec, control_spin_spec}
 use Rattle.cx_thorn_pde.specs.Heat.{diff_init_rule, diff_step_rule, diff_flat_rule, diff_scalar_rule, diff_sum_rule, diff_init_spec, diff_step_spec, diff_flat_spec, diff_scalar_spec, diff_sum_spec}
 use Rattle.cx_thorn_pde.specs.Wave.{wave_init_rule, wave_init1_rule, wave_step_rule, wave_copy_rule, wave_flat_rule, wave_scalar_rule, wave_sum_rule, wave_init_spec, wave_init1_spec, wave_step_spec, wave_copy_spec, wave_flat_spec, wave_scalar_spec, wave_sum_spec}
+use Rattle.cx_thorn_physics.specs.Flux.{heatflux_init_rule, heatflux_step_rule, heatflux_zero_rule, heatflux_sum_rule, heatflux_init_spec, heatflux_step_spec, heatflux_zero_spec, heatflux_sum_spec}
+use Rattle.cx_thorn_physics.specs.Gas.{gas_init_rule, gas_step_rule, gas_zero_rule, gas_measure_rule, gas_sum_rule, gas_init_spec, gas_step_spec, gas_zero_spec, gas_measure_spec, gas_particles_spec, gas_total_x_spec, gas_total_y_spec}
 use Rattle.cx_program.specs.contracts.routines.answer_with.{dyn-1-ghosts}
 use Rattle.cx_program.proofs.routines.answer.OwnLists.{own-1, lawful-own-1}
 use Rattle.cx_program.specs.Samples.{sample_rules, sample_specs}
-use Rattle.cx_program.proofs.Handed.{Handed, none_yet, pushed, rules_of, specs_of}
+use Rattle.cx_program.proofs.Handed.{Handed, none_yet, put}
 use Rattle.cx_program.proofs.routines.answer.Given.{Over}
 use Rattle.cx_program.proofs.routines.answer.Goals as goal
 
-handed : (g : Over) (c : goal.After-answer_with-arg-6-1 g)
-    → Handed c.push-22.new.self.items
+handed : (g : Over) (c : goal.After-answer_with-arg-7-1 g)
+    → Handed (c.into_dyn_box.result ∷ c.into_dyn_box-2.result ∷ c.into_dyn_box-3.result
+    ∷ c.into_dyn_box-4.result ∷ c.into_dyn_box-5.result ∷ c.into_dyn_box-6.result
+    ∷ c.into_dyn_box-7.result ∷ c.into_dyn_box-8.result ∷ c.into_dyn_box-9.result
+    ∷ c.into_dyn_box-10.result ∷ c.into_dyn_box-11.result ∷ c.into_dyn_box-12.result
+    ∷ c.into_dyn_box-13.result ∷ c.into_dyn_box-14.result ∷ c.into_dyn_box-15.result
+    ∷ c.into_dyn_box-16.result ∷ c.into_dyn_box-17.result ∷ c.into_dyn_box-18.result
+    ∷ c.into_dyn_box-19.result ∷ c.into_dyn_box-20.result ∷ c.into_dyn_box-21.result
+    ∷ c.into_dyn_box-22.result ∷ c.into_dyn_box-23.result ∷ c.into_dyn_box-24.result
+    ∷ c.into_dyn_box-25.result ∷ c.into_dyn_box-26.result ∷ c.into_dyn_box-27.result
+    ∷ c.into_dyn_box-28.result ∷ c.into_dyn_box-29.result ∷ c.into_dyn_box-30.result
+    ∷ c.into_dyn_box-31.result ∷ c.into_dyn_box-32.result ∷ c.into_dyn_box-33.result ∷ [])
     (λ z.
     ((dyn-1-ghosts g.row.H g.row.D g.row.W g.row.T g.row.O g.H.Shelf g.H.Shelf-dict g.D.Disk
     g.D.Disk-dict g.W.Wire g.W.Wire-dict g.T.Turns g.T.Turns-dict g.O.Sink g.O.Sink-dict
@@ -25,16 +35,7 @@ handed : (g : Over) (c : goal.After-answer_with-arg-6-1 g)
     g.D.Disk-dict g.W.Wire g.W.Wire-dict g.T.Turns g.T.Turns-dict g.O.Sink g.O.Sink-dict
     (own-1, lawful-own-1)).0.entry z.vtable).1.spec_of z.value) sample_rules sample_specs
 handed g c =
-    let h0 = none_yet c.new-routines.result.items
-    (λ z.
-    ((dyn-1-ghosts g.row.H g.row.D g.row.W g.row.T g.row.O g.H.Shelf g.H.Shelf-dict g.D.Disk
-    g.D.Disk-dict g.W.Wire g.W.Wire-dict g.T.Turns g.T.Turns-dict g.O.Sink g.O.Sink-dict
-    (own-1, lawful-own-1)).0.entry z.vtable).1.rule z.value)
-    (λ z.
-    ((dyn-1-ghosts g.row.H g.row.D g.row.W g.row.T g.row.O g.H.Shelf g.H.Shelf-dict g.D.Disk
-    g.D.Disk-dict g.W.Wire g.W.Wire-dict g.T.Turns g.T.Turns-dict g.O.Sink g.O.Sink-dict
-    (own-1, lawful-own-1)).0.entry z.vtable).1.spec_of z.value) c.new-routines.ensures.items in
-    let more = pushed c.new-routines.result.items
+    let one = put c.into_dyn_box.result
     (λ t h.
     ((dyn-1-ghosts g.row.H g.row.D g.row.W g.row.T g.row.O g.H.Shelf g.H.Shelf-dict g.D.Disk
     g.D.Disk-dict g.W.Wire g.W.Wire-dict g.T.Turns g.T.Turns-dict g.O.Sink g.O.Sink-dict
@@ -43,84 +44,76 @@ handed g c =
     ((dyn-1-ghosts g.row.H g.row.D g.row.W g.row.T g.row.O g.H.Shelf g.H.Shelf-dict g.D.Disk
     g.D.Disk-dict g.W.Wire g.W.Wire-dict g.T.Turns g.T.Turns-dict g.O.Sink g.O.Sink-dict
     (own-1, lawful-own-1)).0.entry t).1.spec_of h) (λ z. z.vtable) (λ z. z.value) in
-    let h1 = more _ _ _ _ _ _ ca_init_rule ca_init_spec h0 c.in_ok-push.ensures.items
-    c.into_dyn_box.ensures.0 (λ h. refl) (λ h. refl) in
-    let h2 = more _ _ _ _ _ _ ca_step_rule ca_step_spec h1 c.in_ok-push-2.ensures.items
-    c.into_dyn_box-in_ok-new-4.ensures.0 (λ h. refl) (λ h. refl) in
-    let h3 = more _ _ _ _ _ _ ca_zero_rule ca_zero_spec h2 c.in_ok-push-3.ensures.items
-    c.into_dyn_box-in_ok-new-6.ensures.0 (λ h. refl) (λ h. refl) in
-    let h4 = more _ _ _ _ _ _ ca_count_rule ca_count_spec h3 c.in_ok-push-4.ensures.items
-    c.into_dyn_box-in_ok-new-8.ensures.0 (λ h. refl) (λ h. refl) in
-    let h5 = more _ _ _ _ _ _ life_init_rule life_init_spec h4 c.in_ok-push-5.ensures.items
-    c.into_dyn_box-in_ok-new-10.ensures.0 (λ h. refl) (λ h. refl) in
-    let h6 = more _ _ _ _ _ _ life_step_rule life_step_spec h5 c.in_ok-push-6.ensures.items
-    c.into_dyn_box-in_ok-new-12.ensures.0 (λ h. refl) (λ h. refl) in
-    let h7 = more _ _ _ _ _ _ life_zero_rule life_zero_spec h6 c.in_ok-push-7.ensures.items
-    c.into_dyn_box-in_ok-new-14.ensures.0 (λ h. refl) (λ h. refl) in
-    let h8 = more _ _ _ _ _ _ life_count_rule life_count_spec h7 c.in_ok-push-8.ensures.items
-    c.into_dyn_box-in_ok-new-16.ensures.0 (λ h. refl) (λ h. refl) in
-    let h9 = more _ _ _ _ _ _ wave_init_rule wave_init_spec h8 c.in_ok-push-9.ensures.items
-    c.into_dyn_box-in_ok-new-18.ensures.0 (λ h. refl) (λ h. refl) in
-    let h10 = more _ _ _ _ _ _ wave_init1_rule wave_init1_spec h9 c.in_ok-push-10.ensures.items
-    c.into_dyn_box-in_ok-new-20.ensures.0 (λ h. refl) (λ h. refl) in
-    let h11 = more _ _ _ _ _ _ wave_step_rule wave_step_spec h10 c.in_ok-push-11.ensures.items
-    c.into_dyn_box-in_ok-new-22.ensures.0 (λ h. refl) (λ h. refl) in
-    let h12 = more _ _ _ _ _ _ wave_copy_rule wave_copy_spec h11 c.in_ok-push-12.ensures.items
-    c.into_dyn_box-in_ok-new-24.ensures.0 (λ h. refl) (λ h. refl) in
-    let h13 = more _ _ _ _ _ _ wave_flat_rule wave_flat_spec h12 c.in_ok-push-13.ensures.items
-    c.into_dyn_box-in_ok-new-26.ensures.0 (λ h. refl) (λ h. refl) in
-    let h14 = more _ _ _ _ _ _ wave_scalar_rule wave_scalar_spec h13 c.in_ok-push-14.ensures.items
-    c.into_dyn_box-in_ok-new-28.ensures.0 (λ h. refl) (λ h. refl) in
-    let h15 = more _ _ _ _ _ _ wave_sum_rule wave_sum_spec h14 c.in_ok-push-15.ensures.items
-    c.into_dyn_box-in_ok-new-30.ensures.0 (λ h. refl) (λ h. refl) in
-    let h16 = more _ _ _ _ _ _ diff_init_rule diff_init_spec h15 c.in_ok-push-16.ensures.items
-    c.into_dyn_box-in_ok-new-32.ensures.0 (λ h. refl) (λ h. refl) in
-    let h17 = more _ _ _ _ _ _ diff_step_rule diff_step_spec h16 c.in_ok-push-17.ensures.items
-    c.into_dyn_box-in_ok-new-34.ensures.0 (λ h. refl) (λ h. refl) in
-    let h18 = more _ _ _ _ _ _ diff_flat_rule diff_flat_spec h17 c.in_ok-push-18.ensures.items
-    c.into_dyn_box-in_ok-new-36.ensures.0 (λ h. refl) (λ h. refl) in
-    let h19 = more _ _ _ _ _ _ diff_scalar_rule diff_scalar_spec h18 c.in_ok-push-19.ensures.items
-    c.into_dyn_box-in_ok-new-38.ensures.0 (λ h. refl) (λ h. refl) in
-    let h20 = more _ _ _ _ _ _ diff_sum_rule diff_sum_spec h19 c.in_ok-push-20.ensures.items
-    c.into_dyn_box-in_ok-new-40.ensures.0 (λ h. refl) (λ h. refl) in
-    let h21 = more _ _ _ _ _ _ control_set_rule control_set_spec h20 c.in_ok-push-21.ensures.items
-    c.into_dyn_box-in_ok-new-42.ensures.0 (λ h. refl) (λ h. refl) in
-    let h22 = more _ _ _ _ _ _ control_spin_rule control_spin_spec h21 c.in_ok-push-22.ensures.items
-    c.into_dyn_box-in_ok-new-44.ensures.0 (λ h. refl) (λ h. refl) in
-    h22
+    (one _ _ _ _ _ ca_init_rule ca_init_spec
+    c.into_dyn_box.ensures.0 (λ h. refl) (λ h. refl)
+    (one _ _ _ _ _ ca_step_rule ca_step_spec
+    c.into_dyn_box-2.ensures.0 (λ h. refl) (λ h. refl)
+    (one _ _ _ _ _ ca_zero_rule ca_zero_spec
+    c.into_dyn_box-3.ensures.0 (λ h. refl) (λ h. refl)
+    (one _ _ _ _ _ ca_count_rule ca_count_spec
+    c.into_dyn_box-4.ensures.0 (λ h. refl) (λ h. refl)
+    (one _ _ _ _ _ life_init_rule life_init_spec
+    c.into_dyn_box-5.ensures.0 (λ h. refl) (λ h. refl)
+    (one _ _ _ _ _ life_step_rule life_step_spec
+    c.into_dyn_box-6.ensures.0 (λ h. refl) (λ h. refl)
+    (one _ _ _ _ _ life_zero_rule life_zero_spec
+    c.into_dyn_box-7.ensures.0 (λ h. refl) (λ h. refl)
+    (one _ _ _ _ _ life_count_rule life_count_spec
+    c.into_dyn_box-8.ensures.0 (λ h. refl) (λ h. refl)
+    (one _ _ _ _ _ wave_init_rule wave_init_spec
+    c.into_dyn_box-9.ensures.0 (λ h. refl) (λ h. refl)
+    (one _ _ _ _ _ wave_init1_rule wave_init1_spec
+    c.into_dyn_box-10.ensures.0 (λ h. refl) (λ h. refl)
+    (one _ _ _ _ _ wave_step_rule wave_step_spec
+    c.into_dyn_box-11.ensures.0 (λ h. refl) (λ h. refl)
+    (one _ _ _ _ _ wave_copy_rule wave_copy_spec
+    c.into_dyn_box-12.ensures.0 (λ h. refl) (λ h. refl)
+    (one _ _ _ _ _ wave_flat_rule wave_flat_spec
+    c.into_dyn_box-13.ensures.0 (λ h. refl) (λ h. refl)
+    (one _ _ _ _ _ wave_scalar_rule wave_scalar_spec
+    c.into_dyn_box-14.ensures.0 (λ h. refl) (λ h. refl)
+    (one _ _ _ _ _ wave_sum_rule wave_sum_spec
+    c.into_dyn_box-15.ensures.0 (λ h. refl) (λ h. refl)
+    (one _ _ _ _ _ diff_init_rule diff_init_spec
+    c.into_dyn_box-16.ensures.0 (λ h. refl) (λ h. refl)
+    (one _ _ _ _ _ diff_step_rule diff_step_spec
+    c.into_dyn_box-17.ensures.0 (λ h. refl) (λ h. refl)
+    (one _ _ _ _ _ diff_flat_rule diff_flat_spec
+    c.into_dyn_box-18.ensures.0 (λ h. refl) (λ h. refl)
+    (one _ _ _ _ _ diff_scalar_rule diff_scalar_spec
+    c.into_dyn_box-19.ensures.0 (λ h. refl) (λ h. refl)
+    (one _ _ _ _ _ diff_sum_rule diff_sum_spec
+    c.into_dyn_box-20.ensures.0 (λ h. refl) (λ h. refl)
+    (one _ _ _ _ _ control_set_rule control_set_spec
+    c.into_dyn_box-21.ensures.0 (λ h. refl) (λ h. refl)
+    (one _ _ _ _ _ control_spin_rule control_spin_spec
+    c.into_dyn_box-22.ensures.0 (λ h. refl) (λ h. refl)
+    (one _ _ _ _ _ heatflux_init_rule heatflux_init_spec
+    c.into_dyn_box-23.ensures.0 (λ h. refl) (λ h. refl)
+    (one _ _ _ _ _ heatflux_step_rule heatflux_step_spec
+    c.into_dyn_box-24.ensures.0 (λ h. refl) (λ h. refl)
+    (one _ _ _ _ _ heatflux_zero_rule heatflux_zero_spec
+    c.into_dyn_box-25.ensures.0 (λ h. refl) (λ h. refl)
+    (one _ _ _ _ _ heatflux_sum_rule heatflux_sum_spec
+    c.into_dyn_box-26.ensures.0 (λ h. refl) (λ h. refl)
+    (one _ _ _ _ _ gas_init_rule gas_init_spec
+    c.into_dyn_box-27.ensures.0 (λ h. refl) (λ h. refl)
+    (one _ _ _ _ _ gas_step_rule gas_step_spec
+    c.into_dyn_box-28.ensures.0 (λ h. refl) (λ h. refl)
+    (one _ _ _ _ _ gas_zero_rule gas_zero_spec
+    c.into_dyn_box-29.ensures.0 (λ h. refl) (λ h. refl)
+    (one _ _ _ _ _ gas_measure_rule gas_measure_spec
+    c.into_dyn_box-30.ensures.0 (λ h. refl) (λ h. refl)
+    (one _ _ _ _ _ gas_sum_rule gas_particles_spec
+    c.into_dyn_box-31.ensures.0 (λ h. refl) (λ h. refl)
+    (one _ _ _ _ _ gas_sum_rule gas_total_x_spec
+    c.into_dyn_box-32.ensures.0 (λ h. refl) (λ h. refl)
+    (one _ _ _ _ _ gas_sum_rule gas_total_y_spec
+    c.into_dyn_box-33.ensures.0 (λ h. refl) (λ h. refl)
+    (none_yet _ _))))))))))))))))))))))))))))))))))
 
 pub answer_with-requires-clause-rules : goal.answer_with-requires-clause-rules
-answer_with-requires-clause-rules g c = rules_of _ _ _ _ _ _ (handed g c) c.deref.ensures.value
+answer_with-requires-clause-rules g c = (handed g c).rules_are
 
 pub answer_with-requires-clause-specs : goal.answer_with-requires-clause-specs
-answer_with-requires-clause-specs g c = specs_of _ _ _ _ _ _ (handed g c) c.deref.ensures.value
-
-pub returns-in_err-new-36 : goal.returns-in_err-new-36
-returns-in_err-new-36 g c =
-    let p = err_from_is_err_and c.from_residual-in_err-new-36.result
-    c.from_residual-in_err-new-36.ensures.1 in
-    rw p.1 tt
-
-pub returns-in_err-new-38 : goal.returns-in_err-new-38
-returns-in_err-new-38 g c =
-    let p = err_from_is_err_and c.from_residual-in_err-new-38.result
-    c.from_residual-in_err-new-38.ensures.1 in
-    rw p.1 tt
-
-pub returns-in_err-new-40 : goal.returns-in_err-new-40
-returns-in_err-new-40 g c =
-    let p = err_from_is_err_and c.from_residual-in_err-new-40.result
-    c.from_residual-in_err-new-40.ensures.1 in
-    rw p.1 tt
-
-pub returns-in_err-new-42 : goal.returns-in_err-new-42
-returns-in_err-new-42 g c =
-    let p = err_from_is_err_and c.from_residual-in_err-new-42.result
-    c.from_residual-in_err-new-42.ensures.1 in
-    rw p.1 tt
-
-pub returns-in_err-new-44 : goal.returns-in_err-new-44
-returns-in_err-new-44 g c =
-    let p = err_from_is_err_and c.from_residual-in_err-new-44.result
-    c.from_residual-in_err-new-44.ensures.1 in
-    rw p.1 tt
+answer_with-requires-clause-specs g c = (handed g c).specs_are
