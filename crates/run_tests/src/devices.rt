@@ -1,4 +1,4 @@
-//! Devices that fail in one call, a disk whose old output is long, and sources of turns that always pick alike.
+//! Devices that fail in one call, a disk whose files are long, and sources of turns that always pick alike.
 ghost use Rattle.std.specs.Prelude.{◌≡◌, IfOk};
 ghost use Rattle.cx_disk.specs.Disk.{files_in, untold};
 
@@ -62,8 +62,8 @@ impl Turns for LastTurns {
     }
 }
 
-/// A disk with a checkpoint in its second slot that tells how long its old output is, of which it has no byte. Nothing of it is
-/// told, and it takes no change.
+/// A disk with a checkpoint in its second slot, each of whose files after the slots is said to be so long and has no byte. Nothing
+/// of it is told, and it takes no change.
 #[derive(Drop)]
 pub struct LongDisk {
     alloc: Global,
@@ -109,8 +109,8 @@ impl LongDisk {
     fn length_of(&self, file: u32) -> u64 {
         match file {
             1 => self.slot.as_slice().len() as u64,
-            OLD_OUTPUT => self.length,
-            _ => 0,
+            slot if slot < OLD_OUTPUT => 0,
+            _ => self.length,
         }
     }
 }

@@ -42,6 +42,15 @@ pub const CA_OUTPUT: &[u8] = b"# ca::cell iteration 0 size 8\n\
     0 1 0 0 0 1 0 0\n\
     \n";
 
+/// The files of heat in three directions.
+pub(crate) const DIFF_IN_THREE: &[File] = &[File {
+    name: "arrangements/Integer/DiffInt/interface.ccl",
+    bytes: b"implements: diff\n\
+        public:\n\
+        CCTK_INT evolved TYPE=GF DIM=3 { u } \"field\"\n\
+        CCTK_INT sums TYPE=SCALAR { total } \"sum\"\n",
+}];
+
 /// The automaton's first row alone.
 const FIRST_ROW: &[u8] = b"ActiveThorns = \"ElemCA\"\n\
     Cactus::cctk_itlast = 0\n\
@@ -657,13 +666,7 @@ pub const RUNS: &[Run] = &[
             IO::out_vars = \"diff::u\"\n\
             IO::out_every = 2\n",
         more: "",
-        others: &[File {
-            name: "arrangements/Integer/DiffInt/interface.ccl",
-            bytes: b"implements: diff\n\
-                public:\n\
-                CCTK_INT evolved TYPE=GF DIM=3 { u } \"field\"\n\
-                CCTK_INT sums TYPE=SCALAR { total } \"sum\"\n",
-        }],
+        others: DIFF_IN_THREE,
         status: 0,
         printed: b"done: iteration 2\n",
         first: b"# diff::u iteration 0 size 4 4 2\n\

@@ -24,6 +24,8 @@ mod makes;
 #[cfg(test)]
 mod parts;
 #[cfg(test)]
+mod physics;
+#[cfg(test)]
 mod samples;
 #[cfg(test)]
 mod schedules;

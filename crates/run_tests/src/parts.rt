@@ -1,7 +1,7 @@
 //! Runs in parts: the same bytes for every cut, every lead and every order of turns.
 
 use crate::calls::{Outcome, answer_to, shelf_with};
-use crate::jobs::CA_OUTPUT;
+use crate::jobs::{CA_OUTPUT, DIFF_IN_THREE};
 use crate::samples::CA;
 use cx_run::MemoryShelf;
 use sample_files::File;
@@ -63,14 +63,16 @@ const SEEDS: &[&str] = &[
     "--turns=18446744073709551615",
 ];
 
-/// A job of each sample thorn, and cuts of its grid into 2, 3, 7 and 16 parts.
-struct Thorn {
-    name: &'static str,
-    file: &'static [u8],
-    cuts: &'static [&'static str],
+/// A job of a sample thorn, with files in place of its own, and cuts of its grid into 1, 2, 3 and 16 parts.
+pub(crate) struct Thorn {
+    pub(crate) name: &'static str,
+    pub(crate) file: &'static [u8],
+    pub(crate) others: &'static [File],
+    pub(crate) cuts: &'static [&'static str],
 }
 
 const LINES: &[&str] = &[
+    "",
     "driver::parts_x = 2\n",
     "driver::parts_x = 3\ndriver::lead = 1\n",
     "driver::widths_x = \"1 2 1 5 1 1 5\"\ndriver::lead = 2\n",
@@ -78,13 +80,21 @@ const LINES: &[&str] = &[
 ];
 
 const SHEETS: &[&str] = &[
+    "",
     "driver::parts_y = 2\n",
     "driver::parts_x = 3\ndriver::lead = 3\n",
     "driver::widths_x = \"1 1 2 1 1 1 1\"\n",
     "driver::parts_x = 4\ndriver::parts_y = 4\ndriver::lead = 1\n",
 ];
 
-const THORN_JOBS: &[Thorn] = &[
+const SOLIDS: &[&str] = &[
+    "",
+    "driver::parts_z = 2\n",
+    "driver::parts_x = 3\ndriver::lead = 2\n",
+    "driver::parts_x = 4\ndriver::parts_y = 2\ndriver::parts_z = 2\ndriver::lead = 1\n",
+];
+
+pub(crate) const THORN_JOBS: &[Thorn] = &[
     Thorn {
         name: "ElemCA",
         file: b"ActiveThorns = \"ElemCA\"\n\
@@ -93,6 +103,7 @@ const THORN_JOBS: &[Thorn] = &[
             ca::rule = 110\n\
             ca::seed = 5\n\
             IO::out_vars = \"ca::cell ca::live\"\n",
+        others: &[],
         cuts: LINES,
     },
     Thorn {
@@ -105,6 +116,7 @@ const THORN_JOBS: &[Thorn] = &[
             life::pattern = \"random\"\n\
             life::seed = 3\n\
             IO::out_vars = \"life::cell life::live\"\n",
+        others: &[],
         cuts: SHEETS,
     },
     Thorn {
@@ -117,6 +129,7 @@ const THORN_JOBS: &[Thorn] = &[
             wave::seed = 2\n\
             wave::sum = yes\n\
             IO::out_vars = \"wave::phi wave::total\"\n",
+        others: &[],
         cuts: LINES,
     },
     Thorn {
@@ -130,7 +143,25 @@ const THORN_JOBS: &[Thorn] = &[
             diff::seed = 4\n\
             diff::sum = yes\n\
             IO::out_vars = \"diff::u diff::total\"\n",
+        others: &[],
         cuts: LINES,
+    },
+    Thorn {
+        name: "DiffInt in three directions",
+        file: b"ActiveThorns = \"DiffInt\"\n\
+            Cactus::cctk_itlast = 2\n\
+            driver::global_nx = 4\n\
+            driver::global_ny = 4\n\
+            driver::global_nz = 3\n\
+            driver::periodic_z = no\n\
+            driver::periodic = yes\n\
+            diff::pattern = \"random\"\n\
+            diff::amount = 1000\n\
+            diff::seed = 6\n\
+            diff::sum = yes\n\
+            IO::out_vars = \"diff::u diff::total\"\n",
+        others: DIFF_IN_THREE,
+        cuts: SOLIDS,
     },
     Thorn {
         name: "Control",
@@ -140,6 +171,7 @@ const THORN_JOBS: &[Thorn] = &[
             control::turns = 6\n\
             control::drop = 2\n\
             IO::out_vars = \"control::count\"\n",
+        others: &[],
         cuts: LINES,
     },
 ];
@@ -208,7 +240,7 @@ fn work_of_the_automaton(rt: HostRuntime) -> Result<(), Fail> {
 }
 
 /// What a job's runs come to, of which each takes its turns from another seed.
-fn runs_by_seeds(
+pub(crate) fn runs_by_seeds(
     rt: &HostRuntime,
     file: &[u8],
     more: &str,
@@ -224,7 +256,7 @@ fn runs_by_seeds(
 
 /// What a job's run in one part comes to.
 fn whole_run(rt: &HostRuntime, thorn: &Thorn) -> Result<Outcome, Fail> {
-    let mut shelf = shelf_with(rt.alloc(), thorn.file, "", &[])?;
+    let mut shelf = shelf_with(rt.alloc(), thorn.file, "", thorn.others)?;
     answer_to(rt, &["run", "t.par"], &mut shelf)
 }
 
@@ -235,7 +267,7 @@ fn sample_thorns_in_parts(rt: HostRuntime) -> Result<(), Fail> {
         let one = whole_run(&rt, thorn)?;
         assert_eq!(rt; one.status, 0, "{name} in one part");
         for cut in thorn.cuts {
-            let runs = runs_by_seeds(&rt, thorn.file, cut, &[])?;
+            let runs = runs_by_seeds(&rt, thorn.file, cut, thorn.others)?;
             for (k, came) in runs.iter().enumerate() {
                 let found = (came.status, came.first.as_slice(), came.second.as_slice());
                 let want = (0, one.first.as_slice(), one.second.as_slice());

@@ -1,11 +1,10 @@
 //! Runs whose parameters are steered, and starts whose steer file has changed.
 
-use crate::calls::{Outcome, answer_on, answer_over, answer_to, shelf_with};
+use crate::calls::{Outcome, answer_on, answer_over, shelf_with};
+use crate::parts::runs_by_seeds;
 use cx_disk::{FuseDisk, MemoryDisk};
-use cx_run::MemoryShelf;
 use cx_text::List;
 use sample_files::File;
-use std::alloc::Global;
 use std::test::Fail;
 
 /// The parameters of the wave: its factor may be steered anywhere, and its edge after a checkpoint.
@@ -21,9 +20,8 @@ const PARAM: File = File {
         BOOLEAN sum { } \"no\"\n",
 };
 
-/// A wave on a ring of six points over two iterations.
+/// A wave on a ring of six points.
 const WAVE: &[u8] = b"ActiveThorns = \"WaveInt\"\n\
-    Cactus::cctk_itlast = 2\n\
     driver::global_nx = 6\n\
     driver::periodic = yes\n\
     wave::factor = 256\n\
@@ -32,12 +30,17 @@ const WAVE: &[u8] = b"ActiveThorns = \"WaveInt\"\n\
     IO::recover = \"autoprobe\"\n\
     IO::steer_file = \"s.txt\"\n";
 
-/// A checkpoint of each iteration.
-const EACH: &str = "IO::checkpoint_every = 1\n";
+const TWO: &str = "Cactus::cctk_itlast = 2\n";
+
+/// A checkpoint of each of two iterations.
+const EACH: &str = "Cactus::cctk_itlast = 2\nIO::checkpoint_every = 1\n";
 
 const FACTOR_FROM_2: &[u8] = b"@2 wave::factor = 0\n";
 
-/// The lines of a steer file, more lines of the parameter file, what the run prints, and the values of iteration 2.
+/// No speed in the iterations 5 and 6 of eight.
+const FACTOR_IN_THE_MIDDLE: &[u8] = b"@5 wave::factor = 0\n@7 wave::factor = 256\n";
+
+/// The lines of a steer file, more lines of the parameter file, what the run prints, and the values of its last iteration.
 struct Case {
     lines: &'static [u8],
     more: &'static str,
@@ -61,13 +64,20 @@ const CASES: &[Case] = &[
         printed: b"done: iteration 2\n",
         values: b"0 16 -24 16 0 0\n\n",
     },
+    Case {
+        lines: FACTOR_IN_THE_MIDDLE,
+        more: "Cactus::cctk_itlast = 8\n",
+        status: 0,
+        printed: b"done: iteration 8\n",
+        values: b"240 -224 216 -224 240 -240\n\n",
+    },
     // parts that run ahead have the parameters of their own iterations
     Case {
-        lines: FACTOR_FROM_2,
-        more: "driver::parts_x = 3\ndriver::lead = 8\n",
+        lines: FACTOR_IN_THE_MIDDLE,
+        more: "Cactus::cctk_itlast = 8\ndriver::parts_x = 4\ndriver::lead = 8\n",
         status: 0,
-        printed: b"done: iteration 2\n",
-        values: b"0 16 -24 16 0 0\n\n",
+        printed: b"done: iteration 8\n",
+        values: b"240 -224 216 -224 240 -240\n\n",
     },
     Case {
         lines: b"@2 wave::edge = 3\n",
@@ -78,7 +88,7 @@ const CASES: &[Case] = &[
     },
     Case {
         lines: b"@2 wave::edge = 3\n",
-        more: "",
+        more: TWO,
         status: 2,
         printed: b"refused: s.txt NotSteerable 1\n",
         values: b"",
@@ -106,30 +116,26 @@ const CASES: &[Case] = &[
     },
 ];
 
-/// A shelf with the wave's files, whose steer file has these lines.
-fn wave_shelf(alloc: Global, lines: &'static [u8], more: &str) -> Result<MemoryShelf, Fail> {
-    let steers = File {
+/// The steer file that has these lines.
+fn steer_file(lines: &'static [u8]) -> File {
+    File {
         name: "s.txt",
         bytes: lines,
-    };
-    Ok(shelf_with(alloc, WAVE, more, &[PARAM, steers])?)
+    }
 }
 
 #[test]
 fn waves_that_are_steered(rt: HostRuntime) -> Result<(), Fail> {
     for case in CASES {
-        let mut shelf = wave_shelf(rt.alloc(), case.lines, case.more)?;
-        let came = answer_to(&rt, &["run", "t.par"], &mut shelf)?;
-        let found = (came.status, came.printed.as_slice());
-        assert_eq!(rt;
-            found,
-            (case.status, case.printed),
-            "{:?} {:?}",
-            case.lines,
-            case.more
-        );
-        let values = came.first.ends_with(case.values);
-        assert_eq!(rt; values, true, "values of {:?} {:?}", case.lines, case.more);
+        let (lines, more) = (case.lines, case.more);
+        let runs = runs_by_seeds(&rt, WAVE, more, &[PARAM, steer_file(lines)])?;
+        for (k, came) in runs.iter().enumerate() {
+            let found = (came.status, came.printed.as_slice());
+            let want = (case.status, case.printed);
+            assert_eq!(rt; found, want, "{lines:?} {more:?}, turns {k}");
+            let values = came.first.ends_with(case.values);
+            assert!(rt; values, "values of {lines:?} {more:?}, turns {k}");
+        }
     }
     Ok(())
 }
@@ -149,7 +155,7 @@ fn newest(disk: &MemoryDisk) -> u8 {
 /// What an unsteered run leaves that stops after so many calls of the disk, if it stops.
 fn stopped(rt: &HostRuntime, calls: u64) -> Result<Option<MemoryDisk>, Fail> {
     let alloc = rt.alloc();
-    let mut shelf = wave_shelf(alloc, b"", EACH)?;
+    let mut shelf = shelf_with(alloc, WAVE, EACH, &[PARAM, steer_file(b"")])?;
     let mut fuse = FuseDisk::new(MemoryDisk::new(alloc, List::empty(alloc)), calls);
     let came = answer_over(rt, &["run", "t.par"], &mut shelf, &mut fuse)?;
     if came.status == 0 {
@@ -160,7 +166,7 @@ fn stopped(rt: &HostRuntime, calls: u64) -> Result<Option<MemoryDisk>, Fail> {
 
 /// What the next start comes to on that disk, where the steer file has these lines by now.
 fn resumed(rt: &HostRuntime, disk: &mut MemoryDisk, lines: &'static [u8]) -> Result<Outcome, Fail> {
-    let mut shelf = wave_shelf(rt.alloc(), lines, EACH)?;
+    let mut shelf = shelf_with(rt.alloc(), WAVE, EACH, &[PARAM, steer_file(lines)])?;
     answer_on(rt, &["run", "t.par"], &mut shelf, disk)
 }
 

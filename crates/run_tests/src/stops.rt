@@ -363,18 +363,26 @@ fn former_disk(rt: &HostRuntime, older_is_new: bool) -> Result<MemoryDisk, Fail>
     Ok(MemoryDisk::new(alloc, files))
 }
 
+/// Commands on the box in three parts, with two outputs, where each file has 300,000,000 bytes.
+const LONG: &[(&str, u8, &[u8])] = &[
+    ("run", 6, b"recovery: OldTooLong 300000000 268435456\n"),
+    ("chunk", 7, b"chunks: TooLong 600000000 268435456\n"),
+    ("recombine", 7, b"chunks: TooLong 900000000 268435456\n"),
+];
+
 #[test]
-fn former_output_that_is_too_long(rt: HostRuntime) -> Result<(), Fail> {
+fn files_that_are_too_long(rt: HostRuntime) -> Result<(), Fail> {
     let alloc = rt.alloc();
     let left = box_disk(&rt)?;
-    // 300,000,000 bytes.
-    let slot = former_slot(alloc, left.bytes(1), b"\x11\xe1\xa3\x00")?;
-    let mut disk = LongDisk::new(alloc, slot, 300_000_000);
     let mut shelf = shelf_with(alloc, BOX_FILE, "", BOX_THORNS)?;
-    let came = answer_over(&rt, RUN, &mut shelf, &mut disk)?;
-    let found = (came.status, came.printed.as_slice(), came.points);
-    let want = b"recovery: OldTooLong 300000000 268435456\n".as_slice();
-    assert_eq!(rt; found, (6, want, 0), "300,000,000 bytes");
+    for (word, status, printed) in LONG {
+        // 300,000,000 bytes
+        let slot = former_slot(alloc, left.bytes(1), b"\x11\xe1\xa3\x00")?;
+        let mut disk = LongDisk::new(alloc, slot, 300_000_000);
+        let came = answer_over(&rt, &[word, "t.par"], &mut shelf, &mut disk)?;
+        let found = (came.status, came.printed.as_slice(), came.points);
+        assert_eq!(rt; found, (*status, *printed, 0), "{word}");
+    }
     Ok(())
 }
 
