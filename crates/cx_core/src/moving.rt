@@ -66,6 +66,7 @@ pub(crate) fn go<W: Wire>(
         core.old core.new (W.queue wire.old) (W.queue wire.new)
         (counts meter.old (W.received wire.old) (W.sum wire.old))
         (counts meter.new (W.received wire.new) (W.sum wire.new))) }
+    ensures later { meter.old ≤ meter.new }
     ensures parts { W.parts wire.new ≡ W.parts wire.old }
     ensures cause { HasCause CoreFault.Wire (W.faults wire.old) (W.faults wire.new) result }
 {

@@ -85,6 +85,7 @@ pub(crate) fn sweep(
         → IsPatchOf r.setup (cut_of r) k patch.old
         → IfOk result (Turns r k
         (ops.Sweep item) iteration patch.old patch.new meter.old meter.new) }
+    ensures later { meter.old ≤ meter.new }
 {
     match cx_core_part::sweep(job, items, routines, item, patch, iteration, meter) {
         Ok(()) => Ok(None),
@@ -115,6 +116,7 @@ pub(crate) fn apply(
         → IsPatchOf r.setup (cut_of r) k patch.old
         → IfOk result (Turns r k
         (ops.Apply item) iteration patch.old patch.new meter.old meter.new) }
+    ensures later { meter.old ≤ meter.new }
 {
     match cx_core_part::apply(job, items, routines, item, patch, iteration, meter) {
         Ok(()) => Ok(None),
@@ -217,6 +219,7 @@ pub(crate) fn operate<W: Wire>(
         meter.old (W.received wire.old) (W.sum wire.old))
         (holdings patch.new boards.new gathering.new (W.queue wire.new)
         meter.new (W.received wire.new) (W.sum wire.new))) }
+    ensures later { meter.old ≤ meter.new }
     ensures parts { W.parts wire.new ≡ W.parts wire.old }
     ensures cause { HasCause CoreFault.Wire (W.faults wire.old) (W.faults wire.new) result }
 {

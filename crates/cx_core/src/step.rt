@@ -56,6 +56,7 @@ impl Core {
             (stands_at self.old (W.queue wire.old) meter.old (W.received wire.old) (W.sum wire.old))
             (stands_at self.new (W.queue wire.new) meter.new (W.received wire.new) (W.sum wire.new))
             at) }
+        ensures later { meter.old ≤ meter.new }
         ensures parts { W.parts wire.new ≡ W.parts wire.old }
         ensures cause { HasCause CoreFault.Wire (W.faults wire.old) (W.faults wire.new) result }
     {

@@ -1,5 +1,5 @@
 -- A part's turn of an item: what sweeping its patch does is what the run says.
-use Rattle.std.proofs.Common.{◌≡◌, ℕ, zero, suc, ◌+◌, arith, Bool, true, false, not, ◌&&◌, cond, refl, sym, ap, ◌∙◌, subst, ℤ, List, [], ◌∷◌, ◌++◌, length, map, filter, length-append, Some, Result, Ok, Err}
+use Rattle.std.proofs.Common.{◌≡◌, ◌≤◌, ℕ, zero, suc, ◌+◌, arith, Bool, true, false, not, ◌&&◌, cond, refl, sym, ap, ◌∙◌, subst, ℤ, List, [], ◌∷◌, ◌++◌, length, map, filter, length-append, Some, Result, Ok, Err}
 use Rattle.std.specs.List.{range_with_len, list_all, flat_map}
 use Rattle.std.proofs.lemmas.Bool.{and_parts}
 use Rattle.std.proofs.lemmas.List.FromFn.{map-range_with_len_more}
@@ -287,3 +287,16 @@ module _ (job : Job) (rules : List Rule) (i iteration : ℕ) (old new : PatchVal
       patch.patch.shape patch.patch.vars
       (subst (λ s. has_shape s (item s i) ≡ true) (sym run.setup) shaped) scalar)
       (scalar_points old (item_at r.setup i iteration) scalar) here
+
+-- ---- the meter
+
+raised_no_less : (a n b : ℕ) → b ≡ raised a n → a ≤ b
+raised_no_less a n b same = omega arith
+
+-- a turn never makes it fall
+pub never_falls : (old : PatchValue) (rule : Rule) (x : Item) (iteration : ℕ) (new : PatchValue)
+    (before after : ℕ) (result : Result (Unit {0}) Overflow)
+    → Sweeps old rule x iteration new before after result → before ≤ after
+never_falls old rule x iteration new before after (Ok u) sweeps =
+    raised_no_less before (zone_points (swept_zone old x)) after sweeps.3
+never_falls old rule x iteration new before after (Err e) sweeps = sweeps.2.least

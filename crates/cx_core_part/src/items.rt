@@ -1,5 +1,5 @@
 //! The turn of an item at a part.
-ghost use Rattle.std.specs.Prelude.{◌≡◌, ◌<◌, ◌↔◌, ℕ, IsTrue, map, length};
+ghost use Rattle.std.specs.Prelude.{◌≡◌, ◌<◌, ◌≤◌, ◌↔◌, ℕ, IsTrue, map, length};
 ghost use Rattle.cx_plan.specs.Lookups.{item as item_of};
 ghost use Rattle.cx_plan.specs.Regions.{region_of};
 ghost use Rattle.cx_plan.specs.declared.item.Region.TheVariants as regions;
@@ -51,6 +51,7 @@ pub fn sweep(
         → IsPatchOf r.setup (cut_of r) k patch.old
         → Computes r k (ops.Sweep item) iteration patch.old.numbers patch.new.numbers
         meter.old meter.new result }
+    ensures later { meter.old ≤ meter.new }
 {
     has_boxes(patch);
     turn(job, items, routines, item, patch, iteration, meter)
@@ -82,6 +83,7 @@ pub fn apply(
         → IsPatchOf r.setup (cut_of r) k patch.old
         → Computes r k (ops.Apply item) iteration patch.old.numbers patch.new.numbers
         meter.old meter.new result }
+    ensures later { meter.old ≤ meter.new }
 {
     turn(job, items, routines, item, patch, iteration, meter)
 }

@@ -1,20 +1,17 @@
 -- What a run answers, and what it leaves.
-use Rattle.std.proofs.Common.{◌≡◌, ℕ, ◌≤◌, refl, arith}
+use Rattle.std.proofs.Common.{◌≡◌, ℕ, ◌≤◌, arith}
 use Rattle.std.specs.Prelude.{Option, Result, Ok, Err, IfOk}
-use Rattle.cx_disk.specs.Cause.{HasCause}
 use Rattle.cx_disk.specs.Disk.{View}
 use Rattle.cx_chk.specs.declared.checkpoint.Checkpoint.{Checkpoint}
-use Rattle.cx_keep.specs.declared.fault.BeginFault.{BeginFault}
-use Rattle.cx_keep.specs.declared.fault.BeginFault.TheVariants as begin
-use Rattle.cx_keep.specs.Beginning.{HasLengths, IsStarted, LeavesAsIs, StartMoments}
-use Rattle.cx_keep.specs.Tests.{IsFaultOf, begun}
+use Rattle.cx_keep.specs.Beginning.{HasLengths, IsStarted, StartMoments}
+use Rattle.cx_keep.specs.Tests.{begun}
 use Rattle.cx_plan.specs.Setups.{setup_of}
 use Rattle.cx_outputs.specs.Names.{output_count}
 use Rattle.cx_core.specs.Cores.{Cores}
 use Rattle.cx_run_loop.specs.declared.fault.DriveFault.{DriveFault}
 use Rattle.cx_run_loop.specs.declared.fault.DriveFault.TheVariants as faults
 use Rattle.cx_run_loop.specs.Drives.{Drive, Drives, AreTold, Comes, HasEnded, LendsScalars, StartsWell}
-use Rattle.cx_run_loop.specs.Faults.{Stops, Why, of_begin}
+use Rattle.cx_run_loop.specs.Faults.{Stops, StopsStart, Why}
 use Rattle.cx_run_loop.specs.Going.{RunLeaves, RunsFrom}
 use Rattle.cx_run_loop.specs.Laws.{DriveLaws}
 use Rattle.cx_run_loop.proofs.StopLaws.{stopped_after}
@@ -22,38 +19,31 @@ use Rattle.cx_run_loop.proofs.WholeLaws.{setting, counts_before, place_behind, h
 
 -- ---- a start that failed
 
-module _ (d : Drive) (laws : DriveLaws d.wire.tells d.job d.rules) (fault : BeginFault) where
-  comes_refused : (A : Type 0) (one : BeginFault) → fault ≡ one
-      → (d.disk.tells → IsFaultOf {A = Option Checkpoint} one (begun d.job d.disk.old.seen))
-      → (d.disk.tells → LeavesAsIs d.disk.old d.disk.new one)
-      → HasCause {T = A} begin.Disk d.disk.faults.old d.disk.faults.new (Err one) → d.wire.same
-      → d.meter.new ≡ d.meter.old → Comes d (Err (of_begin one))
-  comes_refused A begin.Disk is began quiet cause wire meter = cause.failed refl
-  comes_refused A begin.Memory is began quiet cause wire meter = tt
-  comes_refused A begin.NoCheckpoint is began quiet cause wire meter =
-      record { refusal = tt; began = began; quiet = λ t. quiet t tt; wire = wire; meter = meter }
-  comes_refused A (begin.OtherJob a b) is began quiet cause wire meter =
-      record { refusal = tt; began = began; quiet = λ t. quiet t tt; wire = wire; meter = meter }
-  comes_refused A (begin.Damaged slot) is began quiet cause wire meter =
-      record { refusal = tt; began = began; quiet = λ t. quiet t tt; wire = wire; meter = meter }
-  comes_refused A (begin.OutputShort a b) is began quiet cause wire meter =
-      record { refusal = tt; began = began; quiet = λ t. quiet t tt; wire = wire; meter = meter }
-  comes_refused A (begin.OldTooLong a b) is began quiet cause wire meter =
-      record { refusal = tt; began = began; quiet = λ t. quiet t tt; wire = wire; meter = meter }
+module _ (d : Drive) (laws : DriveLaws d.wire.tells d.job d.rules) (fault : DriveFault)
+    (stops : StopsStart d.job d.disk.tells d.disk.old d.disk.new d.disk.faults fault)
+    (wire : d.wire.same) (meter : d.meter.new ≡ d.meter.old) where
+  comes_stopped : (one : DriveFault)
+      → StopsStart d.job d.disk.tells d.disk.old d.disk.new d.disk.faults one → Comes d (Err one)
+  comes_stopped (faults.Recovery fault) why = record {
+    refusal = why.refusal;
+    began = why.began;
+    quiet = why.quiet;
+    wire = wire;
+    meter = meter;
+  }
+  comes_stopped faults.Disk why = why
+  comes_stopped faults.Wire why = absurd why
+  comes_stopped faults.Memory why = tt
 
-  pub refused : (A : Type 0)
-      → (d.disk.tells → IsFaultOf {A = Option Checkpoint} fault (begun d.job d.disk.old.seen))
-      → (d.disk.tells → LeavesAsIs d.disk.old d.disk.new fault)
-      → (d.disk.tells → StartMoments d.job d.job.recover d.disk.old d.disk.new)
-      → HasCause {T = A} begin.Disk d.disk.faults.old d.disk.faults.new (Err fault) → d.wire.same
-      → d.meter.new ≡ d.meter.old → d.wire.faults.old ≤ d.wire.faults.new
-      → Drives d (Err (of_begin fault))
-  refused A began quiet moments cause wire meter later = record {
-    comes = comes_refused A fault refl began quiet cause wire meter;
+  pub refused : (d.disk.tells → StartMoments d.job d.job.recover d.disk.old d.disk.new)
+      → d.disk.faults.old ≤ d.disk.faults.new → d.wire.faults.old ≤ d.wire.faults.new
+      → Drives d (Err fault)
+  refused moments later wire_later = record {
+    comes = comes_stopped fault stops;
     ended = λ told well. tt;
     trails = λ told trails. start_trails d laws d.disk.new moments told.0 trails;
-    disk_count = cause.later;
-    wire_count = later;
+    disk_count = later;
+    wire_count = wire_later;
   }
 
 -- ---- a run that has begun

@@ -74,39 +74,6 @@ pub counted_quiet : (lengths : List ℕ) (old new : View) → IsQuiet old new �
 counted_quiet lengths old new quiet counts j lt =
     counts j lt ∙ sym (ap (λ (l : List ℕ). length l) (quiet.same (file_of_output j)))
 
--- ---- the run from there
-
-module _ (s : Setting) (found : Option Checkpoint) (was : Place s)
-    (begins : IsBeginning (setup_of s.job) (begins_in (setup_of s.job) found))
-    (begun : Begins s.wire (run_in s found) was.is.now was.is.core was.is.queue)
-    (going : was.is.core.outcome ≡ Going) where
-  abbrev pub here : IsDriving s found was.is.now was
-  here = record { begins = begins; at = begun.at; over = λ t over. absurd (over going) }
-
-  nothing_handed : handed here ≡ []
-  nothing_handed =
-      ap (λ (w : World Held (Message s.wire) Channel Lengths). handed_out (run_in s found) w)
-      begun.nothing_done
-
-  pub runs_from : (is : Place s) → EndsAt s was is → RunsFrom s found was.is.now was.view is
-  runs_from is ends =
-      let m : Moves s found was.is.now was is here = ends.moves found was.is.now here in
-      record {
-        over = ends.over;
-        there = m.there;
-        stands = ends.stands found was.is.now m.there;
-        driven = λ d t y. m.driven d t
-            (subst (λ (l : List Entry). IsDriven (kept_in s found) l was.view) (sym nothing_handed)
-            y);
-        settled = ends.settled;
-        counts = ends.counts;
-      }
-
-  pub run_leaves : (new : View) → LeavesImages s was new → RunLeaves s found was.view new
-  run_leaves new leaves d t y =
-      leaves found was.is.now here d t
-      (subst (λ (l : List Entry). IsDriven (kept_in s found) l was.view) (sym nothing_handed) y)
-
 pub if_ok_more : {A E : Type 0} {P Q : A → Type 0} (r : Result A E) → ((x : A) → P x → Q x)
     → IfOk r P → IfOk r Q
 if_ok_more (Ok x) f h = f x h

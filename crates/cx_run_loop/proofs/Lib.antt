@@ -8,3 +8,5 @@ pub mod StopLaws
 pub mod Works
 pub mod TurnLaws
 pub mod WholeLaws
+pub mod UnderWayLaws
+pub mod StepLaws

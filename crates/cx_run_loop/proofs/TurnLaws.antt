@@ -18,6 +18,8 @@ use Rattle.cx_chk.specs.declared.checkpoint.Checkpoint.{Checkpoint}
 use Rattle.cx_core_buffers.specs.Checkpoints.{HoldsState}
 use Rattle.cx_core_buffers.specs.Gathering.{piece_of}
 use Rattle.cx_keep.specs.Keeping.{Keeper, IsAppended, AppendMoments}
+use Rattle.cx_keep.specs.Beginning.{newest_left}
+use Rattle.cx_keep.specs.Trails.{NewestIs}
 use Rattle.law_parts.specs.Beginnings.{Beginning, Afresh, From, run_of}
 use Rattle.law_parts.specs.Runs.{Run}
 use Rattle.law_parts.specs.Totals.{undivided_from}
@@ -33,7 +35,8 @@ use Rattle.cx_core.specs.Steps.{Counts}
 use Rattle.cx_core.specs.Texts.{text_of_piece}
 use Rattle.law_course.specs.Beginnings.{GoesOn, beginning_of, lengths_found}
 use Rattle.law_course.specs.Courses.{StatesPackAgain, checkpoint_of}
-use Rattle.law_course.specs.Works.{KeptRun, WorksFollow, lengths_done, works_by, output_found}
+use Rattle.law_course.specs.Works.{KeptRun, WorksFollow, lengths_done, newest_after, works_by, output_found}
+use Rattle.cx_run_loop.specs.Advances.{HasSaved, IsSave, Saves, SavesOn}
 use Rattle.cx_run_loop.specs.Going.{Setting, Place, IsBehind, IsGoing, IsKept, IsDriving, IsDriven, IsImageOf, Moves, MovesOn, LeavesImages, Steps, KeepsEvent, EventMoments, run_in, trace_in, kept_in, handed}
 use Rattle.cx_run_loop.specs.Laws.{DriveLaws}
 use Rattle.cx_run_loop.proofs.Works.{next_is, driven_quiet, images_quiet, is_packed, text_driven, text_images, state_driven, state_images}
@@ -100,6 +103,18 @@ counted_as r goes so_far is done = fun_ext (λ v.
     ∙ ap (λ (n : ℕ). n + length (output_of var done))
     (ap (λ (n : Lengths). n v) is ∙ sym begun)
     ∙ sym (length-append (output_found r var) (output_of var done)))
+
+-- the newest checkpoint after one that was just saved
+newest_last : (newest : Option ℕ) (es : List Entry) (i : ℕ) (state : State)
+    → newest_after newest (es ++ Saved i state ∷ []) ≡ Some i
+newest_last newest [] i state = refl
+newest_last newest (Wrote w j text other ∷ es) i state = newest_last newest es i state
+newest_last newest (Turned k j other ∷ es) i state = newest_last newest es i state
+newest_last newest (Overflowed k j other ∷ es) i state = newest_last newest es i state
+newest_last newest (Exchanged vars path other ∷ es) i state = newest_last newest es i state
+newest_last newest (Tested w path other ∷ es) i state = newest_last newest es i state
+newest_last newest (Rotated other ∷ es) i state = newest_last newest es i state
+newest_last newest (Saved j other ∷ es) i state = newest_last (Some j) es i state
 
 module _ (q : Run) (trace : Trace) (r : KeptRun) (follow : WorksFollow r)
     (goes : GoesOn r.setup r.rules r.found)
@@ -172,6 +187,25 @@ module _ (q : Run) (trace : Trace) (r : KeptRun) (follow : WorksFollow r)
       (packed iteration hands.0 leaves.1.state key hands.2) moments
   event_images End leaves key hands moments = images_quiet r before old new moments x
 
+  pub event_saved : (iteration : ℕ) → Leaves r.setup was is (Save iteration)
+      → is.buffers.state.key ≡ r.key → HandsOut q trace is before now (Save iteration)
+      → IsDriven r now new → HasSaved r is.buffers.state now new
+  event_saved iteration leaves key hands y =
+      let added : now ≡ before ++ Saved iteration hands.0 ∷ [] = hands.1 in
+      let named : iteration ≡ is.buffers.state.iteration = sym hands.2.iteration_is in
+      record {
+        before = before;
+        state = hands.0;
+        last = added
+            ∙ ap (λ (i : ℕ). before ++ Saved i hands.0 ∷ []) named;
+        checkpoint = packed iteration hands.0 leaves.1.state key hands.2
+            ∙ ap (λ (i : ℕ). checkpoint_of r.setup r.key i hands.0 (lengths_done r before)) named;
+        newest = subst (λ (n : Option ℕ). NewestIs new.seen n)
+            (ap (λ (d : List Entry). newest_after (newest_left r.found) d) added
+            ∙ newest_last (newest_left r.found) before iteration hands.0
+            ∙ ap (λ (i : ℕ). Some i) named) y.stands.newest_is;
+      }
+
 -- a run that goes on before an event is over after it only where that is the end
 pub over_by : (q : Run) (trace : Trace) (setup : Setup) (before now : List Entry) (was is : Cores)
     (event : Event) → Leaves setup was is event → HandsOut q trace is before now event
@@ -241,6 +275,21 @@ module _ (s : Setting) (laws : DriveLaws s.wire s.job s.rules) (was is : Place s
       (works t) was.is.core is.is.core was.view new y event leaves (step.key ∙ key)
       (step.hands t) (moments d)
 
+  pub turn_saved : (s.disk → KeepsEvent (setup_of s.job) is.is.core was.view is.view event)
+      → IsSave event → s.disk → s.wire → IsDriven (kept_in s found) (handed x) was.view
+      → HasSaved (kept_in s found) is.is.core.buffers.state (handed there) is.view
+  turn_saved keeps save d t y =
+      event_saved (run_in s found) (trace_in s found) (kept_in s found)
+      (laws.follow found y.of_run) (laws.goes_on found y.of_run) laws.pack
+      (setup_is s.job s.rules (begins_in (setup_of s.job) found))
+      (so_far_is s.job s.rules found)
+      (handed x) (handed there) (works_left (run_in s found) (trace_in s found) step.there.world)
+      (works t) was.is.core is.is.core was.view is.view y save.0
+      (subst (λ (e : Event). Leaves (setup_of s.job) was.is.core is.is.core e) save.1 leaves)
+      (step.key ∙ key)
+      (subst (λ (e : Event). HandsOut (run_in s found) (trace_in s found) is.is.core (handed x)
+      (handed there) e) save.1 (step.hands t)) (turn_driven keeps d t y)
+
 pub turn_moves : (s : Setting) (laws : DriveLaws s.wire s.job s.rules) (was is : Place s)
     (event : Event) → was.is.core.outcome ≡ Going → was.is.core.buffers.state.key ≡ s.job.key
     → Steps s.wire s.job s.rules was.is is.is event
@@ -249,6 +298,19 @@ pub turn_moves : (s : Setting) (laws : DriveLaws s.wire s.job s.rules) (was is :
 turn_moves s laws was is event going key steps keeps found first x = record {
   there = there s laws was is event going key steps found first x;
   driven = turn_driven s laws was is event going key steps found first x keeps;
+}
+
+pub turn_saves : (s : Setting) (laws : DriveLaws s.wire s.job s.rules) (was is : Place s)
+    (event : Event) → was.is.core.outcome ≡ Going → was.is.core.buffers.state.key ≡ s.job.key
+    → Steps s.wire s.job s.rules was.is is.is event
+    → (s.disk → KeepsEvent (setup_of s.job) is.is.core was.view is.view event)
+    → IsSave event → SavesOn s was is
+turn_saves s laws was is event going key steps keeps save found first x = record {
+  moves = record {
+    there = there s laws was is event going key steps found first x;
+    driven = turn_driven s laws was is event going key steps found first x keeps;
+  };
+  saved = turn_saved s laws was is event going key steps found first x keeps save;
 }
 
 -- ---- turns one after another
@@ -262,6 +324,19 @@ moves_more s was mid is one two found first x =
     let a : Moves s found first was mid x = one found first x in
     let b : Moves s found first mid is a.there = two found first a.there in
     record { there = b.there; driven = λ d t y. b.driven d t (a.driven d t y) }
+
+pub saves_more : (s : Setting) (was mid is : Place s) → MovesOn s was mid → SavesOn s mid is
+    → SavesOn s was is
+saves_more s was mid is one two found first x =
+    let a : Moves s found first was mid x = one found first x in
+    let b : Saves s found first mid is a.there = two found first a.there in
+    record {
+      moves = record {
+        there = b.moves.there;
+        driven = λ d t y. b.moves.driven d t (a.driven d t y);
+      };
+      saved = λ d t y. b.saved d t (a.driven d t y);
+    }
 
 pub images_none : (s : Setting) (was : Place s) → LeavesImages s was was.view
 images_none s was found first x d t y = started was.view (IsImageOf (kept_in s found))

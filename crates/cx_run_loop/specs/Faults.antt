@@ -1,9 +1,14 @@
 -- Faults of the layers below as those of a run, and how the counts of the devices tell of them.
-use Rattle.std.specs.Prelude.{◌≤◌, Result, Ok, Err}
+use Rattle.std.specs.Prelude.{◌≤◌, ◌≡◌, Option, Result, Ok, Err}
+use Rattle.cx_plan.specs.declared.job.Job.{Job}
+use Rattle.cx_disk.specs.Disk.{View}
+use Rattle.cx_disk.specs.Moments.{IsQuiet}
 use Rattle.cx_disk.specs.declared.disk.DiskFault.{DiskFault}
 use Rattle.cx_disk.specs.declared.disk.DiskFault.TheVariants as disk
 use Rattle.cx_keep.specs.declared.fault.BeginFault.{BeginFault}
 use Rattle.cx_keep.specs.declared.fault.BeginFault.TheVariants as begin
+use Rattle.cx_keep.specs.Beginning.{IsRefusal}
+use Rattle.cx_keep.specs.Tests.{begun}
 use Rattle.cx_core.specs.declared.answers.CoreFault.{CoreFault}
 use Rattle.cx_core.specs.declared.answers.CoreFault.TheVariants as core
 use Rattle.cx_run_loop.specs.declared.fault.DriveFault.{DriveFault}
@@ -40,3 +45,17 @@ pub record Stops {A : Type 0} (disk wire : Count) (result : Result A DriveFault)
   pub disk_later : disk.old ≤ disk.new
   pub wire_later : wire.old ≤ wire.new
   pub why : Why disk wire result
+
+-- a start that was refused: why, and no byte has changed
+pub record RefusesStart (job : Job) (tells : Type 0) (old new : View)
+    (fault : BeginFault) : Type 0 where
+  pub refusal : IsRefusal fault
+  pub began : tells → begun job old.seen ≡ Err fault
+  pub quiet : tells → IsQuiet old new
+
+-- why a run didn't begin
+abbrev pub StopsStart : Job → (tells : Type 0) → (old new : View) → Count → DriveFault → Type 0
+StopsStart job tells old new disk (faults.Recovery fault) = RefusesStart job tells old new fault
+StopsStart job tells old new disk faults.Disk = HasRisen disk
+StopsStart job tells old new disk faults.Wire = ⊥
+StopsStart job tells old new disk faults.Memory = Unit {0}

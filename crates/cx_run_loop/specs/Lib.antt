@@ -4,3 +4,5 @@ pub mod Faults
 pub mod Numbers
 pub mod Going
 pub mod Laws
+pub mod Advances
+pub mod UnderWay

@@ -24,7 +24,7 @@ ghost use Rattle.cx_run_loop.specs.Going.{EndsAt, IsGoing, LeavesImages, MovesOn
 
 use crate::fault::DriveFault;
 use crate::laws::drive_laws;
-use crate::turn::turn;
+use crate::steps::Run;
 use cx_chk::Checkpoint;
 use cx_core::{Core, Outcome, core_stands};
 use cx_disk::Disk;
@@ -68,79 +68,16 @@ pub fn drive<D: Disk, W: Wire, T: Turns>(
     ensures scalars { IfOk result (LendsScalars job.now) }
 {
     drive_laws(job);
-    let (keep, found) = Keep::begin(alloc, disk, job)?;
-    drive_from(alloc, job, routines, keep, found, disk, wire, turns, meter)
+    let (run, _found) = Run::begin(alloc, job, disk)?;
+    run_to_end(alloc, job, routines, run, disk, wire, turns, meter)
 }
 
-/// A run of a job whose keeper has begun and found a checkpoint or none.
-fn drive_from<D: Disk, W: Wire, T: Turns>(
-    alloc: Global,
-    job: &Job,
-    routines: &[Box<dyn Routine>],
-    keep: Keep,
-    found: Option<Checkpoint>,
-    disk: &mut D,
-    wire: &mut W,
-    turns: &mut T,
-    meter: &mut Meter,
-) -> Result<Core, DriveFault>
-    requires job { IsReady job.now }
-    requires routines { FitJob (map spec_of routines.now) job.now }
-    requires parts { part_count (parts_of job.now.shape job.now.cut) ≤ W.parts wire.old }
-    requires mounted { IsTrue (D.mounted disk.old) }
-    requires files { D.file_count disk.old ≡ count_with (output_count (setup_of job.now)) }
-    requires names { (D.folders disk.old).names ≡ output_names (setup_of job.now) }
-    requires short { HasShortNames (setup_of job.now) }
-    requires empty { AreEmpty (W.queue wire.old) }
-    requires keeper { (keep ≡ keeper_of job.now found)
-        × HasLengths (output_count (setup_of job.now)) found }
-    requires fits { IfSome found (λ c. fits_job job.now c ≡ true) }
-    requires counts { D.tells → AreCounted keep.lengths (D.view disk.old) }
-    requires slots { D.tells → SlotsSettled (D.view disk.old) }
-    ensures runs { IfOk result (λ core. RunsFrom
-        (setting D.Disk W.Wire job.now (map rule routines.now)) found
-        (counts meter.old (W.received wire.old) (W.sum wire.old)) (D.view disk.old)
-        (place_at D.Disk W.Wire core disk.new wire.new meter.new)) }
-    ensures moments { RunLeaves (setting D.Disk W.Wire job.now (map rule routines.now)) found
-        (D.view disk.old) (D.view disk.new) }
-    ensures folders { D.folders disk.new ≡ D.folders disk.old }
-    ensures begun { T.begun turns.new ≡ T.begun turns.old }
-    ensures stops { Stops
-        (record { old = D.faults disk.old; new = D.faults disk.new })
-        (record { old = W.faults wire.old; new = W.faults wire.new }) result }
-{
-    let core = start(alloc, job, &found)?;
-    run_to_end(alloc, job, routines, keep, core, disk, wire, turns, meter)
-}
-
-/// A core at the start of a run from a checkpoint or from the job's start.
-fn start(alloc: Global, job: &Job, found: &Option<Checkpoint>) -> Result<Core, DriveFault>
-    requires job { IsReady job.now }
-    requires fits { IfSome found.now (λ c. fits_job job.now c ≡ true) }
-    requires lengths { HasLengths (output_count (setup_of job.now)) found.now }
-    ensures begins { (told : Bool) (rules : List Rule) (queue : ℕ → ℕ → List (Sent (IsTrue told)))
-        (first : Counts) → AreEmpty queue → (IsTrue told → first.sum < 2 ^ 64)
-        → IfOk result (λ core. Begins (IsTrue told)
-        (run_of job.now rules (begins_in (setup_of job.now) found.now)) first core queue) }
-    ensures can { IsBeginning (setup_of job.now) (begins_in (setup_of job.now) found.now) }
-    ensures key { IfOk result (λ core. core.buffers.state.key ≡ job.now.key) }
-    ensures lengths { IfOk result
-        (λ core. core.lengths ≡ lengths_first (setup_of job.now) found.now) }
-    ensures going { IfOk result (λ core. core.outcome ≡ outcomes.Going) }
-    ensures stops { (m n : ℕ) → Stops
-        (record { old = m; new = m }) (record { old = n; new = n }) result }
-{
-    drive_laws(job);
-    Ok(Core::start(alloc, job, found.as_ref())?)
-}
-
-/// A run from where its core is to its end.
+/// A run from where it is to its end.
 fn run_to_end<D: Disk, W: Wire, T: Turns>(
     alloc: Global,
     job: &Job,
     routines: &[Box<dyn Routine>],
-    mut keep: Keep,
-    mut core: Core,
+    mut run: Run,
     disk: &mut D,
     wire: &mut W,
     turns: &mut T,
@@ -153,14 +90,14 @@ fn run_to_end<D: Disk, W: Wire, T: Turns>(
     requires files { D.file_count disk.old ≡ count_with (output_count (setup_of job.now)) }
     requires names { (D.folders disk.old).names ≡ output_names (setup_of job.now) }
     requires short { HasShortNames (setup_of job.now) }
-    requires going { IsGoing (setting D.Disk W.Wire job.now (map rule routines.now)) keep
-        (place_at D.Disk W.Wire core disk.old wire.old meter.old) }
+    requires going { IsGoing (setting D.Disk W.Wire job.now (map rule routines.now)) run.keeper
+        (place_at D.Disk W.Wire run.core disk.old wire.old meter.old) }
     ensures ends { IfOk result (λ now. EndsAt
         (setting D.Disk W.Wire job.now (map rule routines.now))
-        (place_at D.Disk W.Wire core disk.old wire.old meter.old)
+        (place_at D.Disk W.Wire run.core disk.old wire.old meter.old)
         (place_at D.Disk W.Wire now disk.new wire.new meter.new)) }
     ensures moments { LeavesImages (setting D.Disk W.Wire job.now (map rule routines.now))
-        (place_at D.Disk W.Wire core disk.old wire.old meter.old) (D.view disk.new) }
+        (place_at D.Disk W.Wire run.core disk.old wire.old meter.old) (D.view disk.new) }
     ensures folders { D.folders disk.new ≡ D.folders disk.old }
     ensures begun { T.begun turns.new ≡ T.begun turns.old }
     ensures stops { Stops
@@ -168,60 +105,8 @@ fn run_to_end<D: Disk, W: Wire, T: Turns>(
         (record { old = W.faults wire.old; new = W.faults wire.new }) result }
 {
     core_stands(job);
-    run(
-        alloc, job, routines, &mut keep, &mut core, disk, wire, turns, meter,
-    )?;
-    keep.finish(disk)?;
-    Ok(core)
-}
-
-/// Turn after turn, until the run is over.
-fn run<D: Disk, W: Wire, T: Turns>(
-    alloc: Global,
-    job: &Job,
-    routines: &[Box<dyn Routine>],
-    keep: &mut Keep,
-    core: &mut Core,
-    disk: &mut D,
-    wire: &mut W,
-    turns: &mut T,
-    meter: &mut Meter,
-) -> Result<(), DriveFault>
-    requires job { IsReady job.now }
-    requires routines { FitJob (map spec_of routines.now) job.now }
-    requires parts { part_count (parts_of job.now.shape job.now.cut) ≤ W.parts wire.old }
-    requires mounted { IsTrue (D.mounted disk.old) }
-    requires files { D.file_count disk.old ≡ count_with (output_count (setup_of job.now)) }
-    requires names { (D.folders disk.old).names ≡ output_names (setup_of job.now) }
-    requires short { HasShortNames (setup_of job.now) }
-    requires going { IsGoing (setting D.Disk W.Wire job.now (map rule routines.now)) keep.old
-        (place_at D.Disk W.Wire core.old disk.old wire.old meter.old) }
-    ensures moves { OnOk result (MovesOn (setting D.Disk W.Wire job.now (map rule routines.now))
-        (place_at D.Disk W.Wire core.old disk.old wire.old meter.old)
-        (place_at D.Disk W.Wire core.new disk.new wire.new meter.new)) }
-    ensures over { OnOk result (core.new.outcome ≢ outcomes.Going) }
-    ensures moments { LeavesImages (setting D.Disk W.Wire job.now (map rule routines.now))
-        (place_at D.Disk W.Wire core.old disk.old wire.old meter.old) (D.view disk.new) }
-    ensures going { OnOk result (IsGoing
-        (setting D.Disk W.Wire job.now (map rule routines.now)) keep.new
-        (place_at D.Disk W.Wire core.new disk.new wire.new meter.new)) }
-    ensures mounted { IsTrue (D.mounted disk.new) }
-    ensures files { D.file_count disk.new ≡ count_with (output_count (setup_of job.now)) }
-    ensures folders { D.folders disk.new ≡ D.folders disk.old }
-    ensures begun { T.begun turns.new ≡ T.begun turns.old }
-    ensures stops { Stops
-        (record { old = D.faults disk.old; new = D.faults disk.new })
-        (record { old = W.faults wire.old; new = W.faults wire.new }) result }
-{
-    'turns: while goes_on(core) {
-        turn(alloc, job, routines, keep, core, disk, wire, turns, meter)?;
+    'turns: while run.goes_on() {
+        run.advance(alloc, u32::MAX, job, routines, disk, wire, turns, meter)?;
     }
-    Ok(())
-}
-
-/// Whether a run goes on.
-fn goes_on(core: &Core) -> bool
-    ensures { IsTrue result ↔ (core.now.outcome ≡ outcomes.Going) }
-{
-    matches!(core.outcome(), Outcome::Going)
+    run.finish(disk)
 }

@@ -6,7 +6,11 @@ mod event;
 mod fault;
 mod laws;
 mod numbers;
+mod steps;
 mod turn;
+mod turns;
 
 pub use driving::drive;
 pub use fault::DriveFault;
+pub use steps::Run;
+pub use turn::Advance;

@@ -10,13 +10,14 @@ ghost use Rattle.cx_core.specs.Left.{steps_left};
 ghost use Rattle.cx_core.specs.Starts.{IsReady};
 ghost use Rattle.cx_core.specs.Steps.{IsRunning, stands_at};
 ghost use Rattle.cx_core.specs.declared.answers.Outcome.TheVariants as outcomes;
+ghost use Rattle.cx_run_loop.specs.Advances.{FitsOutcome, IsSave, SavesOn};
 ghost use Rattle.cx_run_loop.specs.Faults.{Stops};
 ghost use Rattle.cx_run_loop.specs.Going.{IsGoing, LeavesImages, MovesOn, Steps, place_at, setting};
 
 use crate::event::keep_event;
 use crate::fault::DriveFault;
 use crate::laws::drive_laws;
-use cx_core::{Core, Event, core_stands};
+use cx_core::{Core, Event, Outcome, core_stands};
 use cx_disk::Disk;
 use cx_keep::Keep;
 use cx_plan::Job;
@@ -24,6 +25,17 @@ use cx_rule::{Meter, Routine};
 use cx_turns::Turns;
 use cx_wire::Wire;
 use std::alloc::Global;
+
+/// What came of some turns.
+#[derive(Clone, Copy, Debug, PartialEq, Eq)]
+pub enum Advance {
+    /// The run goes on, by as many events as were asked for.
+    More,
+    /// A checkpoint was saved by the last event, and the run goes on.
+    Saved,
+    /// The run is over.
+    Over,
+}
 
 /// One turn of a run that goes on.
 pub(crate) fn turn<D: Disk, W: Wire, T: Turns>(
@@ -36,7 +48,7 @@ pub(crate) fn turn<D: Disk, W: Wire, T: Turns>(
     wire: &mut W,
     turns: &mut T,
     meter: &mut Meter,
-) -> Result<(), DriveFault>
+) -> Result<Advance, DriveFault>
     requires job { IsReady job.now }
     requires routines { FitJob (map spec_of routines.now) job.now }
     requires parts { part_count (parts_of job.now.shape job.now.cut) ≤ W.parts wire.old }
@@ -50,6 +62,11 @@ pub(crate) fn turn<D: Disk, W: Wire, T: Turns>(
     ensures moves { OnOk result (MovesOn (setting D.Disk W.Wire job.now (map rule routines.now))
         (place_at D.Disk W.Wire core.old disk.old wire.old meter.old)
         (place_at D.Disk W.Wire core.new disk.new wire.new meter.new)) }
+    ensures saved { IfOk result (λ came. came ≡ Advance.Saved
+        → SavesOn (setting D.Disk W.Wire job.now (map rule routines.now))
+        (place_at D.Disk W.Wire core.old disk.old wire.old meter.old)
+        (place_at D.Disk W.Wire core.new disk.new wire.new meter.new)) }
+    ensures over { IfOk result (λ came. FitsOutcome came core.new.outcome) }
     ensures moments { LeavesImages (setting D.Disk W.Wire job.now (map rule routines.now))
         (place_at D.Disk W.Wire core.old disk.old wire.old meter.old) (D.view disk.new) }
     ensures going { OnOk result (IsGoing
@@ -68,7 +85,22 @@ pub(crate) fn turn<D: Disk, W: Wire, T: Turns>(
 {
     drive_laws(job);
     let event = step(alloc, job, routines, core, wire, turns, meter)?;
-    keep_event(alloc, job, keep, core, event, disk)
+    keep_event(alloc, job, keep, core, event, disk)?;
+    Ok(advance_by(core, event))
+}
+
+/// What came of an event.
+fn advance_by(core: &Core, event: Event) -> Advance
+    ensures over { FitsOutcome result core.now.outcome }
+    ensures saved { result ≡ Advance.Saved → IsSave event }
+{
+    match core.outcome() {
+        Outcome::Going => match event {
+            Event::Save(_) => Advance::Saved,
+            _ => Advance::More,
+        },
+        _ => Advance::Over,
+    }
 }
 
 /// One event of the core, which its source of turns picks.

@@ -4,7 +4,7 @@ use Rattle.cx_plan.specs.Steering.{item_at}
 use Rattle.cx_rule.specs.Routine.{rule_at}
 use Rattle.cx_flat.specs.declared.op.Op.TheVariants.{Apply}
 use Rattle.cx_core_part.proofs.FrameLaws.{names_well, is_known, can_turn, turns_at}
-use Rattle.cx_core_part.proofs.TurnLaws.{turn_keeps, apply_computes}
+use Rattle.cx_core_part.proofs.TurnLaws.{never_falls, turn_keeps, apply_computes}
 use Rattle.cx_core_part.proofs.items.apply.Goals as goal
 
 pub turn-requires-clause-item : goal.turn-requires-clause-item
@@ -33,3 +33,11 @@ returns-clause-numbers g c = λ r k run by patch.
     c.args.meter.now c.turn.new.meter c.turn.result c.turn.ensures r k run by patch
     (names_well c.args.job.now c.requires.job (Apply c.args.item) c.requires.operation).0.1
     (names_well c.args.job.now c.requires.job (Apply c.args.item) c.requires.operation).1
+
+pub returns-clause-later : goal.returns-clause-later
+returns-clause-later g c =
+    let rules = map (λ r. (goal.Routine-dyn g (r.vtable, r.value)).rule r.value)
+    c.args.routines.now in
+    let x = item_at (setup_of c.args.job.now) c.args.item c.args.iteration in
+    never_falls c.args.patch.now (rule_at rules x.routine) x c.args.iteration c.turn.new.patch
+    c.args.meter.now c.turn.new.meter c.turn.result c.turn.ensures

@@ -1,10 +1,12 @@
-use Rattle.std.proofs.Common.{◌≤◌, map, ap, arith, refl, ◌∙◌}
+use Rattle.std.proofs.Common.{◌≤◌, ◌<◌, ◌+◌, ℕ, map, ap, arith, refl, ◌∙◌}
 use Rattle.std.specs.Prelude.{IsTrue}
 use Rattle.cx_disk.specs.Disk.{Folders}
+use Rattle.cx_plan.specs.Setups.{setup_of}
+use Rattle.cx_core.specs.Left.{steps_left}
 use Rattle.cx_core.specs.Steps.{stands_at}
 use Rattle.cx_run_loop.specs.Going.{Setting, Place}
-use Rattle.cx_run_loop.proofs.TurnLaws.{moves_none, moves_more, images_none, images_more}
-use Rattle.cx_run_loop.proofs.driving.run.Goals as goal
+use Rattle.cx_run_loop.proofs.TurnLaws.{moves_none, moves_more, images_none, images_more, saves_more}
+use Rattle.cx_run_loop.proofs.turns.take_turns.Goals as goal
 
 pub turns-init : goal.turns-init
 turns-init g c =
@@ -25,6 +27,8 @@ turns-init g c =
       moves = moves_none s was;
       moments = images_none s was;
       going = c.requires.going;
+      outcome = c.requires.outcome;
+      less = omega arith;
       parts = refl;
       mounted = c.requires.mounted;
       files = c.requires.files;
@@ -70,11 +74,17 @@ turns-preserved g c =
     c.turns.invariant.wire_later in
     let f : g.W.Wire.faults c.turns.wire ≤ g.W.Wire.faults c.turn.new.wire =
     c.in_ok-turn.ensures.stops.wire_later in
+    let i : steps_left (setup_of c.args.job.now) c.turns.core.pace + c.turns.counter
+    ≤ steps_left (setup_of c.args.job.now) c.args.core.now.pace = c.turns.invariant.less in
+    let j : steps_left (setup_of c.args.job.now) c.turn.new.core.pace
+    < steps_left (setup_of c.args.job.now) c.turns.core.pace = c.in_ok-turn.ensures.less in
     record {
       moves = moves_more s was mid now c.turns.invariant.moves c.in_ok-turn.ensures.moves;
       moments = images_more s was mid now.view c.turns.invariant.moves c.turns.invariant.moments
           c.in_ok-turn.ensures.moments;
       going = c.in_ok-turn.ensures.going;
+      outcome = c.in_ok-turn.ensures.over;
+      less = omega arith;
       parts = c.in_ok-turn.ensures.parts ∙ c.turns.invariant.parts;
       mounted = c.in_ok-turn.ensures.mounted;
       files = c.in_ok-turn.ensures.files;

@@ -7,8 +7,8 @@ use Rattle.law_parts.specs.Beginnings.{run_of}
 use Rattle.cx_core.specs.Starts.{CanBegin, begins_in}
 use Rattle.cx_core.specs.Steps.{Begins}
 use Rattle.cx_run_loop.proofs.StartLaws.{can_start, is_beginning}
-use Rattle.cx_run_loop.proofs.driving.start.Goals as goal
-use Rattle.cx_run_loop.proofs.driving.start.Goals.{After-as_ref}
+use Rattle.cx_run_loop.proofs.steps.start.Goals as goal
+use Rattle.cx_run_loop.proofs.steps.start.Goals.{After-as_ref}
 
 lent : (c : After-as_ref) → option_copied c.as_ref.result ≡ c.args.found.now
 lent c = search rules

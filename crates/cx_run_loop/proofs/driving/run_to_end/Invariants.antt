@@ -6,7 +6,7 @@ use Rattle.cx_outputs.specs.Names.{output_count, output_names}
 use Rattle.cx_core.specs.Left.{steps_left}
 use Rattle.cx_core.specs.Steps.{stands_at}
 use Rattle.cx_run_loop.specs.Going.{Setting, Place, IsGoing, LeavesImages, MovesOn}
-use Rattle.cx_run_loop.proofs.driving.run.Given as goal
+use Rattle.cx_run_loop.proofs.driving.run_to_end.Given as goal
 
 abbrev pub invariant-turns : goal.invariant-turns
 invariant-turns g l =
@@ -17,19 +17,19 @@ invariant-turns g l =
       disk = g.D.Disk.tells;
     } in
     let was : Place s = record {
-      is = stands_at l.initial.core (g.W.Wire.queue l.initial.wire) l.initial.meter
+      is = stands_at l.initial.run.core (g.W.Wire.queue l.initial.wire) l.initial.meter
           (g.W.Wire.received l.initial.wire) (g.W.Wire.sum l.initial.wire);
       view = g.D.Disk.view l.initial.disk;
     } in
     let is : Place s = record {
-      is = stands_at l.core (g.W.Wire.queue l.wire) l.meter (g.W.Wire.received l.wire)
+      is = stands_at l.run.core (g.W.Wire.queue l.wire) l.meter (g.W.Wire.received l.wire)
           (g.W.Wire.sum l.wire);
       view = g.D.Disk.view l.disk;
     } in
     record {
       moves : MovesOn s was is;
       moments : LeavesImages s was is.view;
-      going : IsGoing s l.keep is;
+      going : IsGoing s l.run.keeper is;
       parts : g.W.Wire.parts l.wire ≡ g.W.Wire.parts l.initial.wire;
       mounted : IsTrue (g.D.Disk.mounted l.disk);
       files : g.D.Disk.file_count l.disk ≡ count_with (output_count (setup_of l.job));
@@ -41,4 +41,4 @@ invariant-turns g l =
     }
 
 abbrev pub decreases-turns : goal.decreases-turns
-decreases-turns g l = steps_left (setup_of l.job) l.core.pace
+decreases-turns g l = steps_left (setup_of l.job) l.run.core.pace
