@@ -8,6 +8,7 @@ pub mod FileLaws
 pub mod ChainLaws
 pub mod NamedLaws
 pub mod RestartLaws
+pub mod StopLaws
 mod Rows
 pub mod SteerKeyLaws
 pub mod SteerFileLaws

@@ -32,7 +32,7 @@ newest_of files = by (newest_below slot_count files) (newest_law slot_count file
     )
 
 -- a trail of one job is one of another that goes on with it
-trail_of_other : (a b : Job) (rules : List Rule) (image : Files) → Rise a.out_vars
+pub trail_of_other : (a b : Job) (rules : List Rule) (image : Files) → Rise a.out_vars
     → ((newest : ℕ) → NewestIs image (Some newest) → AreAlikeTo newest a b)
     → IsTrail (course_in a rules) image → IsTrail (course_in b rules) image
 trail_of_other a b rules image rise alike trail =
@@ -79,10 +79,12 @@ ends_alike last is trails =
     let leaves = is.obeys.run is.told last.job is.run (inl trails) in
     record {
       began = trails;
-      output = leaves.output;
-      last_is = leaves.last;
-      done = leaves.done;
-      ended = leaves.ended;
+      ends = record {
+        output = leaves.output;
+        last_is = leaves.last;
+        done = leaves.done;
+        ended = leaves.ended;
+      };
       work = leaves.work;
     }
 

@@ -1,3 +1,4 @@
 pub mod Settings
 pub mod Chains
 pub mod Restarts
+pub mod Stops
