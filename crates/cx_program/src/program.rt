@@ -5,7 +5,7 @@ ghost use Rattle.std.specs.Process.{exit_status};
 ghost use Rattle.cx_run.specs.Answers.{IsStatusFor};
 
 use crate::routines::answer;
-use cx_disk::FolderDisk;
+use cx_folder::{FolderDisk, HostFolder};
 use cx_rule::Meter;
 use cx_run::{FolderShelf, StdoutSink};
 use cx_text::{Memory, Text};
@@ -55,7 +55,7 @@ fn in_folder(rt: &HostRuntime, words: &[Text]) -> Result<u8, Memory>
 {
     let alloc = rt.alloc();
     let mut shelf = FolderShelf::new(rt.clone()?);
-    let mut disk = FolderDisk::new(rt.clone()?, alloc);
+    let mut disk = FolderDisk::new(HostFolder::new(rt.clone()?, alloc), alloc);
     let mut wire = MemoryWire::new(alloc, MOST_PARTS)?;
     let mut turns = SeededTurns::new();
     let mut out = StdoutSink::new(rt.clone()?);
