@@ -1,7 +1,6 @@
 -- The next operation of a part, done on a core.
 use Rattle.std.proofs.Common.{◌≡◌, ℕ, ◌<◌, ◌≤◌, ◌%◌, ◌^◌, inl, inr, Bool, true, ℤ, List, set, length, Option, Some, None, refl, sym, ap, ◌∙◌, subst, arith}
 use Rattle.std.specs.Prelude.{slice_get, IsTrue, IsErrOf, OnOk, Result, Ok, Err}
-use Rattle.cx_plan.specs.declared.item.Item.{Item}
 use Rattle.cx_plan.specs.declared.job.Job.{Job}
 use Rattle.cx_plan.specs.declared.variable.VarId.{VarId}
 use Rattle.cx_plan.specs.Setups.{setup_of}
@@ -20,6 +19,7 @@ use Rattle.law_parts.specs.Beginnings.{Beginning, Afresh, From, IsBeginning, run
 use Rattle.law_parts.specs.Nets.{net, within_lead}
 use Rattle.law_parts.specs.Runs.{Run, cut_of}
 use Rattle.law_parts.proofs.WholeRun.{IsRun, job_run, shape}
+use Rattle.cx_core_part.specs.Copies.{Copies}
 use Rattle.cx_core_part.specs.Frames.{IsPatchOf}
 use Rattle.cx_core_part.specs.Jobs.{IsChecked, IsCutOf, IsRunOf}
 use Rattle.cx_core_part.specs.Tests.{CanTest, tested_number}
@@ -375,7 +375,7 @@ on_ok (Ok x) h f = f h
 on_ok (Err e) h f = h
 
 -- a core of these fields
-abbrev pub with_pace : Paces → List PatchValue → List (List (Option Item)) → Given → Buffers
+abbrev pub with_pace : Paces → List PatchValue → List Copies → Given → Buffers
     → (met outcome : Outcome) → (lengths : List ℕ) → VarId → Cores
 with_pace pace patches items given buffers met outcome lengths section =
     record {

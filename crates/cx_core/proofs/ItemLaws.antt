@@ -1,10 +1,9 @@
 -- The items of parts, as one part goes on.
-use Rattle.std.proofs.Common.{◌≡◌, ℕ, zero, suc, ◌<◌, List, [], ◌∷◌, map, length, slice_get, Option, Some, arith, refl, sym, ap, ◌∙◌, get_or-set_same, length-set}
+use Rattle.std.proofs.Common.{◌≡◌, ℕ, zero, suc, ◌<◌, List, [], ◌∷◌, map, length, slice_get, Some, arith, refl, sym, ap, ◌∙◌, get_or-set_same, length-set}
 use Rattle.std.specs.Prelude.{ℤ, slice_index_or, slice_set}
-use Rattle.cx_plan.specs.declared.item.Item.{Item}
 use Rattle.cx_plan.specs.declared.variable.VarId.{VarId}
 use Rattle.cx_plan.specs.Setups.{Setup}
-use Rattle.cx_core_part.specs.Copies.{copies_at}
+use Rattle.cx_core_part.specs.Copies.{Copies, copies_at}
 use Rattle.cx_core_events.specs.Paces.{Paces, no_part, iteration_of}
 use Rattle.cx_core_events.specs.Steps.{moved_on}
 use Rattle.cx_core.specs.Cores.{items_in, items_of}
@@ -23,13 +22,13 @@ get_mapped f (y ∷ ys) (suc k) d l = get_mapped f ys k d (omega (arith, l))
 
 module _ (setup : Setup) (p : Paces) (k : ℕ) (l : k < length p.parts) where
   -- a part has those of its iteration
-  pub its_items : (items : List (List (Option Item))) → items ≡ items_of setup p
+  pub its_items : (items : List Copies) → items ≡ items_of setup p
       → slice_get items k ≡ Some (copies_at setup (iteration_of p k))
   its_items items is =
       ap (λ xs. slice_get xs k) is ∙ get_mapped (items_in setup) p.parts k no_part l
 
   -- and has them again behind its operation
-  pub items_moved : (items : List (List (Option Item))) → items ≡ items_of setup p
+  pub items_moved : (items : List Copies) → items ≡ items_of setup p
       → (scalars : VarId → ℤ)
       → slice_set items k (copies_at setup (iteration_of (moved_on setup p k scalars) k))
       ≡ items_of setup (moved_on setup p k scalars)
@@ -45,7 +44,7 @@ module _ (setup : Setup) (p : Paces) (k : ℕ) (l : k < length p.parts) where
       let many = ap (λ (q : Paces). length q.parts) e ∙ length-set p.parts k _ in
       omega (arith, l, many)
 
-  pub items_there : (items : List (List (Option Item))) → items ≡ items_of setup p
+  pub items_there : (items : List Copies) → items ≡ items_of setup p
       → k < length items
   items_there items is = below items k (copies_at setup (iteration_of p k)) (its_items items is)
     where

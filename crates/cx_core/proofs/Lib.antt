@@ -30,5 +30,6 @@ pub mod LeftLaws
 pub mod KeptKeys
 pub mod ItemLaws
 pub mod GoLaws
+pub mod RiseLaws
 pub mod GatherLaws
 pub mod OperateLaws

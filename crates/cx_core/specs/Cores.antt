@@ -1,6 +1,5 @@
 -- A core as contracts see it.
 use Rattle.std.specs.Prelude.{ℕ, Bool, List, map, length, Option, None, Some, slice_get}
-use Rattle.cx_plan.specs.declared.item.Item.{Item}
 use Rattle.cx_plan.specs.declared.variable.VarId.{VarId}
 use Rattle.cx_plan.specs.Setups.{Setup}
 use Rattle.cx_model.specs.declared.ends.End.{End}
@@ -11,7 +10,7 @@ use Rattle.cx_core_buffers.specs.Gathering.{Buffers}
 use Rattle.cx_core_events.specs.declared.standing.Standing.{Standing}
 use Rattle.cx_core_events.specs.Events.{events, lies_ahead}
 use Rattle.cx_core_events.specs.Paces.{Paces}
-use Rattle.cx_core_part.specs.Copies.{copies_at}
+use Rattle.cx_core_part.specs.Copies.{Copies, copies_at}
 use Rattle.cx_core.specs.declared.answers.Outcome.{Outcome}
 use Rattle.cx_core.specs.declared.answers.Outcome.TheVariants.{Done, Overflow, WhileLimit, OutputLimit}
 
@@ -22,7 +21,7 @@ use Rattle.cx_core.specs.declared.answers.Outcome.TheVariants.{Done, Overflow, W
 pub record Cores : Type 0 where
   pub pace : Paces
   pub patches : List PatchValue
-  pub items : List (List (Option Item))
+  pub items : List Copies
   pub given : Given
   pub buffers : Buffers
   pub met : Outcome
@@ -31,10 +30,10 @@ pub record Cores : Type 0 where
   pub section : VarId
 
 -- each part's items, with their parameters in the iteration that it is in
-abbrev pub items_in : Setup → Standing → List (Option Item)
+abbrev pub items_in : Setup → Standing → Copies
 items_in setup s = copies_at setup s.place.iteration
 
-abbrev pub items_of : Setup → Paces → List (List (Option Item))
+abbrev pub items_of : Setup → Paces → List Copies
 items_of setup p = map (items_in setup) p.parts
 
 -- the outcome of an end, and of none

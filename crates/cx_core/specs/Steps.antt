@@ -4,6 +4,7 @@ use Rattle.cx_plan.specs.declared.job.Job.{Job}
 use Rattle.cx_plan.specs.Setups.{setup_of}
 use Rattle.cx_rule.specs.Meter.{raised}
 use Rattle.cx_rule.specs.Routine.{Rule}
+use Rattle.cx_field.specs.Sweeps.{RoseWithin}
 use Rattle.cx_model.specs.Runs.{Lengths}
 use Rattle.law_network.specs.Machine.{World, Can, After, left, begun}
 use Rattle.law_network.specs.Machine as network
@@ -15,9 +16,13 @@ use Rattle.law_parts.specs.Beginnings.{Beginning, IsBeginning, run_of}
 use Rattle.law_parts.specs.Holding.{Held}
 use Rattle.law_parts.specs.Laws.{IsReachedState}
 use Rattle.law_parts.specs.Moves.{Message, Channel}
-use Rattle.law_parts.specs.Nets.{net, within_lead, taken_sum}
+use Rattle.law_parts.specs.Nets.{net, within_lead, taken_sum, costs}
 use Rattle.law_parts.specs.Runs.{Run, Oracle, parts_in, next_op, guided}
 use Rattle.law_parts.specs.Truths.{truth}
+use Rattle.cx_core_part.specs.Exchanges.{ReceivedWithin}
+use Rattle.cx_core_events.specs.declared.standing.Next.{Next}
+use Rattle.cx_core_events.specs.declared.standing.Next.TheVariants as next
+use Rattle.cx_core_events.specs.Paces.{Paces, op_of}
 use Rattle.cx_core.specs.declared.answers.Event.{Event}
 use Rattle.cx_core.specs.declared.answers.Event.TheVariants.{Part, Section, Save, End}
 use Rattle.cx_core.specs.Cores.{Cores, items_of}
@@ -70,6 +75,21 @@ pub record IsRunning (tells : Type 0) (job : Job) (rules : List Rule)
   pub begins : IsBeginning (setup_of job) beginning
   pub first : Counts
   pub at : IsAt tells (run_of job rules beginning) first is.core is.queue is.now
+
+-- ---- what is counted
+
+-- What was counted never falls, and rises by these costs at most: 0 counts points, 1 values
+-- received.
+pub record RisesWithin (costs : ℕ → ℕ) (before after : Counts) : Type 0 where
+  pub points : RoseWithin (costs 0) before.points after.points
+  pub values : ReceivedWithin (costs 1) before.values after.values
+
+-- what an event costs: that of a part its operation; those of the writer cost nothing
+abbrev pub event_costs : Run → Paces → Option Next → ℕ → ℕ
+event_costs r p (Some (next.Part k)) i = costs r i k (op_of p k)
+event_costs r p (Some next.Write) i = 0
+event_costs r p (Some next.End) i = 0
+event_costs r p None i = 0
 
 -- ---- which event
 

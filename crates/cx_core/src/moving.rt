@@ -12,12 +12,15 @@ ghost use Rattle.cx_core_place.specs.Steps.{IsReached, IsTested};
 ghost use Rattle.cx_core_events.specs.Paces.{iteration_of, op_of, part_of};
 ghost use Rattle.cx_core_events.specs.Events.{can_go};
 ghost use Rattle.cx_core_part.specs.Copies.{copies_at};
+ghost use Rattle.cx_core_part.specs.Jobs.{IsRunOf};
 ghost use Rattle.law_parts.specs.Beginnings.{Beginning, IsBeginning, run_of};
+ghost use Rattle.law_parts.specs.Nets.{costs};
+ghost use Rattle.law_parts.specs.Runs.{Run};
 ghost use Rattle.cx_core.specs.Cores.{items_of};
 ghost use Rattle.cx_core.specs.Moving.{MoveLaws, PartGoes, followed};
 ghost use Rattle.cx_core.specs.declared.answers.CoreFault.TheVariants as faults;
 ghost use Rattle.cx_core.specs.Starts.{IsReady};
-ghost use Rattle.cx_core.specs.Steps.{Counts, IsRunning, counts, stands_at};
+ghost use Rattle.cx_core.specs.Steps.{Counts, IsRunning, RisesWithin, counts, stands_at};
 
 use crate::answers::{CoreFault, Outcome};
 use crate::machine::Core;
@@ -66,6 +69,10 @@ pub(crate) fn go<W: Wire>(
         core.old core.new (W.queue wire.old) (W.queue wire.new)
         (counts meter.old (W.received wire.old) (W.sum wire.old))
         (counts meter.new (W.received wire.new) (W.sum wire.new))) }
+    ensures rises { (r : Run) → IsRunOf job.now r
+        → RisesWithin (λ i. costs r i part (op_of core.old.pace part))
+        (counts meter.old (W.received wire.old) (W.sum wire.old))
+        (counts meter.new (W.received wire.new) (W.sum wire.new)) }
     ensures parts { W.parts wire.new ≡ W.parts wire.old }
     ensures cause { HasCause CoreFault.Wire (W.faults wire.old) (W.faults wire.new) result }
 {

@@ -7,14 +7,17 @@ ghost use Rattle.cx_rule.specs.Jobs.{FitJob};
 ghost use Rattle.cx_cut.specs.Cuts.{part_count};
 ghost use Rattle.cx_cut.specs.Faults.{parts_of};
 ghost use Rattle.cx_field.specs.Patches.{IsScalar};
+ghost use Rattle.cx_field.specs.Sweeps.{RoseWithin};
 ghost use Rattle.cx_flat.specs.declared.op.Op.TheVariants as ops;
 ghost use Rattle.cx_core_buffers.specs.Boards.{front};
 ghost use Rattle.law_parts.specs.Holding.{joined};
+ghost use Rattle.law_parts.specs.Nets.{costs, points_of};
 ghost use Rattle.law_parts.specs.Runs.{Run, cut_of, parts_in};
 ghost use Rattle.cx_core_part.specs.Copies.{copies_at};
 ghost use Rattle.cx_core_part.specs.Frames.{IsPatchFor, IsPatchOf, IsInCut, KeepsFrame};
 ghost use Rattle.cx_core_part.specs.Jobs.{IsChecked, IsOperation, IsRunOf};
 ghost use Rattle.cx_core.specs.Moving.{AreFronts, CanOperate, HasFronts, Joins, LoopTests, Operates, Turns, all_fronts, fault_of, holdings};
+ghost use Rattle.cx_core.specs.Steps.{RisesWithin, counts};
 ghost use Rattle.cx_core.specs.declared.answers.CoreFault.TheVariants as faults;
 ghost use Rattle.cx_core.specs.declared.answers.Outcome.TheVariants as outcomes;
 
@@ -85,6 +88,9 @@ pub(crate) fn sweep(
         → IsPatchOf r.setup (cut_of r) k patch.old
         → IfOk result (Turns r k
         (ops.Sweep item) iteration patch.old patch.new meter.old meter.new) }
+    ensures rises { (r : Run) (k : ℕ) → IsRunOf job.now r
+        → IsPatchOf r.setup (cut_of r) k patch.old
+        → RoseWithin (points_of r k (ops.Sweep item)) meter.old meter.new }
 {
     match cx_core_part::sweep(job, items, routines, item, patch, iteration, meter) {
         Ok(()) => Ok(None),
@@ -115,6 +121,9 @@ pub(crate) fn apply(
         → IsPatchOf r.setup (cut_of r) k patch.old
         → IfOk result (Turns r k
         (ops.Apply item) iteration patch.old patch.new meter.old meter.new) }
+    ensures rises { (r : Run) (k : ℕ) → IsRunOf job.now r
+        → IsPatchOf r.setup (cut_of r) k patch.old
+        → RoseWithin (points_of r k (ops.Apply item)) meter.old meter.new }
 {
     match cx_core_part::apply(job, items, routines, item, patch, iteration, meter) {
         Ok(()) => Ok(None),
@@ -217,6 +226,10 @@ pub(crate) fn operate<W: Wire>(
         meter.old (W.received wire.old) (W.sum wire.old))
         (holdings patch.new boards.new gathering.new (W.queue wire.new)
         meter.new (W.received wire.new) (W.sum wire.new))) }
+    ensures rises { (r : Run) → IsRunOf job.now r
+        → RisesWithin (λ i. costs r i part op.now)
+        (counts meter.old (W.received wire.old) (W.sum wire.old))
+        (counts meter.new (W.received wire.new) (W.sum wire.new)) }
     ensures parts { W.parts wire.new ≡ W.parts wire.old }
     ensures cause { HasCause CoreFault.Wire (W.faults wire.old) (W.faults wire.new) result }
 {

@@ -1,16 +1,19 @@
 //! One event of a core.
-ghost use Rattle.std.specs.Prelude.{◌≡◌, ◌<◌, ◌≤◌, IsTrue, map, IfOk};
+ghost use Rattle.std.specs.Prelude.{◌≡◌, ◌<◌, ◌≤◌, IsTrue, map, slice_get, IfOk};
 ghost use Rattle.cx_disk.specs.Cause.{HasCause};
 ghost use Rattle.cx_plan.specs.Setups.{setup_of};
 ghost use Rattle.cx_rule.specs.Jobs.{FitJob};
 ghost use Rattle.cx_cut.specs.Cuts.{part_count};
 ghost use Rattle.cx_cut.specs.Faults.{parts_of};
+ghost use Rattle.cx_core_events.specs.Events.{events};
+ghost use Rattle.cx_core_part.specs.Jobs.{IsRunOf};
 ghost use Rattle.law_parts.specs.Beginnings.{Beginning, IsBeginning, run_of};
+ghost use Rattle.law_parts.specs.Runs.{Run};
 ghost use Rattle.law_parts.specs.Totals.{undivided_from};
 ghost use Rattle.cx_core.specs.Cores.{enabled_in};
 ghost use Rattle.cx_core.specs.Hands.{StepsTo};
 ghost use Rattle.cx_core.specs.Starts.{IsReady};
-ghost use Rattle.cx_core.specs.Steps.{Counts, IsAt, IsRunning, counts, stands_at};
+ghost use Rattle.cx_core.specs.Steps.{Counts, IsAt, IsRunning, RisesWithin, counts, event_costs, stands_at};
 
 use crate::answers::{CoreFault, Event};
 use crate::laws::run_laws;
@@ -56,6 +59,11 @@ impl Core {
             (stands_at self.old (W.queue wire.old) meter.old (W.received wire.old) (W.sum wire.old))
             (stands_at self.new (W.queue wire.new) meter.new (W.received wire.new) (W.sum wire.new))
             at) }
+        ensures rises { (r : Run) → IsRunOf job.now r
+            → RisesWithin
+            (event_costs r self.old.pace (slice_get (events self.old.pace) k))
+            (counts meter.old (W.received wire.old) (W.sum wire.old))
+            (counts meter.new (W.received wire.new) (W.sum wire.new)) }
         ensures parts { W.parts wire.new ≡ W.parts wire.old }
         ensures cause { HasCause CoreFault.Wire (W.faults wire.old) (W.faults wire.new) result }
     {

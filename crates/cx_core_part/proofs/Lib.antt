@@ -1,4 +1,5 @@
 pub mod CopyLaws
+pub mod NextLaws
 pub mod Known
 pub mod KnownLaws
 pub mod FrameLaws

@@ -1,6 +1,6 @@
 -- What a part takes in a direction, in the words of a run.
-use Rattle.std.proofs.Common.{◌≡◌, ℕ, ◌+◌, ◌*◌, ◌%◌, ◌^◌, ◌<◌, arith, Bool, true, false, cond, eqb, eq-eqb, refl, sym, ap, ◌∙◌, subst, ℤ, List, [], ◌∷◌, ◌++◌, length, take, drop, Option, Some, None}
-use Rattle.std.specs.Prelude.{if◌then◌else◌, is_some}
+use Rattle.std.proofs.Common.{◌≡◌, ℕ, ◌+◌, ◌*◌, ◌%◌, ◌^◌, ◌<◌, ◌≤◌, arith, Bool, true, false, cond, eqb, eq-eqb, refl, sym, ap, ◌∙◌, subst, ℤ, List, [], ◌∷◌, ◌++◌, length, take, drop, Option, Some, None}
+use Rattle.std.specs.Prelude.{if◌then◌else◌, is_some, Result, Ok, Err, OnOk}
 use Rattle.cx_grid.specs.declared.boxes.Point.{Point}
 use Rattle.cx_grid.specs.declared.shapes.Side.{Side}
 use Rattle.cx_grid.specs.declared.shapes.Side.TheVariants.{Low, High}
@@ -13,10 +13,13 @@ use Rattle.cx_field.specs.Patches.{PatchValue, setup_in, values_in}
 use Rattle.cx_field.specs.Faces as faces
 use Rattle.cx_wire.specs.Messages.{Sent as SentMail}
 use Rattle.cx_wire.specs.Received as received
+use Rattle.cx_wire.specs.declared.wire.Wire.{Ghosts}
 use Rattle.cx_cut.proofs.NeighbourLaws.{neighbours}
 use Rattle.cx_text.specs.Numbers.{word_sum}
 use Rattle.cx_plan.specs.Lists.{only, is_at}
 use Rattle.cx_ghost.specs.Posts.{CanExchange}
+use Rattle.cx_ghost.specs.declared.faults.TakeFault.{TakeFault}
+use Rattle.cx_ghost.specs.declared.faults.TakeFault.TheVariants as faults
 use Rattle.cx_ghost.specs.Takes as takes
 use Rattle.cx_ghost.specs.Takes.{needed, TakesNeeded, Fills, Keeps, behind_high, taken_count, taken_sum, sum_from, count_from}
 use Rattle.cx_flat.specs.declared.op.Op.TheVariants.{Take}
@@ -26,7 +29,7 @@ use Rattle.law_parts.specs.Moves.{Message, Sent, Given, Handed, Channel, Wire, F
 use Rattle.law_parts.specs.Nets.{values_sum, values_of_op, side_values}
 use Rattle.law_parts.proofs.CountLaws.{sum_same, sum_add, sum_none, sum_one}
 use Rattle.cx_core_part.specs.Frames.{IsPatchOf}
-use Rattle.cx_core_part.specs.Exchanges.{ShowsQueue, ShowsTaken, Takes, sum_taken}
+use Rattle.cx_core_part.specs.Exchanges.{ReceivedWithin, ShowsQueue, ShowsTaken, Takes, sum_taken}
 use Rattle.cx_core_part.proofs.FrameLaws.{same_patch, still_of}
 use Rattle.cx_core_part.proofs.ExchangeLaws.{drop_shown, values_are}
 use Rattle.law_network.specs.Machine.{sum_below}
@@ -60,19 +63,71 @@ side_same (Some j) n = refl
 commute : (a b : ℕ) → a + b ≡ b + a
 commute a b = omega arith
 
-pub count_there : (r : Run) (k d : ℕ) (vars : List VarId) (cut : Parts) (old new : ℕ)
-    → new ≡ received.counted old (taken_count cut k d vars) → cut_of r ≡ cut
-    → new ≡ received.counted old (values_of_op r k (Take d vars []))
-count_there r k d vars cut old new counted same =
-    counted ∙ ap (λ c. received.counted old (taken_count c k d vars)) (sym same)
-    ∙ ap (received.counted old)
-    (ap (λ n. n + takes.side_count (cut_of r) k d vars Low)
+taken_same : (r : Run) (k d : ℕ) (vars : List VarId) (cut : Parts) → cut_of r ≡ cut
+    → taken_count cut k d vars ≡ values_of_op r k (Take d vars [])
+taken_same r k d vars cut same =
+    ap (λ c. taken_count c k d vars) (sym same)
+    ∙ ap (λ n. n + takes.side_count (cut_of r) k d vars Low)
     (side_same (partner (cut_of r) k d High)
     (length vars * point_count (halo_of (cut_of r) k d High)))
     ∙ ap (λ n. side_values r k d High vars + n)
     (side_same (partner (cut_of r) k d Low)
     (length vars * point_count (halo_of (cut_of r) k d Low)))
-    ∙ commute (side_values r k d High vars) (side_values r k d Low vars))
+    ∙ commute (side_values r k d High vars) (side_values r k d Low vars)
+
+pub count_there : (r : Run) (k d : ℕ) (vars : List VarId) (cut : Parts) (old new : ℕ)
+    → new ≡ received.counted old (taken_count cut k d vars) → cut_of r ≡ cut
+    → new ≡ received.counted old (values_of_op r k (Take d vars []))
+count_there r k d vars cut old new counted same =
+    counted ∙ ap (received.counted old) (taken_same r k d vars cut same)
+
+counted_within : (n m before after : ℕ) → after ≡ received.counted before m → m ≤ n
+    → ReceivedWithin n before after
+counted_within n m before after e l = record {
+  least = omega (arith, e);
+  most = omega (arith, e, l);
+}
+
+-- whatever a take comes to, it received as many values at most: all, those of one side, or none
+module _ {W : Type 0} (g : Ghosts W) (k d : ℕ) (vars : List VarId) (cut : Parts)
+    (old new : PatchValue) (wire after : W) where
+  one_side : (side : Side)
+      → takes.TakesHigh g cut k d vars (takes.taken_before cut k d side) old new wire after
+      → ReceivedWithin (taken_count cut k d vars) (g.received wire) (g.received after)
+  one_side High h =
+      counted_within (taken_count cut k d vars) 0 (g.received wire) (g.received after) h.received
+      (omega arith)
+  one_side Low h =
+      counted_within (taken_count cut k d vars) (takes.side_count cut k d vars High)
+      (g.received wire) (g.received after) h.received
+      (less (takes.side_count cut k d vars High) (takes.side_count cut k d vars Low))
+    where
+      less : (a b : ℕ) → a ≤ a + b
+      less a b = omega arith
+
+  received_within : {A : Type 0} (result : Result A TakeFault)
+      → OnOk result
+      (g.received after ≡ received.counted (g.received wire) (taken_count cut k d vars))
+      → (takes.IsNotYet result → after ≡ wire)
+      → takes.Stops g cut k d vars old new wire after result
+      → ReceivedWithin (taken_count cut k d vars) (g.received wire) (g.received after)
+  received_within (Ok x) all none stopped =
+      counted_within (taken_count cut k d vars) (taken_count cut k d vars)
+      (g.received wire) (g.received after) all (omega arith)
+  received_within (Err (faults.NotYet a b)) all none stopped =
+      counted_within (taken_count cut k d vars) 0 (g.received wire) (g.received after)
+      (ap g.received (none tt) ∙ received.counted_none (g.received wire)) (omega arith)
+  received_within (Err faults.Wire) all none stopped = one_side stopped.0 stopped.2
+
+  pub rises_there : {A : Type 0} (r : Run) (result : Result A TakeFault)
+      → OnOk result
+      (g.received after ≡ received.counted (g.received wire) (taken_count cut k d vars))
+      → (takes.IsNotYet result → after ≡ wire)
+      → takes.Stops g cut k d vars old new wire after result → cut_of r ≡ cut
+      → ReceivedWithin (values_of_op r k (Take d vars [])) (g.received wire) (g.received after)
+  rises_there r result all none stopped same =
+      subst (λ n. ReceivedWithin n (g.received wire) (g.received after))
+      (taken_same r k d vars cut same) (received_within result all none stopped)
 
 -- ---- the values
 

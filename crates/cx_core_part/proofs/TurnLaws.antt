@@ -287,3 +287,20 @@ module _ (job : Job) (rules : List Rule) (i iteration : ℕ) (old new : PatchVal
       patch.patch.shape patch.patch.vars
       (subst (λ s. has_shape s (item s i) ≡ true) (sym run.setup) shaped) scalar)
       (scalar_points old (item_at r.setup i iteration) scalar) here
+
+-- ---- the meter
+
+raised_within : (n before after : ℕ) → after ≡ raised before n → RoseWithin n before after
+raised_within n before after e = record {
+  least = omega (arith, e);
+  most = omega (arith, e);
+}
+
+-- whatever a turn comes to, the meter rose by its points at most
+pub rose_within : (r : Run) (k : ℕ) (o : Op) (iteration : ℕ) (old new : State) (before after : ℕ)
+    (result : Result (Unit {0}) Overflow)
+    → Computes r k o iteration old new before after result
+    → RoseWithin (points_of r k o) before after
+rose_within r k o iteration old new before after (Ok u) h =
+    raised_within (points_of r k o) before after h.1
+rose_within r k o iteration old new before after (Err e) h = h.2

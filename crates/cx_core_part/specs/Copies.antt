@@ -1,5 +1,5 @@
 -- The items of a part: copies of those that are steered, with their parameters in an iteration.
-use Rattle.std.specs.Prelude.{ℕ, ◌==◌, ◌||◌, Bool, false, List, [], ◌∷◌, map, length, Option, Some, None, slice_index_or, if◌then◌else◌}
+use Rattle.std.specs.Prelude.{ℕ, min, ◌==◌, ◌||◌, ◌&&◌, nat_le, nat_lt, Bool, true, false, List, [], ◌∷◌, map, length, Option, Some, None, slice_index_or, if◌then◌else◌}
 use Rattle.std.specs.List.{range_with_len}
 use Rattle.cx_plan.specs.declared.item.Item.{Item}
 use Rattle.cx_plan.specs.declared.steered.Steered.{Steered}
@@ -29,8 +29,39 @@ abbrev pub if_steered : List Steered → List (Option Item) → List (Option Ite
 if_steered [] copies = []
 if_steered (s ∷ ss) copies = copies
 
-abbrev pub copies_at : Setup → ℕ → List (Option Item)
-copies_at setup n = if_steered setup.steers (copies_of setup.steers setup.items n)
+abbrev pub items_at : Setup → ℕ → List (Option Item)
+items_at setup n = if_steered setup.steers (copies_of setup.steers setup.items n)
+
+-- ---- until the next steer
+
+-- the lesser of two numbers, the second of which may be none
+abbrev pub lesser : ℕ → Option ℕ → ℕ
+lesser a None = a
+lesser a (Some b) = min a b
+
+-- the first iteration after iteration n at which a steer begins to count; none where none does
+abbrev pub next_after : List Steered → ℕ → Option ℕ
+next_after [] n = None
+next_after (s ∷ ss) n = if nat_lt n s.at then Some (lesser s.at (next_after ss n))
+    else next_after ss n
+
+-- the copies of an iteration, and the first one after it at which they differ
+pub record Copies : Type 0 where
+  pub items : List (Option Item)
+  pub iteration : ℕ
+  pub next : Option ℕ
+
+abbrev pub copies_at : Setup → ℕ → Copies
+copies_at setup n =
+    record { items = items_at setup n; iteration = n; next = next_after setup.steers n }
+
+-- they are those of iteration n too
+abbrev pub is_before : ℕ → Option ℕ → Bool
+is_before n None = true
+is_before n (Some m) = nat_lt n m
+
+abbrev pub are_of : Copies → ℕ → Bool
+are_of c n = nat_le c.iteration n && is_before n c.next
 
 -- a part's copy of an item, or the item itself
 abbrev pub picked : Option (Option Item) → Item → Item

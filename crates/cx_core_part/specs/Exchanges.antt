@@ -1,9 +1,10 @@
 -- What the queues of a wire show of those of a run, and what posting and taking do to both.
-use Rattle.std.specs.Prelude.{ℕ, ◌≡◌, ◌==◌, ◌<◌, ◌%◌, ◌^◌, List, [], ◌++◌, take, drop, if◌then◌else◌}
+use Rattle.std.specs.Prelude.{ℕ, ◌≡◌, ◌==◌, ◌<◌, ◌≤◌, ◌%◌, ◌^◌, List, [], ◌++◌, take, drop, if◌then◌else◌}
 use Rattle.std.specs.List.{AllZip}
 use Rattle.cx_rule.specs.States.{State}
 use Rattle.cx_wire.specs.declared.mail.Head.{Head as MailHead}
 use Rattle.cx_wire.specs.Messages.{Sent as SentMail}
+use Rattle.cx_wire.specs.Received.{counted}
 use Rattle.cx_flat.specs.declared.op.Op.{Op}
 use Rattle.law_parts.specs.Runs.{Run, parts_in}
 use Rattle.law_parts.specs.Moves.{Head, Message, Sent, Given, Handed, Channel, Wire, takes_from, op_posts, faces_by, number_by, held_values}
@@ -62,6 +63,11 @@ ShowsTaken r k d q mails = (a : ℕ) → a < parts_in r
 abbrev pub Takes : {M : Type 0} → Run → ℕ → ℕ → (old new : ℕ → ℕ → List M) → Type 0
 Takes r k d old new = (a b : ℕ)
     → new a b ≡ (if b == k then drop (takes_from r k d a) (old a b) else old a b)
+
+-- so many values at most were received
+pub record ReceivedWithin (values before after : ℕ) : Type 0 where
+  pub least : before ≤ after
+  pub most : after ≤ counted before values
 
 -- the sum of the values of messages that part k takes of all wires
 abbrev pub sum_taken : {tells : Type 0} → tells → Run → ℕ → (Channel → List (Message tells)) → ℕ

@@ -3,9 +3,9 @@ ghost use Rattle.std.specs.Prelude.{◌≡◌, ◌<◌, ℕ, IfOk, length, slice
 ghost use Rattle.cx_plan.specs.Lookups.{no_item};
 ghost use Rattle.cx_plan.specs.Setups.{setup_of};
 ghost use Rattle.cx_plan.specs.Steering.{item_at};
-ghost use Rattle.cx_core_part.specs.Copies.{copied, copies_at, copies_of, picked};
+ghost use Rattle.cx_core_part.specs.Copies.{are_of, copied, copies_at, copies_of, is_before, items_at, picked};
 
-use crate::steering::{copy_in, is_steered, set_copy};
+use crate::steering::{copy_in, is_steered, next_after, set_copy};
 use cx_plan::{Item, Job, Steered};
 use cx_text::Memory;
 use std::alloc::Global;
@@ -16,15 +16,22 @@ use std::marker::Model;
 pub struct Items {
     /// By the item's number; none where nothing steers it, and no list where nothing is steered.
     copies: Vec<Option<Item>>,
+    /// The iteration that they are set to.
+    iteration: u64,
+    /// The first iteration after it at which a steer begins to count.
+    next: Option<u64>,
 }
 
 impl Model for Items {
-    ghost use Rattle.std.specs.Prelude.{List, Option};
-    ghost use Rattle.cx_plan.specs.declared.item.Item.{Item};
+    ghost use Rattle.cx_core_part.specs.Copies.{Copies};
 
-    ghost Value = { List (Option Item) };
+    ghost Value = { Copies };
 
-    ghost view = { λ items. items.copies.items };
+    ghost view = { λ items. record {
+      items = items.copies.items;
+      iteration = items.iteration;
+      next = items.next;
+    } };
 }
 
 impl Items {
@@ -36,14 +43,10 @@ impl Items {
     pub fn new(alloc: Global, job: &Job, iteration: u64) -> Result<Self, Memory>
         ensures { IfOk result (λ items. items ≡ copies_at (setup_of job.now) iteration) }
     {
-        if job.steers.is_empty() {
-            return Ok(Items {
-                copies: Vec::new(alloc),
-            });
-        }
-        let items = job.items.as_slice();
         Ok(Items {
-            copies: first_copies(alloc, items, job.steers.as_slice(), iteration)?,
+            copies: copies_in(alloc, job, iteration)?,
+            iteration,
+            next: next_after(job.steers.as_slice(), iteration),
         })
     }
 
@@ -56,21 +59,43 @@ impl Items {
         picked(&self.copies, job.items.as_slice(), number)
     }
 
-    /// Sets the items to another iteration. It takes no memory.
+    /// Sets the items to another iteration. It takes no memory, and until a steer begins to count no time.
     pub fn set(&mut self, alloc: Global, job: &Job, iteration: u64)
         requires { (n : ℕ) × (self.old ≡ copies_at (setup_of job.now) n) }
         ensures { self.new ≡ copies_at (setup_of job.now) iteration }
     {
-        if !job.steers.is_empty() {
-            let items = job.items.as_slice();
-            set_list(
-                alloc,
-                &mut self.copies,
-                items,
-                job.steers.as_slice(),
-                iteration,
-            );
+        if self.are_of(iteration) {
+            self.iteration = iteration;
+        } else {
+            self.renew(alloc, job, iteration);
         }
+    }
+
+    /// Whether no steer begins to count between the iteration that the items are set to and this one.
+    fn are_of(&self, iteration: u64) -> bool
+        ensures { result ≡ are_of self.now iteration }
+    {
+        self.iteration <= iteration && is_before(iteration, self.next)
+    }
+
+    /// Sets each copy to another iteration.
+    fn renew(&mut self, alloc: Global, job: &Job, iteration: u64)
+        requires { (n : ℕ) × (self.old ≡ copies_at (setup_of job.now) n) }
+        ensures { self.new ≡ copies_at (setup_of job.now) iteration }
+    {
+        set_steered(alloc, &mut self.copies, job, iteration);
+        self.iteration = iteration;
+        self.next = next_after(job.steers.as_slice(), iteration);
+    }
+}
+
+/// Whether an iteration comes before another one, if there is one.
+fn is_before(iteration: u64, next: Option<u64>) -> bool
+    ensures { result ≡ is_before iteration next }
+{
+    match next {
+        None => true,
+        Some(next) => iteration < next,
     }
 }
 
@@ -84,6 +109,17 @@ fn picked<'a>(copies: &'a [Option<Item>], items: &'a [Item], number: u32) -> &'a
         Some(Some(copy)) => copy,
         _ => &items[number as usize],
     }
+}
+
+/// The copies of a job's items in an iteration.
+fn copies_in(alloc: Global, job: &Job, iteration: u64) -> Result<Vec<Option<Item>>, Memory>
+    ensures { IfOk result (λ copies. copies.items ≡ items_at (setup_of job.now) iteration) }
+{
+    if job.steers.is_empty() {
+        return Ok(Vec::new(alloc));
+    }
+    let items = job.items.as_slice();
+    Ok(first_copies(alloc, items, job.steers.as_slice(), iteration)?)
 }
 
 /// The copies of items in an iteration.
@@ -116,6 +152,17 @@ fn first_copy(
         return Ok(None);
     }
     Ok(Some(copy_in(alloc, of, steers, number, iteration)?))
+}
+
+/// Sets the copies of a job's items, if something is steered.
+fn set_steered(alloc: Global, copies: &mut Vec<Option<Item>>, job: &Job, iteration: u64)
+    requires { (n : ℕ) × (copies.old.items ≡ items_at (setup_of job.now) n) }
+    ensures { copies.new.items ≡ items_at (setup_of job.now) iteration }
+{
+    if !job.steers.is_empty() {
+        let items = job.items.as_slice();
+        set_list(alloc, copies, items, job.steers.as_slice(), iteration);
+    }
 }
 
 /// Sets the list of copies.

@@ -9,7 +9,7 @@ ghost use Rattle.cx_flat.specs.declared.op.Op.TheVariants as ops;
 ghost use Rattle.law_parts.specs.Moves.{Channel, Message, Filled};
 ghost use Rattle.law_parts.specs.Nets.{values_of_op};
 ghost use Rattle.law_parts.specs.Runs.{Run, cut_of};
-ghost use Rattle.cx_core_part.specs.Exchanges.{Posts, ShowsTaken, Takes, sum_taken};
+ghost use Rattle.cx_core_part.specs.Exchanges.{Posts, ReceivedWithin, ShowsTaken, Takes, sum_taken};
 ghost use Rattle.cx_core_part.specs.Frames.{IsPatchOf, KeepsFrame};
 
 use cx_cut::Cut;
@@ -81,6 +81,9 @@ pub fn take<W: Wire>(
     ensures received { OnOk result ((r : Run) → cut_of r ≡ cut.now
         → W.received wire.new
         ≡ counted (W.received wire.old) (values_of_op r k (ops.Take dir vars.now []))) }
+    ensures rises { (r : Run) → cut_of r ≡ cut.now
+        → ReceivedWithin (values_of_op r k (ops.Take dir vars.now []))
+        (W.received wire.old) (W.received wire.new) }
     ensures sum { (told : IsTrue W.tells) → OnOk result ((r : Run)
         (mails : Channel → ListOf (Message (IsTrue W.tells))) → cut_of r ≡ cut.now
         → ShowsTaken r k dir (W.queue wire.old) mails

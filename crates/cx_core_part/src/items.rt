@@ -9,8 +9,9 @@ ghost use Rattle.cx_cut.specs.Faults.{parts_of};
 ghost use Rattle.cx_rule.specs.Jobs.{FitJob};
 ghost use Rattle.cx_rule.specs.Routine.{rule_at};
 ghost use Rattle.cx_field.specs.Patches.{IsPart};
-ghost use Rattle.cx_field.specs.Sweeps.{Sweeps, IsBoundaryWriter};
+ghost use Rattle.cx_field.specs.Sweeps.{Sweeps, IsBoundaryWriter, RoseWithin};
 ghost use Rattle.cx_flat.specs.declared.op.Op.TheVariants as ops;
+ghost use Rattle.law_parts.specs.Nets.{points_of};
 ghost use Rattle.law_parts.specs.Runs.{Run, cut_of};
 ghost use Rattle.cx_core_part.specs.Copies.{copies_at};
 ghost use Rattle.cx_core_part.specs.Jobs.{IsChecked, IsOperation, IsRunOf};
@@ -51,6 +52,9 @@ pub fn sweep(
         → IsPatchOf r.setup (cut_of r) k patch.old
         → Computes r k (ops.Sweep item) iteration patch.old.numbers patch.new.numbers
         meter.old meter.new result }
+    ensures rises { (r : Run) (k : ℕ) → IsRunOf job.now r
+        → IsPatchOf r.setup (cut_of r) k patch.old
+        → RoseWithin (points_of r k (ops.Sweep item)) meter.old meter.new }
 {
     has_boxes(patch);
     turn(job, items, routines, item, patch, iteration, meter)
@@ -82,6 +86,9 @@ pub fn apply(
         → IsPatchOf r.setup (cut_of r) k patch.old
         → Computes r k (ops.Apply item) iteration patch.old.numbers patch.new.numbers
         meter.old meter.new result }
+    ensures rises { (r : Run) (k : ℕ) → IsRunOf job.now r
+        → IsPatchOf r.setup (cut_of r) k patch.old
+        → RoseWithin (points_of r k (ops.Apply item)) meter.old meter.new }
 {
     turn(job, items, routines, item, patch, iteration, meter)
 }

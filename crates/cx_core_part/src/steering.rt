@@ -1,7 +1,7 @@
 //! Parameters by iteration.
-ghost use Rattle.std.specs.Prelude.{◌≡◌, IfOk, IsTrue, length, slice_set};
+ghost use Rattle.std.specs.Prelude.{◌≡◌, IfOk, IsTrue, Some, if◌then◌else◌, length, nat_lt, slice_set};
 ghost use Rattle.cx_plan.specs.Steering.{set_by, steered};
-ghost use Rattle.cx_core_part.specs.Copies.{is_steered};
+ghost use Rattle.cx_core_part.specs.Copies.{is_steered, lesser, next_after};
 
 use cx_plan::{Item, Steered, Touch};
 use cx_text::{List, Memory};
@@ -18,6 +18,30 @@ pub(crate) fn is_steered(steers: &[Steered], item: usize) -> bool
         }
     }
     false
+}
+
+/// The first iteration after this one at which a steer begins to count.
+pub(crate) fn next_after(steers: &[Steered], iteration: u64) -> Option<u64>
+    ensures { result ≡ next_after steers.now iteration }
+{
+    let mut next = None;
+    'steers: for steer in steers {
+        next = first_after(next, steer.at, iteration);
+    }
+    next
+}
+
+/// The first one after an iteration, of the one that was found and of this one.
+fn first_after(next: Option<u64>, at: u64, iteration: u64) -> Option<u64>
+    ensures { result ≡ (if nat_lt iteration at then Some (lesser at next) else next) }
+{
+    if at <= iteration {
+        return next;
+    }
+    match next {
+        None => Some(at),
+        Some(other) => Some(at.min(other)),
+    }
 }
 
 /// Sets a parameter of an item where a steer is one of it and counts in this iteration.

@@ -13,7 +13,9 @@ use Rattle.cx_core_events.specs.declared.standing.Standing.{Standing}
 use Rattle.cx_core_events.specs.Paces.{iteration_of, op_of, part_of}
 use Rattle.cx_core_part.specs.Copies.{copies_at}
 use Rattle.cx_core.specs.Cores.{Cores, items_of}
+use Rattle.law_parts.specs.Nets.{costs}
 use Rattle.cx_core.specs.Moving.{CanOperate, Operates, holdings}
+use Rattle.cx_core.specs.Steps.{RisesWithin, counts}
 use Rattle.cx_core.proofs.ItemLaws.{its_items, items_there}
 use Rattle.cx_core.proofs.GoLaws.{items_are, there, reached, can_do, can_test_it, follows, on_ok, is_tested, other_err, some_same}
 use Rattle.cx_core.proofs.moving.go.Goals as goal
@@ -180,3 +182,21 @@ returns-in-Ok-clause-goes g c = λ b begins first.
     (c.in-Ok.ensures.operates q of laws
     (cut ∙ sym (c.cut-2.ensures ∙ ap (λ (o : Cores). o.pace.cut) c.core.view_is)) frame))))
     e)
+
+pub returns-in-Err-clause-rises : goal.returns-in-Err-clause-rises
+returns-in-Err-clause-rises g c = λ r of.
+    subst (λ (o : Op). RisesWithin (λ i. costs r i c.args.part o)
+    (counts c.args.meter.now (g.W.Wire.received c.args.wire.now) (g.W.Wire.sum c.args.wire.now))
+    (counts c.operate-done.new.meter (g.W.Wire.received c.operate-done.new.wire)
+    (g.W.Wire.sum c.operate-done.new.wire)))
+    (c.op-2.ensures ∙ ap (λ (o : Cores). op_of o.pace c.args.part) c.core.view_is)
+    (c.in-Err.ensures.rises r of)
+
+pub returns-in-Ok-clause-rises : goal.returns-in-Ok-clause-rises
+returns-in-Ok-clause-rises g c = λ r of.
+    subst (λ (o : Op). RisesWithin (λ i. costs r i c.args.part o)
+    (counts c.args.meter.now (g.W.Wire.received c.args.wire.now) (g.W.Wire.sum c.args.wire.now))
+    (counts c.operate-done.new.meter (g.W.Wire.received c.operate-done.new.wire)
+    (g.W.Wire.sum c.operate-done.new.wire)))
+    (c.op-2.ensures ∙ ap (λ (o : Cores). op_of o.pace c.args.part) c.core.view_is)
+    (c.in-Ok.ensures.rises r of)

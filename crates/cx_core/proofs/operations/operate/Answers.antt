@@ -4,6 +4,9 @@ use Rattle.cx_core_part.specs.Jobs.{IsOperation}
 use Rattle.cx_core_part.specs.Tests.{CanTest}
 use Rattle.cx_core_part.proofs.AskLaws.{can_post, can_take, can_test}
 use Rattle.cx_core.specs.Moving.{Asks, holdings}
+use Rattle.cx_core.specs.Steps.{counts}
+use Rattle.law_parts.specs.Nets.{costs}
+use Rattle.cx_core.proofs.RiseLaws.{run_cut, run_patch, stays, sweep_rises, apply_rises, take_rises}
 use Rattle.cx_core.proofs.OperateLaws.{in_cut, swept, applied, offered, joined_all, sent, took, loop_tested}
 use Rattle.cx_core.proofs.operations.operate.Goals as goal
 
@@ -142,3 +145,165 @@ returns-in_ok-test_loop-in-Turn-clause-operates g c = λ r of rules cut frame.
     (g.W.Wire.sum c.args.wire.now)) c.in_ok-test_loop-in-Turn.field-0
     c.in-Turn.scalar c.in-Turn.path c.in-Turn.field-2 c.in-Turn.is
     (c.in_ok-test_loop-in-Turn.ensures r c.in-Turn.field-2 of.setup) refl
+
+-- ---- what is counted
+
+pub returns-in_ok-sweep-in-Sweep-clause-rises : goal.returns-in_ok-sweep-in-Sweep-clause-rises
+returns-in_ok-sweep-in-Sweep-clause-rises g c = λ r of.
+    let can = c.requires.can in
+    sweep_rises r c.args.part c.args.op.now
+    (counts c.args.meter.now (g.W.Wire.received c.args.wire.now)
+    (g.W.Wire.sum c.args.wire.now))
+    (counts c.sweep.new.meter (g.W.Wire.received c.args.wire.now)
+    (g.W.Wire.sum c.args.wire.now))
+    c.in-Sweep.item c.in-Sweep.is
+    (c.in_ok-sweep-in-Sweep.ensures.rises r c.args.part of
+    (run_patch c.args.job.now r of c.args.cut.now can.cut_is c.args.part c.args.patch.now
+    can.patch)) refl
+
+pub returns-in_ok-apply-in-Apply-clause-rises : goal.returns-in_ok-apply-in-Apply-clause-rises
+returns-in_ok-apply-in-Apply-clause-rises g c = λ r of.
+    let can = c.requires.can in
+    apply_rises r c.args.part c.args.op.now
+    (counts c.args.meter.now (g.W.Wire.received c.args.wire.now)
+    (g.W.Wire.sum c.args.wire.now))
+    (counts c.apply.new.meter (g.W.Wire.received c.args.wire.now)
+    (g.W.Wire.sum c.args.wire.now))
+    c.in-Apply.item c.in-Apply.is
+    (c.in_ok-apply-in-Apply.ensures.rises r c.args.part of
+    (run_patch c.args.job.now r of c.args.cut.now can.cut_is c.args.part c.args.patch.now
+    can.patch)) refl
+
+pub returns-in_ok-take-in-Take-clause-rises : goal.returns-in_ok-take-in-Take-clause-rises
+returns-in_ok-take-in-Take-clause-rises g c = λ r of.
+    take_rises r c.args.part c.args.op.now
+    (counts c.args.meter.now (g.W.Wire.received c.args.wire.now)
+    (g.W.Wire.sum c.args.wire.now))
+    (counts c.args.meter.now (g.W.Wire.received c.take.new.wire)
+    (g.W.Wire.sum c.take.new.wire))
+    c.in-Take.dir c.in-Take.vars c.in-Take.field-2 c.in-Take.is refl
+    (c.in_ok-take-in-Take.ensures.rises r
+    (run_cut c.args.job.now r of c.args.cut.now c.requires.can.cut_is))
+
+pub returns-in_ok-post-in-Post-clause-rises : goal.returns-in_ok-post-in-Post-clause-rises
+returns-in_ok-post-in-Post-clause-rises g c = λ r of.
+    stays (λ i. costs r i c.args.part c.args.op.now)
+    (counts c.args.meter.now (g.W.Wire.received c.args.wire.now)
+    (g.W.Wire.sum c.args.wire.now))
+    (counts c.args.meter.now (g.W.Wire.received c.post.new.wire)
+    (g.W.Wire.sum c.post.new.wire))
+    refl c.in_ok-post-in-Post.ensures.received
+
+pub returns-in_ok-give-in-Give-clause-rises : goal.returns-in_ok-give-in-Give-clause-rises
+returns-in_ok-give-in-Give-clause-rises g c = λ r of.
+    stays _ _ _ refl refl
+
+pub returns-in_ok-join-in-Join-clause-rises : goal.returns-in_ok-join-in-Join-clause-rises
+returns-in_ok-join-in-Join-clause-rises g c = λ r of.
+    stays _ _ _ refl refl
+
+pub returns-in_ok-test_loop-in-Turn-clause-rises : goal.returns-in_ok-test_loop-in-Turn-clause-rises
+returns-in_ok-test_loop-in-Turn-clause-rises g c = λ r of.
+    stays _ _ _ refl refl
+
+pub returns-in_err-sweep-in-Sweep-clause-rises : goal.returns-in_err-sweep-in-Sweep-clause-rises
+returns-in_err-sweep-in-Sweep-clause-rises g c = λ r of.
+    let can = c.requires.can in
+    sweep_rises r c.args.part c.args.op.now
+    (counts c.args.meter.now (g.W.Wire.received c.args.wire.now)
+    (g.W.Wire.sum c.args.wire.now))
+    (counts c.sweep.new.meter (g.W.Wire.received c.args.wire.now)
+    (g.W.Wire.sum c.args.wire.now))
+    c.in-Sweep.item c.in-Sweep.is
+    (c.in_err-sweep-in-Sweep.ensures.rises r c.args.part of
+    (run_patch c.args.job.now r of c.args.cut.now can.cut_is c.args.part c.args.patch.now
+    can.patch)) refl
+
+pub returns-in_err-apply-in-Apply-clause-rises : goal.returns-in_err-apply-in-Apply-clause-rises
+returns-in_err-apply-in-Apply-clause-rises g c = λ r of.
+    let can = c.requires.can in
+    apply_rises r c.args.part c.args.op.now
+    (counts c.args.meter.now (g.W.Wire.received c.args.wire.now)
+    (g.W.Wire.sum c.args.wire.now))
+    (counts c.apply.new.meter (g.W.Wire.received c.args.wire.now)
+    (g.W.Wire.sum c.args.wire.now))
+    c.in-Apply.item c.in-Apply.is
+    (c.in_err-apply-in-Apply.ensures.rises r c.args.part of
+    (run_patch c.args.job.now r of c.args.cut.now can.cut_is c.args.part c.args.patch.now
+    can.patch)) refl
+
+pub returns-in_err-take-in-Take-clause-rises : goal.returns-in_err-take-in-Take-clause-rises
+returns-in_err-take-in-Take-clause-rises g c = λ r of.
+    take_rises r c.args.part c.args.op.now
+    (counts c.args.meter.now (g.W.Wire.received c.args.wire.now)
+    (g.W.Wire.sum c.args.wire.now))
+    (counts c.args.meter.now (g.W.Wire.received c.take.new.wire)
+    (g.W.Wire.sum c.take.new.wire))
+    c.in-Take.dir c.in-Take.vars c.in-Take.field-2 c.in-Take.is refl
+    (c.in_err-take-in-Take.ensures.rises r
+    (run_cut c.args.job.now r of c.args.cut.now c.requires.can.cut_is))
+
+pub returns-in_err-post-in-Post-clause-rises : goal.returns-in_err-post-in-Post-clause-rises
+returns-in_err-post-in-Post-clause-rises g c = λ r of.
+    stays (λ i. costs r i c.args.part c.args.op.now)
+    (counts c.args.meter.now (g.W.Wire.received c.args.wire.now)
+    (g.W.Wire.sum c.args.wire.now))
+    (counts c.args.meter.now (g.W.Wire.received c.post.new.wire)
+    (g.W.Wire.sum c.post.new.wire))
+    refl c.in_err-post-in-Post.ensures.received
+
+pub returns-in_err-give-in-Give-clause-rises : goal.returns-in_err-give-in-Give-clause-rises
+returns-in_err-give-in-Give-clause-rises g c = λ r of.
+    stays _ _ _ refl refl
+
+pub returns-in_err-join-in-Join-clause-rises : goal.returns-in_err-join-in-Join-clause-rises
+returns-in_err-join-in-Join-clause-rises g c = λ r of.
+    stays _ _ _ refl refl
+
+pub returns-in_err-test_loop-in-Turn-clause-rises : goal.returns-in_err-test_loop-in-Turn-clause-rises
+returns-in_err-test_loop-in-Turn-clause-rises g c = λ r of.
+    stays _ _ _ refl refl
+
+pub returns-in-Rotate-clause-rises : goal.returns-in-Rotate-clause-rises
+returns-in-Rotate-clause-rises g c = λ r of.
+    stays _ _ _ refl refl
+
+pub returns-in-Piece-clause-rises : goal.returns-in-Piece-clause-rises
+returns-in-Piece-clause-rises g c = λ r of.
+    stays _ _ _ refl refl
+
+pub returns-in-Save-clause-rises : goal.returns-in-Save-clause-rises
+returns-in-Save-clause-rises g c = λ r of.
+    stays _ _ _ refl refl
+
+pub returns-in-Test-clause-rises : goal.returns-in-Test-clause-rises
+returns-in-Test-clause-rises g c = λ r of.
+    stays _ _ _ refl refl
+
+pub returns-in-Open-clause-rises : goal.returns-in-Open-clause-rises
+returns-in-Open-clause-rises g c = λ r of.
+    stays _ _ _ refl refl
+
+pub returns-in-Again-clause-rises : goal.returns-in-Again-clause-rises
+returns-in-Again-clause-rises g c = λ r of.
+    stays _ _ _ refl refl
+
+pub returns-in-Due-clause-rises : goal.returns-in-Due-clause-rises
+returns-in-Due-clause-rises g c = λ r of.
+    stays _ _ _ refl refl
+
+pub returns-in-Written-clause-rises : goal.returns-in-Written-clause-rises
+returns-in-Written-clause-rises g c = λ r of.
+    stays _ _ _ refl refl
+
+pub returns-in-Skip-clause-rises : goal.returns-in-Skip-clause-rises
+returns-in-Skip-clause-rises g c = λ r of.
+    stays _ _ _ refl refl
+
+pub returns-in-Next-clause-rises : goal.returns-in-Next-clause-rises
+returns-in-Next-clause-rises g c = λ r of.
+    stays _ _ _ refl refl
+
+pub returns-in-Halt-clause-rises : goal.returns-in-Halt-clause-rises
+returns-in-Halt-clause-rises g c = λ r of.
+    stays _ _ _ refl refl

@@ -2,7 +2,7 @@ use Rattle.std.proofs.Common.{arith}
 use Rattle.cx_cut.proofs.NeighbourLaws.{neighbours}
 use Rattle.cx_ghost.proofs.PostLaws.{on_ok}
 use Rattle.cx_core_part.proofs.ExchangeLaws.{is_ready, wire_alone}
-use Rattle.cx_core_part.proofs.TakeLaws.{takes_there, count_there, sum_there, filled_there}
+use Rattle.cx_core_part.proofs.TakeLaws.{takes_there, count_there, rises_there, sum_there, filled_there}
 use Rattle.cx_core_part.proofs.exchanges.take.Goals as goal
 
 pub take-requires-clause-ready : goal.take-requires-clause-ready
@@ -55,3 +55,9 @@ returns-clause-wire_alone g c =
     c.args.k c.args.dir can.part (omega (arith, direction, most)) c.args.vars.now
     (g.W.Wire.queue c.args.wire.now) c.requires.there
     c.take.result c.take.ensures.missing
+
+pub returns-clause-rises : goal.returns-clause-rises
+returns-clause-rises g c = λ r same.
+    rises_there g.W.Wire c.args.k c.args.dir c.args.vars.now c.args.cut.now c.args.patch.now
+    c.take.new.patch c.args.wire.now c.take.new.wire r c.take.result c.take.ensures.received
+    c.take.ensures.unreceived c.take.ensures.stopped same

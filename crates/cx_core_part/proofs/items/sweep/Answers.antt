@@ -1,10 +1,10 @@
-use Rattle.std.proofs.Common.{map, inl}
+use Rattle.std.proofs.Common.{map, inl, refl}
 use Rattle.cx_plan.specs.Setups.{setup_of}
 use Rattle.cx_plan.specs.Steering.{item_at}
 use Rattle.cx_rule.specs.Routine.{rule_at}
 use Rattle.cx_flat.specs.declared.op.Op.TheVariants.{Sweep}
 use Rattle.cx_core_part.proofs.FrameLaws.{names_well, is_known, can_turn, turns_at}
-use Rattle.cx_core_part.proofs.TurnLaws.{turn_keeps, sweep_computes}
+use Rattle.cx_core_part.proofs.TurnLaws.{turn_keeps, rose_within, sweep_computes}
 use Rattle.cx_core_part.proofs.items.sweep.Goals as goal
 
 pub turn-requires-clause-item : goal.turn-requires-clause-item
@@ -33,3 +33,14 @@ returns-clause-numbers g c = λ r k run by patch.
     c.args.meter.now c.turn.new.meter c.turn.result c.turn.ensures r k run by patch
     c.has_boxes.ensures (names_well c.args.job.now c.requires.job (Sweep c.args.item)
     c.requires.operation).1
+
+-- the points are those of the run by any rules
+pub returns-clause-rises : goal.returns-clause-rises
+returns-clause-rises g c = λ r k of patch.
+    let rules = map (λ x. (goal.Routine-dyn g (x.vtable, x.value)).rule x.value)
+    c.args.routines.now in
+    rose_within (record r { rules = rules }) k (Sweep c.args.item) c.args.iteration
+    c.args.patch.now.numbers c.turn.new.patch.numbers c.args.meter.now c.turn.new.meter
+    c.turn.result
+    (returns-clause-numbers g c (record r { rules = rules }) k
+    (record { setup = of.setup; cuts = of.cuts }) refl patch)

@@ -4,7 +4,7 @@ use Rattle.cx_plan.specs.declared.item.Item.{Item}
 use Rattle.cx_plan.specs.declared.steered.Steered.{Steered}
 use Rattle.cx_core_part.specs.Copies.{copies_of}
 use Rattle.cx_core_part.proofs.CopyLaws.{where_steered, where_none}
-use Rattle.cx_core_part.proofs.copies.Items.new.Goals as goal
+use Rattle.cx_core_part.proofs.copies.copies_in.Goals as goal
 
 pub returns-then-is_empty : goal.returns-then-is_empty
 returns-then-is_empty c =
