@@ -219,6 +219,7 @@ chunk_comes w command job came answer is few does same = record {
       (chunk_cause w command job came is does);
   begins = λ run. absurd (not_chunk command is run);
   trails = λ run. absurd (not_chunk command is run);
+  within = λ run. absurd (not_chunk command is run);
   apart = λ on. apart_by w (chunk_file 0) (part_count (parts_in job)) does.writes does.wire
       does.meter (omega arith) (omega (arith, few));
 }
@@ -233,6 +234,7 @@ recombine_comes w command job came answer is does same = record {
       (recombine_cause w command job came is does);
   begins = λ run. absurd (not_recombine command is run);
   trails = λ run. absurd (not_recombine command is run);
+  within = λ run. absurd (not_recombine command is run);
   apart = λ on. apart_by w recombined_file 1 does.writes does.wire does.meter (omega arith)
       (omega arith);
 }

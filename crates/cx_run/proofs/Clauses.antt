@@ -21,7 +21,7 @@ use Rattle.cx_job.specs.declared.fault.JobFault.{JobFault}
 use Rattle.cx_job.specs.declared.fault.JobFault.TheVariants as faults
 use Rattle.cx_job.specs.Making.{without_witness}
 use Rattle.cx_run_loop.specs.Lent.{HasRisen}
-use Rattle.cx_run_loop.specs.Drives.{HasWholeOutput, LeavesTrails, StartsWell}
+use Rattle.cx_run_loop.specs.Drives.{CountsNoMore, HasWholeOutput, LeavesTrails, StartsWell}
 use Rattle.cx_run.specs.Answers.{answer_of, status_of, text_of, Says, WasSaid}
 use Rattle.cx_run.specs.Calls.{Lent, Work, Call, Runs, IsRun, AreTold, IsStill, driven}
 use Rattle.cx_run.specs.Causes.{HasCome, HasRun, Comes, ComesTo, CanGoOn, Follows, Explains}
@@ -30,14 +30,14 @@ use Rattle.cx_run.specs.Texts.{made_text}
 use Rattle.cx_run.specs.Chunks.{IsApart, OnChunks, UsesDisk, files_fault, status_by}
 use Rattle.cx_run_chunks.specs.Commands.{outputs_fault, recombine_fault}
 use Rattle.cx_run.proofs.ChunkLaws.{is_chunk, is_recombine, not_both, not_chunk, not_recombine, still_apart, trails_stay}
-use Rattle.cx_run.specs.Clauses.{length_of_all, IsEnd, RunsWell, KeepsAllTrails, KeepsTrails, IsToldOf, SumsUp, IsUntouched, Spares, IsCalm, status_at, Gives, IsRefusedFor, Owes}
+use Rattle.cx_run.specs.Clauses.{length_of_all, RunsWithin, IsEnd, RunsWell, KeepsAllTrails, KeepsTrails, IsToldOf, SumsUp, IsUntouched, Spares, IsCalm, status_at, Gives, IsRefusedFor, Owes}
 use Rattle.cx_run.specs.Words.{Request, asked}
 use Rattle.cx_run.specs.declared.reply.Answer.{Answer}
 use Rattle.cx_run.specs.declared.reply.Answer.TheVariants as a
 use Rattle.cx_run.specs.declared.words.Command.{Command}
 use Rattle.cx_run.specs.declared.words.Command.TheVariants as commands
 use Rattle.cx_run.proofs.Asked.{HasFailed, shelf, memory, IsSorted, by_shelf, by_memory, refused, IsFaulty, IsFaultOf, sorted, not_asked, same_request, job_of, no_job, fault_of, spared}
-use Rattle.cx_run.proofs.Stillness.{still_trails}
+use Rattle.cx_run.proofs.Stillness.{still_trails, still_within}
 use Rattle.cx_run.proofs.Totals.{whole_total}
 
 -- ---- what was said
@@ -187,6 +187,15 @@ keeps_trails c answer x told job run trails = go (run_of c answer x job run)
     go (inl comes) = comes.trails run.runs told trails
     go (inr (shelf is rose still)) = still_trails c.work job still told.0 trails
     go (inr (memory is still)) = still_trails c.work job still told.0 trails
+
+pub counts_within : (c : Call) (answer : Answer) → Explains c answer → AreTold c → RunsWithin c
+counts_within c answer x told job run = go (run_of c answer x job run)
+  where
+    go : ComesTo c.work run.request.command job answer ⊎ HasFailed c answer
+        → CountsNoMore (driven c.work job)
+    go (inl comes) = comes.within run.runs told
+    go (inr (shelf is rose still)) = still_within c.work job still
+    go (inr (memory is still)) = still_within c.work job still
 
 -- ---- what `make` tells
 

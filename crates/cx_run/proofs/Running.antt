@@ -168,6 +168,7 @@ module _ (w : Work) (job : Job) (core : Cores) (drives : Drives (driven w job) (
         cause = go is;
         begins = λ run. begins w job starts view;
         trails = λ run. drives.trails;
+        within = λ run. drives.within;
         apart = λ on. absurd (not_both command runs on);
       }
     where
@@ -200,6 +201,7 @@ ran w command job runs (Err fault) drives named starts view answer is =
           (stopped_cause w command job fault runs drives.comes);
       begins = λ run. begins w job starts view;
       trails = λ run. drives.trails;
+      within = λ run. drives.within;
       apart = λ on. absurd (not_both command runs on);
     }
 
@@ -227,6 +229,7 @@ told w command job text answer other text_is is still =
           (told_cause w command job text other text_is still);
       begins = λ run. absurd (other (inl run));
       trails = λ run. absurd (other (inl run));
+      within = λ run. absurd (other (inl run));
       apart = λ on. absurd (other (inr on));
     }
 

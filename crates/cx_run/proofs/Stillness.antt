@@ -1,11 +1,13 @@
 -- What is left where nothing was touched.
-use Rattle.std.proofs.Common.{◌⊎◌, ℕ, ◌<◌, length, Option, None, Some, inl, inr, sym, subst, arith}
+use Rattle.std.proofs.Common.{◌≡◌, ◌⊎◌, ℕ, ◌<◌, ◌≤◌, length, Option, None, Some, inl, inr, sym, subst, arith}
 use Rattle.std.proofs.Math.Path.{fun_ext}
 use Rattle.cx_disk.specs.Disk.{Files, SameFiles}
 use Rattle.cx_plan.specs.declared.job.Job.{Job}
+use Rattle.cx_rule.specs.Meter.{raised}
+use Rattle.cx_wire.specs.Received.{counted}
 use Rattle.cx_keep.specs.Resuming.{AreTrails}
 use Rattle.cx_keep.specs.Trails.{file_of_output}
-use Rattle.cx_run_loop.specs.Drives.{Drive, course, IsNotBelow, KeepsTrail, LeavesTrails}
+use Rattle.cx_run_loop.specs.Drives.{Drive, course, CountsNoMore, IsNotBelow, KeepsTrail, LeavesTrails}
 use Rattle.cx_run_loop.proofs.FoundLaws.{only_newest}
 use Rattle.cx_run.specs.Calls.{Work, IsStill, driven}
 
@@ -47,3 +49,16 @@ still_trails w job still told trails =
     go image (inr (before, was, same)) =
         inr (subst (λ (files : Files). KeepsTrail (driven w job) files) (sym (fun_ext same))
         (keeps_trail (driven w job) trails before was))
+
+-- nothing more was counted
+same_points : (old new more : ℕ) → new ≡ old → new ≤ raised old more
+same_points old new more same = omega (arith, same)
+
+same_values : (old new more : ℕ) → new ≡ old → new ≤ counted old more
+same_values old new more same = omega (arith, same)
+
+pub still_within : (w : Work) (job : Job) → IsStill w → CountsNoMore (driven w job)
+still_within w job still found is state goes = record {
+  points = same_points w.meter.old w.meter.new _ still.meter;
+  values = same_values w.wire.old.received w.wire.new.received _ still.received;
+}

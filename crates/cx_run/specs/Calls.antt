@@ -170,4 +170,5 @@ pub record IsStill (w : Work) : Type 0 where
   pub disk : w.disk.same
   pub quiet : w.disk.tells → IsQuiet w.disk.old w.disk.new
   pub wire : w.wire.same
+  pub received : w.wire.new.received ≡ w.wire.old.received
   pub meter : w.meter.new ≡ w.meter.old

@@ -24,7 +24,7 @@ use Rattle.law_course.specs.Works.{LastIs}
 use Rattle.cx_job.specs.Making.{Made, Makes as MakesWith}
 use Rattle.cx_job.specs.declared.fault.JobFault.{JobFault}
 use Rattle.cx_run_loop.specs.Lent.{HasRisen}
-use Rattle.cx_run_loop.specs.Drives.{Drive, course, AreTold, HasWholeOutput, HasWorked, IsRefused, LeavesTrails}
+use Rattle.cx_run_loop.specs.Drives.{Drive, course, AreTold, CountsNoMore, HasWholeOutput, HasWorked, IsRefused, LeavesTrails}
 use Rattle.cx_run.specs.Answers.{answer_of}
 use Rattle.cx_job_files.specs.Shelf.{Held}
 use Rattle.cx_run_made.specs.Summaries.{live_variable}
@@ -137,12 +137,14 @@ Comes w command job (a.Refused fault) = ⊥
 Comes w command job a.Shelf = ⊥
 
 -- A run that began on trails is refused only where a checkpoint is asked for and there is none, and
--- leaves trails at each moment. A command on chunks leaves alone what isn't one of their files.
+-- leaves trails at each moment. However a run stops, it has counted no more than one that doesn't. A
+-- command on chunks leaves alone what isn't one of their files.
 pub record ComesTo (w : Work) (command : Command) (job : Job) (answer : Answer) : Type 0 where
   pub cause : Comes w command job answer
   pub begins : Runs command → w.disk.tells → WereTrails w job → BeginsOn job w.rules w.disk.old.seen
   pub trails : Runs command → AreTold (driven w job) → WereTrails w job
       → LeavesTrails (driven w job)
+  pub within : Runs command → AreTold (driven w job) → CountsNoMore (driven w job)
   pub apart : OnChunks command → IsApart w
 
 -- ---- what was asked for

@@ -18,7 +18,7 @@ use Rattle.law_course.specs.Beginnings.{run_from}
 use Rattle.cx_job.specs.Making.{without_witness}
 use Rattle.cx_job.specs.declared.fault.JobFault.{JobFault}
 use Rattle.cx_run_loop.specs.Lent.{HasRisen}
-use Rattle.cx_run_loop.specs.Drives.{StartsWell, HasWholeOutput, HasWorked, LeavesTrails}
+use Rattle.cx_run_loop.specs.Drives.{CountsNoMore, StartsWell, HasWholeOutput, HasWorked, LeavesTrails}
 use Rattle.cx_run.specs.Answers.{text_of, Says, WasSaid}
 use Rattle.cx_run.specs.Calls.{Lent, Work, Call, Makes, TellsFiles, Runs, IsRun, AreTold, IsStill, SparesShelf, driven}
 use Rattle.cx_run.specs.Causes.{HasLast, LiveIs, Explains, WereTrails, CanGoOn}
@@ -53,6 +53,11 @@ RunsWell c result =
 -- at every status: from trails each image of each moment is a trail
 abbrev pub KeepsTrails : Call → Type 0
 KeepsTrails c = (job : Job) → IsRun c job → WereTrails c.work job → LeavesTrails (driven c.work job)
+
+-- and no more was counted than the run that goes on from what was found counts in all, where that
+-- one comes to its end without a fault
+abbrev pub RunsWithin : Call → Type 0
+RunsWithin c = (job : Job) → IsRun c job → CountsNoMore (driven c.work job)
 
 -- and a command on chunks leaves the trails of every run as they are
 abbrev pub KeepsAllTrails : Call → Type 0
@@ -160,13 +165,16 @@ pub record Owes (c : Call) (sink : Lent (List ℕ)) (result : ℕ) : Type 0 wher
 
 -- ---- whatever is answered
 
--- the shelf's files are as they were, and no count of faults falls
+-- the shelf's files are as they were, and no count falls: of faults, of computed points, and of
+-- received values
 pub record IsKept (c : Call) (sink : Lent (List ℕ)) : Type 0 where
   pub held : c.shelf.tells → c.shelf.new ≡ c.shelf.old
   pub shelf : c.shelf.faults.old ≤ c.shelf.faults.new
   pub disk : c.work.disk.faults.old ≤ c.work.disk.faults.new
   pub wire : c.work.wire.faults.old ≤ c.work.wire.faults.new
   pub sink_ : sink.faults.old ≤ sink.faults.new
+  pub points : c.work.meter.old ≤ c.work.meter.new
+  pub values : c.work.wire.old.received ≤ c.work.wire.new.received
 
 -- ---- all of it
 
@@ -174,6 +182,7 @@ pub record Obeys (c : Call) (sink : Lent (List ℕ)) (result : ℕ) : Type 0 whe
   pub run : AreTold c → RunsWell c result
   pub trails : AreTold c → KeepsTrails c
   pub all_trails : c.work.disk.tells → KeepsAllTrails c
+  pub within : AreTold c → RunsWithin c
   pub printed : IsAnswered c sink result
   pub summed : AreTold c → SumsUp c sink result
   pub untouched : Spares c result

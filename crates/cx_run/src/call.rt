@@ -126,6 +126,8 @@ fn answer_to<H: Shelf, D: Disk, W: Wire, T: Turns>(
     ensures shelf_count { H.faults shelf.old ≤ H.faults shelf.new }
     ensures disk_count { D.faults disk.old ≤ D.faults disk.new }
     ensures wire_count { W.faults wire.old ≤ W.faults wire.new }
+    ensures points { meter.old ≤ meter.new }
+    ensures values { W.received wire.old ≤ W.received wire.new }
 {
     let Some((command, file, seed)) = request_of(words) else {
         return Answer::Usage;
@@ -240,6 +242,8 @@ fn done<D: Disk, W: Wire, T: Turns>(
     ensures begun { Runs command → T.begun turns.new ≡ Some seed }
     ensures disk_count { D.faults disk.old ≤ D.faults disk.new }
     ensures wire_count { W.faults wire.old ≤ W.faults wire.new }
+    ensures points { meter.old ≤ meter.new }
+    ensures values { W.received wire.old ≤ W.received wire.new }
 {
     match way_of(alloc, command, job) {
         Way::Told(text) => printed(text),

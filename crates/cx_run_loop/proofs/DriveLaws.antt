@@ -1,5 +1,5 @@
 -- What a run answers, and what it leaves.
-use Rattle.std.proofs.Common.{◌≡◌, ℕ, ◌≤◌, arith}
+use Rattle.std.proofs.Common.{◌≡◌, ℕ, ◌≤◌, ◌∙◌, ap, subst, arith}
 use Rattle.std.specs.Prelude.{Option, Result, Ok, Err, IfOk}
 use Rattle.cx_disk.specs.Disk.{View}
 use Rattle.cx_chk.specs.declared.checkpoint.Checkpoint.{Checkpoint}
@@ -7,15 +7,35 @@ use Rattle.cx_keep.specs.Beginning.{HasLengths, IsStarted, StartMoments}
 use Rattle.cx_keep.specs.Tests.{begun}
 use Rattle.cx_plan.specs.Setups.{setup_of}
 use Rattle.cx_outputs.specs.Names.{output_count}
+use Rattle.cx_rule.specs.Meter.{raised}
+use Rattle.cx_rule.specs.States.{State}
+use Rattle.cx_model.specs.Traces.{Trace, Goes}
+use Rattle.cx_wire.specs.Received.{counted}
+use Rattle.cx_keep.specs.declared.fault.BeginFault.{BeginFault}
+use Rattle.law_parts.specs.Beginnings.{Beginning}
+use Rattle.law_parts.specs.Totals.{undivided_from}
+use Rattle.law_course.specs.Beginnings.{run_from}
 use Rattle.cx_core.specs.Cores.{Cores}
 use Rattle.cx_run_loop.specs.declared.fault.DriveFault.{DriveFault}
 use Rattle.cx_run_loop.specs.declared.fault.DriveFault.TheVariants as faults
-use Rattle.cx_run_loop.specs.Drives.{Drive, Drives, AreTold, Comes, HasEnded, LendsScalars, StartsWell}
+use Rattle.cx_run_loop.specs.Drives.{Drive, Drives, AreTold, Comes, HasEnded, LendsScalars, StartsWell, counts_new, counts_old, cut_in}
 use Rattle.cx_run_loop.specs.Faults.{Stops, StopsStart, Why}
-use Rattle.cx_run_loop.specs.Going.{RunLeaves, RunsFrom}
+use Rattle.cx_run_loop.specs.Going.{RunLeaves, RunsFrom, trace_in}
+use Rattle.cx_run_loop.specs.Within.{CountsWithin}
 use Rattle.cx_run_loop.specs.Laws.{DriveLaws}
 use Rattle.cx_run_loop.proofs.StopLaws.{stopped_after}
+use Rattle.cx_run_loop.proofs.TurnLaws.{same_beginning}
 use Rattle.cx_run_loop.proofs.WholeLaws.{setting, counts_before, place_behind, has_run, has_ended, leaves_trails, lends, start_trails}
+
+no_points : (old new more : ℕ) → new ≡ old → new ≤ raised old more
+no_points old new more same = omega (arith, same)
+
+no_values : (old new more : ℕ) → new ≡ old → new ≤ counted old more
+no_values old new more same = omega (arith, same)
+
+same_found : (a b : Option Checkpoint) (r : Result (Option Checkpoint) BeginFault) → r ≡ Ok a
+    → r ≡ Ok b → a ≡ b
+same_found a b r one two = cc
 
 -- ---- a start that failed
 
@@ -37,13 +57,19 @@ module _ (d : Drive) (laws : DriveLaws d.wire.tells d.job d.rules) (fault : Driv
 
   pub refused : (d.disk.tells → StartMoments d.job d.job.recover d.disk.old d.disk.new)
       → d.disk.faults.old ≤ d.disk.faults.new → d.wire.faults.old ≤ d.wire.faults.new
-      → Drives d (Err fault)
-  refused moments later wire_later = record {
+      → d.wire.new.received ≡ d.wire.old.received → Drives d (Err fault)
+  refused moments later wire_later same_values = record {
     comes = comes_stopped fault stops;
     ended = λ told well. tt;
     trails = λ told trails. start_trails d laws d.disk.new moments told.0 trails;
     disk_count = later;
     wire_count = wire_later;
+    points = omega (arith, meter);
+    values = omega (arith, same_values);
+    within = λ told found is state goes. record {
+      points = no_points d.meter.old d.meter.new _ meter;
+      values = no_values d.wire.old.received d.wire.new.received _ same_values;
+    };
   }
 
 -- ---- a run that has begun
@@ -75,8 +101,12 @@ module _ (d : Drive) (laws : DriveLaws d.wire.tells d.job d.rules) (mid : View)
       → (d.disk.tells → StartMoments d.job d.job.recover d.disk.old mid)
       → RunLeaves (setting d) found mid d.disk.new → (begun_at : ℕ)
       → d.disk.faults.old ≤ begun_at
-      → Stops (record { old = begun_at; new = d.disk.faults.new }) d.wire.faults r → Drives d r
-  drives r runs moments leaves begun_at later stops =
+      → Stops (record { old = begun_at; new = d.disk.faults.new }) d.wire.faults r
+      → d.meter.old ≤ d.meter.new → d.wire.old.received ≤ d.wire.new.received
+      → (d.wire.tells → (state : State) → (trace_in (setting d) found).outcome ≡ Goes state
+      → CountsWithin (setup_of d.job) (cut_in d) (trace_in (setting d) found).entries
+      (counts_old d) (counts_new d)) → Drives d r
+  drives r runs moments leaves begun_at later stops points values within =
       let all : Stops d.disk.faults d.wire.faults r =
       stopped_after Cores (record { old = begun_at; new = d.disk.faults.new })
       d.wire.faults d.disk.faults d.wire.faults r later (omega arith) (omega arith)
@@ -87,6 +117,17 @@ module _ (d : Drive) (laws : DriveLaws d.wire.tells d.job d.rules) (mid : View)
         trails = leaves_trails d laws mid found reads is_begun lengths started moments leaves;
         disk_count = all.disk_later;
         wire_count = all.wire_later;
+        points = points;
+        values = values;
+        within = λ told other is state goes.
+            let same : trace_in (setting d) found ≡ run_from (setup_of d.job) d.rules other =
+            ap (λ (b : Beginning). undivided_from (setup_of d.job) d.rules b)
+            (same_beginning (setup_of d.job) found)
+            ∙ ap (λ (f : Option Checkpoint). run_from (setup_of d.job) d.rules f)
+            (same_found found other (begun d.job d.disk.old.seen) (is_begun told.0) is) in
+            subst (λ (u : Trace). CountsWithin (setup_of d.job) (cut_in d) u.entries (counts_old d)
+            (counts_new d)) same
+            (within told.1 state (ap (λ (u : Trace). u.outcome) same ∙ goes));
       }
 
   pub lends_scalars : (r : Result Cores DriveFault)

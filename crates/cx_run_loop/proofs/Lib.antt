@@ -1,3 +1,5 @@
+pub mod AdvanceLaws
+pub mod BegunLaws
 pub mod DriveLaws
 pub mod Elements
 pub mod FoundLaws
@@ -9,4 +11,5 @@ pub mod Works
 pub mod TurnLaws
 pub mod WholeLaws
 pub mod UnderWayLaws
+pub mod WithinLaws
 pub mod StepLaws

@@ -26,19 +26,23 @@ use Rattle.law_parts.specs.Totals.{undivided_from}
 use Rattle.law_reached.specs.Works.{works_of, handed_out, works_left}
 use Rattle.cx_core.specs.declared.answers.Event.{Event}
 use Rattle.cx_core.specs.declared.answers.Event.TheVariants.{Part, Section, Save, End}
-use Rattle.cx_core.specs.declared.answers.Outcome.TheVariants.{Going}
+use Rattle.cx_core.specs.declared.answers.Outcome.{Outcome}
+use Rattle.cx_core.specs.declared.answers.Outcome.TheVariants.{Going, Done, Overflow, WhileLimit, OutputLimit}
 use Rattle.cx_core.specs.Cores.{Cores}
 use Rattle.cx_core.specs.Hands.{HandsOut, IsCheckpointOf, Leaves, StepsTo}
 use Rattle.cx_core.specs.Left.{steps_left}
 use Rattle.cx_core.specs.Starts.{begins_in}
 use Rattle.cx_core.specs.Steps.{Counts}
 use Rattle.cx_core.specs.Texts.{text_of_piece}
+use Rattle.cx_core.specs.Writes.{ended_by}
 use Rattle.law_course.specs.Beginnings.{GoesOn, beginning_of, lengths_found}
 use Rattle.law_course.specs.Courses.{StatesPackAgain, checkpoint_of}
 use Rattle.law_course.specs.Works.{KeptRun, WorksFollow, lengths_done, newest_after, works_by, output_found}
-use Rattle.cx_run_loop.specs.Advances.{HasSaved, IsSave, Saves, SavesOn}
+use Rattle.cx_run_loop.specs.Advances.{FitsOutcome, HasSaved, Saves, SavesOn, came_of}
 use Rattle.cx_run_loop.specs.Going.{Setting, Place, IsBehind, IsGoing, IsKept, IsDriving, IsDriven, IsImageOf, Moves, MovesOn, LeavesImages, Steps, KeepsEvent, EventMoments, run_in, trace_in, kept_in, handed}
 use Rattle.cx_run_loop.specs.Laws.{DriveLaws}
+use Rattle.cx_run_loop.specs.declared.turn.Advance.{Advance}
+use Rattle.cx_run_loop.specs.declared.turn.Advance.TheVariants as answer
 use Rattle.cx_run_loop.proofs.Works.{next_is, driven_quiet, images_quiet, is_packed, text_driven, text_images, state_driven, state_images}
 
 -- ---- runs from what was found
@@ -60,6 +64,16 @@ so_far_is job rules None = refl
 so_far_is job rules (Some c) = refl
 
 -- ---- one event
+
+-- a checkpoint's
+abbrev IsSave : Event → Type 0
+IsSave event = (iteration : ℕ) × (event ≡ Save iteration)
+
+is_save : (event : Event) → came_of event ≡ answer.Saved → IsSave event
+is_save (Part k) same = absurd cc
+is_save (Section v iteration) same = absurd cc
+is_save (Save iteration) same = (iteration, refl)
+is_save End same = absurd cc
 
 -- how long an output is behind some entries
 longer_by : (so_far : Lengths) (w v : VarId) (text : List ℕ) (rest : ℕ)
@@ -218,6 +232,29 @@ over_by q trace setup before now was is (Save iteration) leaves hands going over
     absurd (over (ap (λ (c : Cores). c.outcome) leaves.0 ∙ going))
 over_by q trace setup before now was is End leaves hands going over = hands.1
 
+-- what comes of an event fits the outcome that it leaves
+ended_is_over : (o : Outcome) → ended_by o ≢ Going
+ended_is_over Going same = absurd cc
+ended_is_over Done same = absurd cc
+ended_is_over (Overflow iteration path) same = absurd cc
+ended_is_over (WhileLimit iteration path) same = absurd cc
+ended_is_over (OutputLimit iteration) same = absurd cc
+
+limit_is_over : (iteration : ℕ) → OutputLimit iteration ≢ Going
+limit_is_over iteration same = absurd cc
+
+outcome_after : (setup : Setup) (was is : Cores) (event : Event) → Leaves setup was is event
+    → was.outcome ≡ Going → FitsOutcome (came_of event) is.outcome
+outcome_after setup was is (Part k) leaves going = leaves.1 ∙ going
+outcome_after setup was is (Section v iteration) leaves going =
+    ap (λ (c : Cores). c.outcome) leaves.0 ∙ going
+outcome_after setup was is (Save iteration) leaves going =
+    ap (λ (c : Cores). c.outcome) leaves.0 ∙ going
+outcome_after setup was is End (inl ended) going =
+    λ goes. ended_is_over was.met (sym (ap (λ (c : Cores). c.outcome) ended) ∙ goes)
+outcome_after setup was is End (inr met) going =
+    λ goes. limit_is_over met.1 (sym (ap (λ (c : Cores). c.outcome) met.2) ∙ goes)
+
 -- ---- one turn
 
 module _ (s : Setting) (laws : DriveLaws s.wire s.job s.rules) (was is : Place s) (event : Event)
@@ -304,13 +341,14 @@ pub turn_saves : (s : Setting) (laws : DriveLaws s.wire s.job s.rules) (was is :
     (event : Event) → was.is.core.outcome ≡ Going → was.is.core.buffers.state.key ≡ s.job.key
     → Steps s.wire s.job s.rules was.is is.is event
     → (s.disk → KeepsEvent (setup_of s.job) is.is.core was.view is.view event)
-    → IsSave event → SavesOn s was is
+    → came_of event ≡ answer.Saved → SavesOn s was is
 turn_saves s laws was is event going key steps keeps save found first x = record {
   moves = record {
     there = there s laws was is event going key steps found first x;
     driven = turn_driven s laws was is event going key steps found first x keeps;
   };
-  saved = turn_saved s laws was is event going key steps found first x keeps save;
+  saved = turn_saved s laws was is event going key steps found first x keeps
+      (is_save event save);
 }
 
 -- ---- turns one after another
@@ -381,6 +419,14 @@ module _ (s : Setting) (k : Keeper) (was is : Place s) (event : Event) (going : 
     kept = going.kept;
     key = taken.key;
   }
+
+  pub fits_outcome : was.is.core.outcome ≡ Going → (came : Advance) → came ≡ came_of event
+      → FitsOutcome came is.is.core.outcome
+  fits_outcome outcome came same =
+      subst (λ (x : Advance). FitsOutcome x is.is.core.outcome) (sym same)
+      (outcome_after (setup_of s.job) was.is.core is.is.core event
+      (subst (λ (u : Setup). Leaves u was.is.core is.is.core event)
+      (setup_is s.job s.rules going.running.beginning) taken.leaves) outcome)
 
   pub less : steps_left (setup_of s.job) is.is.core.pace
       < steps_left (setup_of s.job) was.is.core.pace

@@ -30,8 +30,10 @@ use Rattle.law_course.specs.Starts.{course_in}
 use Rattle.law_course.specs.Works.{LastIs}
 use Rattle.cx_core.specs.Cores.{Cores}
 use Rattle.cx_core.specs.Hands.{HasScalar, ended_as, last_number}
+use Rattle.cx_core.specs.Steps.{Counts, counts}
 use Rattle.cx_core.specs.declared.answers.Outcome.TheVariants.{Going, Done}
 use Rattle.cx_run_loop.specs.Lent.{Count, HasRisen, LentDisk, LentWire, lent_disk, lent_wire}
+use Rattle.cx_run_loop.specs.Within.{CountsWithin}
 use Rattle.cx_keep.specs.declared.fault.BeginFault.{BeginFault}
 use Rattle.cx_keep.specs.declared.fault.BeginFault.TheVariants as begin_faults
 use Rattle.cx_run_loop.specs.declared.fault.DriveFault.{DriveFault}
@@ -209,6 +211,22 @@ LendsScalars job core = (v : VarId) → v.0 < length (setup_of job).vars
     → 0 < levels_of (setup_of job) v
     → is_scalar (setup_of job) v ≡ true → HasScalar core v
 
+-- what the meter and the wire have counted
+abbrev pub counts_old : Drive → Counts
+counts_old d = counts d.meter.old d.wire.old.received d.wire.old.sum
+
+abbrev pub counts_new : Drive → Counts
+counts_new d = counts d.meter.new d.wire.new.received d.wire.new.sum
+
+-- Where the run that goes on from what was found comes to its end without a fault, no more was
+-- counted than it counts in all, however this one stopped.
+abbrev pub CountsNoMore : Drive → Type 0
+CountsNoMore d =
+    (found : Option Checkpoint) → begun d.job d.disk.old.seen ≡ Ok found → (state : State)
+    → (run_from (setup_of d.job) d.rules found).outcome ≡ Goes state
+    → CountsWithin (setup_of d.job) (cut_in d) (run_from (setup_of d.job) d.rules found).entries
+    (counts_old d) (counts_new d)
+
 -- ---- all of it
 
 pub record Drives (d : Drive) (result : Result Cores DriveFault) : Type 0 where
@@ -217,3 +235,6 @@ pub record Drives (d : Drive) (result : Result Cores DriveFault) : Type 0 where
   pub trails : AreTold d → AreTrails (course d) d.disk.old → LeavesTrails d
   pub disk_count : d.disk.faults.old ≤ d.disk.faults.new
   pub wire_count : d.wire.faults.old ≤ d.wire.faults.new
+  pub points : d.meter.old ≤ d.meter.new
+  pub values : d.wire.old.received ≤ d.wire.new.received
+  pub within : AreTold d → CountsNoMore d

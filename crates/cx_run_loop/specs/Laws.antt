@@ -10,6 +10,7 @@ use Rattle.law_course.specs.Beginnings.{CourseGoesOn, FittingCanBegin}
 use Rattle.law_course.specs.Courses.{CourseRises, CourseSplits, CourseFits, StatesPackAgain}
 use Rattle.law_course.specs.Starts.{TrailsBegin, course_in}
 use Rattle.law_course.specs.Works.{EachWorkFollows}
+use Rattle.cx_run_loop.specs.Within.{CountsStay}
 
 pub record DriveLaws (tells : Type 0) (job : Job) (rules : List Rule) : Type 0 where
   pub works : (b : Beginning) → IsBeginning (setup_of job) b
@@ -22,3 +23,4 @@ pub record DriveLaws (tells : Type 0) (job : Job) (rules : List Rule) : Type 0 w
   pub pack : StatesPackAgain (setup_of job)
   pub can_begin : FittingCanBegin job
   pub begin : TrailsBegin job rules
+  pub counts : (b : Beginning) → IsBeginning (setup_of job) b → CountsStay tells job rules b

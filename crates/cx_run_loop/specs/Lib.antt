@@ -6,3 +6,4 @@ pub mod Going
 pub mod Laws
 pub mod Advances
 pub mod UnderWay
+pub mod Within

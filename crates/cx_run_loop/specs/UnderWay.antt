@@ -23,6 +23,9 @@ pub record Runs : Type 0 where
   pub keeper : Keeper
   pub core : Cores
 
+abbrev pub runs : Keeper → Cores → Runs
+runs keeper core = record { keeper = keeper; core = core }
+
 -- ---- as it begins
 
 -- a place at which a run begins from what was found: its core has done nothing yet, and its keeper

@@ -1,16 +1,16 @@
 //! A run of a job, from its start or from a checkpoint to its end.
-ghost use Rattle.std.specs.Prelude.{◌≡◌, ◌≤◌, IsTrue, map, IfOk, OnOk};
+ghost use Rattle.std.specs.Prelude.{◌≡◌, ◌≤◌, map, IfOk, OnOk};
 ghost use Rattle.cx_cut.specs.Cuts.{part_count};
 ghost use Rattle.cx_cut.specs.Faults.{parts_of};
 ghost use Rattle.cx_disk.specs.Disk.{IsNamed};
-ghost use Rattle.cx_disk.specs.Files.{count_with};
 ghost use Rattle.cx_plan.specs.Setups.{setup_of};
-ghost use Rattle.cx_outputs.specs.Names.{HasShortNames, output_count, output_names};
+ghost use Rattle.cx_outputs.specs.Names.{HasShortNames, output_names};
 ghost use Rattle.cx_rule.specs.Jobs.{FitJob};
 ghost use Rattle.cx_core.specs.Starts.{AreEmpty, IsReady};
+ghost use Rattle.cx_run_loop.specs.Advances.{CanAdvance, Keeps, run_state};
 ghost use Rattle.cx_run_loop.specs.Drives.{Drives, LendsScalars, driven_by};
 ghost use Rattle.cx_run_loop.specs.Faults.{Stops};
-ghost use Rattle.cx_run_loop.specs.Going.{EndsAt, IsGoing, LeavesImages, place_at, setting};
+ghost use Rattle.cx_run_loop.specs.Going.{EndsAt, place_at, setting};
 
 use crate::fault::DriveFault;
 use crate::laws::drive_laws;
@@ -72,27 +72,23 @@ fn run_to_end<D: Disk, W: Wire, T: Turns>(
     meter: &mut Meter,
 ) -> Result<Core, DriveFault>
     requires job { IsReady job.now }
-    requires routines { FitJob (map spec_of routines.now) job.now }
-    requires parts { part_count (parts_of job.now.shape job.now.cut) ≤ W.parts wire.old }
-    requires mounted { IsTrue (D.mounted disk.old) }
-    requires files { D.file_count disk.old ≡ count_with (output_count (setup_of job.now)) }
-    requires names { (D.folders disk.old).names ≡ output_names (setup_of job.now) }
     requires short { HasShortNames (setup_of job.now) }
-    requires going { IsGoing (setting D.Disk W.Wire job.now (map rule routines.now)) run.keeper
-        (place_at D.Disk W.Wire run.core disk.old wire.old meter.old) }
+    requires routines { FitJob (map spec_of routines.now) job.now }
+    requires able { CanAdvance D.Disk W.Wire job.now (map rule routines.now)
+        (run_state run disk.old wire.old meter.old) }
     ensures ends { IfOk result (λ now. EndsAt
         (setting D.Disk W.Wire job.now (map rule routines.now))
         (place_at D.Disk W.Wire run.core disk.old wire.old meter.old)
         (place_at D.Disk W.Wire now disk.new wire.new meter.new)) }
-    ensures moments { LeavesImages (setting D.Disk W.Wire job.now (map rule routines.now))
-        (place_at D.Disk W.Wire run.core disk.old wire.old meter.old) (D.view disk.new) }
-    ensures folders { D.folders disk.new ≡ D.folders disk.old }
+    ensures keeps { Keeps D.Disk W.Wire job.now (map rule routines.now)
+        (run_state run disk.old wire.old meter.old) disk.new wire.new meter.new }
     ensures begun { T.begun turns.new ≡ T.begun turns.old }
     ensures stops { Stops
         (record { old = D.faults disk.old; new = D.faults disk.new })
         (record { old = W.faults wire.old; new = W.faults wire.new }) result }
 {
     core_stands(job);
+    drive_laws(job);
     'turns: while run.goes_on() {
         run.advance(alloc, u32::MAX, job, routines, disk, wire, turns, meter)?;
     }

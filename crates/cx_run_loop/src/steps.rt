@@ -1,7 +1,5 @@
 //! A run in steps: it begins, is moved on by so many events at a time, and is finished.
 ghost use Rattle.std.specs.Prelude.{◌≡◌, ◌<◌, ◌≤◌, ◌^◌, ◌↔◌, ℕ, Bool, IsTrue, List, length, map, IfErr, IfOk, IfSome, OnOk, true};
-ghost use Rattle.cx_cut.specs.Cuts.{part_count};
-ghost use Rattle.cx_cut.specs.Faults.{parts_of};
 ghost use Rattle.cx_disk.specs.Disk.{IsNamed};
 ghost use Rattle.cx_disk.specs.Files.{count_with};
 ghost use Rattle.cx_disk.specs.Moments.{IsQuiet};
@@ -14,13 +12,11 @@ ghost use Rattle.law_parts.specs.Beginnings.{IsBeginning, run_of};
 ghost use Rattle.cx_keep.specs.Beginning.{HasLengths, StartMoments};
 ghost use Rattle.cx_keep.specs.Fits.{fits_job};
 ghost use Rattle.cx_keep.specs.Trails.{OutputsSettled};
-ghost use Rattle.cx_core.specs.Left.{steps_left};
 ghost use Rattle.cx_core.specs.Starts.{AreEmpty, IsReady, begins_in, lengths_first};
 ghost use Rattle.cx_core.specs.Steps.{Begins, Counts};
 ghost use Rattle.cx_core.specs.declared.answers.Outcome.TheVariants as outcomes;
-ghost use Rattle.cx_run_loop.specs.Advances.{FitsOutcome, SavesOn};
+ghost use Rattle.cx_run_loop.specs.Advances.{Advances, CanAdvance, Keeps, run_state};
 ghost use Rattle.cx_run_loop.specs.Faults.{Stops, StopsStart};
-ghost use Rattle.cx_run_loop.specs.Going.{IsGoing, LeavesImages, MovesOn, place_at, setting};
 ghost use Rattle.cx_run_loop.specs.UnderWay.{HasBegun};
 
 use crate::fault::DriveFault;
@@ -96,7 +92,8 @@ impl Run {
         matches!(self.core.outcome(), Outcome::Going)
     }
 
-    /// Moves a run on that goes on, by `most` events. It stops before that where a checkpoint was saved, or where the run is over.
+    /// Moves a run on that goes on, by `most` events. It stops before that where a checkpoint was saved, or where the run is over: so
+    /// `Saved` and `Over` say what the last event was, and `More` that there were `most` events, and none of them was a checkpoint.
     ///
     /// `turns` picks each time which of the events that can happen does. Each text is appended to its variable's output as it comes,
     /// and each checkpoint is saved.
@@ -117,37 +114,17 @@ impl Run {
     ) -> Result<Advance, DriveFault>
         requires some { 0 < most }
         requires job { IsReady job.now }
-        requires routines { FitJob (map spec_of routines.now) job.now }
-        requires parts { part_count (parts_of job.now.shape job.now.cut) ≤ W.parts wire.old }
-        requires mounted { IsTrue (D.mounted disk.old) }
-        requires files { D.file_count disk.old ≡ count_with (output_count (setup_of job.now)) }
-        requires names { (D.folders disk.old).names ≡ output_names (setup_of job.now) }
         requires short { HasShortNames (setup_of job.now) }
-        requires going { IsGoing (setting D.Disk W.Wire job.now (map rule routines.now))
-            self.old.keeper
-            (place_at D.Disk W.Wire self.old.core disk.old wire.old meter.old) }
+        requires routines { FitJob (map spec_of routines.now) job.now }
+        requires able { CanAdvance D.Disk W.Wire job.now (map rule routines.now)
+            (run_state self.old disk.old wire.old meter.old) }
         requires outcome { self.old.core.outcome ≡ outcomes.Going }
-        ensures moves { OnOk result
-            (MovesOn (setting D.Disk W.Wire job.now (map rule routines.now))
-            (place_at D.Disk W.Wire self.old.core disk.old wire.old meter.old)
-            (place_at D.Disk W.Wire self.new.core disk.new wire.new meter.new)) }
-        ensures saved { IfOk result (λ came. came ≡ Advance.Saved
-            → SavesOn (setting D.Disk W.Wire job.now (map rule routines.now))
-            (place_at D.Disk W.Wire self.old.core disk.old wire.old meter.old)
-            (place_at D.Disk W.Wire self.new.core disk.new wire.new meter.new)) }
-        ensures over { IfOk result (λ came. FitsOutcome came self.new.core.outcome) }
-        ensures moments { LeavesImages (setting D.Disk W.Wire job.now (map rule routines.now))
-            (place_at D.Disk W.Wire self.old.core disk.old wire.old meter.old)
-            (D.view disk.new) }
-        ensures going { OnOk result (IsGoing
-            (setting D.Disk W.Wire job.now (map rule routines.now)) self.new.keeper
-            (place_at D.Disk W.Wire self.new.core disk.new wire.new meter.new)) }
-        ensures less { OnOk result (steps_left (setup_of job.now) self.new.core.pace
-            < steps_left (setup_of job.now) self.old.core.pace) }
-        ensures parts { W.parts wire.new ≡ W.parts wire.old }
-        ensures mounted { IsTrue (D.mounted disk.new) }
-        ensures files { D.file_count disk.new ≡ count_with (output_count (setup_of job.now)) }
-        ensures folders { D.folders disk.new ≡ D.folders disk.old }
+        ensures advances { IfOk result
+            (Advances D.Disk W.Wire job.now (map rule routines.now) most
+            (run_state self.old disk.old wire.old meter.old)
+            (run_state self.new disk.new wire.new meter.new)) }
+        ensures keeps { Keeps D.Disk W.Wire job.now (map rule routines.now)
+            (run_state self.old disk.old wire.old meter.old) disk.new wire.new meter.new }
         ensures begun { T.begun turns.new ≡ T.begun turns.old }
         ensures stops { Stops
             (record { old = D.faults disk.old; new = D.faults disk.new })

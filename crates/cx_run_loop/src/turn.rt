@@ -1,23 +1,23 @@
 //! One turn: an event of the core, and what it is to the keeper.
-ghost use Rattle.std.specs.Prelude.{◌≡◌, ◌<◌, ◌≤◌, ℕ, map, IsTrue, OnOk, IfOk};
-ghost use Rattle.cx_disk.specs.Files.{count_with};
+ghost use Rattle.std.specs.Prelude.{◌≡◌, ◌≤◌, ℕ, map, IsTrue, IfOk};
 ghost use Rattle.cx_cut.specs.Cuts.{part_count};
 ghost use Rattle.cx_cut.specs.Faults.{parts_of};
 ghost use Rattle.cx_plan.specs.Setups.{setup_of};
-ghost use Rattle.cx_outputs.specs.Names.{HasShortNames, output_count, output_names};
+ghost use Rattle.cx_outputs.specs.Names.{HasShortNames};
 ghost use Rattle.cx_rule.specs.Jobs.{FitJob};
-ghost use Rattle.cx_core.specs.Left.{steps_left};
 ghost use Rattle.cx_core.specs.Starts.{IsReady};
-ghost use Rattle.cx_core.specs.Steps.{IsRunning, stands_at};
+ghost use Rattle.cx_core.specs.Steps.{IsRunning, counts, stands_at};
 ghost use Rattle.cx_core.specs.declared.answers.Outcome.TheVariants as outcomes;
-ghost use Rattle.cx_run_loop.specs.Advances.{FitsOutcome, IsSave, SavesOn};
+ghost use Rattle.cx_run_loop.specs.Advances.{Advances, CanAdvance, Keeps, came_of, run_state};
 ghost use Rattle.cx_run_loop.specs.Faults.{Stops};
-ghost use Rattle.cx_run_loop.specs.Going.{IsGoing, LeavesImages, MovesOn, Steps, place_at, setting};
+ghost use Rattle.cx_run_loop.specs.Going.{Steps};
+ghost use Rattle.cx_run_loop.specs.UnderWay.{runs};
+ghost use Rattle.cx_run_loop.specs.Within.{StepsWithin};
 
 use crate::event::keep_event;
 use crate::fault::DriveFault;
 use crate::laws::drive_laws;
-use cx_core::{Core, Event, Outcome, core_stands};
+use cx_core::{Core, Event, core_stands};
 use cx_disk::Disk;
 use cx_keep::Keep;
 use cx_plan::Job;
@@ -50,34 +50,18 @@ pub(crate) fn turn<D: Disk, W: Wire, T: Turns>(
     meter: &mut Meter,
 ) -> Result<Advance, DriveFault>
     requires job { IsReady job.now }
-    requires routines { FitJob (map spec_of routines.now) job.now }
-    requires parts { part_count (parts_of job.now.shape job.now.cut) ≤ W.parts wire.old }
-    requires mounted { IsTrue (D.mounted disk.old) }
-    requires files { D.file_count disk.old ≡ count_with (output_count (setup_of job.now)) }
-    requires names { (D.folders disk.old).names ≡ output_names (setup_of job.now) }
     requires short { HasShortNames (setup_of job.now) }
-    requires going { IsGoing (setting D.Disk W.Wire job.now (map rule routines.now)) keep.old
-        (place_at D.Disk W.Wire core.old disk.old wire.old meter.old) }
+    requires routines { FitJob (map spec_of routines.now) job.now }
+    requires able { CanAdvance D.Disk W.Wire job.now (map rule routines.now)
+        (run_state (runs keep.old core.old) disk.old wire.old meter.old) }
     requires outcome { core.old.outcome ≡ outcomes.Going }
-    ensures moves { OnOk result (MovesOn (setting D.Disk W.Wire job.now (map rule routines.now))
-        (place_at D.Disk W.Wire core.old disk.old wire.old meter.old)
-        (place_at D.Disk W.Wire core.new disk.new wire.new meter.new)) }
-    ensures saved { IfOk result (λ came. came ≡ Advance.Saved
-        → SavesOn (setting D.Disk W.Wire job.now (map rule routines.now))
-        (place_at D.Disk W.Wire core.old disk.old wire.old meter.old)
-        (place_at D.Disk W.Wire core.new disk.new wire.new meter.new)) }
-    ensures over { IfOk result (λ came. FitsOutcome came core.new.outcome) }
-    ensures moments { LeavesImages (setting D.Disk W.Wire job.now (map rule routines.now))
-        (place_at D.Disk W.Wire core.old disk.old wire.old meter.old) (D.view disk.new) }
-    ensures going { OnOk result (IsGoing
-        (setting D.Disk W.Wire job.now (map rule routines.now)) keep.new
-        (place_at D.Disk W.Wire core.new disk.new wire.new meter.new)) }
-    ensures less { OnOk result (steps_left (setup_of job.now) core.new.pace
-        < steps_left (setup_of job.now) core.old.pace) }
-    ensures parts { W.parts wire.new ≡ W.parts wire.old }
-    ensures mounted { IsTrue (D.mounted disk.new) }
-    ensures files { D.file_count disk.new ≡ count_with (output_count (setup_of job.now)) }
-    ensures folders { D.folders disk.new ≡ D.folders disk.old }
+    ensures advances { IfOk result
+        (Advances D.Disk W.Wire job.now (map rule routines.now) 1
+        (run_state (runs keep.old core.old) disk.old wire.old meter.old)
+        (run_state (runs keep.new core.new) disk.new wire.new meter.new)) }
+    ensures keeps { Keeps D.Disk W.Wire job.now (map rule routines.now)
+        (run_state (runs keep.old core.old) disk.old wire.old meter.old)
+        disk.new wire.new meter.new }
     ensures begun { T.begun turns.new ≡ T.begun turns.old }
     ensures stops { Stops
         (record { old = D.faults disk.old; new = D.faults disk.new })
@@ -86,20 +70,17 @@ pub(crate) fn turn<D: Disk, W: Wire, T: Turns>(
     drive_laws(job);
     let event = step(alloc, job, routines, core, wire, turns, meter)?;
     keep_event(alloc, job, keep, core, event, disk)?;
-    Ok(advance_by(core, event))
+    Ok(came_of(event))
 }
 
-/// What came of an event.
-fn advance_by(core: &Core, event: Event) -> Advance
-    ensures over { FitsOutcome result core.now.outcome }
-    ensures saved { result ≡ Advance.Saved → IsSave event }
+/// What comes of an event.
+fn came_of(event: Event) -> Advance
+    ensures { result ≡ came_of event }
 {
-    match core.outcome() {
-        Outcome::Going => match event {
-            Event::Save(_) => Advance::Saved,
-            _ => Advance::More,
-        },
-        _ => Advance::Over,
+    match event {
+        Event::Part(_) | Event::Section { .. } => Advance::More,
+        Event::Save(_) => Advance::Saved,
+        Event::End => Advance::Over,
     }
 }
 
@@ -126,11 +107,18 @@ fn step<W: Wire, T: Turns>(
         (stands_at core.new
         (W.queue wire.new) meter.new (W.received wire.new) (W.sum wire.new))) }
     ensures parts { W.parts wire.new ≡ W.parts wire.old }
+    ensures points { meter.old ≤ meter.new }
+    ensures values { W.received wire.old ≤ W.received wire.new }
+    ensures within { StepsWithin (IsTrue W.tells) job.now (map rule routines.now)
+        (stands_at core.old
+        (W.queue wire.old) meter.old (W.received wire.old) (W.sum wire.old))
+        (counts meter.new (W.received wire.new) (W.sum wire.new)) }
     ensures begun { T.begun turns.new ≡ T.begun turns.old }
     ensures stops { (n : ℕ) → Stops (record { old = n; new = n })
         (record { old = W.faults wire.old; new = W.faults wire.new }) result }
 {
     core_stands(job);
+    drive_laws(job);
     let k = turns.pick(core.enabled());
     Ok(core.step(alloc, k, job, routines, wire, meter)?)
 }

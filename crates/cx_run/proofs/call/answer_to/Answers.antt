@@ -16,4 +16,10 @@ returns-in-Err-clause-explained g c =
     asked.with_fault _ (request c.in-Some.command c.in-Some.file.now c.in-Some.seed)
     c.in-Err.fault c.answer_of.result (sym c.in-Some.ensures)
     c.in-Err.ensures.spared c.in-Err.ensures.made c.answer_of.ensures
-    (record { disk = refl; quiet = λ told. quiet_at_start _; wire = refl; meter = refl })
+    (record {
+      disk = refl;
+      quiet = λ told. quiet_at_start _;
+      wire = refl;
+      received = refl;
+      meter = refl;
+    })

@@ -10,6 +10,7 @@ returns g c =
         run = clauses.runs_well _ _ c.answer_to-answer.result _ x said;
         trails = clauses.keeps_trails _ c.answer_to-answer.result x;
         all_trails = clauses.keeps_all_trails _ c.answer_to-answer.result x;
+        within = clauses.counts_within _ c.answer_to-answer.result x;
         summed = clauses.sums_up _ _ c.answer_to-answer.result _ x said;
         printed = record { answer = c.answer_to-answer.result; cause = x; said = said };
         untouched = clauses.spares _ _ c.answer_to-answer.result _ x said;
@@ -20,6 +21,8 @@ returns g c =
           disk = c.answer_to-answer.ensures.disk_count;
           wire = c.answer_to-answer.ensures.wire_count;
           sink_ = c.reply.ensures.later;
+          points = c.answer_to-answer.ensures.points;
+          values = c.answer_to-answer.ensures.values;
         };
       };
     }

@@ -31,7 +31,13 @@ pub returns-in-Told-clause-comes : goal.returns-in-Told-clause-comes
 returns-in-Told-clause-comes g c =
     running.told _ c.args.command c.args.job.now c.in-Told.text c.printed.result c.in-Told.ensures.0
     c.in-Told.ensures.1 c.printed.ensures
-    (record { disk = refl; quiet = λ told. quiet_at_start _; wire = refl; meter = refl })
+    (record {
+      disk = refl;
+      quiet = λ told. quiet_at_start _;
+      wire = refl;
+      received = refl;
+      meter = refl;
+    })
 
 pub returns-in-Run-clause-begun : goal.returns-in-Run-clause-begun
 returns-in-Run-clause-begun g c = λ runs. c.drive-came.ensures.begun ∙ c.start.ensures.begun

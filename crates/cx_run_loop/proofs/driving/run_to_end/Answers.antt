@@ -1,40 +1,24 @@
-use Rattle.std.proofs.Common.{◌≡◌, ◌≤◌, ℕ, true, false, map, ap, arith, refl, sym, ◌∙◌}
+use Rattle.std.proofs.Common.{◌≡◌, ◌≤◌, ℕ, true, false, List, map, arith, refl, sym, ◌∙◌}
 use Rattle.std.proofs.lemmas.Result.{err_from_is_err_and}
-use Rattle.std.specs.Prelude.{IsTrue, Err}
-use Rattle.cx_disk.specs.Disk.{Folders}
+use Rattle.std.specs.Prelude.{Err}
 use Rattle.cx_plan.specs.Setups.{setup_of}
+use Rattle.cx_rule.specs.Routine.{Rule}
 use Rattle.cx_core.specs.Starts.{begins_in}
-use Rattle.cx_core.specs.Steps.{stands_at}
-use Rattle.cx_run_loop.specs.Going.{Setting, Place}
+use Rattle.cx_run_loop.specs.Advances.{place_of, run_state}
+use Rattle.cx_run_loop.proofs.AdvanceLaws.{can_again, keeps_more, keeps_none, keeps_quiet}
 use Rattle.cx_run_loop.proofs.StepLaws.{ends_with}
 use Rattle.cx_run_loop.proofs.StopLaws.{count, stopped_first, stopped_after}
-use Rattle.cx_run_loop.proofs.TurnLaws.{moves_none, moves_more, images_none, images_more, leaves_quiet}
+use Rattle.cx_run_loop.proofs.TurnLaws.{moves_none, moves_more}
 use Rattle.cx_run_loop.proofs.driving.run_to_end.Goals as goal
 
 pub turns-init : goal.turns-init
 turns-init g c =
-    let s : Setting = record {
-      job = c.args.job.now;
-      rules = map (λ r. (goal.Routine-dyn g (r.vtable, r.value)).rule r.value)
-          c.args.routines.now;
-      wire = IsTrue g.W.Wire.tells;
-      disk = g.D.Disk.tells;
-    } in
-    let was : Place s = record {
-      is =
-          stands_at c.args.run.core (g.W.Wire.queue c.args.wire.now) c.args.meter.now
-          (g.W.Wire.received c.args.wire.now) (g.W.Wire.sum c.args.wire.now);
-      view = g.D.Disk.view c.args.disk.now;
-    } in
+    let was = run_state c.args.run c.args.disk.now c.args.wire.now c.args.meter.now in
     record {
-      moves = moves_none s was;
-      moments = images_none s was;
-      going = c.requires.going;
-      parts = refl;
-      mounted = c.requires.mounted;
-      files = c.requires.files;
-      names = c.requires.names;
-      folders = refl;
+      moves = moves_none _ (place_of g.D.Disk g.W.Wire c.args.job.now _ was);
+      able = c.requires.able;
+      keeps = keeps_none g.D.Disk g.W.Wire c.args.job.now _
+          (c.drive_laws.ensures g.W.Wire.tells _) was c.requires.able;
       begun = refl;
       disk_later = omega arith;
       wire_later = omega arith;
@@ -42,31 +26,10 @@ turns-init g c =
 
 pub turns-preserved : goal.turns-preserved
 turns-preserved g c =
-    let s : Setting = record {
-      job = c.args.job.now;
-      rules = map (λ r. (goal.Routine-dyn g (r.vtable, r.value)).rule r.value)
-          c.args.routines.now;
-      wire = IsTrue g.W.Wire.tells;
-      disk = g.D.Disk.tells;
-    } in
-    let was : Place s = record {
-      is =
-          stands_at c.args.run.core (g.W.Wire.queue c.args.wire.now) c.args.meter.now
-          (g.W.Wire.received c.args.wire.now) (g.W.Wire.sum c.args.wire.now);
-      view = g.D.Disk.view c.args.disk.now;
-    } in
-    let mid : Place s = record {
-      is =
-          stands_at c.turns.run.core (g.W.Wire.queue c.turns.wire) c.turns.meter
-          (g.W.Wire.received c.turns.wire) (g.W.Wire.sum c.turns.wire);
-      view = g.D.Disk.view c.turns.disk;
-    } in
-    let now : Place s = record {
-      is =
-          stands_at c.advance.new.self.core (g.W.Wire.queue c.advance.new.wire) c.advance.new.meter
-          (g.W.Wire.received c.advance.new.wire) (g.W.Wire.sum c.advance.new.wire);
-      view = g.D.Disk.view c.advance.new.disk;
-    } in
+    let was = run_state c.args.run c.args.disk.now c.args.wire.now c.args.meter.now in
+    let mid = run_state c.turns.run c.turns.disk c.turns.wire c.turns.meter in
+    let is = run_state c.advance.new.self c.advance.new.disk c.advance.new.wire
+    c.advance.new.meter in
     let a : g.D.Disk.faults c.args.disk.now ≤ g.D.Disk.faults c.turns.disk =
     c.turns.invariant.disk_later in
     let b : g.D.Disk.faults c.turns.disk ≤ g.D.Disk.faults c.advance.new.disk =
@@ -76,99 +39,61 @@ turns-preserved g c =
     let f : g.W.Wire.faults c.turns.wire ≤ g.W.Wire.faults c.advance.new.wire =
     c.in_ok-advance.ensures.stops.wire_later in
     record {
-      moves = moves_more s was mid now c.turns.invariant.moves c.in_ok-advance.ensures.moves;
-      moments = images_more s was mid now.view c.turns.invariant.moves c.turns.invariant.moments
-          c.in_ok-advance.ensures.moments;
-      going = c.in_ok-advance.ensures.going;
-      parts = c.in_ok-advance.ensures.parts ∙ c.turns.invariant.parts;
-      mounted = c.in_ok-advance.ensures.mounted;
-      files = c.in_ok-advance.ensures.files;
-      names = ap (λ (f : Folders). f.names) c.in_ok-advance.ensures.folders
-          ∙ c.turns.invariant.names;
-      folders = c.in_ok-advance.ensures.folders ∙ c.turns.invariant.folders;
+      moves = moves_more _ (place_of g.D.Disk g.W.Wire c.args.job.now _ was)
+          (place_of g.D.Disk g.W.Wire c.args.job.now _ mid)
+          (place_of g.D.Disk g.W.Wire c.args.job.now _ is) c.turns.invariant.moves
+          c.in_ok-advance.ensures.advances.moves;
+      able = can_again g.D.Disk g.W.Wire c.args.job.now _ mid is c.turns.invariant.able
+          c.in_ok-advance.ensures.keeps c.in_ok-advance.ensures.advances.going;
+      keeps = keeps_more g.D.Disk g.W.Wire c.args.job.now _ was mid c.advance.new.disk
+          c.advance.new.wire c.advance.new.meter c.turns.invariant.moves c.turns.invariant.keeps
+          c.in_ok-advance.ensures.keeps;
       begun = c.in_ok-advance.ensures.begun ∙ c.turns.invariant.begun;
       disk_later = omega arith;
       wire_later = omega arith;
     }
 
-pub returns-in_err-advance-clause-moments : goal.returns-in_err-advance-clause-moments
-returns-in_err-advance-clause-moments g c =
-    let s : Setting = record {
-      job = c.args.job.now;
-      rules = map (λ r. (goal.Routine-dyn g (r.vtable, r.value)).rule r.value)
-          c.args.routines.now;
-      wire = IsTrue g.W.Wire.tells;
-      disk = g.D.Disk.tells;
-    } in
-    let was : Place s = record {
-      is =
-          stands_at c.args.run.core (g.W.Wire.queue c.args.wire.now) c.args.meter.now
-          (g.W.Wire.received c.args.wire.now) (g.W.Wire.sum c.args.wire.now);
-      view = g.D.Disk.view c.args.disk.now;
-    } in
-    let mid : Place s = record {
-      is =
-          stands_at c.turns.run.core (g.W.Wire.queue c.turns.wire) c.turns.meter
-          (g.W.Wire.received c.turns.wire) (g.W.Wire.sum c.turns.wire);
-      view = g.D.Disk.view c.turns.disk;
-    } in
-    images_more s was mid (g.D.Disk.view c.advance.new.disk)
-    c.turns.invariant.moves c.turns.invariant.moments c.in_err-advance.ensures.moments
+pub turns-smaller : goal.turns-smaller
+turns-smaller g c = c.in_ok-advance.ensures.advances.less
+
+pub advance-requires-clause-outcome : goal.advance-requires-clause-outcome
+advance-requires-clause-outcome g c = c.goes_on.ensures.0 c.turns-test.true
+
+pub returns-in_err-advance-clause-keeps : goal.returns-in_err-advance-clause-keeps
+returns-in_err-advance-clause-keeps g c =
+    keeps_more g.D.Disk g.W.Wire c.args.job.now _
+    (run_state c.args.run c.args.disk.now c.args.wire.now c.args.meter.now)
+    (run_state c.turns.run c.turns.disk c.turns.wire c.turns.meter) c.advance.new.disk
+    c.advance.new.wire c.advance.new.meter c.turns.invariant.moves c.turns.invariant.keeps
+    c.in_err-advance.ensures.keeps
 
 pub returns-clause-ends : goal.returns-clause-ends
 returns-clause-ends g c =
-    let s : Setting = record {
-      job = c.args.job.now;
-      rules = map (λ r. (goal.Routine-dyn g (r.vtable, r.value)).rule r.value)
-          c.args.routines.now;
-      wire = IsTrue g.W.Wire.tells;
-      disk = g.D.Disk.tells;
-    } in
-    let was : Place s = record {
-      is =
-          stands_at c.args.run.core (g.W.Wire.queue c.args.wire.now) c.args.meter.now
-          (g.W.Wire.received c.args.wire.now) (g.W.Wire.sum c.args.wire.now);
-      view = g.D.Disk.view c.args.disk.now;
-    } in
-    let mid : Place s = record {
-      is =
-          stands_at c.turns.run.core (g.W.Wire.queue c.turns.wire) c.turns.meter
-          (g.W.Wire.received c.turns.wire) (g.W.Wire.sum c.turns.wire);
-      view = g.D.Disk.view c.turns.disk;
-    } in
-    ends_with s was c.turns.run.core mid.is.queue mid.is.now mid.view
-    (g.D.Disk.view c.finish.new.disk) c.turns.run.keeper c.turns.invariant.moves c.turns.invariant.going
+    let rules : List Rule =
+    map (λ r. (goal.Routine-dyn g (r.vtable, r.value)).rule r.value) c.args.routines.now in
+    let was = place_of g.D.Disk g.W.Wire c.args.job.now rules
+    (run_state c.args.run c.args.disk.now c.args.wire.now c.args.meter.now) in
+    let mid = place_of g.D.Disk g.W.Wire c.args.job.now rules
+    (run_state c.turns.run c.turns.disk c.turns.wire c.turns.meter) in
+    ends_with _ was c.turns.run.core mid.is.queue mid.is.now mid.view
+    (g.D.Disk.view c.finish.new.disk) c.turns.run.keeper c.turns.invariant.moves
+    c.turns.invariant.able.going
     (λ same. let yes : c.goes_on.result ≡ true = c.goes_on.ensures.1 same in
     let no : c.goes_on.result ≡ false = c.turns-test.false in
     let both : false ≡ true = sym no ∙ yes in absurd (let bad : ⊥ = cc in bad))
-    (λ found first x. c.core_stands.ensures g.W.Wire.tells s.rules (begins_in (setup_of s.job) found)
-    x.begins first mid.is x.at) c.finish.ensures.quiet c.finish.result c.finish.ensures.core
-    c.finish.ensures.settled
+    (λ found first x. c.core_stands.ensures g.W.Wire.tells rules
+    (begins_in (setup_of c.args.job.now) found) x.begins first mid.is x.at)
+    c.finish.ensures.quiet c.finish.result c.finish.ensures.core c.finish.ensures.settled
 
-pub returns-clause-moments : goal.returns-clause-moments
-returns-clause-moments g c =
-    let s : Setting = record {
-      job = c.args.job.now;
-      rules = map (λ r. (goal.Routine-dyn g (r.vtable, r.value)).rule r.value)
-          c.args.routines.now;
-      wire = IsTrue g.W.Wire.tells;
-      disk = g.D.Disk.tells;
-    } in
-    let was : Place s = record {
-      is =
-          stands_at c.args.run.core (g.W.Wire.queue c.args.wire.now) c.args.meter.now
-          (g.W.Wire.received c.args.wire.now) (g.W.Wire.sum c.args.wire.now);
-      view = g.D.Disk.view c.args.disk.now;
-    } in
-    let mid : Place s = record {
-      is =
-          stands_at c.turns.run.core (g.W.Wire.queue c.turns.wire) c.turns.meter
-          (g.W.Wire.received c.turns.wire) (g.W.Wire.sum c.turns.wire);
-      view = g.D.Disk.view c.turns.disk;
-    } in
-    images_more s was mid (g.D.Disk.view c.finish.new.disk)
-    c.turns.invariant.moves c.turns.invariant.moments
-    (leaves_quiet s mid (g.D.Disk.view c.finish.new.disk) c.finish.ensures.quiet)
+pub returns-clause-keeps : goal.returns-clause-keeps
+returns-clause-keeps g c =
+    let mid = run_state c.turns.run c.turns.disk c.turns.wire c.turns.meter in
+    keeps_more g.D.Disk g.W.Wire c.args.job.now _
+    (run_state c.args.run c.args.disk.now c.args.wire.now c.args.meter.now) mid
+    c.finish.new.disk c.turns.wire c.turns.meter c.turns.invariant.moves c.turns.invariant.keeps
+    (keeps_quiet g.D.Disk g.W.Wire c.args.job.now _ (c.drive_laws.ensures g.W.Wire.tells _) mid
+    c.turns.invariant.able c.finish.new.disk c.finish.ensures.quiet c.finish.ensures.mounted
+    c.finish.ensures.files c.finish.ensures.folders)
 
 pub returns-clause-stops : goal.returns-clause-stops
 returns-clause-stops g c =
@@ -182,9 +107,6 @@ returns-clause-stops g c =
     stopped_after _ (count a b) (count w w) (count (g.D.Disk.faults c.args.disk.now) b)
     (count (g.W.Wire.faults c.args.wire.now) w) c.finish.result (omega arith) (omega arith)
     (omega arith) (omega arith) (c.finish.ensures.stops w)
-
-pub advance-requires-clause-outcome : goal.advance-requires-clause-outcome
-advance-requires-clause-outcome g c = c.goes_on.ensures.0 c.turns-test.true
 
 pub returns-in_err-advance-clause-stops : goal.returns-in_err-advance-clause-stops
 returns-in_err-advance-clause-stops g c =

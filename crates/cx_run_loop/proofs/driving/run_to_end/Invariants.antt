@@ -1,40 +1,21 @@
 -- what was driven is driven here, and each moment so far is of the run
-use Rattle.std.proofs.Common.{◌≡◌, ◌≤◌, map, IsTrue}
-use Rattle.cx_disk.specs.Files.{count_with}
+use Rattle.std.proofs.Common.{◌≡◌, ◌≤◌, map}
 use Rattle.cx_plan.specs.Setups.{setup_of}
-use Rattle.cx_outputs.specs.Names.{output_count, output_names}
 use Rattle.cx_core.specs.Left.{steps_left}
-use Rattle.cx_core.specs.Steps.{stands_at}
-use Rattle.cx_run_loop.specs.Going.{Setting, Place, IsGoing, LeavesImages, MovesOn}
+use Rattle.cx_run_loop.specs.Advances.{CanAdvance, Keeps, place_of, run_state}
+use Rattle.cx_run_loop.specs.Going.{MovesOn, setting}
 use Rattle.cx_run_loop.proofs.driving.run_to_end.Given as goal
 
 abbrev pub invariant-turns : goal.invariant-turns
 invariant-turns g l =
-    let s : Setting = record {
-      job = l.job;
-      rules = map (λ r. (goal.Routine-dyn g (r.vtable, r.value)).rule r.value) l.routines;
-      wire = IsTrue g.W.Wire.tells;
-      disk = g.D.Disk.tells;
-    } in
-    let was : Place s = record {
-      is = stands_at l.initial.run.core (g.W.Wire.queue l.initial.wire) l.initial.meter
-          (g.W.Wire.received l.initial.wire) (g.W.Wire.sum l.initial.wire);
-      view = g.D.Disk.view l.initial.disk;
-    } in
-    let is : Place s = record {
-      is = stands_at l.run.core (g.W.Wire.queue l.wire) l.meter (g.W.Wire.received l.wire)
-          (g.W.Wire.sum l.wire);
-      view = g.D.Disk.view l.disk;
-    } in
+    let rules = map (λ r. (goal.Routine-dyn g (r.vtable, r.value)).rule r.value) l.routines in
+    let was = run_state l.initial.run l.initial.disk l.initial.wire l.initial.meter in
+    let is = run_state l.run l.disk l.wire l.meter in
     record {
-      moves : MovesOn s was is;
-      moments : LeavesImages s was is.view;
-      going : IsGoing s l.run.keeper is;
-      parts : g.W.Wire.parts l.wire ≡ g.W.Wire.parts l.initial.wire;
-      mounted : IsTrue (g.D.Disk.mounted l.disk);
-      files : g.D.Disk.file_count l.disk ≡ count_with (output_count (setup_of l.job));
-      names : (g.D.Disk.folders l.disk).names ≡ output_names (setup_of l.job);
-      folders : g.D.Disk.folders l.disk ≡ g.D.Disk.folders l.initial.disk;
+      moves : MovesOn (setting g.D.Disk g.W.Wire l.job rules)
+          (place_of g.D.Disk g.W.Wire l.job rules was) (place_of g.D.Disk g.W.Wire l.job rules is);
+      able : CanAdvance g.D.Disk g.W.Wire l.job rules is;
+      keeps : Keeps g.D.Disk g.W.Wire l.job rules was l.disk l.wire l.meter;
       begun : g.T.Turns.begun l.turns ≡ g.T.Turns.begun l.initial.turns;
       disk_later : g.D.Disk.faults l.initial.disk ≤ g.D.Disk.faults l.disk;
       wire_later : g.W.Wire.faults l.initial.wire ≤ g.W.Wire.faults l.wire;

@@ -11,4 +11,5 @@ returns c told rules = record {
   pack = c.states_pack_again.ensures;
   can_begin = c.fitting_can_begin.ensures;
   begin = c.trails_begin.ensures rules;
+  counts = c.counts_stay.ensures told rules;
 }

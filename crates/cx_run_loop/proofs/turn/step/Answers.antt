@@ -1,5 +1,9 @@
-use Rattle.cx_core.specs.Steps.{stands_at}
+use Rattle.std.proofs.Common.{[], IsTrue}
+use Rattle.cx_core_part.proofs.MoveLaws.{is_run}
+use Rattle.law_parts.specs.Beginnings.{Afresh, run_of}
+use Rattle.cx_core.specs.Steps.{counts, stands_at}
 use Rattle.cx_run_loop.proofs.StartLaws.{some_event}
+use Rattle.cx_run_loop.proofs.WithinLaws.{steps_within}
 use Rattle.cx_run_loop.proofs.turn.step.Goals as goal
 
 pub pick-k-requires : goal.pick-k-requires
@@ -11,3 +15,41 @@ pick-k-requires g c = rw c.enabled.ensures (some_event g.W.Wire.tells c.args.job
 pub returns-clause-steps : goal.returns-clause-steps
 returns-clause-steps g c =
     λ b begins first at. (c.pick-k.result, c.in_ok-step.ensures.does b begins first at)
+
+pub returns-in_err-step-clause-points : goal.returns-in_err-step-clause-points
+returns-in_err-step-clause-points g c =
+    (c.step.ensures.rises (run_of c.args.job.now [] Afresh)
+    (is_run c.args.job.now [] Afresh)).points.least
+
+pub returns-in_err-step-clause-values : goal.returns-in_err-step-clause-values
+returns-in_err-step-clause-values g c =
+    (c.step.ensures.rises (run_of c.args.job.now [] Afresh)
+    (is_run c.args.job.now [] Afresh)).values.least
+
+pub returns-in_err-step-clause-within : goal.returns-in_err-step-clause-within
+returns-in_err-step-clause-within g c =
+    steps_within (IsTrue g.W.Wire.tells) c.args.job.now _
+    (c.drive_laws.ensures g.W.Wire.tells _).counts
+    (stands_at c.args.core.now (g.W.Wire.queue c.args.wire.now) c.args.meter.now
+    (g.W.Wire.received c.args.wire.now) (g.W.Wire.sum c.args.wire.now)) c.pick-k.result
+    (counts c.step.new.meter (g.W.Wire.received c.step.new.wire) (g.W.Wire.sum c.step.new.wire))
+    c.step.ensures.rises
+
+pub returns-clause-points : goal.returns-clause-points
+returns-clause-points g c =
+    (c.step.ensures.rises (run_of c.args.job.now [] Afresh)
+    (is_run c.args.job.now [] Afresh)).points.least
+
+pub returns-clause-values : goal.returns-clause-values
+returns-clause-values g c =
+    (c.step.ensures.rises (run_of c.args.job.now [] Afresh)
+    (is_run c.args.job.now [] Afresh)).values.least
+
+pub returns-clause-within : goal.returns-clause-within
+returns-clause-within g c =
+    steps_within (IsTrue g.W.Wire.tells) c.args.job.now _
+    (c.drive_laws.ensures g.W.Wire.tells _).counts
+    (stands_at c.args.core.now (g.W.Wire.queue c.args.wire.now) c.args.meter.now
+    (g.W.Wire.received c.args.wire.now) (g.W.Wire.sum c.args.wire.now)) c.pick-k.result
+    (counts c.step.new.meter (g.W.Wire.received c.step.new.wire) (g.W.Wire.sum c.step.new.wire))
+    c.step.ensures.rises

@@ -1,184 +1,96 @@
-use Rattle.std.proofs.Common.{◌≤◌, ℕ, map, arith, refl}
+use Rattle.std.proofs.Common.{◌≤◌, ℕ, arith, refl}
 use Rattle.std.proofs.lemmas.Result.{err_from_is_err_and}
-use Rattle.std.specs.Prelude.{IsTrue, Err}
-use Rattle.cx_core.specs.Steps.{stands_at}
-use Rattle.cx_run_loop.specs.Going.{Setting, Place}
+use Rattle.std.specs.Prelude.{Err}
+use Rattle.cx_run_loop.specs.Advances.{place_of, run_state}
+use Rattle.cx_run_loop.specs.UnderWay.{runs}
+use Rattle.cx_run_loop.proofs.AdvanceLaws.{keeps_none, turn_advances, turn_moments}
 use Rattle.cx_run_loop.proofs.StopLaws.{count, goes_on, stopped_first, stopped_after}
-use Rattle.cx_run_loop.proofs.TurnLaws.{turn_moves, turn_images, turn_saves, behind, less, going_on}
+use Rattle.cx_run_loop.proofs.TurnLaws.{behind}
+use Rattle.cx_run_loop.proofs.WithinLaws.{driven_within}
 use Rattle.cx_run_loop.proofs.turn.turn.Goals as goal
 
 pub keep_event-requires-clause-behind : goal.keep_event-requires-clause-behind
 keep_event-requires-clause-behind g c =
-    let s : Setting = record {
-      job = c.args.job.now;
-      rules = map (λ r. (goal.Routine-dyn g (r.vtable, r.value)).rule r.value)
-          c.args.routines.now;
-      wire = IsTrue g.W.Wire.tells;
-      disk = g.D.Disk.tells;
-    } in
-    let was : Place s = record {
-      is =
-          stands_at c.args.core.now (g.W.Wire.queue c.args.wire.now) c.args.meter.now
-          (g.W.Wire.received c.args.wire.now) (g.W.Wire.sum c.args.wire.now);
-      view = g.D.Disk.view c.args.disk.now;
-    } in
-    let is : Place s = record {
-      is =
-          stands_at c.step.new.core (g.W.Wire.queue c.step.new.wire) c.step.new.meter
-          (g.W.Wire.received c.step.new.wire) (g.W.Wire.sum c.step.new.wire);
-      view = g.D.Disk.view c.args.disk.now;
-    } in
-    behind s c.args.keep.now was is c.in_ok-event.event c.requires.going c.in_ok-event.ensures.steps
+    behind _ c.args.keep.now
+    (place_of g.D.Disk g.W.Wire c.args.job.now _
+    (run_state (runs c.args.keep.now c.args.core.now) c.args.disk.now c.args.wire.now
+    c.args.meter.now))
+    (place_of g.D.Disk g.W.Wire c.args.job.now _
+    (run_state (runs c.args.keep.now c.step.new.core) c.args.disk.now c.step.new.wire
+    c.step.new.meter))
+    c.in_ok-event.event c.requires.able.going c.in_ok-event.ensures.steps
 
-pub returns-clause-moves : goal.returns-clause-moves
-returns-clause-moves g c =
-    let s : Setting = record {
-      job = c.args.job.now;
-      rules = map (λ r. (goal.Routine-dyn g (r.vtable, r.value)).rule r.value)
-          c.args.routines.now;
-      wire = IsTrue g.W.Wire.tells;
-      disk = g.D.Disk.tells;
-    } in
-    let was : Place s = record {
-      is =
-          stands_at c.args.core.now (g.W.Wire.queue c.args.wire.now) c.args.meter.now
-          (g.W.Wire.received c.args.wire.now) (g.W.Wire.sum c.args.wire.now);
-      view = g.D.Disk.view c.args.disk.now;
-    } in
-    let is : Place s = record {
-      is =
-          stands_at c.step.new.core (g.W.Wire.queue c.step.new.wire) c.step.new.meter
-          (g.W.Wire.received c.step.new.wire) (g.W.Wire.sum c.step.new.wire);
-      view = g.D.Disk.view c.keep_event.new.disk;
-    } in
-    turn_moves s (c.drive_laws.ensures g.W.Wire.tells s.rules)
-    was is c.in_ok-event.event c.requires.outcome c.requires.going.kept.key
-    c.in_ok-event.ensures.steps c.in_ok-keep_event.ensures.keeps
+pub returns-clause-advances : goal.returns-clause-advances
+returns-clause-advances g c =
+    turn_advances g.D.Disk g.W.Wire c.args.job.now _ (c.drive_laws.ensures g.W.Wire.tells _)
+    (run_state (runs c.args.keep.now c.args.core.now) c.args.disk.now c.args.wire.now
+    c.args.meter.now)
+    (run_state (runs c.keep_event.new.keep c.step.new.core) c.keep_event.new.disk c.step.new.wire
+    c.step.new.meter)
+    c.in_ok-event.event c.requires.able c.requires.outcome c.in_ok-event.ensures.steps
+    c.came_of.result c.came_of.ensures c.in_ok-keep_event.ensures.keeps
+    c.in_ok-keep_event.ensures.kept
 
-pub returns-clause-saved : goal.returns-clause-saved
-returns-clause-saved g c =
-    let s : Setting = record {
-      job = c.args.job.now;
-      rules = map (λ r. (goal.Routine-dyn g (r.vtable, r.value)).rule r.value)
-          c.args.routines.now;
-      wire = IsTrue g.W.Wire.tells;
-      disk = g.D.Disk.tells;
-    } in
-    let was : Place s = record {
-      is =
-          stands_at c.args.core.now (g.W.Wire.queue c.args.wire.now) c.args.meter.now
-          (g.W.Wire.received c.args.wire.now) (g.W.Wire.sum c.args.wire.now);
-      view = g.D.Disk.view c.args.disk.now;
-    } in
-    let is : Place s = record {
-      is =
-          stands_at c.step.new.core (g.W.Wire.queue c.step.new.wire) c.step.new.meter
-          (g.W.Wire.received c.step.new.wire) (g.W.Wire.sum c.step.new.wire);
-      view = g.D.Disk.view c.keep_event.new.disk;
-    } in
-    λ saved. turn_saves s (c.drive_laws.ensures g.W.Wire.tells s.rules)
-    was is c.in_ok-event.event c.requires.outcome c.requires.going.kept.key
-    c.in_ok-event.ensures.steps c.in_ok-keep_event.ensures.keeps (c.advance_by.ensures.saved saved)
+pub returns-in_err-event-clause-keeps : goal.returns-in_err-event-clause-keeps
+returns-in_err-event-clause-keeps g c =
+    let none = keeps_none g.D.Disk g.W.Wire c.args.job.now _
+    (c.drive_laws.ensures g.W.Wire.tells _)
+    (run_state (runs c.args.keep.now c.args.core.now) c.args.disk.now c.args.wire.now
+    c.args.meter.now) c.requires.able in
+    record {
+      moments = none.moments;
+      parts = c.in_err-event.ensures.parts;
+      mounted = none.mounted;
+      files = none.files;
+      folders = refl;
+      points = c.in_err-event.ensures.points;
+      values = c.in_err-event.ensures.values;
+      within = driven_within _ (place_of g.D.Disk g.W.Wire c.args.job.now _
+          (run_state (runs c.args.keep.now c.args.core.now) c.args.disk.now c.args.wire.now
+          c.args.meter.now)) _ c.in_err-event.ensures.within;
+    }
 
-pub returns-clause-moments : goal.returns-clause-moments
-returns-clause-moments g c =
-    let s : Setting = record {
-      job = c.args.job.now;
-      rules = map (λ r. (goal.Routine-dyn g (r.vtable, r.value)).rule r.value)
-          c.args.routines.now;
-      wire = IsTrue g.W.Wire.tells;
-      disk = g.D.Disk.tells;
-    } in
-    let was : Place s = record {
-      is =
-          stands_at c.args.core.now (g.W.Wire.queue c.args.wire.now) c.args.meter.now
-          (g.W.Wire.received c.args.wire.now) (g.W.Wire.sum c.args.wire.now);
-      view = g.D.Disk.view c.args.disk.now;
-    } in
-    let is : Place s = record {
-      is =
-          stands_at c.step.new.core (g.W.Wire.queue c.step.new.wire) c.step.new.meter
-          (g.W.Wire.received c.step.new.wire) (g.W.Wire.sum c.step.new.wire);
-      view = g.D.Disk.view c.keep_event.new.disk;
-    } in
-    λ found first x d t y. turn_images s (c.drive_laws.ensures g.W.Wire.tells s.rules)
-    was is c.in_ok-event.event c.requires.outcome c.requires.going.kept.key
-    c.in_ok-event.ensures.steps found first x (g.D.Disk.view c.keep_event.new.disk)
-    c.in_ok-keep_event.ensures.moments d t y
+pub returns-in_err-keep_event-clause-keeps : goal.returns-in_err-keep_event-clause-keeps
+returns-in_err-keep_event-clause-keeps g c = record {
+  moments = turn_moments g.D.Disk g.W.Wire c.args.job.now _
+      (c.drive_laws.ensures g.W.Wire.tells _)
+      (run_state (runs c.args.keep.now c.args.core.now) c.args.disk.now c.args.wire.now
+      c.args.meter.now)
+      (run_state (runs c.keep_event.new.keep c.step.new.core) c.keep_event.new.disk
+      c.step.new.wire c.step.new.meter)
+      c.in_ok-event.event c.requires.able c.requires.outcome c.in_ok-event.ensures.steps
+      c.keep_event.new.disk c.in_err-keep_event.ensures.moments;
+  parts = c.in_ok-event.ensures.parts;
+  mounted = c.in_err-keep_event.ensures.mounted;
+  files = c.in_err-keep_event.ensures.files;
+  folders = c.in_err-keep_event.ensures.folders;
+  points = c.in_ok-event.ensures.points;
+  values = c.in_ok-event.ensures.values;
+  within = driven_within _ (place_of g.D.Disk g.W.Wire c.args.job.now _
+      (run_state (runs c.args.keep.now c.args.core.now) c.args.disk.now c.args.wire.now
+      c.args.meter.now)) _ c.in_ok-event.ensures.within;
+}
 
-pub returns-in_err-keep_event-clause-moments : goal.returns-in_err-keep_event-clause-moments
-returns-in_err-keep_event-clause-moments g c =
-    let s : Setting = record {
-      job = c.args.job.now;
-      rules = map (λ r. (goal.Routine-dyn g (r.vtable, r.value)).rule r.value)
-          c.args.routines.now;
-      wire = IsTrue g.W.Wire.tells;
-      disk = g.D.Disk.tells;
-    } in
-    let was : Place s = record {
-      is =
-          stands_at c.args.core.now (g.W.Wire.queue c.args.wire.now) c.args.meter.now
-          (g.W.Wire.received c.args.wire.now) (g.W.Wire.sum c.args.wire.now);
-      view = g.D.Disk.view c.args.disk.now;
-    } in
-    let is : Place s = record {
-      is =
-          stands_at c.step.new.core (g.W.Wire.queue c.step.new.wire) c.step.new.meter
-          (g.W.Wire.received c.step.new.wire) (g.W.Wire.sum c.step.new.wire);
-      view = g.D.Disk.view c.keep_event.new.disk;
-    } in
-    λ found first x d t y. turn_images s (c.drive_laws.ensures g.W.Wire.tells s.rules)
-    was is c.in_ok-event.event c.requires.outcome c.requires.going.kept.key
-    c.in_ok-event.ensures.steps found first x (g.D.Disk.view c.keep_event.new.disk)
-    c.in_err-keep_event.ensures.moments d t y
-
-pub returns-clause-going : goal.returns-clause-going
-returns-clause-going g c =
-    let s : Setting = record {
-      job = c.args.job.now;
-      rules = map (λ r. (goal.Routine-dyn g (r.vtable, r.value)).rule r.value)
-          c.args.routines.now;
-      wire = IsTrue g.W.Wire.tells;
-      disk = g.D.Disk.tells;
-    } in
-    let was : Place s = record {
-      is =
-          stands_at c.args.core.now (g.W.Wire.queue c.args.wire.now) c.args.meter.now
-          (g.W.Wire.received c.args.wire.now) (g.W.Wire.sum c.args.wire.now);
-      view = g.D.Disk.view c.args.disk.now;
-    } in
-    let is : Place s = record {
-      is =
-          stands_at c.step.new.core (g.W.Wire.queue c.step.new.wire) c.step.new.meter
-          (g.W.Wire.received c.step.new.wire) (g.W.Wire.sum c.step.new.wire);
-      view = g.D.Disk.view c.keep_event.new.disk;
-    } in
-    going_on s c.args.keep.now was is c.in_ok-event.event c.requires.going
-    c.in_ok-event.ensures.steps c.keep_event.new.keep c.in_ok-keep_event.ensures.kept
-
-pub returns-clause-less : goal.returns-clause-less
-returns-clause-less g c =
-    let s : Setting = record {
-      job = c.args.job.now;
-      rules = map (λ r. (goal.Routine-dyn g (r.vtable, r.value)).rule r.value)
-          c.args.routines.now;
-      wire = IsTrue g.W.Wire.tells;
-      disk = g.D.Disk.tells;
-    } in
-    let was : Place s = record {
-      is =
-          stands_at c.args.core.now (g.W.Wire.queue c.args.wire.now) c.args.meter.now
-          (g.W.Wire.received c.args.wire.now) (g.W.Wire.sum c.args.wire.now);
-      view = g.D.Disk.view c.args.disk.now;
-    } in
-    let is : Place s = record {
-      is =
-          stands_at c.step.new.core (g.W.Wire.queue c.step.new.wire) c.step.new.meter
-          (g.W.Wire.received c.step.new.wire) (g.W.Wire.sum c.step.new.wire);
-      view = g.D.Disk.view c.keep_event.new.disk;
-    } in
-    less s c.args.keep.now was is c.in_ok-event.event c.requires.going
-    c.in_ok-event.ensures.steps
+pub returns-clause-keeps : goal.returns-clause-keeps
+returns-clause-keeps g c = record {
+  moments = turn_moments g.D.Disk g.W.Wire c.args.job.now _
+      (c.drive_laws.ensures g.W.Wire.tells _)
+      (run_state (runs c.args.keep.now c.args.core.now) c.args.disk.now c.args.wire.now
+      c.args.meter.now)
+      (run_state (runs c.keep_event.new.keep c.step.new.core) c.keep_event.new.disk
+      c.step.new.wire c.step.new.meter)
+      c.in_ok-event.event c.requires.able c.requires.outcome c.in_ok-event.ensures.steps
+      c.keep_event.new.disk c.in_ok-keep_event.ensures.moments;
+  parts = c.in_ok-event.ensures.parts;
+  mounted = c.in_ok-keep_event.ensures.mounted;
+  files = c.in_ok-keep_event.ensures.files;
+  folders = c.in_ok-keep_event.ensures.folders;
+  points = c.in_ok-event.ensures.points;
+  values = c.in_ok-event.ensures.values;
+  within = driven_within _ (place_of g.D.Disk g.W.Wire c.args.job.now _
+      (run_state (runs c.args.keep.now c.args.core.now) c.args.disk.now c.args.wire.now
+      c.args.meter.now)) _ c.in_ok-event.ensures.within;
+}
 
 pub returns-in_err-event-clause-stops : goal.returns-in_err-event-clause-stops
 returns-in_err-event-clause-stops g c =
@@ -208,5 +120,5 @@ pub returns-clause-stops : goal.returns-clause-stops
 returns-clause-stops g c =
     goes_on (count (g.D.Disk.faults c.args.disk.now) (g.D.Disk.faults c.keep_event.new.disk))
     (count (g.W.Wire.faults c.args.wire.now) (g.W.Wire.faults c.step.new.wire))
-    c.advance_by.result (c.in_ok-keep_event.ensures.stops 0).disk_later
+    c.came_of.result (c.in_ok-keep_event.ensures.stops 0).disk_later
     (c.in_ok-event.ensures.stops 0).wire_later

@@ -1,74 +1,22 @@
-use Rattle.std.proofs.Common.{◌≤◌, ◌<◌, ◌+◌, map, ap, arith, refl, subst, ◌∙◌}
-use Rattle.std.specs.Prelude.{IsTrue}
-use Rattle.cx_disk.specs.Disk.{Folders}
-use Rattle.cx_plan.specs.Setups.{setup_of}
-use Rattle.cx_core.specs.Left.{steps_left}
-use Rattle.cx_core.specs.Steps.{stands_at}
-use Rattle.cx_run_loop.specs.Advances.{FitsOutcome}
-use Rattle.cx_run_loop.specs.Going.{Setting, Place}
-use Rattle.cx_run_loop.specs.declared.turn.Advance.{Advance}
+use Rattle.std.proofs.Common.{◌≤◌, arith, refl, ◌∙◌}
+use Rattle.cx_run_loop.specs.Advances.{run_state}
+use Rattle.cx_run_loop.specs.UnderWay.{runs}
+use Rattle.cx_run_loop.proofs.AdvanceLaws.{gone_all, gone_last, gone_more, gone_none, keeps_more}
 use Rattle.cx_run_loop.proofs.StopLaws.{count, goes_on}
-use Rattle.cx_run_loop.proofs.TurnLaws.{moves_none, moves_more, images_none, images_more, saves_more}
 use Rattle.cx_run_loop.proofs.turns.take_turns.Goals as goal
 
 pub turns-init : goal.turns-init
-turns-init g c =
-    let s : Setting = record {
-      job = c.args.job.now;
-      rules = map (λ r. (goal.Routine-dyn g (r.vtable, r.value)).rule r.value)
-          c.args.routines.now;
-      wire = IsTrue g.W.Wire.tells;
-      disk = g.D.Disk.tells;
-    } in
-    let was : Place s = record {
-      is =
-          stands_at c.args.core.now (g.W.Wire.queue c.args.wire.now) c.args.meter.now
-          (g.W.Wire.received c.args.wire.now) (g.W.Wire.sum c.args.wire.now);
-      view = g.D.Disk.view c.args.disk.now;
-    } in
-    record {
-      moves = moves_none s was;
-      moments = images_none s was;
-      going = c.requires.going;
-      outcome = c.requires.outcome;
-      less = omega arith;
-      parts = refl;
-      mounted = c.requires.mounted;
-      files = c.requires.files;
-      names = c.requires.names;
-      folders = refl;
-      begun = refl;
-      disk_later = omega arith;
-      wire_later = omega arith;
-    }
+turns-init g c = record {
+  gone = gone_none g.D.Disk g.W.Wire c.args.job.now _ (c.drive_laws.ensures g.W.Wire.tells _)
+      (run_state (runs c.args.keep.now c.args.core.now) c.args.disk.now c.args.wire.now
+      c.args.meter.now) c.requires.able c.requires.outcome;
+  begun = refl;
+  disk_later = omega arith;
+  wire_later = omega arith;
+}
 
 pub turns-preserved : goal.turns-preserved
 turns-preserved g c =
-    let s : Setting = record {
-      job = c.args.job.now;
-      rules = map (λ r. (goal.Routine-dyn g (r.vtable, r.value)).rule r.value)
-          c.args.routines.now;
-      wire = IsTrue g.W.Wire.tells;
-      disk = g.D.Disk.tells;
-    } in
-    let was : Place s = record {
-      is =
-          stands_at c.args.core.now (g.W.Wire.queue c.args.wire.now) c.args.meter.now
-          (g.W.Wire.received c.args.wire.now) (g.W.Wire.sum c.args.wire.now);
-      view = g.D.Disk.view c.args.disk.now;
-    } in
-    let mid : Place s = record {
-      is =
-          stands_at c.turns.core (g.W.Wire.queue c.turns.wire) c.turns.meter
-          (g.W.Wire.received c.turns.wire) (g.W.Wire.sum c.turns.wire);
-      view = g.D.Disk.view c.turns.disk;
-    } in
-    let now : Place s = record {
-      is =
-          stands_at c.turn.new.core (g.W.Wire.queue c.turn.new.wire) c.turn.new.meter
-          (g.W.Wire.received c.turn.new.wire) (g.W.Wire.sum c.turn.new.wire);
-      view = g.D.Disk.view c.turn.new.disk;
-    } in
     let a : g.D.Disk.faults c.args.disk.now ≤ g.D.Disk.faults c.turns.disk =
     c.turns.invariant.disk_later in
     let b : g.D.Disk.faults c.turns.disk ≤ g.D.Disk.faults c.turn.new.disk =
@@ -77,156 +25,48 @@ turns-preserved g c =
     c.turns.invariant.wire_later in
     let f : g.W.Wire.faults c.turns.wire ≤ g.W.Wire.faults c.turn.new.wire =
     c.in_ok-stop.ensures.stops.wire_later in
-    let i : steps_left (setup_of c.args.job.now) c.turns.core.pace + c.turns.counter
-    ≤ steps_left (setup_of c.args.job.now) c.args.core.now.pace = c.turns.invariant.less in
-    let j : steps_left (setup_of c.args.job.now) c.turn.new.core.pace
-    < steps_left (setup_of c.args.job.now) c.turns.core.pace = c.in_ok-stop.ensures.less in
     record {
-      moves = moves_more s was mid now c.turns.invariant.moves c.in_ok-stop.ensures.moves;
-      moments = images_more s was mid now.view c.turns.invariant.moves c.turns.invariant.moments
-          c.in_ok-stop.ensures.moments;
-      going = c.in_ok-stop.ensures.going;
-      outcome = subst (λ (came : Advance). FitsOutcome came c.turn.new.core.outcome) c.in-More.is
-          c.in_ok-stop.ensures.over;
-      less = omega arith;
-      parts = c.in_ok-stop.ensures.parts ∙ c.turns.invariant.parts;
-      mounted = c.in_ok-stop.ensures.mounted;
-      files = c.in_ok-stop.ensures.files;
-      names = ap (λ (f : Folders). f.names) c.in_ok-stop.ensures.folders
-          ∙ c.turns.invariant.names;
-      folders = c.in_ok-stop.ensures.folders ∙ c.turns.invariant.folders;
+      gone = gone_more g.D.Disk g.W.Wire c.args.job.now _ c.turns.counter
+          (run_state (runs c.args.keep.now c.args.core.now) c.args.disk.now c.args.wire.now
+          c.args.meter.now)
+          (run_state (runs c.turns.keep c.turns.core) c.turns.disk c.turns.wire c.turns.meter)
+          (run_state (runs c.turn.new.keep c.turn.new.core) c.turn.new.disk c.turn.new.wire
+          c.turn.new.meter)
+          c.turns.invariant.gone _ (omega arith) c.in_ok-stop.stop c.in-More.is
+          c.in_ok-stop.ensures.advances c.in_ok-stop.ensures.keeps;
       begun = c.in_ok-stop.ensures.begun ∙ c.turns.invariant.begun;
       disk_later = omega arith;
       wire_later = omega arith;
     }
 
-pub returns-in_err-stop-clause-moments : goal.returns-in_err-stop-clause-moments
-returns-in_err-stop-clause-moments g c =
-    let s : Setting = record {
-      job = c.args.job.now;
-      rules = map (λ r. (goal.Routine-dyn g (r.vtable, r.value)).rule r.value)
-          c.args.routines.now;
-      wire = IsTrue g.W.Wire.tells;
-      disk = g.D.Disk.tells;
-    } in
-    let was : Place s = record {
-      is =
-          stands_at c.args.core.now (g.W.Wire.queue c.args.wire.now) c.args.meter.now
-          (g.W.Wire.received c.args.wire.now) (g.W.Wire.sum c.args.wire.now);
-      view = g.D.Disk.view c.args.disk.now;
-    } in
-    let mid : Place s = record {
-      is =
-          stands_at c.turns.core (g.W.Wire.queue c.turns.wire) c.turns.meter
-          (g.W.Wire.received c.turns.wire) (g.W.Wire.sum c.turns.wire);
-      view = g.D.Disk.view c.turns.disk;
-    } in
-    images_more s was mid (g.D.Disk.view c.turn.new.disk)
-    c.turns.invariant.moves c.turns.invariant.moments c.in_err-stop.ensures.moments
+pub returns-in_err-stop-clause-keeps : goal.returns-in_err-stop-clause-keeps
+returns-in_err-stop-clause-keeps g c =
+    keeps_more g.D.Disk g.W.Wire c.args.job.now _
+    (run_state (runs c.args.keep.now c.args.core.now) c.args.disk.now c.args.wire.now
+    c.args.meter.now)
+    (run_state (runs c.turns.keep c.turns.core) c.turns.disk c.turns.wire c.turns.meter)
+    c.turn.new.disk c.turn.new.wire c.turn.new.meter c.turns.invariant.gone.moves
+    c.turns.invariant.gone.keeps c.in_err-stop.ensures.keeps
 
-pub returns-in_default-clause-moves : goal.returns-in_default-clause-moves
-returns-in_default-clause-moves g c =
-    let s : Setting = record {
-      job = c.args.job.now;
-      rules = map (λ r. (goal.Routine-dyn g (r.vtable, r.value)).rule r.value)
-          c.args.routines.now;
-      wire = IsTrue g.W.Wire.tells;
-      disk = g.D.Disk.tells;
-    } in
-    let was : Place s = record {
-      is =
-          stands_at c.args.core.now (g.W.Wire.queue c.args.wire.now) c.args.meter.now
-          (g.W.Wire.received c.args.wire.now) (g.W.Wire.sum c.args.wire.now);
-      view = g.D.Disk.view c.args.disk.now;
-    } in
-    let mid : Place s = record {
-      is =
-          stands_at c.turns.core (g.W.Wire.queue c.turns.wire) c.turns.meter
-          (g.W.Wire.received c.turns.wire) (g.W.Wire.sum c.turns.wire);
-      view = g.D.Disk.view c.turns.disk;
-    } in
-    let now : Place s = record {
-      is =
-          stands_at c.turn.new.core (g.W.Wire.queue c.turn.new.wire) c.turn.new.meter
-          (g.W.Wire.received c.turn.new.wire) (g.W.Wire.sum c.turn.new.wire);
-      view = g.D.Disk.view c.turn.new.disk;
-    } in
-    moves_more s was mid now c.turns.invariant.moves c.in_ok-stop.ensures.moves
+pub returns-in_default-clause-advances : goal.returns-in_default-clause-advances
+returns-in_default-clause-advances g c =
+    gone_last g.D.Disk g.W.Wire c.args.job.now _ c.turns.counter
+    (run_state (runs c.args.keep.now c.args.core.now) c.args.disk.now c.args.wire.now
+    c.args.meter.now)
+    (run_state (runs c.turns.keep c.turns.core) c.turns.disk c.turns.wire c.turns.meter)
+    (run_state (runs c.turn.new.keep c.turn.new.core) c.turn.new.disk c.turn.new.wire
+    c.turn.new.meter)
+    c.turns.invariant.gone c.args.most (omega arith) c.in_ok-stop.stop c.in_default.not-More
+    c.in_ok-stop.ensures.advances
 
-pub returns-in_default-clause-saved : goal.returns-in_default-clause-saved
-returns-in_default-clause-saved g c =
-    let s : Setting = record {
-      job = c.args.job.now;
-      rules = map (λ r. (goal.Routine-dyn g (r.vtable, r.value)).rule r.value)
-          c.args.routines.now;
-      wire = IsTrue g.W.Wire.tells;
-      disk = g.D.Disk.tells;
-    } in
-    let was : Place s = record {
-      is =
-          stands_at c.args.core.now (g.W.Wire.queue c.args.wire.now) c.args.meter.now
-          (g.W.Wire.received c.args.wire.now) (g.W.Wire.sum c.args.wire.now);
-      view = g.D.Disk.view c.args.disk.now;
-    } in
-    let mid : Place s = record {
-      is =
-          stands_at c.turns.core (g.W.Wire.queue c.turns.wire) c.turns.meter
-          (g.W.Wire.received c.turns.wire) (g.W.Wire.sum c.turns.wire);
-      view = g.D.Disk.view c.turns.disk;
-    } in
-    let now : Place s = record {
-      is =
-          stands_at c.turn.new.core (g.W.Wire.queue c.turn.new.wire) c.turn.new.meter
-          (g.W.Wire.received c.turn.new.wire) (g.W.Wire.sum c.turn.new.wire);
-      view = g.D.Disk.view c.turn.new.disk;
-    } in
-    λ same. saves_more s was mid now c.turns.invariant.moves (c.in_ok-stop.ensures.saved same)
-
-pub returns-in_default-clause-moments : goal.returns-in_default-clause-moments
-returns-in_default-clause-moments g c =
-    let s : Setting = record {
-      job = c.args.job.now;
-      rules = map (λ r. (goal.Routine-dyn g (r.vtable, r.value)).rule r.value)
-          c.args.routines.now;
-      wire = IsTrue g.W.Wire.tells;
-      disk = g.D.Disk.tells;
-    } in
-    let was : Place s = record {
-      is =
-          stands_at c.args.core.now (g.W.Wire.queue c.args.wire.now) c.args.meter.now
-          (g.W.Wire.received c.args.wire.now) (g.W.Wire.sum c.args.wire.now);
-      view = g.D.Disk.view c.args.disk.now;
-    } in
-    let mid : Place s = record {
-      is =
-          stands_at c.turns.core (g.W.Wire.queue c.turns.wire) c.turns.meter
-          (g.W.Wire.received c.turns.wire) (g.W.Wire.sum c.turns.wire);
-      view = g.D.Disk.view c.turns.disk;
-    } in
-    let now : Place s = record {
-      is =
-          stands_at c.turn.new.core (g.W.Wire.queue c.turn.new.wire) c.turn.new.meter
-          (g.W.Wire.received c.turn.new.wire) (g.W.Wire.sum c.turn.new.wire);
-      view = g.D.Disk.view c.turn.new.disk;
-    } in
-    images_more s was mid now.view c.turns.invariant.moves c.turns.invariant.moments
-    c.in_ok-stop.ensures.moments
-
-pub returns-in_default-clause-less : goal.returns-in_default-clause-less
-returns-in_default-clause-less g c =
-    let i : steps_left (setup_of c.args.job.now) c.turns.core.pace + c.turns.counter
-    ≤ steps_left (setup_of c.args.job.now) c.args.core.now.pace = c.turns.invariant.less in
-    let j : steps_left (setup_of c.args.job.now) c.turn.new.core.pace
-    < steps_left (setup_of c.args.job.now) c.turns.core.pace = c.in_ok-stop.ensures.less in
-    omega arith
-
-pub returns-in_default-clause-parts : goal.returns-in_default-clause-parts
-returns-in_default-clause-parts g c =
-    c.in_ok-stop.ensures.parts ∙ c.turns.invariant.parts
-
-pub returns-in_default-clause-folders : goal.returns-in_default-clause-folders
-returns-in_default-clause-folders g c =
-    c.in_ok-stop.ensures.folders ∙ c.turns.invariant.folders
+pub returns-in_default-clause-keeps : goal.returns-in_default-clause-keeps
+returns-in_default-clause-keeps g c =
+    keeps_more g.D.Disk g.W.Wire c.args.job.now _
+    (run_state (runs c.args.keep.now c.args.core.now) c.args.disk.now c.args.wire.now
+    c.args.meter.now)
+    (run_state (runs c.turns.keep c.turns.core) c.turns.disk c.turns.wire c.turns.meter)
+    c.turn.new.disk c.turn.new.wire c.turn.new.meter c.turns.invariant.gone.moves
+    c.turns.invariant.gone.keeps c.in_ok-stop.ensures.keeps
 
 pub returns-in_default-clause-begun : goal.returns-in_default-clause-begun
 returns-in_default-clause-begun g c =
@@ -245,3 +85,11 @@ returns-in_default-clause-stops g c =
     goes_on (count (g.D.Disk.faults c.args.disk.now) (g.D.Disk.faults c.turn.new.disk))
     (count (g.W.Wire.faults c.args.wire.now) (g.W.Wire.faults c.turn.new.wire)) _ (omega arith)
     (omega arith)
+
+pub returns-clause-advances : goal.returns-clause-advances
+returns-clause-advances g c =
+    gone_all g.D.Disk g.W.Wire c.args.job.now _ c.turns.counter c.args.most
+    (run_state (runs c.args.keep.now c.args.core.now) c.args.disk.now c.args.wire.now
+    c.args.meter.now)
+    (run_state (runs c.turns.keep c.turns.core) c.turns.disk c.turns.wire c.turns.meter)
+    c.turns.invariant.gone (omega arith) c.requires.some
