@@ -1,6 +1,7 @@
 //! The program with the built-in thorns' routines: its words, its devices and its exit code.
 #![tactic(auto)]
 
+mod late_wire;
 mod program;
 mod routines;
 mod thorns;

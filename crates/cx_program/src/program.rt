@@ -4,13 +4,13 @@ ghost use Rattle.std.specs.Prelude.{◌≡◌, IfOk, OnErr};
 ghost use Rattle.std.specs.Process.{exit_status};
 ghost use Rattle.cx_run.specs.Answers.{IsStatusFor};
 
+use crate::late_wire::LateWire;
 use crate::routines::answer;
-use cx_disk::FolderDisk;
+use cx_folder::{FolderDisk, HostFolder};
 use cx_rule::Meter;
 use cx_run::{FolderShelf, StdoutSink};
 use cx_text::{Memory, Text};
 use cx_turns::SeededTurns;
-use cx_wire::MemoryWire;
 use std::env;
 use std::io::{self, ErrorKind};
 use std::process::ExitCode;
@@ -55,8 +55,8 @@ fn in_folder(rt: &HostRuntime, words: &[Text]) -> Result<u8, Memory>
 {
     let alloc = rt.alloc();
     let mut shelf = FolderShelf::new(rt.clone()?);
-    let mut disk = FolderDisk::new(rt.clone()?, alloc);
-    let mut wire = MemoryWire::new(alloc, MOST_PARTS)?;
+    let mut disk = FolderDisk::new(HostFolder::new(rt.clone()?, alloc), alloc);
+    let mut wire = LateWire::new(alloc, MOST_PARTS);
     let mut turns = SeededTurns::new();
     let mut out = StdoutSink::new(rt.clone()?);
     let mut meter = Meter::new(rt);

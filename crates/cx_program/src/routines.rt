@@ -1,6 +1,6 @@
 //! The routines of the built-in thorns, handed to the top call.
 
-ghost use Rattle.std.specs.Prelude.{◌≡◌, ◌≤◌, ◌<◌, ◌^◌, IsTrue, IfOk, map};
+ghost use Rattle.std.specs.Prelude.{◌≡◌, ◌≤◌, ◌<◌, ◌^◌, IsTrue, IfOk, OnErr, map};
 ghost use Rattle.cx_core.specs.Starts.{AreEmpty};
 ghost use Rattle.cx_run.specs.Calls.{lent_sink};
 ghost use Rattle.cx_run.specs.Clauses.{Obeys};
@@ -28,7 +28,7 @@ struct CommandLine<'a> {
 ///
 /// # Errors
 ///
-/// `Memory` where there is no room for the routines.
+/// `Memory` where there is no room for the routines. Then nothing was touched.
 pub fn answer<H: Shelf, D: Disk, W: Wire, T: Turns, O: Sink>(
     alloc: Global,
     words: &[Text],
@@ -41,10 +41,13 @@ pub fn answer<H: Shelf, D: Disk, W: Wire, T: Turns, O: Sink>(
 ) -> Result<u8, Memory>
     requires parts { 512 ≤ W.parts wire.old }
     requires empty { AreEmpty (W.queue wire.old) }
-    ensures { IfOk result (Obeys
+    ensures obeys { IfOk result (Obeys
         (sample_call H.Shelf D.Disk W.Wire words.now shelf.old shelf.new
         disk.old disk.new wire.old wire.new meter.old meter.new (T.begun turns.new))
         (lent_sink O.Sink out.old out.new)) }
+    ensures wanting { OnErr result
+        ((shelf.new ≡ shelf.old) × (disk.new ≡ disk.old) × (wire.new ≡ wire.old)
+        × (turns.new ≡ turns.old) × (out.new ≡ out.old) × (meter.new ≡ meter.old)) }
 {
     let automata = Automata::new(alloc)?;
     let fields = Fields::new(alloc)?;

@@ -1,0 +1,3 @@
+pub mod NamesLaws
+pub mod PlacedLaws
+pub mod KeptLaws

@@ -1,0 +1,4 @@
+pub mod Names
+pub mod Kept
+pub mod Placed
+pub mod Host

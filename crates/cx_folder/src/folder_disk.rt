@@ -1,0 +1,191 @@
+//! A disk over two folders.
+ghost use Rattle.std.specs.Prelude.{◌≡◌, false, length, IsTrue, OnOk, OnErr, IfOk, IfErr};
+ghost use Rattle.cx_disk.specs.Cause.{HasCause};
+ghost use Rattle.cx_disk.specs.Disk.{files_in, no_folders, untold, IsNamed};
+ghost use Rattle.cx_disk.specs.declared.disk.DiskFault.TheVariants.{Failed};
+
+use crate::Folder;
+use crate::kept::{Entries, Kept, all_shut};
+use crate::names::Places;
+use cx_disk::{Disk, DiskFault};
+use cx_text::{List, Text};
+use std::alloc::Global;
+use std::marker::Model;
+
+/// Two folders of a host as a disk. In the folder of the checkpoints stand the slots, `checkpoint.chkpt.0` to
+/// `checkpoint.chkpt.7`. In the folder of the outputs stand `output.asc`, a file for each name that `mount` is given, the
+/// chunks `chunk.0.asc` to `chunk.511.asc`, and `recombined.asc`. An empty name of a folder stands for the current folder.
+///
+/// `mount` takes the locks of both folders as long as the disk lives. Names that aren't text, or that give two files one
+/// path, are a failure, as are a second mount and a range that isn't there. Only `write_at` makes a file, and a folder that
+/// is missing with it.
+///
+/// A file is open from its first write to the sync after its last. With the first sync after a file was made the entries of
+/// both folders are synced too. Once a sync of a file has failed, each later change and sync of it fails; once one of the
+/// folders has failed, each later sync. It tells nothing of what its files hold.
+#[derive(Drop)]
+pub struct FolderDisk<F: Folder + Drop> {
+    kept: Kept<F>,
+    alloc: Global,
+    places: Option<Places>,
+    mounted: bool,
+    faults: u64,
+}
+
+impl<F: Folder + Drop> Model for FolderDisk<F> {
+    ghost use Rattle.cx_folder.specs.Placed.{Placed, placed_code, folders_of, IsPlaced};
+
+    ghost Value = { Placed F };
+
+    ghost coded = { placed_code F.code };
+
+    ghost view = { λ disk. record {
+      folder = disk.kept.folder;
+      mounted = disk.mounted;
+      folders = folders_of disk.places;
+      faults = disk.faults;
+    } };
+
+    ghost invariant = { λ disk. IsPlaced (F.holds disk.kept.folder) disk.kept.files.items
+        disk.places disk.mounted };
+}
+
+/// What a call gave, with a failure counted.
+fn counted<T>(faults: &mut u64, done: Result<T, DiskFault>) -> Result<T, DiskFault>
+    ensures same { result ≡ done }
+    ensures cause { HasCause Failed faults.old faults.new result }
+{
+    if let Err(DiskFault::Failed) = done {
+        *faults = faults.saturating_add(1);
+    }
+    done
+}
+
+impl<F: Folder + Drop> FolderDisk<F> {
+    /// A disk that isn't mounted and hasn't failed. It has the folders of its first `mount`.
+    pub fn new(folder: F, alloc: Global) -> Self
+        ensures { result
+            ≡ record { folder = folder; mounted = false; folders = no_folders; faults = 0 } }
+    {
+        FolderDisk {
+            kept: Kept {
+                folder,
+                files: Vec::new(alloc),
+                entries: Entries::Made,
+            },
+            alloc,
+            places: None,
+            mounted: false,
+            faults: 0,
+        }
+    }
+
+    /// The folder within.
+    pub fn into_inner(self) -> F
+        ensures { result ≡ self.folder }
+    {
+        self.kept.folder
+    }
+
+    /// A mount, of which no failure is counted. Another one after it is a failure.
+    fn mount_once(
+        &mut self,
+        output: &Text,
+        names: &List<Text>,
+        checkpoints: &Text,
+    ) -> Result<(), DiskFault>
+        ensures mounted { OnOk result (IsTrue self.new.mounted) }
+        ensures stays { IsTrue self.old.mounted → IsTrue self.new.mounted }
+        ensures named { OnOk result
+            (IsNamed output.now names.now checkpoints.now self.new.folders) }
+        ensures unnamed { OnErr result (self.new.folders ≡ self.old.folders) }
+        ensures faults { self.new.faults ≡ self.old.faults }
+    {
+        if self.mounted {
+            return Err(DiskFault::Failed);
+        }
+        let places = Places::new(self.alloc, output, names, checkpoints)?;
+        let files = all_shut(self.alloc, places.count())?;
+        self.kept.hold(&places)?;
+        self.kept.files = files;
+        self.places = Some(places);
+        self.mounted = true;
+        Ok(())
+    }
+}
+
+impl<F: Folder + Drop> Disk for FolderDisk<F> {
+    ghost tells = { ⊥ };
+
+    ghost mounted = { λ disk. disk.mounted };
+
+    ghost folders = { λ disk. disk.folders };
+
+    ghost file_count = { λ disk. files_in disk.folders };
+
+    ghost view = { λ _. untold };
+
+    ghost faults = { λ disk. disk.faults };
+
+    ghost sound = { λ _ tells. absurd tells };
+
+    fn mount(
+        &mut self,
+        output: &Text,
+        names: &List<Text>,
+        checkpoints: &Text,
+    ) -> Result<(), DiskFault> {
+        let done = self.mount_once(output, names, checkpoints);
+        counted(&mut self.faults, done)
+    }
+
+    fn length(&mut self, file: u32) -> Result<u64, DiskFault> {
+        match &self.places {
+            Some(places) => {
+                let done = self.kept.length(places, file);
+                counted(&mut self.faults, done)
+            }
+            None => unreachable!(),
+        }
+    }
+
+    fn read(&mut self, file: u32, at: u64, into: &mut [u8]) -> Result<(), DiskFault> {
+        match &self.places {
+            Some(places) => {
+                let done = self.kept.read(places, file, at, into);
+                counted(&mut self.faults, done)
+            }
+            None => unreachable!(),
+        }
+    }
+
+    fn write_at(&mut self, file: u32, at: u64, bytes: &[u8]) -> Result<(), DiskFault> {
+        match &self.places {
+            Some(places) => {
+                let done = self.kept.write(places, file, at, bytes);
+                counted(&mut self.faults, done)
+            }
+            None => unreachable!(),
+        }
+    }
+
+    fn cut(&mut self, file: u32, to: u64) -> Result<(), DiskFault> {
+        match &self.places {
+            Some(places) => {
+                let done = self.kept.cut(places, file, to);
+                counted(&mut self.faults, done)
+            }
+            None => unreachable!(),
+        }
+    }
+
+    fn sync(&mut self, file: u32) -> Result<(), DiskFault> {
+        match &self.places {
+            Some(places) => {
+                let done = self.kept.sync(places, file);
+                counted(&mut self.faults, done)
+            }
+            None => unreachable!(),
+        }
+    }
+}
