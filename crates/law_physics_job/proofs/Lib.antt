@@ -1,0 +1,13 @@
+mod Pieces
+mod Steers
+mod Trees
+mod Thorn
+mod Stages
+mod Matched
+mod Fields
+mod Params
+mod Shipped
+mod HeatJob
+mod GasJob
+mod Constants
+mod Handed
