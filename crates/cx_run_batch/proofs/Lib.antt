@@ -1,0 +1,3 @@
+pub mod MeterLaws
+pub mod StageLaws
+pub mod MemberLaws

@@ -1,0 +1,122 @@
+//! Runs that take turns, from their beginning to their end.
+ghost use Rattle.std.specs.Prelude.{◌≡◌, ◌<◌, ◌≤◌, ◌+◌, List, length, map, true, false};
+ghost use Rattle.std.specs.List.{AllByRecursion, list_all};
+ghost use Rattle.cx_core.specs.Starts.{IsReady};
+ghost use Rattle.cx_run_batch.specs.Members.{AreAble, AreServed, AreWaiting, HaveRun, HaveStarted, HaveWires, Turned, jobs_of, left_to, spent_by};
+ghost use Rattle.cx_run_batch.specs.Stages.{is_over};
+
+use crate::member::{Member, start, take_turn};
+use cx_disk::Disk;
+use cx_rule::{Meter, Routine};
+use cx_turns::Turns;
+use cx_wire::Wire;
+use std::alloc::Global;
+
+/// Runs the jobs of a batch to their ends, each on the disk and the wire at its place.
+///
+/// In its first turn a member's run begins on its disk; in each further one it does at most 1,000 events, which `turns` picks. The
+/// members take turns in order, again and again, until all are over. A member is over with its core where its run came to its end,
+/// and with a fault where a device failed, where there was no memory left, or where the files on its disk refuse the start. The others
+/// go on then.
+///
+/// A member's result is that of its run alone, on a meter of its own that has counted as much as it has spent. Disks and wires
+/// without a member are as they were. It takes no memory beside that of the runs.
+pub fn run_all<D: Disk, W: Wire, T: Turns>(
+    alloc: Global,
+    members: &mut [Member],
+    routines: &[Box<dyn Routine>],
+    disks: &mut [D],
+    wires: &mut [W],
+    turns: &mut T,
+    meter: &mut Meter,
+)
+    requires waiting { AreWaiting members.old }
+    requires served { AreServed (map spec_of routines.now) members.old }
+    requires disks { length members.old ≤ length disks.old }
+    requires wires { HaveWires W.Wire members.old wires.old }
+    ensures jobs { jobs_of members.new ≡ jobs_of members.old }
+    ensures ran { HaveRun D.Disk W.Wire (map rule routines.now) members.new
+        disks.old disks.new wires.old wires.new meter.new }
+    ensures meter { meter.new ≡ meter.old + spent_by members.new }
+    ensures begun { T.begun turns.new ≡ T.begun turns.old }
+{
+    start_all(alloc, members, disks);
+    take_turns(alloc, members, routines, disks, wires, turns, meter);
+}
+
+/// The first turn of each member.
+fn start_all<D: Disk>(alloc: Global, members: &mut [Member], disks: &mut [D])
+    requires ready { AllByRecursion (λ m. IsReady m.job) members.old }
+    requires disks { length members.old ≤ length disks.old }
+    ensures { HaveStarted D.Disk members.old members.new disks.old disks.new }
+{
+    if let Some((member, others)) = members.split_first_mut() {
+        if let Some((disk, more_disks)) = disks.split_first_mut() {
+            start(alloc, member, disk);
+            start_all(alloc, others, more_disks);
+        }
+    }
+}
+
+/// Rounds of turns, until no member has turns left.
+fn take_turns<D: Disk, W: Wire, T: Turns>(
+    alloc: Global,
+    members: &mut [Member],
+    routines: &[Box<dyn Routine>],
+    disks: &mut [D],
+    wires: &mut [W],
+    turns: &mut T,
+    meter: &mut Meter,
+)
+    requires served { AreServed (map spec_of routines.now) members.old }
+    requires able { AreAble D.Disk W.Wire (map rule routines.now) members.old
+        disks.old wires.old meter.old }
+    ensures turned { Turned D.Disk W.Wire (map rule routines.now) members.old members.new
+        disks.old disks.new wires.old wires.new meter.old meter.new }
+    ensures over { list_all (λ m. is_over m.stage) members.new ≡ true }
+    ensures begun { T.begun turns.new ≡ T.begun turns.old }
+{
+    'rounds: while !all_over(members) {
+        round(alloc, members, routines, disks, wires, turns, meter);
+    }
+}
+
+/// Whether no member has turns left.
+fn all_over(members: &[Member]) -> bool
+    ensures { result ≡ list_all (λ m. is_over m.stage) members.now }
+{
+    members.iter().all(|member| member.is_over())
+}
+
+/// One turn of each member, in order.
+#[tactic(auto, using(crate::proofs::MemberLaws::unturned))]
+fn round<D: Disk, W: Wire, T: Turns>(
+    alloc: Global,
+    members: &mut [Member],
+    routines: &[Box<dyn Routine>],
+    disks: &mut [D],
+    wires: &mut [W],
+    turns: &mut T,
+    meter: &mut Meter,
+)
+    requires served { AreServed (map spec_of routines.now) members.old }
+    requires able { AreAble D.Disk W.Wire (map rule routines.now) members.old
+        disks.old wires.old meter.old }
+    ensures turned { Turned D.Disk W.Wire (map rule routines.now) members.old members.new
+        disks.old disks.new wires.old wires.new meter.old meter.new }
+    ensures less { list_all (λ m. is_over m.stage) members.old ≡ false
+        → left_to members.new < left_to members.old }
+    ensures left { left_to members.new ≤ left_to members.old }
+    ensures begun { T.begun turns.new ≡ T.begun turns.old }
+{
+    if let Some((member, others)) = members.split_first_mut() {
+        if let Some((disk, more_disks)) = disks.split_first_mut() {
+            if let Some((wire, more_wires)) = wires.split_first_mut() {
+                take_turn(alloc, member, routines, disk, wire, turns, meter);
+                round(
+                    alloc, others, routines, more_disks, more_wires, turns, meter,
+                );
+            }
+        }
+    }
+}
