@@ -1,4 +1,4 @@
-/* What the sample thorns' steps cost in C: plain loops over 64-bit integers, on periodic grids that wrap by ghost points.
+/* What the thorns' steps cost in C: plain loops over 64-bit integers, on periodic grids that wrap by ghost points.
  *
  *     gcc -O3 -o stencil stencil.c
  *     ./stencil ca 1048576 100        elementary automaton, rule 90, a ring of 1,048,576 cells, 100 steps
@@ -6,6 +6,7 @@
  *     ./stencil gas 1024 100          the HPP gas, a sheet of 1,024 by 1,024 cells
  *     ./stencil wave 1048576 100      wave equation, factor 64, a ring; sums that leave 64 bits wrap untold
  *     ./stencil heat 1048576 100      heat equation, factor 64, the same
+ *     ./stencil flux 100 100          heat in flux form, factor 32, a box of 100 by 100 by 100 points, the same
  *
  * It prints nanoseconds per point and step, without the first step, and a sum of the last numbers.
  */
@@ -71,7 +72,8 @@ static void gas_step(const int64_t *restrict old, int64_t *restrict new, size_t 
 }
 
 /* `>> 8` of a negative number rounds down with gcc, as the thorns' `div 256` does */
-static void wave_step(const int64_t *restrict now, const int64_t *restrict before, int64_t *restrict new, size_t n, int64_t factor) {
+static void wave_step(const int64_t *restrict now, const int64_t *restrict before, int64_t *restrict new, size_t n,
+                      int64_t factor) {
     for (size_t i = 1; i <= n; i++) {
         int64_t lap = now[i - 1] + now[i + 1] - 2 * now[i];
         new[i] = 2 * now[i] - before[i] + ((factor * lap) >> 8);
@@ -85,52 +87,110 @@ static void heat_step(const int64_t *restrict old, int64_t *restrict new, size_t
     }
 }
 
+/* what flows from a to b; `/` rounds toward 0 */
+static int64_t flow(int64_t factor, int64_t a, int64_t b) {
+    return factor * (a - b) / 256;
+}
+
+static void flux_step(const int64_t *restrict old, int64_t *restrict new, size_t n, int64_t factor) {
+    size_t w = n + 2, s = w * w;
+    for (size_t z = 1; z <= n; z++)
+        for (size_t y = 1; y <= n; y++) {
+            const int64_t *u = old + z * s + y * w;
+            int64_t *to = new + z * s + y * w;
+            for (size_t x = 1; x <= n; x++)
+                to[x] = u[x] + flow(factor, u[x - 1], u[x]) - flow(factor, u[x], u[x + 1])
+                    + flow(factor, u[x - w], u[x]) - flow(factor, u[x], u[x + w])
+                    + flow(factor, u[x - s], u[x]) - flow(factor, u[x], u[x + s]);
+        }
+}
+
+static void wrap_sheet(int64_t *sheet, size_t n) {
+    size_t w = n + 2;
+    for (size_t y = 1; y <= n; y++) wrap_row(sheet + y * w, n);
+    memcpy(sheet, sheet + n * w, w * sizeof *sheet);
+    memcpy(sheet + (n + 1) * w, sheet + w, w * sizeof *sheet);
+}
+
 static double seconds(void) {
     struct timespec t;
     clock_gettime(CLOCK_PROCESS_CPUTIME_ID, &t);
     return (double)t.tv_sec + 1e-9 * (double)t.tv_nsec;
 }
 
+struct job {
+    const char *name;
+    unsigned directions, choices, scale;
+};
+
+static const struct job jobs[] = {
+    {"ca", 1, 2, 1}, {"life", 2, 2, 1}, {"gas", 2, 16, 1},
+    {"wave", 1, 2, 1000}, {"heat", 1, 2, 1000}, {"flux", 3, 2, 1000},
+};
+
+static void step(const struct job *job, int64_t *now, const int64_t *before, int64_t *next, size_t n) {
+    size_t s = (n + 2) * (n + 2);
+    switch (job->directions) {
+    case 1:
+        wrap_row(now, n);
+        break;
+    case 2:
+        wrap_sheet(now, n);
+        break;
+    default:
+        for (size_t z = 1; z <= n; z++) wrap_sheet(now + z * s, n);
+        memcpy(now, now + n * s, s * sizeof *now);
+        memcpy(now + (n + 1) * s, now + s, s * sizeof *now);
+    }
+    switch (*job->name) {
+    case 'c':
+        ca_step(now, next, n, 90);
+        break;
+    case 'l':
+        life_step(now, next, n, 8, 12);
+        break;
+    case 'g':
+        gas_step(now, next, n);
+        break;
+    case 'w':
+        wave_step(now, before, next, n, 64);
+        break;
+    case 'h':
+        heat_step(now, next, n, 64);
+        break;
+    default:
+        flux_step(now, next, n, 32);
+    }
+}
+
 int main(int count, char **words) {
     if (count != 4) return 1;
-    int is_life = !strcmp(words[1], "life"), is_gas = !strcmp(words[1], "gas"), is_sheet = is_life || is_gas;
-    int is_ca = !strcmp(words[1], "ca"), is_wave = !strcmp(words[1], "wave");
-    size_t n = strtoull(words[2], 0, 10), steps = strtoull(words[3], 0, 10), choices = is_gas ? 16 : 2;
-    size_t rows = is_sheet ? n : 1, w = n + 2, all = is_sheet ? w * w : w;
+    const struct job *job = jobs;
+    while (strcmp(job->name, words[1]))
+        if (++job == jobs + sizeof jobs / sizeof *jobs) return 1;
+    size_t n = strtoull(words[2], 0, 10), steps = strtoull(words[3], 0, 10), w = n + 2;
+    size_t rows = job->directions > 1 ? n : 1, sheets = job->directions > 2 ? n : 1;
+    size_t all = job->directions > 2 ? w * w * w : job->directions > 1 ? w * w : w, s = w * w;
+    size_t first = 1 + (job->directions > 1 ? w : 0) + (job->directions > 2 ? s : 0);
     int64_t *now = numbers(all), *before = numbers(all), *next = numbers(all);
-    for (size_t y = 0; y < rows; y++)
-        for (size_t x = 0; x < n; x++)
-            now[(is_sheet ? y + 1 : 0) * w + x + 1] = mixed(y * n + x, choices) * (is_ca || is_sheet ? 1 : 1000);
+    for (size_t z = 0; z < sheets; z++)
+        for (size_t y = 0; y < rows; y++)
+            for (size_t x = 0; x < n; x++)
+                now[first + z * s + y * w + x] = mixed((z * n + y) * n + x, job->choices) * job->scale;
     memcpy(before, now, all * sizeof *now);
     double start = 0;
     for (size_t k = 0; k < steps; k++) {
         if (k == 1) start = seconds();
-        if (is_sheet) {
-            for (size_t y = 1; y <= n; y++) wrap_row(now + y * w, n);
-            memcpy(now, now + n * w, w * sizeof *now);
-            memcpy(now + (n + 1) * w, now + w, w * sizeof *now);
-            if (is_life) life_step(now, next, n, 8, 12);
-            else gas_step(now, next, n);
-            swap(&now, &next);
-        } else if (is_ca) {
-            wrap_row(now, n);
-            ca_step(now, next, n, 90);
-            swap(&now, &next);
-        } else if (is_wave) {
-            wrap_row(now, n);
-            wave_step(now, before, next, n, 64);
-            swap(&before, &now);
-            swap(&now, &next);
-        } else {
-            wrap_row(now, n);
-            heat_step(now, next, n, 64);
-            swap(&now, &next);
-        }
+        step(job, now, before, next, n);
+        if (*job->name == 'w') swap(&before, &now);
+        swap(&now, &next);
     }
     double took = seconds() - start;
     int64_t sum = 0;
-    for (size_t y = 0; y < rows; y++)
-        for (size_t x = 0; x < n; x++) sum += now[(is_sheet ? y + 1 : 0) * w + x + 1];
-    printf("%s %.2f ns a point, sum %" PRId64 "\n", words[1], 1e9 * took / ((double)(steps - 1) * (double)(rows * n)), sum);
+    for (size_t z = 0; z < sheets; z++)
+        for (size_t y = 0; y < rows; y++)
+            for (size_t x = 0; x < n; x++) sum += now[first + z * s + y * w + x];
+    double points = (double)(sheets * rows * n);
+    printf("%s %.2f ns a point, sum %" PRId64 "\n", job->name, 1e9 * took / ((double)(steps - 1) * points), sum);
     return 0;
 }
