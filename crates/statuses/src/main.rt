@@ -20,7 +20,7 @@ fn run_of(alloc: Global, file: &str) -> io::Result<Vec<Text>> {
     Ok(words)
 }
 
-/// Runs each file, and prints the exit code behind what the run prints. The last one's code is the program's.
+/// Runs each file, and prints the exit code after what the run prints. The last one's code is the program's.
 fn main(rt: HostRuntime) -> io::Result<ExitCode> {
     let mut code = ExitCode::SUCCESS;
     for file in FILES {
