@@ -4,6 +4,7 @@ ghost use Rattle.std.specs.Prelude.{map};
 ghost use Rattle.cx_rule.specs.Jobs.{FitJob};
 ghost use Rattle.cx_core.specs.Starts.{IsReady};
 
+use crate::cases::same;
 use crate::jobs::{job, parts, wire};
 use crate::runs::{Came, is_empty, run};
 use crate::samples::{NO_EXCHANGE, ONE_EXCHANGE, TWO_CELLS, TWO_CELLS_OUTPUT};
@@ -18,7 +19,6 @@ use std::test::Fail;
 const MOST: u64 = 20_000;
 
 /// How many orders there are, and whether each ended with the same output, the same that was counted, and empty queues.
-#[derive(Clone, Copy, Debug, PartialEq, Eq)]
 struct Orders {
     count: u64,
     same: bool,
@@ -111,15 +111,20 @@ const CASES: &[Case] = &[
     },
 ];
 
+/// All orders of a case end with the same, and there are as many as it says.
+fn orders_are(rt: &HostRuntime, case: &Case) -> Result<(), Fail> {
+    let orders = orders_of_two_cells(rt, case.others, case.counted)?;
+    same(
+        &case.name,
+        &(orders.count, orders.same),
+        &(case.orders, true),
+    )
+}
+
 #[test]
 fn each_order_of_two_parts(rt: HostRuntime) -> Result<(), Fail> {
     for case in CASES {
-        let orders = orders_of_two_cells(&rt, case.others, case.counted)?;
-        let want = Orders {
-            count: case.orders,
-            same: true,
-        };
-        assert_eq!(rt; orders, want, "{}", case.name);
+        orders_are(&rt, case)?;
     }
     Ok(())
 }

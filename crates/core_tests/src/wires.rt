@@ -4,6 +4,7 @@ ghost use Rattle.std.specs.Prelude.{map};
 ghost use Rattle.cx_rule.specs.Jobs.{FitJob};
 ghost use Rattle.cx_core.specs.Starts.{IsReady};
 
+use crate::cases::same;
 use crate::jobs::{altering, job, noting};
 use crate::runs::{Came, run};
 use crate::samples::{ALTERED_OUTPUT, CA, CA_OUTPUT};
@@ -120,22 +121,39 @@ fn all_runs(rt: &HostRuntime, more: &[u8]) -> Result<Runs, Fail> {
     })
 }
 
+/// Each run with an altered value writes the altered output.
+fn are_altered(more: &str, all: &[Came]) -> Result<(), Fail> {
+    for (seed, came) in all.iter().enumerate() {
+        let output = came.output.as_slice();
+        same(&("seed", seed, more), &output, &ALTERED_OUTPUT)?;
+    }
+    Ok(())
+}
+
+/// The runs by turns of a file with these lines write the output, and part k sends first in run k.
+fn are_noted(more: &str, all: &[Noted]) -> Result<(), Fail> {
+    for (turns, noted) in all.iter().enumerate() {
+        let found = (noted.came.output.as_slice(), noted.sender);
+        same(
+            &("turns", turns, more),
+            &found,
+            &(CA_OUTPUT, Some(turns as u32)),
+        )?;
+    }
+    same(&("runs", more), &all.len(), &2)
+}
+
+/// The runs of a file with these lines come to what they should.
+fn values_are_exchanged(rt: &HostRuntime, more: &str) -> Result<(), Fail> {
+    let runs = all_runs(rt, more.as_bytes())?;
+    are_altered(more, &runs.altered)?;
+    are_noted(more, &runs.noted)
+}
+
 #[test]
 fn parts_exchange_values_as_turns_say(rt: HostRuntime) -> Result<(), Fail> {
     for more in TWO_PARTS {
-        let runs = all_runs(&rt, more.as_bytes())?;
-        for (seed, came) in runs.altered.iter().enumerate() {
-            let output = came.output.as_slice();
-            assert_eq!(rt; output, ALTERED_OUTPUT, "seed {seed}, {more:?}");
-        }
-        let mut senders = Vec::new(rt.alloc());
-        for (turns, noted) in runs.noted.iter().enumerate() {
-            let output = noted.came.output.as_slice();
-            assert_eq!(rt; output, CA_OUTPUT, "turns {turns}, {more:?}");
-            senders.push(noted.sender)?;
-        }
-        let want = [Some(0), Some(1)];
-        assert_eq!(rt; senders.as_slice(), want.as_slice(), "{more:?}");
+        values_are_exchanged(&rt, more)?;
     }
     Ok(())
 }

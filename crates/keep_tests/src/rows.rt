@@ -1,5 +1,6 @@
 //! What a start answers and leaves, row by row.
 
+use crate::cases::same;
 use crate::starts::{
     BOTH, CUT_OFF, NO_SCALAR, NONE, OLD, OLD_3, OLD_BYTES, OLD_EMPTY, OLD_HUGE, OLD_TOO_LONG,
     OLD_TWO, ONE, ONE_POINT, OTHER, PHI, STRANGE, Slot, TOO_GREAT, TOTAL, VALUES, WHOLE, disk,
@@ -164,14 +165,19 @@ const STARTS: &[Start] = &[
     ),
 ];
 
+/// A start comes to what its row says, and leaves its outputs.
+fn start_comes(alloc: Global, start: &Start) -> Result<(), Fail> {
+    let (name, slots, given, outputs, recover, words, left) = *start;
+    let mut disk = disk(alloc, slots, given)?;
+    let shown = start_words(alloc, &mut disk, outputs, recover)?;
+    let found = (shown.as_str(), has_outputs(&disk, left));
+    same(&name, &found, &(words, true))
+}
+
 #[test]
 fn starts(rt: HostRuntime) -> Result<(), Fail> {
-    let alloc = rt.alloc();
-    for (name, slots, given, outputs, recover, words, left) in STARTS {
-        let mut disk = disk(alloc, slots, given)?;
-        let shown = start_words(alloc, &mut disk, *outputs, *recover)?;
-        assert_eq!(rt; shown.as_str(), *words, "{name}");
-        assert!(rt; has_outputs(&disk, left), "{name}: the outputs");
+    for start in STARTS {
+        start_comes(rt.alloc(), start)?;
     }
     Ok(())
 }
@@ -287,14 +293,19 @@ const REFUSED: &[Refused] = &[
     ),
 ];
 
+/// A start is refused as its row says, and leaves the outputs as they were.
+fn start_is_refused(alloc: Global, place: usize, refused: &Refused) -> Result<(), Fail> {
+    let (slot, given, words) = *refused;
+    let mut disk = disk(alloc, &[slot], given)?;
+    let shown = start_words(alloc, &mut disk, true, Recover::Auto)?;
+    let found = (shown.as_str(), has_outputs(&disk, given));
+    same(&("row", place), &found, &(words, true))
+}
+
 #[test]
 fn starts_that_are_refused(rt: HostRuntime) -> Result<(), Fail> {
-    let alloc = rt.alloc();
-    for (slot, given, words) in REFUSED {
-        let mut disk = disk(alloc, &[*slot], given)?;
-        let shown = start_words(alloc, &mut disk, true, Recover::Auto)?;
-        assert_eq!(rt; shown.as_str(), *words, "wanted: {words}");
-        assert!(rt; has_outputs(&disk, given), "wanted: {words}: the outputs");
+    for (place, refused) in REFUSED.iter().enumerate() {
+        start_is_refused(rt.alloc(), place, refused)?;
     }
     Ok(())
 }
@@ -316,6 +327,5 @@ fn an_old_output_that_is_too_long(rt: HostRuntime) -> Result<(), Fail> {
     let mut disk = long_disk(alloc)?;
     let shown = start_words(alloc, &mut disk, true, Recover::Auto)?;
     let words = "OldTooLong 268435457 268435456, gates 1 9";
-    assert_eq!(rt; shown.as_str(), words, "one byte past the limit");
-    Ok(())
+    same(&"one byte past the limit", &shown.as_str(), &words)
 }

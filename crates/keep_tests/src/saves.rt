@@ -4,6 +4,7 @@ ghost use Rattle.std.specs.Prelude.{◌≡◌, true, IfOk};
 ghost use Rattle.cx_plan.specs.declared.job.Recover.TheVariants as recovers;
 ghost use Rattle.keep_tests.specs.Samples.{sample, sample_checkpoint};
 
+use crate::cases::same;
 use crate::starts::{
     BOTH, OLD, OLD_BYTES, PHI, Slot, TOTAL, VALUES, begin_words, disk, has_outputs, job, key,
     slot_bytes, start_words, text,
@@ -63,20 +64,24 @@ fn run_on(alloc: Global, calls: u64) -> Result<(bool, FuseDisk), Fail> {
 
 #[test]
 fn a_run_saves_a_checkpoint(rt: HostRuntime) -> Result<(), Fail> {
-    let alloc = rt.alloc();
-    let (stopped, disk) = run_on(alloc, 100)?;
+    let (stopped, disk) = run_on(rt.alloc(), 100)?;
     let left = disk.into_image(0)?;
-    let saved = slot_bytes(alloc, &(0, 2, 20, b'=', BOTH, VALUES))?;
-    assert!(rt; !stopped, "the run");
-    assert_eq!(rt; left.bytes(0), saved.as_slice(), "slot 0");
-    assert!(rt; has_outputs(&left, &[b"", b"abc", b"xy"]), "the outputs");
-    Ok(())
+    let saved = slot_bytes(rt.alloc(), &(0, 2, 20, b'=', BOTH, VALUES))?;
+    same(&"slot 0", &left.bytes(0), &saved.as_slice())?;
+    let outputs = has_outputs(&left, &[b"", b"abc", b"xy"]);
+    same(
+        &"it stops, its outputs",
+        &(stopped, outputs),
+        &(false, true),
+    )
 }
 
 // The calls of the run are: the mount, 8 looks at slots, 8 syncs of slots, a cut and a sync of each output, a look at the old one
 // (22); the pieces, and the outputs' syncs (26); 2 looks at the slot, a cut, a sync, a write of 0 and a sync (32); the body and a
 // sync (34); the gate and a sync (36); and the outputs' syncs. So many calls, from and to, and a choice:
-const STOPS: &[(u64, u64, u64, &str, &[&[u8]])] = &[
+type Stop = (u64, u64, u64, &'static str, &'static [&'static [u8]]);
+
+const STOPS: &[Stop] = &[
     (0, 34, 0, "afresh, gates", &[b"", b"", b""]),
     (0, 33, 1, "afresh, gates", &[b"", b"", b""]),
     (0, 33, 2, "afresh, gates", &[b"", b"", b""]),
@@ -103,24 +108,34 @@ const STOPS: &[(u64, u64, u64, &str, &[&[u8]])] = &[
     ),
 ];
 
+/// A run that stops after so many calls comes to what its row says.
+fn run_stops(alloc: Global, stop: &Stop, calls: u64) -> Result<(), Fail> {
+    let (_, _, choice, words, outputs) = *stop;
+    let (stopped, disk) = run_on(alloc, calls)?;
+    let mut image = disk.into_image(choice)?;
+    let shown = start_words(alloc, &mut image, true, Recover::Autoprobe)?;
+    let begins = shown.starts_with(words);
+    let found = (stopped, begins, has_outputs(&image, outputs));
+    let want = (calls < 38, true, true);
+    same(
+        &("calls", calls, "choice", choice, shown.as_str()),
+        &found,
+        &want,
+    )
+}
+
+/// A run that stops after any number of calls of a row.
+fn runs_stop(alloc: Global, stop: &Stop) -> Result<(), Fail> {
+    for calls in stop.0..stop.1.saturating_add(1) {
+        run_stops(alloc, stop, calls)?;
+    }
+    Ok(())
+}
+
 #[test]
 fn a_run_that_stops(rt: HostRuntime) -> Result<(), Fail> {
-    let alloc = rt.alloc();
-    for (first, last, choice, words, outputs) in STOPS {
-        for calls in *first..*last + 1 {
-            let (stopped, disk) = run_on(alloc, calls)?;
-            let mut image = disk.into_image(*choice)?;
-            let shown = start_words(alloc, &mut image, true, Recover::Autoprobe)?;
-            assert_eq!(rt; stopped, calls < 38, "{calls} calls");
-            assert!(rt;
-                shown.starts_with(words),
-                "{calls} calls, choice {choice}: {shown}"
-            );
-            assert!(rt;
-                has_outputs(&image, outputs),
-                "{calls} calls, choice {choice}"
-            );
-        }
+    for stop in STOPS {
+        runs_stop(rt.alloc(), stop)?;
     }
     Ok(())
 }
@@ -167,19 +182,31 @@ const STARTS: &[Stopping] = &[
     ),
 ];
 
+/// Behind a start that stops after so many calls another one comes to what its row says.
+fn start_stops(alloc: Global, row: &Stopping, stop: u64) -> Result<(), Fail> {
+    let (slots, given, words, left) = *row;
+    let (calls, choice) = (stop / 3, stop % 3);
+    let (shown, image) = behind(alloc, slots, given, calls, choice)?;
+    let found = (shown.starts_with(words), has_outputs(&image, left));
+    same(
+        &("calls", calls, "choice", choice, shown.as_str()),
+        &found,
+        &(true, true),
+    )
+}
+
+/// A start that stops after any number of calls.
+fn starts_stop(alloc: Global, row: &Stopping) -> Result<(), Fail> {
+    for stop in 0..150 {
+        start_stops(alloc, row, stop)?;
+    }
+    Ok(())
+}
+
 #[test]
 fn a_start_that_stops(rt: HostRuntime) -> Result<(), Fail> {
-    let alloc = rt.alloc();
-    for (slots, given, words, left) in STARTS {
-        for stop in 0..150 {
-            let (calls, choice) = (stop / 3, stop % 3);
-            let (shown, image) = behind(alloc, slots, given, calls, choice)?;
-            assert!(rt;
-                shown.starts_with(words),
-                "{calls} calls, choice {choice}: {shown}"
-            );
-            assert!(rt; has_outputs(&image, left), "{calls} calls, choice {choice}");
-        }
+    for row in STARTS {
+        starts_stop(rt.alloc(), row)?;
     }
     Ok(())
 }

@@ -7,6 +7,7 @@ ghost use Rattle.cx_rule.specs.Zones.{in_zone};
 ghost use Rattle.cx_thorn_ca.specs.Automaton.{ca_step_spec};
 ghost use Rattle.thorns_tests.specs.Fields.{field_vars, IsTrial};
 
+use crate::cases::same;
 use crate::fields::Grid;
 use crate::trials::{field_for, first_item, in_zone, part_of, shown, window_point};
 use cx_grid::{Point, contains};
@@ -129,6 +130,5 @@ fn staged_numbers_are_set_at_once(rt: HostRuntime) -> Result<(), Fail> {
     let found = staged(&rt, &routine)?.unwrap_or(Vec::new(alloc));
     // 101 gives 1 by 110; then what is staged as it is, between the edges.
     let want = [1, 1, 5, 6, 7, 8, 0];
-    assert_eq!(rt; found.as_slice(), want.as_slice(), "a row of cells");
-    Ok(())
+    same(&"a row of cells", &found.as_slice(), &want.as_slice())
 }
