@@ -4,7 +4,6 @@ ghost use Rattle.std.specs.Prelude.{map};
 ghost use Rattle.cx_rule.specs.Jobs.{FitJob};
 ghost use Rattle.cx_core.specs.Starts.{IsReady};
 
-use crate::cases::same;
 use crate::jobs::{job, wire};
 use crate::runs::run;
 use crate::samples::{NO_EXCHANGE, TWO_SAVES};
@@ -15,6 +14,7 @@ use cx_text::Text;
 use cx_thorn_ca::CaInit;
 use std::alloc::Global;
 use std::test::Fail;
+use test_cases::same;
 
 /// A run with these lines and picks, and what is seen before each event: for each event that can happen an A where it lies ahead.
 struct Row {

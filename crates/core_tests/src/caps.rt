@@ -3,7 +3,6 @@
 ghost use Rattle.cx_rule.specs.Single.{zero_rule};
 ghost use Rattle.core_tests.specs.Caps.{capped_step_spec};
 
-use crate::cases::same;
 use crate::jobs::too_large;
 use crate::samples::CA;
 use cx_plan::{ItemKind, Region};
@@ -12,6 +11,7 @@ use cx_text::Memory;
 use cx_thorn_ca::{CaCount, CaInit, CaZero};
 use std::alloc::Global;
 use std::test::Fail;
+use test_cases::same;
 
 /// A routine `ca_step` that clears the cells of parts of at most nine points.
 type CappedStep = RoutineOf<CappedStepRule>;

@@ -6,8 +6,6 @@ mod ahead;
 #[cfg(test)]
 mod caps;
 #[cfg(test)]
-mod cases;
-#[cfg(test)]
 mod ends;
 #[cfg(test)]
 mod exchange;

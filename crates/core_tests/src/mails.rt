@@ -3,12 +3,12 @@
 ghost use Rattle.std.specs.Prelude.{◌≡◌, ◌≤◌, IfOk};
 ghost use Rattle.cx_wire.specs.Messages.{IsCounted};
 
-use crate::cases::same;
 use cx_grid::Side;
 use cx_text::List;
 use cx_wire::{AlteringWire, FailingWire, Head, Mail, MemoryWire, NotingWire, Wire};
 use std::alloc::Global;
 use std::test::Fail;
+use test_cases::same;
 
 /// What a mail of two values says of itself.
 fn head(side: Side) -> Head

@@ -4,7 +4,6 @@ ghost use Rattle.std.specs.Prelude.{map};
 ghost use Rattle.cx_rule.specs.Jobs.{FitJob};
 ghost use Rattle.cx_core.specs.Starts.{IsReady};
 
-use crate::cases::same;
 use crate::jobs::{job, parts, wire};
 use crate::runs::{Came, is_empty, run};
 use crate::samples::{NO_EXCHANGE, ONE_EXCHANGE, TWO_CELLS, TWO_CELLS_OUTPUT};
@@ -14,6 +13,7 @@ use cx_rule::{Meter, Routine};
 use cx_thorn_ca::CaInit;
 use sample_files::File;
 use std::test::Fail;
+use test_cases::same;
 
 /// More orders than there are.
 const MOST: u64 = 20_000;

@@ -4,7 +4,6 @@ ghost use Rattle.std.specs.Prelude.{◌≡◌, IfOk};
 ghost use Rattle.cx_cut.specs.Cuts.{IsWhole};
 ghost use Rattle.core_tests.specs.Parts.{ring, HaveCells};
 
-use crate::cases::same;
 use crate::exchange::{exchanged, post_some, take_one};
 use crate::grids::{block, is_true, parts, ring, show, widths};
 use cx_cut::{Cut, cut};
@@ -12,6 +11,7 @@ use cx_field::Patch;
 use cx_wire::MemoryWire;
 use std::alloc::Global;
 use std::test::Fail;
+use test_cases::same;
 
 /// The ring cut into parts of these widths.
 fn ring_cut(alloc: Global, x: &[u32]) -> Result<Cut, Fail>

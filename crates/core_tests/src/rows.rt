@@ -4,7 +4,6 @@ ghost use Rattle.std.specs.Prelude.{map};
 ghost use Rattle.cx_rule.specs.Jobs.{FitJob};
 ghost use Rattle.cx_core.specs.Starts.{IsReady};
 
-use crate::cases::same;
 use crate::ends::DiffEnds;
 use crate::jobs::{job, parts, wire};
 use crate::runs::{Came, is_empty, run};
@@ -16,6 +15,7 @@ use cx_thorn_pde::{DiffFlat, DiffInit, DiffStep, DiffSum};
 use cx_turns::{SeededTurns, Turns};
 use sample_files::File;
 use std::test::Fail;
+use test_cases::same;
 
 /// A job, and what comes of it in any order of events. Where its run isn't done nothing is said of what was counted.
 struct Row {

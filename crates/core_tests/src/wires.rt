@@ -4,7 +4,6 @@ ghost use Rattle.std.specs.Prelude.{map};
 ghost use Rattle.cx_rule.specs.Jobs.{FitJob};
 ghost use Rattle.cx_core.specs.Starts.{IsReady};
 
-use crate::cases::same;
 use crate::jobs::{altering, job, noting};
 use crate::runs::{Came, run};
 use crate::samples::{ALTERED_OUTPUT, CA, CA_OUTPUT};
@@ -14,6 +13,7 @@ use cx_rule::{Meter, Routine};
 use cx_thorn_ca::{CaCount, CaInit, CaStep, CaZero};
 use cx_turns::{SeededTurns, Turns};
 use std::test::Fail;
+use test_cases::same;
 
 /// Two parts with a lead.
 const TWO_PARTS: &[&str] = &[

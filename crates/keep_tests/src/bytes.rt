@@ -2,12 +2,12 @@
 
 ghost use Rattle.std.specs.Prelude.{◌<◌, length};
 
-use crate::cases::same;
 use crate::slots::{BARE_SLOT, NAMED_SLOT, slot_with};
 use cx_chk::decode;
 use std::alloc::Global;
 use std::fmt::Debug;
 use std::test::Fail;
+use test_cases::same;
 
 /// The bytes spell no checkpoint.
 fn spells_none<C: Debug>(alloc: Global, case: &C, bytes: &[u8]) -> Result<(), Fail> {

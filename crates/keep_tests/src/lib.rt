@@ -4,8 +4,6 @@
 #[cfg(test)]
 mod bytes;
 #[cfg(test)]
-mod cases;
-#[cfg(test)]
 mod checks;
 #[cfg(test)]
 mod disks;

@@ -1,12 +1,12 @@
 //! The newest of two slots.
 
-use crate::cases::same;
 use crate::disks::newest_in;
 use crate::slots::{named_slot, slot};
 use cx_disk::MemoryDisk;
 use cx_text::{List, Memory, Text};
 use std::alloc::Global;
 use std::test::Fail;
+use test_cases::same;
 
 // Two open slots by version and iteration, and which of them is the newest.
 type Row = (&'static str, (u8, u8), (u8, u8), u32);

@@ -1,6 +1,5 @@
 //! What a start answers and leaves, row by row.
 
-use crate::cases::same;
 use crate::starts::{
     BOTH, CUT_OFF, NO_SCALAR, NONE, OLD, OLD_3, OLD_BYTES, OLD_EMPTY, OLD_HUGE, OLD_TOO_LONG,
     OLD_TWO, ONE, ONE_POINT, OTHER, PHI, STRANGE, Slot, TOO_GREAT, TOTAL, VALUES, WHOLE, disk,
@@ -11,6 +10,7 @@ use cx_plan::Recover;
 use cx_text::{List, Text};
 use std::alloc::Global;
 use std::test::Fail;
+use test_cases::same;
 
 // The old output and both outputs before a start, whether both variables are written, and how the run begins; what the start
 // comes to, and the same files behind it.

@@ -4,7 +4,6 @@ ghost use Rattle.std.specs.Prelude.{◌≡◌, true, IfOk};
 ghost use Rattle.cx_plan.specs.declared.job.Recover.TheVariants as recovers;
 ghost use Rattle.keep_tests.specs.Samples.{sample, sample_checkpoint};
 
-use crate::cases::same;
 use crate::starts::{
     BOTH, OLD, OLD_BYTES, PHI, Slot, TOTAL, VALUES, begin_words, disk, has_outputs, job, key,
     slot_bytes, start_words, text,
@@ -16,6 +15,7 @@ use cx_plan::{Job, Recover, VarId};
 use cx_text::List;
 use std::alloc::Global;
 use std::test::Fail;
+use test_cases::same;
 
 /// A checkpoint of iteration 20 behind three bytes and two bytes of output, with a scalar of -1, and a level with 0 and 1.
 fn checkpoint(alloc: Global) -> Result<Checkpoint, Fail>

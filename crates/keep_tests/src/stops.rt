@@ -2,13 +2,13 @@
 ghost use Rattle.std.specs.Prelude.{◌<◌, ◌≤◌};
 ghost use Rattle.cx_disk.specs.Files.{slot_count};
 
-use crate::cases::same;
 use crate::checks::{closing_kept, newest_after_closing, newest_after_save, one_closed, save_kept};
 use crate::disks::{close_on, close_second_on, disk_before, newest_in, save_on, stopping_disk};
 use crate::slots::{checkpoint, slot};
 use cx_disk::MemoryDisk;
 use std::alloc::Global;
 use std::test::Fail;
+use test_cases::same;
 
 // Images of each stop.
 const CHOICES: u64 = 8;

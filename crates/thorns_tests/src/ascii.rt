@@ -1,11 +1,11 @@
 //! Sections and lines of the output.
 
-use crate::cases::same;
 use cx_ascii::{line_length, scalar_line, section, section_length};
 use cx_grid::{Point, Shape};
 use cx_text::Text;
 use std::alloc::Global;
 use std::test::Fail;
+use test_cases::same;
 
 /// A row of cells, as a section and by its length.
 fn row_is_one_line(alloc: Global) -> Result<(), Fail> {

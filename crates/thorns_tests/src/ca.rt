@@ -2,10 +2,10 @@
 
 ghost use Rattle.std.specs.Prelude.{◌≤◌, ◌<◌};
 
-use crate::cases::same;
 use crate::points::{around, beside, in_ring, in_sheet, nothing, number, read, unread};
 use cx_thorn_ca::{CaCount, CaInit, CaStep, CaZero, LifeCount, LifeInit, LifeStep, LifeZero};
 use std::test::Fail;
+use test_cases::same;
 
 /// The seed and the start; and the first row.
 type FirstRow = (i64, i64, [i64; 8]);

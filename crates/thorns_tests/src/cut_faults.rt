@@ -2,7 +2,6 @@
 
 ghost use Rattle.cx_grid.specs.Grid.{IsShape};
 
-use crate::cases::same;
 use crate::widths::{block, even_block, even_line, line, line_widths};
 use cx_cut::{CutFault, cut};
 use cx_grid::Shape;
@@ -10,6 +9,7 @@ use cx_plan::Cuts;
 use cx_text::List;
 use std::alloc::Global;
 use std::test::Fail;
+use test_cases::same;
 
 /// The fault of widths, if they have one.
 fn fault_of(alloc: Global, shape: &Shape, widths: &Cuts) -> Option<CutFault>

@@ -1,11 +1,11 @@
 //! Boxes, their points, and a grid.
 
-use crate::cases::same;
 use cx_grid::{
     Box3, Point, Shape, clamp, contains, count, index_of, is_boundary, point_at, reach_box, rows,
     whole, wrap,
 };
 use std::test::Fail;
+use test_cases::same;
 
 const AT: [Point; 4] = [
     Point { x: -1, y: 0, z: 2 },

@@ -6,8 +6,6 @@ mod ascii;
 #[cfg(test)]
 mod ca;
 #[cfg(test)]
-mod cases;
-#[cfg(test)]
 mod cut_faults;
 #[cfg(test)]
 mod fields;

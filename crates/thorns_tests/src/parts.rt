@@ -4,12 +4,12 @@ ghost use Rattle.std.specs.Prelude.{◌≡◌, ◌<◌, ◌≤◌};
 ghost use Rattle.cx_grid.specs.Grid.{IsShape};
 ghost use Rattle.cx_cut.specs.Cuts.{part_count};
 
-use crate::cases::same;
 use crate::widths::{block, even_block, even_line, line};
 use cx_cut::{Cut, cut, even};
 use cx_grid::{Point, Shape, Side, contains, whole};
 use std::alloc::Global;
 use std::test::Fail;
+use test_cases::same;
 
 /// A part of a line: the ends of its own points, the ends of its local ones, and its neighbours at the low side and the high one.
 type Row = (i32, i32, i32, i32, Option<u32>, Option<u32>);

@@ -1,6 +1,5 @@
 //! The equations' routines at a point: what they read and take, and their numbers, worked out by hand.
 
-use crate::cases::same;
 use crate::points::{beside, here, in_ring, nothing, number, read, started, taken, twice};
 use cx_rule::{Cells, Meter, Routine};
 use cx_thorn_pde::{
@@ -8,6 +7,7 @@ use cx_thorn_pde::{
     WaveInit, WaveInit1, WaveScalar, WaveStep, WaveSum,
 };
 use std::test::Fail;
+use test_cases::same;
 
 const LEAST: i64 = i64::MIN;
 

@@ -1,9 +1,9 @@
 //! Bins, and past levels as texts have them.
 
-use crate::cases::same;
 use cx_plan::{Bin, Region, level_text, region_text};
 use std::alloc::Global;
 use std::test::Fail;
+use test_cases::same;
 
 /// A full name, how many levels back, and the name of that level.
 type Past = (&'static str, u8, &'static str);

@@ -1,10 +1,10 @@
 //! Windows, places, cells and meters.
 
-use crate::cases::same;
 use cx_grid::{Point, Shape};
 use cx_rule::{Cells, Meter, Place, Window};
 use cx_text::List;
 use std::test::Fail;
+use test_cases::same;
 
 #[test]
 fn a_window_keeps_its_reads_apart(rt: HostRuntime) -> Result<(), Fail> {

@@ -7,7 +7,6 @@ ghost use Rattle.cx_rule.specs.Zones.{in_zone};
 ghost use Rattle.cx_thorn_ca.specs.Automaton.{ca_step_spec};
 ghost use Rattle.thorns_tests.specs.Fields.{field_vars, IsTrial};
 
-use crate::cases::same;
 use crate::fields::Grid;
 use crate::trials::{field_for, first_item, in_zone, part_of, shown, window_point};
 use cx_grid::{Point, contains};
@@ -15,6 +14,7 @@ use cx_plan::Item;
 use cx_rule::{Meter, Patch, Routine, Zone};
 use cx_thorn_ca::CaStep;
 use std::test::Fail;
+use test_cases::same;
 
 /// A row of cells between two edges.
 const CELLS: [i64; 7] = [1, 0, 1, 1, 1, 0, 0];

@@ -1,6 +1,5 @@
 //! The sweeps of the thorns' Cell routines, worked out by hand, and beside what each gives at a point.
 
-use crate::cases::same;
 use crate::fields::{Grid, points, shape_of};
 use crate::trials::{Outcome, tried};
 use cx_rule::mix;
@@ -9,6 +8,7 @@ use cx_thorn_pde::{
     DiffFlat, DiffInit, DiffScalar, DiffStep, WaveCopy, WaveFlat, WaveInit, WaveScalar, WaveStep,
 };
 use std::test::Fail;
+use test_cases::same;
 
 const MOST: i64 = i64::MAX;
 
