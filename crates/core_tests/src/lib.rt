@@ -20,6 +20,8 @@ mod orders;
 #[cfg(test)]
 mod rounds;
 #[cfg(test)]
+mod routines;
+#[cfg(test)]
 mod rows;
 #[cfg(test)]
 mod runs;

@@ -4,14 +4,12 @@ ghost use Rattle.std.specs.Prelude.{map};
 ghost use Rattle.cx_rule.specs.Jobs.{FitJob};
 ghost use Rattle.cx_core.specs.Starts.{IsReady};
 
-use crate::ends::DiffEnds;
 use crate::jobs::{job, parts, wire};
+use crate::routines::{push_automaton, push_heat};
 use crate::runs::{Came, is_empty, run};
 use crate::samples::{BOTH, BOTH_OUTPUTS, CA, CA_OUTPUT, ENDS, HEAT, HEAT_OUTPUT, SHORT_HEAT, SUM};
 use cx_plan::Job;
 use cx_rule::{Meter, Routine};
-use cx_thorn_ca::{CaCount, CaInit, CaStep, CaZero};
-use cx_thorn_pde::{DiffFlat, DiffInit, DiffStep, DiffSum};
 use cx_turns::{SeededTurns, Turns};
 use sample_files::File;
 use std::test::Fail;
@@ -239,15 +237,8 @@ fn ten_runs_with(
 fn ten_runs(rt: &HostRuntime, row: &Row) -> Result<Vec<Told>, Fail> {
     let alloc = rt.alloc();
     let mut routines: Vec<Box<dyn Routine>> = Vec::new(alloc);
-    routines.push(Box::new(alloc, CaInit::new(alloc)?)?)?;
-    routines.push(Box::new(alloc, CaStep::new(alloc)?)?)?;
-    routines.push(Box::new(alloc, CaZero::new(alloc)?)?)?;
-    routines.push(Box::new(alloc, CaCount::new(alloc)?)?)?;
-    routines.push(Box::new(alloc, DiffInit::new(alloc)?)?)?;
-    routines.push(Box::new(alloc, DiffEnds::new(alloc)?)?)?;
-    routines.push(Box::new(alloc, DiffStep::new(alloc)?)?)?;
-    routines.push(Box::new(alloc, DiffFlat::new(alloc)?)?)?;
-    routines.push(Box::new(alloc, DiffSum::new(alloc)?)?)?;
+    push_automaton(alloc, &mut routines)?;
+    push_heat(alloc, &mut routines)?;
     ten_runs_with(rt, row, &routines)
 }
 

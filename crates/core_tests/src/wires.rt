@@ -5,12 +5,12 @@ ghost use Rattle.cx_rule.specs.Jobs.{FitJob};
 ghost use Rattle.cx_core.specs.Starts.{IsReady};
 
 use crate::jobs::{altering, job, noting};
+use crate::routines::push_automaton;
 use crate::runs::{Came, run};
 use crate::samples::{ALTERED_OUTPUT, CA, CA_OUTPUT};
 use crate::turns::{FirstTurns, LastTurns, Watch};
 use cx_plan::Job;
 use cx_rule::{Meter, Routine};
-use cx_thorn_ca::{CaCount, CaInit, CaStep, CaZero};
 use cx_turns::{SeededTurns, Turns};
 use std::test::Fail;
 use test_cases::same;
@@ -111,10 +111,7 @@ struct Runs {
 fn all_runs(rt: &HostRuntime, more: &[u8]) -> Result<Runs, Fail> {
     let alloc = rt.alloc();
     let mut routines: Vec<Box<dyn Routine>> = Vec::new(alloc);
-    routines.push(Box::new(alloc, CaInit::new(alloc)?)?)?;
-    routines.push(Box::new(alloc, CaStep::new(alloc)?)?)?;
-    routines.push(Box::new(alloc, CaZero::new(alloc)?)?)?;
-    routines.push(Box::new(alloc, CaCount::new(alloc)?)?)?;
+    push_automaton(alloc, &mut routines)?;
     Ok(Runs {
         altered: ten_altered(rt, more, &routines)?,
         noted: two_noted(rt, more, &routines)?,

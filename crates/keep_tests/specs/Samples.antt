@@ -1,6 +1,6 @@
 -- The job of the tests: a grid variable of two points and a scalar, both of which are written or
 -- neither, with checkpoints at iterations 20 and 40.
-use Rattle.std.specs.Prelude.{ℕ, ◌∷◌, [], List, Bool, false, true, pos, negsuc, None, codes}
+use Rattle.std.specs.Prelude.{ℕ, ◌∷◌, [], List, Bool, false, true, pos, negsuc, None, replicate, codes}
 use Rattle.cx_text.specs.declared.ctype.CType.TheVariants.{Int8, Byte}
 use Rattle.cx_plan.specs.declared.variable.VarId.{VarId}
 use Rattle.cx_plan.specs.declared.variable.VarInfo.{VarInfo}
@@ -18,8 +18,7 @@ abbrev pub nothing : Tree
 nothing = Seq []
 
 abbrev pub no_bins : List Tree
-no_bins = nothing ∷ nothing ∷ nothing ∷ nothing ∷ nothing ∷ nothing ∷ nothing ∷ nothing ∷ nothing
-    ∷ nothing ∷ nothing ∷ nothing ∷ nothing ∷ nothing ∷ nothing ∷ nothing ∷ nothing ∷ []
+no_bins = replicate 17 nothing
 
 -- a steer of the iteration of the first checkpoint, and one after the last
 abbrev pub sample_key : List ℕ

@@ -1,9 +1,9 @@
 //! What a start answers and leaves, row by row.
 
 use crate::starts::{
-    BOTH, CUT_OFF, NO_SCALAR, NONE, OLD, OLD_3, OLD_BYTES, OLD_EMPTY, OLD_HUGE, OLD_TOO_LONG,
-    OLD_TWO, ONE, ONE_POINT, OTHER, PHI, STRANGE, Slot, TOO_GREAT, TOTAL, VALUES, WHOLE, disk,
-    has_outputs, slot_bytes, start_words,
+    BARE_KEY, BOTH, CUT_OFF, EARLY_KEY, LATE_KEY, NO_SCALAR, NONE, OLD, OLD_3, OLD_BYTES,
+    OLD_EMPTY, OLD_HUGE, OLD_TOO_LONG, OLD_TWO, ONE, ONE_POINT, OTHER, OTHER_KEY, PHI, STRANGE,
+    Slot, TOO_GREAT, TOTAL, VALUES, WHOLE, disk, has_outputs, slot_bytes, start_words,
 };
 use cx_disk::{MemoryDisk, SLOTS};
 use cx_plan::Recover;
@@ -45,7 +45,7 @@ const STARTS: &[Start] = &[
     ),
     (
         "version 2",
-        &[(0, 2, 20, b'5', BOTH, VALUES)],
+        &[(0, 2, 20, EARLY_KEY, BOTH, VALUES)],
         &[b"old", b"abcde", b"xyz"],
         true,
         Recover::Auto,
@@ -54,7 +54,7 @@ const STARTS: &[Start] = &[
     ),
     (
         "version 2, with other steers after it",
-        &[(0, 2, 20, b'+', BOTH, VALUES)],
+        &[(0, 2, 20, LATE_KEY, BOTH, VALUES)],
         &[b"old", b"abcde", b"xyz"],
         true,
         Recover::Auto,
@@ -63,7 +63,7 @@ const STARTS: &[Start] = &[
     ),
     (
         "version 2 given up",
-        &[(0, 2, 20, b'5', BOTH, VALUES)],
+        &[(0, 2, 20, EARLY_KEY, BOTH, VALUES)],
         &[b"old", b"abcde", b"xyz"],
         true,
         Recover::No,
@@ -72,7 +72,7 @@ const STARTS: &[Start] = &[
     ),
     (
         "version 1",
-        &[(0, 1, 20, b'5', OLD, VALUES)],
+        &[(0, 1, 20, EARLY_KEY, OLD, VALUES)],
         &[OLD_BYTES, b"abc", b""],
         true,
         Recover::Auto,
@@ -82,8 +82,8 @@ const STARTS: &[Start] = &[
     (
         "version 1 behind one of version 2",
         &[
-            (0, 2, 20, b'5', BOTH, VALUES),
-            (1, 1, 40, b'5', OLD, VALUES),
+            (0, 2, 20, EARLY_KEY, BOTH, VALUES),
+            (1, 1, 40, EARLY_KEY, OLD, VALUES),
         ],
         &[OLD_BYTES, b"abc", b"xy"],
         true,
@@ -94,8 +94,8 @@ const STARTS: &[Start] = &[
     (
         "version 2 behind one of version 1",
         &[
-            (0, 1, 20, b'5', OLD, VALUES),
-            (1, 2, 40, b'5', WHOLE, VALUES),
+            (0, 1, 20, EARLY_KEY, OLD, VALUES),
+            (1, 2, 40, EARLY_KEY, WHOLE, VALUES),
         ],
         &[b"old", PHI, TOTAL],
         true,
@@ -106,8 +106,8 @@ const STARTS: &[Start] = &[
     (
         "both versions at once",
         &[
-            (0, 1, 20, b'5', OLD, VALUES),
-            (1, 2, 20, b'5', BOTH, VALUES),
+            (0, 1, 20, EARLY_KEY, OLD, VALUES),
+            (1, 2, 20, EARLY_KEY, BOTH, VALUES),
         ],
         &[OLD_BYTES, b"abcde", b"xyz"],
         true,
@@ -118,8 +118,8 @@ const STARTS: &[Start] = &[
     (
         "version 1 given up behind a start from it",
         &[
-            (0, 0, 20, b'5', BOTH, VALUES),
-            (1, 1, 40, b'5', OLD, VALUES),
+            (0, 0, 20, EARLY_KEY, BOTH, VALUES),
+            (1, 1, 40, EARLY_KEY, OLD, VALUES),
         ],
         &[OLD_BYTES, PHI, TOTAL],
         true,
@@ -129,7 +129,7 @@ const STARTS: &[Start] = &[
     ),
     (
         "no output, none of version 2",
-        &[(0, 2, 20, b'5', NONE, VALUES)],
+        &[(0, 2, 20, EARLY_KEY, NONE, VALUES)],
         &[b"old"],
         false,
         Recover::Auto,
@@ -138,7 +138,7 @@ const STARTS: &[Start] = &[
     ),
     (
         "no output, an empty one of version 1",
-        &[(0, 1, 20, b'5', OLD_EMPTY, VALUES)],
+        &[(0, 1, 20, EARLY_KEY, OLD_EMPTY, VALUES)],
         &[b"old"],
         false,
         Recover::Auto,
@@ -147,7 +147,7 @@ const STARTS: &[Start] = &[
     ),
     (
         "no output, records in the old one",
-        &[(0, 1, 20, b'5', OLD, VALUES)],
+        &[(0, 1, 20, EARLY_KEY, OLD, VALUES)],
         &[OLD_BYTES],
         false,
         Recover::Auto,
@@ -187,107 +187,107 @@ type Refused = (Slot, &'static [&'static [u8]], &'static str);
 
 const REFUSED: &[Refused] = &[
     (
-        (0, 2, 20, b'5', BOTH, CUT_OFF),
+        (0, 2, 20, EARLY_KEY, BOTH, CUT_OFF),
         &[b"", b"abc", b"xy"],
         "Damaged 0, gates 1 9",
     ),
     (
-        (1, 3, 20, b'5', BOTH, VALUES),
+        (1, 3, 20, EARLY_KEY, BOTH, VALUES),
         &[b"", b"abc", b"xy"],
         "Damaged 1, gates 9 1",
     ),
     (
-        (0, 2, 20, b'6', BOTH, VALUES),
+        (0, 2, 20, OTHER_KEY, BOTH, VALUES),
         &[b"", b"abc", b"xy"],
-        "OtherJob v 6, v 5, gates 1 9",
+        "OtherJob\nv 6\nv 5, gates 1 9",
     ),
     (
-        (0, 2, 21, b'6', OTHER, NO_SCALAR),
+        (0, 2, 21, OTHER_KEY, OTHER, NO_SCALAR),
         &[b"", b"", b""],
-        "OtherJob v 6, v 5, gates 1 9",
+        "OtherJob\nv 6\nv 5, gates 1 9",
     ),
     (
-        (0, 1, 20, b'6', OLD_TWO, VALUES),
+        (0, 1, 20, OTHER_KEY, OLD_TWO, VALUES),
         &[b"", b"", b""],
-        "OtherJob v 6, v 5, gates 1 9",
+        "OtherJob\nv 6\nv 5, gates 1 9",
     ),
     (
-        (0, 2, 20, b'-', BOTH, VALUES),
+        (0, 2, 20, BARE_KEY, BOTH, VALUES),
         &[b"", b"abc", b"xy"],
-        "OtherJob , steer 20 wave::factor = \"0\", gates 1 9",
+        "OtherJob\n\nsteer 20 wave::factor = \"0\", gates 1 9",
     ),
     (
-        (0, 1, 20, b'-', OLD, VALUES),
+        (0, 1, 20, BARE_KEY, OLD, VALUES),
         &[OLD_BYTES, b"abc", b"xy"],
-        "OtherJob , steer 20 wave::factor = \"0\", gates 1 9",
+        "OtherJob\n\nsteer 20 wave::factor = \"0\", gates 1 9",
     ),
     (
-        (0, 2, 21, b'5', BOTH, VALUES),
+        (0, 2, 21, EARLY_KEY, BOTH, VALUES),
         &[b"", b"abc", b"xy"],
         "Damaged 0, gates 1 9",
     ),
     (
-        (0, 2, 60, b'5', BOTH, VALUES),
+        (0, 2, 60, EARLY_KEY, BOTH, VALUES),
         &[b"", b"abc", b"xy"],
         "Damaged 0, gates 1 9",
     ),
     (
-        (0, 2, 20, b'5', ONE, VALUES),
+        (0, 2, 20, EARLY_KEY, ONE, VALUES),
         &[b"", b"abc", b"xy"],
         "Damaged 0, gates 1 9",
     ),
     (
-        (0, 2, 20, b'5', OTHER, VALUES),
+        (0, 2, 20, EARLY_KEY, OTHER, VALUES),
         &[b"", b"abc", b"xy"],
         "Damaged 0, gates 1 9",
     ),
     (
-        (0, 1, 20, b'5', OLD_TWO, VALUES),
+        (0, 1, 20, EARLY_KEY, OLD_TWO, VALUES),
         &[b"abc", b"", b""],
         "Damaged 0, gates 1 9",
     ),
     (
-        (0, 2, 20, b'5', BOTH, NO_SCALAR),
+        (0, 2, 20, EARLY_KEY, BOTH, NO_SCALAR),
         &[b"", b"abc", b"xy"],
         "Damaged 0, gates 1 9",
     ),
     (
-        (0, 2, 20, b'5', BOTH, ONE_POINT),
+        (0, 2, 20, EARLY_KEY, BOTH, ONE_POINT),
         &[b"", b"abc", b"xy"],
         "Damaged 0, gates 1 9",
     ),
     (
-        (0, 2, 20, b'5', BOTH, TOO_GREAT),
+        (0, 2, 20, EARLY_KEY, BOTH, TOO_GREAT),
         &[b"", b"", b""],
         "Damaged 0, gates 1 9",
     ),
     (
-        (0, 2, 20, b'5', BOTH, VALUES),
+        (0, 2, 20, EARLY_KEY, BOTH, VALUES),
         &[b"", b"abc", b"x"],
         "OutputShort 1 2, gates 1 9",
     ),
     (
-        (0, 2, 20, b'5', BOTH, VALUES),
+        (0, 2, 20, EARLY_KEY, BOTH, VALUES),
         &[b"", b"ab", b"x"],
         "OutputShort 2 3, gates 1 9",
     ),
     (
-        (0, 1, 20, b'5', OLD, VALUES),
+        (0, 1, 20, EARLY_KEY, OLD, VALUES),
         &[b"abc", PHI, TOTAL],
         "OutputShort 3 300, gates 1 9",
     ),
     (
-        (0, 1, 20, b'5', OLD_HUGE, VALUES),
+        (0, 1, 20, EARLY_KEY, OLD_HUGE, VALUES),
         &[b"abc", b"", b""],
         "OutputShort 3 300000000, gates 1 9",
     ),
     (
-        (0, 1, 20, b'5', OLD_3, VALUES),
+        (0, 1, 20, EARLY_KEY, OLD_3, VALUES),
         &[OLD_BYTES, b"", b""],
         "Damaged 0, gates 1 9",
     ),
     (
-        (0, 1, 20, b'5', OLD, VALUES),
+        (0, 1, 20, EARLY_KEY, OLD, VALUES),
         &[STRANGE, PHI, TOTAL],
         "Damaged 0, gates 1 9",
     ),
@@ -313,7 +313,7 @@ fn starts_that_are_refused(rt: HostRuntime) -> Result<(), Fail> {
 /// A disk whose old output is longer than what is split.
 fn long_disk(alloc: Global) -> Result<MemoryDisk, Fail> {
     let mut files = List::empty(alloc);
-    files.push(slot_bytes(alloc, &(0, 1, 20, b'5', OLD_TOO_LONG, VALUES))?)?;
+    files.push(slot_bytes(alloc, &(0, 1, 20, EARLY_KEY, OLD_TOO_LONG, VALUES))?)?;
     for _ in 1..SLOTS {
         files.push(Text::new(Vec::new(alloc)))?;
     }

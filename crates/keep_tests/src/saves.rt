@@ -5,8 +5,8 @@ ghost use Rattle.cx_plan.specs.declared.job.Recover.TheVariants as recovers;
 ghost use Rattle.keep_tests.specs.Samples.{sample, sample_checkpoint};
 
 use crate::starts::{
-    BOTH, OLD, OLD_BYTES, PHI, Slot, TOTAL, VALUES, begin_words, disk, has_outputs, job, key,
-    slot_bytes, start_words, text,
+    BOTH, EARLY_KEY, OLD, OLD_BYTES, OWN_KEY, PHI, Slot, TOTAL, VALUES, begin_words, disk,
+    has_outputs, job, key, slot_bytes, start_words, text,
 };
 use cx_chk::Checkpoint;
 use cx_disk::{Disk, FuseDisk, MemoryDisk};
@@ -66,7 +66,7 @@ fn run_on(alloc: Global, calls: u64) -> Result<(bool, FuseDisk), Fail> {
 fn a_run_saves_a_checkpoint(rt: HostRuntime) -> Result<(), Fail> {
     let (stopped, disk) = run_on(rt.alloc(), 100)?;
     let left = disk.into_image(0)?;
-    let saved = slot_bytes(rt.alloc(), &(0, 2, 20, b'=', BOTH, VALUES))?;
+    let saved = slot_bytes(rt.alloc(), &(0, 2, 20, OWN_KEY, BOTH, VALUES))?;
     same(&"slot 0", &left.bytes(0), &saved.as_slice())?;
     let outputs = has_outputs(&left, &[b"", b"abc", b"xy"]);
     same(
@@ -166,15 +166,15 @@ type Stopping = (
 
 const STARTS: &[Stopping] = &[
     (
-        &[(0, 2, 20, b'5', BOTH, VALUES)],
+        &[(0, 2, 20, EARLY_KEY, BOTH, VALUES)],
         &[b"old", b"abcde", b"xyz"],
         "from 20, version 2, 2 names, [3, 2], gates 1",
         &[b"old", b"abc", b"xy"],
     ),
     (
         &[
-            (0, 2, 20, b'5', BOTH, VALUES),
-            (1, 1, 40, b'5', OLD, VALUES),
+            (0, 2, 20, EARLY_KEY, BOTH, VALUES),
+            (1, 1, 40, EARLY_KEY, OLD, VALUES),
         ],
         &[OLD_BYTES, b"abcde", b"xyz"],
         "from 40, version 2, 2 names, [227, 73], gates 0 1",

@@ -1,17 +1,30 @@
 //! Starts over files whose bytes were worked out by hand.
 
-ghost use Rattle.std.specs.Prelude.{◌≡◌, true, IfOk};
+ghost use Rattle.std.specs.Prelude.{◌≡◌, true, replicate, IfOk};
 ghost use Rattle.cx_plan.specs.Whole.{IsWhole};
 ghost use Rattle.keep_tests.specs.Samples.{sample, sample_key, sample_variables, written_variables, nothing, no_bins};
 
 use cx_chk::Checkpoint;
 use cx_disk::{Disk, MemoryDisk, OLD_OUTPUT, SLOTS};
 use cx_grid::{Point, Shape};
-use cx_keep::{BeginFault, Keep};
+use cx_keep::Keep;
 use cx_plan::{Cuts, Job, Recover, Schedule, Tree, VarId, VarInfo};
 use cx_text::{CType, List, Text};
 use std::alloc::Global;
 use std::test::Fail;
+
+// The key of a slot: the job's own, it without the later steer, with another one, without any steer, or with another line.
+pub(crate) const OWN_KEY: &[u8] =
+    b"k\nv 5\nsteer 20 wave::factor = \"0\"\nsteer 100 wave::factor = \"1\"";
+
+pub(crate) const EARLY_KEY: &[u8] = b"k\nv 5\nsteer 20 wave::factor = \"0\"";
+
+pub(crate) const LATE_KEY: &[u8] =
+    b"k\nv 5\nsteer 20 wave::factor = \"0\"\nsteer 90 wave::factor = \"2\"";
+
+pub(crate) const BARE_KEY: &[u8] = b"k\nv 5";
+
+pub(crate) const OTHER_KEY: &[u8] = b"k\nv 6\nsteer 20 wave::factor = \"0\"";
 
 // One scalar of -1, and one level with 0 and 1.
 pub(crate) const VALUES: &[u8] =
@@ -91,8 +104,8 @@ pub(crate) const STRANGE: &[u8] = b"# wave::phi iteration 0 size 40\n\
     \n\
     # wave::other iteration 20 value 200\n";
 
-/// A slot of a test: its number, its version, its iteration, the kind of its key, what it records, and its values.
-pub(crate) type Slot = (usize, u8, u8, u8, &'static [u8], &'static [u8]);
+/// A slot of a test: its number, its version, its iteration, its key, what it records, and its values.
+pub(crate) type Slot = (usize, u8, u8, &'static [u8], &'static [u8], &'static [u8]);
 
 pub(crate) fn text(alloc: Global, bytes: &[u8]) -> Result<Text, Fail>
     ensures { IfOk result (λ text. text ≡ bytes.now) }
@@ -134,29 +147,21 @@ fn nothing(alloc: Global) -> Tree
     Tree::Seq(List::empty(alloc))
 }
 
+/// So many bins without entries.
+fn empty_bins(alloc: Global, count: u32) -> Result<Vec<Tree>, Fail>
+    ensures { IfOk result (λ bins. bins.items ≡ replicate count nothing) }
+{
+    let mut bins = Vec::new(alloc);
+    'bins: for _ in 0..count {
+        bins.push(nothing(alloc))?;
+    }
+    Ok(bins)
+}
+
 fn bins(alloc: Global) -> Result<List<Tree>, Fail>
     ensures { IfOk result (λ bins. bins ≡ no_bins) }
 {
-    let bins = [
-        nothing(alloc),
-        nothing(alloc),
-        nothing(alloc),
-        nothing(alloc),
-        nothing(alloc),
-        nothing(alloc),
-        nothing(alloc),
-        nothing(alloc),
-        nothing(alloc),
-        nothing(alloc),
-        nothing(alloc),
-        nothing(alloc),
-        nothing(alloc),
-        nothing(alloc),
-        nothing(alloc),
-        nothing(alloc),
-        nothing(alloc),
-    ];
-    Ok(List::new(Vec::from_array(alloc, bins)?))
+    Ok(List::new(empty_bins(alloc, 17)?))
 }
 
 fn line(recover: Recover) -> Shape
@@ -215,21 +220,9 @@ pub(crate) fn job(alloc: Global, outputs: bool, recover: Recover) -> Result<Job,
     })
 }
 
-/// The key of a slot: the job's own, it without the later steer, with another one, without any steer, or with another line.
-fn slot_key(kind: u8) -> &'static [u8] {
-    match kind {
-        b'=' => b"k\nv 5\nsteer 20 wave::factor = \"0\"\nsteer 100 wave::factor = \"1\"".as_slice(),
-        b'5' => b"k\nv 5\nsteer 20 wave::factor = \"0\"".as_slice(),
-        b'+' => b"k\nv 5\nsteer 20 wave::factor = \"0\"\nsteer 90 wave::factor = \"2\"".as_slice(),
-        b'-' => b"k\nv 5".as_slice(),
-        _ => b"k\nv 6\nsteer 20 wave::factor = \"0\"".as_slice(),
-    }
-}
-
 /// The bytes of an open slot.
 pub(crate) fn slot_bytes(alloc: Global, slot: &Slot) -> Result<Text, Fail> {
-    let (_, version, iteration, kind, outputs, values) = slot;
-    let key = slot_key(*kind);
+    let (_, version, iteration, key, outputs, values) = slot;
     let mut bytes = Vec::new(alloc);
     bytes.extend_from_slice(b"\x01CXCHKPT")?;
     bytes.push(*version)?;
@@ -265,27 +258,6 @@ pub(crate) fn disk(alloc: Global, slots: &[Slot], outputs: &[&[u8]]) -> Result<M
     Ok(MemoryDisk::new(alloc, files))
 }
 
-/// What a fault says.
-fn fault_words(alloc: Global, fault: &BeginFault) -> Result<String, Fail> {
-    match fault {
-        BeginFault::Disk => Ok(format!(in alloc; "Disk")?),
-        BeginFault::NoCheckpoint => Ok(format!(in alloc; "NoCheckpoint")?),
-        BeginFault::OtherJob(kept, own) => {
-            let kept = str::from_utf8(kept.as_slice())?;
-            let own = str::from_utf8(own.as_slice())?;
-            Ok(format!(in alloc; "OtherJob {kept}, {own}")?)
-        }
-        BeginFault::Damaged(slot) => Ok(format!(in alloc; "Damaged {slot}")?),
-        BeginFault::OutputShort(length, recorded) => {
-            Ok(format!(in alloc; "OutputShort {length} {recorded}")?)
-        }
-        BeginFault::OldTooLong(length, greatest) => {
-            Ok(format!(in alloc; "OldTooLong {length} {greatest}")?)
-        }
-        BeginFault::Memory => Ok(format!(in alloc; "Memory")?),
-    }
-}
-
 /// The iteration that a run goes on from, and how many bytes each output has there.
 fn found_words(alloc: Global, found: &Option<Checkpoint>) -> Result<String, Fail> {
     let Some(found) = found else {
@@ -298,13 +270,13 @@ fn found_words(alloc: Global, found: &Option<Checkpoint>) -> Result<String, Fail
     Ok(format!(in alloc; "from {iteration}, version {version}, {names} names, {lengths:?}")?)
 }
 
-/// What a start comes to: where the run goes on, or what its fault says.
+/// What a start comes to: where the run goes on, or the message of its fault.
 pub(crate) fn begin_words<D: Disk>(alloc: Global, disk: &mut D, job: &Job) -> Result<String, Fail>
     requires { IsWhole job.now }
 {
     match Keep::begin(alloc, disk, job) {
         Ok((_keep, found)) => found_words(alloc, &found),
-        Err(fault) => fault_words(alloc, &fault),
+        Err(fault) => Ok(format!(in alloc; "{fault}")?),
     }
 }
 
