@@ -19,6 +19,7 @@ use test_cases::same;
 const MOST: u64 = 20_000;
 
 /// How many orders there are, and whether each ended with the same output, the same that was counted, and empty queues.
+#[derive(Drop)]
 struct Orders {
     count: u64,
     same: bool,

@@ -7,7 +7,7 @@ ghost use Rattle.keep_tests.specs.Samples.{sample, sample_key, sample_variables,
 use cx_chk::Checkpoint;
 use cx_disk::{Disk, MemoryDisk, OLD_OUTPUT, SLOTS};
 use cx_grid::{Point, Shape};
-use cx_keep::Keep;
+use cx_keep::{BeginFault, Keep};
 use cx_plan::{Cuts, Job, Recover, Schedule, Tree, VarId, VarInfo};
 use cx_text::{CType, List, Text};
 use std::alloc::Global;
@@ -270,13 +270,26 @@ fn found_words(alloc: Global, found: &Option<Checkpoint>) -> Result<String, Fail
     Ok(format!(in alloc; "from {iteration}, version {version}, {names} names, {lengths:?}")?)
 }
 
+/// The message of a fault.
+fn fault_words(alloc: Global, fault: &BeginFault) -> Result<String, Fail> {
+    Ok(format!(in alloc; "{fault}")?)
+}
+
+/// The checkpoint that a start goes on from.
+fn begun<D: Disk>(alloc: Global, disk: &mut D, job: &Job) -> Result<Option<Checkpoint>, BeginFault>
+    requires { IsWhole job.now }
+{
+    let (_keep, found) = Keep::begin(alloc, disk, job)?;
+    Ok(found)
+}
+
 /// What a start comes to: where the run goes on, or the message of its fault.
 pub(crate) fn begin_words<D: Disk>(alloc: Global, disk: &mut D, job: &Job) -> Result<String, Fail>
     requires { IsWhole job.now }
 {
-    match Keep::begin(alloc, disk, job) {
-        Ok((_keep, found)) => found_words(alloc, &found),
-        Err(fault) => Ok(format!(in alloc; "{fault}")?),
+    match begun(alloc, disk, job) {
+        Ok(found) => found_words(alloc, &found),
+        Err(fault) => fault_words(alloc, &fault),
     }
 }
 
