@@ -134,7 +134,7 @@ fn are_noted(more: &str, all: &[Noted]) -> Result<(), Fail> {
         same(
             &("turns", turns, more),
             &found,
-            &(CA_OUTPUT, Some(turns as u32)),
+            &(CA_OUTPUT, u32::try_from(turns).ok()),
         )?;
     }
     same(&("runs", more), &all.len(), &2)

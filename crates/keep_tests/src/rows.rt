@@ -49,7 +49,7 @@ const STARTS: &[Start] = &[
         &[b"old", b"abcde", b"xyz"],
         true,
         Recover::Auto,
-        "from 20, version 2, 2 names, [3, 2], gates 1 9",
+        "from (20, 2, 2, [3, 2]), gates 1 9",
         &[b"old", b"abc", b"xy"],
     ),
     (
@@ -58,7 +58,7 @@ const STARTS: &[Start] = &[
         &[b"old", b"abcde", b"xyz"],
         true,
         Recover::Auto,
-        "from 20, version 2, 2 names, [3, 2], gates 1 9",
+        "from (20, 2, 2, [3, 2]), gates 1 9",
         &[b"old", b"abc", b"xy"],
     ),
     (
@@ -76,7 +76,7 @@ const STARTS: &[Start] = &[
         &[OLD_BYTES, b"abc", b""],
         true,
         Recover::Auto,
-        "from 20, version 2, 2 names, [227, 73], gates 1 9",
+        "from (20, 2, 2, [227, 73]), gates 1 9",
         &[OLD_BYTES, PHI, TOTAL],
     ),
     (
@@ -88,7 +88,7 @@ const STARTS: &[Start] = &[
         &[OLD_BYTES, b"abc", b"xy"],
         true,
         Recover::Autoprobe,
-        "from 40, version 2, 2 names, [227, 73], gates 0 1",
+        "from (40, 2, 2, [227, 73]), gates 0 1",
         &[OLD_BYTES, PHI, TOTAL],
     ),
     (
@@ -100,7 +100,7 @@ const STARTS: &[Start] = &[
         &[b"old", PHI, TOTAL],
         true,
         Recover::Auto,
-        "from 40, version 2, 2 names, [227, 73], gates 1 1",
+        "from (40, 2, 2, [227, 73]), gates 1 1",
         &[b"old", PHI, TOTAL],
     ),
     (
@@ -112,7 +112,7 @@ const STARTS: &[Start] = &[
         &[OLD_BYTES, b"abcde", b"xyz"],
         true,
         Recover::Auto,
-        "from 20, version 2, 2 names, [3, 2], gates 1 1",
+        "from (20, 2, 2, [3, 2]), gates 1 1",
         &[OLD_BYTES, b"abc", b"xy"],
     ),
     (
@@ -133,7 +133,7 @@ const STARTS: &[Start] = &[
         &[b"old"],
         false,
         Recover::Auto,
-        "from 20, version 2, 0 names, [], gates 1 9",
+        "from (20, 2, 0, []), gates 1 9",
         &[b"old"],
     ),
     (
@@ -142,7 +142,7 @@ const STARTS: &[Start] = &[
         &[b"old"],
         false,
         Recover::Auto,
-        "from 20, version 2, 0 names, [], gates 1 9",
+        "from (20, 2, 0, []), gates 1 9",
         &[b"old"],
     ),
     (

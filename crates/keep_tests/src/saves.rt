@@ -89,21 +89,21 @@ const STOPS: &[Stop] = &[
         34,
         38,
         1,
-        "from 20, version 2, 2 names, [3, 2], gates 1",
+        "from (20, 2, 2, [3, 2]), gates 1",
         &[b"", b"abc", b"xy"],
     ),
     (
         36,
         38,
         0,
-        "from 20, version 2, 2 names, [3, 2], gates 1",
+        "from (20, 2, 2, [3, 2]), gates 1",
         &[b"", b"abc", b"xy"],
     ),
     (
         36,
         38,
         2,
-        "from 20, version 2, 2 names, [3, 2], gates 1",
+        "from (20, 2, 2, [3, 2]), gates 1",
         &[b"", b"abc", b"xy"],
     ),
 ];
@@ -168,7 +168,7 @@ const STARTS: &[Stopping] = &[
     (
         &[(0, 2, 20, EARLY_KEY, BOTH, VALUES)],
         &[b"old", b"abcde", b"xyz"],
-        "from 20, version 2, 2 names, [3, 2], gates 1",
+        "from (20, 2, 2, [3, 2]), gates 1",
         &[b"old", b"abc", b"xy"],
     ),
     (
@@ -177,7 +177,7 @@ const STARTS: &[Stopping] = &[
             (1, 1, 40, EARLY_KEY, OLD, VALUES),
         ],
         &[OLD_BYTES, b"abcde", b"xyz"],
-        "from 40, version 2, 2 names, [227, 73], gates 0 1",
+        "from (40, 2, 2, [227, 73]), gates 0 1",
         &[OLD_BYTES, PHI, TOTAL],
     ),
 ];

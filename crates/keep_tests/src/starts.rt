@@ -258,16 +258,19 @@ pub(crate) fn disk(alloc: Global, slots: &[Slot], outputs: &[&[u8]]) -> Result<M
     Ok(MemoryDisk::new(alloc, files))
 }
 
-/// The iteration that a run goes on from, and how many bytes each output has there.
-fn found_words(alloc: Global, found: &Option<Checkpoint>) -> Result<String, Fail> {
-    let Some(found) = found else {
-        return Ok(format!(in alloc; "afresh")?);
-    };
-    let version = found.version;
-    let iteration = found.iteration;
-    let names = found.names.len();
+/// The iteration of a checkpoint, its version, how many names it has, and how many bytes each output has there.
+fn checkpoint_words(alloc: Global, found: &Checkpoint) -> Result<String, Fail> {
     let lengths = found.lengths.as_slice();
-    Ok(format!(in alloc; "from {iteration}, version {version}, {names} names, {lengths:?}")?)
+    let shown = (found.iteration, found.version, found.names.len(), lengths);
+    Ok(format!(in alloc; "from {shown:?}")?)
+}
+
+/// The checkpoint that a run goes on from.
+fn found_words(alloc: Global, found: &Option<Checkpoint>) -> Result<String, Fail> {
+    match found {
+        Some(found) => checkpoint_words(alloc, found),
+        None => Ok(format!(in alloc; "afresh")?),
+    }
 }
 
 /// The message of a fault.
