@@ -1,9 +1,9 @@
 -- The paths of a disk's files: how many there are, that no two files have one place, and that each
 -- is in its folder.
-use Rattle.std.specs.Prelude.{ℕ, zero, suc, ◌+◌, ◌-◌, ◌<◌, ◌≤◌, ◌≡◌, ◌≢◌, ◌⊎◌, Bool, true, false, List, [], ◌∷◌, ◌++◌, map, length, slice_index_or, nat_lt, codes, if◌then◌else◌}
+use Rattle.std.specs.Prelude.{ℕ, zero, suc, ◌+◌, ◌-◌, ◌<◌, ◌≤◌, ◌≡◌, ◌≢◌, ◌⊎◌, Bool, true, false, List, [], ◌∷◌, ◌++◌, map, length, slice_index_or, nat_lt, codes, take, if◌then◌else◌}
 use Rattle.std.specs.Fmt.{decimal}
 use Rattle.std.proofs.Common.{refl, sym, ◌∙◌, ap, subst, arith, inl, inr, append_assoc, append-nil}
-use Rattle.std.proofs.lemmas.List.{length-append, length-map, get_or_append_left, get_or-append_right, map-append}
+use Rattle.std.proofs.lemmas.List.{length-append, length-map, get_or_append_left, get_or-append_right, map-append, take_more}
 use Rattle.std.proofs.Math.ListN.{get_or-eq_default}
 use Rattle.std.specs.Str.{bytes_eq}
 use Rattle.std.proofs.lemmas.Slice.Eq.{bytes_eq-Decides}
@@ -11,7 +11,7 @@ use Rattle.std.proofs.lemmas.Bool.{cases_eq}
 use Rattle.std.proofs.lemmas.Bool.Decides.{nat_tests, Decides-ltb}
 use Rattle.cx_disk.specs.Disk.{Folders, files_in}
 use Rattle.cx_disk.specs.Files.{IsFile}
-use Rattle.cx_folder.specs.Names.{Path, IsIn, below, slot_path, old_output_path, named_path, chunk_path, recombined_path, paths_in, AreDistinct, IsNewAt, place_of, path_at, folder_at, output_folder, checkpoint_folder}
+use Rattle.cx_folder.specs.Names.{Path, IsIn, below, slot_path, old_output_path, named_path, chunk_path, recombined_path, paths_in, AreDistinct, IsNewAt, place_of, path_at, folder_at, output_folder, checkpoint_folder, AreAt}
 
 pub length_below : (path : ℕ → Path) (n : ℕ) → length (below path n) ≡ n
 unfolding below
@@ -201,6 +201,10 @@ in_folder folders file is =
     (each_slot a 8) (each_rest b folders.names) within (low_place (files_in folders) file is)
     (high_place (files_in folders) file (omega arith) is))
 
+pub distinct_in : {output checkpoints : Path} {paths : List Path} {folders : Folders}
+    → AreAt output checkpoints paths folders → AreDistinct (paths_in folders)
+distinct_in {output} {checkpoints} {paths} {folders} at = subst AreDistinct at.each at.distinct
+
 -- ---- texts of a list
 
 pub map_at : {A : Type 0} (f : A → List ℕ) (xs : List A) (i : ℕ) (x : A) → i < length xs
@@ -229,3 +233,10 @@ differ a b x y test is fails ax at same =
 pub below_none : (xs : List Path) (path : ℕ → Path) → xs ≡ xs ++ below path 0
 unfolding below
 below_none xs path = sym (append-nil xs)
+
+-- two lists of texts that are one up to a place, and there
+pub same_more : (xs ys : List Path) (k : ℕ) (x y : Path) → k < length xs → k < length ys
+    → take k xs ≡ take k ys → x ≡ slice_index_or xs k x → y ≡ slice_index_or ys k y → x ≡ y
+    → take (k + 1) xs ≡ take (k + 1) ys
+same_more xs ys k x y one other front at also same =
+    cc (take_more xs k x one, take_more ys k y other)

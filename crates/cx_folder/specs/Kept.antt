@@ -3,7 +3,7 @@ use Rattle.std.specs.Prelude.{ℕ, ◌≡◌, List, length, slice_index_or}
 use Rattle.cx_disk.specs.Disk.{Folders, files_in}
 use Rattle.cx_folder.specs.Names.{Path, paths_in, place_of, output_folder, checkpoint_folder}
 use Rattle.cx_folder.specs.declared.kept.Hold.{Hold}
-use Rattle.cx_folder.specs.declared.kept.Hold.TheVariants.{Shut, Open, Lost}
+use Rattle.cx_folder.specs.declared.kept.Hold.TheVariants.{Shut, Lost}
 
 -- The run has the locks of both folders.
 pub record AreHeld (holds : Path → Type 0) (folders : Folders) : Type 0 where
@@ -13,11 +13,6 @@ pub record AreHeld (holds : Path → Type 0) (folders : Folders) : Type 0 where
 -- Each file has its holding.
 abbrev pub AreKept : {T : Type 0} → List (Hold T) → Folders → Type 0
 AreKept files folders = length files ≡ length (paths_in folders)
-
--- The file at this place is open, and a call did this with it.
-abbrev pub IsDone : {T : Type 0} → List (Hold T) → ℕ → (T → Type 0) → Type 0
-IsDone {T} files place does =
-    (file : T) × (slice_index_or files place Lost ≡ Open file) × does file
 
 -- Nothing is outstanding of the bytes of this file.
 abbrev pub IsShut : {T : Type 0} → List (Hold T) → Folders → ℕ → Type 0

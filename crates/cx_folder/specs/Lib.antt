@@ -1,4 +1,10 @@
 pub mod Names
+pub mod Tree
+pub mod Pulled
 pub mod Kept
+pub mod Tended
 pub mod Placed
 pub mod Host
+pub mod Memory
+pub mod MemoryLaws
+pub mod PulledLaws

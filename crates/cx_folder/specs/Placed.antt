@@ -3,11 +3,14 @@ use Rattle.std.specs.Prelude.{ℕ, ◌≡◌, refl, Bool, true, List, Option, is
 use Rattle.std.specs.Coded.{Coded, code_by, coded×, coded_ℕ, coded_bool, coded_list}
 use Rattle.cx_disk.specs.Disk.{Folders, no_folders}
 use Rattle.cx_folder.specs.Names.{Path}
+use Rattle.cx_folder.specs.Tree.{TreeView}
 use Rattle.cx_folder.specs.Kept.{AreHeld, AreKept}
+use Rattle.cx_folder.specs.Tended.{IsTended}
 use Rattle.cx_folder.specs.declared.kept.Hold.{Hold}
+use Rattle.cx_folder.specs.declared.kept.Entries.{Entries}
 
--- What it is over, whether it is mounted, its folders, which are known from the first mount on, and
--- how often it has failed.
+-- What it is over, whether it is mounted, its folders, which are known ahead or from the first
+-- mount on, and how often it has failed.
 pub record Placed (F : Type 0) : Type 0 where
   pub folder : F
   pub mounted : Bool
@@ -26,10 +29,15 @@ placed_code {F} code = code_by (F × (Bool × ((List ℕ × (List (List ℕ) × 
 abbrev pub folders_of : Option Folders → Folders
 folders_of places = unwrap_or places no_folders
 
--- A mounted disk knows its folders and has their locks, and each file of known folders has its
--- holding.
-pub record IsPlaced {T : Type 0} (holds : Path → Type 0) (files : List (Hold T))
-    (places : Option Folders) (mounted : Bool) : Type 0 where
+-- Of folders that tell, the places are known ahead. A mounted disk knows its folders and has their
+-- locks, each file of known folders has its holding, and the holdings are right where the folders
+-- tell.
+pub record IsPlaced {F T : Type 0} (tells : Type 0) (holds : F → Path → Type 0)
+    (path_of : T → Path) (view : F → TreeView) (folder : F) (files : List (Hold T))
+    (entries : Entries) (places : Option Folders) (mounted : Bool) : Type 0 where
+  pub known : tells → is_some places ≡ true
   pub placed : mounted ≡ true → is_some places ≡ true
-  pub held : mounted ≡ true → IfSome places (AreHeld holds)
+  pub held : mounted ≡ true → IfSome places (AreHeld (holds folder))
   pub kept : IfSome places (AreKept files)
+  pub tended : tells
+      → IfSome places (λ folders. IsTended path_of (view folder) folders files entries)

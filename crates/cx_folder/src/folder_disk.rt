@@ -1,7 +1,10 @@
 //! A disk over two folders.
 ghost use Rattle.std.specs.Prelude.{◌≡◌, false, length, IsTrue, OnOk, OnErr, IfOk, IfErr};
 ghost use Rattle.cx_disk.specs.Cause.{HasCause};
-ghost use Rattle.cx_disk.specs.Disk.{files_in, no_folders, untold, IsNamed};
+ghost use Rattle.cx_disk.specs.Disk.{files_in, no_folders, IsNamed};
+ghost use Rattle.cx_folder.specs.Tree.{IsFresh};
+ghost use Rattle.cx_folder.specs.Pulled.{pulled, Stays};
+ghost use Rattle.cx_folder.specs.PulledLaws.{pulled_sound};
 ghost use Rattle.cx_disk.specs.declared.disk.DiskFault.TheVariants.{Failed};
 
 use crate::Folder;
@@ -13,16 +16,18 @@ use std::alloc::Global;
 use std::marker::Model;
 
 /// Two folders of a host as a disk. In the folder of the checkpoints stand the slots, `checkpoint.chkpt.0` to
-/// `checkpoint.chkpt.7`. In the folder of the outputs stand `output.asc`, a file for each name that `mount` is given, the
-/// chunks `chunk.0.asc` to `chunk.511.asc`, and `recombined.asc`. An empty name of a folder stands for the current folder.
+/// `checkpoint.chkpt.7`. In the folder of the outputs stand `output.asc`, a file for each name that `mount` is given,
+/// the chunks `chunk.0.asc` to `chunk.511.asc`, and `recombined.asc`. An empty name of a folder stands for the current
+/// folder.
 ///
-/// `mount` takes the locks of both folders as long as the disk lives. Names that aren't text, or that give two files one
-/// path, are a failure, as are a second mount and a range that isn't there. Only `write_at` makes a file, and a folder that
-/// is missing with it.
+/// `mount` takes the locks of both folders as long as the disk lives. Names that aren't text, or that give two files
+/// one path, are a failure, as are a second mount, one on other folders than those that it was made for, and a range
+/// that isn't there. Only `write_at` makes a file, and a folder that is missing with it.
 ///
-/// A file is open from its first write to the sync after its last. With the first sync after a file was made the entries of
-/// both folders are synced too. Once a sync of a file has failed, each later change and sync of it fails; once one of the
-/// folders has failed, each later sync. It tells nothing of what its files hold.
+/// A file is open from its first write to the sync after its last. With the first sync after a file was made the
+/// entries of both folders are synced too. Once a sync of a file has failed, each later change and sync of it fails;
+/// once one of the folders has failed, each later sync. It tells what its files hold if its folders tell what theirs
+/// do.
 #[derive(Drop)]
 pub struct FolderDisk<F: Folder + Drop> {
     kept: Kept<F>,
@@ -46,8 +51,8 @@ impl<F: Folder + Drop> Model for FolderDisk<F> {
       faults = disk.faults;
     } };
 
-    ghost invariant = { λ disk. IsPlaced (F.holds disk.kept.folder) disk.kept.files.items
-        disk.places disk.mounted };
+    ghost invariant = { λ disk. IsPlaced F.tells F.holds F.path_of F.view disk.kept.folder
+        disk.kept.files.items disk.kept.entries disk.places disk.mounted };
 }
 
 /// What a call gave, with a failure counted.
@@ -62,8 +67,10 @@ fn counted<T>(faults: &mut u64, done: Result<T, DiskFault>) -> Result<T, DiskFau
 }
 
 impl<F: Folder + Drop> FolderDisk<F> {
-    /// A disk that isn't mounted and hasn't failed. It has the folders of its first `mount`.
+    /// A disk over folders that tell nothing, which isn't mounted and hasn't failed. It has the folders of its first
+    /// `mount`.
     pub fn new(folder: F, alloc: Global) -> Self
+        requires untold { F.tells → ⊥ }
         ensures { result
             ≡ record { folder = folder; mounted = false; folders = no_folders; faults = 0 } }
     {
@@ -80,11 +87,101 @@ impl<F: Folder + Drop> FolderDisk<F> {
         }
     }
 
+    /// A disk that is to be mounted on these folders and no others, and hasn't failed.
+    ///
+    /// `Failed`: a name isn't text, or two files would have one path.
+    pub fn on(
+        folder: F,
+        alloc: Global,
+        output: &Text,
+        names: &List<Text>,
+        checkpoints: &Text,
+    ) -> Result<Self, DiskFault>
+        requires fresh { F.tells → IsFresh (F.view folder) }
+        ensures { IfOk result (λ disk. disk ≡ record {
+          folder = folder;
+          mounted = false;
+          folders = record {
+            output = output.now;
+            names = names.now;
+            checkpoints = checkpoints.now;
+          };
+          faults = 0;
+        }) }
+    {
+        let places = Places::new(alloc, output, names, checkpoints)?;
+        let files = all_shut(alloc, places.count())?;
+        Ok(FolderDisk {
+            kept: Kept {
+                folder,
+                files,
+                entries: Entries::Made,
+            },
+            alloc,
+            places: Some(places),
+            mounted: false,
+            faults: 0,
+        })
+    }
+
     /// The folder within.
     pub fn into_inner(self) -> F
         ensures { result ≡ self.folder }
     {
         self.kept.folder
+    }
+
+    /// The mount of folders that tell nothing.
+    fn mount_first(
+        &mut self,
+        output: &Text,
+        names: &List<Text>,
+        checkpoints: &Text,
+    ) -> Result<(), DiskFault>
+        requires untold { F.tells → ⊥ }
+        requires first { self.old.mounted ≡ false }
+        ensures mounted { OnOk result (IsTrue self.new.mounted) }
+        ensures named { OnOk result
+            (IsNamed output.now names.now checkpoints.now self.new.folders) }
+        ensures unnamed { OnErr result (self.new.folders ≡ self.old.folders) }
+        ensures faults { self.new.faults ≡ self.old.faults }
+    {
+        let places = Places::new(self.alloc, output, names, checkpoints)?;
+        let files = all_shut(self.alloc, places.count())?;
+        self.kept.hold(&places)?;
+        self.kept.files = files;
+        self.places = Some(places);
+        self.mounted = true;
+        Ok(())
+    }
+
+    /// A mount on the folders that are known, and on no others.
+    fn mount_known(
+        &mut self,
+        output: &Text,
+        names: &List<Text>,
+        checkpoints: &Text,
+    ) -> Result<(), DiskFault>
+        requires first { self.old.mounted ≡ false }
+        ensures mounted { OnOk result (IsTrue self.new.mounted) }
+        ensures named { OnOk result
+            (IsNamed output.now names.now checkpoints.now self.new.folders) }
+        ensures same { self.new.folders ≡ self.old.folders }
+        ensures stays { F.tells → Stays self.old.folders
+            (F.view self.old.folder) (F.view self.new.folder) }
+        ensures faults { self.new.faults ≡ self.old.faults }
+    {
+        match &self.places {
+            Some(places) => {
+                if !places.are(output, names, checkpoints) {
+                    return Err(DiskFault::Failed);
+                }
+                self.kept.hold(places)?;
+                self.mounted = true;
+                Ok(())
+            }
+            None => Err(DiskFault::Failed),
+        }
     }
 
     /// A mount, of which no failure is counted. Another one after it is a failure.
@@ -99,23 +196,24 @@ impl<F: Folder + Drop> FolderDisk<F> {
         ensures named { OnOk result
             (IsNamed output.now names.now checkpoints.now self.new.folders) }
         ensures unnamed { OnErr result (self.new.folders ≡ self.old.folders) }
+        ensures same { F.tells → self.new.folders ≡ self.old.folders }
+        ensures alike { F.tells → Stays self.old.folders
+            (F.view self.old.folder) (F.view self.new.folder) }
         ensures faults { self.new.faults ≡ self.old.faults }
     {
         if self.mounted {
             return Err(DiskFault::Failed);
         }
-        let places = Places::new(self.alloc, output, names, checkpoints)?;
-        let files = all_shut(self.alloc, places.count())?;
-        self.kept.hold(&places)?;
-        self.kept.files = files;
-        self.places = Some(places);
-        self.mounted = true;
-        Ok(())
+        if self.places.is_some() {
+            self.mount_known(output, names, checkpoints)
+        } else {
+            self.mount_first(output, names, checkpoints)
+        }
     }
 }
 
 impl<F: Folder + Drop> Disk for FolderDisk<F> {
-    ghost tells = { ⊥ };
+    ghost tells = { F.tells };
 
     ghost mounted = { λ disk. disk.mounted };
 
@@ -123,11 +221,12 @@ impl<F: Folder + Drop> Disk for FolderDisk<F> {
 
     ghost file_count = { λ disk. files_in disk.folders };
 
-    ghost view = { λ _. untold };
+    ghost view = { λ disk. pulled disk.folders (F.view disk.folder) };
 
     ghost faults = { λ disk. disk.faults };
 
-    ghost sound = { λ _ tells. absurd tells };
+    ghost sound = { λ disk tells. pulled_sound disk.folders (F.view disk.folder)
+        (F.sound disk.folder tells) };
 
     fn mount(
         &mut self,

@@ -5,6 +5,7 @@ ghost use Rattle.cx_disk.specs.Cause.{HasCause};
 ghost use Rattle.cx_disk.specs.declared.disk.DiskFault.TheVariants.{Failed, Memory};
 ghost use Rattle.cx_folder.specs.Host.{Host};
 ghost use Rattle.cx_folder.specs.Names.{Path};
+ghost use Rattle.cx_folder.specs.Tree.{untold};
 
 use crate::Folder;
 use cx_disk::DiskFault;
@@ -362,15 +363,17 @@ fn sync_home(homes: &[Home], path: &str) -> io::Result<()> {
 impl<R: Files<File = File> + Drop> Folder for HostFolder<R> {
     type File = HostFile;
 
+    ghost tells = { ⊥ };
+
+    ghost view = { λ _. untold };
+
     ghost holds = { λ host folder. Contains host.held folder };
 
-    ghost wrote = { λ _ _ _ _ _. Unit {0} };
-
-    ghost has_cut = { λ _ _ _ _. Unit {0} };
-
-    ghost synced = { λ _ _ _. Unit {0} };
+    ghost path_of = { λ _. [] };
 
     ghost faults = { λ host. host.faults };
+
+    ghost sound = { λ _ tells. absurd tells };
 
     fn hold(&mut self, folder: &str) -> Result<(), DiskFault> {
         let entered = enter(&self.rt, &self.homes, folder);

@@ -1,11 +1,14 @@
 //! Folders with the files that are kept open in them.
-ghost use Rattle.std.specs.Prelude.{ℕ, false, ◌≡◌, ◌≢◌, ◌<◌, length, slice_index_or, vec_len, set, OnOk, OnErr, IfOk, IfErr, Err};
-ghost use Rattle.cx_disk.specs.Disk.{files_in};
+ghost use Rattle.std.specs.Prelude.{ℕ, false, ◌≡◌, ◌≢◌, ◌≤◌, ◌<◌, ◌+◌, length, slice_range, slice_index_or, vec_len, set, OnOk, OnErr, IfOk, IfErr, Err};
+ghost use Rattle.cx_disk.specs.Disk.{files_in, Holds, Torn, Front, CutShort, IsSettled};
 ghost use Rattle.cx_disk.specs.Files.{IsFile};
-ghost use Rattle.cx_folder.specs.Names.{Path, paths_in, place_of};
-ghost use Rattle.cx_folder.specs.Kept.{AreHeld, AreKept, IsDone, IsShut};
+ghost use Rattle.cx_folder.specs.Names.{Path, paths_in, path_at, place_of};
+ghost use Rattle.cx_folder.specs.Tree.{ReadsOn};
+ghost use Rattle.cx_folder.specs.Pulled.{pulled, files_of, Stays, Alters};
+ghost use Rattle.cx_folder.specs.Kept.{AreHeld, IsShut};
+ghost use Rattle.cx_folder.specs.Tended.{IsReady, IsTended, AreEntered, HasBytes, HasSettled};
 ghost use Rattle.cx_folder.specs.declared.kept.Hold.TheVariants.{Shut, Lost};
-ghost use Rattle.cx_folder.specs.declared.kept.Entries.TheVariants.{Settled, Doubted};
+ghost use Rattle.cx_folder.specs.declared.kept.Entries.TheVariants.{Settled, Made, Doubted};
 ghost use Rattle.cx_disk.specs.declared.disk.DiskFault.TheVariants.{Failed};
 
 use crate::Folder;
@@ -45,7 +48,9 @@ pub(crate) struct Kept<F: Folder + Drop> {
 
 /// So many files that are shut.
 pub(crate) fn all_shut<T: Drop>(alloc: Global, count: usize) -> Result<Vec<Hold<T>>, AllocError>
-    ensures { IfOk result (λ files. vec_len files ≡ count) }
+    ensures as_many { IfOk result (λ files. vec_len files ≡ count) }
+    ensures shut { IfOk result (λ files. (k : ℕ) → k < count
+        → slice_index_or files.items k Lost ≡ Shut) }
 {
     let mut files = Vec::new(alloc);
     'files: for _ in 0..count {
@@ -85,6 +90,8 @@ impl Entries {
     /// What is outstanding once a file may have been made.
     fn made(self) -> Entries
         ensures outstanding { result ≢ Settled }
+        ensures settled { self ≡ Settled → result ≡ Made }
+        ensures made { self ≡ Made → result ≡ Made }
         ensures doubted { self ≡ Doubted → result ≡ Doubted }
     {
         match self {
@@ -97,10 +104,16 @@ impl Entries {
 impl<F: Folder + Drop> Kept<F> {
     /// Takes the locks of both folders.
     pub(crate) fn hold(&mut self, places: &Places) -> Result<(), DiskFault>
+        requires tended { F.tells → IsTended F.path_of (F.view self.old.folder) places.now
+            self.old.files.items self.old.entries }
+        ensures tended { F.tells → IsTended F.path_of (F.view self.new.folder) places.now
+            self.new.files.items self.new.entries }
         ensures held { OnOk result (AreHeld (F.holds self.new.folder) places.now) }
         ensures still_held { (other : Path) → F.holds self.old.folder other
             → F.holds self.new.folder other }
         ensures files { self.new.files ≡ self.old.files }
+        ensures stays { F.tells → Stays places.now
+            (F.view self.old.folder) (F.view self.new.folder) }
     {
         self.folder.hold(places.output_folder())?;
         self.folder.hold(places.checkpoint_folder())
@@ -109,10 +122,14 @@ impl<F: Folder + Drop> Kept<F> {
     /// The length of a file.
     pub(crate) fn length(&mut self, places: &Places, file: u32) -> Result<u64, DiskFault>
         requires file { IsFile (files_in places.now) file }
-        requires held { AreHeld (F.holds self.old.folder) places.now }
-        requires kept { AreKept self.old.files.items places.now }
-        ensures held { AreHeld (F.holds self.new.folder) places.now }
-        ensures kept { AreKept self.new.files.items places.now }
+        requires ready { IsReady F.tells F.holds F.path_of F.view places.now
+            self.old.folder self.old.files.items self.old.entries }
+        ensures ready { IsReady F.tells F.holds F.path_of F.view places.now
+            self.new.folder self.new.files.items self.new.entries }
+        ensures stays { F.tells → Stays places.now
+            (F.view self.old.folder) (F.view self.new.folder) }
+        ensures length { F.tells → IfOk result (λ count. count
+            ≡ length (files_of places.now (F.view self.old.folder).seen file)) }
         ensures takes_no_memory { IfErr result (λ fault. fault ≡ Failed) }
     {
         self.folder.length(places.folder(file), places.path(file))
@@ -127,10 +144,16 @@ impl<F: Folder + Drop> Kept<F> {
         into: &mut [u8],
     ) -> Result<(), DiskFault>
         requires file { IsFile (files_in places.now) file }
-        requires held { AreHeld (F.holds self.old.folder) places.now }
-        requires kept { AreKept self.old.files.items places.now }
-        ensures held { AreHeld (F.holds self.new.folder) places.now }
-        ensures kept { AreKept self.new.files.items places.now }
+        requires ready { IsReady F.tells F.holds F.path_of F.view places.now
+            self.old.folder self.old.files.items self.old.entries }
+        requires range { F.tells → at + length into.old
+            ≤ length (files_of places.now (F.view self.old.folder).seen file) }
+        ensures ready { IsReady F.tells F.holds F.path_of F.view places.now
+            self.new.folder self.new.files.items self.new.entries }
+        ensures stays { F.tells → Stays places.now
+            (F.view self.old.folder) (F.view self.new.folder) }
+        ensures read { F.tells → OnOk result (into.new ≡ slice_range
+            (files_of places.now (F.view self.old.folder).seen file) at (at + length into.old)) }
         ensures takes_no_memory { IfErr result (λ fault. fault ≡ Failed) }
     {
         self.folder
@@ -140,12 +163,17 @@ impl<F: Folder + Drop> Kept<F> {
     /// Has a file open that is shut, if it is there.
     fn open_shut(&mut self, places: &Places, file: u32) -> Result<bool, DiskFault>
         requires file { IsFile (files_in places.now) file }
-        requires held { AreHeld (F.holds self.old.folder) places.now }
-        requires kept { AreKept self.old.files.items places.now }
-        ensures held { AreHeld (F.holds self.new.folder) places.now }
-        ensures kept { AreKept self.new.files.items places.now }
+        requires shut { IsShut self.old.files.items places.now file }
+        requires ready { IsReady F.tells F.holds F.path_of F.view places.now
+            self.old.folder self.old.files.items self.old.entries }
+        ensures ready { IsReady F.tells F.holds F.path_of F.view places.now
+            self.new.folder self.new.files.items self.new.entries }
+        ensures stays { F.tells → Stays places.now
+            (F.view self.old.folder) (F.view self.new.folder) }
         ensures missing { IfOk result (λ there. there ≡ false
-            → self.new.files.items ≡ self.old.files.items) }
+            → IsShut self.new.files.items places.now file) }
+        ensures absent { F.tells → IfOk result (λ there. there ≡ false
+            → ((F.view self.new.folder).seen (path_at places.now file)).is_there ≡ false) }
     {
         match self.folder.open(places.folder(file), places.path(file))? {
             Some(open) => {
@@ -159,14 +187,18 @@ impl<F: Folder + Drop> Kept<F> {
     /// Has a file open that is to be changed, if it is there. One of which a sync failed is a failure.
     fn open(&mut self, places: &Places, file: u32) -> Result<bool, DiskFault>
         requires file { IsFile (files_in places.now) file }
-        requires held { AreHeld (F.holds self.old.folder) places.now }
-        requires kept { AreKept self.old.files.items places.now }
-        ensures held { AreHeld (F.holds self.new.folder) places.now }
-        ensures kept { AreKept self.new.files.items places.now }
+        requires ready { IsReady F.tells F.holds F.path_of F.view places.now
+            self.old.folder self.old.files.items self.old.entries }
+        ensures ready { IsReady F.tells F.holds F.path_of F.view places.now
+            self.new.folder self.new.files.items self.new.entries }
+        ensures stays { F.tells → Stays places.now
+            (F.view self.old.folder) (F.view self.new.folder) }
         ensures lost { slice_index_or self.old.files.items
             (place_of (files_in places.now) file) Lost ≡ Lost → result ≡ Err Failed }
         ensures missing { IfOk result (λ there. there ≡ false
             → IsShut self.new.files.items places.now file) }
+        ensures absent { F.tells → IfOk result (λ there. there ≡ false
+            → ((F.view self.new.folder).seen (path_at places.now file)).is_there ≡ false) }
     {
         match hold_at(&self.files, places.place(file)) {
             Hold::Open(_) => Ok(true),
@@ -178,10 +210,13 @@ impl<F: Folder + Drop> Kept<F> {
     /// Makes a file and has it open. The entries of both folders are outstanding then.
     fn make(&mut self, places: &Places, file: u32) -> Result<(), DiskFault>
         requires file { IsFile (files_in places.now) file }
-        requires held { AreHeld (F.holds self.old.folder) places.now }
-        requires kept { AreKept self.old.files.items places.now }
-        ensures held { AreHeld (F.holds self.new.folder) places.now }
-        ensures kept { AreKept self.new.files.items places.now }
+        requires shut { IsShut self.old.files.items places.now file }
+        requires ready { IsReady F.tells F.holds F.path_of F.view places.now
+            self.old.folder self.old.files.items self.old.entries }
+        ensures ready { IsReady F.tells F.holds F.path_of F.view places.now
+            self.new.folder self.new.files.items self.new.entries }
+        ensures stays { F.tells → Stays places.now
+            (F.view self.old.folder) (F.view self.new.folder) }
         ensures outstanding { self.new.entries ≢ Settled }
     {
         self.entries = self.entries.made();
@@ -193,10 +228,12 @@ impl<F: Folder + Drop> Kept<F> {
     /// Has a file open that is to be written, which is made where it is missing.
     fn open_or_make(&mut self, places: &Places, file: u32) -> Result<(), DiskFault>
         requires file { IsFile (files_in places.now) file }
-        requires held { AreHeld (F.holds self.old.folder) places.now }
-        requires kept { AreKept self.old.files.items places.now }
-        ensures held { AreHeld (F.holds self.new.folder) places.now }
-        ensures kept { AreKept self.new.files.items places.now }
+        requires ready { IsReady F.tells F.holds F.path_of F.view places.now
+            self.old.folder self.old.files.items self.old.entries }
+        ensures ready { IsReady F.tells F.holds F.path_of F.view places.now
+            self.new.folder self.new.files.items self.new.entries }
+        ensures stays { F.tells → Stays places.now
+            (F.view self.old.folder) (F.view self.new.folder) }
     {
         if self.open(places, file)? {
             Ok(())
@@ -214,13 +251,14 @@ impl<F: Folder + Drop> Kept<F> {
         bytes: &[u8],
     ) -> Result<(), DiskFault>
         requires file { IsFile (files_in places.now) file }
-        requires held { AreHeld (F.holds self.old.folder) places.now }
-        requires kept { AreKept self.old.files.items places.now }
-        ensures held { AreHeld (F.holds self.new.folder) places.now }
-        ensures kept { AreKept self.new.files.items places.now }
-        ensures wrote { OnOk result (IsDone self.old.files.items
-            (place_of (files_in places.now) file)
-            (λ it. F.wrote self.old.folder it at bytes.now self.new.folder)) }
+        requires ready { IsReady F.tells F.holds F.path_of F.view places.now
+            self.old.folder self.old.files.items self.old.entries }
+        requires start { F.tells → at ≤ length (files_of places.now
+            (F.view self.old.folder).seen file) }
+        ensures ready { IsReady F.tells F.holds F.path_of F.view places.now
+            self.new.folder self.new.files.items self.new.entries }
+        ensures alters { F.tells → Alters (Holds at bytes.now) (Torn at (length bytes.now))
+            places.now file result (F.view self.old.folder) (F.view self.new.folder) }
     {
         match hold_at(&self.files, places.place(file)) {
             Hold::Open(open) => self.folder.write(open, at, bytes),
@@ -237,12 +275,14 @@ impl<F: Folder + Drop> Kept<F> {
         bytes: &[u8],
     ) -> Result<(), DiskFault>
         requires file { IsFile (files_in places.now) file }
-        requires held { AreHeld (F.holds self.old.folder) places.now }
-        requires kept { AreKept self.old.files.items places.now }
-        ensures held { AreHeld (F.holds self.new.folder) places.now }
-        ensures kept { AreKept self.new.files.items places.now }
-        ensures wrote { OnOk result ((before : F) × (it : F.File)
-            × F.wrote before it at bytes.now self.new.folder) }
+        requires ready { IsReady F.tells F.holds F.path_of F.view places.now
+            self.old.folder self.old.files.items self.old.entries }
+        requires start { F.tells → at ≤ length (files_of places.now
+            (F.view self.old.folder).seen file) }
+        ensures ready { IsReady F.tells F.holds F.path_of F.view places.now
+            self.new.folder self.new.files.items self.new.entries }
+        ensures alters { F.tells → Alters (Holds at bytes.now) (Torn at (length bytes.now))
+            places.now file result (F.view self.old.folder) (F.view self.new.folder) }
     {
         self.open_or_make(places, file)?;
         self.write_open(places, file, at, bytes)
@@ -251,13 +291,14 @@ impl<F: Folder + Drop> Kept<F> {
     /// Cuts a file that is open. One that isn't is a failure.
     fn cut_open(&mut self, places: &Places, file: u32, to: u64) -> Result<(), DiskFault>
         requires file { IsFile (files_in places.now) file }
-        requires held { AreHeld (F.holds self.old.folder) places.now }
-        requires kept { AreKept self.old.files.items places.now }
-        ensures held { AreHeld (F.holds self.new.folder) places.now }
-        ensures kept { AreKept self.new.files.items places.now }
-        ensures has_cut { OnOk result (IsDone self.old.files.items
-            (place_of (files_in places.now) file)
-            (λ it. F.has_cut self.old.folder it to self.new.folder)) }
+        requires ready { IsReady F.tells F.holds F.path_of F.view places.now
+            self.old.folder self.old.files.items self.old.entries }
+        requires within { F.tells → to ≤ length (files_of places.now
+            (F.view self.old.folder).seen file) }
+        ensures ready { IsReady F.tells F.holds F.path_of F.view places.now
+            self.new.folder self.new.files.items self.new.entries }
+        ensures alters { F.tells → Alters (Front to) (CutShort to)
+            places.now file result (F.view self.old.folder) (F.view self.new.folder) }
     {
         match hold_at(&self.files, places.place(file)) {
             Hold::Open(open) => self.folder.cut(open, to),
@@ -268,10 +309,14 @@ impl<F: Folder + Drop> Kept<F> {
     /// Cuts a file. One that isn't there has nothing to cut.
     pub(crate) fn cut(&mut self, places: &Places, file: u32, to: u64) -> Result<(), DiskFault>
         requires file { IsFile (files_in places.now) file }
-        requires held { AreHeld (F.holds self.old.folder) places.now }
-        requires kept { AreKept self.old.files.items places.now }
-        ensures held { AreHeld (F.holds self.new.folder) places.now }
-        ensures kept { AreKept self.new.files.items places.now }
+        requires ready { IsReady F.tells F.holds F.path_of F.view places.now
+            self.old.folder self.old.files.items self.old.entries }
+        requires within { F.tells → to ≤ length (files_of places.now
+            (F.view self.old.folder).seen file) }
+        ensures ready { IsReady F.tells F.holds F.path_of F.view places.now
+            self.new.folder self.new.files.items self.new.entries }
+        ensures alters { F.tells → Alters (Front to) (CutShort to)
+            places.now file result (F.view self.old.folder) (F.view self.new.folder) }
     {
         if self.open(places, file)? {
             self.cut_open(places, file, to)
@@ -285,13 +330,14 @@ impl<F: Folder + Drop> Kept<F> {
     /// Settles the bytes of a file that is open, and shuts it, or loses it. One that isn't open is a failure.
     fn sync_open(&mut self, places: &Places, file: u32) -> Result<(), DiskFault>
         requires file { IsFile (files_in places.now) file }
-        requires held { AreHeld (F.holds self.old.folder) places.now }
-        requires kept { AreKept self.old.files.items places.now }
-        ensures held { AreHeld (F.holds self.new.folder) places.now }
-        ensures kept { AreKept self.new.files.items places.now }
-        ensures synced { OnOk result (IsDone self.old.files.items
-            (place_of (files_in places.now) file)
-            (λ it. F.synced self.old.folder it self.new.folder)) }
+        requires ready { IsReady F.tells F.holds F.path_of F.view places.now
+            self.old.folder self.old.files.items self.old.entries }
+        ensures ready { IsReady F.tells F.holds F.path_of F.view places.now
+            self.new.folder self.new.files.items self.new.entries }
+        ensures stays { F.tells → Stays places.now
+            (F.view self.old.folder) (F.view self.new.folder) }
+        ensures bytes { F.tells → OnOk result (HasBytes (path_at places.now file)
+            (F.view self.new.folder)) }
         ensures shut { OnOk result (IsShut self.new.files.items places.now file) }
     {
         match hold_at(&self.files, places.place(file)) {
@@ -307,10 +353,14 @@ impl<F: Folder + Drop> Kept<F> {
     /// Settles the bytes of a file. One that isn't there has none.
     fn sync_bytes(&mut self, places: &Places, file: u32) -> Result<(), DiskFault>
         requires file { IsFile (files_in places.now) file }
-        requires held { AreHeld (F.holds self.old.folder) places.now }
-        requires kept { AreKept self.old.files.items places.now }
-        ensures held { AreHeld (F.holds self.new.folder) places.now }
-        ensures kept { AreKept self.new.files.items places.now }
+        requires ready { IsReady F.tells F.holds F.path_of F.view places.now
+            self.old.folder self.old.files.items self.old.entries }
+        ensures ready { IsReady F.tells F.holds F.path_of F.view places.now
+            self.new.folder self.new.files.items self.new.entries }
+        ensures stays { F.tells → Stays places.now
+            (F.view self.old.folder) (F.view self.new.folder) }
+        ensures bytes { F.tells → OnOk result (HasSettled (path_at places.now file)
+            (F.view self.new.folder)) }
         ensures shut { OnOk result (IsShut self.new.files.items places.now file) }
     {
         if self.open(places, file)? {
@@ -322,10 +372,14 @@ impl<F: Folder + Drop> Kept<F> {
 
     /// Settles the entries of both folders, one after the other. Until both are synced they are in doubt.
     fn sync_made(&mut self, places: &Places) -> Result<(), DiskFault>
-        requires held { AreHeld (F.holds self.old.folder) places.now }
-        requires kept { AreKept self.old.files.items places.now }
-        ensures held { AreHeld (F.holds self.new.folder) places.now }
-        ensures kept { AreKept self.new.files.items places.now }
+        requires made { self.old.entries ≡ Made }
+        requires ready { IsReady F.tells F.holds F.path_of F.view places.now
+            self.old.folder self.old.files.items self.old.entries }
+        ensures ready { IsReady F.tells F.holds F.path_of F.view places.now
+            self.new.folder self.new.files.items self.new.entries }
+        ensures reads_on { F.tells → ReadsOn (F.view self.old.folder) (F.view self.new.folder) }
+        ensures entered { F.tells → OnOk result (AreEntered (F.view self.new.folder)
+            places.now Settled) }
         ensures settled { OnOk result (self.new.entries ≡ Settled) }
         ensures doubted { OnErr result (self.new.entries ≡ Doubted) }
         ensures files { self.new.files ≡ self.old.files }
@@ -339,10 +393,13 @@ impl<F: Folder + Drop> Kept<F> {
 
     /// Settles the entries of both folders. After a sync of them failed, each is a failure.
     fn sync_entries(&mut self, places: &Places) -> Result<(), DiskFault>
-        requires held { AreHeld (F.holds self.old.folder) places.now }
-        requires kept { AreKept self.old.files.items places.now }
-        ensures held { AreHeld (F.holds self.new.folder) places.now }
-        ensures kept { AreKept self.new.files.items places.now }
+        requires ready { IsReady F.tells F.holds F.path_of F.view places.now
+            self.old.folder self.old.files.items self.old.entries }
+        ensures ready { IsReady F.tells F.holds F.path_of F.view places.now
+            self.new.folder self.new.files.items self.new.entries }
+        ensures reads_on { F.tells → ReadsOn (F.view self.old.folder) (F.view self.new.folder) }
+        ensures entered { F.tells → OnOk result (AreEntered (F.view self.new.folder)
+            places.now Settled) }
         ensures settled { OnOk result (self.new.entries ≡ Settled) }
         ensures doubted { self.old.entries ≡ Doubted → result ≡ Err Failed }
         ensures files { self.new.files ≡ self.old.files }
@@ -357,10 +414,14 @@ impl<F: Folder + Drop> Kept<F> {
     /// Settles a file, and the entries of both folders. A file that isn't there has no bytes to settle.
     pub(crate) fn sync(&mut self, places: &Places, file: u32) -> Result<(), DiskFault>
         requires file { IsFile (files_in places.now) file }
-        requires held { AreHeld (F.holds self.old.folder) places.now }
-        requires kept { AreKept self.old.files.items places.now }
-        ensures held { AreHeld (F.holds self.new.folder) places.now }
-        ensures kept { AreKept self.new.files.items places.now }
+        requires ready { IsReady F.tells F.holds F.path_of F.view places.now
+            self.old.folder self.old.files.items self.old.entries }
+        ensures ready { IsReady F.tells F.holds F.path_of F.view places.now
+            self.new.folder self.new.files.items self.new.entries }
+        ensures stays { F.tells → Stays places.now
+            (F.view self.old.folder) (F.view self.new.folder) }
+        ensures as_read { F.tells → OnOk result
+            (IsSettled (pulled places.now (F.view self.new.folder)) file) }
         ensures settled { OnOk result (self.new.entries ≡ Settled) }
         ensures shut { OnOk result (IsShut self.new.files.items places.now file) }
     {

@@ -68,9 +68,19 @@ impl Places {
         })
     }
 
+    /// Whether a mount names these.
+    pub(crate) fn are(&self, output: &Text, names: &List<Text>, checkpoints: &Text) -> bool
+        ensures { result ≡ true → IsNamed output.now names.now checkpoints.now self.now }
+    {
+        self.output.as_slice() == output.as_slice()
+            && same_names(self.names.as_slice(), names.as_slice())
+            && self.checkpoints.as_slice() == checkpoints.as_slice()
+    }
+
     /// How many files there are.
     pub(crate) fn count(&self) -> usize
-        ensures { result ≡ length (paths_in self.now) }
+        ensures all { result ≡ length (paths_in self.now) }
+        ensures distinct { AreDistinct (paths_in self.now) }
     {
         self.paths.len()
     }
@@ -79,6 +89,7 @@ impl Places {
     fn total(&self) -> usize
         ensures each { result ≡ length (paths_in self.now) }
         ensures all { result ≡ files_in self.now + 513 }
+        ensures distinct { AreDistinct (paths_in self.now) }
     {
         self.count()
     }
@@ -102,6 +113,7 @@ impl Places {
         requires { IsFile (files_in self.now) file }
         ensures place { result ≡ place_of (files_in self.now) file }
         ensures within { result < length (paths_in self.now) }
+        ensures distinct { AreDistinct (paths_in self.now) }
     {
         let total = self.total();
         if file < FIRST_CHUNK || RECOMBINED < file {
@@ -113,7 +125,8 @@ impl Places {
     /// The path at a file's place.
     fn path_of(&self, file: u32) -> &str
         requires { IsFile (files_in self.now) file }
-        ensures { result.now ≡ path_at self.now file }
+        ensures path { result.now ≡ path_at self.now file }
+        ensures distinct { AreDistinct (paths_in self.now) }
     {
         self.paths[self.place(file)].as_str()
     }
@@ -123,6 +136,7 @@ impl Places {
         requires { IsFile (files_in self.now) file }
         ensures path { result.now ≡ path_at self.now file }
         ensures within { IsIn (folder_at self.now file) result.now }
+        ensures distinct { AreDistinct (paths_in self.now) }
     {
         self.path_of(file)
     }
@@ -255,6 +269,21 @@ fn are_distinct(paths: &[String]) -> bool
 {
     'places: for k in 0..paths.len() {
         if !is_new(paths, k) {
+            return false;
+        }
+    }
+    true
+}
+
+/// Whether these are the same names.
+fn same_names(names: &[Text], others: &[Text]) -> bool
+    ensures { result ≡ true → names.now ≡ others.now }
+{
+    if names.len() != others.len() {
+        return false;
+    }
+    'names: for k in 0..names.len() {
+        if names[k].as_slice() != others[k].as_slice() {
             return false;
         }
     }

@@ -33,7 +33,9 @@ fn mount_one<F: Folder + Drop>(
 }
 
 // Writes an output, and a slot that it cuts, and reads a range of the slot.
-fn keep_files<F: Folder + Drop>(alloc: Global, disk: &mut FolderDisk<F>) -> Result<[u8; 3], Fail> {
+fn keep_files<F: Folder + Drop>(alloc: Global, disk: &mut FolderDisk<F>) -> Result<[u8; 3], Fail>
+    requires { F.tells → ⊥ }
+{
     mount_one(alloc, disk, "new/out", "new")?;
     rewrite(disk, named_output(0), b"cells")?;
     disk.write_at(SLOTS - 1, 0, b"0123456789")?;
@@ -80,7 +82,9 @@ fn share<F: Folder + Drop>(
     first: &mut FolderDisk<F>,
     second: &mut FolderDisk<F>,
     third: &mut FolderDisk<F>,
-) -> Result<(Told, Told), Fail> {
+) -> Result<(Told, Told), Fail>
+    requires { F.tells → ⊥ }
+{
     mount_one(alloc, first, "one", "./one")?;
     mount_one(alloc, second, "one", "one")?;
     first.write_at(OLD_OUTPUT, 0, b"first")?;
@@ -112,13 +116,17 @@ fn one_run_has_a_folder(rt: HostRuntime) -> Result<(), Fail> {
 }
 
 // Writes five bytes to a folder.
-fn write_five<F: Folder + Drop>(alloc: Global, disk: &mut FolderDisk<F>) -> Result<(), Fail> {
+fn write_five<F: Folder + Drop>(alloc: Global, disk: &mut FolderDisk<F>) -> Result<(), Fail>
+    requires { F.tells → ⊥ }
+{
     mount_one(alloc, disk, "left", "left")?;
     Ok(disk.write_at(OLD_OUTPUT, 0, b"first")?)
 }
 
 // How many bytes are in that folder.
-fn length_left<F: Folder + Drop>(alloc: Global, disk: &mut FolderDisk<F>) -> Result<u64, Fail> {
+fn length_left<F: Folder + Drop>(alloc: Global, disk: &mut FolderDisk<F>) -> Result<u64, Fail>
+    requires { F.tells → ⊥ }
+{
     mount_one(alloc, disk, "left", "left")?;
     Ok(disk.length(OLD_OUTPUT)?)
 }
@@ -143,7 +151,9 @@ fn a_run_leaves_its_folder(rt: HostRuntime) -> Result<(), Fail> {
 fn fail_calls<F: Folder + Drop>(
     alloc: Global,
     disk: &mut FolderDisk<F>,
-) -> Result<(Told, Told, Told, Told, Told), Fail> {
+) -> Result<(Told, Told, Told, Told, Told), Fail>
+    requires { F.tells → ⊥ }
+{
     let here = Text::from_slice(alloc, b"other")?;
     let mut names = List::empty(alloc);
     names.push(Text::from_slice(alloc, b"output.asc")?)?;

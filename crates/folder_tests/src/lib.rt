@@ -7,3 +7,5 @@ mod disks;
 mod hosts;
 #[cfg(test)]
 mod memory;
+#[cfg(test)]
+mod telling;

@@ -1,6 +1,7 @@
-//! Folders in memory, which note what is done with their files and fail at one call.
-ghost use Rattle.std.specs.Prelude.{◌≡◌, OnOk};
+//! Folders in memory, which note what is done with their files and fail at one call. They tell nothing.
+ghost use Rattle.std.specs.Prelude.{◌≡◌, [], OnOk};
 ghost use Rattle.cx_disk.specs.Cause.{HasCause};
+ghost use Rattle.cx_folder.specs.Tree.{untold};
 ghost use Rattle.cx_disk.specs.declared.disk.DiskFault.TheVariants.{Failed};
 
 use cx_disk::DiskFault;
@@ -90,15 +91,17 @@ impl MemoryFolder {
 impl Folder for MemoryFolder {
     type File = MemoryFile;
 
+    ghost tells = { ⊥ };
+
+    ghost view = { λ _. untold };
+
     ghost holds = { λ _ _. Unit {0} };
 
-    ghost wrote = { λ _ _ _ _ _. Unit {0} };
-
-    ghost has_cut = { λ _ _ _ _. Unit {0} };
-
-    ghost synced = { λ _ _ _. Unit {0} };
+    ghost path_of = { λ _. [] };
 
     ghost faults = { λ folder. folder.faults };
+
+    ghost sound = { λ _ tells. absurd tells };
 
     fn hold(&mut self, _folder: &str) -> Result<(), DiskFault> {
         Ok(())

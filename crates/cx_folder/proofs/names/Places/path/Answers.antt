@@ -5,5 +5,5 @@ use Rattle.cx_folder.proofs.names.Places.path.Goals as goal
 
 pub returns-clause-within : goal.returns-clause-within
 returns-clause-within c = subst
-    (λ (p : Path). IsIn (folder_at c.args.self.now c.args.file) p) (sym c.path_of.ensures)
+    (λ (p : Path). IsIn (folder_at c.args.self.now c.args.file) p) (sym c.path_of.ensures.path)
     (in_folder c.args.self.now c.args.file c.requires)

@@ -8,4 +8,5 @@ returns c = record {
   place = high_is (files_in c.args.self.now) c.args.file c.total-total.result _
       c.if-file-lt-FIRST_CHUNK.false c.if-file-gt-RECOMBINED.false c.total-total.ensures.all refl;
   within = omega (arith, c.total-total.ensures.each, c.total-total.ensures.all);
+  distinct = c.total-total.ensures.distinct;
 }
