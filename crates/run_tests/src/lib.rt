@@ -6,29 +6,21 @@ mod calls;
 #[cfg(test)]
 mod carriers;
 #[cfg(test)]
-mod chunks;
+mod chains;
 #[cfg(test)]
-mod cuts;
+mod chunks;
 #[cfg(test)]
 mod devices;
 #[cfg(test)]
 mod failing;
 #[cfg(test)]
-mod faults;
-#[cfg(test)]
 mod flats;
 #[cfg(test)]
-mod jobs;
+mod found;
 #[cfg(test)]
 mod makes;
 #[cfg(test)]
 mod parts;
-#[cfg(test)]
-mod physics;
-#[cfg(test)]
-mod samples;
-#[cfg(test)]
-mod schedules;
 #[cfg(test)]
 mod steers;
 #[cfg(test)]

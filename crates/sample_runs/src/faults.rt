@@ -1,9 +1,10 @@
 //! Files that make no job, and why.
 use sample_files::File;
 
-/// Files that stand in place of others or beside them, and what `check t.par` prints of them.
+/// Files that stand in place of others or beside them, and what `check t.par` comes to.
 pub struct Fault {
     pub files: &'static [File],
+    pub status: u8,
     pub printed: &'static str,
 }
 
@@ -47,6 +48,7 @@ pub const PLAIN: &[File] = &[
 pub const FAULTS: &[Fault] = &[
     Fault {
         files: &[],
+        status: 0,
         printed: "accepted\n",
     },
     Fault {
@@ -60,6 +62,7 @@ pub const FAULTS: &[Fault] = &[
                 bytes: b"ActiveThorns = \"T V\"\n",
             },
         ],
+        status: 2,
         printed: "refused: NoFile arrangements/A/V/interface.ccl\n",
     },
     Fault {
@@ -67,6 +70,7 @@ pub const FAULTS: &[Fault] = &[
             name: "arrangements/A/T/interface.ccl",
             bytes: b"implements: t\n\x01\n",
         }],
+        status: 2,
         printed: "refused: arrangements/A/T/interface.ccl BadByte 2\n",
     },
     Fault {
@@ -74,6 +78,7 @@ pub const FAULTS: &[Fault] = &[
             name: "arrangements/A/T/interface.ccl",
             bytes: b"implements: t\npublic:\nINT g\n\"open\n",
         }],
+        status: 2,
         printed: "refused: arrangements/A/T/interface.ccl OpenQuote 4\n",
     },
     Fault {
@@ -81,6 +86,7 @@ pub const FAULTS: &[Fault] = &[
             name: "arrangements/A/T/schedule.ccl",
             bytes: b"schedule x",
         }],
+        status: 2,
         printed: "refused: arrangements/A/T/schedule.ccl Unexpected 1\n",
     },
     Fault {
@@ -90,6 +96,7 @@ pub const FAULTS: &[Fault] = &[
         public:\n\
         INT g TYPE=GF TIMELEVELS=2 TIMELEVELS=3\n",
         }],
+        status: 2,
         printed: "refused: arrangements/A/T/interface.ccl Repeated 3\n",
     },
     Fault {
@@ -97,6 +104,7 @@ pub const FAULTS: &[Fault] = &[
             name: "arrangements/A/T/interface.ccl",
             bytes: b"implements: t\nINT g DIM=4\n",
         }],
+        status: 2,
         printed: "refused: arrangements/A/T/interface.ccl BadNumber 2\n",
     },
     Fault {
@@ -109,6 +117,7 @@ pub const FAULTS: &[Fault] = &[
         aaaaaaaaaaaaaaaaaaaaaaaaaaaaaaaaaaaaaaaaaaaaaaaaaaaaaaaaaaaaaaaaa\n\
         }\n",
         }],
+        status: 2,
         printed: "refused: arrangements/A/T/interface.ccl Limit 5\n",
     },
     Fault {
@@ -116,6 +125,7 @@ pub const FAULTS: &[Fault] = &[
             name: "t.par",
             bytes: b"ActiveThorns = \"T Xyz\"\n",
         }],
+        status: 2,
         printed: "refused: UnknownThorn Xyz\n",
     },
     Fault {
@@ -123,6 +133,7 @@ pub const FAULTS: &[Fault] = &[
             name: "ThornList",
             bytes: b"A/T\nB/T\nA/U\n",
         }],
+        status: 2,
         printed: "refused: TwoThorns T\n",
     },
     Fault {
@@ -130,6 +141,7 @@ pub const FAULTS: &[Fault] = &[
             name: "arrangements/A/U/interface.ccl",
             bytes: b"implements: t\n",
         }],
+        status: 2,
         printed: "refused: TwoProviders t T U\n",
     },
     Fault {
@@ -137,6 +149,7 @@ pub const FAULTS: &[Fault] = &[
             name: "arrangements/A/T/interface.ccl",
             bytes: b"implements: t\ninherits: none\n",
         }],
+        status: 2,
         printed: "refused: MissingImplementation T none\n",
     },
     Fault {
@@ -144,6 +157,7 @@ pub const FAULTS: &[Fault] = &[
             name: "arrangements/A/T/configuration.ccl",
             bytes: b"REQUIRES Fast\n",
         }],
+        status: 2,
         printed: "refused: MissingCapability T Fast\n",
     },
     Fault {
@@ -151,6 +165,7 @@ pub const FAULTS: &[Fault] = &[
             name: "arrangements/A/T/configuration.ccl",
             bytes: b"REQUIRES THORNS: V\n",
         }],
+        status: 2,
         printed: "refused: MissingThorn T V\n",
     },
     Fault {
@@ -158,6 +173,7 @@ pub const FAULTS: &[Fault] = &[
             name: "arrangements/A/T/param.ccl",
             bytes: b"shares: u\nUSES INT p\n",
         }],
+        status: 2,
         printed: "refused: NoParameter T u p\n",
     },
     Fault {
@@ -171,6 +187,7 @@ pub const FAULTS: &[Fault] = &[
                 bytes: b"shares: u\nUSES BOOLEAN p\n",
             },
         ],
+        status: 2,
         printed: "refused: WrongType T p\n",
     },
     Fault {
@@ -178,6 +195,7 @@ pub const FAULTS: &[Fault] = &[
             name: "arrangements/A/T/interface.ccl",
             bytes: b"implements: t\npublic:\nINT a { v }\nINT b { v }\n",
         }],
+        status: 2,
         printed: "refused: TwoVariables t::v\n",
     },
     Fault {
@@ -185,6 +203,7 @@ pub const FAULTS: &[Fault] = &[
             name: "arrangements/A/T/param.ccl",
             bytes: b"INT p { 0:* } 0\nINT p { 0:* } 0\n",
         }],
+        status: 2,
         printed: "refused: TwoParameters T::p\n",
     },
     Fault {
@@ -192,6 +211,7 @@ pub const FAULTS: &[Fault] = &[
             name: "arrangements/A/T/interface.ccl",
             bytes: b"implements: t\nCCTK_REAL r\n",
         }],
+        status: 2,
         printed: "refused: Unsupported T r\n",
     },
     Fault {
@@ -202,6 +222,7 @@ pub const FAULTS: &[Fault] = &[
         INT a TYPE=GF DIM=1\n\
         INT b TYPE=GF DIM=2\n",
         }],
+        status: 2,
         printed: "refused: TwoDims t::a t::b\n",
     },
     Fault {
@@ -209,6 +230,7 @@ pub const FAULTS: &[Fault] = &[
             name: "arrangements/A/T/interface.ccl",
             bytes: b"implements: t\npublic:\nINT g[64] { a b c d e }\n",
         }],
+        status: 2,
         printed: "refused: Limit variables 320\n",
     },
     Fault {
@@ -216,6 +238,7 @@ pub const FAULTS: &[Fault] = &[
             name: "arrangements/A/T/param.ccl",
             bytes: b"INT p { 0:10 } 11\n",
         }],
+        status: 2,
         printed: "refused: BadDefault T::p\n",
     },
     Fault {
@@ -223,6 +246,7 @@ pub const FAULTS: &[Fault] = &[
             name: "t.par",
             bytes: b"ActiveThorns = \"T U\"\nt::q = 1\n",
         }],
+        status: 2,
         printed: "refused: UnknownParam 2\n",
     },
     Fault {
@@ -236,6 +260,7 @@ pub const FAULTS: &[Fault] = &[
                 bytes: b"ActiveThorns = \"T U\"\nT::p = 1\n",
             },
         ],
+        status: 2,
         printed: "refused: Index 2\n",
     },
     Fault {
@@ -243,6 +268,7 @@ pub const FAULTS: &[Fault] = &[
             name: "t.par",
             bytes: b"ActiveThorns = \"T U\"\ndriver::global_nx = x\n",
         }],
+        status: 2,
         printed: "refused: BadSpelling 2\n",
     },
     Fault {
@@ -250,6 +276,7 @@ pub const FAULTS: &[Fault] = &[
             name: "t.par",
             bytes: b"ActiveThorns = \"T U\"\ndriver::global_nx = 0\n",
         }],
+        status: 2,
         printed: "refused: OutOfRange 2\n",
     },
     Fault {
@@ -259,6 +286,7 @@ pub const FAULTS: &[Fault] = &[
         driver::global_nx = 1\n\
         driver::global_nx = 1\n",
         }],
+        status: 2,
         printed: "refused: Twice 3\n",
     },
     Fault {
@@ -266,6 +294,7 @@ pub const FAULTS: &[Fault] = &[
             name: "arrangements/A/T/schedule.ccl",
             bytes: b"if (x) { }\n",
         }],
+        status: 2,
         printed: "refused: T UnknownName x\n",
     },
     Fault {
@@ -279,6 +308,7 @@ pub const FAULTS: &[Fault] = &[
                 bytes: b"if (k + 1) { }\n",
             },
         ],
+        status: 2,
         printed: "refused: T NotNumber k\n",
     },
     Fault {
@@ -292,6 +322,7 @@ pub const FAULTS: &[Fault] = &[
                 bytes: b"if (CCTK_Equals(n, \"a\")) { }\n",
             },
         ],
+        status: 2,
         printed: "refused: T NotText n\n",
     },
     Fault {
@@ -299,6 +330,7 @@ pub const FAULTS: &[Fault] = &[
             name: "arrangements/A/T/schedule.ccl",
             bytes: b"if (7 / 0) { }\n",
         }],
+        status: 2,
         printed: "refused: T Range /\n",
     },
     Fault {
@@ -306,6 +338,7 @@ pub const FAULTS: &[Fault] = &[
             name: "arrangements/A/T/schedule.ccl",
             bytes: b"schedule a AT NOON { }\n",
         }],
+        status: 2,
         printed: "refused: UnknownBin NOON\n",
     },
     Fault {
@@ -313,6 +346,7 @@ pub const FAULTS: &[Fault] = &[
             name: "arrangements/A/T/schedule.ccl",
             bytes: b"schedule a AT EVOL { }\nschedule a AT EVOL { }\n",
         }],
+        status: 2,
         printed: "refused: TwoNames EVOL/a\n",
     },
     Fault {
@@ -320,6 +354,7 @@ pub const FAULTS: &[Fault] = &[
             name: "arrangements/A/T/schedule.ccl",
             bytes: b"schedule GROUP P IN Q { }\nschedule GROUP Q IN P { }\n",
         }],
+        status: 2,
         printed: "refused: GroupCycle P,Q\n",
     },
     Fault {
@@ -329,6 +364,7 @@ pub const FAULTS: &[Fault] = &[
         schedule B AT EVOL BEFORE C { }\n\
         schedule C AT EVOL BEFORE A { }\n",
         }],
+        status: 2,
         printed: "refused: Cycle A,B,C\n",
     },
     Fault {
@@ -336,6 +372,7 @@ pub const FAULTS: &[Fault] = &[
             name: "arrangements/A/T/schedule.ccl",
             bytes: b"STORAGE: g\n",
         }],
+        status: 2,
         printed: "refused: T NotFound g\n",
     },
     Fault {
@@ -349,6 +386,7 @@ pub const FAULTS: &[Fault] = &[
                 bytes: b"schedule a AT EVOL { READS: w }\n",
             },
         ],
+        status: 2,
         printed: "refused: EVOL/a Hidden w\n",
     },
     Fault {
@@ -365,6 +403,7 @@ pub const FAULTS: &[Fault] = &[
                 bytes: b"schedule a AT EVOL { READS: v }\n",
             },
         ],
+        status: 2,
         printed: "refused: EVOL/a NoStorage v\n",
     },
     Fault {
@@ -381,6 +420,7 @@ pub const FAULTS: &[Fault] = &[
                 bytes: b"STORAGE: g[1]\nschedule a AT EVOL { READS: v_p }\n",
             },
         ],
+        status: 2,
         printed: "refused: EVOL/a NoLevel v_p\n",
     },
     Fault {
@@ -397,6 +437,7 @@ pub const FAULTS: &[Fault] = &[
                 bytes: b"STORAGE: g\nschedule a AT EVOL IF v { }\n",
             },
         ],
+        status: 2,
         printed: "refused: EVOL/a NotScalar v\n",
     },
     Fault {
@@ -413,6 +454,7 @@ pub const FAULTS: &[Fault] = &[
                 bytes: b"STORAGE: s\nschedule a AT EVOL { SYNC: s }\n",
             },
         ],
+        status: 2,
         printed: "refused: EVOL/a NotGrid s\n",
     },
     Fault {
@@ -451,6 +493,7 @@ pub const FAULTS: &[Fault] = &[
         schedule GROUP g30 IN g29 { }\n\
         schedule a IN g30 { }\n",
         }],
+        status: 2,
         printed: "refused: Limit depth 33\n",
     },
     Fault {
@@ -458,6 +501,7 @@ pub const FAULTS: &[Fault] = &[
             name: "t.par",
             bytes: b"ActiveThorns = \"T U\"\nIO::out_vars = \"t::none\"\n",
         }],
+        status: 2,
         printed: "refused: output NotFound t::none\n",
     },
     Fault {
@@ -465,6 +509,7 @@ pub const FAULTS: &[Fault] = &[
             name: "arrangements/A/T/schedule.ccl",
             bytes: b"schedule a AT EVOL { }\n",
         }],
+        status: 2,
         printed: "refused: UnknownRoutine EVOL/a\n",
     },
 ];
@@ -497,6 +542,7 @@ pub const SAMPLE_FAULTS: &[Fault] = &[
                 IO::out_vars = \"ca::cell\"\n",
             },
         ],
+        status: 2,
         printed: "refused: RoutineMismatch EVOL/ca_step (reads ca::cell(interior) writes ca::cell(interior)) (reads ca::cell(everywhere) writes ca::cell(interior))\n",
     },
     Fault {
@@ -506,6 +552,7 @@ pub const SAMPLE_FAULTS: &[Fault] = &[
         driver::global_nx = 16777216\n\
         driver::global_ny = 2\n",
         }],
+        status: 2,
         printed: "refused: Limit points 33554432\n",
     },
     Fault {
@@ -514,6 +561,7 @@ pub const SAMPLE_FAULTS: &[Fault] = &[
             bytes: b"ActiveThorns = \"WaveInt DiffInt ElemCA\"\n\
         driver::global_nx = 16777216\n",
         }],
+        status: 2,
         printed: "refused: Limit owned cells 83886080\n",
     },
     Fault {
@@ -521,6 +569,7 @@ pub const SAMPLE_FAULTS: &[Fault] = &[
             name: "t.par",
             bytes: b"ActiveThorns = \"DiffInt\"\ndriver::ghost_size = 0\n",
         }],
+        status: 2,
         printed: "refused: Shape EVOL/diff_step diff::u\n",
     },
     Fault {
@@ -549,6 +598,7 @@ pub const SAMPLE_FAULTS: &[Fault] = &[
                 bytes: b"ActiveThorns = \"WaveInt\"\n",
             },
         ],
+        status: 2,
         printed: "refused: Unset i EVOL/wave_flat wave::phi 0 G\n",
     },
     Fault {
@@ -578,6 +628,7 @@ pub const SAMPLE_FAULTS: &[Fault] = &[
                 bytes: b"ActiveThorns = \"WaveInt\"\n",
             },
         ],
+        status: 2,
         printed: "refused: Unset i EVOL/wave_step wave::phi 2 I\n",
     },
     Fault {
@@ -605,6 +656,7 @@ pub const SAMPLE_FAULTS: &[Fault] = &[
                 bytes: b"ActiveThorns = \"WaveInt\"\n",
             },
         ],
+        status: 2,
         printed: "refused: Unset ii EVOL/wave_step wave::phi 1 B\n",
     },
     // A wave whose only start is after an IF, and the same without the IF.
@@ -643,6 +695,7 @@ pub const SAMPLE_FAULTS: &[Fault] = &[
                 bytes: b"ActiveThorns = \"Control WaveInt\"\n",
             },
         ],
+        status: 2,
         printed: "refused: Unset nix EVOL/wave_step wave::phi 1 I\n",
     },
     Fault {
@@ -660,6 +713,7 @@ pub const SAMPLE_FAULTS: &[Fault] = &[
                 bytes: b"ActiveThorns = \"Control WaveInt\"\n",
             },
         ],
+        status: 0,
         printed: "accepted\n",
     },
 ];

@@ -1,4 +1,6 @@
-//! Parameter files of examples/.
+//! Parameter files of examples/, and a few that can't be read.
+
+use sample_files::File;
 
 pub const CA: &[u8] = b"ActiveThorns = \"ElemCA\"\n\
         Cactus::cctk_itlast = 2\n\
@@ -77,3 +79,51 @@ pub const BOX: &[u8] = b"!DESC \"a wave, heat, cells and a count, together in on
     IO::out_every = 20\n\
     IO::out_vars  = \"wave::phi\n\
     \x20                wave::total\"\n";
+
+/// Files that commands are asked of.
+pub const PARAMETER_FILES: &[File] = &[
+    File {
+        name: "ca.par",
+        bytes: CA,
+    },
+    File {
+        name: "life.par",
+        bytes: LIFE,
+    },
+    File {
+        name: "wave.par",
+        bytes: WAVE,
+    },
+    File {
+        name: "heat.par",
+        bytes: HEAT,
+    },
+    File {
+        name: "control.par",
+        bytes: CONTROL,
+    },
+    File {
+        name: "glider.par",
+        bytes: GLIDER,
+    },
+    File {
+        name: "box.par",
+        bytes: BOX,
+    },
+    File {
+        name: "byte.par",
+        bytes: b"a = 1\nb = \x01\n",
+    },
+    File {
+        name: "open.par",
+        bytes: b"a = \"1\nb = 2\n",
+    },
+    File {
+        name: "sign.par",
+        bytes: b"ca::start 3\n",
+    },
+    File {
+        name: "index.par",
+        bytes: b"a[1023] = 1\na[1024] = 1\n",
+    },
+];

@@ -2,6 +2,11 @@
 use crate::samples::{BOX, CA, CONTROL, GLIDER, HEAT, LIFE, WAVE};
 use sample_files::File;
 
+/// The output files of the first variable that is written, and of the second one.
+pub const FIRST_OUTPUT: usize = 9;
+
+pub const SECOND_OUTPUT: usize = 10;
+
 /// A job that runs, and what comes of it.
 pub struct Run {
     pub name: &'static str,
@@ -43,7 +48,7 @@ pub const CA_OUTPUT: &[u8] = b"# ca::cell iteration 0 size 8\n\
     \n";
 
 /// The files of heat in three directions.
-pub(crate) const DIFF_IN_THREE: &[File] = &[File {
+pub const DIFF_IN_THREE: &[File] = &[File {
     name: "arrangements/Integer/DiffInt/interface.ccl",
     bytes: b"implements: diff\n\
         public:\n\
@@ -60,7 +65,7 @@ const FIRST_ROW: &[u8] = b"ActiveThorns = \"ElemCA\"\n\
     IO::out_vars = \"ca::cell\"\n";
 
 /// A glider's four steps, which take it one cell further in both directions, and how many of its cells live.
-pub const LIFE_CELLS: &[u8] = b"# life::cell iteration 0 size 8 8\n\
+const LIFE_CELLS: &[u8] = b"# life::cell iteration 0 size 8 8\n\
     0 1 0 0 0 0 0 0\n\
     0 0 1 0 0 0 0 0\n\
     1 1 1 0 0 0 0 0\n\
@@ -111,7 +116,7 @@ pub const LIFE_CELLS: &[u8] = b"# life::cell iteration 0 size 8 8\n\
     0 0 0 0 0 0 0 0\n\
     \n";
 
-pub const LIFE_COUNTS: &[u8] = b"# life::live iteration 0 value 5\n\
+const LIFE_COUNTS: &[u8] = b"# life::live iteration 0 value 5\n\
     # life::live iteration 1 value 5\n\
     # life::live iteration 2 value 5\n\
     # life::live iteration 3 value 5\n\

@@ -1,11 +1,10 @@
-//! Runs of the thorns that conserve, against numbers of a model of its own or by hand.
+//! The thorns that conserve, and runs of them, against numbers of a model of its own or by hand.
 
-use crate::calls::{answer_to, shelf_with};
+use crate::jobs::Run;
 use sample_files::File;
-use std::test::Fail;
 
 /// The files of the thorns that conserve, byte for byte as examples/physics has them.
-const PHYSICS: &[File] = &[
+pub const PHYSICS: &[File] = &[
     File {
         name: "ThornList",
         bytes: THORN_LIST,
@@ -143,21 +142,14 @@ const GAS: &[u8] = b"ActiveThorns = \"LatticeGas\"\n\
     gas::seed = 1\n\
     IO::out_vars = \"gas::cell gas::particles\"\n";
 
-/// A job, what its run prints, and the output files of the first variable that is written and of the second one.
-struct Case {
-    name: &'static str,
-    file: &'static [u8],
-    more: &'static str,
-    printed: &'static [u8],
-    first: &'static [u8],
-    second: &'static [u8],
-}
-
-const CASES: &[Case] = &[
-    Case {
+/// Runs of them, beside those files.
+pub const PHYSICS_RUNS: &[Run] = &[
+    Run {
         name: "heat that flows is rounded toward 0",
         file: BAR,
         more: "heatflux::amount = 1000\n",
+        others: &[],
+        status: 0,
         printed: b"done: iteration 2\n",
         first: b"# heatflux::u iteration 0 size 6 1 1\n\
             0 0 1000 0 0 0\n\
@@ -171,11 +163,14 @@ const CASES: &[Case] = &[
         second: b"# heatflux::total iteration 0 value 1000\n\
             # heatflux::total iteration 1 value 1000\n\
             # heatflux::total iteration 2 value 1000\n",
+        points: None,
     },
-    Case {
+    Run {
         name: "heat below 0",
         file: BAR,
         more: "heatflux::amount = -1000\n",
+        others: &[],
+        status: 0,
         printed: b"done: iteration 2\n",
         first: b"# heatflux::u iteration 0 size 6 1 1\n\
             0 0 -1000 0 0 0\n\
@@ -189,11 +184,14 @@ const CASES: &[Case] = &[
         second: b"# heatflux::total iteration 0 value -1000\n\
             # heatflux::total iteration 1 value -1000\n\
             # heatflux::total iteration 2 value -1000\n",
+        points: None,
     },
-    Case {
+    Run {
         name: "heat in three directions and eight parts",
         file: BOX,
         more: "driver::parts_x = 2\ndriver::parts_y = 2\ndriver::parts_z = 2\ndriver::lead = 3\n",
+        others: &[],
+        status: 0,
         printed: b"done: iteration 3\n",
         first: b"# heatflux::u iteration 0 size 5 5 5\n\
             0 0 0 0 0\n\
@@ -251,11 +249,14 @@ const CASES: &[Case] = &[
             \n",
         second: b"# heatflux::total iteration 0 value 38550\n\
             # heatflux::total iteration 3 value 38550\n",
+        points: None,
     },
-    Case {
+    Run {
         name: "a gas on a ring, in four parts",
         file: GAS,
         more: "driver::periodic = yes\ndriver::parts_x = 2\ndriver::parts_y = 2\n",
+        others: &[],
+        status: 0,
         printed: b"done: iteration 2\n",
         first: b"# gas::cell iteration 0 size 6 4\n\
             0 0 0 0 0 0\n\
@@ -278,11 +279,14 @@ const CASES: &[Case] = &[
         second: b"# gas::particles iteration 0 value 6\n\
             # gas::particles iteration 1 value 6\n\
             # gas::particles iteration 2 value 6\n",
+        points: None,
     },
-    Case {
+    Run {
         name: "a gas whose particles leave at the ends",
         file: GAS,
         more: "",
+        others: &[],
+        status: 0,
         printed: b"done: iteration 2\n",
         first: b"# gas::cell iteration 0 size 6 4\n\
             0 0 0 0 0 0\n\
@@ -305,18 +309,6 @@ const CASES: &[Case] = &[
         second: b"# gas::particles iteration 0 value 6\n\
             # gas::particles iteration 1 value 4\n\
             # gas::particles iteration 2 value 1\n",
+        points: None,
     },
 ];
-
-#[test]
-fn heat_and_gas(rt: HostRuntime) -> Result<(), Fail> {
-    for case in CASES {
-        let mut shelf = shelf_with(rt.alloc(), case.file, case.more, PHYSICS)?;
-        let came = answer_to(&rt, &["run", "t.par"], &mut shelf)?;
-        let found = (came.status, came.printed.as_slice());
-        assert_eq!(rt; found, (0, case.printed), "{}", case.name);
-        let found = (came.first.as_slice(), came.second.as_slice());
-        assert_eq!(rt; found, (case.first, case.second), "{}", case.name);
-    }
-    Ok(())
-}

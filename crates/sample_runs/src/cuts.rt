@@ -1,12 +1,13 @@
 //! Jobs whose grids are cut, and what commands print of them.
 use sample_files::File;
 
-/// A parameter file, the files that stand in place of others, a command, and what it prints.
+/// A parameter file, the files that stand in place of others, a command, its status and what it prints.
 pub struct Cut {
     pub name: &'static str,
     pub file: &'static [u8],
     pub others: &'static [File],
     pub word: &'static str,
+    pub status: u8,
     pub printed: &'static [u8],
 }
 
@@ -19,6 +20,7 @@ pub const CUTS: &[Cut] = &[
             driver::parts_x = 3\n",
         others: &[],
         word: "parts",
+        status: 0,
         printed: b"part 0 from 0 size 4 low 2 high 1\n\
             part 1 from 4 size 3 low 0 high 2\n\
             part 2 from 7 size 3 low 1 high 0\n",
@@ -31,6 +33,7 @@ pub const CUTS: &[Cut] = &[
             driver::parts_x = 2\n",
         others: &[],
         word: "parts",
+        status: 0,
         printed: b"part 0 from 0 0 size 2 3 low - - high 1 -\n\
             part 1 from 2 0 size 2 3 low 0 - high - -\n",
     },
@@ -42,6 +45,7 @@ pub const CUTS: &[Cut] = &[
             driver::widths_x = \"4 4\"\n",
         others: &[],
         word: "check",
+        status: 2,
         printed: b"refused: WidthsDiffer 8 10\n",
     },
     // A grid with no interior point, and one with one.
@@ -52,6 +56,7 @@ pub const CUTS: &[Cut] = &[
             driver::ghost_size = 2\n",
         others: &[],
         word: "check",
+        status: 2,
         printed: b"refused: GridTooSmall 4 5\n",
     },
     Cut {
@@ -61,6 +66,7 @@ pub const CUTS: &[Cut] = &[
             driver::ghost_size = 2\n",
         others: &[],
         word: "check",
+        status: 0,
         printed: b"accepted\n",
     },
     // A part that is thinner than its ghost zone, and one that is as thin.
@@ -72,6 +78,7 @@ pub const CUTS: &[Cut] = &[
             driver::widths_x = \"1 9\"\n",
         others: &[],
         word: "check",
+        status: 2,
         printed: b"refused: PartTooThin 1 2\n",
     },
     Cut {
@@ -82,6 +89,7 @@ pub const CUTS: &[Cut] = &[
             driver::widths_x = \"2 8\"\n",
         others: &[],
         word: "check",
+        status: 0,
         printed: b"accepted\n",
     },
     // 27 times 19 parts, and 32 times 16.
@@ -94,6 +102,7 @@ pub const CUTS: &[Cut] = &[
             driver::parts_y = 19\n",
         others: &[],
         word: "check",
+        status: 2,
         printed: b"refused: TooMany 513 512\n",
     },
     Cut {
@@ -105,6 +114,7 @@ pub const CUTS: &[Cut] = &[
             driver::parts_y = 16\n",
         others: &[],
         word: "check",
+        status: 0,
         printed: b"accepted\n",
     },
     // 512 strips, each of 24 times 4,098 local points with 3 levels and 2 writes, and a window of 9 values and 1.
@@ -123,6 +133,7 @@ pub const CUTS: &[Cut] = &[
                 CCTK_INT sums TYPE=SCALAR { total } \"sum\"\n",
         }],
         word: "check",
+        status: 2,
         printed: b"refused: Limit local cells 251786240\n",
     },
 ];
