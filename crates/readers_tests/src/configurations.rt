@@ -5,11 +5,10 @@ ghost use Rattle.cx_text.specs.declared.token.Style.TheVariants as styles;
 ghost use Rattle.cx_text.specs.Printing.{HasSpelling};
 ghost use Rattle.cx_conf.specs.Conf.{configuration};
 
-use crate::common::words;
+use crate::common::{same, words};
 use cx_conf::{Configuration, print_configuration, read_configuration, read_thornlist};
 use cx_text::{CclFault, Style, tokens};
 use std::alloc::Global;
-use std::process::Abort;
 use std::test::Fail;
 
 /// A configuration file with each kind of entry, and the four lists that it spells.
@@ -61,12 +60,7 @@ const PLACES: [(&str, &str); 6] = [
 ];
 
 /// The four lists are those of the file, as it was or as it is printed.
-fn assert_lists(
-    rt: &impl Abort,
-    alloc: Global,
-    file: &str,
-    tree: &Configuration,
-) -> Result<(), Fail> {
+fn assert_lists(alloc: Global, file: &str, tree: &Configuration) -> Result<(), Fail> {
     let lists = [
         &tree.provides,
         &tree.requires_,
@@ -75,7 +69,7 @@ fn assert_lists(
     ];
     for (names, (list, want)) in lists.iter().zip(LISTS) {
         let told = words(alloc, names)?;
-        assert_eq!(rt; told.as_slice(), want.as_bytes(), "{list} of {file}");
+        same(&(list, "of", file), &told.as_slice(), &want.as_bytes())?;
     }
     Ok(())
 }
@@ -93,11 +87,11 @@ fn configuration(alloc: Global, bytes: &[u8]) -> Result<Configuration, Fail>
 fn a_configuration_is_read_and_printed(rt: HostRuntime) -> Result<(), Fail> {
     let alloc = rt.alloc();
     let tree = configuration(alloc, FILE)?;
-    assert_lists(&rt, alloc, "the file", &tree)?;
+    assert_lists(alloc, "the file", &tree)?;
     let text = print_configuration(alloc, &tree)?;
-    assert_eq!(rt; text.as_slice(), PRINTED, "the printed file");
+    same(&"the printed file", &text.as_slice(), &PRINTED)?;
     let again = configuration(alloc, text.as_slice())?;
-    assert_lists(&rt, alloc, "the printed file", &again)
+    assert_lists(alloc, "the printed file", &again)
 }
 
 #[test]
@@ -105,11 +99,11 @@ fn a_thorn_list_is_read(rt: HostRuntime) -> Result<(), Fail> {
     let alloc = rt.alloc();
     let list = tokens(alloc, BOX, Style::Thorns)?;
     let thorns = read_thornlist(alloc, &list)?;
-    assert_eq!(rt; thorns.places.len(), PLACES.len(), "how many places");
+    same(&"how many places", &thorns.places.len(), &PLACES.len())?;
     for (place, (arrangement, thorn)) in thorns.places.as_slice().iter().zip(PLACES) {
         let found = (place.0.as_slice(), place.1.as_slice());
         let want = (arrangement.as_bytes(), thorn.as_bytes());
-        assert_eq!(rt; found, want, "{arrangement}/{thorn}");
+        same(&(arrangement, thorn), &found, &want)?;
     }
     Ok(())
 }

@@ -6,10 +6,10 @@ ghost use Rattle.cx_text.specs.Printing.{HasSpelling};
 ghost use Rattle.cx_expr.specs.Exprs.{expression};
 ghost use Rattle.cx_expr.specs.Known.{NumberOf, TextOf, Nothing};
 
+use crate::common::same;
 use cx_expr::{Expr, ExprFault, Found, Lookup, eval, print_expr, read_expr};
 use cx_text::{CclFault, Style, Text, tokens};
 use std::alloc::Global;
-use std::process::Abort;
 use std::test::Fail;
 
 /// Each name stands for the number 5.
@@ -203,12 +203,12 @@ fn told(alloc: Global, text: &str, names: Names) -> Result<String, Fail> {
 }
 
 /// The place behind the expression at a place of a text, or its first fault.
-fn place_behind(rt: &HostRuntime, text: &str, at: usize) -> Result<Result<usize, CclFault>, Fail> {
-    let list = tokens(rt.alloc(), text.as_bytes(), Style::Ccl)?;
+fn place_behind(alloc: Global, text: &str, at: usize) -> Result<Result<usize, CclFault>, Fail> {
+    let list = tokens(alloc, text.as_bytes(), Style::Ccl)?;
     if list.len() < at {
         return Err(Fail::new("no such place"));
     }
-    match read_expr(rt.alloc(), &list, at) {
+    match read_expr(alloc, &list, at) {
         Ok((_, place)) => Ok(Ok(place)),
         Err(fault) => Ok(Err(fault)),
     }
@@ -218,15 +218,15 @@ fn place_behind(rt: &HostRuntime, text: &str, at: usize) -> Result<Result<usize,
 fn expressions_have_values_faults_and_ends(rt: HostRuntime) -> Result<(), Fail> {
     for (text, want) in VALUES {
         let told = told(rt.alloc(), text, Names::Fives)?;
-        assert_eq!(rt; told.as_str(), *want, "{text}");
+        same(&text, &told.as_str(), want)?;
     }
     for (text, names, want) in NAMES {
         let told = told(rt.alloc(), text, *names)?;
-        assert_eq!(rt; told.as_str(), *want, "{text} with {names:?}");
+        same(&(text, "with", names), &told.as_str(), want)?;
     }
     for (text, at, want) in PLACES {
-        let found = place_behind(&rt, text, *at)?;
-        assert_eq!(rt; found, *want, "{text:?} from {at}");
+        let found = place_behind(rt.alloc(), text, *at)?;
+        same(&(text, "from", at), &found, want)?;
     }
     Ok(())
 }
@@ -258,7 +258,6 @@ fn value<L: Lookup>(alloc: Global, text: &str, names: &L) -> Result<Option<i64>,
 
 /// An expression is printed so, and what is printed says the same.
 fn assert_printed<L: Lookup>(
-    rt: &impl Abort,
     alloc: Global,
     row: &(&str, i64, &str),
     names: &L,
@@ -266,8 +265,8 @@ fn assert_printed<L: Lookup>(
     let (text, want, line) = row;
     for spelled in [*text, *line] {
         let again = printed(alloc, spelled)?;
-        assert_eq!(rt; again.as_slice(), line.as_bytes(), "{spelled:?}");
-        assert_eq!(rt; value(alloc, spelled, names)?, Some(*want), "{spelled:?}");
+        same(&spelled, &again.as_slice(), &line.as_bytes())?;
+        same(&spelled, &value(alloc, spelled, names)?, &Some(*want))?;
     }
     Ok(())
 }
@@ -275,10 +274,10 @@ fn assert_printed<L: Lookup>(
 #[test]
 fn expressions_are_printed_and_read_again(rt: HostRuntime) -> Result<(), Fail> {
     for row in PRINTED {
-        assert_printed(&rt, rt.alloc(), row, &Five)?;
+        assert_printed(rt.alloc(), row, &Five)?;
     }
     for row in TEXTS {
-        assert_printed(&rt, rt.alloc(), row, &Point)?;
+        assert_printed(rt.alloc(), row, &Point)?;
     }
     Ok(())
 }

@@ -1,5 +1,6 @@
 //! The first faults of all kinds of files, with their lines.
 
+use crate::common::same;
 use crate::{configurations, interfaces, parameter_files, params, schedules, steer_files};
 use cx_conf::{read_configuration, read_thornlist};
 use cx_iface::read_interface;
@@ -8,7 +9,6 @@ use cx_parfile::{read_parfile, read_steer};
 use cx_sched::read_schedule;
 use cx_text::{CclFault, List, Memory, Style, Text, Token, tokens};
 use std::alloc::Global;
-use std::process::Abort;
 use std::test::Fail;
 
 /// What a text is read as.
@@ -56,16 +56,11 @@ pub fn fault_in(alloc: Global, kind: Kind, list: &List<Token>) -> Result<Option<
     })
 }
 
-fn assert_faults(
-    rt: &impl Abort,
-    alloc: Global,
-    kind: Kind,
-    faults: &[(&str, CclFault)],
-) -> Result<(), Fail> {
+fn assert_faults(alloc: Global, kind: Kind, faults: &[(&str, CclFault)]) -> Result<(), Fail> {
     for (text, want) in faults {
         let list = tokens(alloc, text.as_bytes(), style_of(kind))?;
         let fault = fault_in(alloc, kind, &list)?;
-        assert_eq!(rt; fault, Some(*want), "{text:?} as {kind:?}");
+        same(&(text, "as", kind), &fault, &Some(*want))?;
     }
     Ok(())
 }
@@ -73,7 +68,7 @@ fn assert_faults(
 #[test]
 fn faults_stand_on_these_lines(rt: HostRuntime) -> Result<(), Fail> {
     for (kind, faults) in FAULTS {
-        assert_faults(&rt, rt.alloc(), *kind, faults)?;
+        assert_faults(rt.alloc(), *kind, faults)?;
     }
     Ok(())
 }

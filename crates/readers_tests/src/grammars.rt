@@ -1,5 +1,6 @@
 //! Readers compared with tables of rules, on lists of tokens and on files that are cut anywhere.
 
+use crate::common::same;
 use crate::configuration_rules::{CONFIGURATION, THORN_LIST};
 use crate::derivations::{Rules, fault};
 use crate::faults::{Kind as File, fault_in, style_of};
@@ -9,7 +10,6 @@ use crate::schedule_rules::SCHEDULE;
 use crate::{interfaces, params, schedules};
 use cx_text::{Kind, List, Memory, Text, Token, tokens};
 use std::alloc::Global;
-use std::process::Abort;
 use std::test::Fail;
 
 /// A grammar as a table of rules, whose letters are tokens, and what its reader is tried with.
@@ -108,12 +108,11 @@ fn list_of(
 
 /// The reader finds the fault of a list with these letters that the rules give it.
 fn assert_derived(
-    rt: &impl Abort,
     alloc: Global,
     grammar: &Grammar,
     letters: &[u8],
     list: &List<Token>,
-) -> Result<(), Memory> {
+) -> Result<(), Fail> {
     let found = fault_in(alloc, grammar.file, list)?;
     let want = fault(
         alloc,
@@ -122,39 +121,28 @@ fn assert_derived(
         letters,
         list.as_slice(),
     )?;
-    assert_eq!(rt; found, want, "{:?} {letters:?}", grammar.file);
-    Ok(())
+    same(&(grammar.file, letters), &found, &want)
 }
 
-fn assert_pairs(
-    rt: &impl Abort,
-    alloc: Global,
-    grammar: &Grammar,
-    beginning: &[u8],
-) -> Result<(), Memory> {
+fn assert_pairs(alloc: Global, grammar: &Grammar, beginning: &[u8]) -> Result<(), Fail> {
     for first in grammar.tried {
         for second in grammar.tried {
             let list = list_of(alloc, grammar, beginning, [*first, *second])?;
             let letters = letters(alloc, grammar, list.as_slice())?;
-            assert_derived(rt, alloc, grammar, &letters, &list)?;
+            assert_derived(alloc, grammar, &letters, &list)?;
         }
     }
     Ok(())
 }
 
 /// Each beginning of a file is read as it is derived. One that is cut in a quoted text has no tokens.
-fn assert_cut(
-    rt: &impl Abort,
-    alloc: Global,
-    grammar: &Grammar,
-    text: &[u8],
-) -> Result<(), Memory> {
+fn assert_cut(alloc: Global, grammar: &Grammar, text: &[u8]) -> Result<(), Fail> {
     let mut before = Vec::new(alloc);
     for end in 0..=text.len() {
         if let Ok(list) = tokens(alloc, &text[..end], style_of(grammar.file)) {
             let letters = letters(alloc, grammar, list.as_slice())?;
             if !grammar.once || letters.as_slice() != before.as_slice() {
-                assert_derived(rt, alloc, grammar, &letters, &list)?;
+                assert_derived(alloc, grammar, &letters, &list)?;
                 before = letters;
             }
         }
@@ -163,12 +151,12 @@ fn assert_cut(
 }
 
 /// Lists of tokens, and files that are cut anywhere, are read as the grammar derives them.
-fn assert_listed(rt: &impl Abort, alloc: Global, grammar: &Grammar) -> Result<(), Memory> {
+fn assert_listed(alloc: Global, grammar: &Grammar) -> Result<(), Fail> {
     for beginning in grammar.beginnings {
-        assert_pairs(rt, alloc, grammar, beginning)?;
+        assert_pairs(alloc, grammar, beginning)?;
     }
     for text in grammar.texts {
-        assert_cut(rt, alloc, grammar, text)?;
+        assert_cut(alloc, grammar, text)?;
     }
     Ok(())
 }
@@ -176,16 +164,16 @@ fn assert_listed(rt: &impl Abort, alloc: Global, grammar: &Grammar) -> Result<()
 #[test]
 fn lists_are_read_as_they_are_derived(rt: HostRuntime) -> Result<(), Fail> {
     let alloc = rt.alloc();
-    assert_listed(&rt, alloc, CONFIGURATION)?;
-    assert_listed(&rt, alloc, THORN_LIST)?;
-    assert_listed(&rt, alloc, SCHEDULE)?;
+    assert_listed(alloc, CONFIGURATION)?;
+    assert_listed(alloc, THORN_LIST)?;
+    assert_listed(alloc, SCHEDULE)?;
     Ok(())
 }
 
 #[test]
 fn interfaces_cut_short_are_read_as_they_are_derived(rt: HostRuntime) -> Result<(), Fail> {
     for (_, text) in interfaces::FILES {
-        assert_cut(&rt, rt.alloc(), INTERFACE, text)?;
+        assert_cut(rt.alloc(), INTERFACE, text)?;
     }
     Ok(())
 }
@@ -193,7 +181,7 @@ fn interfaces_cut_short_are_read_as_they_are_derived(rt: HostRuntime) -> Result<
 #[test]
 fn params_cut_short_are_read_as_they_are_derived(rt: HostRuntime) -> Result<(), Fail> {
     for (_, text, _, _) in params::FILES {
-        assert_cut(&rt, rt.alloc(), PARAMS, text)?;
+        assert_cut(rt.alloc(), PARAMS, text)?;
     }
     Ok(())
 }
@@ -201,7 +189,7 @@ fn params_cut_short_are_read_as_they_are_derived(rt: HostRuntime) -> Result<(), 
 #[test]
 fn schedules_cut_short_are_read_as_they_are_derived(rt: HostRuntime) -> Result<(), Fail> {
     for (_, text, _, _) in schedules::SAMPLES {
-        assert_cut(&rt, rt.alloc(), SCHEDULE, text)?;
+        assert_cut(rt.alloc(), SCHEDULE, text)?;
     }
     Ok(())
 }

@@ -5,12 +5,11 @@ ghost use Rattle.cx_text.specs.declared.token.Style.TheVariants as styles;
 ghost use Rattle.cx_text.specs.Printing.{HasSpelling};
 ghost use Rattle.cx_iface.specs.File.{interface};
 
-use crate::common::words;
+use crate::common::{same, words};
 use cx_iface::{Access, GType, Group, Interface, print_interface, read_interface};
 use cx_text::{CType, CclFault, Style, tokens};
 use sample_files::{control, diffint, elemca, life2d, waveint};
 use std::alloc::Global;
-use std::process::Abort;
 use std::test::Fail;
 
 /// Texts that are no interface file, and their first fault.
@@ -135,11 +134,11 @@ fn interface(alloc: Global, text: &[u8]) -> Result<Interface, Fail>
     Ok(tree)
 }
 
-fn assert_group(rt: &impl Abort, alloc: Global, group: &Group, want: &Form) -> Result<(), Fail> {
+fn assert_group(alloc: Global, group: &Group, want: &Form) -> Result<(), Fail> {
     let declared = (group.access, group.ctype, group.copies);
-    assert_eq!(rt; declared, want.declared, "group {}", want.name);
+    same(&("group", want.name), &declared, &want.declared)?;
     let kind = (group.gtype, group.dim, group.levels, group.rest.len());
-    assert_eq!(rt; kind, want.kind, "group {}", want.name);
+    same(&("group", want.name), &kind, &want.kind)?;
     let variables = words(alloc, &group.variables)?;
     let texts = (
         group.name.as_slice(),
@@ -148,25 +147,28 @@ fn assert_group(rt: &impl Abort, alloc: Global, group: &Group, want: &Form) -> R
     );
     let (name, text) = (want.name, want.text);
     let wanted = (name.as_bytes(), want.variables.as_bytes(), text.as_bytes());
-    assert_eq!(rt; texts, wanted, "group {name}");
-    Ok(())
+    same(&("group", name), &texts, &wanted)
 }
 
 #[test]
 fn each_form_is_read(rt: HostRuntime) -> Result<(), Fail> {
     let tree = interface(rt.alloc(), FORMS)?;
-    assert_eq!(rt; tree.implements.as_slice(), b"all".as_slice(), "implements");
+    same(
+        &"implements",
+        &tree.implements.as_slice(),
+        &b"all".as_slice(),
+    )?;
     let counts = (tree.inherits.len(), tree.friends.len(), tree.others.len());
-    assert_eq!(rt; counts, (3, 1, 4), "inherits, friends, other lines");
-    assert_eq!(rt; tree.groups.len(), GROUPS.len(), "how many groups");
+    same(&"inherits, friends, other lines", &counts, &(3, 1, 4))?;
+    same(&"how many groups", &tree.groups.len(), &GROUPS.len())?;
     for (group, want) in tree.groups.as_slice().iter().zip(GROUPS) {
-        assert_group(&rt, rt.alloc(), group, want)?;
+        assert_group(rt.alloc(), group, want)?;
     }
     Ok(())
 }
 
 /// A file is printed as a text that says the same.
-fn assert_again(rt: &impl Abort, alloc: Global, name: &str, text: &[u8]) -> Result<(), Fail> {
+fn assert_again(alloc: Global, name: &str, text: &[u8]) -> Result<(), Fail> {
     let tree = interface(alloc, text)?;
     let printed = print_interface(alloc, &tree)?;
     let again = interface(alloc, printed.as_slice())?;
@@ -174,17 +176,15 @@ fn assert_again(rt: &impl Abort, alloc: Global, name: &str, text: &[u8]) -> Resu
         format!(in alloc; "{tree:?}")?,
         format!(in alloc; "{again:?}")?,
     );
-    assert_eq!(rt; one, other, "{name}");
-    Ok(())
+    same(&name, &one, &other)
 }
 
 #[test]
 fn files_are_printed_and_read_again(rt: HostRuntime) -> Result<(), Fail> {
     for (name, text) in FILES {
-        assert_again(&rt, rt.alloc(), name, text)?;
+        assert_again(rt.alloc(), name, text)?;
     }
     let tree = interface(rt.alloc(), PLAIN)?;
     let printed = print_interface(rt.alloc(), &tree)?;
-    assert_eq!(rt; printed.as_slice(), PRINTED, "the plain file");
-    Ok(())
+    same(&"the plain file", &printed.as_slice(), &PRINTED)
 }

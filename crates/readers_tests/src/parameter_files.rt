@@ -1,9 +1,9 @@
 //! Texts of parameter files.
 
+use crate::common::same;
 use cx_parfile::{Settings, base_of, print_parfile, read_parfile};
 use cx_text::{CclFault, Style, Text, tokens};
 use std::alloc::Global;
-use std::process::Abort;
 use std::test::Fail;
 
 const BOX: &[u8] =
@@ -61,15 +61,16 @@ fn owner_of(owner: &Option<Text>) -> &[u8] {
     }
 }
 
-fn assert_active(rt: &impl Abort, settings: &Settings) {
-    assert_eq!(rt; settings.active.len(), ACTIVE.len(), "how many thorns");
+fn assert_active(settings: &Settings) -> Result<(), Fail> {
+    same(&"how many thorns", &settings.active.len(), &ACTIVE.len())?;
     for (thorn, want) in settings.active.as_slice().iter().zip(ACTIVE) {
-        assert_eq!(rt; thorn.as_slice(), want.as_bytes(), "thorn {want}");
+        same(&("thorn", want), &thorn.as_slice(), &want.as_bytes())?;
     }
+    Ok(())
 }
 
-fn assert_settings(rt: &impl Abort, settings: &Settings) {
-    assert_eq!(rt; settings.list.len(), SETTINGS.len(), "how many settings");
+fn assert_settings(settings: &Settings) -> Result<(), Fail> {
+    same(&"how many settings", &settings.list.len(), &SETTINGS.len())?;
     for (setting, want) in settings.list.as_slice().iter().zip(SETTINGS) {
         let (owner, name, index, value, line) = *want;
         let texts = (
@@ -78,10 +79,11 @@ fn assert_settings(rt: &impl Abort, settings: &Settings) {
             setting.value.as_slice(),
         );
         let wanted = (owner.as_bytes(), name.as_bytes(), value.as_bytes());
-        assert_eq!(rt; texts, wanted, "setting {name}");
+        same(&("setting", name), &texts, &wanted)?;
         let place = (setting.index, setting.line);
-        assert_eq!(rt; place, (index, line), "setting {name}");
+        same(&("setting", name), &place, &(index, line))?;
     }
+    Ok(())
 }
 
 #[test]
@@ -89,11 +91,11 @@ fn a_parameter_file_is_read_and_has_its_base_name(rt: HostRuntime) -> Result<(),
     let alloc = rt.alloc();
     let list = tokens(alloc, BOX, Style::Par)?;
     let settings = read_parfile(alloc, &list, &text(alloc, b"box")?)?;
-    assert_active(&rt, &settings);
-    assert_settings(&rt, &settings);
+    assert_active(&settings)?;
+    assert_settings(&settings)?;
     for (file, want) in BASES {
         let base = base_of(alloc, &text(alloc, file.as_bytes())?)?;
-        assert_eq!(rt; base.as_slice(), want.as_bytes(), "{file}");
+        same(&file, &base.as_slice(), &want.as_bytes())?;
     }
     Ok(())
 }
@@ -112,27 +114,20 @@ const PRINTED: &[(&str, &[u8], &[u8])] = &[
     ),
 ];
 
-fn assert_printed(
-    rt: &impl Abort,
-    alloc: Global,
-    name: &str,
-    file: &[u8],
-    want: &[u8],
-) -> Result<(), Fail> {
+fn assert_printed(alloc: Global, name: &str, file: &[u8], want: &[u8]) -> Result<(), Fail> {
     let base = text(alloc, b"box")?;
     let list = tokens(alloc, file, Style::Par)?;
     let settings = read_parfile(alloc, &list, &base)?;
     let printed = print_parfile(alloc, &settings)?;
-    assert_eq!(rt; printed.as_slice(), want, "{name}");
-    Ok(())
+    same(&name, &printed.as_slice(), &want)
 }
 
 #[test]
 fn what_is_printed_is_read_and_printed_again(rt: HostRuntime) -> Result<(), Fail> {
     let alloc = rt.alloc();
     for (name, file, want) in PRINTED {
-        assert_printed(&rt, alloc, name, file, want)?;
-        assert_printed(&rt, alloc, name, want, want)?;
+        assert_printed(alloc, name, file, want)?;
+        assert_printed(alloc, name, want, want)?;
     }
     Ok(())
 }

@@ -5,11 +5,11 @@ ghost use Rattle.cx_text.specs.declared.token.Style.TheVariants as styles;
 ghost use Rattle.cx_text.specs.Printing.{HasSpelling};
 ghost use Rattle.cx_param.specs.Params.{params};
 
+use crate::common::same;
 use cx_param::{ParamDecl, Steer, Value, allows, print_params, read_params};
 use cx_text::{CclFault, List, Style, Text, tokens};
 use sample_files::{control, elemca, life2d, waveint};
 use std::alloc::Global;
-use std::process::Abort;
 use std::test::Fail;
 
 /// Param files of thorns: their names, how many declarations they have, and the text of the last one's default.
@@ -205,42 +205,28 @@ fn allowed(alloc: Global, ptype: &str, block: &str, value: &Value) -> Result<boo
 fn files_are_read_and_printed(rt: HostRuntime) -> Result<(), Fail> {
     for (name, bytes, count, default) in FILES {
         let found = printed_again(rt.alloc(), bytes)?;
-        assert_eq!(rt; found, (*count, true), "{name}");
-        assert!(rt; last_default(rt.alloc(), bytes, default)?, "{name}");
+        same(&name, &found, &(*count, true))?;
+        same(&name, &last_default(rt.alloc(), bytes, default)?, &true)?;
     }
     let decls = declarations(rt.alloc(), elemca::PARAM)?;
     let text = print_params(rt.alloc(), &decls)?;
-    assert_eq!(rt; text.as_slice(), PRINTED, "ElemCA as it is printed");
-    Ok(())
+    same(&"ElemCA as it is printed", &text.as_slice(), &PRINTED)
 }
 
-fn assert_allowed(
-    rt: &impl Abort,
-    alloc: Global,
-    block: &str,
-    n: i64,
-    want: bool,
-) -> Result<(), Fail> {
+fn assert_allowed(alloc: Global, block: &str, n: i64, want: bool) -> Result<(), Fail> {
     let found = allowed(alloc, "INT", block, &Value::Number(n))?;
-    assert_eq!(rt; found, want, "{n} in {block}");
-    Ok(())
+    same(&(n, "in", block), &found, &want)
 }
 
 /// A block allows both ends and nothing beyond them.
-fn assert_ends(
-    rt: &impl Abort,
-    alloc: Global,
-    block: &str,
-    low: i64,
-    high: i64,
-) -> Result<(), Fail> {
+fn assert_ends(alloc: Global, block: &str, low: i64, high: i64) -> Result<(), Fail> {
     for (n, want) in [
         (low.saturating_sub(1), false),
         (low, true),
         (high, true),
         (high.saturating_add(1), false),
     ] {
-        assert_allowed(rt, alloc, block, n, want)?;
+        assert_allowed(alloc, block, n, want)?;
     }
     Ok(())
 }
@@ -266,17 +252,16 @@ const TEXTS: &[(&str, &str, &str, bool)] = &[
 fn numbers_up_to_both_ends_and_texts_are_allowed(rt: HostRuntime) -> Result<(), Fail> {
     let alloc = rt.alloc();
     for (block, n, want) in NUMBERS {
-        assert_allowed(&rt, alloc, block, *n, *want)?;
+        assert_allowed(alloc, block, *n, *want)?;
     }
     for (block, low, high) in ENDS {
-        assert_ends(&rt, alloc, block, *low, *high)?;
+        assert_ends(alloc, block, *low, *high)?;
     }
     for (ptype, block, text, want) in TEXTS {
         let value = Value::Text(Text::from_slice(alloc, text.as_bytes())?);
         let found = allowed(alloc, ptype, block, &value)?;
-        assert_eq!(rt; found, *want, "{text:?} in {ptype} {{ {block} }}");
+        same(&(text, "in", ptype, block), &found, want)?;
     }
     let found = allowed(alloc, "bool", "", &Value::Flag(true))?;
-    assert!(rt; found, "yes in bool {{ }}");
-    Ok(())
+    same(&"yes in bool { }", &found, &true)
 }

@@ -1,5 +1,6 @@
 //! Files of thorns and runs, read and printed.
 
+use crate::common::same;
 use cx_text::{Style, print_tokens, tokens};
 use sample_files::{THORN_LIST, control, diffint, elemca, life2d, waveint};
 use std::alloc::Global;
@@ -67,11 +68,10 @@ fn printed_again(alloc: Global, bytes: &[u8]) -> Result<(usize, bool), Fail> {
 fn files_are_read_and_printed(rt: HostRuntime) -> Result<(), Fail> {
     for (name, bytes, count) in CCL_FILES {
         let found = printed_again(rt.alloc(), bytes)?;
-        assert_eq!(rt; found, (*count, true), "{name}");
+        same(&name, &found, &(*count, true))?;
     }
     let settings = tokens(rt.alloc(), PARAMETER_FILE, Style::Par)?;
-    assert_eq!(rt; settings.len(), 4 * 17, "the parameter file");
+    same(&"the parameter file", &settings.len(), &(4 * 17))?;
     let thorns = tokens(rt.alloc(), THORN_LIST, Style::Thorns)?;
-    assert_eq!(rt; thorns.len(), 2 * 7, "the list of seven thorns");
-    Ok(())
+    same(&"the list of seven thorns", &thorns.len(), &(2 * 7))
 }

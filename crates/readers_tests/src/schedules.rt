@@ -5,12 +5,12 @@ ghost use Rattle.cx_text.specs.declared.token.Style.TheVariants as styles;
 ghost use Rattle.cx_text.specs.Printing.{HasSpelling};
 ghost use Rattle.cx_sched.specs.Nodes.{schedule};
 
+use crate::common::same;
 use cx_plan::Region;
 use cx_sched::{Block, Node, Ref, ScheduleFile, Spot, print_schedule, read_schedule};
 use cx_text::{CclFault, List, Style, Text, tokens};
 use sample_files::{control, diffint, elemca, life2d, waveint};
 use std::alloc::Global;
-use std::process::Abort;
 use std::test::Fail;
 
 /// A file with every node, clause and line.
@@ -288,16 +288,14 @@ fn push_lines(alloc: Global, out: &mut Vec<u8>, block: &Block) -> Result<(), Fai
     Ok(())
 }
 
-fn assert_block(rt: &impl Abort, alloc: Global, block: &Block, want: &[u8]) -> Result<(), Fail> {
+fn assert_block(alloc: Global, block: &Block, want: &[u8]) -> Result<(), Fail> {
     let mut shown = Vec::new(alloc);
     push_head(alloc, &mut shown, block)?;
     push_lines(alloc, &mut shown, block)?;
-    assert_eq!(rt; shown.as_slice(), want, "block {:?}", block.name);
-    Ok(())
+    same(&("block", &block.name), &shown.as_slice(), &want)
 }
 
 fn assert_storage(
-    rt: &impl Abort,
     alloc: Global,
     place: &str,
     groups: &List<(Ref, Option<u32>)>,
@@ -307,8 +305,7 @@ fn assert_storage(
     for (name, levels) in groups.as_slice() {
         push_ref(alloc, &mut shown, name, *levels)?;
     }
-    assert_eq!(rt; shown.as_slice(), want, "STORAGE {place}");
-    Ok(())
+    same(&("STORAGE", place), &shown.as_slice(), &want)
 }
 
 #[test]
@@ -321,19 +318,19 @@ fn each_form_is_read(rt: HostRuntime) -> Result<(), Fail> {
         Node::Cond { yes, no, .. },
     ] = file.items.as_slice()
     else {
-        panic!(rt; "other nodes at the top");
+        return Err(Fail::new("other nodes at the top"));
     };
-    assert_storage(&rt, alloc, "at the top", groups, b" ca::cells[1] counts")?;
-    assert_block(&rt, alloc, steps, STEPS)?;
-    assert!(rt; no.is_empty(), "the outer IF has no ELSE");
+    assert_storage(alloc, "at the top", groups, b" ca::cells[1] counts")?;
+    assert_block(alloc, steps, STEPS)?;
+    same(&"the outer IF has no ELSE", &no.is_empty(), &true)?;
     let [Node::Cond { yes, no, .. }] = yes.as_slice() else {
-        panic!(rt; "another body of the outer IF");
+        return Err(Fail::new("another body of the outer IF"));
     };
     let ([Node::Storage(groups)], [Node::Block(step)]) = (yes.as_slice(), no.as_slice()) else {
-        panic!(rt; "other bodies of the inner IF");
+        return Err(Fail::new("other bodies of the inner IF"));
     };
-    assert_storage(&rt, alloc, "in the inner IF", groups, b" evens[2]")?;
-    assert_block(&rt, alloc, step, STEP)
+    assert_storage(alloc, "in the inner IF", groups, b" evens[2]")?;
+    assert_block(alloc, step, STEP)
 }
 
 /// How many nodes a file has at its top, and how many of them are blocks.
@@ -352,12 +349,12 @@ fn files_are_printed_and_read_again(rt: HostRuntime) -> Result<(), Fail> {
     for (name, text, want) in PRINTED {
         let file = file_of(rt.alloc(), text)?;
         let printed = print_schedule(rt.alloc(), &file)?;
-        assert_eq!(rt; printed.as_slice(), *want, "{name}");
+        same(&name, &printed.as_slice(), want)?;
     }
     for (name, text, nodes, blocks) in SAMPLES {
-        assert!(rt; is_printed_again(rt.alloc(), text)?, "{name}");
+        same(&name, &is_printed_again(rt.alloc(), text)?, &true)?;
         let file = file_of(rt.alloc(), text)?;
-        assert_eq!(rt; counts(&file), (*nodes, *blocks), "{name}");
+        same(&name, &counts(&file), &(*nodes, *blocks))?;
     }
     Ok(())
 }
@@ -398,7 +395,7 @@ fn limits_hold(rt: HostRuntime) -> Result<(), Fail> {
         let most = fault_of(alloc, line, *times, last)?;
         let more = fault_of(alloc, line, times.saturating_add(1), last)?;
         let want = (None, Some(*fault));
-        assert_eq!(rt; (most, more), want, "{times} times {line:?}");
+        same(&(times, "times", line), &(most, more), &want)?;
     }
     Ok(())
 }

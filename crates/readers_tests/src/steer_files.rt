@@ -1,5 +1,6 @@
 //! Texts of steer files.
 
+use crate::common::same;
 use cx_parfile::read_steer;
 use cx_text::{CclFault, Style, Text, tokens};
 use std::test::Fail;
@@ -58,7 +59,7 @@ fn owner_of(owner: &Option<Text>) -> &[u8] {
 fn a_steer_file_is_read(rt: HostRuntime) -> Result<(), Fail> {
     let alloc = rt.alloc();
     let lines = read_steer(alloc, &tokens(alloc, FILE, Style::Par)?)?;
-    assert_eq!(rt; lines.len(), LINES.len(), "how many lines");
+    same(&"how many lines", &lines.len(), &LINES.len())?;
     for (line, want) in lines.as_slice().iter().zip(LINES) {
         let (at, owner, name, index, value, number) = *want;
         let setting = &line.setting;
@@ -68,9 +69,9 @@ fn a_steer_file_is_read(rt: HostRuntime) -> Result<(), Fail> {
             setting.value.as_slice(),
         );
         let wanted = (owner.as_bytes(), name.as_bytes(), value.as_bytes());
-        assert_eq!(rt; texts, wanted, "line {number}");
+        same(&("line", number), &texts, &wanted)?;
         let place = (line.at, setting.index, setting.line);
-        assert_eq!(rt; place, (at, index, number), "line {number}");
+        same(&("line", number), &place, &(at, index, number))?;
     }
     Ok(())
 }

@@ -1,7 +1,7 @@
 //! Texts and their tokens.
 
+use crate::common::same;
 use cx_text::{Kind, Style, TextFault, Token, tokens};
-use std::process::Abort;
 use std::test::Fail;
 
 type Spelling<'a> = (Kind, &'a [u8], u32);
@@ -92,26 +92,26 @@ const FAULTS: &[(Style, &str, TextFault)] = &[
     (Style::Thorns, "\n\n\x0b", TextFault::BadByte(3)),
 ];
 
-fn assert_spelled(rt: &impl Abort, list: &[Token], want: &[Spelling], name: &str) {
-    assert_eq!(rt; list.len(), want.len(), "how many tokens: {name}");
+fn assert_spelled(list: &[Token], want: &[Spelling], name: &str) -> Result<(), Fail> {
+    same(&("how many tokens", name), &list.len(), &want.len())?;
     for (place, (token, (kind, text, line))) in list.iter().zip(want).enumerate() {
         let found = (token.kind, token.text.as_slice(), token.line);
-        assert_eq!(rt; found, (*kind, *text, *line), "token {place}: {name}");
+        same(&("token", place, name), &found, &(*kind, *text, *line))?;
     }
+    Ok(())
 }
 
 #[test]
 fn texts_have_these_tokens_or_faults(rt: HostRuntime) -> Result<(), Fail> {
     for (name, style, text, want) in TEXTS {
         let list = tokens(rt.alloc(), text, *style)?;
-        assert_spelled(&rt, list.as_slice(), want, name);
+        assert_spelled(list.as_slice(), want, name)?;
     }
     for (style, text, want) in FAULTS {
         let fault = tokens(rt.alloc(), text.as_bytes(), *style).err();
-        assert_eq!(rt; fault, Some(*want), "{text:?} as {style:?}");
+        same(&(text, "as", style), &fault, &Some(*want))?;
     }
     let long = vec![in rt.alloc(); b' '; 1_048_577]?;
     let fault = tokens(rt.alloc(), &long, Style::Par).err();
-    assert_eq!(rt; fault, Some(TextFault::TooLong), "1,048,577 blanks");
-    Ok(())
+    same(&"1,048,577 blanks", &fault, &Some(TextFault::TooLong))
 }
