@@ -29,7 +29,11 @@ fn folders_tell_what_was_done(rt: HostRuntime) -> Result<(), Fail> {
     disk.sync(OLD_OUTPUT)?;
     let folder = disk.into_inner();
     let found = folder.bytes(b"out/output.asc");
-    assert_eq!(rt; found, b"0123".as_slice(), "the bytes under the file's path");
+    assert_eq!(rt;
+        found,
+        b"0123".as_slice(),
+        "the bytes under the file's path"
+    );
     // The file was made, written and synced, and then both folders were.
     assert_eq!(rt; folder.events().len(), 5, "the events");
     Ok(())
