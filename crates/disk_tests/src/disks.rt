@@ -2,7 +2,6 @@
 ghost use Rattle.std.specs.Prelude.{◌≡◌, IsTrue, OnOk};
 ghost use Rattle.cx_disk.specs.Disk.{files_in};
 
-use crate::common::same;
 use cx_disk::{
     Disk, DiskFault, FolderDisk, MemoryDisk, NotingDisk, OLD_OUTPUT, RECOMBINED, SLOTS, chunk,
     named_output, put, read_whole, rewrite, trim,
@@ -14,6 +13,7 @@ use std::fs;
 use std::rc::Rc;
 use std::rt::Files;
 use std::test::Fail;
+use test_cases::same;
 
 /// A disk in memory whose slot 0 has these bytes.
 fn one_file(alloc: Global, bytes: &[u8]) -> Result<MemoryDisk, Fail> {

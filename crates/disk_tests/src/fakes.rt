@@ -1,10 +1,10 @@
 //! Disks that fail, and what a crash may leave of them.
 
-use crate::common::same;
 use cx_disk::{Disk, DiskFault, FailingDisk, FuseDisk, MemoryDisk, OLD_OUTPUT, put};
 use cx_text::{List, Memory, Text};
 use std::alloc::Global;
 use std::test::Fail;
+use test_cases::same;
 
 // The choices whose images are looked at for torn changes.
 const CHOICES: u64 = 32;

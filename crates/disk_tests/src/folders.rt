@@ -3,13 +3,13 @@ ghost use Rattle.std.specs.Prelude.{◌≡◌, length, IfOk, IsTrue};
 ghost use Rattle.cx_disk.specs.Disk.{files_in};
 ghost use Rattle.cx_disk.specs.Files.{IsFile};
 
-use crate::common::same;
 use crate::memory::MemoryFolder;
 use cx_disk::{Disk, DiskFault, OLD_OUTPUT, RECOMBINED, SLOTS, chunk, named_output};
 use cx_folder::FolderDisk;
 use cx_text::{List, Text};
 use std::alloc::Global;
 use std::test::Fail;
+use test_cases::same;
 
 /// The name of one output.
 fn one_name(alloc: Global, name: &str) -> Result<List<Text>, Fail>

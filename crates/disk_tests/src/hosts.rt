@@ -2,13 +2,13 @@
 ghost use Rattle.std.specs.Prelude.{◌≡◌, IsTrue, OnOk};
 ghost use Rattle.cx_disk.specs.Disk.{files_in};
 
-use crate::common::same;
 use cx_disk::{Disk, DiskFault, OLD_OUTPUT, SLOTS, named_output, rewrite};
 use cx_folder::{Folder, FolderDisk, HostFolder};
 use cx_text::{List, Text};
 use std::alloc::Global;
 use std::fs;
 use std::test::Fail;
+use test_cases::same;
 
 // A disk over folders of the host, which isn't mounted.
 fn host_disk(rt: HostRuntime) -> FolderDisk<HostFolder<HostRuntime>> {

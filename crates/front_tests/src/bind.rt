@@ -1,12 +1,13 @@
 //! Thorns by their files, selected and bound, and the faults of thorns that don't fit each other.
 
-use crate::common::{Files, bound, message, same, text, thorns};
+use crate::common::{Files, bound, message, text, thorns};
 use cx_bind::{bind, select};
 use cx_conf::read_thornlist;
 use cx_text::{List, Style, Text, tokens};
 use sample_files::{control, diffint, elemca, life2d, waveint};
 use std::alloc::Global;
 use std::test::Fail;
+use test_cases::same;
 
 const ELEMCA: Files = (b"ElemCA", elemca::INTERFACE, elemca::PARAM, b"");
 

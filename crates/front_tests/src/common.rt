@@ -1,4 +1,4 @@
-//! One comparison for all cases, thorns by their files, and the messages of faults.
+//! Thorns by their files, settings, and the messages of faults.
 
 use cx_bind::{Bound, Thorn, bind};
 use cx_conf::read_configuration;
@@ -7,7 +7,7 @@ use cx_param::read_params;
 use cx_parfile::{Settings, read_parfile};
 use cx_text::{List, Style, Text, tokens};
 use std::alloc::Global;
-use std::fmt::{Debug, Display};
+use std::fmt::Display;
 use std::test::Fail;
 
 /// A thorn's name, and its interface, param and configuration files.
@@ -51,16 +51,4 @@ pub(crate) fn message<F: Display>(alloc: Global, fault: &F) -> Result<Text, Fail
 pub(crate) fn settings(alloc: Global, file: &str) -> Result<Settings, Fail> {
     let list = tokens(alloc, file.as_bytes(), Style::Par)?;
     Ok(read_parfile(alloc, &list, &text(alloc, b"box")?)?)
-}
-
-/// Fails, naming the case, if what was found isn't what the case wants.
-pub(crate) fn same<C: Debug, T: PartialEq + Debug>(
-    case: &C,
-    found: &T,
-    want: &T,
-) -> Result<(), Fail> {
-    if found == want {
-        return Ok(());
-    }
-    Err(Fail::new(format_args!("{case:?}: found {found:?}, and not {want:?}")))
 }

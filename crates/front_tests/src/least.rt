@@ -1,10 +1,10 @@
 //! Numbers with pairs, and their least orders or cycles, worked out by hand.
 
-use crate::common::same;
 use cx_order_least::{Sorted, least_order};
 use cx_text::List;
 use std::alloc::Global;
 use std::test::Fail;
+use test_cases::same;
 
 /// How many numbers there are, pairs of them, and the least order.
 const ORDERS: &[(usize, &[(usize, usize)], &[usize])] = &[

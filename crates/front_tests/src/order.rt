@@ -1,6 +1,6 @@
 //! Schedules of bound thorns, and what ordering says of them.
 
-use crate::common::{Files, bound, message, same, settings, text};
+use crate::common::{Files, bound, message, settings, text};
 use cx_order::{OrderFault, Ordered, order};
 use cx_sched::{ScheduleFile, read_schedule};
 use cx_text::{List, Style, Text, tokens};
@@ -8,6 +8,7 @@ use cx_values::assign;
 use sample_files::elemca;
 use std::alloc::Global;
 use std::test::Fail;
+use test_cases::same;
 
 /// The automaton.
 const AUTOMATON: Files = (b"ElemCA", elemca::INTERFACE, elemca::PARAM, b"");

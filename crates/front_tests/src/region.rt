@@ -5,7 +5,6 @@ ghost use Rattle.cx_plan.specs.Whole.{IsWhole};
 ghost use Rattle.cx_plan.specs.declared.tree.Tree.TheVariants as trees;
 ghost use Rattle.front_tests.specs.RegionSamples.{info_of, sample, sample_items, sample_variables, item_of, touch, switch as on, wave, whiles, nothing};
 
-use crate::common::same;
 use cx_grid::{Point, Shape};
 use cx_plan::{
     Cuts, Flag, Item, ItemKind, Job, Recover, Region, Schedule, Touch, Tree, VarId, VarInfo,
@@ -14,6 +13,7 @@ use cx_region::{RegionFault, check};
 use cx_text::{Boxed, CType, List, Memory, Text};
 use std::alloc::Global;
 use std::test::Fail;
+use test_cases::same;
 
 const WAVE: VarId = VarId(0);
 

@@ -1,6 +1,6 @@
 //! Names in bound configurations.
 
-use crate::common::{Files, bound, message, same, text};
+use crate::common::{Files, bound, message, text};
 use cx_bind::Bound;
 use cx_plan::VarId;
 use cx_sched::Ref;
@@ -8,6 +8,7 @@ use cx_scope::{group_of, resolve};
 use cx_text::{List, Text};
 use std::alloc::Global;
 use std::test::Fail;
+use test_cases::same;
 
 /// A name: what stands before `::`, the name, and the number in brackets.
 type Name = (Option<&'static str>, &'static str, Option<u32>);

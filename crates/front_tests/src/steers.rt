@@ -1,12 +1,13 @@
 //! Steps of parameters by the lines of steer files, and the faults of lines.
 
-use crate::common::{Files, bound, message, same, settings, text};
+use crate::common::{Files, bound, message, settings, text};
 use crate::values::words;
 use cx_parfile::read_steer;
 use cx_text::{List, Style, Text, tokens};
 use cx_values::{SteerStep, ValueFault, assign, steer};
 use std::alloc::Global;
 use std::test::Fail;
+use test_cases::same;
 
 const WAVE: Files = (
     b"WaveInt",

@@ -1,12 +1,13 @@
 //! Values that parameter files give the parameters of some thorns, and the faults of settings.
 
-use crate::common::{Files, bound, message, same, settings, text};
+use crate::common::{Files, bound, message, settings, text};
 use cx_expr::{eval, read_expr};
 use cx_param::Value;
 use cx_text::{Style, Text, tokens};
 use cx_values::{ValueFault, Values, assign};
 use std::alloc::Global;
 use std::test::Fail;
+use test_cases::same;
 
 const ELEMCA: Files = (
     b"ElemCA",
@@ -187,11 +188,7 @@ pub(crate) fn words(alloc: Global, value: &Value) -> Result<Text, Fail> {
 }
 
 /// Whether a parameter has this value and this number.
-fn is_told(
-    alloc: Global,
-    answer: &Result<Values, ValueFault>,
-    told: &Told,
-) -> Result<bool, Fail> {
+fn is_told(alloc: Global, answer: &Result<Values, ValueFault>, told: &Told) -> Result<bool, Fail> {
     let Ok(values) = answer else {
         return Ok(false);
     };

@@ -5,13 +5,13 @@ ghost use Rattle.cx_cut.specs.Faults.{cut_fault};
 ghost use Rattle.cx_plan.specs.Whole.{IsWhole};
 ghost use Rattle.cx_run_chunks.specs.Commands.{parts_in};
 
-use crate::common::same;
 use crate::samples::{CELLS, FIRST, LIVE, SECOND, disk, whole_job};
 use cx_disk::{Disk, MemoryDisk};
 use cx_plan::Job;
 use cx_run_chunks::{ChunksFault, chunk, recombine};
 use std::alloc::Global;
 use std::test::Fail;
+use test_cases::same;
 
 /// The words of a fault.
 fn fault_words(alloc: Global, fault: &ChunksFault) -> Result<String, Fail> {

@@ -1,10 +1,10 @@
 //! Texts and their records, and texts that are no output.
 
-use crate::common::same;
 use cx_ascii_read::{Record, read_output};
 use cx_text::Memory;
 use std::alloc::Global;
 use std::test::Fail;
+use test_cases::same;
 
 // A text that is one record, and this record.
 struct Example {

@@ -5,8 +5,6 @@
 #[cfg(test)]
 mod commands;
 #[cfg(test)]
-mod common;
-#[cfg(test)]
 mod examples;
 #[cfg(test)]
 mod pieces;

@@ -1,8 +1,8 @@
 //! Bytes that are chunks, and others.
 
-use crate::common::same;
 use cx_chunks::read_chunk;
 use std::test::Fail;
+use test_cases::same;
 
 // Why bytes are a chunk of so many pieces, or none.
 struct Case {

@@ -4,13 +4,13 @@ ghost use Rattle.std.specs.Prelude.{◌≡◌};
 ghost use Rattle.cx_grid.specs.Boxes.{point_count};
 ghost use Rattle.cx_grid.specs.Grid.{IsShape, whole};
 
-use crate::common::same;
 use cx_ascii::{scalar_line, section};
 use cx_ascii_read::{Record, read_output};
 use cx_grid::{Point, Shape};
 use cx_text::{Memory, Text};
 use std::alloc::Global;
 use std::test::Fail;
+use test_cases::same;
 
 /// A plate of two times three points, periodic along x.
 fn plate() -> Shape

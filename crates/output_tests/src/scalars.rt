@@ -2,13 +2,13 @@
 
 ghost use Rattle.std.specs.Prelude.{◌≤◌, length, IfOk};
 
-use crate::common::same;
 use crate::samples::whole_job;
 use cx_plan::{Job, VarId, VarInfo};
 use cx_run_made::{live_variable, scalar_named};
 use cx_text::{CType, List, Text};
 use std::alloc::Global;
 use std::test::Fail;
+use test_cases::same;
 
 fn variables(alloc: Global) -> Result<List<VarInfo>, Fail>
     ensures { IfOk result (λ variables. length variables ≤ 256) }

@@ -1,10 +1,10 @@
 //! Outputs of several variables, split by their names.
 
-use crate::common::same;
 use cx_ascii_read::split;
 use cx_text::{List, Memory, Text};
 use std::alloc::Global;
 use std::test::Fail;
+use test_cases::same;
 
 // An output, the names by which it is split, and the texts of these names; none where it isn't split.
 struct Split {

@@ -1,12 +1,12 @@
 //! Commands that are stopped at each of their calls, and images that a crash may leave of each.
 
 use crate::commands::{has_outputs, words};
-use crate::common::same;
 use crate::samples::{CELLS, FIRST, LIVE, SECOND, disk};
 use cx_disk::{FailingDisk, FuseDisk, MemoryDisk};
 use cx_text::List;
 use std::alloc::Global;
 use std::test::Fail;
+use test_cases::same;
 
 // Images of each stop.
 const CHOICES: u64 = 8;

@@ -5,7 +5,6 @@ ghost use Rattle.cx_plan.specs.Whole.{IsVariable};
 ghost use Rattle.cx_cut.specs.Cuts.{part_count};
 ghost use Rattle.cx_chunks.specs.Laws.{IsCutOf};
 
-use crate::common::same;
 use crate::samples::{CELLS, FIRST, LIVE, SECOND, cut_of, whole_job};
 use cx_ascii_read::{Record, read_output};
 use cx_chunks::{ChunkFault, Piece, combine, cut_records, read_chunk};
@@ -14,6 +13,7 @@ use cx_plan::Job;
 use cx_text::{List, Memory, Text};
 use std::alloc::Global;
 use std::test::Fail;
+use test_cases::same;
 
 // Two chunks, and the whole text or the fault's words.
 struct Case {

@@ -5,11 +5,12 @@ ghost use Rattle.cx_text.specs.declared.token.Style.TheVariants as styles;
 ghost use Rattle.cx_text.specs.Printing.{HasSpelling};
 ghost use Rattle.cx_conf.specs.Conf.{configuration};
 
-use crate::common::{same, words};
+use crate::common::words;
 use cx_conf::{Configuration, print_configuration, read_configuration, read_thornlist};
 use cx_text::{CclFault, Style, tokens};
 use std::alloc::Global;
 use std::test::Fail;
+use test_cases::same;
 
 /// A configuration file with each kind of entry, and the four lists that it spells.
 pub const FILE: &[u8] =

@@ -6,11 +6,11 @@ ghost use Rattle.cx_text.specs.Printing.{HasSpelling};
 ghost use Rattle.cx_expr.specs.Exprs.{expression};
 ghost use Rattle.cx_expr.specs.Known.{NumberOf, TextOf, Nothing};
 
-use crate::common::same;
 use cx_expr::{Expr, ExprFault, Found, Lookup, eval, print_expr, read_expr};
 use cx_text::{CclFault, Style, Text, tokens};
 use std::alloc::Global;
 use std::test::Fail;
+use test_cases::same;
 
 /// Each name stands for the number 5.
 struct Five;

@@ -1,6 +1,5 @@
 //! The first faults of all kinds of files, with their lines.
 
-use crate::common::same;
 use crate::{configurations, interfaces, parameter_files, params, schedules, steer_files};
 use cx_conf::{read_configuration, read_thornlist};
 use cx_iface::read_interface;
@@ -10,6 +9,7 @@ use cx_sched::read_schedule;
 use cx_text::{CclFault, List, Memory, Style, Text, Token, tokens};
 use std::alloc::Global;
 use std::test::Fail;
+use test_cases::same;
 
 /// What a text is read as.
 #[derive(Clone, Copy, Debug)]

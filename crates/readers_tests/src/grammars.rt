@@ -1,6 +1,5 @@
 //! Readers compared with tables of rules, on lists of tokens and on files that are cut anywhere.
 
-use crate::common::same;
 use crate::configuration_rules::{CONFIGURATION, THORN_LIST};
 use crate::derivations::{Rules, fault};
 use crate::faults::{Kind as File, fault_in, style_of};
@@ -11,6 +10,7 @@ use crate::{interfaces, params, schedules};
 use cx_text::{Kind, List, Memory, Text, Token, tokens};
 use std::alloc::Global;
 use std::test::Fail;
+use test_cases::same;
 
 /// A grammar as a table of rules, whose letters are tokens, and what its reader is tried with.
 pub struct Grammar {

@@ -5,12 +5,13 @@ ghost use Rattle.cx_text.specs.declared.token.Style.TheVariants as styles;
 ghost use Rattle.cx_text.specs.Printing.{HasSpelling};
 ghost use Rattle.cx_iface.specs.File.{interface};
 
-use crate::common::{same, words};
+use crate::common::words;
 use cx_iface::{Access, GType, Group, Interface, print_interface, read_interface};
 use cx_text::{CType, CclFault, Style, tokens};
 use sample_files::{control, diffint, elemca, life2d, waveint};
 use std::alloc::Global;
 use std::test::Fail;
+use test_cases::same;
 
 /// Texts that are no interface file, and their first fault.
 pub const FAULTS: &[(&str, CclFault)] = &[

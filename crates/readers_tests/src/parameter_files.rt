@@ -1,10 +1,10 @@
 //! Texts of parameter files.
 
-use crate::common::same;
 use cx_parfile::{Settings, base_of, print_parfile, read_parfile};
 use cx_text::{CclFault, Style, Text, tokens};
 use std::alloc::Global;
 use std::test::Fail;
+use test_cases::same;
 
 const BOX: &[u8] =
     b"!DESC \"Waves in a box of forty points\"\nActiveThorns = \"PUGH IOUtil\"\nActiveThorns = \"WaveInt,pugh\n ElemCA\"\n\nCactus::terminate = \"iteration\" # comment\nwave::amount=5\nIO::out_dir = $parfile\nactivethorns[7] = \"\"\nx [1023] = \"$parfile \"\n";

@@ -5,12 +5,12 @@ ghost use Rattle.cx_text.specs.declared.token.Style.TheVariants as styles;
 ghost use Rattle.cx_text.specs.Printing.{HasSpelling};
 ghost use Rattle.cx_param.specs.Params.{params};
 
-use crate::common::same;
 use cx_param::{ParamDecl, Steer, Value, allows, print_params, read_params};
 use cx_text::{CclFault, List, Style, Text, tokens};
 use sample_files::{control, elemca, life2d, waveint};
 use std::alloc::Global;
 use std::test::Fail;
+use test_cases::same;
 
 /// Param files of thorns: their names, how many declarations they have, and the text of the last one's default.
 pub const FILES: &[(&str, &[u8], usize, &[u8])] = &[

@@ -1,10 +1,10 @@
 //! Files of thorns and runs, read and printed.
 
-use crate::common::same;
 use cx_text::{Style, print_tokens, tokens};
 use sample_files::{THORN_LIST, control, diffint, elemca, life2d, waveint};
 use std::alloc::Global;
 use std::test::Fail;
+use test_cases::same;
 
 /// Files of the sample thorns, and how many tokens they have.
 const CCL_FILES: &[(&str, &[u8], usize)] = &[

@@ -5,13 +5,13 @@ ghost use Rattle.cx_text.specs.declared.token.Style.TheVariants as styles;
 ghost use Rattle.cx_text.specs.Printing.{HasSpelling};
 ghost use Rattle.cx_sched.specs.Nodes.{schedule};
 
-use crate::common::same;
 use cx_plan::Region;
 use cx_sched::{Block, Node, Ref, ScheduleFile, Spot, print_schedule, read_schedule};
 use cx_text::{CclFault, List, Style, Text, tokens};
 use sample_files::{control, diffint, elemca, life2d, waveint};
 use std::alloc::Global;
 use std::test::Fail;
+use test_cases::same;
 
 /// A file with every node, clause and line.
 pub const FORMS: &[u8] = br#"# forms

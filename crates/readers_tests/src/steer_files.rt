@@ -1,9 +1,9 @@
 //! Texts of steer files.
 
-use crate::common::same;
 use cx_parfile::read_steer;
 use cx_text::{CclFault, Style, Text, tokens};
 use std::test::Fail;
+use test_cases::same;
 
 const FILE: &[u8] = b"# steps\n@1 wave::factor = 0\n@0000002 edge[1023] = \"a b\"\n\n\
     @2 ActiveThorns = $parfile\n@1000000 wave::factor = x";

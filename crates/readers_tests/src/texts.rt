@@ -1,8 +1,8 @@
 //! Texts and their tokens.
 
-use crate::common::same;
 use cx_text::{Kind, Style, TextFault, Token, tokens};
 use std::test::Fail;
+use test_cases::same;
 
 type Spelling<'a> = (Kind, &'a [u8], u32);
 

@@ -2,11 +2,11 @@
 
 ghost use Rattle.std.specs.Prelude.{◌≡◌};
 
-use crate::common::same;
 use crate::counter::{Counter, Tally};
 use cx_batch::drive;
 use std::alloc::Global;
 use std::test::Fail;
+use test_cases::same;
 
 /// Three counters' turns, and whose turns come one after another.
 const ROWS: &[([u64; 3], &[usize])] = &[

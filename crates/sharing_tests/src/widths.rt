@@ -3,10 +3,10 @@
 ghost use Rattle.std.specs.Prelude.{◌≤◌, ◌^◌, All, IsTrue};
 ghost use Rattle.cx_balance.specs.Choosing.{CanChoose};
 
-use crate::common::same;
 use cx_balance::choose;
 use cx_text::List;
 use std::test::Fail;
+use test_cases::same;
 
 const ROWS: &[(&[u128], u32, u32, &[u32])] = &[
     (&[1, 1, 1, 1, 8, 8, 1, 1], 2, 1, &[5, 3]),
