@@ -9,7 +9,9 @@ use std::test::Fail;
 use test_cases::same;
 
 /// Three counters' turns, and whose turns come one after another.
-const ROWS: &[([u64; 3], &[usize])] = &[
+type Row = ([u64; 3], &'static [usize]);
+
+const ROWS: &[Row] = &[
     ([0, 0, 0], &[]),
     ([0, 2, 0], &[1, 1]),
     ([2, 2, 2], &[0, 1, 2, 0, 1, 2]),
@@ -39,16 +41,31 @@ fn run(alloc: Global, [first, second, third]: [u64; 3]) -> Result<(Vec<Counter>,
     Ok((counters, tally))
 }
 
+/// What is left of each counter, and what it has counted.
+fn work_of(alloc: Global, counters: &[Counter]) -> Result<Vec<(u64, u64)>, Fail> {
+    let mut work = Vec::new(alloc);
+    for counter in counters {
+        work.push((counter.left, counter.counted))?;
+    }
+    Ok(work)
+}
+
+/// Counters of a row's lengths take its turns, and count all.
+fn take_turns(alloc: Global, row: &Row) -> Result<(), Fail> {
+    let (lengths, turns) = *row;
+    let (counters, tally) = run(alloc, lengths)?;
+    same(&("turns of", lengths), &tally.turns.as_slice(), &turns)?;
+    same(&("count of", lengths), &tally.count, &(turns.len() as u64))?;
+    let work = work_of(alloc, &counters)?;
+    let [first, second, third] = lengths;
+    let want = [(0, first), (0, second), (0, third)];
+    same(&("work of", lengths), &work.as_slice(), &want.as_slice())
+}
+
 #[test]
 fn counters_take_turns_until_all_are_over(rt: HostRuntime) -> Result<(), Fail> {
-    for (lengths, turns) in ROWS {
-        let (counters, tally) = run(rt.alloc(), *lengths)?;
-        same(lengths, &tally.turns.as_slice(), turns)?;
-        same(&("count of", lengths), &tally.count, &(turns.len() as u64))?;
-        for (counter, length) in counters.iter().zip(lengths) {
-            let found = (counter.left, counter.counted);
-            same(&("work of", lengths), &found, &(0, *length))?;
-        }
+    for row in ROWS {
+        take_turns(rt.alloc(), row)?;
     }
     Ok(())
 }
