@@ -4,7 +4,6 @@ use cx_disk::{Disk, DiskFault, FailingDisk, FuseDisk, MemoryDisk, OLD_OUTPUT, pu
 use cx_text::{List, Memory, Text};
 use std::alloc::Global;
 use std::test::Fail;
-use test_cases::same;
 
 // The choices whose images are looked at for torn changes.
 const CHOICES: u64 = 32;
@@ -83,12 +82,12 @@ fn failing_disk_goes_on(rt: HostRuntime) -> Result<(), Fail> {
     ];
     for (fail, done, bytes) in cases {
         let (disk, found) = after_failure(alloc, *fail)?;
-        same(&("call", fail, "fails"), &found, done)?;
-        same(
-            &("call", fail, "fails"),
-            &disk.bytes(OLD_OUTPUT as usize),
-            bytes,
-        )?;
+        assert!(rt; found == *done, "call {fail} fails");
+        assert_eq!(rt;
+            disk.bytes(OLD_OUTPUT as usize),
+            *bytes,
+            "call {fail} fails"
+        );
     }
     Ok(())
 }
@@ -99,12 +98,12 @@ fn image_has_what_is_synced(rt: HostRuntime) -> Result<(), Fail> {
     let cases: &[(u64, &[u8])] = &[(0, b""), (1, b"loose")];
     for (choice, bytes) in cases {
         let image = synced_image(alloc, *choice)?;
-        same(&("choice", choice), &image.bytes(0), bytes)?;
-        same(
-            &("choice", choice),
-            &image.bytes(OLD_OUTPUT as usize),
-            &b"synced".as_slice(),
-        )?;
+        assert_eq!(rt; image.bytes(0), *bytes, "choice {choice}");
+        assert_eq!(rt;
+            image.bytes(OLD_OUTPUT as usize),
+            b"synced".as_slice(),
+            "choice {choice}"
+        );
     }
     Ok(())
 }
@@ -124,8 +123,9 @@ fn image_is_torn(rt: HostRuntime) -> Result<(), Fail> {
         torn |= bytes != OLD && bytes != NEW;
         between |= (1..4).contains(&image.bytes(1).len());
     }
-    same(&"some image is untouched", &untouched, &true)?;
-    same(&"some image is written", &written, &true)?;
-    same(&"some image is torn", &torn, &true)?;
-    same(&"some cut is between", &between, &true)
+    assert!(rt; untouched, "some image is untouched");
+    assert!(rt; written, "some image is written");
+    assert!(rt; torn, "some image is torn");
+    assert!(rt; between, "some cut is between");
+    Ok(())
 }

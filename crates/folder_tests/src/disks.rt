@@ -9,7 +9,6 @@ use cx_folder::FolderDisk;
 use cx_text::{List, Text};
 use std::alloc::Global;
 use std::test::Fail;
-use test_cases::same;
 
 /// The name of one output.
 fn one_name(alloc: Global, name: &str) -> Result<List<Text>, Fail>
@@ -66,7 +65,7 @@ fn files_have_their_paths(rt: HostRuntime) -> Result<(), Fail> {
     write_path(&mut disk, RECOMBINED, PATHS[6])?;
     let folder = disk.into_inner();
     for path in PATHS {
-        same(&path, &folder.reads(path, path.as_bytes()), &true)?;
+        assert!(rt; folder.reads(path, path.as_bytes()), "{path}");
     }
     Ok(())
 }
@@ -81,11 +80,12 @@ fn a_sync_settles_a_file_and_new_entries(rt: HostRuntime) -> Result<(), Fail> {
     disk.cut(OLD_OUTPUT, 4)?;
     disk.sync(OLD_OUTPUT)?;
     let folder = disk.into_inner();
-    same(
-        &"what the folders were asked",
-        &folder.notes(),
-        &"omwwsffowcs",
-    )
+    assert_eq!(rt;
+        folder.notes(),
+        "omwwsffowcs",
+        "what the folders were asked"
+    );
+    Ok(())
 }
 
 /// Whether a second sync and a later write fail, where one of the calls failed in a first sync.
@@ -110,7 +110,7 @@ fn a_failed_sync_is_not_trusted_again(rt: HostRuntime) -> Result<(), Fail> {
     ];
     for (fail, fails) in cases {
         let found = after_failed_sync(rt.alloc(), *fail)?;
-        same(&("call", fail), &found, fails)?;
+        assert_eq!(rt; found, *fails, "call {fail}");
     }
     Ok(())
 }
@@ -124,7 +124,7 @@ fn two_files_have_two_paths(rt: HostRuntime) -> Result<(), Fail> {
         let names = one_name(alloc, case)?;
         let mut disk = FolderDisk::new(MemoryFolder::new(alloc, 0), alloc);
         let found = disk.mount(&here, &names, &here);
-        same(&case, &found, &Err(DiskFault::Failed))?;
+        assert_eq!(rt; found, Err(DiskFault::Failed), "{case}");
     }
     Ok(())
 }

@@ -7,7 +7,6 @@ use cx_folder::{FolderDisk, MemoryFolder};
 use cx_text::{List, Text};
 use std::alloc::Global;
 use std::test::Fail;
-use test_cases::same;
 
 /// A disk over folders in memory, made for these and mounted on them.
 fn mounted(alloc: Global) -> Result<FolderDisk<MemoryFolder>, Fail>
@@ -29,11 +28,13 @@ fn folders_tell_what_was_done(rt: HostRuntime) -> Result<(), Fail> {
     disk.write_at(OLD_OUTPUT, 0, b"0123")?;
     disk.sync(OLD_OUTPUT)?;
     let folder = disk.into_inner();
-    same(
-        &"the bytes under the file's path",
-        &folder.bytes(b"out/output.asc"),
-        &b"0123".as_slice(),
-    )?;
+    let found = folder.bytes(b"out/output.asc");
+    assert_eq!(rt;
+        found,
+        b"0123".as_slice(),
+        "the bytes under the file's path"
+    );
     // The file was made, written and synced, and then both folders were.
-    same(&"the events", &folder.events().len(), &5)
+    assert_eq!(rt; folder.events().len(), 5, "the events");
+    Ok(())
 }

@@ -8,12 +8,11 @@ use cx_text::{List, Text};
 use std::alloc::Global;
 use std::fs;
 use std::test::Fail;
-use test_cases::same;
 
 // A disk over folders of the host, which isn't mounted.
 fn host_disk(rt: HostRuntime) -> FolderDisk<HostFolder<HostRuntime>> {
     let alloc = rt.alloc();
-    FolderDisk::new(HostFolder::new(alloc), alloc)
+    FolderDisk::new(HostFolder::new(rt, alloc), alloc)
 }
 
 // Mounts these folders, with one output.
@@ -62,7 +61,7 @@ fn a_host_keeps_files(rt: HostRuntime) -> Result<(), Fail> {
         ("new/checkpoint.chkpt.7", "01234567ab"),
     ];
     for (path, bytes) in cases {
-        same(&path, &fs::read_to_string(&rt, path)?.as_str(), bytes)?;
+        assert_eq!(rt; fs::read_to_string(&rt, path)?.as_str(), *bytes, "{path}");
     }
     Ok(())
 }
@@ -70,7 +69,8 @@ fn a_host_keeps_files(rt: HostRuntime) -> Result<(), Fail> {
 #[test]
 fn a_host_reads_ranges(rt: HostRuntime) -> Result<(), Fail> {
     let within = keep_on_host(rt)?;
-    same(&"a range within a file", &within, b"7ab")
+    assert_eq!(rt; within, *b"7ab", "a range within a file");
+    Ok(())
 }
 
 // What a call told.
@@ -110,7 +110,7 @@ fn one_run_has_a_folder(rt: HostRuntime) -> Result<(), Fail> {
         ("another run has the lock", locked),
     ];
     for (case, told) in cases {
-        same(&case, told, &Err(DiskFault::Failed))?;
+        assert_eq!(rt; *told, Err(DiskFault::Failed), "{case}");
     }
     Ok(())
 }
@@ -143,7 +143,8 @@ fn left_on_host(rt: HostRuntime) -> Result<u64, Fail> {
 #[test]
 fn a_run_leaves_its_folder(rt: HostRuntime) -> Result<(), Fail> {
     let left = left_on_host(rt)?;
-    same(&"what the first run wrote", &left, &5)
+    assert_eq!(rt; left, 5, "what the first run wrote");
+    Ok(())
 }
 
 // What a disk is told of names that clash, of ranges that aren't in a file, and of a second mount.
@@ -184,7 +185,7 @@ fn a_host_fails_outside_its_files(rt: HostRuntime) -> Result<(), Fail> {
         ("a second mount", mounted),
     ];
     for (case, told) in cases {
-        same(&case, told, &Err(DiskFault::Failed))?;
+        assert_eq!(rt; *told, Err(DiskFault::Failed), "{case}");
     }
     Ok(())
 }
