@@ -1,5 +1,3 @@
 pub mod JobLaws
 pub mod RunLaws
-mod PartLaws
-mod QueueLaws
 mod UndividedRows

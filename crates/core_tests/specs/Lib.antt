@@ -1,3 +1,2 @@
 pub mod Caps
 pub mod Ends
-pub mod Parts

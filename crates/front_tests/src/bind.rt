@@ -1,13 +1,12 @@
 //! Thorns by their files, selected and bound, and the faults of thorns that don't fit each other.
 
-use crate::common::{Files, bound, message, text, thorns};
-use cx_bind::{bind, select};
+use crate::common::{Files, text, thorns};
+use cx_bind::{BindFault, bind, select};
 use cx_conf::read_thornlist;
 use cx_text::{List, Style, Text, tokens};
 use sample_files::{control, diffint, elemca, life2d, waveint};
 use std::alloc::Global;
 use std::test::Fail;
-use test_cases::same;
 
 const ELEMCA: Files = (b"ElemCA", elemca::INTERFACE, elemca::PARAM, b"");
 
@@ -132,11 +131,61 @@ fn push(words: &mut Text, text: &Text) -> Result<(), Fail> {
     Ok(())
 }
 
+fn of_two(alloc: Global, name: &[u8], a: &Text, b: &Text) -> Result<Text, Fail> {
+    let mut words = text(alloc, name)?;
+    push(&mut words, a)?;
+    push(&mut words, b)?;
+    Ok(words)
+}
+
+fn of_three(alloc: Global, name: &[u8], a: &Text, b: &Text, c: &Text) -> Result<Text, Fail> {
+    let mut words = of_two(alloc, name, a, b)?;
+    push(&mut words, c)?;
+    Ok(words)
+}
+
+fn of_one(alloc: Global, name: &[u8], a: &Text) -> Result<Text, Fail> {
+    let mut words = text(alloc, name)?;
+    push(&mut words, a)?;
+    Ok(words)
+}
+
+fn words(alloc: Global, fault: &BindFault) -> Result<Text, Fail> {
+    match fault {
+        BindFault::UnknownThorn(a) => of_one(alloc, b"UnknownThorn", a),
+        BindFault::TwoThorns(a) => of_one(alloc, b"TwoThorns", a),
+        BindFault::TwoProviders(a, b, c) => of_three(alloc, b"TwoProviders", a, b, c),
+        BindFault::MissingImplementation(a, b) => of_two(alloc, b"MissingImplementation", a, b),
+        BindFault::MissingCapability(a, b) => of_two(alloc, b"MissingCapability", a, b),
+        BindFault::MissingThorn(a, b) => of_two(alloc, b"MissingThorn", a, b),
+        BindFault::NoParameter(a, b, c) => of_three(alloc, b"NoParameter", a, b, c),
+        BindFault::WrongType(a, b) => of_two(alloc, b"WrongType", a, b),
+        BindFault::TwoVariables(a) => of_one(alloc, b"TwoVariables", a),
+        BindFault::TwoParameters(a) => of_one(alloc, b"TwoParameters", a),
+        BindFault::Unsupported(a, b) => of_two(alloc, b"Unsupported", a, b),
+        BindFault::TwoDims(a, b) => of_two(alloc, b"TwoDims", a, b),
+        BindFault::Limit(a, n) => {
+            let number = text(alloc, n.to_string(alloc)?.as_bytes())?;
+            of_two(alloc, b"Limit", a, &number)
+        }
+        BindFault::Memory => text(alloc, b"Memory"),
+    }
+}
+
 fn bound_words(alloc: Global, all: &[Files]) -> Result<Text, Fail> {
     match bind(alloc, thorns(alloc, all)?) {
         Ok(_) => text(alloc, b""),
-        Err(fault) => message(alloc, &fault),
+        Err(fault) => words(alloc, &fault),
     }
+}
+
+#[test]
+fn thorns_fit_or_have_their_first_fault(rt: HostRuntime) -> Result<(), Fail> {
+    for (place, (all, want)) in BINDINGS.iter().enumerate() {
+        let told = bound_words(rt.alloc(), all)?;
+        assert_eq!(rt; told.as_slice(), want.as_bytes(), "row {place}: {want}");
+    }
+    Ok(())
 }
 
 fn selected(alloc: Global, active: &[&[u8]]) -> Result<Text, Fail> {
@@ -148,7 +197,7 @@ fn selected(alloc: Global, active: &[&[u8]]) -> Result<Text, Fail> {
     }
     let places = match select(alloc, &list, &names) {
         Ok(places) => places,
-        Err(fault) => return message(alloc, &fault),
+        Err(fault) => return words(alloc, &fault),
     };
     let mut all = text(alloc, b"")?;
     for (arrangement, thorn) in places.as_slice() {
@@ -158,75 +207,60 @@ fn selected(alloc: Global, active: &[&[u8]]) -> Result<Text, Fail> {
     Ok(all)
 }
 
-/// Active thorns, and their places or the words of their fault.
-const SELECTIONS: &[(&[&[u8]], &str)] = &[
-    (&[b"PUGH", b"elemca", b"ElemCA"], " Integer ElemCA"),
-    (&[b"ElemCA", b"Xyz", b"Twice"], "UnknownThorn Xyz"),
-    (&[b"twice", b"Xyz"], "TwoThorns twice"),
-    (&[b"driver"], "UnknownThorn driver"),
-];
-
 #[test]
-fn thorns_are_selected_and_fit_or_have_their_first_fault(rt: HostRuntime) -> Result<(), Fail> {
-    for (active, want) in SELECTIONS {
-        let told = selected(rt.alloc(), active)?;
-        same(&want, &told.as_slice(), &want.as_bytes())?;
-    }
-    for (place, (all, want)) in BINDINGS.iter().enumerate() {
-        let told = bound_words(rt.alloc(), all)?;
-        same(&("row", place, want), &told.as_slice(), &want.as_bytes())?;
+fn active_thorns_have_one_place_each(rt: HostRuntime) -> Result<(), Fail> {
+    let alloc = rt.alloc();
+    let cases: &[(&[&[u8]], &str)] = &[
+        (&[b"PUGH", b"elemca", b"ElemCA"], " Integer ElemCA"),
+        (&[b"ElemCA", b"Xyz", b"Twice"], "UnknownThorn Xyz"),
+        (&[b"twice", b"Xyz"], "TwoThorns twice"),
+        (&[b"driver"], "UnknownThorn driver"),
+    ];
+    for (active, want) in cases {
+        let told = selected(alloc, active)?;
+        assert_eq!(rt; told.as_slice(), want.as_bytes(), "{want}");
     }
     Ok(())
 }
 
-/// A thorn that extends the automaton's rule.
-const EXTENSION: Files = (
-    b"E",
-    b"implements: e\n",
-    b"shares: ca\nEXTENDS INT rule { 300 }\nprivate:\nBOOLEAN own { } \"yes\"\n",
-    b"",
-);
-
-const VARIABLES: &[&str] = &[
-    "ca::cell",
-    "ca::live",
-    "wave::phi",
-    "wave::total",
-    "diff::u",
-    "diff::total",
-    "control::count",
-];
-
-/// Places of parameters, their names, their thorns and how many ranges they have; the built-in thorns come after the five of the
-/// test.
-const PARAMETERS: &[(usize, &str, u32, usize)] = &[
-    (0, "Cactus::cctk_itlast", 5, 1),
-    (34, "ca::rule", 0, 2),
-    (53, "E::own", 4, 0),
+/// Places of parameters, their names and their thorns; the built-in thorns come after the five of the test.
+const PARAMETERS: &[(usize, &str, u32)] = &[
+    (0, "Cactus::cctk_itlast", 5),
+    (34, "ca::rule", 0),
+    (53, "E::own", 4),
 ];
 
 #[test]
 fn sample_thorns_have_their_variables_and_parameters(rt: HostRuntime) -> Result<(), Fail> {
-    let bound = bound(rt.alloc(), &[ELEMCA, WAVE, HEAT, CONTROL, EXTENSION])?;
-    same(
-        &"how many variables",
-        &bound.variables().len(),
-        &VARIABLES.len(),
+    let alloc = rt.alloc();
+    let extension: Files = (
+        b"E",
+        b"implements: e\n",
+        b"shares: ca\nEXTENDS INT rule { 300 }\nprivate:\nBOOLEAN own { } \"yes\"\n",
+        b"",
+    );
+    let bound = bind(
+        alloc,
+        thorns(alloc, &[ELEMCA, WAVE, HEAT, CONTROL, extension])?,
     )?;
-    for (info, want) in bound.variables().as_slice().iter().zip(VARIABLES) {
-        same(want, &info.full.as_slice(), &want.as_bytes())?;
+    let mut names = text(alloc, b"")?;
+    for info in bound.variables().as_slice() {
+        push(&mut names, &info.full)?;
     }
-    same(&"how many parameters", &bound.parameters().len(), &54)?;
-    for (place, full, thorn, ranges) in PARAMETERS {
-        let Some(parameter) = bound.parameters().as_slice().get(*place) else {
-            return Err(Fail::new(format_args!("no parameter {place}")));
-        };
-        let found = (
-            parameter.full.as_slice(),
-            parameter.thorn,
-            parameter.ranges.len(),
-        );
-        same(full, &found, &(full.as_bytes(), *thorn, *ranges))?;
+    let want: &[u8] =
+        b" ca::cell ca::live wave::phi wave::total diff::u diff::total control::count";
+    assert_eq!(rt; names.as_slice(), want, "variables");
+    let parameters = bound.parameters().as_slice();
+    assert_eq!(rt; parameters.len(), 54, "how many parameters");
+    assert_eq!(rt; parameters[34].ranges.len(), 2, "ranges of ca::rule");
+    for (place, full, thorn) in PARAMETERS {
+        match parameters.get(*place) {
+            Some(parameter) => {
+                let found = (parameter.full.as_slice(), parameter.thorn);
+                assert_eq!(rt; found, (full.as_bytes(), *thorn), "{full}");
+            }
+            None => panic!(rt; "no parameter {place}"),
+        }
     }
     Ok(())
 }

@@ -1,13 +1,12 @@
-//! Thorns by their files, settings, and the messages of faults.
+//! Thorns by their files, and the words of faults.
 
 use cx_bind::{Bound, Thorn, bind};
 use cx_conf::read_configuration;
 use cx_iface::read_interface;
 use cx_param::read_params;
-use cx_parfile::{Settings, read_parfile};
+use cx_scope::ScopeFault;
 use cx_text::{List, Style, Text, tokens};
 use std::alloc::Global;
-use std::fmt::Display;
 use std::test::Fail;
 
 /// A thorn's name, and its interface, param and configuration files.
@@ -41,14 +40,22 @@ pub(crate) fn bound(alloc: Global, all: &[Files]) -> Result<Bound, Fail> {
     Ok(bind(alloc, thorns(alloc, all)?)?)
 }
 
-/// A fault's message.
-pub(crate) fn message<F: Display>(alloc: Global, fault: &F) -> Result<Text, Fail> {
-    let words = format!(in alloc; "{fault}")?;
-    text(alloc, words.as_bytes())
+/// A word and a name.
+pub(crate) fn of_one(alloc: Global, word: &[u8], name: &Text) -> Result<Text, Fail> {
+    let mut words = text(alloc, word)?;
+    words.push_slice(name.as_slice())?;
+    Ok(words)
 }
 
-/// The settings of a parameter file, whose base name is `box`.
-pub(crate) fn settings(alloc: Global, file: &str) -> Result<Settings, Fail> {
-    let list = tokens(alloc, file.as_bytes(), Style::Par)?;
-    Ok(read_parfile(alloc, &list, &text(alloc, b"box")?)?)
+/// The words of a fault of a name.
+pub(crate) fn scope_words(alloc: Global, fault: &ScopeFault) -> Result<Text, Fail> {
+    match fault {
+        ScopeFault::NotFound(name) => of_one(alloc, b"NotFound ", name),
+        ScopeFault::Hidden(name) => of_one(alloc, b"Hidden ", name),
+        ScopeFault::NoStorage(name) => of_one(alloc, b"NoStorage ", name),
+        ScopeFault::NoLevel(name) => of_one(alloc, b"NoLevel ", name),
+        ScopeFault::NotScalar(name) => of_one(alloc, b"NotScalar ", name),
+        ScopeFault::NotGrid(name) => of_one(alloc, b"NotGrid ", name),
+        ScopeFault::Memory => text(alloc, b"Memory"),
+    }
 }

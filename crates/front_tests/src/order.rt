@@ -1,35 +1,47 @@
 //! Schedules of bound thorns, and what ordering says of them.
 
-use crate::common::{Files, bound, message, settings, text};
+use cx_bind::{Bound, Thorn, bind};
+use cx_conf::Configuration;
+use cx_expr::ExprFault;
+use cx_iface::read_interface;
 use cx_order::{OrderFault, Ordered, order};
+use cx_param::read_params;
+use cx_parfile::read_parfile;
 use cx_sched::{ScheduleFile, read_schedule};
+use cx_scope::ScopeFault;
 use cx_text::{List, Style, Text, tokens};
 use cx_values::assign;
 use sample_files::elemca;
 use std::alloc::Global;
+use std::process::Abort;
 use std::test::Fail;
-use test_cases::same;
+
+/// A thorn's name, and its interface, param and schedule files.
+#[derive(Clone, Copy)]
+struct Files<'a> {
+    name: &'a [u8],
+    interface: &'a [u8],
+    params: &'a [u8],
+    schedule: &'a [u8],
+}
+
+/// A thorn with the private parameter `on`, which is 1.
+fn with_parameter<'a>(name: &'a [u8], interface: &'a [u8], schedule: &'a [u8]) -> Files<'a> {
+    Files {
+        name,
+        interface,
+        params: b"private:\nINT on { 0:9 } 1\n",
+        schedule,
+    }
+}
 
 /// The automaton.
-const AUTOMATON: Files = (b"ElemCA", elemca::INTERFACE, elemca::PARAM, b"");
-
-/// Thorns with the private parameter `on`, which is 1: with no variables, and with a field of three levels and a scalar.
-const PLAIN: &[Files] = &[(b"T", b"implements: t\n", ON, b"")];
-
-const FIELD: &[Files] = &[(
-    b"W",
-    b"implements: w\npublic:\nINT field TYPE=GF DIM=1 TIMELEVELS=3 { phi }\nINT flags { on }\n",
-    ON,
-    b"",
-)];
-
-/// Two such thorns, in the order of activation.
-const TWO: &[Files] = &[
-    (b"One", b"implements: one\n", ON, b""),
-    (b"Two", b"implements: two\n", ON, b""),
-];
-
-const ON: &[u8] = b"private:\nINT on { 0:9 } 1\n";
+const AUTOMATON: Files<'static> = Files {
+    name: b"ElemCA",
+    interface: elemca::INTERFACE,
+    params: elemca::PARAM,
+    schedule: elemca::SCHEDULE,
+};
 
 const AUTOMATON_TEXT: &str = "bin STARTUP
 bin WRAGH
@@ -54,29 +66,120 @@ bin RECOVER_VARIABLES not run
 bin POST_RECOVER_VARIABLES not run
 ";
 
-fn schedules(alloc: Global, all: &[&str]) -> Result<List<ScheduleFile>, Fail> {
+fn text(alloc: Global, bytes: &[u8]) -> Result<Text, Fail> {
+    Ok(Text::from_slice(alloc, bytes)?)
+}
+
+fn thorn(alloc: Global, files: Files<'_>) -> Result<Thorn, Fail> {
+    Ok(Thorn {
+        arrangement: text(alloc, b"Integer")?,
+        name: text(alloc, files.name)?,
+        interface: read_interface(alloc, &tokens(alloc, files.interface, Style::Ccl)?)?,
+        params: read_params(alloc, &tokens(alloc, files.params, Style::Ccl)?)?,
+        conf: Configuration {
+            provides: List::empty(alloc),
+            requires_: List::empty(alloc),
+            thorns: List::empty(alloc),
+            optional: List::empty(alloc),
+        },
+    })
+}
+
+fn bound(alloc: Global, all: &[Files<'_>]) -> Result<Bound, Fail> {
+    let mut thorns = List::empty(alloc);
+    for files in all {
+        thorns.push(thorn(alloc, *files)?)?;
+    }
+    Ok(bind(alloc, thorns)?)
+}
+
+fn schedules(alloc: Global, all: &[Files<'_>]) -> Result<List<ScheduleFile>, Fail> {
     let mut schedules = List::empty(alloc);
-    for schedule in all {
-        let list = tokens(alloc, schedule.as_bytes(), Style::Ccl)?;
-        schedules.push(read_schedule(alloc, &list)?)?;
+    for files in all {
+        schedules.push(read_schedule(alloc, &tokens(alloc, files.schedule, Style::Ccl)?)?)?;
     }
     Ok(schedules)
 }
 
-/// What ordering says of thorns with these schedule files, whose parameters have their defaults.
-fn ordered(
-    alloc: Global,
-    thorns: &[Files],
-    files: &[&str],
-) -> Result<Option<Result<Ordered, OrderFault>>, Fail> {
-    let bound = bound(alloc, thorns)?;
-    let schedules = schedules(alloc, files)?;
-    let settings = settings(alloc, "ActiveThorns = \"A\"\n")?;
+/// What ordering says of thorns whose parameters have their defaults.
+fn ordered(alloc: Global, all: &[Files<'_>]) -> Result<Option<Result<Ordered, OrderFault>>, Fail> {
+    let bound = bound(alloc, all)?;
+    let schedules = schedules(alloc, all)?;
+    let settings = read_parfile(
+        alloc,
+        &tokens(alloc, b"ActiveThorns = \"A\"\n", Style::Par)?,
+        &text(alloc, b"box")?,
+    )?;
     let values = assign(alloc, &bound, &settings)?;
     if schedules.len() != bound.thorns().len() {
         return Ok(None);
     }
     Ok(Some(order(alloc, &bound, &schedules, &values)))
+}
+
+fn of_one(alloc: Global, word: &[u8], name: &Text) -> Result<Text, Fail> {
+    let mut words = text(alloc, word)?;
+    words.push_slice(name.as_slice())?;
+    Ok(words)
+}
+
+fn of_two(alloc: Global, word: &[u8], first: &Text, second: &Text) -> Result<Text, Fail> {
+    let mut words = of_one(alloc, word, first)?;
+    words.push_slice(b" ")?;
+    words.push_slice(second.as_slice())?;
+    Ok(words)
+}
+
+fn of_list(alloc: Global, word: &[u8], names: &List<Text>) -> Result<Text, Fail> {
+    let mut words = text(alloc, word)?;
+    for name in names.as_slice() {
+        words.push_slice(b" ")?;
+        words.push_slice(name.as_slice())?;
+    }
+    Ok(words)
+}
+
+fn expr_words(alloc: Global, fault: &ExprFault) -> Result<Text, Fail> {
+    match fault {
+        ExprFault::UnknownName(name) => of_one(alloc, b"UnknownName ", name),
+        ExprFault::NotNumber(name) => of_one(alloc, b"NotNumber ", name),
+        ExprFault::NotText(name) => of_one(alloc, b"NotText ", name),
+        ExprFault::Range(sign) => of_one(alloc, b"Range ", sign),
+    }
+}
+
+fn scope_words(alloc: Global, fault: &ScopeFault) -> Result<Text, Fail> {
+    match fault {
+        ScopeFault::NotFound(name) => of_one(alloc, b"NotFound ", name),
+        ScopeFault::Hidden(name) => of_one(alloc, b"Hidden ", name),
+        ScopeFault::NoStorage(name) => of_one(alloc, b"NoStorage ", name),
+        ScopeFault::NoLevel(name) => of_one(alloc, b"NoLevel ", name),
+        ScopeFault::NotScalar(name) => of_one(alloc, b"NotScalar ", name),
+        ScopeFault::NotGrid(name) => of_one(alloc, b"NotGrid ", name),
+        ScopeFault::Memory => text(alloc, b"Memory"),
+    }
+}
+
+fn limit_words(alloc: Global, what: &Text, number: u64) -> Result<Text, Fail> {
+    let number = text(alloc, number.to_string(alloc)?.as_bytes())?;
+    of_two(alloc, b"Limit ", what, &number)
+}
+
+fn fault_words(alloc: Global, fault: &OrderFault) -> Result<Text, Fail> {
+    match fault {
+        OrderFault::Expr(thorn, fault) => {
+            of_two(alloc, b"Expr ", thorn, &expr_words(alloc, fault)?)
+        }
+        OrderFault::UnknownBin(name) => of_one(alloc, b"UnknownBin ", name),
+        OrderFault::TwoNames(name) => of_one(alloc, b"TwoNames ", name),
+        OrderFault::GroupCycle(names) => of_list(alloc, b"GroupCycle", names),
+        OrderFault::Cycle(names) => of_list(alloc, b"Cycle", names),
+        OrderFault::Scope(path, fault) => {
+            of_two(alloc, b"Scope ", path, &scope_words(alloc, fault)?)
+        }
+        OrderFault::Limit(what, number) => limit_words(alloc, what, *number),
+        OrderFault::Memory => text(alloc, b"Memory"),
+    }
 }
 
 /// The lines of a schedule text between those of the bins EVOL and POSTSTEP.
@@ -93,224 +196,211 @@ fn evolution(alloc: Global, schedule: &Text) -> Result<Text, Fail> {
     Ok(lines)
 }
 
-/// What a run's EVOL does, or the words of the fault.
-fn told(alloc: Global, thorns: &[Files], files: &[&str]) -> Result<Text, Fail> {
-    match ordered(alloc, thorns, files)? {
+/// What a run's EVOL does, or the fault.
+fn told(alloc: Global, all: &[Files<'_>]) -> Result<Text, Fail> {
+    match ordered(alloc, all)? {
         None => text(alloc, b"another number of files"),
         Some(Ok(ordered)) => evolution(alloc, &ordered.text),
-        Some(Err(fault)) => message(alloc, &fault),
+        Some(Err(fault)) => fault_words(alloc, &fault),
     }
 }
 
-/// Schedule files, one a thorn, and what EVOL does or the words of their fault.
-type Row = (&'static [&'static str], &'static str);
-
-/// Small schedules of a thorn with the least order of their EVOL, worked out by hand.
-const ORDERS: &[Row] = &[
+/// Small schedules of a thorn T with the least order of their EVOL, worked out by hand.
+const ORDERS: &[(&str, &str)] = &[
     (
-        &[
-            "schedule A AT EVOL BEFORE B { }\nschedule B AT EVOL BEFORE C { }\nschedule C AT EVOL BEFORE Z { }\n",
-        ],
+        "schedule A AT EVOL BEFORE B { }\nschedule B AT EVOL BEFORE C { }\nschedule C AT EVOL BEFORE Z { }\n",
         "  call T::A\n  call T::B\n  call T::C\n",
     ),
     (
-        &["schedule A AT EVOL { }\nschedule B AT CCTK_EVOL { }\nschedule C AT evol BEFORE a { }\n"],
+        "schedule A AT EVOL { }\nschedule B AT CCTK_EVOL { }\nschedule C AT evol BEFORE a { }\n",
         "  call T::B\n  call T::C\n  call T::A\n",
     ),
     (
-        &[
-            "schedule A AT EVOL AFTER B { }\nschedule B AT EVOL AFTER C { }\nschedule C AT EVOL { }\n",
-        ],
+        "schedule A AT EVOL AFTER B { }\nschedule B AT EVOL AFTER C { }\nschedule C AT EVOL { }\n",
         "  call T::C\n  call T::B\n  call T::A\n",
     ),
     (
-        &[
-            "schedule A AT EVOL AFTER D { }\nschedule B AT EVOL { }\nschedule C AT EVOL BEFORE B { }\nschedule D AT EVOL { }\n",
-        ],
+        "schedule A AT EVOL AFTER D { }\nschedule B AT EVOL { }\nschedule C AT EVOL BEFORE B { }\nschedule D AT EVOL { }\n",
         "  call T::C\n  call T::B\n  call T::D\n  call T::A\n",
     ),
     (
-        &[
-            "schedule A AT EVOL { }\nschedule B AT EVOL { }\nschedule C AT EVOL { }\nschedule D AT EVOL BEFORE (A, C) { }\n",
-        ],
+        "schedule A AT EVOL { }\nschedule B AT EVOL { }\nschedule C AT EVOL { }\nschedule D AT EVOL BEFORE (A, C) { }\n",
         "  call T::B\n  call T::D\n  call T::A\n  call T::C\n",
     ),
     (
-        &[
-            "schedule A AT EVOL AS X { }\nschedule B AT EVOL BEFORE X { }\nschedule C AT EVOL BEFORE A { }\n",
-        ],
+        "schedule A AT EVOL AS X { }\nschedule B AT EVOL BEFORE X { }\nschedule C AT EVOL BEFORE A { }\n",
         "  call T::B\n  call T::A as X\n  call T::C\n",
     ),
     (
-        &[
-            "schedule A AT EVOL AFTER Q { }\nschedule B AT EVOL { }\nschedule Q AT POSTSTEP BEFORE A { }\n",
-        ],
+        "schedule A AT EVOL AFTER Q { }\nschedule B AT EVOL { }\nschedule Q AT POSTSTEP BEFORE A { }\n",
         "  call T::A\n  call T::B\n",
     ),
     (
-        &[
-            "schedule A AT EVOL AFTER g { }\nschedule GROUP G AT EVOL { }\nschedule C IN g { }\nschedule D IN G BEFORE C { }\nschedule E IN H { }\n",
-        ],
+        "schedule A AT EVOL AFTER g { }\nschedule GROUP G AT EVOL { }\nschedule C IN g { }\nschedule D IN G BEFORE C { }\nschedule E IN H { }\n",
         "  group G\n    call T::D\n    call T::C\n  call T::A\n",
     ),
     (
-        &[
-            "schedule GROUP G AT EVOL { }\nschedule A IN G { }\nschedule GROUP G AT EVOL AS again BEFORE G { }\n",
-        ],
+        "schedule GROUP G AT EVOL { }\nschedule A IN G { }\nschedule GROUP G AT EVOL AS again BEFORE G { }\n",
         "  group G as again\n    call T::A\n  group G\n    call T::A\n",
     ),
     (
-        &[
-            "if (on == 1) schedule A AT EVOL { }\nelse { if (1 / 0) schedule B AT NEVER { } }\nif (0)\n{\nSTORAGE: nobody[9]\n}\nelse schedule C AT EVOL BEFORE A { }\n",
-        ],
+        "if (on == 1) schedule A AT EVOL { }\nelse { if (1 / 0) schedule B AT NEVER { } }\nif (0)\n{\nSTORAGE: nobody[9]\n}\nelse schedule C AT EVOL BEFORE A { }\n",
         "  call T::C\n  call T::A\n",
     ),
 ];
 
-/// The same of a thorn with a field.
-const FIELDS: &[Row] = &[
+/// The same of a thorn W with a field of three levels and a scalar.
+const FIELDS: &[(&str, &str)] = &[
     (
-        &[
-            "STORAGE: field[2]\nSTORAGE: flags\nschedule A AT EVOL IF on WHILE w::on { SYNC: phi field READS: phi_p phi_p(interior) WRITES: phi(boundary) }\n",
-        ],
+        "STORAGE: field[2]\nSTORAGE: flags\nschedule A AT EVOL IF on WHILE w::on { SYNC: phi field READS: phi_p phi_p(interior) WRITES: phi(boundary) }\n",
         "  call W::A if w::on while w::on reads w::phi_p(everywhere) w::phi_p(interior) writes w::phi(boundary) sync w::phi\n",
     ),
     (
-        &[
-            "if (on == 0)\n{\nSTORAGE: field[3]\n}\nSTORAGE: field[1] field[2]\nschedule A AT EVOL { READS: phi_p_p }\n",
-        ],
-        "EVOL/A NoLevel phi_p_p",
+        "if (on == 0)\n{\nSTORAGE: field[3]\n}\nSTORAGE: field[1] field[2]\nschedule A AT EVOL { READS: phi_p_p }\n",
+        "Scope EVOL/A NoLevel phi_p_p",
     ),
     (
-        &[
-            "schedule GROUP G AT EVOL { READS: nobody }\nschedule A IN G { STORAGE: field[9] READS: phi_p_p }\n",
-        ],
+        "schedule GROUP G AT EVOL { READS: nobody }\nschedule A IN G { STORAGE: field[9] READS: phi_p_p }\n",
         "  group G\n    call W::A reads w::phi_p_p(everywhere)\n",
     ),
     (
-        &[
-            "STORAGE: field flags\nschedule GROUP G AT EVOL { SYNC: field }\nschedule A IN G { SYNC: flags }\n",
-        ],
-        "EVOL/G/A NotGrid flags",
+        "STORAGE: field flags\nschedule GROUP G AT EVOL { SYNC: field }\nschedule A IN G { SYNC: flags }\n",
+        "Scope EVOL/G/A NotGrid flags",
     ),
     (
-        &["STORAGE: field flags\nschedule A AT EVOL WHILE field { }\n"],
-        "EVOL/A NotScalar field",
+        "STORAGE: field flags\nschedule A AT EVOL WHILE field { }\n",
+        "Scope EVOL/A NotScalar field",
     ),
     (
-        &["schedule A AT EVOL { READS: phi }\n"],
-        "EVOL/A NoStorage phi",
+        "schedule A AT EVOL { READS: phi }\n",
+        "Scope EVOL/A NoStorage phi",
     ),
 ];
 
-/// Faults, each of which comes before those after it.
-const FAULTS: &[Row] = &[
+/// Faults, each of which comes before those behind it.
+const FAULTS: &[(&str, &str)] = &[
     (
-        &["if (missing) { }\nschedule A AT NEVER { }\n"],
-        "T UnknownName missing",
+        "if (missing) { }\nschedule A AT NEVER { }\n",
+        "Expr T UnknownName missing",
     ),
     (
-        &["schedule A AT CCTK_NEVER { }\nschedule A AT EVOL { }\nschedule A AT EVOL { }\n"],
+        "schedule A AT CCTK_NEVER { }\nschedule A AT EVOL { }\nschedule A AT EVOL { }\n",
         "UnknownBin CCTK_NEVER",
     ),
     (
-        &["schedule A AT evol { }\nschedule a AT CCTK_EVOL { }\nschedule GROUP P IN P { }\n"],
+        "schedule A AT evol { }\nschedule a AT CCTK_EVOL { }\nschedule GROUP P IN P { }\n",
         "TwoNames EVOL/a",
     ),
     (
-        &[
-            "schedule GROUP P IN Q { }\nschedule GROUP Q IN P { }\nschedule A AT EVOL BEFORE A { }\n",
-        ],
-        "GroupCycle P,Q",
+        "schedule GROUP P IN Q { }\nschedule GROUP Q IN P { }\nschedule A AT EVOL BEFORE A { }\n",
+        "GroupCycle P Q",
     ),
     (
-        &[
-            "schedule GROUP p IN Rr { }\nschedule GROUP rR IN P { }\nschedule GROUP RR IN p AS again { }\n",
-        ],
-        "GroupCycle p,rR",
+        "schedule GROUP p IN Rr { }\nschedule GROUP rR IN P { }\nschedule GROUP RR IN p AS again { }\n",
+        "GroupCycle p rR",
     ),
     (
-        &[
-            "schedule A AT EVOL BEFORE B { }\nschedule B AT EVOL BEFORE C { }\nschedule C AT EVOL BEFORE A { }\nSTORAGE: nobody\n",
-        ],
-        "Cycle A,B,C",
+        "schedule A AT EVOL BEFORE B { }\nschedule B AT EVOL BEFORE C { }\nschedule C AT EVOL BEFORE A { }\nSTORAGE: nobody\n",
+        "Cycle A B C",
     ),
     (
-        &["STORAGE: nobody\nschedule A AT EVOL { READS: other }\n"],
-        "T NotFound nobody",
+        "STORAGE: nobody\nschedule A AT EVOL { READS: other }\n",
+        "Scope T NotFound nobody",
     ),
-];
-
-/// The same of two thorns.
-const PAIRS: &[Row] = &[
-    (
-        &["schedule M AT EVOL { }\n", "schedule N AT EVOL { }\n"],
-        "  call One::M\n  call Two::N\n",
-    ),
-    (
-        &[
-            "schedule M AT EVOL AFTER N { }\n",
-            "schedule N AT EVOL { }\n",
-        ],
-        "  call Two::N\n  call One::M\n",
-    ),
-    (
-        &[
-            "schedule N AT EVOL { }\n",
-            "schedule M AT EVOL AFTER N { }\n",
-        ],
-        "  call One::N\n  call Two::M\n",
-    ),
-    (
-        &["schedule M AT EVOL { }\n", "schedule M AT EVOL { }\n"],
-        "TwoNames EVOL/M",
-    ),
-];
-
-/// All of these, with their thorns.
-const ROWS: &[(&[Files], &[Row])] = &[
-    (PLAIN, ORDERS),
-    (PLAIN, FAULTS),
-    (FIELD, FIELDS),
-    (TWO, PAIRS),
 ];
 
 #[test]
 fn the_automaton(rt: HostRuntime) -> Result<(), Fail> {
-    let file = str::from_utf8(elemca::SCHEDULE)?;
-    let Some(Ok(ordered)) = ordered(rt.alloc(), &[AUTOMATON], &[file])? else {
-        return Err(Fail::new("the automaton has no order"));
-    };
-    let want = AUTOMATON_TEXT.as_bytes();
-    same(&"the schedule", &ordered.text.as_slice(), &want)?;
-    let levels = [1u8, 1];
-    same(
-        &"stored levels",
-        &ordered.storage.as_slice(),
-        &levels.as_slice(),
-    )?;
-    same(&"how many items", &ordered.items.len(), &4)
+    let alloc = rt.alloc();
+    match ordered(alloc, &[AUTOMATON])? {
+        Some(Ok(ordered)) => {
+            let schedule = ordered.text.as_slice();
+            assert_eq!(rt; schedule, AUTOMATON_TEXT.as_bytes(), "the schedule");
+            let levels = [1u8, 1];
+            let storage = ordered.storage.as_slice();
+            assert_eq!(rt; storage, levels.as_slice(), "stored levels");
+            assert_eq!(rt; ordered.items.len(), 4, "how many items");
+        }
+        _ => panic!(rt; "the automaton has no order"),
+    }
+    Ok(())
+}
+
+const FIELD: &[u8] =
+    b"implements: w\npublic:\nINT field TYPE=GF DIM=1 TIMELEVELS=3 { phi }\nINT flags { on }\n";
+
+/// Two thorns, in the order of activation, and what EVOL does.
+const PAIRS: &[(&str, &str, &str)] = &[
+    (
+        "schedule M AT EVOL { }\n",
+        "schedule N AT EVOL { }\n",
+        "  call One::M\n  call Two::N\n",
+    ),
+    (
+        "schedule M AT EVOL AFTER N { }\n",
+        "schedule N AT EVOL { }\n",
+        "  call Two::N\n  call One::M\n",
+    ),
+    (
+        "schedule N AT EVOL { }\n",
+        "schedule M AT EVOL AFTER N { }\n",
+        "  call One::N\n  call Two::M\n",
+    ),
+    (
+        "schedule M AT EVOL { }\n",
+        "schedule M AT EVOL { }\n",
+        "TwoNames EVOL/M",
+    ),
+];
+
+fn assert_told(
+    rt: &impl Abort,
+    alloc: Global,
+    thorns: &[Files<'_>],
+    name: &str,
+    want: &str,
+) -> Result<(), Fail> {
+    let told = told(alloc, thorns)?;
+    assert_eq!(rt; told.as_slice(), want.as_bytes(), "{name}");
+    Ok(())
 }
 
 #[test]
-fn least_orders_and_faults(rt: HostRuntime) -> Result<(), Fail> {
-    for (thorns, rows) in ROWS {
-        for (files, want) in *rows {
-            let told = told(rt.alloc(), thorns, files)?;
-            same(&files, &told.as_slice(), &want.as_bytes())?;
+fn least_orders_and_faults_of_a_thorn(rt: HostRuntime) -> Result<(), Fail> {
+    let alloc = rt.alloc();
+    for table in [ORDERS, FAULTS] {
+        for (schedule, want) in table {
+            let thorn = with_parameter(b"T", b"implements: t\n", schedule.as_bytes());
+            assert_told(&rt, alloc, &[thorn], schedule, want)?;
         }
+    }
+    for (schedule, want) in FIELDS {
+        let thorn = with_parameter(b"W", FIELD, schedule.as_bytes());
+        assert_told(&rt, alloc, &[thorn], schedule, want)?;
+    }
+    Ok(())
+}
+
+#[test]
+fn two_thorns_in_one_bin(rt: HostRuntime) -> Result<(), Fail> {
+    for (first, second, want) in PAIRS {
+        let thorns = [
+            with_parameter(b"One", b"implements: one\n", first.as_bytes()),
+            with_parameter(b"Two", b"implements: two\n", second.as_bytes()),
+        ];
+        assert_told(&rt, rt.alloc(), &thorns, first, want)?;
     }
     Ok(())
 }
 
 /// Groups in groups, so many levels deep, each but the first so many times in the one around it.
-fn nested_groups(alloc: Global, levels: u32, copies: u32) -> Result<String, Fail> {
-    let mut schedule = format!(in alloc; "schedule GROUP G0 AT EVOL {{ }}\n")?;
+fn nested_groups(alloc: Global, levels: u32, copies: u32) -> Result<Text, Fail> {
+    let mut schedule = text(alloc, b"schedule GROUP G0 AT EVOL { }\n")?;
     for level in 1..levels {
         let outer = level.saturating_sub(1);
         for copy in 0..copies {
             let line = format!(in alloc; "schedule GROUP G{level} IN G{outer} AS c{copy} {{ }}\n")?;
-            schedule.push_str(line.as_str())?;
+            schedule.push_slice(line.as_bytes())?;
         }
     }
     Ok(schedule)
@@ -325,15 +415,15 @@ const NESTED: &[(u32, u32, &str)] = &[
 ];
 
 /// Entries with the numbers below an end from 4 on, each of which must run before the four that are numbered below it.
-fn backward(alloc: Global, end: u32) -> Result<String, Fail> {
-    let mut schedule = String::new(alloc);
+fn backward(alloc: Global, end: u32) -> Result<Text, Fail> {
+    let mut schedule = text(alloc, b"")?;
     for entry in 4..end {
         let (a, b) = (entry.saturating_sub(1), entry.saturating_sub(2));
         let (c, d) = (entry.saturating_sub(3), entry.saturating_sub(4));
         let line = format!(in alloc;
             "schedule e{entry} AT EVOL BEFORE (e{a} e{b} e{c} e{d}) {{ }}\n"
         )?;
-        schedule.push_str(line.as_str())?;
+        schedule.push_slice(line.as_bytes())?;
     }
     Ok(schedule)
 }
@@ -343,17 +433,15 @@ fn nested_groups_and_a_large_bin(rt: HostRuntime) -> Result<(), Fail> {
     let alloc = rt.alloc();
     for (levels, copies, want) in NESTED {
         let schedule = nested_groups(alloc, *levels, *copies)?;
-        let told = told(alloc, PLAIN, &[schedule.as_str()])?;
-        same(&want, &told.as_slice(), &want.as_bytes())?;
+        let thorn = with_parameter(b"T", b"implements: t\n", schedule.as_slice());
+        assert_told(&rt, alloc, &[thorn], want, want)?;
     }
     let schedule = backward(alloc, 4083)?;
-    let told = told(alloc, PLAIN, &[schedule.as_str()])?;
+    let thorn = with_parameter(b"T", b"implements: t\n", schedule.as_slice());
+    let told = told(alloc, &[thorn])?;
     let first: &[u8] = b"  call T::e4082\n  call T::e4081\n";
-    same(&"a large bin", &told.as_slice().starts_with(first), &true)?;
+    assert!(rt; told.as_slice().starts_with(first), "a large bin");
     let last: &[u8] = b"  call T::e5\n  call T::e4\n";
-    same(
-        &"a large bin's end",
-        &told.as_slice().ends_with(last),
-        &true,
-    )
+    assert!(rt; told.as_slice().ends_with(last), "a large bin's end");
+    Ok(())
 }

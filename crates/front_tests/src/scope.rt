@@ -1,6 +1,6 @@
 //! Names in bound configurations.
 
-use crate::common::{Files, bound, message, text};
+use crate::common::{Files, bound, scope_words, text};
 use cx_bind::Bound;
 use cx_plan::VarId;
 use cx_sched::Ref;
@@ -8,7 +8,6 @@ use cx_scope::{group_of, resolve};
 use cx_text::{List, Text};
 use std::alloc::Global;
 use std::test::Fail;
-use test_cases::same;
 
 /// A name: what stands before `::`, the name, and the number in brackets.
 type Name = (Option<&'static str>, &'static str, Option<u32>);
@@ -94,7 +93,7 @@ fn resolved(
     let name = reference(alloc, name)?;
     match resolve(alloc, bound, storage, thorn, &name) {
         Ok(levels) => level_words(alloc, levels.as_slice()),
-        Err(fault) => message(alloc, &fault),
+        Err(fault) => scope_words(alloc, &fault),
     }
 }
 
@@ -114,8 +113,12 @@ fn grouped(alloc: Global, bound: &Bound, thorn: u32, name: Name) -> Result<Text,
     let name = reference(alloc, name)?;
     match group_of(alloc, bound, thorn, &name) {
         Ok(variables) => group_words(alloc, variables.as_slice()),
-        Err(fault) => message(alloc, &fault),
+        Err(fault) => scope_words(alloc, &fault),
     }
+}
+
+fn stored(alloc: Global, levels: &[u8]) -> Result<List<u8>, Fail> {
+    Ok(List::new(levels.to_vec(alloc)?))
 }
 
 /// A thorn, a name, and what the name means to the thorn.
@@ -168,34 +171,30 @@ const TWIN_NAMES: &[Case] = &[
     (1, (None, "v", Some(0)), "Hidden v[0]"),
 ];
 
-/// Thorns, the levels of their variables that have storage, and what names of variables and of groups mean.
-type World = (
-    &'static [Files],
-    &'static [u8],
-    &'static [Case],
-    &'static [Case],
-);
-
-/// Ancestors and friends; and equal names, copies and past levels.
-const WORLDS: &[World] = &[
-    (FAMILY, &[1, 1, 0, 1], FAMILY_NAMES, FAMILY_GROUPS),
-    (TWINS, &[3, 1, 2, 1, 1, 1, 2, 2, 1, 1, 2], TWIN_NAMES, &[]),
-];
+#[test]
+fn names_through_ancestors_and_friends(rt: HostRuntime) -> Result<(), Fail> {
+    let alloc = rt.alloc();
+    let bound = bound(alloc, FAMILY)?;
+    let storage = stored(alloc, &[1, 1, 0, 1])?;
+    for (thorn, name, want) in FAMILY_NAMES {
+        let told = resolved(alloc, &bound, &storage, *thorn, *name)?;
+        assert_eq!(rt; told.as_slice(), want.as_bytes(), "{thorn} {name:?}");
+    }
+    for (thorn, name, want) in FAMILY_GROUPS {
+        let told = grouped(alloc, &bound, *thorn, *name)?;
+        assert_eq!(rt; told.as_slice(), want.as_bytes(), "{thorn} {name:?}");
+    }
+    Ok(())
+}
 
 #[test]
-fn names_mean_what_thorns_see(rt: HostRuntime) -> Result<(), Fail> {
+fn equal_names_copies_and_past_levels(rt: HostRuntime) -> Result<(), Fail> {
     let alloc = rt.alloc();
-    for (files, levels, names, groups) in WORLDS {
-        let bound = bound(alloc, files)?;
-        let storage = List::new(levels.to_vec(alloc)?);
-        for case in *names {
-            let told = resolved(alloc, &bound, &storage, case.0, case.1)?;
-            same(case, &told.as_slice(), &case.2.as_bytes())?;
-        }
-        for case in *groups {
-            let told = grouped(alloc, &bound, case.0, case.1)?;
-            same(case, &told.as_slice(), &case.2.as_bytes())?;
-        }
+    let bound = bound(alloc, TWINS)?;
+    let storage = stored(alloc, &[3, 1, 2, 1, 1, 1, 2, 2, 1, 1, 2])?;
+    for (thorn, name, want) in TWIN_NAMES {
+        let told = resolved(alloc, &bound, &storage, *thorn, *name)?;
+        assert_eq!(rt; told.as_slice(), want.as_bytes(), "{thorn} {name:?}");
     }
     Ok(())
 }

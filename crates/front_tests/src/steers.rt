@@ -1,13 +1,12 @@
 //! Steps of parameters by the lines of steer files, and the faults of lines.
 
-use crate::common::{Files, bound, message, settings, text};
-use crate::values::words;
-use cx_parfile::read_steer;
-use cx_text::{List, Style, Text, tokens};
+use crate::common::{Files, bound, text};
+use crate::values::{named, words};
+use cx_parfile::{read_parfile, read_steer};
+use cx_text::{List, Style, tokens};
 use cx_values::{SteerStep, ValueFault, assign, steer};
 use std::alloc::Global;
 use std::test::Fail;
-use test_cases::same;
 
 const WAVE: Files = (
     b"WaveInt",
@@ -33,7 +32,9 @@ fn steered(
     lines: &str,
 ) -> Result<Result<List<SteerStep>, ValueFault>, Fail> {
     let bound = bound(alloc, &[WAVE, WIDER])?;
-    let values = assign(alloc, &bound, &settings(alloc, file)?)?;
+    let base = text(alloc, b"box")?;
+    let settings = read_parfile(alloc, &tokens(alloc, file.as_bytes(), Style::Par)?, &base)?;
+    let values = assign(alloc, &bound, &settings)?;
     let lines = read_steer(alloc, &tokens(alloc, lines.as_bytes(), Style::Par)?)?;
     Ok(steer(alloc, &bound, &values, &lines))
 }
@@ -44,51 +45,53 @@ const EACH: &str = "Cactus::cctk_itlast = 2\nIO::checkpoint_every = 1\n";
 
 const LAST: &str = "Cactus::cctk_itlast = 2\nIO::checkpoint_on_terminate = yes\n";
 
-/// A parameter file, a steer file, and the words of its first fault, or nothing. A line with two faults has the first.
-const FAULTS: &[(&str, &str, &str)] = &[
-    (PLAIN, "", ""),
-    (PLAIN, "@1 driver::nosuch = 1\n", "UnknownParam 1"),
-    (PLAIN, "@1 ActiveThorns = x\n", "UnknownParam 1"),
-    (PLAIN, "@1 driver::lead[0] = 1\n", "Index 1"),
-    (PLAIN, "@1 wave::many = 1\n", "Index 1"),
-    (PLAIN, "@1 wave::many[2] = 1\n", "Index 1"),
-    (PLAIN, "@1 wave::many[1] = 1\n", ""),
-    (PLAIN, "@1 driver::lead = x\n", "NotSteerable 1"),
-    (PLAIN, "@1 wave::amount = 1\n", "NotSteerable 1"),
-    (PLAIN, "@2 wave::edge = 3\n", "NotSteerable 1"),
-    (EACH, "@2 wave::edge = 3\n", ""),
-    (EACH, "@3 wave::edge = 3\n", ""),
-    (EACH, "@1 wave::edge = 3\n", "NotSteerable 1"),
-    (EACH, "@4 wave::edge = 3\n", "NotSteerable 1"),
-    (LAST, "@2 wave::edge = 3\n", "NotSteerable 1"),
-    (LAST, "@3 wave::edge = 3\n", ""),
-    (PLAIN, "@1000000 wave::factor = 3\n", ""),
-    (PLAIN, "@2 wave::factor = no\n", "BadSpelling 1"),
-    (PLAIN, "@2 wave::factor = -1\n", "OutOfRange 1"),
-    (PLAIN, "@2 wave::factor = 257\n", "OutOfRange 1"),
-    (PLAIN, "@2 wave::factor = 300\n", ""),
+/// A parameter file, a steer file, and the name and the line of its first fault. A line with two faults has the first.
+const FAULTS: &[(&str, &str, &str, u32)] = &[
+    (PLAIN, "", "", 0),
+    (PLAIN, "@1 driver::nosuch = 1\n", "UnknownParam", 1),
+    (PLAIN, "@1 ActiveThorns = x\n", "UnknownParam", 1),
+    (PLAIN, "@1 driver::lead[0] = 1\n", "Index", 1),
+    (PLAIN, "@1 wave::many = 1\n", "Index", 1),
+    (PLAIN, "@1 wave::many[2] = 1\n", "Index", 1),
+    (PLAIN, "@1 wave::many[1] = 1\n", "", 0),
+    (PLAIN, "@1 driver::lead = x\n", "NotSteerable", 1),
+    (PLAIN, "@1 wave::amount = 1\n", "NotSteerable", 1),
+    (PLAIN, "@2 wave::edge = 3\n", "NotSteerable", 1),
+    (EACH, "@2 wave::edge = 3\n", "", 0),
+    (EACH, "@3 wave::edge = 3\n", "", 0),
+    (EACH, "@1 wave::edge = 3\n", "NotSteerable", 1),
+    (EACH, "@4 wave::edge = 3\n", "NotSteerable", 1),
+    (LAST, "@2 wave::edge = 3\n", "NotSteerable", 1),
+    (LAST, "@3 wave::edge = 3\n", "", 0),
+    (PLAIN, "@1000000 wave::factor = 3\n", "", 0),
+    (PLAIN, "@2 wave::factor = no\n", "BadSpelling", 1),
+    (PLAIN, "@2 wave::factor = -1\n", "OutOfRange", 1),
+    (PLAIN, "@2 wave::factor = 257\n", "OutOfRange", 1),
+    (PLAIN, "@2 wave::factor = 300\n", "", 0),
     (
         PLAIN,
         "@2 wave::factor = 1\n@1 wave::factor = 2\n",
-        "SteerOrder 2",
+        "SteerOrder",
+        2,
     ),
     (
         PLAIN,
         "@2 wave::factor = 1\n@1 wave::factor = 999\n",
-        "OutOfRange 2",
+        "OutOfRange",
+        2,
     ),
     (
         PLAIN,
         "@2 wave::factor = 1\n@2 wave::factor = 1\n@2 wave::many[0] = 2\n",
         "",
+        0,
     ),
 ];
 
-/// The words of the first fault of a steer file, or nothing.
-fn fault_words(alloc: Global, file: &str, lines: &str) -> Result<Text, Fail> {
-    match steered(alloc, file, lines)? {
-        Ok(_) => text(alloc, b""),
-        Err(fault) => message(alloc, &fault),
+fn fault_of(answer: &Result<List<SteerStep>, ValueFault>) -> (&'static str, u32) {
+    match answer {
+        Ok(_) => ("", 0),
+        Err(fault) => named(fault),
     }
 }
 
@@ -109,16 +112,17 @@ const STEPS: &[Step] = &[
 #[test]
 fn lines_give_steps_or_have_their_first_fault(rt: HostRuntime) -> Result<(), Fail> {
     let alloc = rt.alloc();
-    for (file, lines, want) in FAULTS {
-        let told = fault_words(alloc, file, lines)?;
-        same(&(lines, "with", file), &told.as_slice(), &want.as_bytes())?;
+    for (file, lines, want, line) in FAULTS {
+        let fault = fault_of(&steered(alloc, file, lines)?);
+        assert_eq!(rt; fault, (*want, *line), "{lines:?} with {file:?}");
     }
     let steps = steered(alloc, PLAIN, LINES)??;
-    same(&"how many steps", &steps.len(), &STEPS.len())?;
+    assert_eq!(rt; steps.len(), STEPS.len(), "how many steps");
     for (step, want) in steps.as_slice().iter().zip(STEPS) {
+        let found = (step.at, step.param, step.index);
+        assert_eq!(rt; found, (want.0, want.1, want.2), "{want:?}");
         let value = words(alloc, &step.value)?;
-        let found = (step.at, step.param, step.index, value.as_slice());
-        same(want, &found, &(want.0, want.1, want.2, want.3.as_bytes()))?;
+        assert_eq!(rt; value.as_slice(), want.3.as_bytes(), "{want:?}");
     }
     Ok(())
 }

@@ -1,13 +1,13 @@
 //! Values that parameter files give the parameters of some thorns, and the faults of settings.
 
-use crate::common::{Files, bound, message, settings, text};
-use cx_expr::{eval, read_expr};
+use crate::common::{Files, bound, text};
+use cx_expr::{ExprFault, eval, read_expr};
 use cx_param::Value;
+use cx_parfile::read_parfile;
 use cx_text::{Style, Text, tokens};
 use cx_values::{ValueFault, Values, assign};
 use std::alloc::Global;
 use std::test::Fail;
-use test_cases::same;
 
 const ELEMCA: Files = (
     b"ElemCA",
@@ -49,38 +49,71 @@ const ALL: &[Files] = &[ELEMCA, RANGES, WAVE, NAMES, MORE];
 
 fn values(alloc: Global, all: &[Files], file: &str) -> Result<Result<Values, ValueFault>, Fail> {
     let bound = bound(alloc, all)?;
-    Ok(assign(alloc, &bound, &settings(alloc, file)?))
+    let base = text(alloc, b"box")?;
+    let settings = read_parfile(alloc, &tokens(alloc, file.as_bytes(), Style::Par)?, &base)?;
+    Ok(assign(alloc, &bound, &settings))
 }
 
-/// A parameter file, and the words of its first fault, or nothing where it has none.
-const FAULTS: &[(&str, &str)] = &[
-    ("\n\nca::rule = 256\n", "OutOfRange 3"),
-    ("\n\nca::rule = x\n", "BadSpelling 3"),
-    ("\n\nca::ruler = 3\n", "UnknownParam 3"),
-    ("\n\nElemCA::rule = 3\nca::rule = 4\n", "Twice 4"),
-    ("range::n = 0\n", "OutOfRange 1"),
-    ("range::n = 10\n", ""),
-    ("range::n = 11\n", "OutOfRange 1"),
-    ("range::s = 3\n", ""),
-    ("range::s = 4\n", "OutOfRange 1"),
-    ("kinds::own = yes\n", "UnknownParam 1"),
-    ("Names::own = 2\n", "BadSpelling 1"),
-    ("many[0] = 1\n", "UnknownParam 1"),
-    ("kinds::many = 1\n", "Index 1"),
-    ("kinds::many[2] = 1\n", "Index 1"),
-    ("all[0] = 1\n", "Index 1"),
-    ("kinds::all = 1\nNames::all = 1\n", "Twice 2"),
-    ("wave::pattern = comb\n", "OutOfRange 1"),
-    ("driver::lead = 65\n", "OutOfRange 1"),
-    ("driver::widths_x = \"4 16777217\"\n", "BadSpelling 1"),
-    ("IO::recover_dir = a\nIO::checkpoint_dir = a\n", ""),
+/// A parameter file, and the name and the line of the fault of its settings.
+const FAULTS: &[(&str, &str, u32)] = &[
+    ("\n\nca::rule = 256\n", "OutOfRange", 3),
+    ("\n\nca::rule = x\n", "BadSpelling", 3),
+    ("\n\nca::ruler = 3\n", "UnknownParam", 3),
+    ("\n\nElemCA::rule = 3\nca::rule = 4\n", "Twice", 4),
+    ("range::n = 0\n", "OutOfRange", 1),
+    ("range::n = 10\n", "", 0),
+    ("range::n = 11\n", "OutOfRange", 1),
+    ("range::s = 3\n", "", 0),
+    ("range::s = 4\n", "OutOfRange", 1),
+    ("kinds::own = yes\n", "UnknownParam", 1),
+    ("Names::own = 2\n", "BadSpelling", 1),
+    ("many[0] = 1\n", "UnknownParam", 1),
+    ("kinds::many = 1\n", "Index", 1),
+    ("kinds::many[2] = 1\n", "Index", 1),
+    ("all[0] = 1\n", "Index", 1),
+    ("kinds::all = 1\nNames::all = 1\n", "Twice", 2),
+    ("wave::pattern = comb\n", "OutOfRange", 1),
+    ("driver::lead = 65\n", "OutOfRange", 1),
+    ("driver::widths_x = \"4 16777217\"\n", "BadSpelling", 1),
+    ("IO::recover_dir = a\nIO::checkpoint_dir = a\n", "", 0),
     (
         "IO::recover_dir = \".\"\nIO::checkpoint_dir = a\n",
-        "OutOfRange 1",
+        "OutOfRange",
+        1,
     ),
-    ("IO::checkpoint_ID = yes\n", "OutOfRange 1"),
-    ("IO::steer_file = s.txt\n", ""),
+    ("IO::checkpoint_ID = yes\n", "OutOfRange", 1),
+    ("IO::steer_file = s.txt\n", "", 0),
 ];
+
+/// The name of a fault, and its line; 0 where it keeps none.
+pub(crate) fn named(fault: &ValueFault) -> (&'static str, u32) {
+    match fault {
+        ValueFault::BadDefault(_) => ("BadDefault", 0),
+        ValueFault::UnknownParam(line) => ("UnknownParam", *line),
+        ValueFault::Index(line) => ("Index", *line),
+        ValueFault::BadSpelling(line) => ("BadSpelling", *line),
+        ValueFault::OutOfRange(line) => ("OutOfRange", *line),
+        ValueFault::Twice(line) => ("Twice", *line),
+        ValueFault::NotSteerable(line) => ("NotSteerable", *line),
+        ValueFault::SteerOrder(line) => ("SteerOrder", *line),
+        ValueFault::Memory => ("Memory", 0),
+    }
+}
+
+fn fault_of(answer: &Result<Values, ValueFault>) -> (&'static str, u32) {
+    match answer {
+        Ok(_) => ("", 0),
+        Err(fault) => named(fault),
+    }
+}
+
+/// The parameter whose default is bad.
+fn bad_default(answer: &Result<Values, ValueFault>) -> &[u8] {
+    match answer {
+        Err(ValueFault::BadDefault(full)) => full.as_slice(),
+        Ok(_) | Err(_) => b"",
+    }
+}
 
 const BAD: Files = (
     b"Bad",
@@ -89,23 +122,16 @@ const BAD: Files = (
     b"",
 );
 
-/// The words of the first fault of settings or defaults, or nothing.
-fn fault_words(alloc: Global, all: &[Files], file: &str) -> Result<Text, Fail> {
-    match values(alloc, all, file)? {
-        Ok(_) => text(alloc, b""),
-        Err(fault) => message(alloc, &fault),
-    }
-}
-
 #[test]
 fn settings_and_defaults_have_their_first_fault(rt: HostRuntime) -> Result<(), Fail> {
-    for (file, want) in FAULTS {
-        let told = fault_words(rt.alloc(), ALL, file)?;
-        same(&file, &told.as_slice(), &want.as_bytes())?;
+    for (file, want, line) in FAULTS {
+        let fault = fault_of(&values(rt.alloc(), ALL, file)?);
+        assert_eq!(rt; fault, (*want, *line), "{file:?}");
     }
-    let told = fault_words(rt.alloc(), &[BAD], "")?;
-    let want = b"BadDefault bad::n".as_slice();
-    same(&"a bad default", &told.as_slice(), &want)
+    let answer = values(rt.alloc(), &[BAD], "")?;
+    let want = b"bad::n".as_slice();
+    assert_eq!(rt; bad_default(&answer), want, "a bad default");
+    Ok(())
 }
 
 /// A parameter file; a parameter, an index of it, its value in words and its number.
@@ -178,6 +204,7 @@ const VALUES: &[Told] = &[
     ),
 ];
 
+/// A value in words.
 pub(crate) fn words(alloc: Global, value: &Value) -> Result<Text, Fail> {
     match value {
         Value::Number(n) => text(alloc, n.to_string(alloc)?.as_bytes()),
@@ -187,11 +214,7 @@ pub(crate) fn words(alloc: Global, value: &Value) -> Result<Text, Fail> {
     }
 }
 
-/// Whether a parameter has this value and this number.
-fn is_told(alloc: Global, answer: &Result<Values, ValueFault>, told: &Told) -> Result<bool, Fail> {
-    let Ok(values) = answer else {
-        return Ok(false);
-    };
+fn is_told(alloc: Global, values: &Values, told: &Told) -> Result<bool, Fail> {
     let full = text(alloc, told.1.as_bytes())?;
     let is_number = values.number(&full, told.2) == told.4;
     match (values.get(&full, told.2), told.3) {
@@ -201,6 +224,18 @@ fn is_told(alloc: Global, answer: &Result<Values, ValueFault>, told: &Told) -> R
         (None, None) => Ok(is_number),
         _ => Ok(false),
     }
+}
+
+#[test]
+fn settings_give_values_by_each_form_of_name(rt: HostRuntime) -> Result<(), Fail> {
+    let alloc = rt.alloc();
+    for told in VALUES {
+        match values(alloc, ALL, told.0)? {
+            Ok(values) => assert!(rt; is_told(alloc, &values, told)?, "{told:?}"),
+            Err(fault) => panic!(rt; "{fault:?} of {told:?}"),
+        }
+    }
+    Ok(())
 }
 
 /// The built-in parameters, and their defaults.
@@ -242,44 +277,54 @@ const DEFAULTS: &[(&str, &str)] = &[
 ];
 
 #[test]
-fn parameters_have_values_by_each_form_of_name_and_defaults(rt: HostRuntime) -> Result<(), Fail> {
+fn built_in_parameters_have_their_defaults(rt: HostRuntime) -> Result<(), Fail> {
     let alloc = rt.alloc();
-    for told in VALUES {
-        let answer = values(alloc, ALL, told.0)?;
-        same(told, &is_told(alloc, &answer, told)?, &true)?;
-    }
     let values = values(alloc, &[], "")??;
     for (full, want) in DEFAULTS {
         let told = match values.get(&text(alloc, full.as_bytes())?, None) {
             Some(value) => words(alloc, value)?,
             None => text(alloc, b"no parameter")?,
         };
-        same(&full, &told.as_slice(), &want.as_bytes())?;
+        assert_eq!(rt; told.as_slice(), want.as_bytes(), "{full}");
     }
     Ok(())
 }
 
-/// A thorn's number, an expression and its value, or the words of its fault.
-const EXPRESSIONS: &[(u32, &str, &str)] = &[
-    (2, "CCTK_Equals(pattern, \"POINT\")", "1"),
-    (2, "pattern + 1", "NotNumber pattern"),
-    (4, "CCTK_Equals(pattern, \"point\")", "1"),
-    (0, "pattern + 1", "UnknownName pattern"),
-    (0, "rule + all", "92"),
-    (3, "many[1] + own", "1"),
-    (4, "few[1]", "1"),
-    (4, "many[1]", "UnknownName many"),
-    (4, "few[2]", "UnknownName few"),
-    (0, "CCTK_Equals(rule, \"90\")", "NotText rule"),
-    (9, "all", "UnknownName all"),
+/// A thorn's number, an expression and its value, or the fault's word.
+const EXPRESSIONS: &[(u32, &str, Result<i64, &str>)] = &[
+    (2, "CCTK_Equals(pattern, \"POINT\")", Ok(1)),
+    (2, "pattern + 1", Err("NotNumber")),
+    (4, "CCTK_Equals(pattern, \"point\")", Ok(1)),
+    (0, "pattern + 1", Err("UnknownName")),
+    (0, "rule + all", Ok(92)),
+    (3, "many[1] + own", Ok(1)),
+    (4, "few[1]", Ok(1)),
+    (4, "many[1]", Err("UnknownName")),
+    (4, "few[2]", Err("UnknownName")),
+    (0, "CCTK_Equals(rule, \"90\")", Err("NotText")),
+    (9, "all", Err("UnknownName")),
 ];
 
-/// What an expression comes to in a thorn: a value, or the words of its fault.
-fn evaluated(alloc: Global, values: &Values, thorn: u32, source: &str) -> Result<Text, Fail> {
+fn word(fault: &ExprFault) -> &'static str {
+    match fault {
+        ExprFault::UnknownName(_) => "UnknownName",
+        ExprFault::NotNumber(_) => "NotNumber",
+        ExprFault::NotText(_) => "NotText",
+        ExprFault::Range(_) => "Range",
+    }
+}
+
+/// What an expression comes to in a thorn: a value, or the fault's word.
+fn evaluated(
+    alloc: Global,
+    values: &Values,
+    thorn: u32,
+    source: &str,
+) -> Result<Result<i64, &'static str>, Fail> {
     let (expr, _) = read_expr(alloc, &tokens(alloc, source.as_bytes(), Style::Ccl)?, 0)?;
     match eval(&expr, &values.lookup(thorn)) {
-        Ok(n) => text(alloc, n.to_string(alloc)?.as_bytes()),
-        Err(fault) => message(alloc, fault),
+        Ok(n) => Ok(Ok(n)),
+        Err(fault) => Ok(Err(word(fault))),
     }
 }
 
@@ -288,12 +333,8 @@ fn expressions_see_a_thorns_parameters(rt: HostRuntime) -> Result<(), Fail> {
     let alloc = rt.alloc();
     let values = values(alloc, ALL, "")??;
     for (thorn, source, want) in EXPRESSIONS {
-        let told = evaluated(alloc, &values, *thorn, source)?;
-        same(
-            &(source, "in thorn", thorn),
-            &told.as_slice(),
-            &want.as_bytes(),
-        )?;
+        let found = evaluated(alloc, &values, *thorn, source)?;
+        assert_eq!(rt; found, *want, "{source} in thorn {thorn}");
     }
     Ok(())
 }

@@ -25,7 +25,6 @@ use cx_wire::MemoryWire;
 use sample_files::FILES;
 use std::alloc::Global;
 use std::test::Fail;
-use test_cases::same;
 
 const ROW: &[u8] = b"ActiveThorns = \"ElemCA\"\n\
     Cactus::cctk_itlast = 2\n\
@@ -118,24 +117,24 @@ fn sections(rt: &HostRuntime, routines: &[Box<dyn Routine>]) -> Result<List<Reco
     }
 }
 
-/// The sections' values are the cells.
-fn are_cells(sections: &[Record]) -> Result<(), Fail> {
-    same(&"sections", &sections.len(), &CELLS.len())?;
-    for (section, cells) in sections.iter().zip(CELLS) {
-        let case = ("iteration", section.iteration);
-        same(&case, &section.values.as_slice(), cells)?;
-    }
-    Ok(())
-}
-
 #[test]
 fn eight_cells(rt: HostRuntime) -> Result<(), Fail> {
     let alloc = rt.alloc();
-    same(&"settings", &settings(alloc)?.list.len(), &6)?;
+    assert_eq!(rt; settings(alloc)?.list.len(), 6, "settings");
     let mut routines: Vec<Box<dyn Routine>> = Vec::new(alloc);
     routines.push(Box::new(alloc, CaInit::new(alloc)?)?)?;
     routines.push(Box::new(alloc, CaStep::new(alloc)?)?)?;
     routines.push(Box::new(alloc, CaZero::new(alloc)?)?)?;
     routines.push(Box::new(alloc, CaCount::new(alloc)?)?)?;
-    are_cells(sections(&rt, &routines)?.as_slice())
+    let sections = sections(&rt, &routines)?;
+    assert_eq!(rt; sections.len(), CELLS.len(), "sections");
+    for (section, cells) in sections.as_slice().iter().zip(CELLS) {
+        assert_eq!(rt;
+            section.values.as_slice(),
+            *cells,
+            "iteration {}",
+            section.iteration
+        );
+    }
+    Ok(())
 }

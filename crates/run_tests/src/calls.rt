@@ -1,28 +1,361 @@
-//! The top call over objects in memory.
-
-ghost use Rattle.std.specs.Prelude.{◌≤◌};
-ghost use Rattle.cx_core.specs.Starts.{AreEmpty};
+//! The top call over objects in memory and over devices that fail.
 
 use crate::carriers::wire;
-use crate::found::{said, wrote};
+use crate::cuts::CUTS;
+use crate::faults::{FAULTS, PLAIN, SAMPLE_FAULTS};
+use crate::jobs::{CA_OUTPUT, RUNS};
+use crate::samples::{BOX, CA, CONTROL, GLIDER, HEAT, LIFE, WAVE};
+use crate::schedules;
 use cx_disk::{Disk, MemoryDisk};
 use cx_program::answer;
 use cx_rule::Meter;
-use cx_run::{FolderShelf, MemoryShelf, MemorySink, Shelf};
+use cx_run::{FolderShelf, MemoryShelf, MemorySink, Shelf, Sink};
 use cx_text::{List, Memory, Text};
-use cx_turns::{SeededTurns, Turns};
-use cx_wire::Wire;
+use cx_turns::SeededTurns;
 use sample_files::{FILES, File};
-use sample_runs::answers::{ANSWERS, GRIDS, SHOWN, THORNS};
-use sample_runs::cuts::CUTS;
-use sample_runs::faults::{FAULTS, Fault, PLAIN, SAMPLE_FAULTS};
-use sample_runs::jobs::{FIRST_OUTPUT, RUNS, Run, SECOND_OUTPUT};
-use sample_runs::physics::{PHYSICS, PHYSICS_RUNS};
-use sample_runs::samples::PARAMETER_FILES;
 use std::alloc::Global;
 use std::fs;
 use std::test::Fail;
-use test_cases::same;
+
+const PARAMETER_FILES: &[File] = &[
+    File {
+        name: "ca.par",
+        bytes: CA,
+    },
+    File {
+        name: "life.par",
+        bytes: LIFE,
+    },
+    File {
+        name: "wave.par",
+        bytes: WAVE,
+    },
+    File {
+        name: "heat.par",
+        bytes: HEAT,
+    },
+    File {
+        name: "control.par",
+        bytes: CONTROL,
+    },
+    File {
+        name: "glider.par",
+        bytes: GLIDER,
+    },
+    File {
+        name: "box.par",
+        bytes: BOX,
+    },
+    File {
+        name: "byte.par",
+        bytes: b"a = 1\nb = \x01\n",
+    },
+    File {
+        name: "open.par",
+        bytes: b"a = \"1\nb = 2\n",
+    },
+    File {
+        name: "sign.par",
+        bytes: b"ca::start 3\n",
+    },
+    File {
+        name: "index.par",
+        bytes: b"a[1023] = 1\na[1024] = 1\n",
+    },
+];
+
+const USAGE: &str = "usage: cactus run FILE [--turns SEED]\n\
+        \x20      cactus check FILE\n\
+        \x20      cactus schedule FILE\n\
+        \x20      cactus describe FILE\n\
+        \x20      cactus parts FILE\n\
+        \x20      cactus make SEED SIZE\n\
+        \x20      cactus chunk FILE\n\
+        \x20      cactus recombine FILE\n";
+
+/// What `describe` prints before the schedule text.
+const KEY_BEGINS: &[u8] = b"thorn Integer/ElemCA ca\n\
+        direction x points 8 ghost 1 periodic\n\
+        variable 0 ca::cell BYTE GF levels 1\n\
+        variable 1 ca::live INT SCALAR levels 1\n\
+        parameter Cactus::cctk_itlast = \"2\"\n\
+        parameter Cactus::cctk_run_title = \"\"\n\
+        parameter Cactus::terminate = \"iteration\" 0\n\
+        parameter driver::global_nx = \"8\"\n\
+        parameter driver::global_ny = \"10\"\n\
+        parameter driver::global_nz = \"10\"\n\
+        parameter driver::global_nsize = \"-1\"\n\
+        parameter driver::ghost_size = \"-1\"\n\
+        parameter driver::ghost_size_x = \"1\"\n\
+        parameter driver::ghost_size_y = \"1\"\n\
+        parameter driver::ghost_size_z = \"1\"\n\
+        parameter driver::periodic = \"yes\"\n\
+        parameter driver::periodic_x = \"yes\"\n\
+        parameter driver::periodic_y = \"yes\"\n\
+        parameter driver::periodic_z = \"yes\"\n\
+        parameter driver::while_limit = \"1000\"\n\
+        parameter IO::out_vars = \"ca::cell\"\n\
+        parameter IO::out_every = \"1\"\n\
+        parameter IO::checkpoint_every = \"-1\"\n\
+        parameter IO::checkpoint_keep = \"1\"\n\
+        parameter IO::checkpoint_on_terminate = \"no\"\n\
+        parameter IO::checkpoint_ID = \"no\"\n\
+        parameter ca::rule = \"90\"\n\
+        parameter ca::start = \"3\"\n\
+        parameter ca::seed = \"-1\"\n";
+
+/// What it prints behind it.
+const STARRED_AND_CUT: &[u8] = b"parameter driver::parts_x = \"1\"\n\
+        parameter driver::parts_y = \"1\"\n\
+        parameter driver::parts_z = \"1\"\n\
+        parameter driver::widths_x = \"\"\n\
+        parameter driver::widths_y = \"\"\n\
+        parameter driver::widths_z = \"\"\n\
+        parameter driver::lead = \"0\"\n\
+        parameter IO::out_dir = \".\"\n\
+        parameter IO::checkpoint_dir = \".\"\n\
+        parameter IO::recover_dir = \".\"\n\
+        parameter IO::recover = \"no\" 0\n\
+        parameter IO::steer_file = \"\"\n\
+        cut x 8\n";
+
+/// Words, the status that they give and the text that is printed.
+struct Asked {
+    words: &'static [&'static str],
+    status: u8,
+    printed: &'static str,
+}
+
+const ANSWERS: &[Asked] = &[
+    Asked {
+        words: &[],
+        status: 1,
+        printed: USAGE,
+    },
+    Asked {
+        words: &["run"],
+        status: 1,
+        printed: USAGE,
+    },
+    Asked {
+        words: &["run", "-x"],
+        status: 1,
+        printed: USAGE,
+    },
+    Asked {
+        words: &["check", ""],
+        status: 1,
+        printed: USAGE,
+    },
+    Asked {
+        words: &["walk", "ca.par"],
+        status: 1,
+        printed: USAGE,
+    },
+    Asked {
+        words: &["run", "a", "--turns", "1", "--turns", "2"],
+        status: 1,
+        printed: USAGE,
+    },
+    Asked {
+        words: &["run", "--turns", "1"],
+        status: 1,
+        printed: USAGE,
+    },
+    Asked {
+        words: &["run", "ca.par", "--turns=18446744073709551616"],
+        status: 1,
+        printed: USAGE,
+    },
+    Asked {
+        words: &["check", "ca.par", "--turns=1"],
+        status: 1,
+        printed: USAGE,
+    },
+    Asked {
+        words: &["make", "1", "7"],
+        status: 1,
+        printed: USAGE,
+    },
+    Asked {
+        words: &["make"],
+        status: 1,
+        printed: USAGE,
+    },
+    Asked {
+        words: &["make", "1"],
+        status: 1,
+        printed: USAGE,
+    },
+    Asked {
+        words: &["make", "1", "1025"],
+        status: 1,
+        printed: USAGE,
+    },
+    Asked {
+        words: &["make", "1", "00008"],
+        status: 1,
+        printed: USAGE,
+    },
+    Asked {
+        words: &["make", "1", ""],
+        status: 1,
+        printed: USAGE,
+    },
+    Asked {
+        words: &["make", "1", "+8"],
+        status: 1,
+        printed: USAGE,
+    },
+    Asked {
+        words: &["make", "-1", "8"],
+        status: 1,
+        printed: USAGE,
+    },
+    Asked {
+        words: &["make", "", "8"],
+        status: 1,
+        printed: USAGE,
+    },
+    Asked {
+        words: &["make", "9223372036854775808", "8"],
+        status: 1,
+        printed: USAGE,
+    },
+    Asked {
+        words: &["make", "000000000000000000001", "8"],
+        status: 1,
+        printed: USAGE,
+    },
+    Asked {
+        words: &["make", "1", "8", "9"],
+        status: 1,
+        printed: USAGE,
+    },
+    Asked {
+        words: &["make", "1", "8", "--turns=1"],
+        status: 1,
+        printed: USAGE,
+    },
+    Asked {
+        words: &["make", "--turns=1", "8"],
+        status: 1,
+        printed: USAGE,
+    },
+    Asked {
+        words: &["chunk"],
+        status: 1,
+        printed: USAGE,
+    },
+    Asked {
+        words: &["recombine", "ca.par", "--turns=1"],
+        status: 1,
+        printed: USAGE,
+    },
+    Asked {
+        words: &["recombine", "no.par"],
+        status: 2,
+        printed: "refused: NoFile no.par\n",
+    },
+    Asked {
+        words: &["run", "no.par"],
+        status: 2,
+        printed: "refused: NoFile no.par\n",
+    },
+    Asked {
+        words: &["check", "no.par"],
+        status: 2,
+        printed: "refused: NoFile no.par\n",
+    },
+    Asked {
+        words: &["run", "byte.par"],
+        status: 2,
+        printed: "refused: byte.par BadByte 2\n",
+    },
+    Asked {
+        words: &["run", "open.par"],
+        status: 2,
+        printed: "refused: open.par OpenQuote 1\n",
+    },
+    Asked {
+        words: &["run", "sign.par"],
+        status: 2,
+        printed: "refused: sign.par Unexpected 1\n",
+    },
+    Asked {
+        words: &["run", "index.par"],
+        status: 2,
+        printed: "refused: index.par BadNumber 2\n",
+    },
+    Asked {
+        words: &["run", "ca.par"],
+        status: 0,
+        printed: "done: iteration 2\n",
+    },
+    Asked {
+        words: &["run", "--turns=3", "ca.par"],
+        status: 0,
+        printed: "done: iteration 2\n",
+    },
+    Asked {
+        words: &["run", "ca.par", "--turns", "3"],
+        status: 0,
+        printed: "done: iteration 2\n",
+    },
+    Asked {
+        words: &["check", "ca.par"],
+        status: 0,
+        printed: "accepted\n",
+    },
+    Asked {
+        words: &["check", "life.par"],
+        status: 0,
+        printed: "accepted\n",
+    },
+    Asked {
+        words: &["check", "wave.par"],
+        status: 0,
+        printed: "accepted\n",
+    },
+    Asked {
+        words: &["check", "heat.par"],
+        status: 0,
+        printed: "accepted\n",
+    },
+    Asked {
+        words: &["check", "control.par"],
+        status: 0,
+        printed: "accepted\n",
+    },
+    Asked {
+        words: &["check", "glider.par"],
+        status: 0,
+        printed: "accepted\n",
+    },
+    Asked {
+        words: &["check", "box.par"],
+        status: 0,
+        printed: "accepted\n",
+    },
+    Asked {
+        words: &["schedule", "ca.par"],
+        status: 0,
+        printed: schedules::CA,
+    },
+];
+
+/// Thorns, each with the grids' directions that it has.
+const THORNS: &[&str] = &["ElemCA", "Life2D", "WaveInt", "DiffInt"];
+
+/// Periodicity and ghost widths; none leaves the routines of reach 1 without ghost points.
+const GRIDS: &[&str] = &[
+    "driver::periodic = no\n",
+    "driver::periodic = yes\n",
+    "driver::periodic = yes\ndriver::periodic_x = no\n",
+    "driver::ghost_size = 2\n",
+    "driver::ghost_size = 8\ndriver::global_nsize = 40\n",
+    "driver::ghost_size_x = 3\ndriver::periodic = yes\n",
+];
 
 pub(crate) fn texts(alloc: Global, words: &[&str]) -> Result<Vec<Text>, Memory> {
     let mut texts = Vec::new(alloc);
@@ -55,6 +388,11 @@ pub(crate) fn sink(alloc: Global, fail: &[u64]) -> Result<MemorySink, Memory> {
     MemorySink::new(alloc, 10_000, List::new(fail.to_vec(alloc)?))
 }
 
+/// The output files of the first variable that is written, and of the second one.
+pub(crate) const FIRST_OUTPUT: usize = 9;
+
+pub(crate) const SECOND_OUTPUT: usize = 10;
+
 /// What a call came to: its status, what is printed, the two output files, and how much is computed and exchanged.
 #[derive(Drop)]
 pub(crate) struct Outcome {
@@ -67,52 +405,6 @@ pub(crate) struct Outcome {
     pub(crate) sum: u64,
 }
 
-/// The status of a command over these devices, and how many points it computes.
-pub(crate) fn status_over<H: Shelf, D: Disk, W: Wire, T: Turns>(
-    rt: &HostRuntime,
-    words: &[&str],
-    shelf: &mut H,
-    disk: &mut D,
-    wire: &mut W,
-    turns: &mut T,
-    out: &mut MemorySink,
-) -> Result<(u8, u128), Fail>
-    requires parts { 512 ≤ W.parts wire.old }
-    requires empty { AreEmpty (W.queue wire.old) }
-{
-    let alloc = rt.alloc();
-    let words = texts(alloc, words)?;
-    let mut meter = Meter::new(rt);
-    let status = answer(alloc, &words, shelf, disk, wire, turns, out, &mut meter)?;
-    Ok((status, meter.count()))
-}
-
-/// What a command comes to over a shelf, a disk and a wire, of which nothing else is looked at.
-pub(crate) fn answer_by<H: Shelf, D: Disk, W: Wire>(
-    rt: &HostRuntime,
-    words: &[&str],
-    shelf: &mut H,
-    disk: &mut D,
-    wire: &mut W,
-) -> Result<Outcome, Fail>
-    requires parts { 512 ≤ W.parts wire.old }
-    requires empty { AreEmpty (W.queue wire.old) }
-{
-    let alloc = rt.alloc();
-    let mut turns = SeededTurns::new();
-    let mut out = sink(alloc, &[])?;
-    let (status, points) = status_over(rt, words, shelf, disk, wire, &mut turns, &mut out)?;
-    Ok(Outcome {
-        status,
-        printed: out.bytes().to_vec(alloc)?,
-        first: Vec::new(alloc),
-        second: Vec::new(alloc),
-        points,
-        received: 0,
-        sum: 0,
-    })
-}
-
 /// What a command comes to over a shelf and a disk, whose outputs aren't looked at.
 pub(crate) fn answer_over<H: Shelf, D: Disk>(
     rt: &HostRuntime,
@@ -120,11 +412,24 @@ pub(crate) fn answer_over<H: Shelf, D: Disk>(
     shelf: &mut H,
     disk: &mut D,
 ) -> Result<Outcome, Fail> {
-    let mut wire = wire(rt.alloc())?;
-    let mut came = answer_by(rt, words, shelf, disk, &mut wire)?;
-    came.received = wire.received();
-    came.sum = wire.received_sum();
-    Ok(came)
+    let alloc = rt.alloc();
+    let words = texts(alloc, words)?;
+    let mut wire = wire(alloc)?;
+    let mut turns = SeededTurns::new();
+    let mut out = sink(alloc, &[])?;
+    let mut meter = Meter::new(rt);
+    let status = answer(
+        alloc, &words, shelf, disk, &mut wire, &mut turns, &mut out, &mut meter,
+    )?;
+    Ok(Outcome {
+        status,
+        printed: out.bytes().to_vec(alloc)?,
+        first: Vec::new(alloc),
+        second: Vec::new(alloc),
+        points: meter.count(),
+        received: wire.received(),
+        sum: wire.received_sum(),
+    })
 }
 
 /// What a command comes to over a shelf, on this disk.
@@ -167,37 +472,63 @@ pub(crate) fn shelf_with(
     Ok(MemoryShelf::new(List::new(list)))
 }
 
-/// What a command on a job's parameter file comes to, on a new disk.
-pub(crate) fn answer_of(
-    rt: &HostRuntime,
-    word: &str,
-    file: &[u8],
-    more: &str,
-    others: &[File],
-) -> Result<Outcome, Fail> {
-    let mut shelf = shelf_with(rt.alloc(), file, more, others)?;
-    answer_to(rt, &[word, "t.par"], &mut shelf)
-}
-
 #[test]
 fn answers(rt: HostRuntime) -> Result<(), Fail> {
-    let mut shelf = shelf(rt.alloc(), PARAMETER_FILES, FILES)?;
+    let alloc = rt.alloc();
+    let mut shelf = shelf(alloc, PARAMETER_FILES, FILES)?;
     for asked in ANSWERS {
         let came = answer_to(&rt, asked.words, &mut shelf)?;
-        said(&asked.words, &came, asked.status, asked.printed.as_bytes())?;
+        let found = (came.status, came.printed.as_slice());
+        let want = (asked.status, asked.printed.as_bytes());
+        assert_eq!(rt; found, want, "{:?}", asked.words);
     }
     Ok(())
 }
 
 #[test]
+fn description_of_eight_points(rt: HostRuntime) -> Result<(), Fail> {
+    let alloc = rt.alloc();
+    let mut shelf = shelf(alloc, PARAMETER_FILES, FILES)?;
+    let mut expected = Text::from_slice(alloc, KEY_BEGINS)?;
+    expected.push_slice(schedules::CA.as_bytes())?;
+    expected.push_slice(STARRED_AND_CUT)?;
+    let came = answer_to(&rt, &["describe", "ca.par"], &mut shelf)?;
+    let found = (came.status, came.printed.as_slice());
+    assert_eq!(rt; found, (0, expected.as_slice()), "describe ca.par");
+    Ok(())
+}
+
+/// Examples, the schedules that are printed of them, and the first lines of their descriptions.
+const SHOWN: &[(&str, &str, &str)] = &[
+    ("ca.par", schedules::CA, "thorn Integer/ElemCA ca\n"),
+    ("life.par", schedules::LIFE, "thorn Integer/Life2D life\n"),
+    ("wave.par", schedules::WAVE, "thorn Integer/WaveInt wave\n"),
+    ("heat.par", schedules::HEAT, "thorn Integer/DiffInt diff\n"),
+    (
+        "control.par",
+        schedules::CONTROL,
+        "thorn Integer/Control control\n",
+    ),
+    ("glider.par", schedules::LIFE, "thorn Integer/Life2D life\n"),
+    (
+        "box.par",
+        schedules::BOX,
+        "thorn Integer/WaveInt wave\nthorn Integer/DiffInt diff\n\
+        thorn Integer/ElemCA ca\nthorn Integer/Control control\n",
+    ),
+];
+
+#[test]
 fn sample_thorns_are_shown(rt: HostRuntime) -> Result<(), Fail> {
-    let mut shelf = shelf(rt.alloc(), PARAMETER_FILES, FILES)?;
+    let alloc = rt.alloc();
+    let mut shelf = shelf(alloc, PARAMETER_FILES, FILES)?;
     for (file, schedule, thorns) in SHOWN {
         let came = answer_to(&rt, &["schedule", file], &mut shelf)?;
-        said(&("schedule", file), &came, 0, schedule.as_bytes())?;
+        let found = (came.status, came.printed.as_slice());
+        assert_eq!(rt; found, (0, schedule.as_bytes()), "schedule {file}");
         let came = answer_to(&rt, &["describe", file], &mut shelf)?;
-        let begins = came.status == 0 && came.printed.starts_with(thorns.as_bytes());
-        same(&("describe", file), &begins, &true)?;
+        let found = (came.status, came.printed.starts_with(thorns.as_bytes()));
+        assert_eq!(rt; found, (0, true), "describe {file}");
     }
     Ok(())
 }
@@ -205,72 +536,73 @@ fn sample_thorns_are_shown(rt: HostRuntime) -> Result<(), Fail> {
 #[test]
 fn grids_that_are_cut(rt: HostRuntime) -> Result<(), Fail> {
     for cut in CUTS {
-        let came = answer_of(&rt, cut.word, cut.file, "", cut.others)?;
-        said(&cut.name, &came, cut.status, cut.printed)?;
+        let mut shelf = shelf_with(rt.alloc(), cut.file, "", cut.others)?;
+        let came = answer_to(&rt, &[cut.word, "t.par"], &mut shelf)?;
+        assert_eq!(rt; came.printed.as_slice(), cut.printed, "{}", cut.name);
     }
     Ok(())
 }
 
-/// What `check t.par` comes to with each fault's files before others.
-fn faults_are_found(rt: &HostRuntime, faults: &[Fault], others: &[File]) -> Result<(), Fail> {
-    for fault in faults {
-        let mut shelf = shelf(rt.alloc(), fault.files, others)?;
-        let came = answer_to(rt, &["check", "t.par"], &mut shelf)?;
-        said(
-            &fault.printed,
-            &came,
-            fault.status,
-            fault.printed.as_bytes(),
-        )?;
-    }
-    Ok(())
+/// What `check t.par` prints where these files come before others.
+fn checked(rt: &HostRuntime, files: &[File], more: &[File]) -> Result<Vec<u8>, Fail> {
+    let mut shelf = shelf(rt.alloc(), files, more)?;
+    Ok(answer_to(rt, &["check", "t.par"], &mut shelf)?.printed)
 }
 
 #[test]
 fn faults_of_plain_and_sample_thorns(rt: HostRuntime) -> Result<(), Fail> {
-    faults_are_found(&rt, FAULTS, PLAIN)?;
-    faults_are_found(&rt, SAMPLE_FAULTS, FILES)
-}
-
-/// A thorn's job is accepted on each grid.
-fn accepted_on_grids(rt: &HostRuntime, thorn: &str) -> Result<(), Fail> {
-    for grid in GRIDS {
-        let came = answer_of(rt, "check", thorn.as_bytes(), grid, &[])?;
-        said(&(thorn, grid), &came, 0, b"accepted\n")?;
+    for fault in FAULTS {
+        let printed = checked(&rt, fault.files, PLAIN)?;
+        let want = fault.printed;
+        assert_eq!(rt; printed.as_slice(), want.as_bytes(), "{want}");
+    }
+    for fault in SAMPLE_FAULTS {
+        let printed = checked(&rt, fault.files, FILES)?;
+        let want = fault.printed;
+        assert_eq!(rt; printed.as_slice(), want.as_bytes(), "{want}");
     }
     Ok(())
+}
+
+const ACCEPTED: &[u8] = b"accepted\n";
+
+/// The first line of a parameter file of one thorn.
+fn activation(alloc: Global, thorn: &str) -> Result<Text, Memory> {
+    let mut text = Text::from_slice(alloc, b"ActiveThorns = ")?;
+    text.push_slice(thorn.as_bytes())?;
+    text.push_slice(b"\n")?;
+    Ok(text)
 }
 
 #[test]
 fn sample_thorns_on_many_grids(rt: HostRuntime) -> Result<(), Fail> {
+    let alloc = rt.alloc();
     for thorn in THORNS {
-        accepted_on_grids(&rt, thorn)?;
+        for grid in GRIDS {
+            let line = activation(alloc, thorn)?;
+            let mut shelf = shelf_with(alloc, line.as_slice(), grid, &[])?;
+            let came = answer_to(&rt, &["check", "t.par"], &mut shelf)?;
+            let found = (came.status, came.printed.as_slice());
+            assert_eq!(rt; found, (0, ACCEPTED), "{thorn} with {grid:?}");
+        }
     }
     Ok(())
-}
-
-/// A run comes to what is said of it, where these files stand in place of others.
-fn comes_out(rt: &HostRuntime, run: &Run, others: &[File]) -> Result<(), Fail> {
-    let came = answer_of(rt, "run", run.file, run.more, others)?;
-    said(&run.name, &came, run.status, run.printed)?;
-    wrote(&run.name, &came, run.first, run.second)?;
-    let points = run.points.unwrap_or(came.points);
-    same(&(run.name, "points"), &came.points, &points)
 }
 
 #[test]
 fn runs_of_jobs(rt: HostRuntime) -> Result<(), Fail> {
+    let alloc = rt.alloc();
     for run in RUNS {
-        comes_out(&rt, run, run.others)?;
+        let mut shelf = shelf_with(alloc, run.file, run.more, run.others)?;
+        let came = answer_to(&rt, &["run", "t.par"], &mut shelf)?;
+        let found = (came.status, came.printed.as_slice());
+        assert_eq!(rt; found, (run.status, run.printed), "{}", run.name);
+        let found = (came.first.as_slice(), came.second.as_slice());
+        assert_eq!(rt; found, (run.first, run.second), "{}", run.name);
+        let points = run.points.unwrap_or(came.points);
+        assert_eq!(rt; came.points, points, "points of {}", run.name);
     }
-    Ok(())
-}
-
-#[test]
-fn heat_and_gas(rt: HostRuntime) -> Result<(), Fail> {
-    for run in PHYSICS_RUNS {
-        comes_out(&rt, run, PHYSICS)?;
-    }
+    assert_eq!(rt; CA_OUTPUT.len(), 141, "the bytes of the automaton's output");
     Ok(())
 }
 
@@ -281,7 +613,10 @@ fn file_that_is_too_long(rt: HostRuntime) -> Result<(), Fail> {
     let bytes = Text::new(vec![in alloc; b' '; 1_048_577]?);
     let mut shelf = MemoryShelf::new(List::new(vec![in alloc; (name, bytes)]?));
     let came = answer_to(&rt, &["run", "long.par"], &mut shelf)?;
-    said(&"1,048,577 bytes", &came, 2, b"refused: long.par TooLong\n")
+    let found = (came.status, came.printed.as_slice());
+    let want = b"refused: long.par TooLong\n".as_slice();
+    assert_eq!(rt; found, (2, want), "1,048,577 bytes");
+    Ok(())
 }
 
 #[test]
@@ -291,11 +626,8 @@ fn files_of_the_current_folder(rt: HostRuntime) -> Result<(), Fail> {
     let mut shelf = FolderShelf::new(rt.clone()?);
     let found = shelf.read(alloc, &Text::from_slice(alloc, b"ca.par")?);
     let is_found = matches!(&found, Ok(Some(bytes)) if bytes.as_slice() == b"bytes".as_slice());
-    same(&"a file that is there", &is_found, &true)?;
+    assert!(rt; is_found, "a file that is there");
     let missing = shelf.read(alloc, &Text::from_slice(alloc, b"b.par")?);
-    same(
-        &"a file that is missing",
-        &matches!(&missing, Ok(None)),
-        &true,
-    )
+    assert!(rt; matches!(&missing, Ok(None)), "a file that is missing");
+    Ok(())
 }

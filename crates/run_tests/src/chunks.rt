@@ -1,17 +1,74 @@
 //! Commands on the chunks of runs.
 
-use crate::calls::{answer_on, shelf_with};
-use crate::found::said;
+use crate::calls::{FIRST_OUTPUT, SECOND_OUTPUT, answer_on, shelf_with};
+use crate::parts::{THORN_JOBS, Thorn};
+use crate::samples::CA;
 use cx_disk::MemoryDisk;
 use cx_run::MemoryShelf;
 use cx_text::{List, Memory, Text};
-use sample_runs::chunks::{CUT, FAULTS, Fault, STEPS};
-use sample_runs::cut_runs::{THORN_JOBS, Thorn};
-use sample_runs::jobs::{FIRST_OUTPUT, SECOND_OUTPUT};
-use sample_runs::samples::CA;
 use std::alloc::Global;
 use std::test::Fail;
-use test_cases::same;
+
+const RUN: &[&str] = &["run", "t.par"];
+
+/// The lines that a parameter file has more, a command, its status and what it prints.
+struct Step {
+    more: &'static str,
+    word: &'static str,
+    status: u8,
+    printed: &'static str,
+}
+
+const CUT: &str = "driver::widths_x = \"3 5\"\n";
+
+const OTHER_CUT: &str = "driver::widths_x = \"4 4\"\n";
+
+const MORE_PARTS: &str = "driver::widths_x = \"3 3 2\"\n";
+
+const STEPS: &[Step] = &[
+    Step {
+        more: CUT,
+        word: "chunk",
+        status: 0,
+        printed: "chunked: parts 2 records 0\n",
+    },
+    Step {
+        more: CUT,
+        word: "recombine",
+        status: 0,
+        printed: "recombined: records 0 bytes 0\n",
+    },
+    Step {
+        more: CUT,
+        word: "run",
+        status: 0,
+        printed: "done: iteration 2\n",
+    },
+    Step {
+        more: CUT,
+        word: "chunk",
+        status: 0,
+        printed: "chunked: parts 2 records 3\n",
+    },
+    Step {
+        more: OTHER_CUT,
+        word: "recombine",
+        status: 7,
+        printed: "chunks: Stranger 0 ca::cell 0\n",
+    },
+    Step {
+        more: MORE_PARTS,
+        word: "recombine",
+        status: 7,
+        printed: "chunks: Stranger 0 ca::cell 0\n",
+    },
+    Step {
+        more: CUT,
+        word: "recombine",
+        status: 0,
+        printed: "recombined: records 3 bytes 141\n",
+    },
+];
 
 /// The files of the chunks of two parts, and of the whole output.
 const FIRST_CHUNK: usize = 1024;
@@ -27,18 +84,20 @@ fn chunks_of_a_run(rt: HostRuntime) -> Result<(), Fail> {
     for step in STEPS {
         let mut shelf = shelf_with(alloc, CA, step.more, &[])?;
         let came = answer_on(&rt, &[step.word, "t.par"], &mut shelf, &mut disk)?;
-        said(
-            &(step.word, step.more),
-            &came,
-            step.status,
-            step.printed.as_bytes(),
-        )?;
+        let found = (came.status, came.printed.as_slice());
+        let want = (step.status, step.printed.as_bytes());
+        assert_eq!(rt; found, want, "{} {}", step.word, step.more);
     }
-    same(
-        &"the whole output",
-        &disk.bytes(WHOLE),
-        &disk.bytes(FIRST_OUTPUT),
-    )
+    assert_eq!(rt; disk.bytes(WHOLE), disk.bytes(FIRST_OUTPUT));
+    Ok(())
+}
+
+/// The status of a run, and the disk that it leaves.
+fn left_by_run(rt: &HostRuntime, shelf: &mut MemoryShelf) -> Result<(u8, MemoryDisk), Fail> {
+    let alloc = rt.alloc();
+    let mut disk = MemoryDisk::new(alloc, List::empty(alloc));
+    let ran = answer_on(rt, RUN, shelf, &mut disk)?;
+    Ok((ran.status, disk))
 }
 
 /// The outputs on a disk, one after another.
@@ -48,30 +107,25 @@ fn outputs_of(alloc: Global, disk: &MemoryDisk) -> Result<Text, Memory> {
     Ok(outputs)
 }
 
-/// Whether commands on a job end well, one after another.
-fn end_well(
+/// The statuses of both commands, one after another, on a disk.
+fn both_commands(
     rt: &HostRuntime,
-    words: &[&str],
     shelf: &mut MemoryShelf,
     disk: &mut MemoryDisk,
-) -> Result<bool, Fail> {
-    for word in words {
-        let came = answer_on(rt, &[word, "t.par"], shelf, disk)?;
-        if came.status != 0 {
-            return Ok(false);
-        }
-    }
-    Ok(true)
+) -> Result<(u8, u8), Fail> {
+    let cut = answer_on(rt, &["chunk", "t.par"], shelf, disk)?;
+    let whole = answer_on(rt, &["recombine", "t.par"], shelf, disk)?;
+    Ok((cut.status, whole.status))
 }
 
 /// Whether the outputs of a job come together again, byte for byte, after they have been cut into chunks.
 fn comes_together(rt: &HostRuntime, thorn: &Thorn, cut: &str) -> Result<bool, Fail> {
     let alloc = rt.alloc();
     let mut shelf = shelf_with(alloc, thorn.file, cut, thorn.others)?;
-    let mut disk = MemoryDisk::new(alloc, List::empty(alloc));
-    let well = end_well(rt, &["run", "chunk", "recombine"], &mut shelf, &mut disk)?;
+    let (ran, mut disk) = left_by_run(rt, &mut shelf)?;
+    let done = both_commands(rt, &mut shelf, &mut disk)?;
     let outputs = outputs_of(alloc, &disk)?;
-    Ok(well && disk.bytes(WHOLE) == outputs.as_slice())
+    Ok(ran == 0 && done == (0, 0) && disk.bytes(WHOLE) == outputs.as_slice())
 }
 
 #[test]
@@ -79,11 +133,64 @@ fn chunks_of_sample_thorns(rt: HostRuntime) -> Result<(), Fail> {
     for thorn in THORN_JOBS {
         for cut in thorn.cuts {
             let found = comes_together(&rt, thorn, cut)?;
-            same(&(thorn.name, cut), &found, &true)?;
+            assert!(rt; found, "{} {cut:?}", thorn.name);
         }
     }
     Ok(())
 }
+
+/// The bytes of the automaton's output and of the chunks of two parts, a command, and what it prints.
+struct Fault {
+    output: &'static [u8],
+    chunks: [&'static [u8]; 2],
+    word: &'static str,
+    printed: &'static str,
+}
+
+const FAULTS: &[Fault] = &[
+    Fault {
+        output: b"# ca::cell iteration 0 size 8\n0 0 0 1\n\n",
+        chunks: [b"", b""],
+        word: "chunk",
+        printed: "chunks: NotOutput ca::cell.asc\n",
+    },
+    Fault {
+        output: b"",
+        chunks: [b"", b"0 1\n"],
+        word: "recombine",
+        printed: "chunks: Bad 1\n",
+    },
+    // chunk 1 copied over chunk 0
+    Fault {
+        output: b"",
+        chunks: [
+            b"# ca::cell iteration 0 part 1 of 2 from 3 size 5\n1 0 0 0 0\n\n",
+            b"# ca::cell iteration 0 part 1 of 2 from 3 size 5\n1 0 0 0 0\n\n",
+        ],
+        word: "recombine",
+        printed: "chunks: Stranger 0 ca::cell 0\n",
+    },
+    Fault {
+        output: b"",
+        chunks: [
+            b"# ca::cell iteration 1 part 0 of 2 from 0 size 3\n0 0 1\n\n",
+            b"# ca::cell iteration 1 part 1 of 2 from 3 size 5\n0 1 0 0 0\n\n\
+                # ca::cell iteration 1 part 1 of 2 from 3 size 5\n0 1 0 0 0\n\n",
+        ],
+        word: "recombine",
+        printed: "chunks: Double 1 ca::cell 1\n",
+    },
+    Fault {
+        output: b"",
+        chunks: [
+            b"# ca::cell iteration 0 part 0 of 2 from 0 size 3\n0 0 0\n\n\
+                # ca::cell iteration 1 part 0 of 2 from 0 size 3\n0 0 1\n\n",
+            b"# ca::cell iteration 0 part 1 of 2 from 3 size 5\n1 0 0 0 0\n\n",
+        ],
+        word: "recombine",
+        printed: "chunks: Missing 1 ca::cell 1\n",
+    },
+];
 
 /// The bytes that a file has before a command that finds a fault.
 fn bytes_before(fault: &Fault, file: usize) -> &'static [u8] {
@@ -111,7 +218,9 @@ fn faults_of_chunks(rt: HostRuntime) -> Result<(), Fail> {
     for fault in FAULTS {
         let mut disk = disk_before(alloc, fault)?;
         let came = answer_on(&rt, &[fault.word, "t.par"], &mut shelf, &mut disk)?;
-        said(&fault.printed, &came, 7, fault.printed.as_bytes())?;
+        let found = (came.status, came.printed.as_slice());
+        let want = (7, fault.printed.as_bytes());
+        assert_eq!(rt; found, want, "{}", fault.printed);
     }
     Ok(())
 }

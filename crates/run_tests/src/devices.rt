@@ -1,4 +1,4 @@
-//! Devices that fail in one call, a disk whose files are long, a wire that takes no message, and sources of turns that always pick alike.
+//! Devices that fail in one call, a disk whose files are long, and sources of turns that always pick alike.
 ghost use Rattle.std.specs.Prelude.{◌≡◌, IfOk};
 ghost use Rattle.cx_disk.specs.Disk.{files_in, untold};
 
@@ -7,7 +7,6 @@ use cx_job_files::FailingShelf;
 use cx_run::MemoryShelf;
 use cx_text::{List, Memory, Text};
 use cx_turns::Turns;
-use cx_wire::{Head, Mail, Wire, WireFault};
 use std::alloc::{AllocError, Global};
 use std::marker::Model;
 
@@ -189,40 +188,5 @@ impl Disk for LongDisk {
 
     fn sync(&mut self, _file: u32) -> Result<(), DiskFault> {
         Err(DiskFault::Memory)
-    }
-}
-
-/// A wire between 512 parts that takes no message, as for want of memory.
-#[derive(Drop)]
-pub struct SilentWire;
-
-impl Wire for SilentWire {
-    ghost use Rattle.std.specs.Prelude.{true, []};
-    ghost use Rattle.cx_wire.specs.Memory.{new_wire, carried_sum, carried_sum_fits};
-
-    ghost tells = { true };
-
-    ghost parts = { λ _. 512 };
-
-    ghost queue = { λ _ _ _. [] };
-
-    ghost received = { λ _. 0 };
-
-    ghost sum = { λ _. carried_sum (new_wire 512) };
-
-    ghost faults = { λ _. 0 };
-
-    ghost sum_fits = { λ _ _. carried_sum_fits (new_wire 512) };
-
-    fn send(&mut self, _from: u32, _to: u32, mail: Mail) -> Result<(), (WireFault, Mail)> {
-        Err((WireFault::Memory, mail))
-    }
-
-    fn front(&self, _from: u32, _to: u32) -> Option<Head> {
-        None
-    }
-
-    fn receive(&mut self, _from: u32, _to: u32) -> Result<Mail, WireFault> {
-        unreachable!()
     }
 }

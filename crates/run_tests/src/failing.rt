@@ -1,20 +1,228 @@
 //! Each call of each device fails once, and what the next call over the same devices comes to.
 
-use crate::calls::{answer_to, shelf_with, sink, status_over};
+use crate::calls::{FIRST_OUTPUT, SECOND_OUTPUT, answer_to, shelf_with, sink, texts};
 use crate::carriers::{failing, wire};
 use crate::devices::{failing_disk, failing_shelf};
+use crate::jobs::CA_OUTPUT;
+use crate::samples::CA;
+use crate::stops::{BOX_FIELDS, BOX_FILE, BOX_SUMS, BOX_THORNS, EACH};
 use cx_disk::{Disk, MemoryDisk};
+use cx_program::answer;
+use cx_rule::Meter;
 use cx_run::{MemorySink, Shelf};
+use cx_text::{List, Text};
 use cx_turns::SeededTurns;
-use sample_runs::calls_of_devices::{BOX_JOB, JOBS, Job};
-use sample_runs::checkpoints::EACH;
-use sample_runs::jobs::{FIRST_OUTPUT, SECOND_OUTPUT};
-use sample_runs::samples::CA;
+use sample_files::File;
+use std::alloc::Global;
 use std::test::Fail;
-use test_cases::same;
+
+/// A job, with how many calls of the disk, the wire and the shelf its run from nothing makes; the sink is called once.
+struct Job {
+    name: &'static str,
+    file: &'static [u8],
+    more: &'static str,
+    others: &'static [File],
+    disk: u64,
+    wire: u64,
+    shelf: u64,
+    status: u8,
+    printed: &'static [u8],
+    first: &'static [u8],
+    second: &'static [u8],
+}
+
+/// The automaton with a checkpoint in each iteration, in one part and in two, and a run that ends earlier. The automaton exchanges twice,
+/// and each of its parts sends and receives two messages then. What is read are the parameter file, the list of thorns, and four files of
+/// a thorn.
+const JOBS: &[Job] = &[
+    Job {
+        name: "cells in one part",
+        file: CA,
+        more: EACH,
+        others: &[],
+        disk: 49,
+        wire: 8,
+        shelf: 6,
+        status: 0,
+        printed: b"done: iteration 2\n",
+        first: CA_OUTPUT,
+        second: b"",
+    },
+    Job {
+        name: "cells in two parts",
+        file: CA,
+        more: "driver::parts_x = 2\n\
+            IO::checkpoint_every = 1\n\
+            IO::recover = \"autoprobe\"\n",
+        others: &[],
+        disk: 49,
+        wire: 16,
+        shelf: 6,
+        status: 0,
+        printed: b"done: iteration 2\n",
+        first: CA_OUTPUT,
+        second: b"",
+    },
+    Job {
+        name: "a count past its limit",
+        file: b"ActiveThorns = \"Control\"\n\
+            control::drop = 0\n\
+            IO::out_vars = \"control::count\"\n",
+        more: "IO::recover = \"autoprobe\"\n",
+        others: &[],
+        disk: 22,
+        wire: 0,
+        shelf: 6,
+        status: 3,
+        printed: b"ended: WhileLimit 1 EVOL/control_spin\n",
+        first: b"# control::count iteration 0 value 3\n",
+        second: b"",
+    },
+];
+
+/// What two calls over the same devices come to, of which one fails once: their statuses, what each prints, and the two output files.
+#[derive(Drop)]
+struct Twice {
+    first: u8,
+    said: Vec<u8>,
+    second: u8,
+    printed: Vec<u8>,
+    first_output: Vec<u8>,
+    second_output: Vec<u8>,
+}
+
+/// Runs `t.par` over these devices and a new wire.
+fn run_anew<H: Shelf, D: Disk>(
+    rt: &HostRuntime,
+    shelf: &mut H,
+    disk: &mut D,
+    out: &mut MemorySink,
+) -> Result<u8, Fail> {
+    let alloc = rt.alloc();
+    let words = texts(alloc, &["run", "t.par"])?;
+    let mut wire = wire(alloc)?;
+    let mut turns = SeededTurns::new();
+    let mut meter = Meter::new(rt);
+    Ok(answer(
+        alloc, &words, shelf, disk, &mut wire, &mut turns, out, &mut meter,
+    )?)
+}
+
+/// Runs it over a wire that fails in one call.
+fn run_cut_off<H: Shelf, D: Disk>(
+    rt: &HostRuntime,
+    shelf: &mut H,
+    disk: &mut D,
+    out: &mut MemorySink,
+    fail: u64,
+) -> Result<u8, Fail> {
+    let alloc = rt.alloc();
+    let words = texts(alloc, &["run", "t.par"])?;
+    let mut wire = failing(alloc, fail)?;
+    let mut turns = SeededTurns::new();
+    let mut meter = Meter::new(rt);
+    Ok(answer(
+        alloc, &words, shelf, disk, &mut wire, &mut turns, out, &mut meter,
+    )?)
+}
+
+/// Both calls, by the first one's status and text.
+fn both_calls(
+    alloc: Global,
+    first: u8,
+    said: Vec<u8>,
+    second: u8,
+    out: &MemorySink,
+    disk: &MemoryDisk,
+) -> Result<Twice, Fail> {
+    let printed = out.bytes().get(said.len()..).unwrap_or(&[]).to_vec(alloc)?;
+    Ok(Twice {
+        first,
+        said,
+        second,
+        printed,
+        first_output: disk.bytes(FIRST_OUTPUT).to_vec(alloc)?,
+        second_output: disk.bytes(SECOND_OUTPUT).to_vec(alloc)?,
+    })
+}
+
+/// Over a disk that fails in one call.
+fn disk_fails(rt: &HostRuntime, job: &Job, fail: u64) -> Result<Twice, Fail> {
+    let alloc = rt.alloc();
+    let mut shelf = shelf_with(alloc, job.file, job.more, job.others)?;
+    let mut disk = failing_disk(alloc, fail)?;
+    let mut out = sink(alloc, &[])?;
+    let first = run_anew(rt, &mut shelf, &mut disk, &mut out)?;
+    let said = out.bytes().to_vec(alloc)?;
+    let second = run_anew(rt, &mut shelf, &mut disk, &mut out)?;
+    both_calls(alloc, first, said, second, &out, &disk.into_inner())
+}
+
+/// Over a wire that fails in one call, and then a new one.
+fn wire_fails(rt: &HostRuntime, job: &Job, fail: u64) -> Result<Twice, Fail> {
+    let alloc = rt.alloc();
+    let mut shelf = shelf_with(alloc, job.file, job.more, job.others)?;
+    let mut disk = MemoryDisk::new(alloc, List::empty(alloc));
+    let mut out = sink(alloc, &[])?;
+    let first = run_cut_off(rt, &mut shelf, &mut disk, &mut out, fail)?;
+    let said = out.bytes().to_vec(alloc)?;
+    let second = run_anew(rt, &mut shelf, &mut disk, &mut out)?;
+    both_calls(alloc, first, said, second, &out, &disk)
+}
+
+/// Over a shelf that fails in one reading.
+fn shelf_fails(rt: &HostRuntime, job: &Job, fail: u64) -> Result<Twice, Fail> {
+    let alloc = rt.alloc();
+    let files = shelf_with(alloc, job.file, job.more, job.others)?;
+    let mut shelf = failing_shelf(alloc, files, fail)?;
+    let mut disk = MemoryDisk::new(alloc, List::empty(alloc));
+    let mut out = sink(alloc, &[])?;
+    let first = run_anew(rt, &mut shelf, &mut disk, &mut out)?;
+    let said = out.bytes().to_vec(alloc)?;
+    let second = run_anew(rt, &mut shelf, &mut disk, &mut out)?;
+    both_calls(alloc, first, said, second, &out, &disk)
+}
+
+/// Over a sink that fails in one call.
+fn sink_fails(rt: &HostRuntime, job: &Job, fail: u64) -> Result<Twice, Fail> {
+    let alloc = rt.alloc();
+    let mut shelf = shelf_with(alloc, job.file, job.more, job.others)?;
+    let mut disk = MemoryDisk::new(alloc, List::empty(alloc));
+    let mut out = sink(alloc, &[fail])?;
+    let first = run_anew(rt, &mut shelf, &mut disk, &mut out)?;
+    let said = out.bytes().to_vec(alloc)?;
+    let second = run_anew(rt, &mut shelf, &mut disk, &mut out)?;
+    both_calls(alloc, first, said, second, &out, &disk)
+}
+
+/// Whether the first call failed by the device of that text, or in silence, and the second one came to what the job's run comes to.
+fn is_whole(came: &Twice, said: &[u8], job: &Job) -> bool {
+    came.first == 4
+        && came.said.as_slice() == said
+        && came.second == job.status
+        && came.printed.as_slice() == job.printed
+        && came.first_output.as_slice() == job.first
+        && came.second_output.as_slice() == job.second
+}
+
+/// The box with checkpoints of iterations 20 and 40, with one call of each device that fails: the disk's first sync, after the mount and a
+/// look at each slot; the first message; and the list of thorns, the second file.
+const BOX_JOB: &Job = &Job {
+    name: "the box",
+    file: BOX_FILE,
+    more: "",
+    others: BOX_THORNS,
+    disk: 9,
+    wire: 0,
+    shelf: 1,
+    status: 0,
+    printed: b"done: iteration 40\n",
+    first: BOX_FIELDS,
+    second: BOX_SUMS,
+};
 
 /// A device of a call.
-#[derive(Clone, Copy, Debug, PartialEq)]
+#[derive(Clone, Copy, Debug)]
 enum Device {
     Disk,
     Wire,
@@ -22,72 +230,7 @@ enum Device {
     Sink,
 }
 
-/// The devices, with how one is called.
-const DEVICES: &[(Device, &str)] = &[
-    (Device::Disk, "the disk"),
-    (Device::Wire, "the wire"),
-    (Device::Shelf, "the shelf"),
-    (Device::Sink, "the sink"),
-];
-
-/// The number of a call that is never made.
-const NEVER: u64 = 18_446_744_073_709_551_615;
-
-/// Behind how many calls a device fails, where one does.
-fn fails_behind(device: Device, failing: Device, calls: u64) -> u64 {
-    if device == failing { calls } else { NEVER }
-}
-
-/// Whether the next run over the same devices comes to what the job's run comes to. What was said before is this long.
-fn goes_well<H: Shelf, D: Disk>(
-    rt: &HostRuntime,
-    shelf: &mut H,
-    disk: &mut D,
-    out: &mut MemorySink,
-    job: &Job,
-) -> Result<bool, Fail> {
-    let before = out.bytes().len();
-    let mut wire = wire(rt.alloc())?;
-    let mut turns = SeededTurns::new();
-    let (status, _) = status_over(
-        rt,
-        &["run", "t.par"],
-        shelf,
-        disk,
-        &mut wire,
-        &mut turns,
-        out,
-    )?;
-    Ok(status == job.status && out.bytes().get(before..) == Some(job.printed))
-}
-
-/// Whether the outputs on a disk are a job's.
-fn are_outputs(disk: &MemoryDisk, job: &Job) -> bool {
-    disk.bytes(FIRST_OUTPUT) == job.first && disk.bytes(SECOND_OUTPUT) == job.second
-}
-
-/// What a first run comes to whose device fails behind so many calls: its status, whether it says so, and whether the next run is whole.
-fn runs_twice(
-    rt: &HostRuntime,
-    device: Device,
-    job: &Job,
-    calls: u64,
-) -> Result<(u8, bool, bool), Fail> {
-    let alloc = rt.alloc();
-    let files = shelf_with(alloc, job.file, job.more, job.others)?;
-    let mut shelf = failing_shelf(alloc, files, fails_behind(Device::Shelf, device, calls))?;
-    let mut disk = failing_disk(alloc, fails_behind(Device::Disk, device, calls))?;
-    let mut out = sink(alloc, &[fails_behind(Device::Sink, device, calls)])?;
-    let mut wire = failing(alloc, fails_behind(Device::Wire, device, calls))?;
-    let mut turns = SeededTurns::new();
-    let words: &[&str] = &["run", "t.par"];
-    let (first, _) = status_over(
-        rt, words, &mut shelf, &mut disk, &mut wire, &mut turns, &mut out,
-    )?;
-    let says = out.bytes() == said(device);
-    let well = goes_well(rt, &mut shelf, &mut disk, &mut out, job)?;
-    Ok((first, says, well && are_outputs(&disk.into_inner(), job)))
-}
+const DEVICES: &[Device] = &[Device::Disk, Device::Wire, Device::Shelf, Device::Sink];
 
 /// What a first call prints whose device fails.
 fn said(device: Device) -> &'static [u8] {
@@ -109,44 +252,44 @@ fn calls_of(device: Device, job: &Job) -> u64 {
     }
 }
 
-/// Whether the call behind so many fails, and all comes as it should.
-fn fails_once(rt: &HostRuntime, device: Device, job: &Job, calls: u64) -> Result<bool, Fail> {
-    let (first, says, well) = runs_twice(rt, device, job, calls)?;
-    Ok(first == 4 && says && well)
+/// Over devices of which one fails in one call.
+fn device_fails(rt: &HostRuntime, device: Device, job: &Job, fail: u64) -> Result<Twice, Fail> {
+    match device {
+        Device::Disk => disk_fails(rt, job, fail),
+        Device::Wire => wire_fails(rt, job, fail),
+        Device::Shelf => shelf_fails(rt, job, fail),
+        Device::Sink => sink_fails(rt, job, fail),
+    }
 }
 
-/// Whether each call of a device fails once as it should, and no more are made.
-fn each_call_fails(rt: &HostRuntime, device: Device, job: &Job) -> Result<bool, Fail> {
+/// The first call of a device after whose failure something else comes than should, or the number of its calls if one more is made.
+fn wrong_call(rt: &HostRuntime, device: Device, job: &Job) -> Result<Option<u64>, Fail> {
     let calls = calls_of(device, job);
     for fail in 0..calls {
-        if !fails_once(rt, device, job, fail)? {
-            return Ok(false);
+        let came = device_fails(rt, device, job, fail)?;
+        if !is_whole(&came, said(device), job) {
+            return Ok(Some(fail));
         }
     }
-    let (first, _, _) = runs_twice(rt, device, job, calls)?;
-    Ok(first == job.status)
+    let came = device_fails(rt, device, job, calls)?;
+    if came.first != job.status {
+        return Ok(Some(calls));
+    }
+    Ok(None)
 }
 
 #[test]
 fn devices_that_fail_once(rt: HostRuntime) -> Result<(), Fail> {
-    for (device, name) in DEVICES {
+    for device in DEVICES {
         for job in JOBS {
-            let found = each_call_fails(&rt, *device, job)?;
-            same(&(name, job.name), &found, &true)?;
+            let wrong = wrong_call(&rt, *device, job)?;
+            assert_eq!(rt; wrong, None, "{device:?}, {}", job.name);
         }
     }
-    Ok(())
-}
-
-#[test]
-fn device_of_the_box_that_fails(rt: HostRuntime) -> Result<(), Fail> {
-    for (device, name) in DEVICES {
-        let found = fails_once(&rt, *device, BOX_JOB, calls_of(*device, BOX_JOB))?;
-        same(
-            &(name, BOX_JOB.name),
-            &(found || *device == Device::Sink),
-            &true,
-        )?;
+    for device in [Device::Disk, Device::Wire, Device::Shelf] {
+        let came = device_fails(&rt, device, BOX_JOB, calls_of(device, BOX_JOB))?;
+        let is_whole = is_whole(&came, said(device), BOX_JOB);
+        assert!(rt; is_whole, "{device:?}, the box");
     }
     Ok(())
 }
@@ -158,5 +301,6 @@ fn shelf_that_is_given_back(rt: HostRuntime) -> Result<(), Fail> {
     let files = shelf_with(alloc, CA, EACH, &[])?;
     let mut within = failing_shelf(alloc, files, 0)?.into_inner();
     let came = answer_to(&rt, &["run", "t.par"], &mut within)?;
-    same(&"the shelf within", &came.status, &0)
+    assert_eq!(rt; came.status, 0, "the shelf within");
+    Ok(())
 }

@@ -3,39 +3,83 @@
 ghost use Rattle.std.specs.Prelude.{◌≤◌, ◌^◌, length};
 
 use crate::calls::shelf_with;
+use crate::samples::{CA, CONTROL, WAVE};
 use cx_flat::{Op, flatten};
 use cx_job::make_job;
 use cx_rule::Routine;
 use cx_text::{List, Memory, Text};
 use cx_thorn_ca::{CaCount, CaInit, CaStep, CaZero};
 use cx_thorn_pde::{ControlSet, ControlSpin, WaveFlat, WaveInit, WaveStep};
-use sample_runs::flats::FLATS;
 use std::alloc::Global;
 use std::test::Fail;
-use test_cases::same;
 
-/// An operation in a word, with its numbers, or 0.
-fn word(op: &Op) -> (&'static str, u32, u32) {
-    match op {
-        Op::Sweep(k) => ("sweep", *k, 0),
-        Op::Apply(k) => ("apply", *k, 0),
-        Op::Give(k) => ("give", *k, 0),
-        Op::Join(k) => ("join", *k, 0),
-        Op::Post(direction, _) => ("post", u32::from(*direction), 0),
-        Op::Take(direction, _, _) => ("take", u32::from(*direction), 0),
-        Op::Test(variable, _, skip) => ("test", variable.0, *skip),
-        Op::Open => ("open", 0, 0),
-        Op::Turn(variable, _, skip) => ("turn", variable.0, *skip),
-        Op::Again(back) => ("again", *back, 0),
-        Op::Rotate => ("rotate", 0, 0),
-        Op::Due(skip) => ("due", *skip, 0),
-        Op::Written(skip) => ("written", *skip, 0),
-        Op::Skip(skip) => ("skip", *skip, 0),
-        Op::Next(back) => ("next", *back, 0),
-        Op::Piece(variable) => ("piece", variable.0, 0),
-        Op::Save => ("save", 0, 0),
-        Op::Halt => ("halt", 0, 0),
+/// A parameter file, and the operations of its run, one after another.
+struct Flat {
+    name: &'static str,
+    file: &'static [u8],
+    operations: &'static str,
+}
+
+const FLATS: &[Flat] = &[
+    // ca_init, ca_step with its SYNC, ca_zero and ca_count are the items 0 to 3.
+    Flat {
+        name: "the automaton",
+        file: CA,
+        operations: "sweep 0, give 3, join 3, skip 10, \
+            rotate, sweep 1, post 0, take 0, sweep 2, give 3, join 3, due 2, save, \
+            written 2, piece 0, next 11, halt",
+    },
+    // wave_init, wave_step with its SYNC, and wave_flat
+    Flat {
+        name: "the wave",
+        file: WAVE,
+        operations: "sweep 0, skip 8, \
+            rotate, sweep 1, post 0, take 0, sweep 2, due 2, save, \
+            written 2, piece 0, next 9, halt",
+    },
+    // control_set, and control_spin in its WHILE
+    Flat {
+        name: "the count",
+        file: CONTROL,
+        operations: "apply 0, skip 8, \
+            rotate, open, turn 0 3, apply 1, again 2, due 2, save, \
+            written 2, piece 0, next 9, halt",
+    },
+];
+
+/// An operation in a word, with its numbers.
+fn word(alloc: Global, op: &Op) -> Result<String, Fail> {
+    Ok(match op {
+        Op::Sweep(k) => format!(in alloc; "sweep {k}")?,
+        Op::Apply(k) => format!(in alloc; "apply {k}")?,
+        Op::Give(k) => format!(in alloc; "give {k}")?,
+        Op::Join(k) => format!(in alloc; "join {k}")?,
+        Op::Post(direction, _) => format!(in alloc; "post {direction}")?,
+        Op::Take(direction, _, _) => format!(in alloc; "take {direction}")?,
+        Op::Test(variable, _, skip) => format!(in alloc; "test {} {skip}", variable.0)?,
+        Op::Open => format!(in alloc; "open")?,
+        Op::Turn(variable, _, skip) => format!(in alloc; "turn {} {skip}", variable.0)?,
+        Op::Again(back) => format!(in alloc; "again {back}")?,
+        Op::Rotate => format!(in alloc; "rotate")?,
+        Op::Due(skip) => format!(in alloc; "due {skip}")?,
+        Op::Written(skip) => format!(in alloc; "written {skip}")?,
+        Op::Skip(skip) => format!(in alloc; "skip {skip}")?,
+        Op::Next(back) => format!(in alloc; "next {back}")?,
+        Op::Piece(variable) => format!(in alloc; "piece {}", variable.0)?,
+        Op::Save => format!(in alloc; "save")?,
+        Op::Halt => format!(in alloc; "halt")?,
+    })
+}
+
+fn words(alloc: Global, ops: &[Op]) -> Result<String, Fail> {
+    let mut all = String::new(alloc);
+    for op in ops {
+        if !all.is_empty() {
+            all.push_str(", ")?;
+        }
+        all.push_str(word(alloc, op)?.as_str())?;
     }
+    Ok(all)
 }
 
 /// The operations of a file's job.
@@ -69,19 +113,13 @@ fn operations_with(
     flatten(alloc, &job)
 }
 
-/// Operations are these.
-fn are_these(name: &str, ops: &[Op], wanted: &[(&'static str, u32, u32)]) -> Result<(), Fail> {
-    for (k, (op, want)) in ops.iter().zip(wanted).enumerate() {
-        same(&(name, k), &word(op), want)?;
-    }
-    same(&name, &ops.len(), &wanted.len())
-}
-
 #[test]
 fn schedules_are_flattened(rt: HostRuntime) -> Result<(), Fail> {
+    let alloc = rt.alloc();
     for flat in FLATS {
-        let ops = operations(rt.alloc(), flat.file)?;
-        are_these(flat.name, ops.as_slice(), flat.operations)?;
+        let ops = operations(alloc, flat.file)?;
+        let words = words(alloc, ops.as_slice())?;
+        assert_eq!(rt; words.as_str(), flat.operations, "{}", flat.name);
     }
     Ok(())
 }

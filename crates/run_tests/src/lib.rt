@@ -6,21 +6,29 @@ mod calls;
 #[cfg(test)]
 mod carriers;
 #[cfg(test)]
-mod chains;
-#[cfg(test)]
 mod chunks;
+#[cfg(test)]
+mod cuts;
 #[cfg(test)]
 mod devices;
 #[cfg(test)]
 mod failing;
 #[cfg(test)]
+mod faults;
+#[cfg(test)]
 mod flats;
 #[cfg(test)]
-mod found;
+mod jobs;
 #[cfg(test)]
 mod makes;
 #[cfg(test)]
 mod parts;
+#[cfg(test)]
+mod physics;
+#[cfg(test)]
+mod samples;
+#[cfg(test)]
+mod schedules;
 #[cfg(test)]
 mod steers;
 #[cfg(test)]

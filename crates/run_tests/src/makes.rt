@@ -2,26 +2,82 @@
 
 use crate::calls::{answer_over, answer_to};
 use crate::devices::{failing_disk, failing_shelf};
-use crate::found::said;
 use cx_run::MemoryShelf;
 use cx_text::List;
-use sample_runs::made::MADE;
 use std::test::Fail;
-use test_cases::same;
+
+/// Words, what is printed, and how long the output is, and for some its text. How many cells live is what a model of the game gives
+/// that was written apart.
+struct Made {
+    words: &'static [&'static str],
+    printed: &'static str,
+    length: usize,
+    output: Option<&'static [u8]>,
+}
+
+const MADE: &[Made] = &[
+    Made {
+        words: &["make", "7", "64"],
+        printed: "done: iteration 20\n\
+            made 7 64 points 4096 parts 16 output 16459 live 628\n",
+        length: 16459,
+        output: None,
+    },
+    Made {
+        words: &["make", "007", "0008"],
+        printed: "done: iteration 20\n\
+            made 7 8 points 64 parts 16 output 327 live 28\n",
+        length: 327,
+        output: Some(CELLS),
+    },
+    Made {
+        words: &["make", "7", "8"],
+        printed: "done: iteration 20\n\
+            made 7 8 points 64 parts 16 output 327 live 28\n",
+        length: 327,
+        output: Some(CELLS),
+    },
+    Made {
+        words: &["make", "9223372036854775807", "9"],
+        printed: "done: iteration 20\n\
+            made 9223372036854775807 9 points 81 parts 16 output 395 live 6\n",
+        length: 395,
+        output: None,
+    },
+];
+
+/// The cells of eight times eight points by the seed 7, at the start and after 20 iterations.
+const CELLS: &[u8] = b"# life::cell iteration 0 size 8 8\n\
+    0 1 0 0 1 0 1 0\n\
+    0 1 1 1 0 0 0 0\n\
+    0 1 1 1 0 1 1 1\n\
+    1 0 1 0 1 1 1 0\n\
+    0 0 0 1 1 0 1 1\n\
+    1 1 1 0 0 0 0 1\n\
+    0 0 0 0 0 0 0 1\n\
+    1 0 1 0 0 0 0 0\n\
+    \n\
+    # life::cell iteration 20 size 8 8\n\
+    0 1 1 0 1 1 0 0\n\
+    1 0 0 0 1 1 0 0\n\
+    1 1 1 0 0 0 1 1\n\
+    1 1 1 1 0 0 1 1\n\
+    1 0 0 1 1 0 1 1\n\
+    1 0 0 0 0 0 0 0\n\
+    0 0 0 0 0 0 1 1\n\
+    0 1 1 0 0 0 0 0\n\
+    \n";
 
 #[test]
 fn runs_that_are_made(rt: HostRuntime) -> Result<(), Fail> {
     let mut shelf = MemoryShelf::new(List::empty(rt.alloc()));
     for made in MADE {
         let came = answer_to(&rt, made.words, &mut shelf)?;
-        said(&made.words, &came, 0, made.printed.as_bytes())?;
+        let found = (came.status, came.printed.as_slice(), came.first.len());
+        let want = (0, made.printed.as_bytes(), made.length);
+        assert_eq!(rt; found, want, "{:?}", made.words);
         let output = made.output.unwrap_or(came.first.as_slice());
-        let want = (made.length, output);
-        same(
-            &made.words,
-            &(came.first.len(), came.first.as_slice()),
-            &want,
-        )?;
+        assert_eq!(rt; came.first.as_slice(), output, "{:?}", made.words);
     }
     Ok(())
 }
@@ -33,9 +89,13 @@ fn devices_of_a_run_that_is_made(rt: HostRuntime) -> Result<(), Fail> {
     let mut shelf = failing_shelf(alloc, MemoryShelf::new(List::empty(alloc)), 0)?;
     let mut disk = failing_disk(alloc, 3)?;
     let words: &[&str] = &["make", "7", "8"];
-    let came = answer_over(&rt, words, &mut shelf, &mut disk)?;
-    said(&"the disk fails", &came, 4, b"device: disk\n")?;
-    let came = answer_over(&rt, words, &mut shelf, &mut disk)?;
-    let done = b"done: iteration 20\nmade 7 8 points 64 parts 16 output 327 live 28\n";
-    said(&"the next call", &came, 0, done.as_slice())
+    let first = answer_over(&rt, words, &mut shelf, &mut disk)?;
+    let found = (first.status, first.printed.as_slice());
+    let want = b"device: disk\n".as_slice();
+    assert_eq!(rt; found, (4, want), "the disk fails");
+    let second = answer_over(&rt, words, &mut shelf, &mut disk)?;
+    let found = (second.status, second.printed.as_slice());
+    let want = b"done: iteration 20\nmade 7 8 points 64 parts 16 output 327 live 28\n".as_slice();
+    assert_eq!(rt; found, (0, want), "the next call");
+    Ok(())
 }

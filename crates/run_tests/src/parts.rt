@@ -1,69 +1,292 @@
 //! Runs in parts: the same bytes for every cut, every lead and every order of turns.
 
-use crate::calls::{Outcome, answer_of, answer_to, shelf_with};
-use crate::found::{said, wrote};
+use crate::calls::{Outcome, answer_to, shelf_with};
+use crate::jobs::{CA_OUTPUT, DIFF_IN_THREE};
+use crate::samples::CA;
 use cx_run::MemoryShelf;
-use sample_runs::cut_runs::{
-    LEADS, LEAVES_IN_FOUR, LEFT, SEEDS, SHORT_FIELD, THORN_JOBS, Thorn, WORKS,
-};
-use sample_runs::jobs::CA_OUTPUT;
-use sample_runs::samples::CA;
+use sample_files::File;
 use std::test::Fail;
-use test_cases::same;
+
+/// How a run is cut and how far its parts may lead; how many points are computed, how many values are exchanged, and their sum.
+struct Work {
+    more: &'static str,
+    points: u128,
+    received: u64,
+    sum: u64,
+}
+
+/// The automaton of eight points over three iterations.
+const WORKS: &[Work] = &[
+    Work {
+        more: "driver::parts_x = 1\n",
+        points: 26,
+        received: 4,
+        sum: 0,
+    },
+    Work {
+        more: "driver::parts_x = 2\n",
+        points: 28,
+        received: 8,
+        sum: 1,
+    },
+    Work {
+        more: "driver::parts_x = 8\n",
+        points: 40,
+        received: 32,
+        sum: 8,
+    },
+    Work {
+        more: "driver::widths_x = \"3 5\"\n",
+        points: 28,
+        received: 8,
+        sum: 1,
+    },
+    Work {
+        more: "driver::parts_x = 2\ndriver::lead = 64\n",
+        points: 28,
+        received: 8,
+        sum: 1,
+    },
+];
+
+/// Seeds of turns, as words.
+const SEEDS: &[&str] = &[
+    "--turns=0",
+    "--turns=1",
+    "--turns=2",
+    "--turns=3",
+    "--turns=4",
+    "--turns=5",
+    "--turns=6",
+    "--turns=7",
+    "--turns=8",
+    "--turns=18446744073709551615",
+];
+
+/// A job of a sample thorn, with files in place of its own, and cuts of its grid into 1, 2, 3 and 16 parts.
+pub(crate) struct Thorn {
+    pub(crate) name: &'static str,
+    pub(crate) file: &'static [u8],
+    pub(crate) others: &'static [File],
+    pub(crate) cuts: &'static [&'static str],
+}
+
+const LINES: &[&str] = &[
+    "",
+    "driver::parts_x = 2\n",
+    "driver::parts_x = 3\ndriver::lead = 1\n",
+    "driver::widths_x = \"1 2 1 5 1 1 5\"\ndriver::lead = 2\n",
+    "driver::parts_x = 16\n",
+];
+
+const SHEETS: &[&str] = &[
+    "",
+    "driver::parts_y = 2\n",
+    "driver::parts_x = 3\ndriver::lead = 3\n",
+    "driver::widths_x = \"1 1 2 1 1 1 1\"\n",
+    "driver::parts_x = 4\ndriver::parts_y = 4\ndriver::lead = 1\n",
+];
+
+const SOLIDS: &[&str] = &[
+    "",
+    "driver::parts_z = 2\n",
+    "driver::parts_x = 3\ndriver::lead = 2\n",
+    "driver::parts_x = 4\ndriver::parts_y = 2\ndriver::parts_z = 2\ndriver::lead = 1\n",
+];
+
+pub(crate) const THORN_JOBS: &[Thorn] = &[
+    Thorn {
+        name: "ElemCA",
+        file: b"ActiveThorns = \"ElemCA\"\n\
+            Cactus::cctk_itlast = 3\n\
+            driver::global_nx = 16\n\
+            ca::rule = 110\n\
+            ca::seed = 5\n\
+            IO::out_vars = \"ca::cell ca::live\"\n",
+        others: &[],
+        cuts: LINES,
+    },
+    Thorn {
+        name: "Life2D",
+        file: b"ActiveThorns = \"Life2D\"\n\
+            Cactus::cctk_itlast = 2\n\
+            driver::global_nx = 8\n\
+            driver::global_ny = 5\n\
+            driver::periodic = yes\n\
+            life::pattern = \"random\"\n\
+            life::seed = 3\n\
+            IO::out_vars = \"life::cell life::live\"\n",
+        others: &[],
+        cuts: SHEETS,
+    },
+    Thorn {
+        name: "WaveInt",
+        file: b"ActiveThorns = \"WaveInt\"\n\
+            Cactus::cctk_itlast = 3\n\
+            driver::global_nx = 16\n\
+            wave::pattern = \"random\"\n\
+            wave::amount = 1000\n\
+            wave::seed = 2\n\
+            wave::sum = yes\n\
+            IO::out_vars = \"wave::phi wave::total\"\n",
+        others: &[],
+        cuts: LINES,
+    },
+    Thorn {
+        name: "DiffInt",
+        file: b"ActiveThorns = \"DiffInt\"\n\
+            Cactus::cctk_itlast = 3\n\
+            driver::global_nx = 16\n\
+            driver::periodic = yes\n\
+            diff::pattern = \"random\"\n\
+            diff::amount = 1000\n\
+            diff::seed = 4\n\
+            diff::sum = yes\n\
+            IO::out_vars = \"diff::u diff::total\"\n",
+        others: &[],
+        cuts: LINES,
+    },
+    Thorn {
+        name: "DiffInt in three directions",
+        file: b"ActiveThorns = \"DiffInt\"\n\
+            Cactus::cctk_itlast = 2\n\
+            driver::global_nx = 4\n\
+            driver::global_ny = 4\n\
+            driver::global_nz = 3\n\
+            driver::periodic_z = no\n\
+            driver::periodic = yes\n\
+            diff::pattern = \"random\"\n\
+            diff::amount = 1000\n\
+            diff::seed = 6\n\
+            diff::sum = yes\n\
+            IO::out_vars = \"diff::u diff::total\"\n",
+        others: DIFF_IN_THREE,
+        cuts: SOLIDS,
+    },
+    Thorn {
+        name: "Control",
+        file: b"ActiveThorns = \"Control\"\n\
+            Cactus::cctk_itlast = 1\n\
+            driver::global_nx = 16\n\
+            control::turns = 6\n\
+            control::drop = 2\n\
+            IO::out_vars = \"control::count\"\n",
+        others: &[],
+        cuts: LINES,
+    },
+];
+
+/// Numbers that leave 16 bits in iteration 7, in four parts.
+const LEAVES: &[u8] = b"ActiveThorns = \"DiffInt\"\n\
+    Cactus::cctk_itlast = 20\n\
+    driver::global_nx = 16\n\
+    driver::periodic = yes\n\
+    driver::parts_x = 4\n\
+    diff::factor = 256\n\
+    diff::amount = 100\n\
+    diff::start = 2\n\
+    IO::out_vars = \"diff::u\"\n";
+
+/// The field of `LEAVES` in 16 bits.
+pub(crate) const SHORT_FIELD: &[File] = &[File {
+    name: "arrangements/Integer/DiffInt/interface.ccl",
+    bytes: b"implements: diff\n\
+        public:\n\
+        CCTK_INT2 evolved TYPE=GF DIM=1 { u } \"field\"\n\
+        CCTK_INT sums TYPE=SCALAR { total } \"sum\"\n",
+}];
+
+/// Its output up to iteration 6.
+pub(crate) const LEFT: &[u8] = b"# diff::u iteration 0 size 16\n\
+    0 0 100 0 0 0 0 0 0 0 0 0 0 0 0 0\n\
+    \n\
+    # diff::u iteration 1 size 16\n\
+    0 100 -100 100 0 0 0 0 0 0 0 0 0 0 0 0\n\
+    \n\
+    # diff::u iteration 2 size 16\n\
+    100 -200 300 -200 100 0 0 0 0 0 0 0 0 0 0 0\n\
+    \n\
+    # diff::u iteration 3 size 16\n\
+    -300 600 -700 600 -300 100 0 0 0 0 0 0 0 0 0 100\n\
+    \n\
+    # diff::u iteration 4 size 16\n\
+    1000 -1600 1900 -1600 1000 -400 100 0 0 0 0 0 0 0 100 -400\n\
+    \n\
+    # diff::u iteration 5 size 16\n\
+    -3000 4500 -5100 4500 -3000 1500 -500 100 0 0 0 0 0 100 -500 1500\n\
+    \n\
+    # diff::u iteration 6 size 16\n\
+    9000 -12600 14100 -12600 9000 -5000 2100 -600 100 0 0 0 100 -600 2100 -5000\n\
+    \n";
+
+const LEADS: &[&str] = &["", "driver::lead = 1\n", "driver::lead = 8\n"];
+
+/// What a run of `t.par` comes to with turns from a seed.
+fn run_with(rt: &HostRuntime, shelf: &mut MemoryShelf, seed: &str) -> Result<Outcome, Fail> {
+    answer_to(rt, &["run", "t.par", seed], shelf)
+}
 
 #[test]
 fn work_of_the_automaton(rt: HostRuntime) -> Result<(), Fail> {
     for work in WORKS {
-        let came = answer_of(&rt, "run", CA, work.more, &[])?;
-        wrote(&work.more, &came, CA_OUTPUT, b"")?;
+        let mut shelf = shelf_with(rt.alloc(), CA, work.more, &[])?;
+        let came = answer_to(&rt, &["run", "t.par"], &mut shelf)?;
+        assert_eq!(rt; came.first.as_slice(), CA_OUTPUT, "{:?}", work.more);
         let found = (came.points, came.received, came.sum);
-        same(&work.more, &found, &(work.points, work.received, work.sum))?;
+        let want = (work.points, work.received, work.sum);
+        assert_eq!(rt; found, want, "{:?}", work.more);
     }
     Ok(())
 }
 
-/// A job's runs by turns from each seed print and write what another run of it does.
-pub(crate) fn are_alike_by_seeds(
+/// What a job's runs come to, of which each takes its turns from another seed.
+pub(crate) fn runs_by_seeds(
     rt: &HostRuntime,
-    shelf: &mut MemoryShelf,
-    like: &Outcome,
-    name: &str,
-) -> Result<(), Fail> {
+    file: &[u8],
+    more: &str,
+    others: &[File],
+) -> Result<Vec<Outcome>, Fail> {
+    let mut shelf = shelf_with(rt.alloc(), file, more, others)?;
+    let mut runs = Vec::new(rt.alloc());
     for seed in SEEDS {
-        let came = answer_to(rt, &["run", "t.par", seed], shelf)?;
-        said(&(name, seed), &came, like.status, &like.printed)?;
-        wrote(&(name, seed), &came, &like.first, &like.second)?;
+        runs.push(run_with(rt, &mut shelf, seed)?)?;
     }
-    Ok(())
+    Ok(runs)
 }
 
-/// A job of a thorn writes the same however it is cut.
-fn is_alike_by_cuts(rt: &HostRuntime, thorn: &Thorn) -> Result<(), Fail> {
-    let one = answer_of(rt, "run", thorn.file, "", thorn.others)?;
-    same(&(thorn.name, "in one part"), &one.status, &0)?;
-    for cut in thorn.cuts {
-        let mut shelf = shelf_with(rt.alloc(), thorn.file, cut, thorn.others)?;
-        are_alike_by_seeds(rt, &mut shelf, &one, cut)?;
-    }
-    Ok(())
+/// What a job's run in one part comes to.
+fn whole_run(rt: &HostRuntime, thorn: &Thorn) -> Result<Outcome, Fail> {
+    let mut shelf = shelf_with(rt.alloc(), thorn.file, "", thorn.others)?;
+    answer_to(rt, &["run", "t.par"], &mut shelf)
 }
 
 #[test]
 fn sample_thorns_in_parts(rt: HostRuntime) -> Result<(), Fail> {
     for thorn in THORN_JOBS {
-        is_alike_by_cuts(&rt, thorn)?;
+        let name = thorn.name;
+        let one = whole_run(&rt, thorn)?;
+        assert_eq!(rt; one.status, 0, "{name} in one part");
+        for cut in thorn.cuts {
+            let runs = runs_by_seeds(&rt, thorn.file, cut, thorn.others)?;
+            for (k, came) in runs.iter().enumerate() {
+                let found = (came.status, came.first.as_slice(), came.second.as_slice());
+                let want = (0, one.first.as_slice(), one.second.as_slice());
+                assert_eq!(rt; found, want, "{name} {cut:?}, turns {k}");
+            }
+        }
     }
     Ok(())
 }
 
 #[test]
 fn overflow_wherever_other_parts_stand(rt: HostRuntime) -> Result<(), Fail> {
+    let ended = b"ended: Overflow 7 EVOL/diff_step\n".as_slice();
     for lead in LEADS {
-        let mut shelf = shelf_with(rt.alloc(), LEAVES_IN_FOUR, lead, SHORT_FIELD)?;
-        let came = answer_to(&rt, &["run", "t.par"], &mut shelf)?;
-        said(&lead, &came, 3, b"ended: Overflow 7 EVOL/diff_step\n")?;
-        wrote(&lead, &came, LEFT, b"")?;
-        are_alike_by_seeds(&rt, &mut shelf, &came, lead)?;
+        let runs = runs_by_seeds(&rt, LEAVES, lead, SHORT_FIELD)?;
+        for (k, came) in runs.iter().enumerate() {
+            let found = (came.status, came.printed.as_slice(), came.first.as_slice());
+            assert_eq!(rt; found, (3, ended, LEFT), "{lead:?}, turns {k}");
+        }
     }
     Ok(())
 }

@@ -1,14 +1,120 @@
 //! Runs whose parameters are steered, and starts whose steer file has changed.
 
-use crate::calls::{answer_on, answer_over, answer_to, shelf_with};
-use crate::found::said;
-use crate::parts::are_alike_by_seeds;
+use crate::calls::{Outcome, answer_on, answer_over, shelf_with};
+use crate::parts::runs_by_seeds;
 use cx_disk::{FuseDisk, MemoryDisk};
 use cx_text::List;
 use sample_files::File;
-use sample_runs::steers::{CASES, Case, EACH, FACTOR_FROM_2, PARAM, WAVE};
 use std::test::Fail;
-use test_cases::same;
+
+/// The parameters of the wave: its factor may be steered anywhere, and its edge after a checkpoint.
+const PARAM: File = File {
+    name: "arrangements/Integer/WaveInt/param.ccl",
+    bytes: b"restricted:\n\
+        INT factor STEERABLE=ALWAYS { 0:* } 64\n\
+        KEYWORD pattern { \"point\" \"uniform\" \"alternate\" \"random\" } \"point\"\n\
+        INT amount { *:* } 8\n\
+        INT start { 0:* } 0\n\
+        INT seed { 0:* } 0\n\
+        INT edge STEERABLE=RECOVER { *:* } 0\n\
+        BOOLEAN sum { } \"no\"\n",
+};
+
+/// A wave on a ring of six points.
+const WAVE: &[u8] = b"ActiveThorns = \"WaveInt\"\n\
+    driver::global_nx = 6\n\
+    driver::periodic = yes\n\
+    wave::factor = 256\n\
+    wave::start = 2\n\
+    IO::out_vars = \"wave::phi\"\n\
+    IO::recover = \"autoprobe\"\n\
+    IO::steer_file = \"s.txt\"\n";
+
+const TWO: &str = "Cactus::cctk_itlast = 2\n";
+
+/// A checkpoint of each of two iterations.
+const EACH: &str = "Cactus::cctk_itlast = 2\nIO::checkpoint_every = 1\n";
+
+const FACTOR_FROM_2: &[u8] = b"@2 wave::factor = 0\n";
+
+/// No speed in the iterations 5 and 6 of eight.
+const FACTOR_IN_THE_MIDDLE: &[u8] = b"@5 wave::factor = 0\n@7 wave::factor = 256\n";
+
+/// The lines of a steer file, more lines of the parameter file, what the run prints, and the values of its last iteration.
+struct Case {
+    lines: &'static [u8],
+    more: &'static str,
+    status: u8,
+    printed: &'static [u8],
+    values: &'static [u8],
+}
+
+const CASES: &[Case] = &[
+    Case {
+        lines: b"",
+        more: EACH,
+        status: 0,
+        printed: b"done: iteration 2\n",
+        values: b"8 -8 8 -8 8 0\n\n",
+    },
+    Case {
+        lines: FACTOR_FROM_2,
+        more: EACH,
+        status: 0,
+        printed: b"done: iteration 2\n",
+        values: b"0 16 -24 16 0 0\n\n",
+    },
+    Case {
+        lines: FACTOR_IN_THE_MIDDLE,
+        more: "Cactus::cctk_itlast = 8\n",
+        status: 0,
+        printed: b"done: iteration 8\n",
+        values: b"240 -224 216 -224 240 -240\n\n",
+    },
+    // parts that run ahead have the parameters of their own iterations
+    Case {
+        lines: FACTOR_IN_THE_MIDDLE,
+        more: "Cactus::cctk_itlast = 8\ndriver::parts_x = 4\ndriver::lead = 8\n",
+        status: 0,
+        printed: b"done: iteration 8\n",
+        values: b"240 -224 216 -224 240 -240\n\n",
+    },
+    Case {
+        lines: b"@2 wave::edge = 3\n",
+        more: EACH,
+        status: 0,
+        printed: b"done: iteration 2\n",
+        values: b"8 -8 8 -8 8 0\n\n",
+    },
+    Case {
+        lines: b"@2 wave::edge = 3\n",
+        more: TWO,
+        status: 2,
+        printed: b"refused: s.txt NotSteerable 1\n",
+        values: b"",
+    },
+    Case {
+        lines: b"@2 wave::factor = -1\n",
+        more: EACH,
+        status: 2,
+        printed: b"refused: s.txt OutOfRange 1\n",
+        values: b"",
+    },
+    Case {
+        lines: b"@2 wave::factor = 1\n@1 wave::factor = 2\n",
+        more: EACH,
+        status: 2,
+        printed: b"refused: s.txt SteerOrder 2\n",
+        values: b"",
+    },
+    Case {
+        lines: b"@0 wave::factor = 1\n",
+        more: EACH,
+        status: 2,
+        printed: b"refused: s.txt BadNumber 1\n",
+        values: b"",
+    },
+];
 
 /// The steer file that has these lines.
 fn steer_file(lines: &'static [u8]) -> File {
@@ -18,21 +124,18 @@ fn steer_file(lines: &'static [u8]) -> File {
     }
 }
 
-/// A case's run ends as is said, with these values in its last iteration, by turns from each seed.
-fn is_steered(rt: &HostRuntime, case: &Case) -> Result<(), Fail> {
-    let others: &[File] = &[PARAM, steer_file(case.lines)];
-    let mut shelf = shelf_with(rt.alloc(), WAVE, case.more, others)?;
-    let came = answer_to(rt, &["run", "t.par"], &mut shelf)?;
-    said(&case.name, &came, case.status, case.printed)?;
-    let values = came.first.ends_with(case.values);
-    same(&(case.name, "values"), &values, &true)?;
-    are_alike_by_seeds(rt, &mut shelf, &came, case.name)
-}
-
 #[test]
 fn waves_that_are_steered(rt: HostRuntime) -> Result<(), Fail> {
     for case in CASES {
-        is_steered(&rt, case)?;
+        let (lines, more) = (case.lines, case.more);
+        let runs = runs_by_seeds(&rt, WAVE, more, &[PARAM, steer_file(lines)])?;
+        for (k, came) in runs.iter().enumerate() {
+            let found = (came.status, came.printed.as_slice());
+            let want = (case.status, case.printed);
+            assert_eq!(rt; found, want, "{lines:?} {more:?}, turns {k}");
+            let values = came.first.ends_with(case.values);
+            assert!(rt; values, "values of {lines:?} {more:?}, turns {k}");
+        }
     }
     Ok(())
 }
@@ -61,18 +164,10 @@ fn stopped(rt: &HostRuntime, calls: u64) -> Result<Option<MemoryDisk>, Fail> {
     Ok(Some(fuse.into_image(calls)?))
 }
 
-/// What the next start comes to on that disk, where the steer file has these lines by now: status, text and points.
-fn resumes_as(
-    rt: &HostRuntime,
-    disk: &mut MemoryDisk,
-    lines: &'static [u8],
-    calls: u64,
-    want: (u8, &[u8], u128),
-) -> Result<(), Fail> {
+/// What the next start comes to on that disk, where the steer file has these lines by now.
+fn resumed(rt: &HostRuntime, disk: &mut MemoryDisk, lines: &'static [u8]) -> Result<Outcome, Fail> {
     let mut shelf = shelf_with(rt.alloc(), WAVE, EACH, &[PARAM, steer_file(lines)])?;
-    let came = answer_on(rt, &["run", "t.par"], &mut shelf, disk)?;
-    let found = (came.status, came.printed.as_slice(), came.points);
-    same(&(calls, "calls", lines), &found, &want)
+    answer_on(rt, &["run", "t.par"], &mut shelf, disk)
 }
 
 /// The answer to a start whose steer file has changed after the newest checkpoint, up to it, and at it.
@@ -89,13 +184,6 @@ fn changed(newest: u8) -> (u8, &'static [u8], u128) {
     }
 }
 
-/// The answer to a start with a line more of iteration 1, which the newest checkpoint has seen.
-const ONE_SEEN: (u8, &[u8], u128) = (
-    6,
-    b"recovery: OtherJob\n\nsteer 1 wave::factor = \"0\"\n",
-    0,
-);
-
 #[test]
 fn steer_files_that_change_after_a_stop(rt: HostRuntime) -> Result<(), Fail> {
     for calls in 0..200 {
@@ -104,9 +192,18 @@ fn steer_files_that_change_after_a_stop(rt: HostRuntime) -> Result<(), Fail> {
         };
         let newest = newest(&disk);
         if newest == 1 {
-            resumes_as(&rt, &mut disk, b"@1 wave::factor = 0\n", calls, ONE_SEEN)?;
+            let came = resumed(&rt, &mut disk, b"@1 wave::factor = 0\n")?;
+            let found = (came.status, came.printed.as_slice());
+            let want = b"recovery: OtherJob\n\nsteer 1 wave::factor = \"0\"\n".as_slice();
+            assert_eq!(rt;
+                found,
+                (6, want),
+                "a line of iteration 1 after {calls} calls"
+            );
         }
-        resumes_as(&rt, &mut disk, FACTOR_FROM_2, calls, changed(newest))?;
+        let came = resumed(&rt, &mut disk, FACTOR_FROM_2)?;
+        let found = (came.status, came.printed.as_slice(), came.points);
+        assert_eq!(rt; found, changed(newest), "stopped after {calls} calls");
     }
     Ok(())
 }

@@ -1,24 +1,125 @@
 //! Checkpoints: runs that stop anywhere and are started again, and starts that are refused.
 
-use crate::calls::{Outcome, answer_by, answer_on, answer_over, answer_to, shelf_with};
-use crate::devices::{LongDisk, SilentWire};
-use crate::found::{said, wrote};
-use cx_disk::{Disk, FuseDisk, MemoryDisk, OLD_OUTPUT};
-use cx_run::MemoryShelf;
-use cx_text::{List, Text};
-use sample_runs::boxes::{
-    BOX_FIELDS, BOX_FILE, BOX_FORMER, BOX_GOAL, BOX_LEADS, BOX_REST, BOX_SLOTS, BOX_SUMS,
-    BOX_THORNS, LONG, STARTS, STOPS, WITHIN_BODY,
+use crate::calls::{
+    FIRST_OUTPUT, Outcome, SECOND_OUTPUT, answer_on, answer_over, answer_to, shelf_with,
 };
-use sample_runs::checkpoints::{CA_GOAL, Goal, LEAVES, TWO, VALUES};
-use sample_runs::cut_runs::{LEFT, SHORT_FIELD};
-use sample_runs::jobs::{CA_OUTPUT, FIRST_OUTPUT, SECOND_OUTPUT};
-use sample_runs::samples::CA;
+use crate::devices::LongDisk;
+use crate::jobs::CA_OUTPUT;
+use crate::parts::{LEFT, SHORT_FIELD};
+use crate::samples::CA;
+use cx_disk::{FuseDisk, MemoryDisk, OLD_OUTPUT};
+use cx_text::{List, Text};
+use sample_files::File;
 use std::alloc::Global;
 use std::test::Fail;
-use test_cases::same;
+
+/// Waves in a box of forty points, with two checkpoints.
+pub(crate) const BOX_FILE: &[u8] = b"!DESC \"Waves in a box of forty points\"\n\
+    ActiveThorns = \"PUGH IOUtil\"\n\
+    ActiveThorns = \"WaveInt DiffInt ElemCA Control\"\n\
+    \n\
+    Cactus::cctk_run_title = \"box\"\n\
+    Cactus::terminate      = \"iteration\"\n\
+    Cactus::cctk_itlast    = 40\n\
+    \n\
+    driver::global_nx  = 40\n\
+    driver::ghost_size = 1      # one ghost point per side\n\
+    driver::parts_x    = 3\n\
+    \n\
+    wave::pattern = \"uniform\"\n\
+    wave::amount  = 5\n\
+    wave::sum     = yes\n\
+    \n\
+    IO::out_dir          = $parfile\n\
+    IO::out_every        = 20\n\
+    IO::out_vars         = \"wave::phi\n\
+    \x20                       wave::total\"\n\
+    IO::checkpoint_every = 20\n\
+    IO::checkpoint_keep  = 2\n\
+    IO::recover          = \"autoprobe\"\n";
+
+/// The same without the number of parts, the amount and how it begins.
+const BOX_REST: &[u8] = b"ActiveThorns = \"PUGH IOUtil\"\n\
+    ActiveThorns = \"WaveInt DiffInt ElemCA Control\"\n\
+    Cactus::cctk_run_title = \"box\"\n\
+    Cactus::terminate = \"iteration\"\n\
+    Cactus::cctk_itlast = 40\n\
+    driver::global_nx = 40\n\
+    driver::ghost_size = 1\n\
+    wave::pattern = \"uniform\"\n\
+    wave::sum = yes\n\
+    IO::out_dir = $parfile\n\
+    IO::out_every = 20\n\
+    IO::out_vars = \"wave::phi\n\
+    \x20                       wave::total\"\n\
+    IO::checkpoint_every = 20\n\
+    IO::checkpoint_keep = 2\n";
+
+pub(crate) const BOX_THORNS: &[File] = &[File {
+    name: "ThornList",
+    bytes: b"# thorns of the box\n\
+        !TARGET = $ARR\n\
+        CactusPUGH/PUGH\n\
+        CactusBase/IOUtil\n\
+        Integer/WaveInt\n\
+        Integer/DiffInt\n\
+        Integer/ElemCA\n\
+        Integer/Control\n",
+}];
+
+/// Its fields and its sums, of 341 and 110 bytes.
+pub(crate) const BOX_FIELDS: &[u8] = b"# wave::phi iteration 0 size 40\n\
+    5 5 5 5 5 5 5 5 5 5 5 5 5 5 5 5 5 5 5 5 5 5 5 5 5 5 5 5 5 5 5 5 5 5 5 5 5 5 5 5\n\
+    \n\
+    # wave::phi iteration 20 size 40\n\
+    5 5 5 5 5 5 5 5 5 5 5 5 5 5 5 5 5 5 5 5 5 5 5 5 5 5 5 5 5 5 5 5 5 5 5 5 5 5 5 5\n\
+    \n\
+    # wave::phi iteration 40 size 40\n\
+    5 5 5 5 5 5 5 5 5 5 5 5 5 5 5 5 5 5 5 5 5 5 5 5 5 5 5 5 5 5 5 5 5 5 5 5 5 5 5 5\n\
+    \n";
+
+pub(crate) const BOX_SUMS: &[u8] = b"# wave::total iteration 0 value 200\n\
+    # wave::total iteration 20 value 200\n\
+    # wave::total iteration 40 value 200\n";
+
+/// All of them in one file, as a former version wrote them, up to the checkpoint of iteration 40: 300 bytes.
+const BOX_FORMER: &[u8] = b"# wave::phi iteration 0 size 40\n\
+    5 5 5 5 5 5 5 5 5 5 5 5 5 5 5 5 5 5 5 5 5 5 5 5 5 5 5 5 5 5 5 5 5 5 5 5 5 5 5 5\n\
+    \n\
+    # wave::total iteration 0 value 200\n\
+    # wave::phi iteration 20 size 40\n\
+    5 5 5 5 5 5 5 5 5 5 5 5 5 5 5 5 5 5 5 5 5 5 5 5 5 5 5 5 5 5 5 5 5 5 5 5 5 5 5 5\n\
+    \n\
+    # wave::total iteration 20 value 200\n";
 
 const RUN: &[&str] = &["run", "t.par"];
+
+/// What a run of a job over a disk comes to.
+fn run_on(
+    rt: &HostRuntime,
+    file: &[u8],
+    more: &str,
+    others: &[File],
+    disk: &mut MemoryDisk,
+) -> Result<Outcome, Fail> {
+    let mut shelf = shelf_with(rt.alloc(), file, more, others)?;
+    answer_on(rt, RUN, &mut shelf, disk)
+}
+
+/// What a run over a disk that stops behind so many calls comes to, and what is left of the disk.
+fn run_stopped(
+    rt: &HostRuntime,
+    file: &[u8],
+    more: &str,
+    disk: MemoryDisk,
+    calls: u64,
+    choice: u64,
+) -> Result<(u8, MemoryDisk), Fail> {
+    let mut shelf = shelf_with(rt.alloc(), file, more, &[])?;
+    let mut fuse = FuseDisk::new(disk, calls);
+    let came = answer_over(rt, RUN, &mut shelf, &mut fuse)?;
+    Ok((came.status, fuse.into_image(choice)?))
+}
 
 fn empty_disk(alloc: Global) -> MemoryDisk {
     MemoryDisk::new(alloc, List::empty(alloc))
@@ -39,42 +140,101 @@ fn cut_disk(alloc: Global, disk: &MemoryDisk, cut: usize, to: usize) -> Result<M
     Ok(MemoryDisk::new(alloc, files))
 }
 
-/// A disk with the files of another.
-fn same_disk(alloc: Global, disk: &MemoryDisk) -> Result<MemoryDisk, Fail> {
-    cut_disk(alloc, disk, FIRST_OUTPUT, disk.bytes(FIRST_OUTPUT).len())
-}
-
 /// The disk that the box leaves.
 fn box_disk(rt: &HostRuntime) -> Result<MemoryDisk, Fail> {
     let mut disk = empty_disk(rt.alloc());
-    let mut shelf = shelf_with(rt.alloc(), BOX_FILE, "", BOX_THORNS)?;
-    answer_over(rt, RUN, &mut shelf, &mut disk)?;
+    run_on(rt, BOX_FILE, "", BOX_THORNS, &mut disk)?;
     Ok(disk)
 }
+
+/// How its two slots begin, with the checkpoints of iterations 20 and 40.
+const BOX_SLOTS: &[(usize, &[u8])] = &[
+    (0, b"\x01CXCHKPT\x02\0\0\0\0\0\0\0\x14"),
+    (1, b"\x01CXCHKPT\x02\0\0\0\0\0\0\0\x28"),
+];
 
 #[test]
 fn box_with_checkpoints(rt: HostRuntime) -> Result<(), Fail> {
     let mut disk = empty_disk(rt.alloc());
-    let mut shelf = shelf_with(rt.alloc(), BOX_FILE, "", BOX_THORNS)?;
-    let came = answer_on(&rt, RUN, &mut shelf, &mut disk)?;
-    said(&"the box", &came, 0, b"done: iteration 40\n")?;
-    wrote(&"the box", &came, BOX_FIELDS, BOX_SUMS)?;
-    let found = (
-        came.first.len(),
-        came.second.len(),
-        came.points,
-        came.received,
-    );
-    same(&"bytes, points, values", &found, &(341, 110, 4944, 480))?;
+    let came = run_on(&rt, BOX_FILE, "", BOX_THORNS, &mut disk)?;
+    let found = (came.status, came.printed.as_slice());
+    let want = (0, b"done: iteration 40\n".as_slice());
+    assert_eq!(rt; found, want, "the run");
+    let found = (came.first.as_slice(), came.second.as_slice());
+    assert_eq!(rt; found, (BOX_FIELDS, BOX_SUMS), "both outputs");
+    let found = (came.first.len(), came.second.len());
+    assert_eq!(rt; found, (341, 110), "bytes");
+    let found = (came.points, came.received);
+    assert_eq!(rt; found, (4944, 480), "points and values");
     for (slot, front) in BOX_SLOTS {
-        same(
-            &("slot", slot),
-            &disk.bytes(*slot).starts_with(front),
-            &true,
-        )?;
+        assert!(rt; disk.bytes(*slot).starts_with(front), "slot {slot}");
     }
-    same(&"slot 2", &disk.bytes(2).len(), &0)
+    assert_eq!(rt; disk.bytes(2).len(), 0, "slot 2");
+    Ok(())
 }
+
+/// How a run starts on a disk that the box has left, of which one file is cut, or on an empty one.
+struct Start {
+    name: &'static str,
+    /// Which file is cut, and to which length from its end.
+    cut: Option<(usize, usize)>,
+    more: &'static str,
+    status: u8,
+    printed: &'static [u8],
+    points: u128,
+    first: &'static [u8],
+}
+
+const STARTS: &[Start] = &[
+    Start {
+        name: "another job",
+        cut: None,
+        more: "driver::parts_x = 3\nwave::amount = 6\nIO::recover = \"autoprobe\"\n",
+        status: 6,
+        printed: b"recovery: OtherJob\n\
+            parameter wave::amount = \"5\"\n\
+            parameter wave::amount = \"6\"\n",
+        points: 0,
+        first: BOX_FIELDS,
+    },
+    Start {
+        name: "a damaged slot",
+        cut: Some((1, 1)),
+        more: "driver::parts_x = 3\nwave::amount = 5\nIO::recover = \"autoprobe\"\n",
+        status: 6,
+        printed: b"recovery: Damaged 1\n",
+        points: 0,
+        first: BOX_FIELDS,
+    },
+    Start {
+        name: "a short output",
+        cut: Some((FIRST_OUTPUT, 331)),
+        more: "driver::parts_x = 3\nwave::amount = 5\nIO::recover = \"autoprobe\"\n",
+        status: 6,
+        printed: b"recovery: OutputShort 10 227\n",
+        points: 0,
+        first: b"# wave::ph",
+    },
+    // The newest checkpoint, that of iteration 40, has nothing left to do but the output of iteration 40.
+    Start {
+        name: "four parts",
+        cut: None,
+        more: "driver::parts_x = 4\nwave::amount = 5\nIO::recover = \"auto\"\n",
+        status: 0,
+        printed: b"done: iteration 40\n",
+        points: 0,
+        first: BOX_FIELDS,
+    },
+    Start {
+        name: "without recovery",
+        cut: None,
+        more: "driver::parts_x = 3\nwave::amount = 5\nIO::recover = \"no\"\n",
+        status: 0,
+        printed: b"done: iteration 40\n",
+        points: 4944,
+        first: BOX_FIELDS,
+    },
+];
 
 #[test]
 fn starts_from_the_box(rt: HostRuntime) -> Result<(), Fail> {
@@ -84,11 +244,12 @@ fn starts_from_the_box(rt: HostRuntime) -> Result<(), Fail> {
         let (file, less) = start.cut.unwrap_or((0, 0));
         let length = left.bytes(file).len();
         let mut disk = cut_disk(alloc, &left, file, length.saturating_sub(less))?;
-        let mut shelf = shelf_with(alloc, BOX_REST, start.more, &[])?;
-        let came = answer_on(&rt, RUN, &mut shelf, &mut disk)?;
-        said(&start.name, &came, start.status, start.printed)?;
-        wrote(&start.name, &came, start.first, BOX_SUMS)?;
-        same(&(start.name, "points"), &came.points, &start.points)?;
+        let came = run_on(&rt, BOX_REST, start.more, &[], &mut disk)?;
+        let found = (came.status, came.printed.as_slice());
+        assert_eq!(rt; found, (start.status, start.printed), "{}", start.name);
+        let found = (came.first.as_slice(), came.second.as_slice());
+        assert_eq!(rt; found, (start.first, BOX_SUMS), "{}", start.name);
+        assert_eq!(rt; came.points, start.points, "points: {}", start.name);
     }
     Ok(())
 }
@@ -97,56 +258,50 @@ fn starts_from_the_box(rt: HostRuntime) -> Result<(), Fail> {
 fn start_from_nothing(rt: HostRuntime) -> Result<(), Fail> {
     let alloc = rt.alloc();
     let mut shelf = shelf_with(alloc, CA, "IO::recover = \"auto\"\n", &[])?;
-    let came = answer_to(&rt, RUN, &mut shelf)?;
-    said(&"auto", &came, 6, b"recovery: NoCheckpoint\n")?;
-    same(&"points of auto", &came.points, &0)?;
+    let refused = answer_to(&rt, RUN, &mut shelf)?;
+    let found = (refused.status, refused.printed.as_slice(), refused.points);
+    let want = b"recovery: NoCheckpoint\n".as_slice();
+    assert_eq!(rt; found, (6, want, 0), "auto");
     let mut shelf = shelf_with(alloc, CA, "IO::recover = \"autoprobe\"\n", &[])?;
     let came = answer_to(&rt, RUN, &mut shelf)?;
-    same(&"autoprobe", &came.status, &0)?;
-    wrote(&"autoprobe", &came, CA_OUTPUT, b"")
+    let found = (came.status, came.first.as_slice());
+    assert_eq!(rt; found, (0, CA_OUTPUT), "autoprobe");
+    Ok(())
 }
 
-// ---- runs that stop
+/// The box in three parts and in four, at leads 0 and 3.
+const BOX_LEADS: &[(&str, &str)] = &[
+    (
+        "driver::parts_x = 3\nwave::amount = 5\nIO::recover = \"autoprobe\"\n",
+        "driver::parts_x = 4\nwave::amount = 5\nIO::recover = \"autoprobe\"\n",
+    ),
+    (
+        "driver::parts_x = 3\nwave::amount = 5\nIO::recover = \"autoprobe\"\ndriver::lead = 3\n",
+        "driver::parts_x = 4\nwave::amount = 5\nIO::recover = \"autoprobe\"\ndriver::lead = 3\n",
+    ),
+];
 
-/// What a run on a disk comes to. Where none of its messages is to be sent, the wire takes none.
-fn run_on<D: Disk>(
-    rt: &HostRuntime,
-    shelf: &mut MemoryShelf,
-    sends: bool,
-    disk: &mut D,
-) -> Result<Outcome, Fail> {
-    if sends {
-        answer_over(rt, RUN, shelf, disk)
-    } else {
-        answer_by(rt, RUN, shelf, disk, &mut SilentWire)
-    }
-}
+// The calls of the first run are: the mount, 8 looks at slots, 8 syncs of slots, a cut and a sync of each output, and a look at the old one
+// (22); two pieces (24); the first checkpoint, with the outputs' syncs, 2 looks, a cut, a sync, a write of 0, a sync, the body and the gate
+// with their syncs (36); two pieces (38); the second one, with the outputs' syncs, 5 looks, a cut, a sync, a write of 0 and a sync (49); and
+// its body.
+const WITHIN_BODY: u64 = 49;
 
-/// The status of a run that stops after so many calls of the disk, and the image that it leaves by a choice.
-fn stopped(
-    rt: &HostRuntime,
-    shelf: &mut MemoryShelf,
-    sends: bool,
-    disk: MemoryDisk,
-    calls: u64,
-    choice: u64,
-) -> Result<(u8, MemoryDisk), Fail> {
-    let mut fuse = FuseDisk::new(disk, calls);
-    let came = run_on(rt, shelf, sends, &mut fuse)?;
-    Ok((came.status, fuse.into_image(choice)?))
-}
+// Those of the second run are: the mount, 11 looks at slots, or one more where the body is left; 2 at the newest, one at each output, and 8
+// syncs of slots; and the first output's cut.
+const STOPS: &[(u64, u64)] = &[(0, 24), (1, 25)];
 
-/// What a run of the box comes to after two that have stopped, by a choice of what a crash leaves and the calls of the second run.
+/// A run of the box that goes on behind two that have stopped, by a choice of what a crash leaves and the calls of the second run.
 fn third_run(rt: &HostRuntime, three: &str, four: &str, stop: (u64, u64)) -> Result<Outcome, Fail> {
     let (choice, calls) = stop;
-    let alloc = rt.alloc();
-    let mut shelf = shelf_with(alloc, BOX_REST, three, &[])?;
-    let disk = empty_disk(alloc);
-    let (first, disk) = stopped(rt, &mut shelf, true, disk, WITHIN_BODY, choice)?;
-    let (second, mut disk) = stopped(rt, &mut shelf, true, disk, calls, choice)?;
-    same(&(three, stop), &(first, second), &(4, 4))?;
-    let mut shelf = shelf_with(alloc, BOX_REST, four, &[])?;
-    answer_on(rt, RUN, &mut shelf, &mut disk)
+    let disk = empty_disk(rt.alloc());
+    let (first, disk) = run_stopped(rt, BOX_REST, three, disk, WITHIN_BODY, choice)?;
+    let (second, mut disk) = run_stopped(rt, BOX_REST, three, disk, calls, choice)?;
+    let mut came = run_on(rt, BOX_REST, four, &[], &mut disk)?;
+    if first != 4 || second != 4 {
+        came.status = 100;
+    }
+    Ok(came)
 }
 
 #[test]
@@ -154,131 +309,14 @@ fn box_that_stops_twice(rt: HostRuntime) -> Result<(), Fail> {
     for (three, four) in BOX_LEADS {
         for stop in STOPS {
             let came = third_run(&rt, three, four, *stop)?;
-            same(&(four, stop), &came.status, &0)?;
-            wrote(&(four, stop), &came, BOX_FIELDS, BOX_SUMS)?;
-            same(&(four, stop), &(came.points, came.received), &(2400, 360))?;
+            let found = (came.status, came.first.as_slice(), came.second.as_slice());
+            let want = (0, BOX_FIELDS, BOX_SUMS);
+            assert_eq!(rt; found, want, "{four:?} after {stop:?}");
+            let found = (came.points, came.received);
+            assert_eq!(rt; found, (2400, 360), "{four:?} after {stop:?}");
         }
     }
     Ok(())
-}
-
-/// Whether a run has come to a goal, with both outputs and the former one.
-fn is_reached(goal: &Goal, came: &Outcome, disk: &MemoryDisk) -> bool {
-    came.status == 0
-        && came.printed.as_slice() == goal.printed
-        && came.points == goal.points.unwrap_or(came.points)
-        && disk.bytes(FIRST_OUTPUT) == goal.first
-        && disk.bytes(SECOND_OUTPUT) == goal.second
-        && disk.bytes(OLD_OUTPUT as usize) == goal.former
-}
-
-/// Whether a run that starts from this disk reaches the goal.
-fn reaches(
-    rt: &HostRuntime,
-    shelf: &mut MemoryShelf,
-    goal: &Goal,
-    mut disk: MemoryDisk,
-) -> Result<bool, Fail> {
-    let came = run_on(rt, shelf, goal.sends, &mut disk)?;
-    Ok(is_reached(goal, &came, &disk))
-}
-
-/// More calls than any run makes that is stopped here.
-const MANY_CALLS: u64 = 100;
-
-/// How many calls a run makes from a disk, where runs that stop at each of them are followed by one that reaches the goal.
-fn calls_from(
-    rt: &HostRuntime,
-    shelf: &mut MemoryShelf,
-    goal: &Goal,
-    left: &MemoryDisk,
-) -> Result<Option<u64>, Fail> {
-    for calls in 0..MANY_CALLS {
-        let disk = same_disk(rt.alloc(), left)?;
-        let (status, disk) = stopped(rt, shelf, goal.sends, disk, calls, calls)?;
-        if !reaches(rt, shelf, goal, disk)? {
-            return Ok(None);
-        }
-        match status {
-            0 => return Ok(Some(calls)),
-            4 => {}
-            _ => return Ok(None),
-        }
-    }
-    Ok(None)
-}
-
-/// The status of a run from a disk that stops after so many calls, and whether the next run can stop at each call.
-fn stopped_anywhere(
-    rt: &HostRuntime,
-    goal: &Goal,
-    left: &MemoryDisk,
-    calls: u64,
-) -> Result<(u8, bool), Fail> {
-    let alloc = rt.alloc();
-    let mut shelf = shelf_with(alloc, goal.file, goal.more, goal.others)?;
-    let disk = same_disk(alloc, left)?;
-    let (status, disk) = stopped(rt, &mut shelf, goal.sends, disk, calls, calls)?;
-    let second = calls_from(rt, &mut shelf, goal, &disk)?;
-    Ok((status, second.is_some()))
-}
-
-/// A first run stops after each of these numbers of calls, and a second one anywhere; the third one reaches the goal.
-fn stop_twice(
-    rt: &HostRuntime,
-    goal: &Goal,
-    left: &MemoryDisk,
-    first: u64,
-    end: u64,
-) -> Result<(), Fail> {
-    for calls in first..end {
-        let found = stopped_anywhere(rt, goal, left, calls)?;
-        same(&(goal.name, calls), &found, &(4, true))?;
-    }
-    Ok(())
-}
-
-/// A first run makes all these calls, and stops after them; so may a second one anywhere.
-fn stop_at_the_end(
-    rt: &HostRuntime,
-    goal: &Goal,
-    left: &MemoryDisk,
-    calls: u64,
-) -> Result<(), Fail> {
-    let mut shelf = shelf_with(rt.alloc(), goal.file, goal.more, goal.others)?;
-    let found = calls_from(rt, &mut shelf, goal, left)?;
-    same(&(goal.name, "calls"), &found, &Some(calls))?;
-    let found = stopped_anywhere(rt, goal, left, calls)?;
-    same(&(goal.name, calls), &found, &(0, true))?;
-    let found = reaches(rt, &mut shelf, goal, same_disk(rt.alloc(), left)?)?;
-    same(&(goal.name, "without a stop"), &found, &true)
-}
-
-/// How many calls a run of the automaton makes on an empty disk, with a checkpoint in each iteration: 20 up to the first piece, three
-/// pieces, 11 for the first checkpoint, 14 for the second one, and the output's sync.
-const AUTOMATON_CALLS: u64 = 49;
-
-#[test]
-fn automaton_that_stops_once(rt: HostRuntime) -> Result<(), Fail> {
-    stop_at_the_end(&rt, CA_GOAL, &empty_disk(rt.alloc()), AUTOMATON_CALLS)
-}
-
-/// Up to the first piece.
-#[test]
-fn automaton_that_stops_at_its_start_and_again(rt: HostRuntime) -> Result<(), Fail> {
-    stop_twice(&rt, CA_GOAL, &empty_disk(rt.alloc()), 0, 21)
-}
-
-/// Up to the second piece.
-#[test]
-fn automaton_that_stops_at_its_first_checkpoint_and_again(rt: HostRuntime) -> Result<(), Fail> {
-    stop_twice(&rt, CA_GOAL, &empty_disk(rt.alloc()), 21, 33)
-}
-
-/// Up to its end.
-#[test]
-fn automaton_that_stops_at_its_second_checkpoint_and_again(rt: HostRuntime) -> Result<(), Fail> {
-    stop_twice(&rt, CA_GOAL, &empty_disk(rt.alloc()), 33, AUTOMATON_CALLS)
 }
 
 // ---- what a former version left
@@ -305,7 +343,7 @@ fn former_slot(alloc: Global, slot: &[u8], length: &[u8]) -> Result<Text, Fail> 
     Ok(text)
 }
 
-/// The disk of the box as a former version left it after the checkpoint of iteration 40: one output of 300 bytes, of which that
+/// The disk of the box as a former version left it behind the checkpoint of iteration 40: one output of 300 bytes, of which that
 /// of iteration 20 records 149. The slot of iteration 20 may be of today's version.
 fn former_disk(rt: &HostRuntime, older_is_new: bool) -> Result<MemoryDisk, Fail> {
     let alloc = rt.alloc();
@@ -325,6 +363,13 @@ fn former_disk(rt: &HostRuntime, older_is_new: bool) -> Result<MemoryDisk, Fail>
     Ok(MemoryDisk::new(alloc, files))
 }
 
+/// Commands on the box in three parts, with two outputs, where each file has 300,000,000 bytes.
+const LONG: &[(&str, u8, &[u8])] = &[
+    ("run", 6, b"recovery: OldTooLong 300000000 268435456\n"),
+    ("chunk", 7, b"chunks: TooLong 600000000 268435456\n"),
+    ("recombine", 7, b"chunks: TooLong 900000000 268435456\n"),
+];
+
 #[test]
 fn files_that_are_too_long(rt: HostRuntime) -> Result<(), Fail> {
     let alloc = rt.alloc();
@@ -335,107 +380,259 @@ fn files_that_are_too_long(rt: HostRuntime) -> Result<(), Fail> {
         let slot = former_slot(alloc, left.bytes(1), b"\x11\xe1\xa3\x00")?;
         let mut disk = LongDisk::new(alloc, slot, 300_000_000);
         let came = answer_over(&rt, &[word, "t.par"], &mut shelf, &mut disk)?;
-        said(word, &came, *status, printed)?;
-        same(&(word, "points"), &came.points, &0)?;
+        let found = (came.status, came.printed.as_slice(), came.points);
+        assert_eq!(rt; found, (*status, *printed, 0), "{word}");
     }
     Ok(())
 }
 
-/// How many calls a run of the box makes from what a former version left, with slots of that version alone: the mount, 14 looks at slots, 2 at
-/// the newest, 2 at the old output, 8 syncs of slots, 14 looks at what is to be closed, three calls for each output, two pieces, and the
-/// outputs' syncs.
-const FORMER_CALLS: u64 = 51;
+/// Whether a run of the box has come to its end from the checkpoint of iteration 40, with both outputs, and the former one is there.
+fn is_split(came: &Outcome, disk: &MemoryDisk) -> bool {
+    came.status == 0
+        && came.points == 0
+        && came.printed.as_slice() == b"done: iteration 40\n".as_slice()
+        && came.first.as_slice() == BOX_FIELDS
+        && came.second.as_slice() == BOX_SUMS
+        && disk.bytes(OLD_OUTPUT as usize) == BOX_FORMER
+}
 
-/// How many it makes where the older slot is of today's version: for an open slot of today's version a write and a sync more.
-const MIXED_CALLS: u64 = 53;
+/// Whether a run is whole that goes on from this disk.
+fn goes_on_whole(rt: &HostRuntime, mut disk: MemoryDisk) -> Result<bool, Fail> {
+    let came = run_on(rt, BOX_FILE, "", BOX_THORNS, &mut disk)?;
+    Ok(is_split(&came, &disk))
+}
+
+/// The status of a run of the box that stops behind so many calls of a copy of a disk, and the image of that choice.
+fn box_stopped(rt: &HostRuntime, left: &MemoryDisk, calls: u64) -> Result<(u8, MemoryDisk), Fail> {
+    let alloc = rt.alloc();
+    let mut shelf = shelf_with(alloc, BOX_FILE, "", BOX_THORNS)?;
+    let mut fuse = FuseDisk::new(same_disk(alloc, left)?, calls);
+    let came = answer_over(rt, RUN, &mut shelf, &mut fuse)?;
+    Ok((came.status, fuse.into_image(calls)?))
+}
+
+/// How many calls a run makes on the files of a disk, where runs that stop at each of them are followed by a whole one.
+fn box_calls_from(rt: &HostRuntime, left: &MemoryDisk) -> Result<Option<u64>, Fail> {
+    for calls in 0..MANY_CALLS {
+        let (stopped, disk) = box_stopped(rt, left, calls)?;
+        if !goes_on_whole(rt, disk)? {
+            return Ok(None);
+        }
+        match stopped {
+            0 => return Ok(Some(calls)),
+            4 => {}
+            _ => return Ok(None),
+        }
+    }
+    Ok(None)
+}
+
+/// How many calls a run of the box makes from what a former version left, with slots of that version alone, and where the older slot is of
+/// today's version: the mount, 14 looks at slots, 2 at the newest, 2 at the old output, 8 syncs of slots, 14 looks at what is to be closed,
+/// for an open slot of today's version a write and a sync, three calls for each output, two pieces, and the outputs' syncs.
+const FORMER_CALLS: &[(bool, u64)] = &[(false, 51), (true, 53)];
 
 #[test]
 fn start_from_a_former_version(rt: HostRuntime) -> Result<(), Fail> {
-    stop_at_the_end(&rt, BOX_GOAL, &former_disk(&rt, false)?, FORMER_CALLS)
+    for (older_is_new, calls) in FORMER_CALLS {
+        let disk = former_disk(&rt, *older_is_new)?;
+        let found = box_calls_from(&rt, &disk)?;
+        assert_eq!(rt; found, Some(*calls), "calls, {older_is_new}");
+        let whole = goes_on_whole(&rt, disk)?;
+        assert!(rt; whole, "without a stop, {older_is_new}");
+    }
+    Ok(())
+}
+
+/// Whether runs on the files of a disk that stop at each fifth of their calls, from one of the first on, are each followed by a whole one.
+fn fifths_are_whole(rt: &HostRuntime, left: &MemoryDisk, first: u64) -> Result<bool, Fail> {
+    for k in 0..MANY_CALLS / 5 {
+        let (stopped, disk) = box_stopped(rt, left, first.saturating_add(5 * k))?;
+        if !goes_on_whole(rt, disk)? {
+            return Ok(false);
+        }
+        if stopped != 4 {
+            return Ok(stopped == 0);
+        }
+    }
+    Ok(false)
+}
+
+/// A first run stops at each call, and a second one at each fifth of its own, from another one each time; the third one is whole.
+#[test]
+fn start_from_a_former_version_that_stops_twice(rt: HostRuntime) -> Result<(), Fail> {
+    for (older_is_new, calls) in FORMER_CALLS {
+        let disk = former_disk(&rt, *older_is_new)?;
+        for stop in 0..*calls {
+            let (status, left) = box_stopped(&rt, &disk, stop)?;
+            let found = (status, fifths_are_whole(&rt, &left, stop % 5)?);
+            assert_eq!(rt; found, (4, true), "after {stop} calls, {older_is_new}");
+        }
+    }
+    Ok(())
+}
+
+pub(crate) const EACH: &str = "IO::checkpoint_every = 1\nIO::recover = \"autoprobe\"\n";
+
+/// How many calls a run of the automaton makes on an empty disk, with a checkpoint in each iteration: 20 up to the first piece, three
+/// pieces, 11 for the first checkpoint, 14 for the second one, and the output's sync.
+const AUTOMATON_CALLS: u64 = 49;
+
+/// More calls than any run of it makes.
+const MANY_CALLS: u64 = 100;
+
+/// A disk with the files of another.
+fn same_disk(alloc: Global, disk: &MemoryDisk) -> Result<MemoryDisk, Fail> {
+    cut_disk(alloc, disk, FIRST_OUTPUT, disk.bytes(FIRST_OUTPUT).len())
+}
+
+/// The status of a run of the automaton that stops behind so many calls of the disk, and the image of that choice.
+fn automaton_stopped(
+    rt: &HostRuntime,
+    disk: MemoryDisk,
+    calls: u64,
+) -> Result<(u8, MemoryDisk), Fail> {
+    run_stopped(rt, CA, EACH, disk, calls, calls)
+}
+
+/// The status of a run that stops behind so many calls, on the files of a disk, and what one comes to that is started on what it leaves.
+fn started_again(rt: &HostRuntime, left: &MemoryDisk, calls: u64) -> Result<(u8, Outcome), Fail> {
+    let disk = same_disk(rt.alloc(), left)?;
+    let (stopped, mut disk) = automaton_stopped(rt, disk, calls)?;
+    let came = run_on(rt, CA, EACH, &[], &mut disk)?;
+    Ok((stopped, came))
+}
+
+/// Whether a run of the automaton has come to its end, with its whole output.
+fn is_whole(came: &Outcome) -> bool {
+    came.status == 0
+        && came.printed.as_slice() == b"done: iteration 2\n".as_slice()
+        && came.first.as_slice() == CA_OUTPUT
+}
+
+/// How many calls a run makes on the files of a disk, where runs that stop at each of them are followed by one with the whole output.
+fn calls_from(rt: &HostRuntime, left: &MemoryDisk) -> Result<Option<u64>, Fail> {
+    for calls in 0..MANY_CALLS {
+        let (stopped, came) = started_again(rt, left, calls)?;
+        if !is_whole(&came) {
+            return Ok(None);
+        }
+        match stopped {
+            0 => return Ok(Some(calls)),
+            4 => {}
+            _ => return Ok(None),
+        }
+    }
+    Ok(None)
+}
+
+/// The status of a run on an empty disk that stops behind so many calls, and of how many calls one is that follows, as `calls_from` has it.
+fn stopped_twice(rt: &HostRuntime, calls: u64) -> Result<(u8, Option<u64>), Fail> {
+    let (stopped, left) = automaton_stopped(rt, empty_disk(rt.alloc()), calls)?;
+    Ok((stopped, calls_from(rt, &left)?))
 }
 
 #[test]
-fn start_from_a_former_version_and_a_slot_of_today(rt: HostRuntime) -> Result<(), Fail> {
-    stop_at_the_end(&rt, BOX_GOAL, &former_disk(&rt, true)?, MIXED_CALLS)
+fn automaton_that_stops_once(rt: HostRuntime) -> Result<(), Fail> {
+    let calls = calls_from(&rt, &empty_disk(rt.alloc()))?;
+    assert_eq!(rt; calls, Some(AUTOMATON_CALLS), "calls of the disk");
+    Ok(())
 }
 
-/// Up to the looks at the newest slot.
-#[test]
-fn start_from_a_former_version_that_stops_early_and_again(rt: HostRuntime) -> Result<(), Fail> {
-    stop_twice(&rt, BOX_GOAL, &former_disk(&rt, false)?, 0, 17)
+/// The status of a run that stops after so many calls, and whether one that follows can stop anywhere.
+fn stopped_anywhere(rt: &HostRuntime, calls: u64) -> Result<(u8, bool), Fail> {
+    let (stopped, second) = stopped_twice(rt, calls)?;
+    Ok((stopped, second.is_some()))
 }
 
-/// Up to the looks at what is to be closed.
+/// Up to the first piece.
 #[test]
-fn start_from_a_former_version_that_stops_in_between_and_again(
-    rt: HostRuntime,
-) -> Result<(), Fail> {
-    stop_twice(&rt, BOX_GOAL, &former_disk(&rt, false)?, 17, 34)
+fn automaton_that_stops_at_its_start_and_again(rt: HostRuntime) -> Result<(), Fail> {
+    for calls in 0..21 {
+        let found = stopped_anywhere(&rt, calls)?;
+        assert_eq!(rt; found, (4, true), "after {calls} calls");
+    }
+    Ok(())
+}
+
+/// Up to the second piece.
+#[test]
+fn automaton_that_stops_at_its_first_checkpoint_and_again(rt: HostRuntime) -> Result<(), Fail> {
+    for calls in 21..33 {
+        let found = stopped_anywhere(&rt, calls)?;
+        assert_eq!(rt; found, (4, true), "after {calls} calls");
+    }
+    Ok(())
 }
 
 /// Up to its end.
 #[test]
-fn start_from_a_former_version_that_stops_late_and_again(rt: HostRuntime) -> Result<(), Fail> {
-    stop_twice(&rt, BOX_GOAL, &former_disk(&rt, false)?, 34, FORMER_CALLS)
+fn automaton_that_stops_at_its_second_checkpoint_and_again(rt: HostRuntime) -> Result<(), Fail> {
+    for calls in 33..AUTOMATON_CALLS {
+        let found = stopped_anywhere(&rt, calls)?;
+        assert_eq!(rt; found, (4, true), "after {calls} calls");
+    }
+    let found = stopped_anywhere(&rt, AUTOMATON_CALLS)?;
+    assert_eq!(rt; found, (0, true), "after all its calls");
+    Ok(())
 }
 
-/// Up to the looks at the newest slot.
-#[test]
-fn start_from_a_slot_of_today_that_stops_early_and_again(rt: HostRuntime) -> Result<(), Fail> {
-    stop_twice(&rt, BOX_GOAL, &former_disk(&rt, true)?, 0, 17)
-}
-
-/// Up to the looks at what is to be closed.
-#[test]
-fn start_from_a_slot_of_today_that_stops_in_between_and_again(rt: HostRuntime) -> Result<(), Fail> {
-    stop_twice(&rt, BOX_GOAL, &former_disk(&rt, true)?, 17, 35)
-}
-
-/// Up to its end.
-#[test]
-fn start_from_a_slot_of_today_that_stops_late_and_again(rt: HostRuntime) -> Result<(), Fail> {
-    stop_twice(&rt, BOX_GOAL, &former_disk(&rt, true)?, 35, MIXED_CALLS)
-}
-
-// ---- what runs leave
+/// Numbers that leave 16 bits in iteration 7, with a checkpoint in each third iteration.
+const LEAVES: &[u8] = b"ActiveThorns = \"DiffInt\"\n\
+    Cactus::cctk_itlast = 20\n\
+    driver::global_nx = 16\n\
+    driver::periodic = yes\n\
+    diff::factor = 256\n\
+    diff::amount = 100\n\
+    diff::start = 2\n\
+    IO::out_vars = \"diff::u\"\n\
+    IO::checkpoint_every = 3\n\
+    IO::recover = \"autoprobe\"\n";
 
 #[test]
 fn overflow_twice(rt: HostRuntime) -> Result<(), Fail> {
     let mut disk = empty_disk(rt.alloc());
-    let mut shelf = shelf_with(rt.alloc(), LEAVES, "", SHORT_FIELD)?;
-    let first = answer_on(&rt, RUN, &mut shelf, &mut disk)?;
-    same(&"the first run", &first.status, &3)?;
-    wrote(&"the first run", &first, LEFT, b"")?;
-    let second = answer_on(&rt, RUN, &mut shelf, &mut disk)?;
-    said(
-        &"the second run",
-        &second,
-        3,
-        b"ended: Overflow 7 EVOL/diff_step\n",
-    )?;
-    wrote(&"the second run", &second, LEFT, b"")?;
-    same(&"points of the second run", &(second.points <= 16), &true)
+    let first = run_on(&rt, LEAVES, "", SHORT_FIELD, &mut disk)?;
+    let found = (first.status, first.first.as_slice());
+    assert_eq!(rt; found, (3, LEFT), "the first run");
+    let second = run_on(&rt, LEAVES, "", SHORT_FIELD, &mut disk)?;
+    let found = (
+        second.status,
+        second.printed.as_slice(),
+        second.first.as_slice(),
+    );
+    let ended = b"ended: Overflow 7 EVOL/diff_step\n".as_slice();
+    assert_eq!(rt; found, (3, ended, LEFT), "the second run");
+    assert!(rt; second.points <= 16, "points of the second run");
+    Ok(())
 }
+
+/// What stands in a slot behind the key of the automaton's checkpoint of iteration 2: one output with its name and
+/// its 94 bytes, 2 living cells, and one level of 8 points.
+const VALUES: &[u8] = b"\0\0\0\x01\0\0\0\x0cca::cell.asc\0\0\0\0\0\0\0\x5e\
+    \0\0\0\x01\0\0\0\0\0\0\0\x02\
+    \0\0\0\x01\0\0\0\0\0\0\0\x08\
+    \0\0\0\0\0\0\0\0\0\0\0\0\0\0\0\x01\0\0\0\0\0\0\0\0\0\0\0\0\0\0\0\0\
+    \0\0\0\0\0\0\0\0\0\0\0\0\0\0\0\x01\0\0\0\0\0\0\0\0\0\0\0\0\0\0\0\0";
+
+const TWO: &str = "IO::checkpoint_every = 2\ndriver::parts_x = 3\n";
 
 #[test]
 fn checkpoint_of_the_automaton(rt: HostRuntime) -> Result<(), Fail> {
     let alloc = rt.alloc();
     let mut disk = empty_disk(alloc);
+    run_on(&rt, CA, TWO, &[], &mut disk)?;
     let mut shelf = shelf_with(alloc, CA, TWO, &[])?;
-    answer_over(&rt, RUN, &mut shelf, &mut disk)?;
     let described = answer_to(&rt, &["describe", "t.par"], &mut shelf)?;
     let slot = disk.bytes(0);
     let front = b"\x01CXCHKPT\x02\0\0\0\0\0\0\0\x02\0\0".as_slice();
-    same(
-        &"the iteration before the key",
-        &slot.starts_with(front),
-        &true,
-    )?;
-    same(&"the values after the key", &slot.ends_with(VALUES), &true)?;
+    assert!(rt; slot.starts_with(front), "the iteration before the key");
+    assert!(rt; slot.ends_with(VALUES), "the values after the key");
     let end = slot.len().saturating_sub(VALUES.len());
     let key = slot.get(21..end).unwrap_or(&[]);
-    same(&"the key", &described.printed.starts_with(key), &true)?;
+    assert!(rt; described.printed.starts_with(key), "the key");
     let rest = described.printed.get(key.len()..).unwrap_or(&[]);
     let next = b"parameter driver::parts_x = \"3\"\n".as_slice();
-    same(&"what comes after the key", &rest.starts_with(next), &true)
+    assert!(rt; rest.starts_with(next), "what comes after the key");
+    Ok(())
 }

@@ -1,38 +1,60 @@
 //! Runs over wires that alter or note, and turns that always pick alike.
 
-use crate::calls::{answer_by, shelf_with, sink, status_over};
+use crate::calls::{FIRST_OUTPUT, shelf_with, sink, texts};
 use crate::carriers::{altering, noting};
 use crate::devices::{FirstTurns, LastTurns};
+use crate::jobs::CA_OUTPUT;
+use crate::samples::CA;
 use cx_disk::MemoryDisk;
+use cx_program::answer;
+use cx_rule::Meter;
 use cx_text::List;
-use cx_turns::Turns;
-use sample_runs::cut_runs::{ALTERED, TWO_PARTS};
-use sample_runs::jobs::{CA_OUTPUT, FIRST_OUTPUT};
-use sample_runs::samples::CA;
+use cx_turns::{SeededTurns, Turns};
 use std::test::Fail;
-use test_cases::same;
 
-const RUN: &[&str] = &["run", "t.par"];
+const TWO_PARTS: &str = "driver::parts_x = 2\n";
+
+/// The automaton's output where part 1 is told in the first exchange that its right neighbour's cell lives.
+const ALTERED: &[u8] = b"# ca::cell iteration 0 size 8\n\
+    0 0 0 1 0 0 0 0\n\
+    \n\
+    # ca::cell iteration 1 size 8\n\
+    0 0 1 0 1 0 0 0\n\
+    \n\
+    # ca::cell iteration 2 size 8\n\
+    0 1 0 0 0 1 0 1\n\
+    \n";
 
 #[test]
 fn a_value_that_is_altered(rt: HostRuntime) -> Result<(), Fail> {
     let alloc = rt.alloc();
+    let words = texts(alloc, &["run", "t.par"])?;
     let mut shelf = shelf_with(alloc, CA, TWO_PARTS, &[])?;
     let mut disk = MemoryDisk::new(alloc, List::empty(alloc));
     let mut wire = altering(alloc)?;
-    let came = answer_by(&rt, RUN, &mut shelf, &mut disk, &mut wire)?;
-    let found = (came.status, disk.bytes(FIRST_OUTPUT));
-    same(&"the altered value is used", &found, &(0, ALTERED))
+    let mut turns = SeededTurns::new();
+    let mut out = sink(alloc, &[])?;
+    let mut meter = Meter::new(&rt);
+    let status = answer(
+        alloc, &words, &mut shelf, &mut disk, &mut wire, &mut turns, &mut out, &mut meter,
+    )?;
+    let found = (status, disk.bytes(FIRST_OUTPUT));
+    assert_eq!(rt; found, (0, ALTERED), "the altered value is used");
+    Ok(())
 }
 
 /// Whether the automaton's output comes of these turns, and from which part the first message is sent.
 fn first_sender<T: Turns>(rt: &HostRuntime, turns: &mut T) -> Result<(bool, Option<u32>), Fail> {
     let alloc = rt.alloc();
+    let words = texts(alloc, &["run", "t.par"])?;
     let mut shelf = shelf_with(alloc, CA, TWO_PARTS, &[])?;
     let mut disk = MemoryDisk::new(alloc, List::empty(alloc));
     let mut wire = noting(alloc)?;
     let mut out = sink(alloc, &[])?;
-    let (status, _) = status_over(rt, RUN, &mut shelf, &mut disk, &mut wire, turns, &mut out)?;
+    let mut meter = Meter::new(rt);
+    let status = answer(
+        alloc, &words, &mut shelf, &mut disk, &mut wire, turns, &mut out, &mut meter,
+    )?;
     let right = status == 0 && disk.bytes(FIRST_OUTPUT) == CA_OUTPUT;
     match wire.notes().as_slice() {
         [] => Ok((right, None)),
@@ -42,8 +64,9 @@ fn first_sender<T: Turns>(rt: &HostRuntime, turns: &mut T) -> Result<(bool, Opti
 
 #[test]
 fn picks_are_followed(rt: HostRuntime) -> Result<(), Fail> {
-    let found = first_sender(&rt, &mut FirstTurns(None))?;
-    same(&"part 0 sends first", &found, &(true, Some(0)))?;
-    let found = first_sender(&rt, &mut LastTurns(None))?;
-    same(&"part 1 sends first", &found, &(true, Some(1)))
+    let first = first_sender(&rt, &mut FirstTurns(None))?;
+    assert!(rt; matches!(first, (true, Some(0))), "part 0 sends first");
+    let last = first_sender(&rt, &mut LastTurns(None))?;
+    assert!(rt; matches!(last, (true, Some(1))), "part 1 sends first");
+    Ok(())
 }
