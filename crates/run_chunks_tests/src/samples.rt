@@ -1,20 +1,13 @@
 //! A job of eight points in a ring, cut into parts of 3 and 5 points, and its files.
 
-ghost use Rattle.std.specs.Prelude.{◌≡◌, All, IfOk, None};
-ghost use Rattle.cx_grid.specs.Grid.{IsShape};
-ghost use Rattle.cx_plan.specs.Whole.{IsVariable, IsWhole};
-ghost use Rattle.cx_cut.specs.Faults.{cut_fault};
-ghost use Rattle.cx_chunks.specs.Laws.{IsCutOf};
-ghost use Rattle.cx_run_chunks.specs.Commands.{parts_in};
-ghost use Rattle.output_tests.specs.Samples.{no_bins, nothing, sample, sample_outputs, sample_variables};
+ghost use Rattle.std.specs.Prelude.{◌≡◌, IfOk};
+ghost use Rattle.run_chunks_tests.specs.Samples.{no_bins, nothing, sample, sample_outputs, sample_variables};
 
-use cx_cut::{Cut, cut};
 use cx_disk::MemoryDisk;
 use cx_grid::{Point, Shape};
 use cx_plan::{Cuts, Job, Recover, Schedule, Tree, VarId, VarInfo};
 use cx_text::{CType, List, Memory, Text};
 use std::alloc::Global;
-use std::test::Fail;
 
 /// The output of three iterations of an automaton: 141 bytes.
 pub(crate) const CELLS: &[u8] = b"# ca::cell iteration 0 size 8\n\
@@ -138,7 +131,7 @@ fn bins(alloc: Global) -> Result<List<Tree>, Memory>
 }
 
 /// A job with a grid variable and a scalar, both of which are written.
-fn job(alloc: Global) -> Result<Job, Memory>
+pub(crate) fn job(alloc: Global) -> Result<Job, Memory>
     ensures { IfOk result (λ job. job ≡ sample) }
 {
     Ok(Job {
@@ -166,25 +159,6 @@ fn job(alloc: Global) -> Result<Job, Memory>
         plan_text: text(alloc, b"")?,
         starred: text(alloc, b"")?,
     })
-}
-
-/// The same job, of which is known what commands and chunks ask for.
-pub(crate) fn whole_job(alloc: Global) -> Result<Job, Memory>
-    ensures whole { IfOk result (λ job. IsWhole job) }
-    ensures cut { IfOk result (λ job. cut_fault (parts_in job) ≡ None) }
-    ensures shape { IfOk result (λ job. IsShape job.shape) }
-    ensures outputs { IfOk result (λ job. All (IsVariable job) job.out_vars) }
-{
-    let job = job(alloc)?;
-    Ok(job)
-}
-
-/// The job's cut.
-pub(crate) fn cut_of(alloc: Global, job: &Job) -> Result<Cut, Fail>
-    requires { IsShape job.now.shape }
-    ensures { IfOk result (λ cut. IsCutOf job.now cut) }
-{
-    Ok(cut(alloc, &job.shape, &job.cut)?)
 }
 
 /// The bytes of a file.

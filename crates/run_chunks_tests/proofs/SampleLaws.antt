@@ -12,12 +12,12 @@ use Rattle.cx_plan.specs.Setups.{setup_of}
 use Rattle.cx_plan.specs.Lookups.{item, no_item, no_variable}
 use Rattle.cx_plan.specs.Regions.{run_items}
 use Rattle.cx_plan.specs.Steering.{IsSteer}
-use Rattle.cx_plan.specs.Whole.{IsTree, IsName, IsItem, IsSmall, IsStored, IsVariable, IsWhole}
+use Rattle.cx_plan.specs.Whole.{IsTree, IsName, IsItem, IsSmall, IsStored, IsWhole}
 use Rattle.cx_cut.specs.Faults.{cut_fault}
 use Rattle.cx_run_chunks.specs.Commands.{parts_in}
-use Rattle.output_tests.specs.Samples.{sample, sample_variables}
+use Rattle.run_chunks_tests.specs.Samples.{sample, sample_variables}
 
-pub whole-shape : IsShape sample.shape
+whole-shape : IsShape sample.shape
 whole-shape =
     record {
       some = omega arith;
@@ -180,7 +180,3 @@ sample-whole =
 
 pub sample-cut : cut_fault (parts_in sample) ≡ None
 sample-cut = refl
-
-pub sample-outputs : All (IsVariable sample) sample.out_vars
-sample-outputs =
-    All-from_recursion (IsVariable sample) sample.out_vars (omega arith, (omega arith, tt))

@@ -5,7 +5,7 @@ ghost use Rattle.cx_plan.specs.Whole.{IsVariable};
 ghost use Rattle.cx_cut.specs.Cuts.{part_count};
 ghost use Rattle.cx_chunks.specs.Laws.{IsCutOf};
 
-use crate::samples::{CELLS, FIRST, LIVE, SECOND, cut_of, whole_job};
+use crate::samples::{CELLS, FIRST, LIVE, SECOND, cut_of, job};
 use cx_ascii_read::{Record, read_output};
 use cx_chunks::{ChunkFault, Piece, combine, cut_records, read_chunk};
 use cx_cut::Cut;
@@ -13,7 +13,6 @@ use cx_plan::Job;
 use cx_text::{List, Memory, Text};
 use std::alloc::Global;
 use std::test::Fail;
-use test_cases::same;
 
 // Two chunks, and the whole text or the fault's words.
 struct Case {
@@ -176,7 +175,7 @@ fn combined(alloc: Global, job: &Job, cut: &Cut, chunks: &List<List<Piece>>) -> 
 
 /// What comes of the chunks that these bytes are.
 fn outcome(alloc: Global, texts: &[&[u8]]) -> Result<Text, Fail> {
-    let job = whole_job(alloc)?;
+    let job = job(alloc)?;
     let cut = cut_of(alloc, &job)?;
     let chunks = pieces(alloc, texts)?;
     if chunks.len() != cut.count() as usize {
@@ -190,7 +189,7 @@ fn pieces_are_joined_or_refused(rt: HostRuntime) -> Result<(), Fail> {
     let alloc = rt.alloc();
     for case in CASES {
         let found = outcome(alloc, &case.chunks)?;
-        same(&case.case, &found.as_slice(), &case.words)?;
+        assert!(rt; found.as_slice() == case.words, "{}", case.case);
     }
     Ok(())
 }
@@ -208,7 +207,7 @@ fn records(alloc: Global, texts: &[&[u8]]) -> Result<List<List<Record>>, Memory>
 
 /// The chunks of these outputs.
 fn chunks(alloc: Global, texts: &[&[u8]]) -> Result<List<Text>, Fail> {
-    let job = whole_job(alloc)?;
+    let job = job(alloc)?;
     let cut = cut_of(alloc, &job)?;
     Ok(cut_records(alloc, &job, &cut, &records(alloc, texts)?)?)
 }
@@ -220,10 +219,11 @@ fn records_are_cut_and_joined(rt: HostRuntime) -> Result<(), Fail> {
     let [first, second] = found.as_slice() else {
         return Err(Memory.into());
     };
-    same(&"chunk 0", &first.as_slice(), &FIRST)?;
-    same(&"chunk 1", &second.as_slice(), &SECOND)?;
+    assert!(rt; first.as_slice() == FIRST, "chunk 0");
+    assert!(rt; second.as_slice() == SECOND, "chunk 1");
     let whole = outcome(alloc, &[FIRST, SECOND])?;
     let mut want = Text::from_slice(alloc, CELLS)?;
     want.push_slice(LIVE)?;
-    same(&"the whole", &whole.as_slice(), &want.as_slice())
+    assert!(rt; whole.as_slice() == want.as_slice(), "the whole");
+    Ok(())
 }

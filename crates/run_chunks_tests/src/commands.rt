@@ -5,13 +5,12 @@ ghost use Rattle.cx_cut.specs.Faults.{cut_fault};
 ghost use Rattle.cx_plan.specs.Whole.{IsWhole};
 ghost use Rattle.cx_run_chunks.specs.Commands.{parts_in};
 
-use crate::samples::{CELLS, FIRST, LIVE, SECOND, disk, whole_job};
+use crate::samples::{CELLS, FIRST, LIVE, SECOND, disk, job};
 use cx_disk::{Disk, MemoryDisk};
 use cx_plan::Job;
 use cx_run_chunks::{ChunksFault, chunk, recombine};
 use std::alloc::Global;
 use std::test::Fail;
-use test_cases::same;
 
 /// The words of a fault.
 fn fault_words(alloc: Global, fault: &ChunksFault) -> Result<String, Fail> {
@@ -48,7 +47,7 @@ fn recombine_words<D: Disk>(alloc: Global, disk: &mut D, job: &Job) -> Result<St
 
 /// What a command answers: `chunk` for outputs, `recombine` for chunks.
 pub(crate) fn words<D: Disk>(alloc: Global, disk: &mut D, cuts: bool) -> Result<String, Fail> {
-    let job = whole_job(alloc)?;
+    let job = job(alloc)?;
     if cuts {
         chunk_words(alloc, disk, &job)
     } else {
@@ -200,8 +199,8 @@ fn commands_answer_and_write(rt: HostRuntime) -> Result<(), Fail> {
     for case in CASES {
         let mut disk = disk(alloc, &case.texts)?;
         let found = words(alloc, &mut disk, case.cuts)?;
-        same(&case.case, &found.as_str(), &case.words)?;
-        same(&case.case, &is_after(&disk, case), &true)?;
+        assert_eq!(rt; found.as_str(), case.words, "{}", case.case);
+        assert!(rt; is_after(&disk, case), "{}", case.case);
     }
     Ok(())
 }

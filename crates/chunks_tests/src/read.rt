@@ -2,7 +2,6 @@
 
 use cx_chunks::read_chunk;
 use std::test::Fail;
-use test_cases::same;
 
 // Why bytes are a chunk of so many pieces, or none.
 struct Case {
@@ -90,7 +89,7 @@ fn chunks_are_read(rt: HostRuntime) -> Result<(), Fail> {
     for case in CASES {
         let found = read_chunk(alloc, case.text)?;
         let count = found.map(|pieces| pieces.len());
-        same(&case.case, &count, &case.count)?;
+        assert!(rt; count == case.count, "{}", case.case);
     }
     Ok(())
 }
