@@ -5,9 +5,12 @@ ghost use Rattle.std.specs.Prelude.{◌≤◌, ◌<◌};
 use crate::points::{around, beside, in_ring, in_sheet, nothing, number, read, unread};
 use cx_thorn_ca::{CaCount, CaInit, CaStep, CaZero, LifeCount, LifeInit, LifeStep, LifeZero};
 use std::test::Fail;
+use test_cases::same;
 
 /// The seed and the start; and the first row.
-const FIRST_ROWS: &[(i64, i64, [i64; 8])] = &[
+type FirstRow = (i64, i64, [i64; 8]);
+
+const FIRST_ROWS: &[FirstRow] = &[
     (-1, 3, [0, 0, 0, 1, 0, 0, 0, 0]),
     (i64::MIN, i64::MIN, [0; 8]),
     (1, 0, [1, 1, 1, 0, 1, 1, 0, 1]),
@@ -32,7 +35,9 @@ fn first_row(rt: &HostRuntime, seed: i64, start: i64) -> Result<Vec<i64>, Fail> 
 }
 
 /// The rule's number, and a cell between its neighbours; and the next cell.
-const STEPS: &[(i64, [i64; 3], i64)] = &[
+type RowStep = (i64, [i64; 3], i64);
+
+const STEPS: &[RowStep] = &[
     (90, [0, 0, 1], 1),
     (90, [0, 1, 0], 0),
     (90, [1, 0, 0], 1),
@@ -53,7 +58,9 @@ fn next_in_row(rt: &HostRuntime, rule: i64, row: [i64; 3]) -> Result<Option<i64>
 }
 
 /// A cell of a sheet amid its neighbours; and the next cell by births at 3 and survivals at 2 and 3.
-const LIVES: &[([[i64; 3]; 3], i64)] = &[
+type SheetStep = ([[i64; 3]; 3], i64);
+
+const LIVES: &[SheetStep] = &[
     ([[1, 1, 1], [0, 0, 0], [0, 0, 0]], 1),
     ([[0, 0, 0], [1, 1, 1], [0, 0, 0]], 1),
     ([[1, 1, 1], [1, 1, 0], [0, 0, 0]], 0),
@@ -70,15 +77,27 @@ fn next_cell(rt: &HostRuntime, rows: [[i64; 3]; 3]) -> Result<Option<i64>, Fail>
     number(rt, &step, &w, &at)
 }
 
+/// A cell of a row steps as a row of the table says.
+fn row_steps(rt: &HostRuntime, step: &RowStep) -> Result<(), Fail> {
+    let (rule, row, want) = *step;
+    let next = next_in_row(rt, rule, row)?;
+    same(&("rule", rule, "row", row), &next, &Some(want))
+}
+
+/// A cell of a sheet steps as a row of the table says.
+fn sheet_steps(rt: &HostRuntime, step: &SheetStep) -> Result<(), Fail> {
+    let (rows, want) = *step;
+    let next = next_cell(rt, rows)?;
+    same(&("rows", rows), &next, &Some(want))
+}
+
 #[test]
 fn cells_step_by_their_rules(rt: HostRuntime) -> Result<(), Fail> {
-    for (rule, row, want) in STEPS {
-        let next = next_in_row(&rt, *rule, *row)?;
-        assert_eq!(rt; next, Some(*want), "rule {rule}, row {row:?}");
+    for step in STEPS {
+        row_steps(&rt, step)?;
     }
-    for (rows, want) in LIVES {
-        let next = next_cell(&rt, *rows)?;
-        assert_eq!(rt; next, Some(*want), "rows {rows:?}");
+    for step in LIVES {
+        sheet_steps(&rt, step)?;
     }
     Ok(())
 }
@@ -160,21 +179,34 @@ fn a_glider_moves_by_one_cell_in_four_steps(rt: HostRuntime) -> Result<(), Fail>
     for _ in 0..4 {
         sheet = next_sheet(&rt, &sheet)?;
     }
-    assert_eq!(rt; sheet.as_slice(), GLIDER.as_slice(), "after four steps");
-    Ok(())
+    same(&"after four steps", &sheet.as_slice(), &GLIDER.as_slice())
+}
+
+/// A row starts as a row of the table says.
+fn row_starts(rt: &HostRuntime, first: &FirstRow) -> Result<(), Fail> {
+    let (seed, start, want) = *first;
+    let row = first_row(rt, seed, start)?;
+    same(
+        &("seed", seed, "start", start),
+        &row.as_slice(),
+        &want.as_slice(),
+    )
+}
+
+/// The first row of a sheet with the seed -1.
+fn sheet_starts(rt: &HostRuntime) -> Result<(), Fail> {
+    let sheet = first_sheet(rt, 1, -1)?;
+    let row = sheet.get(..8).unwrap_or(&[]);
+    let want = [1, 0, 1, 1, 0, 0, 1, 1];
+    same(&"a sheet's first row, seed -1", &row, &want.as_slice())
 }
 
 #[test]
 fn cells_start_by_their_seeds(rt: HostRuntime) -> Result<(), Fail> {
-    for (seed, start, want) in FIRST_ROWS {
-        let row = first_row(&rt, *seed, *start)?;
-        assert_eq!(rt; row.as_slice(), want.as_slice(), "{seed} {start}");
+    for first in FIRST_ROWS {
+        row_starts(&rt, first)?;
     }
-    let sheet = first_sheet(&rt, 1, -1)?;
-    let row = sheet.get(..8).unwrap_or(&[]);
-    let want = [1, 0, 1, 1, 0, 0, 1, 1];
-    assert_eq!(rt; row, want.as_slice(), "a sheet's first row, seed -1");
-    Ok(())
+    sheet_starts(&rt)
 }
 
 /// Cells as counts see them.
@@ -187,14 +219,24 @@ fn counted(rt: &HostRuntime, value: i64) -> Result<[Option<i64>; 2], Fail> {
     Ok([read(rt, &row, value)?, read(rt, &sheet, value)?])
 }
 
+/// A cell is counted as it is.
+fn counts(rt: &HostRuntime, value: i64) -> Result<(), Fail> {
+    let found = counted(rt, value)?;
+    same(&("the counts of a cell", value), &found, &[Some(value); 2])
+}
+
+/// Edges become 0.
+fn edges_are_0(rt: &HostRuntime) -> Result<(), Fail> {
+    let row = unread(rt, &CaZero::new(rt.alloc())?)?;
+    let sheet = unread(rt, &LifeZero::new(rt.alloc())?)?;
+    same(&"edges", &(row, sheet), &(Some(0), Some(0)))
+}
+
 #[test]
 fn edges_are_0_and_counts_look_at_cells(rt: HostRuntime) -> Result<(), Fail> {
-    let row = unread(&rt, &CaZero::new(rt.alloc())?)?;
-    let sheet = unread(&rt, &LifeZero::new(rt.alloc())?)?;
-    assert_eq!(rt; (row, sheet), (Some(0), Some(0)), "edges");
+    edges_are_0(&rt)?;
     for value in CELLS {
-        let found = counted(&rt, *value)?;
-        assert_eq!(rt; found, [Some(*value); 2], "the counts of a cell {value}");
+        counts(&rt, *value)?;
     }
     Ok(())
 }

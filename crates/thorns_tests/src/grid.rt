@@ -5,6 +5,7 @@ use cx_grid::{
     whole, wrap,
 };
 use std::test::Fail;
+use test_cases::same;
 
 const AT: [Point; 4] = [
     Point { x: -1, y: 0, z: 2 },
@@ -20,22 +21,27 @@ fn points_of_a_box_come_x_first(rt: HostRuntime) -> Result<(), Fail> {
         high: Point { x: 1, y: 2, z: 3 },
     };
     let points = rows(&b).collect::<Vec<Point>>(rt.alloc())?;
-    assert_eq!(rt; points.as_slice(), AT.as_slice(), "the points of a box");
-    assert_eq!(rt; contains(&b, b.high), false, "the high corner");
-    assert_eq!(rt; count(&b), 4, "how many points");
-    assert_eq!(rt; point_at(&b, 2), AT[2], "the third point");
-    let last = index_of(&b, Point { x: 0, y: 1, z: 2 });
-    assert_eq!(rt; last, 3, "the last point's place");
+    same(&"the points of a box", &points.as_slice(), &AT.as_slice())?;
+    let found = (
+        contains(&b, b.high),
+        count(&b),
+        point_at(&b, 2),
+        index_of(&b, AT[3]),
+    );
+    same(
+        &"its high corner, count, third point and last place",
+        &found,
+        &(false, 4, AT[2], 3),
+    )?;
     let around = Box3 {
         low: Point { x: -1, y: 0, z: 0 },
         high: Point { x: 2, y: 1, z: 1 },
     };
-    assert_eq!(rt; reach_box(1, 1), around, "reach 1 in a row");
-    Ok(())
+    same(&"reach 1 in a row", &reach_box(1, 1), &around)
 }
 
 #[test]
-fn a_sheet_is_periodic_in_y(rt: HostRuntime) {
+fn a_sheet_is_periodic_in_y() -> Result<(), Fail> {
     let sheet = Shape {
         dims: 2,
         n: Point { x: 5, y: 3, z: 1 },
@@ -43,11 +49,22 @@ fn a_sheet_is_periodic_in_y(rt: HostRuntime) {
         periodic: [false, true, false],
     };
     let corner = Point { x: 4, y: -1, z: 0 };
-    assert_eq!(rt; whole(&sheet).high, sheet.n, "the whole sheet");
-    let moved = (wrap(&sheet, corner), clamp(&sheet, corner));
-    let want = (Point { x: 4, y: 2, z: 0 }, Point { x: 3, y: -1, z: 0 });
-    assert_eq!(rt; moved, want, "a corner wrapped and clamped");
+    let found = (
+        whole(&sheet).high,
+        wrap(&sheet, corner),
+        clamp(&sheet, corner),
+    );
+    let want = (
+        sheet.n,
+        Point { x: 4, y: 2, z: 0 },
+        Point { x: 3, y: -1, z: 0 },
+    );
+    same(
+        &"the whole sheet, a corner wrapped and clamped",
+        &found,
+        &want,
+    )?;
     let inner = Point { x: 3, y: 0, z: 0 };
     let boundary = [is_boundary(&sheet, corner), is_boundary(&sheet, inner)];
-    assert_eq!(rt; boundary, [true, false], "a corner and an inner point");
+    same(&"a corner and an inner point", &boundary, &[true, false])
 }

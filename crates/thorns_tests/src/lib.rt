@@ -1,4 +1,4 @@
-//! Tests of the grid, of plans, of routines, of the thorns and of the output's text, through what their crates hand out.
+//! Tests of grids and cuts, of plans, of routines, of the thorns and of the output's text, through what their crates hand out.
 #![tactic(auto)]
 
 #[cfg(test)]
@@ -6,9 +6,13 @@ mod ascii;
 #[cfg(test)]
 mod ca;
 #[cfg(test)]
+mod cut_faults;
+#[cfg(test)]
 mod fields;
 #[cfg(test)]
 mod grid;
+#[cfg(test)]
+mod parts;
 #[cfg(test)]
 mod pde;
 #[cfg(test)]
@@ -23,3 +27,5 @@ mod stages;
 mod sweeps;
 #[cfg(test)]
 mod trials;
+#[cfg(test)]
+mod widths;

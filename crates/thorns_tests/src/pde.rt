@@ -7,13 +7,16 @@ use cx_thorn_pde::{
     WaveInit, WaveInit1, WaveScalar, WaveStep, WaveSum,
 };
 use std::test::Fail;
+use test_cases::same;
 
 const LEAST: i64 = i64::MIN;
 
 const MOST: i64 = i64::MAX;
 
 /// The place in the ring, the pattern, the amount, the start and the seed; and the start there.
-const STARTS: &[(u8, [i64; 4], Option<i64>)] = &[
+type Start = (u8, [i64; 4], Option<i64>);
+
+const STARTS: &[Start] = &[
     (2, [0, 8, 2, 0], Some(8)),
     (1, [0, 8, 2, 0], Some(0)),
     (5, [1, 8, 2, 0], Some(8)),
@@ -41,11 +44,17 @@ fn starts(rt: &HostRuntime, x: u8, params: [i64; 4]) -> Result<[Option<i64>; 2],
     ])
 }
 
+/// Both start as a row of the table says.
+fn both_start(rt: &HostRuntime, start: &Start) -> Result<(), Fail> {
+    let (x, params, want) = *start;
+    let found = starts(rt, x, params)?;
+    same(&("point", x, "parameters", params), &found, &[want, want])
+}
+
 #[test]
 fn fields_start_by_their_patterns(rt: HostRuntime) -> Result<(), Fail> {
-    for (x, params, want) in STARTS {
-        let found = starts(&rt, *x, *params)?;
-        assert_eq!(rt; found, [*want, *want], "point {x}, parameters {params:?}");
+    for start in STARTS {
+        both_start(&rt, start)?;
     }
     Ok(())
 }
@@ -58,15 +67,19 @@ fn a_wave_starts_at_two_levels(rt: HostRuntime) -> Result<(), Fail> {
     let at = in_ring(alloc, 1, &[2, 8, 0, 0])?;
     let mut out = Cells::new(alloc, 2)?;
     let mut meter = Meter::new(&rt);
-    let done = wave.point(&w, &at, &mut out, &mut meter);
-    assert_eq!(rt; done, Ok(()), "wave_init at a point");
-    let found = (out.get(0), out.get(1), meter.count());
-    assert_eq!(rt; found, (-8, -8, 1), "both levels, and one point computed");
-    Ok(())
+    let done = wave.point(&w, &at, &mut out, &mut meter).is_ok();
+    let found = (done, out.get(0), out.get(1), meter.count());
+    same(
+        &"both levels, and one point computed",
+        &found,
+        &(true, -8, -8, 1),
+    )
 }
 
 /// The last values to the left, at and to the right of a point, the value before, and the factor; and the next value.
-const WAVES: &[([i64; 3], i64, i64, Option<i64>)] = &[
+type WaveStepped = ([i64; 3], i64, i64, Option<i64>);
+
+const WAVES: &[WaveStepped] = &[
     ([8, 0, 0], 0, 256, Some(8)),
     ([0, 8, 0], 8, 256, Some(-8)),
     // a 256th of -1 is -1, rounded down
@@ -88,7 +101,9 @@ fn waved(rt: &HostRuntime, row: [i64; 3], before: i64, factor: i64) -> Result<Op
 }
 
 /// The values to the left, at and to the right of a point, and the factor; and the next value.
-const HEATS: &[([i64; 3], i64, Option<i64>)] = &[
+type HeatStepped = ([i64; 3], i64, Option<i64>);
+
+const HEATS: &[HeatStepped] = &[
     ([0, 100, 1], 64, Some(50)),
     ([0, 0, -1], 1, Some(-1)),
     ([MOST, MOST, MOST], 256, Some(MOST)),
@@ -132,21 +147,28 @@ fn set_by_parameters(rt: &HostRuntime, param: i64) -> Result<[Option<i64>; 3], F
     Ok([wave, heat, turns])
 }
 
+/// A number is handed on by each of them.
+fn handed_on(rt: &HostRuntime, number: i64) -> Result<(), Fail> {
+    let waves = wave_reads(rt, number)?;
+    same(&("a wave reads", number), &waves, &[Some(number); 3])?;
+    let heat = heat_reads(rt, number)?;
+    same(&("heat reads", number), &heat, &[Some(number); 2])?;
+    let set = set_by_parameters(rt, number)?;
+    same(&("the parameter", number), &set, &[Some(number); 3])
+}
+
 #[test]
 fn edges_sums_and_turns_hand_numbers_on(rt: HostRuntime) -> Result<(), Fail> {
     for number in NUMBERS {
-        let waves = wave_reads(&rt, *number)?;
-        assert_eq!(rt; waves, [Some(*number); 3], "a wave reads {number}");
-        let heat = heat_reads(&rt, *number)?;
-        assert_eq!(rt; heat, [Some(*number); 2], "heat reads {number}");
-        let set = set_by_parameters(&rt, *number)?;
-        assert_eq!(rt; set, [Some(*number); 3], "the parameter {number}");
+        handed_on(&rt, *number)?;
     }
     Ok(())
 }
 
 /// The turns that are left, and how many are dropped; and the turns that are left then.
-const SPINS: &[(i64, i64, Option<i64>)] = &[
+type Spin = (i64, i64, Option<i64>);
+
+const SPINS: &[Spin] = &[
     (3, 1, Some(2)),
     (0, 1, Some(-1)),
     (LEAST, 0, Some(LEAST)),
@@ -163,19 +185,34 @@ fn spun(rt: &HostRuntime, count: i64, drop: i64) -> Result<Option<i64>, Fail> {
     number(rt, &spin, &w, &at)
 }
 
+fn wave_steps(rt: &HostRuntime, step: &WaveStepped) -> Result<(), Fail> {
+    let (row, before, factor, want) = *step;
+    let found = waved(rt, row, before, factor)?;
+    same(&("wave", row, before, "factor", factor), &found, &want)
+}
+
+fn heat_steps(rt: &HostRuntime, step: &HeatStepped) -> Result<(), Fail> {
+    let (row, factor, want) = *step;
+    let found = heated(rt, row, factor)?;
+    same(&("heat", row, "factor", factor), &found, &want)
+}
+
+fn turns_drop(rt: &HostRuntime, spin: &Spin) -> Result<(), Fail> {
+    let (count, drop, want) = *spin;
+    let found = spun(rt, count, drop)?;
+    same(&("turns", count, "dropped", drop), &found, &want)
+}
+
 #[test]
 fn waves_heat_and_turns_step_exactly(rt: HostRuntime) -> Result<(), Fail> {
-    for (row, before, factor, want) in WAVES {
-        let found = waved(&rt, *row, *before, *factor)?;
-        assert_eq!(rt; found, *want, "wave {row:?} {before}, factor {factor}");
+    for step in WAVES {
+        wave_steps(&rt, step)?;
     }
-    for (row, factor, want) in HEATS {
-        let found = heated(&rt, *row, *factor)?;
-        assert_eq!(rt; found, *want, "heat {row:?}, factor {factor}");
+    for step in HEATS {
+        heat_steps(&rt, step)?;
     }
-    for (count, drop, want) in SPINS {
-        let found = spun(&rt, *count, *drop)?;
-        assert_eq!(rt; found, *want, "{count} turns, {drop} dropped");
+    for spin in SPINS {
+        turns_drop(&rt, spin)?;
     }
     Ok(())
 }

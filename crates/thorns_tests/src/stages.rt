@@ -14,6 +14,7 @@ use cx_plan::Item;
 use cx_rule::{Meter, Patch, Routine, Zone};
 use cx_thorn_ca::CaStep;
 use std::test::Fail;
+use test_cases::same;
 
 /// A row of cells between two edges.
 const CELLS: [i64; 7] = [1, 0, 1, 1, 1, 0, 0];
@@ -129,6 +130,5 @@ fn staged_numbers_are_set_at_once(rt: HostRuntime) -> Result<(), Fail> {
     let found = staged(&rt, &routine)?.unwrap_or(Vec::new(alloc));
     // 101 gives 1 by 110; then what is staged as it is, between the edges.
     let want = [1, 1, 5, 6, 7, 8, 0];
-    assert_eq!(rt; found.as_slice(), want.as_slice(), "a row of cells");
-    Ok(())
+    same(&"a row of cells", &found.as_slice(), &want.as_slice())
 }

@@ -8,6 +8,7 @@ use cx_thorn_pde::{
     DiffFlat, DiffInit, DiffScalar, DiffStep, WaveCopy, WaveFlat, WaveInit, WaveScalar, WaveStep,
 };
 use std::test::Fail;
+use test_cases::same;
 
 const MOST: i64 = i64::MAX;
 
@@ -319,13 +320,19 @@ fn joined(rt: &HostRuntime, grid: Grid, levels: &[&[i64]; 3]) -> Result<Vec<i64>
     Ok(numbers)
 }
 
+/// A sweep comes to what its row says.
+fn sweep_gives(rt: &HostRuntime, row: &Row) -> Result<(), Fail> {
+    let (routine, grid, params, levels, outcome, want) = *row;
+    let numbers = joined(rt, grid, &levels)?;
+    let (found, shown) = came(rt, routine, grid, &params, &numbers)?;
+    let found = (found, shown.as_slice());
+    same(&(routine, grid, params), &found, &(outcome, want))
+}
+
 #[test]
 fn sweeps_give_what_is_worked_out_by_hand(rt: HostRuntime) -> Result<(), Fail> {
-    for (routine, grid, params, levels, outcome, want) in BY_HAND {
-        let numbers = joined(&rt, *grid, levels)?;
-        let (found, shown) = came(&rt, *routine, *grid, params, &numbers)?;
-        assert_eq!(rt; found, *outcome, "{routine:?} {grid:?} {params:?}");
-        assert_eq!(rt; shown.as_slice(), *want, "{routine:?} {grid:?} {params:?}");
+    for row in BY_HAND {
+        sweep_gives(&rt, row)?;
     }
     Ok(())
 }
@@ -407,7 +414,9 @@ fn came_of(
 }
 
 /// A routine, a grid, the parameters, and which numbers are drawn; and what comes of it.
-const DRAWN: &[(Swept, Grid, [i64; 4], Draw, Outcome)] = &[
+type Drawn = (Swept, Grid, [i64; 4], Draw, Outcome);
+
+const DRAWN: &[Drawn] = &[
     (
         CA_INIT,
         Grid::Line(9),
@@ -606,11 +615,17 @@ const DRAWN: &[(Swept, Grid, [i64; 4], Draw, Outcome)] = &[
     ),
 ];
 
+/// A sweep of drawn numbers comes to what its row says.
+fn sweep_agrees(rt: &HostRuntime, row: &Drawn) -> Result<(), Fail> {
+    let (routine, grid, params, draw, outcome) = *row;
+    let found = came_of(rt, routine, grid, &params, draw, 7)?;
+    same(&(routine, grid, draw), &found, &outcome)
+}
+
 #[test]
 fn sweeps_give_what_each_point_gives(rt: HostRuntime) -> Result<(), Fail> {
-    for (routine, grid, params, draw, outcome) in DRAWN {
-        let found = came_of(&rt, *routine, *grid, params, *draw, 7)?;
-        assert_eq!(rt; found, *outcome, "{routine:?} {grid:?} {draw:?}");
+    for row in DRAWN {
+        sweep_agrees(&rt, row)?;
     }
     Ok(())
 }
@@ -632,13 +647,22 @@ fn stepped(rt: &HostRuntime, width: u8, seed: u64) -> Result<[Outcome; 5], Fail>
     ])
 }
 
+/// Each of these steps agrees.
+fn steps_agree(rt: &HostRuntime, width: u8, seed: u64) -> Result<(), Fail> {
+    let found = stepped(rt, width, seed)?;
+    same(
+        &("width", width, "seed", seed),
+        &found,
+        &[Outcome::Agrees; 5],
+    )
+}
+
 #[test]
 fn cells_step_alike_at_each_width(rt: HostRuntime) -> Result<(), Fail> {
     for width in WIDTHS {
-        for seed in 1..4 {
-            let found = stepped(&rt, *width, seed)?;
-            assert_eq!(rt; found, [Outcome::Agrees; 5], "width {width}, seed {seed}");
-        }
+        steps_agree(&rt, *width, 1)?;
+        steps_agree(&rt, *width, 2)?;
+        steps_agree(&rt, *width, 3)?;
     }
     Ok(())
 }

@@ -2,13 +2,14 @@
 
 ghost use Rattle.cx_grid.specs.Grid.{IsShape};
 
-use crate::common::{block, even_block, even_line, line, line_widths};
+use crate::widths::{block, even_block, even_line, line, line_widths};
 use cx_cut::{CutFault, cut};
 use cx_grid::Shape;
 use cx_plan::Cuts;
 use cx_text::List;
 use std::alloc::Global;
 use std::test::Fail;
+use test_cases::same;
 
 /// The fault of widths, if they have one.
 fn fault_of(alloc: Global, shape: &Shape, widths: &Cuts) -> Option<CutFault>
@@ -26,8 +27,10 @@ type Line = (u16, u8, bool);
 /// A ring of ten points with ghost width 2.
 const RING: Line = (10, 2, true);
 
-/// Lines, widths of them, and the fault of these.
-const WIDTHS: &[(Line, &[u32], Option<CutFault>)] = &[
+/// A line, widths of it, and the fault of these.
+type LineWidths = (Line, &'static [u32], Option<CutFault>);
+
+const WIDTHS: &[LineWidths] = &[
     (RING, &[10], None),
     (RING, &[2, 8], None),
     (RING, &[4, 4, 2], None),
@@ -62,8 +65,10 @@ fn line_fault(alloc: Global, of: Line, widths: &[u32]) -> Result<Option<CutFault
     Ok(fault_of(alloc, &shape, &widths))
 }
 
-/// Lines, numbers of parts of equal cuts, and their faults: a grid has at most 512 parts.
-const PARTS: &[(Line, u32, Option<CutFault>)] = &[
+/// A line, the number of parts of its equal cut, and the fault of that: a grid has at most 512 parts.
+type LineParts = (Line, u32, Option<CutFault>);
+
+const PARTS: &[LineParts] = &[
     ((512, 0, true), 512, None),
     ((513, 0, true), 513, Some(CutFault::TooMany(513, 512))),
     ((513, 2, true), 513, Some(CutFault::TooMany(513, 512))),
@@ -84,20 +89,34 @@ fn block_fault(alloc: Global, parts: u32) -> Result<Option<CutFault>, Fail> {
     Ok(fault_of(alloc, &block(), &widths))
 }
 
+/// The widths of a line have the fault that their row says.
+fn widths_have(alloc: Global, row: &LineWidths) -> Result<(), Fail> {
+    let (line, widths, want) = *row;
+    let fault = line_fault(alloc, line, widths)?;
+    same(&(line, "in widths", widths), &fault, &want)
+}
+
+/// The equal cut of a line has the fault that its row says.
+fn parts_have(alloc: Global, row: &LineParts) -> Result<(), Fail> {
+    let (line, parts, want) = *row;
+    let fault = parts_fault(alloc, line, parts)?;
+    same(&(line, "in parts", parts), &fault, &want)
+}
+
+/// The block can be cut into as many parts along each direction.
+fn block_is_cut(alloc: Global, parts: u32) -> Result<(), Fail> {
+    let fault = block_fault(alloc, parts)?;
+    same(&("a block, parts each way", parts), &fault, &None)
+}
+
 #[test]
 fn widths_cut_a_grid_or_have_their_first_fault(rt: HostRuntime) -> Result<(), Fail> {
-    let alloc = rt.alloc();
-    for (line, widths, want) in WIDTHS {
-        let fault = line_fault(alloc, *line, widths)?;
-        assert_eq!(rt; fault, *want, "{line:?} in widths {widths:?}");
+    for row in WIDTHS {
+        widths_have(rt.alloc(), row)?;
     }
-    for (line, parts, want) in PARTS {
-        let fault = parts_fault(alloc, *line, *parts)?;
-        assert_eq!(rt; fault, *want, "{line:?} in {parts} parts");
+    for row in PARTS {
+        parts_have(rt.alloc(), row)?;
     }
-    for parts in [7, 8] {
-        let fault = block_fault(alloc, parts)?;
-        assert_eq!(rt; fault, None, "a block, {parts} parts each way");
-    }
-    Ok(())
+    block_is_cut(rt.alloc(), 7)?;
+    block_is_cut(rt.alloc(), 8)
 }

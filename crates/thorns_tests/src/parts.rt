@@ -4,11 +4,12 @@ ghost use Rattle.std.specs.Prelude.{◌≡◌, ◌<◌, ◌≤◌};
 ghost use Rattle.cx_grid.specs.Grid.{IsShape};
 ghost use Rattle.cx_cut.specs.Cuts.{part_count};
 
-use crate::common::{block, even_block, even_line, line};
+use crate::widths::{block, even_block, even_line, line};
 use cx_cut::{Cut, cut, even};
 use cx_grid::{Point, Shape, Side, contains, whole};
 use std::alloc::Global;
 use std::test::Fail;
+use test_cases::same;
 
 /// A part of a line: the ends of its own points, the ends of its local ones, and its neighbours at the low side and the high one.
 type Row = (i32, i32, i32, i32, Option<u32>, Option<u32>);
@@ -81,18 +82,25 @@ fn line_rows(alloc: Global, of: &Line) -> Result<Vec<Row>, Fail> {
     rows(alloc, &made)
 }
 
+/// A line has the parts that its row says.
+fn line_has_parts(alloc: Global, line: &Line) -> Result<(), Fail> {
+    let all = line_rows(alloc, line)?;
+    let name = ("points, parts, a ring", line.points, line.parts, line.ring);
+    same(&name, &all.as_slice(), &line.rows)
+}
+
 #[test]
 fn parts_of_lines_and_their_neighbours(rt: HostRuntime) -> Result<(), Fail> {
     for line in LINES {
-        let all = line_rows(rt.alloc(), line)?;
-        let name = (line.points, line.parts, line.ring);
-        assert_eq!(rt; all.as_slice(), line.rows, "{name:?}");
+        line_has_parts(rt.alloc(), line)?;
     }
     Ok(())
 }
 
 /// Points, parts, and the widths of their equal cut.
-const EQUAL: &[(u32, u32, &[u32])] = &[
+type Equal = (u32, u32, &'static [u32]);
+
+const EQUAL: &[Equal] = &[
     (11, 4, &[3, 3, 3, 2]),
     (10, 3, &[4, 3, 3]),
     (8, 4, &[2, 2, 2, 2]),
@@ -101,11 +109,17 @@ const EQUAL: &[(u32, u32, &[u32])] = &[
     (4294967295, 2, &[2147483648, 2147483647]),
 ];
 
+/// An equal cut has the widths that its row says.
+fn equal_cut_has(alloc: Global, row: &Equal) -> Result<(), Fail> {
+    let (points, parts, want) = *row;
+    let widths = even(alloc, points, parts.max(1))?;
+    same(&(points, "points, parts", parts), &widths.as_slice(), &want)
+}
+
 #[test]
 fn the_first_parts_of_an_equal_cut_are_wider(rt: HostRuntime) -> Result<(), Fail> {
-    for (points, parts, want) in EQUAL {
-        let widths = even(rt.alloc(), *points, (*parts).max(1))?;
-        assert_eq!(rt; widths.as_slice(), *want, "{points} in {parts} parts");
+    for row in EQUAL {
+        equal_cut_has(rt.alloc(), row)?;
     }
     Ok(())
 }
@@ -163,22 +177,29 @@ fn block_owners(alloc: Global) -> Result<(u32, u32), Fail> {
 }
 
 /// A part of the block that is cut into 2 along each direction, a direction, and the part's neighbours.
-const BESIDE: &[(u32, u8, Option<(Option<u32>, Option<u32>)>)] = &[
+type Beside = (u32, u8, Option<(Option<u32>, Option<u32>)>);
+
+const BESIDE: &[Beside] = &[
     (5, 0, Some((Some(4), Some(4)))),
     (5, 1, Some((None, Some(7)))),
     (5, 2, Some((Some(1), None))),
     (8, 0, None),
 ];
 
+/// A part has the neighbours that its row says.
+fn is_beside(block: &Cut, row: &Beside) -> Result<(), Fail> {
+    let (part, direction, want) = *row;
+    let found = beside(block, part, direction % 3);
+    same(&("part", part, "along direction", direction), &found, &want)
+}
+
 #[test]
 fn owners_and_neighbours_in_three_directions(rt: HostRuntime) -> Result<(), Fail> {
-    let alloc = rt.alloc();
-    let owners = block_owners(alloc)?;
-    assert_eq!(rt; owners, (512, 512), "parts of a block and their owners");
-    let block = cut(alloc, &block(), &even_block(alloc, 2)?)?;
-    for (part, direction, want) in BESIDE {
-        let found = beside(&block, *part, *direction % 3);
-        assert_eq!(rt; found, *want, "part {part} along direction {direction}");
+    let owners = block_owners(rt.alloc())?;
+    same(&"parts of a block and their owners", &owners, &(512, 512))?;
+    let block = cut(rt.alloc(), &block(), &even_block(rt.alloc(), 2)?)?;
+    for row in BESIDE {
+        is_beside(&block, row)?;
     }
     Ok(())
 }
