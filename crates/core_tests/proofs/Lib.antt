@@ -1,3 +1,5 @@
 pub mod JobLaws
 pub mod RunLaws
+mod PartLaws
+mod QueueLaws
 mod UndividedRows

@@ -14,6 +14,7 @@ use cx_text::Text;
 use cx_thorn_ca::CaInit;
 use std::alloc::Global;
 use std::test::Fail;
+use test_cases::same;
 
 /// A run with these lines and picks, and what is seen before each event: for each event that can happen an A where it lies ahead.
 struct Row {
@@ -83,12 +84,17 @@ fn seen_with(
     seen(rt, &job, routines, picks)
 }
 
+/// What is seen in a run is what its row says.
+fn sees(rt: &HostRuntime, routines: &[Box<dyn Routine>], row: &Row) -> Result<(), Fail> {
+    let seen = seen_with(rt, routines, row.more, row.picks)?;
+    same(&row.name, &seen.as_slice(), &row.ahead)
+}
+
 #[test]
 fn events_behind_the_next_checkpoint(rt: HostRuntime) -> Result<(), Fail> {
     let routines = routines(rt.alloc())?;
-    'rows: for row in ROWS {
-        let seen = seen_with(&rt, &routines, row.more, row.picks)?;
-        assert!(rt; seen.as_slice() == row.ahead, "{}", row.name);
+    for row in ROWS {
+        sees(&rt, &routines, row)?;
     }
     Ok(())
 }

@@ -11,6 +11,7 @@ use cx_text::Memory;
 use cx_thorn_ca::{CaCount, CaInit, CaZero};
 use std::alloc::Global;
 use std::test::Fail;
+use test_cases::same;
 
 /// A routine `ca_step` that clears the cells of parts of at most nine points.
 type CappedStep = RoutineOf<CappedStepRule>;
@@ -56,15 +57,12 @@ fn routines(alloc: Global) -> Result<Vec<Box<dyn Routine>>, Fail> {
 #[test]
 fn parts_of_ten_points_and_of_six(rt: HostRuntime) -> Result<(), Fail> {
     let routines = routines(rt.alloc())?;
-    match too_large(rt.alloc(), CA, b"", &routines)? {
-        Some(told) => {
-            let found = (told.path.as_slice(), told.points, told.cap);
-            let want = (b"EVOL/ca_step".as_slice(), 10, 9);
-            assert_eq!(rt; found, want, "one part of ten points");
-        }
-        None => panic!(rt; "one part of ten points makes a job"),
-    }
+    let Some(told) = too_large(rt.alloc(), CA, b"", &routines)? else {
+        return Err(Fail::new("one part of ten points makes a job"));
+    };
+    let found = (told.path.as_slice(), told.points, told.cap);
+    let want = (b"EVOL/ca_step".as_slice(), 10, 9);
+    same(&"one part of ten points", &found, &want)?;
     let large = too_large(rt.alloc(), CA, b"driver::parts_x = 2\n", &routines)?;
-    assert!(rt; large.is_none(), "two parts of six points");
-    Ok(())
+    same(&"two parts of six points", &large.is_none(), &true)
 }

@@ -1,4 +1,4 @@
-//! Tests of runs in parts: their output, in whatever order the events of the parts and of the writer come.
+//! Tests of messages and ghost zones, and of runs in parts: their output, in whatever order their events come.
 #![tactic(auto)]
 
 #[cfg(test)]
@@ -8,9 +8,19 @@ mod caps;
 #[cfg(test)]
 mod ends;
 #[cfg(test)]
+mod exchange;
+#[cfg(test)]
+mod grids;
+#[cfg(test)]
 mod jobs;
 #[cfg(test)]
+mod mails;
+#[cfg(test)]
 mod orders;
+#[cfg(test)]
+mod rounds;
+#[cfg(test)]
+mod routines;
 #[cfg(test)]
 mod rows;
 #[cfg(test)]

@@ -13,12 +13,13 @@ use cx_rule::{Meter, Routine};
 use cx_thorn_ca::CaInit;
 use sample_files::File;
 use std::test::Fail;
+use test_cases::same;
 
 /// More orders than there are.
 const MOST: u64 = 20_000;
 
 /// How many orders there are, and whether each ended with the same output, the same that was counted, and empty queues.
-#[derive(Clone, Copy, Debug, PartialEq, Eq)]
+#[derive(Drop)]
 struct Orders {
     count: u64,
     same: bool,
@@ -111,15 +112,20 @@ const CASES: &[Case] = &[
     },
 ];
 
+/// All orders of a case end with the same, and there are as many as it says.
+fn orders_are(rt: &HostRuntime, case: &Case) -> Result<(), Fail> {
+    let orders = orders_of_two_cells(rt, case.others, case.counted)?;
+    same(
+        &case.name,
+        &(orders.count, orders.same),
+        &(case.orders, true),
+    )
+}
+
 #[test]
 fn each_order_of_two_parts(rt: HostRuntime) -> Result<(), Fail> {
     for case in CASES {
-        let orders = orders_of_two_cells(&rt, case.others, case.counted)?;
-        let want = Orders {
-            count: case.orders,
-            same: true,
-        };
-        assert_eq!(rt; orders, want, "{}", case.name);
+        orders_are(&rt, case)?;
     }
     Ok(())
 }

@@ -4,18 +4,16 @@ ghost use Rattle.std.specs.Prelude.{map};
 ghost use Rattle.cx_rule.specs.Jobs.{FitJob};
 ghost use Rattle.cx_core.specs.Starts.{IsReady};
 
-use crate::ends::DiffEnds;
 use crate::jobs::{job, parts, wire};
+use crate::routines::{push_automaton, push_heat};
 use crate::runs::{Came, is_empty, run};
 use crate::samples::{BOTH, BOTH_OUTPUTS, CA, CA_OUTPUT, ENDS, HEAT, HEAT_OUTPUT, SHORT_HEAT, SUM};
 use cx_plan::Job;
 use cx_rule::{Meter, Routine};
-use cx_thorn_ca::{CaCount, CaInit, CaStep, CaZero};
-use cx_thorn_pde::{DiffFlat, DiffInit, DiffStep, DiffSum};
 use cx_turns::{SeededTurns, Turns};
 use sample_files::File;
-use std::process::Abort;
 use std::test::Fail;
+use test_cases::same;
 
 /// A job, and what comes of it in any order of events. Where its run isn't done nothing is said of what was counted.
 struct Row {
@@ -239,42 +237,48 @@ fn ten_runs_with(
 fn ten_runs(rt: &HostRuntime, row: &Row) -> Result<Vec<Told>, Fail> {
     let alloc = rt.alloc();
     let mut routines: Vec<Box<dyn Routine>> = Vec::new(alloc);
-    routines.push(Box::new(alloc, CaInit::new(alloc)?)?)?;
-    routines.push(Box::new(alloc, CaStep::new(alloc)?)?)?;
-    routines.push(Box::new(alloc, CaZero::new(alloc)?)?)?;
-    routines.push(Box::new(alloc, CaCount::new(alloc)?)?)?;
-    routines.push(Box::new(alloc, DiffInit::new(alloc)?)?)?;
-    routines.push(Box::new(alloc, DiffEnds::new(alloc)?)?)?;
-    routines.push(Box::new(alloc, DiffStep::new(alloc)?)?)?;
-    routines.push(Box::new(alloc, DiffFlat::new(alloc)?)?)?;
-    routines.push(Box::new(alloc, DiffSum::new(alloc)?)?)?;
+    push_automaton(alloc, &mut routines)?;
+    push_heat(alloc, &mut routines)?;
     ten_runs_with(rt, row, &routines)
 }
 
-/// A run came to what its row says.
-fn assert_told(rt: &impl Abort, row: &Row, seed: usize, told: &Told) {
-    let name = row.name;
-    let came = (told.came.ended.as_slice(), told.came.output.as_slice());
-    assert_eq!(rt; came, (row.ended, row.output), "{name}, seed {seed}");
-    let outputs = (told.came.saved.as_slice(), told.came.total);
-    let length = row.output.len() as u64;
-    assert_eq!(rt; outputs, (row.saved, length), "{name}, seed {seed}");
-    if row.counted.is_some() {
-        let counted = (Some(told.counted), told.empty);
-        assert_eq!(rt; counted, (row.counted, true), "{name}, seed {seed}");
+/// What was counted is what a row says, and no message is left; where its run isn't done nothing is said.
+fn counts(row: &Row, seed: usize, told: &Told) -> Result<(), Fail> {
+    if row.counted.is_none() {
+        return Ok(());
     }
+    let found = (Some(told.counted), told.empty);
+    same(&(row.name, "seed", seed), &found, &(row.counted, true))
+}
+
+/// A run came to what its row says.
+fn comes(row: &Row, seed: usize, told: &Told) -> Result<(), Fail> {
+    let case = (row.name, "seed", seed);
+    let came = (told.came.ended.as_slice(), told.came.output.as_slice());
+    same(&case, &came, &(row.ended, row.output))?;
+    let outputs = (told.came.saved.as_slice(), told.came.total);
+    same(&case, &outputs, &(row.saved, row.output.len() as u64))?;
+    counts(row, seed, told)
+}
+
+/// The job of a row comes to what the row says, in the orders of ten seeds.
+fn all_come(rt: &HostRuntime, row: &Row) -> Result<(), Fail> {
+    for (seed, told) in ten_runs(rt, row)?.iter().enumerate() {
+        comes(row, seed, told)?;
+    }
+    Ok(())
 }
 
 #[test]
 fn jobs_in_the_orders_of_ten_seeds(rt: HostRuntime) -> Result<(), Fail> {
     for rows in [CELLS, HEATS, SUMS] {
         for row in rows {
-            let runs = ten_runs(&rt, row)?;
-            for (seed, told) in runs.iter().enumerate() {
-                assert_told(&rt, row, seed, told);
-            }
+            all_come(&rt, row)?;
         }
     }
-    assert_eq!(rt; CA_OUTPUT.len(), 141, "the bytes of the automaton's output");
-    Ok(())
+    same(
+        &"the bytes of the automaton's output",
+        &CA_OUTPUT.len(),
+        &141,
+    )
 }

@@ -5,14 +5,15 @@ ghost use Rattle.cx_rule.specs.Jobs.{FitJob};
 ghost use Rattle.cx_core.specs.Starts.{IsReady};
 
 use crate::jobs::{altering, job, noting};
+use crate::routines::push_automaton;
 use crate::runs::{Came, run};
 use crate::samples::{ALTERED_OUTPUT, CA, CA_OUTPUT};
 use crate::turns::{FirstTurns, LastTurns, Watch};
 use cx_plan::Job;
 use cx_rule::{Meter, Routine};
-use cx_thorn_ca::{CaCount, CaInit, CaStep, CaZero};
 use cx_turns::{SeededTurns, Turns};
 use std::test::Fail;
+use test_cases::same;
 
 /// Two parts with a lead.
 const TWO_PARTS: &[&str] = &[
@@ -110,32 +111,46 @@ struct Runs {
 fn all_runs(rt: &HostRuntime, more: &[u8]) -> Result<Runs, Fail> {
     let alloc = rt.alloc();
     let mut routines: Vec<Box<dyn Routine>> = Vec::new(alloc);
-    routines.push(Box::new(alloc, CaInit::new(alloc)?)?)?;
-    routines.push(Box::new(alloc, CaStep::new(alloc)?)?)?;
-    routines.push(Box::new(alloc, CaZero::new(alloc)?)?)?;
-    routines.push(Box::new(alloc, CaCount::new(alloc)?)?)?;
+    push_automaton(alloc, &mut routines)?;
     Ok(Runs {
         altered: ten_altered(rt, more, &routines)?,
         noted: two_noted(rt, more, &routines)?,
     })
 }
 
+/// Each run with an altered value writes the altered output.
+fn are_altered(more: &str, all: &[Came]) -> Result<(), Fail> {
+    for (seed, came) in all.iter().enumerate() {
+        let output = came.output.as_slice();
+        same(&("seed", seed, more), &output, &ALTERED_OUTPUT)?;
+    }
+    Ok(())
+}
+
+/// The runs by turns of a file with these lines write the output, and part k sends first in run k.
+fn are_noted(more: &str, all: &[Noted]) -> Result<(), Fail> {
+    for (turns, noted) in all.iter().enumerate() {
+        let found = (noted.came.output.as_slice(), noted.sender);
+        same(
+            &("turns", turns, more),
+            &found,
+            &(CA_OUTPUT, u32::try_from(turns).ok()),
+        )?;
+    }
+    same(&("runs", more), &all.len(), &2)
+}
+
+/// The runs of a file with these lines come to what they should.
+fn values_are_exchanged(rt: &HostRuntime, more: &str) -> Result<(), Fail> {
+    let runs = all_runs(rt, more.as_bytes())?;
+    are_altered(more, &runs.altered)?;
+    are_noted(more, &runs.noted)
+}
+
 #[test]
 fn parts_exchange_values_as_turns_say(rt: HostRuntime) -> Result<(), Fail> {
     for more in TWO_PARTS {
-        let runs = all_runs(&rt, more.as_bytes())?;
-        for (seed, came) in runs.altered.iter().enumerate() {
-            let output = came.output.as_slice();
-            assert_eq!(rt; output, ALTERED_OUTPUT, "seed {seed}, {more:?}");
-        }
-        let mut senders = Vec::new(rt.alloc());
-        for (turns, noted) in runs.noted.iter().enumerate() {
-            let output = noted.came.output.as_slice();
-            assert_eq!(rt; output, CA_OUTPUT, "turns {turns}, {more:?}");
-            senders.push(noted.sender)?;
-        }
-        let want = [Some(0), Some(1)];
-        assert_eq!(rt; senders.as_slice(), want.as_slice(), "{more:?}");
+        values_are_exchanged(&rt, more)?;
     }
     Ok(())
 }

@@ -1,8 +1,0 @@
-use Rattle.std.proofs.Common.{◌≡◌, []}
-use Rattle.cx_field.specs.Patches.{with_numbers}
-use Rattle.exchange_tests.proofs.common.fill.Given as goal
-
-abbrev pub invariant-points : goal.invariant-points
-invariant-points l =
-    (with_numbers l.patch [] ≡ with_numbers l.initial.patch [])
-    × (l.local ≡ l.initial.patch.local) × (l.shape ≡ l.initial.patch.shape)

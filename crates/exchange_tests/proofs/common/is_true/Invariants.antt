@@ -1,5 +1,0 @@
-use Rattle.std.proofs.Common.{◌≡◌}
-use Rattle.exchange_tests.proofs.common.is_true.Given as goal
-
-abbrev pub invariant-points : goal.invariant-points
-invariant-points l = (l.local ≡ l.patch.local) × (l.shape ≡ l.patch.shape)

@@ -1,4 +1,0 @@
-use Rattle.exchange_tests.proofs.common.number.Goals as goal
-
-pub index_of-requires-clause-point : goal.index_of-requires-clause-point
-index_of-requires-clause-point c = rw c.whole.ensures.value (c.wrap.ensures.inside c.requires.near)
