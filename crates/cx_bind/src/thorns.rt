@@ -76,7 +76,7 @@ pub enum BindFault {
     /// There are more of these than may be.
     #[error("Limit {} {}", OrDash(.0), .1)]
     Limit(Text, u64),
-    /// Memory is wanting.
+    /// Out of memory.
     #[error("Memory")]
     Memory,
 }

@@ -24,7 +24,7 @@ fn width_of(points: u32, parts: u32, part: u32) -> u32
 ///
 /// # Errors
 ///
-/// `Memory` where memory is wanting.
+/// `Memory` where memory runs out.
 pub fn even(alloc: Global, points: u32, parts: u32) -> Result<List<u32>, Memory>
     requires { 1 ≤ parts }
     ensures value { IfOk result (λ widths. widths ≡ even points parts) }

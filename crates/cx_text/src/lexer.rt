@@ -89,7 +89,7 @@ fn read(alloc: Global, bytes: &[u8], style: Style) -> Result<List<Token>, TextFa
 ///
 /// TooLong for more than 1,048,576 bytes. Else the first of these in the text: OpenQuote, with the line of an opening
 /// quote that nothing closes, and BadByte, with the line of a byte that may not stand there, as a control byte, a byte
-/// from 127 on or another backslash outside quoted texts, comments and ignored lines. Memory where memory is wanting.
+/// from 127 on or another backslash outside quoted texts, comments and ignored lines. Memory where memory runs out.
 pub fn tokens(alloc: Global, bytes: &[u8], style: Style) -> Result<List<Token>, TextFault>
     ensures reads { Reads bytes.now style result }
     ensures too_long { max_text < length bytes.now → result ≡ Err faults.TooLong }

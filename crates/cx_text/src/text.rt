@@ -71,7 +71,7 @@ impl Text {
         self.bytes.is_empty()
     }
 
-    /// Adds bytes at the end. Where memory is wanting, the text is as it was.
+    /// Adds bytes at the end. Where memory runs out, the text is as it was.
     pub fn push_slice(&mut self, bytes: &[u8]) -> Result<(), Memory>
         ensures ok { OnOk result (self.new ≡ self.old ++ bytes.now) }
         ensures err { OnErr result (self.new ≡ self.old) }
@@ -80,7 +80,7 @@ impl Text {
         Ok(())
     }
 
-    /// Adds the digits of a number at the end. Where memory is wanting, the text is as it was.
+    /// Adds the digits of a number at the end. Where memory runs out, the text is as it was.
     pub fn push_number(&mut self, alloc: Global, number: u64) -> Result<(), Memory>
         ensures ok { OnOk result (self.new ≡ self.old ++ decimal number) }
         ensures err { OnErr result (self.new ≡ self.old) }
@@ -88,7 +88,7 @@ impl Text {
         self.push_slice(number.to_string(alloc)?.as_bytes())
     }
 
-    /// Adds a number at the end, with `-` where it is below 0. Where memory is wanting, the text is as it was.
+    /// Adds a number at the end, with `-` where it is below 0. Where memory runs out, the text is as it was.
     pub fn push_signed_number(&mut self, alloc: Global, number: i64) -> Result<(), Memory>
         ensures ok { OnOk result (self.new ≡ self.old ++ signed_decimal number) }
         ensures err { OnErr result (self.new ≡ self.old) }

@@ -77,7 +77,7 @@ impl Token {
 }
 
 impl List<Token> {
-    /// Adds a word at the end. Where memory is wanting, the list is as it was.
+    /// Adds a word at the end. Where memory runs out, the list is as it was.
     pub fn push_word(&mut self, alloc: Global, text: &[u8]) -> Result<(), Memory>
         ensures ok { OnOk result (self.new ≡ self.old ++ word text.now ∷ []) }
         ensures err { OnErr result (self.new ≡ self.old) }
@@ -95,7 +95,7 @@ impl List<Token> {
         Ok(())
     }
 
-    /// Adds a number at the end. Where memory is wanting, the list is as it was.
+    /// Adds a number at the end. Where memory runs out, the list is as it was.
     pub fn push_number(&mut self, alloc: Global, value: u64) -> Result<(), Memory>
         ensures ok { OnOk result (self.new ≡ self.old ++ number (decimal value) ∷ []) }
         ensures err { OnErr result (self.new ≡ self.old) }
@@ -103,7 +103,7 @@ impl List<Token> {
         self.push(Token::number(alloc, value)?)
     }
 
-    /// Adds the same token at the end. Where memory is wanting, the list is as it was.
+    /// Adds the same token at the end. Where memory runs out, the list is as it was.
     pub fn push_copy(&mut self, alloc: Global, token: &Token) -> Result<(), Memory>
         ensures ok { OnOk result (self.new ≡ self.old ++ token.now ∷ []) }
         ensures err { OnErr result (self.new ≡ self.old) }
@@ -121,7 +121,7 @@ impl List<Token> {
         Ok(())
     }
 
-    /// Adds a quoted text at the end. Where memory is wanting, the list is as it was.
+    /// Adds a quoted text at the end. Where memory runs out, the list is as it was.
     pub fn push_quoted_text(&mut self, alloc: Global, text: &[u8]) -> Result<(), Memory>
         ensures ok { OnOk result (self.new ≡ self.old ++ quoted text.now ∷ []) }
         ensures err { OnErr result (self.new ≡ self.old) }
@@ -129,7 +129,7 @@ impl List<Token> {
         self.push(Token::quoted_text(alloc, text)?)
     }
 
-    /// Adds a sign at the end. Where memory is wanting, the list is as it was.
+    /// Adds a sign at the end. Where memory runs out, the list is as it was.
     pub fn push_sign(&mut self, alloc: Global, byte: u8) -> Result<(), Memory>
         ensures ok { OnOk result (self.new ≡ self.old ++ sign byte ∷ []) }
         ensures err { OnErr result (self.new ≡ self.old) }
@@ -137,7 +137,7 @@ impl List<Token> {
         self.push(Token::sign(alloc, byte)?)
     }
 
-    /// Adds the end of a line at the end. Where memory is wanting, the list is as it was.
+    /// Adds the end of a line at the end. Where memory runs out, the list is as it was.
     pub fn push_line_end(&mut self, alloc: Global) -> Result<(), Memory>
         ensures ok { OnOk result (self.new ≡ self.old ++ line_end ∷ []) }
         ensures err { OnErr result (self.new ≡ self.old) }
