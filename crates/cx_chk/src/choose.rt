@@ -8,14 +8,14 @@ ghost use Rattle.cx_chk.specs.Slots.{IsNewestIn, goes_before, newer, place_of, o
 use crate::header::{header, mark};
 use cx_disk::{Disk, DiskFault, SLOTS};
 
-// Whether a slot goes before an earlier one.
+/// Whether a slot goes before an earlier one.
 fn goes_before(second: bool, was_second: bool, iteration: u64, best: u64) -> bool
     ensures { result ≡ goes_before second was_second iteration best }
 {
     best < iteration || (best == iteration && (second && !was_second))
 }
 
-// The newer of the newest so far and one more slot.
+/// The newer of the newest so far and one more slot.
 fn newer_of(
     best: Option<(u32, u64, bool)>,
     slot: u32,
@@ -36,7 +36,7 @@ fn newer_of(
     }
 }
 
-// Its place.
+/// Its place.
 fn place_of(best: Option<(u32, u64, bool)>) -> Option<(u32, u64)>
     ensures { result ≡ option_map place_of best }
 {
@@ -46,7 +46,7 @@ fn place_of(best: Option<(u32, u64, bool)>) -> Option<(u32, u64)>
     }
 }
 
-// The older of the oldest so far and one more slot.
+/// The older of the oldest so far and one more slot.
 fn older_of(oldest: Option<(u32, u64)>, slot: u32, iteration: u64) -> (u32, u64)
     ensures { result ≡ older oldest slot iteration }
 {
@@ -62,7 +62,7 @@ fn older_of(oldest: Option<(u32, u64)>, slot: u32, iteration: u64) -> (u32, u64)
     }
 }
 
-// The newest slot and its iteration.
+/// The newest slot and its iteration.
 pub fn newest<D: Disk>(disk: &mut D) -> Result<Option<(u32, u64)>, DiskFault>
     requires mounted { IsTrue (D.mounted disk.old) }
     requires files { slot_count ≤ D.file_count disk.old }
@@ -79,7 +79,7 @@ pub fn newest<D: Disk>(disk: &mut D) -> Result<Option<(u32, u64)>, DiskFault>
     Ok(place_of(best))
 }
 
-// The slot that a save takes.
+/// The slot that a save takes.
 pub fn next<D: Disk>(disk: &mut D, keep: u32) -> Result<u32, DiskFault>
     requires mounted { IsTrue (D.mounted disk.old) }
     requires files { slot_count ≤ D.file_count disk.old }

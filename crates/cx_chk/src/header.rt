@@ -7,13 +7,13 @@ ghost use Rattle.cx_chk.specs.Slots.{header_of, mark_of};
 
 use cx_disk::{Disk, DiskFault};
 
-// Where the version stands, behind the gate and the format.
+/// Where the version is: after the gate and the format.
 const VERSION: u64 = 8;
 
-// The bytes that an open slot has at least: the gate, the format and the iteration.
+/// The bytes that an open slot has at least: the gate, the format and the iteration.
 const HEADER: u64 = 17;
 
-// The iteration of a slot, if it is open.
+/// The iteration of a slot, if it is open.
 pub fn header<D: Disk>(disk: &mut D, slot: u32) -> Result<Option<u64>, DiskFault>
     requires mounted { IsTrue (D.mounted disk.old) }
     requires file { IsFile (D.file_count disk.old) slot }
@@ -36,7 +36,7 @@ pub fn header<D: Disk>(disk: &mut D, slot: u32) -> Result<Option<u64>, DiskFault
     Ok(Some(u64::from_be_bytes(number)))
 }
 
-// The iteration of a slot and whether its version byte is 2, if it is open.
+/// The iteration of a slot and whether its version byte is 2, if it is open.
 pub fn mark<D: Disk>(disk: &mut D, slot: u32) -> Result<Option<(u64, bool)>, DiskFault>
     requires mounted { IsTrue (D.mounted disk.old) }
     requires file { IsFile (D.file_count disk.old) slot }

@@ -20,7 +20,7 @@ use std::alloc::Global;
 /// The slots of a disk, its first `SLOTS` files. A slot is open where it has at least 17 bytes and the first is 1.
 pub struct Slots;
 
-// Closes a slot, writes a body behind its gate, and opens it.
+/// Closes a slot, writes a body after its gate, and opens it.
 fn save_in<D: Disk>(disk: &mut D, slot: u32, body: &[u8]) -> Result<(), DiskFault>
     requires mounted { IsTrue (D.mounted disk.old) }
     requires file { IsFile (D.file_count disk.old) slot }
@@ -35,7 +35,7 @@ fn save_in<D: Disk>(disk: &mut D, slot: u32, body: &[u8]) -> Result<(), DiskFaul
     open(disk, slot, body)
 }
 
-// Closes a slot, whatever it holds.
+/// Closes a slot, whatever it holds.
 fn close<D: Disk>(disk: &mut D, slot: u32) -> Result<(), DiskFault>
     requires mounted { IsTrue (D.mounted disk.old) }
     requires file { IsFile (D.file_count disk.old) slot }
@@ -51,7 +51,7 @@ fn close<D: Disk>(disk: &mut D, slot: u32) -> Result<(), DiskFault>
     }
 }
 
-// Closes a slot that is open and of version 2.
+/// Closes a slot that is open and of version 2.
 fn shut_second<D: Disk>(disk: &mut D, slot: u32) -> Result<(), DiskFault>
     requires mounted { IsTrue (D.mounted disk.old) }
     requires file { IsFile (D.file_count disk.old) slot }

@@ -8,7 +8,7 @@ ghost use Rattle.cx_chk.specs.Slots.{Closes, IsShutIn, StaysClosed, Opens};
 use crate::header::header;
 use cx_disk::{Disk, DiskFault, put, trim};
 
-// Closes a slot, and leaves a shut gate in it.
+/// Closes a slot, and leaves a shut gate in it.
 pub fn shut<D: Disk>(disk: &mut D, slot: u32) -> Result<(), DiskFault>
     requires mounted { IsTrue (D.mounted disk.old) }
     requires file { IsFile (D.file_count disk.old) slot }
@@ -30,7 +30,7 @@ pub fn shut<D: Disk>(disk: &mut D, slot: u32) -> Result<(), DiskFault>
     }
 }
 
-// Writes the body of a slot behind its shut gate.
+/// Writes the body of a slot after its shut gate.
 pub fn fill<D: Disk>(disk: &mut D, slot: u32, body: &[u8]) -> Result<(), DiskFault>
     requires mounted { IsTrue (D.mounted disk.old) }
     requires file { IsFile (D.file_count disk.old) slot }
@@ -44,7 +44,7 @@ pub fn fill<D: Disk>(disk: &mut D, slot: u32, body: &[u8]) -> Result<(), DiskFau
     put(disk, slot, 1, body)
 }
 
-// Opens the gate of a slot.
+/// Opens the gate of a slot.
 pub fn open<D: Disk>(disk: &mut D, slot: u32, body: &[u8]) -> Result<(), DiskFault>
     requires mounted { IsTrue (D.mounted disk.old) }
     requires file { IsFile (D.file_count disk.old) slot }

@@ -8,7 +8,7 @@ use crate::Checkpoint;
 use cx_text::{List, Memory, Text};
 use std::alloc::Global;
 
-// Adds a text with its length.
+/// Adds a text with its length.
 fn put_string(out: &mut Vec<u8>, text: &[u8]) -> Result<(), Memory>
     requires few { length text.now < 2 ^ 32 }
     ensures { OnOk result (out.new.items ≡ out.old.items ++ string text.now) }
@@ -18,7 +18,7 @@ fn put_string(out: &mut Vec<u8>, text: &[u8]) -> Result<(), Memory>
     Ok(())
 }
 
-// Adds numbers with how many they are.
+/// Adds numbers with how many they are.
 fn put_words(out: &mut Vec<u8>, numbers: &[u64]) -> Result<(), Memory>
     requires few { length numbers.now < 2 ^ 32 }
     ensures { OnOk result (out.new.items ≡ out.old.items ++ counted w32 word numbers.now) }
@@ -30,7 +30,7 @@ fn put_words(out: &mut Vec<u8>, numbers: &[u64]) -> Result<(), Memory>
     Ok(())
 }
 
-// Adds a name and a length.
+/// Adds a name and a length.
 fn put_file(out: &mut Vec<u8>, name: &[u8], count: u64) -> Result<(), Memory>
     requires short { length name.now < 2 ^ 32 }
     ensures { OnOk result (out.new.items ≡ out.old.items ++ named_length (name.now, count)) }
@@ -40,7 +40,7 @@ fn put_file(out: &mut Vec<u8>, name: &[u8], count: u64) -> Result<(), Memory>
     Ok(())
 }
 
-// Adds names and lengths with how many they are.
+/// Adds names and lengths with how many they are.
 fn put_named(out: &mut Vec<u8>, names: &[Text], lengths: &[u64]) -> Result<(), Memory>
     requires few { length lengths.now < 2 ^ 32 }
     requires many { length names.now ≡ length lengths.now }
@@ -55,7 +55,7 @@ fn put_named(out: &mut Vec<u8>, names: &[Text], lengths: &[u64]) -> Result<(), M
     Ok(())
 }
 
-// Adds the names and lengths of the output files, by the version.
+/// Adds the names and lengths of the output files, by the version.
 fn put_outputs(
     out: &mut Vec<u8>,
     version: u8,
@@ -74,7 +74,7 @@ fn put_outputs(
     }
 }
 
-// Adds values with how many they are, in four bytes.
+/// Adds values with how many they are, in four bytes.
 fn put_values(out: &mut Vec<u8>, values: &[i64]) -> Result<(), Memory>
     requires few { length values.now < 2 ^ 32 }
     ensures { OnOk result (out.new.items ≡ out.old.items ++ counted w32 value values.now) }
@@ -86,7 +86,7 @@ fn put_values(out: &mut Vec<u8>, values: &[i64]) -> Result<(), Memory>
     Ok(())
 }
 
-// Adds a level.
+/// Adds a level.
 fn put_level(out: &mut Vec<u8>, values: &[i64]) -> Result<(), Memory>
     ensures { OnOk result (out.new.items ≡ out.old.items ++ level values.now) }
 {
@@ -97,7 +97,7 @@ fn put_level(out: &mut Vec<u8>, values: &[i64]) -> Result<(), Memory>
     Ok(())
 }
 
-// Adds levels with how many they are.
+/// Adds levels with how many they are.
 fn put_levels(out: &mut Vec<u8>, levels: &[List<i64>]) -> Result<(), Memory>
     requires few { length levels.now < 2 ^ 32 }
     ensures { OnOk result (out.new.items ≡ out.old.items ++ counted w32 level levels.now) }
@@ -109,7 +109,7 @@ fn put_levels(out: &mut Vec<u8>, levels: &[List<i64>]) -> Result<(), Memory>
     Ok(())
 }
 
-// Room for a checkpoint's slot, so that its list of bytes need not grow.
+/// Room for a checkpoint's slot, so that its list of bytes need not grow.
 fn room(c: &Checkpoint) -> usize {
     let numbers = c.lengths.len().saturating_add(c.scalars.len());
     let mut room = numbers.saturating_mul(8).saturating_add(c.key.len());

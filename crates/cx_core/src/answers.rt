@@ -25,7 +25,7 @@ pub enum CoreFault {
     /// The wire failed.
     #[error("Wire")]
     Wire,
-    /// Memory was wanting.
+    /// Out of memory.
     #[error("Memory")]
     Memory,
 }

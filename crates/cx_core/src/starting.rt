@@ -37,7 +37,7 @@ impl Core {
     ///
     /// # Errors
     ///
-    /// `Memory` where memory is wanting.
+    /// `Memory` when out of memory.
     pub fn start(alloc: Global, job: &Job, state: Option<&Checkpoint>) -> Result<Core, Memory>
         requires job { IsReady job.now }
         requires state { CanBegin (setup_of job.now) (option_copied state) }

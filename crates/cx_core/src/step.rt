@@ -34,7 +34,7 @@ impl Core {
     ///
     /// # Errors
     ///
-    /// `Wire`: the wire failed. `Memory`: memory was wanting. The core isn't used again then.
+    /// `Wire`: the wire failed. `Memory`: out of memory. The core isn't used again then.
     pub fn step<W: Wire>(
         &mut self,
         alloc: Global,

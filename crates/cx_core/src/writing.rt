@@ -111,7 +111,7 @@ fn text_length(job: &Job, iteration: u64, v: VarId, piece: &List<i64>) -> u64
     }
 }
 
-/// The run is over, by the end that a part has met or by none. Where memory is wanting nothing has changed.
+/// The run is over, by the end that a part has met or by none. When out of memory, nothing has changed.
 pub(crate) fn end(core: &mut Core, alloc: Global) -> Result<(), Memory>
     ensures { OnOk result (core.new ≡ run_ended core.old) }
 {

@@ -40,7 +40,7 @@ impl Boards {
         })
     }
 
-    /// Gives a number of part `from` to every part. Where memory is wanting nothing has changed.
+    /// Gives a number of part `from` to every part. When out of memory, nothing has changed.
     pub fn give(&mut self, from: u32, partial: Partial) -> Result<(), Memory>
         requires { from < length self.old.given }
         ensures ok { OnOk result (Gives self.old from partial self.new) }
@@ -86,7 +86,7 @@ fn empty_lists(alloc: Global, count: u32) -> Result<Vec<List<Partial>>, Memory>
     Ok(lists)
 }
 
-/// Adds a number to one of several lists. Where memory is wanting nothing has changed.
+/// Adds a number to one of several lists. When out of memory, nothing has changed.
 fn push(lists: &mut Vec<List<Partial>>, at: usize, partial: Partial) -> Result<(), Memory>
     requires { at < length lists.old.items }
     ensures ok { OnOk result (lists.new.items ≡ slice_set lists.old.items at

@@ -45,7 +45,7 @@ impl Pace {
     ///
     /// # Errors
     ///
-    /// `Memory` where memory is wanting.
+    /// `Memory` when out of memory.
     pub fn new(
         alloc: Global,
         job: &Job,
@@ -169,7 +169,7 @@ impl Pace {
     ///
     /// # Errors
     ///
-    /// `Memory` where memory is wanting; then nothing has changed.
+    /// `Memory` when out of memory; then nothing has changed.
     pub fn moved(&mut self, job: &Job, k: u32, scalar: i64) -> Result<(), Memory>
         requires whole { IsWhole job.now }
         requires ops { self.old.ops ≡ code (setup_of job.now) }

@@ -339,7 +339,7 @@ impl Standings {
     }
 
     /// A part's operation is done: it goes on, and hands in its piece. `scalar` is the scalar that the operation tests, if it tests
-    /// one. Where memory is wanting, nothing has changed. The answer is whether it is told that only this part and those that exchange
+    /// one. When out of memory, nothing has changed. The answer is whether it is told that only this part and those that exchange
     /// faces with it can now go where they couldn't, or can't where they could.
     pub(crate) fn advance(&mut self, job: &Job, k: u32, scalar: i64) -> Result<bool, Memory>
         requires whole { IsWhole job.now }

@@ -39,7 +39,7 @@ impl Items {
     ///
     /// # Errors
     ///
-    /// `Memory` where memory is wanting.
+    /// `Memory` when out of memory.
     pub fn new(alloc: Global, job: &Job, iteration: u64) -> Result<Self, Memory>
         ensures { IfOk result (λ items. items ≡ copies_at (setup_of job.now) iteration) }
     {

@@ -25,7 +25,7 @@ use std::alloc::Global;
 ///
 /// # Errors
 ///
-/// `Wire`: the wire failed; the low face may have been sent. `Memory`: memory is wanting; then too.
+/// `Wire`: the wire failed; the low face may have been sent. `Memory`: out of memory; then too.
 pub fn post<W: Wire>(
     alloc: Global,
     patch: &Patch,

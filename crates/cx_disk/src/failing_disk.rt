@@ -56,7 +56,7 @@ impl FailingDisk {
         self.disk
     }
 
-    // Counts a call, and tells whether it fails.
+    /// Counts a call, and tells whether it fails.
     fn fails(&mut self) -> bool
         ensures value { IsTrue result ↔ FailsNext self.old }
         ensures later { self.old.faults ≤ self.new.faults }

@@ -77,7 +77,7 @@ impl<R: Files + Drop> FolderDisk<R> {
 }
 
 impl<R> FolderDisk<R> {
-    // The place of a file.
+    /// The place of a file.
     fn path(&self, file: u32) -> &str
         requires mounted { IsTrue self.now.mounted }
         requires file { IsFile (files_in self.now.folders) file }
@@ -88,7 +88,7 @@ impl<R> FolderDisk<R> {
         self.paths[file as usize].as_str()
     }
 
-    // What a call gave, with a failure counted.
+    /// What a call gave, with a failure counted.
     fn counted<T>(&mut self, done: io::Result<T>) -> Result<T, DiskFault>
         ensures mounted { self.new.mounted ≡ self.old.mounted }
         ensures folders { self.new.folders ≡ self.old.folders }
@@ -105,7 +105,7 @@ impl<R> FolderDisk<R> {
     }
 }
 
-// The places of the slots and of the output without a name, by number.
+/// The places of the slots and of the output without a name, by number.
 fn paths(alloc: Global, output: &str, checkpoints: &str) -> Result<Vec<String>, AllocError>
     ensures { IfOk result (λ paths. vec_len paths ≡ count_with 0) }
 {
@@ -117,7 +117,7 @@ fn paths(alloc: Global, output: &str, checkpoints: &str) -> Result<Vec<String>, 
     Ok(paths)
 }
 
-// The places of the chunks and of the recombined file.
+/// The places of the chunks and of the recombined file.
 fn chunk_paths(alloc: Global, output: &str) -> Result<Vec<String>, AllocError>
     ensures { IfOk result (λ paths. vec_len paths ≡ chunk_count + 1) }
 {
@@ -129,7 +129,7 @@ fn chunk_paths(alloc: Global, output: &str) -> Result<Vec<String>, AllocError>
     Ok(paths)
 }
 
-// A file by its name.
+/// A file by its name.
 fn file_name(name: &Text) -> io::Result<&str> {
     match str::from_utf8(name.as_slice()) {
         Ok(name) => Ok(name),
@@ -137,7 +137,7 @@ fn file_name(name: &Text) -> io::Result<&str> {
     }
 }
 
-// A folder by its name.
+/// A folder by its name.
 fn folder(name: &Text) -> io::Result<&str> {
     match str::from_utf8(name.as_slice()) {
         Ok("") => Ok("."),
@@ -146,7 +146,7 @@ fn folder(name: &Text) -> io::Result<&str> {
     }
 }
 
-// Opens a file if it is there.
+/// Opens a file if it is there.
 fn found<R: Files>(rt: &R, path: &str) -> io::Result<Option<R::File>> {
     let mut how = OpenOptions::new();
     how.read(true).write(true);
@@ -157,7 +157,7 @@ fn found<R: Files>(rt: &R, path: &str) -> io::Result<Option<R::File>> {
     }
 }
 
-// The length of a file. One that isn't there has none.
+/// The length of a file. One that isn't there has none.
 fn length_at<R: Files>(rt: &R, path: &str) -> io::Result<u64> {
     match found(rt, path)? {
         Some(mut file) => file.seek(SeekFrom::End(0)),
@@ -165,7 +165,7 @@ fn length_at<R: Files>(rt: &R, path: &str) -> io::Result<u64> {
     }
 }
 
-// Reads a range that lies within a file.
+/// Reads a range that lies within a file.
 fn read_range<R: Files>(rt: &R, path: &str, at: u64, into: &mut [u8]) -> io::Result<()> {
     match found(rt, path)? {
         Some(mut file) => {
@@ -180,7 +180,7 @@ fn read_range<R: Files>(rt: &R, path: &str, at: u64, into: &mut [u8]) -> io::Res
     }
 }
 
-// Writes from a place within a file on, or at its end.
+/// Writes from a place within a file on, or at its end.
 fn write_range<R: Files>(rt: &R, path: &str, at: u64, bytes: &[u8]) -> io::Result<()> {
     let mut how = OpenOptions::new();
     how.write(true).create(true);
@@ -192,7 +192,7 @@ fn write_range<R: Files>(rt: &R, path: &str, at: u64, bytes: &[u8]) -> io::Resul
     file.write_all(bytes)
 }
 
-// Cuts a file to a length that it has.
+/// Cuts a file to a length that it has.
 fn cut_to<R: Files>(rt: &R, path: &str, to: u64) -> io::Result<()> {
     match found(rt, path)? {
         Some(mut file) => {
@@ -206,7 +206,7 @@ fn cut_to<R: Files>(rt: &R, path: &str, to: u64) -> io::Result<()> {
     }
 }
 
-// Syncs a file. One that isn't there holds nothing to settle.
+/// Syncs a file. One that isn't there holds nothing to settle.
 fn sync_all<R: Files>(rt: &R, path: &str) -> io::Result<()> {
     match found(rt, path)? {
         Some(file) => file.sync_all(),
@@ -214,14 +214,14 @@ fn sync_all<R: Files>(rt: &R, path: &str) -> io::Result<()> {
     }
 }
 
-// Makes both folders where they are missing.
+/// Makes both folders where they are missing.
 fn make_folders<R: Files>(rt: &R, output: &str, checkpoints: &str) -> io::Result<()> {
     fs::create_dir_all(rt, output)?;
     fs::create_dir_all(rt, checkpoints)
 }
 
 impl<R: Files + Drop> FolderDisk<R> {
-    // The places of the files below the chunks, by number.
+    /// The places of the files below the chunks, by number.
     fn places(
         &mut self,
         output: &str,

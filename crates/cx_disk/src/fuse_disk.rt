@@ -56,7 +56,7 @@ impl FuseDisk {
     }
 }
 
-// Whether one more call passes.
+/// Whether one more call passes.
 fn passes(calls: &mut u64, faults: &mut u64) -> bool
     ensures passes { result ≡ true
         → (0 < calls.old) × (calls.new ≡ calls.old - 1) × (faults.new ≡ faults.old) }

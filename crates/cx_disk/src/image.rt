@@ -11,7 +11,7 @@ use crate::{Change, Note};
 use cx_text::Text;
 use std::alloc::{AllocError, Global};
 
-// How much a crash leaves of a change that isn't settled: nothing, all, or a part by a seed.
+/// How much a crash leaves of a change that isn't settled: nothing, all, or a part by a seed.
 #[derive(Clone, Copy)]
 enum Part {
     Nothing,
@@ -19,7 +19,7 @@ enum Part {
     Torn(u64),
 }
 
-// The next of a row of numbers that are spread over all bits.
+/// The next of a row of numbers that are spread over all bits.
 fn next_seed(seed: u64) -> u64 {
     let sum = seed.wrapping_add(0x9E37_79B9_7F4A_7C15);
     let once = (sum ^ (sum >> 30)).wrapping_mul(0xBF58_476D_1CE4_E5B9);
@@ -27,7 +27,7 @@ fn next_seed(seed: u64) -> u64 {
     twice ^ (twice >> 31)
 }
 
-// How much is left of a change: nothing by choice 0, all by choice 1, and by any other what the change's seed says.
+/// How much is left of a change: nothing by choice 0, all by choice 1, and by any other what the change's seed says.
 fn part_by(choice: u64, seed: u64) -> Part
     ensures nothing { choice ≡ 0 → result ≡ Nothing }
     ensures all { choice ≡ 1 → result ≡ All }
@@ -43,7 +43,7 @@ fn part_by(choice: u64, seed: u64) -> Part
     }
 }
 
-// A number between two.
+/// A number between two.
 fn between(seed: u64, low: usize, high: usize) -> usize
     requires { low ≤ high }
     ensures least { low ≤ result }
@@ -55,7 +55,7 @@ fn between(seed: u64, low: usize, high: usize) -> usize
     low + (seed >> 8) as usize % (high - low)
 }
 
-// A byte that a crash may leave in the range of a write: the old or the new one, a gate that is open or shut, or any.
+/// A byte that a crash may leave in the range of a write: the old or the new one, a gate that is open or shut, or any.
 fn torn_byte(seed: u64, old: Option<&u8>, new: Option<&u8>) -> u8 {
     match seed % 5 {
         0 => old.copied().unwrap_or(0),
@@ -66,7 +66,7 @@ fn torn_byte(seed: u64, old: Option<&u8>, new: Option<&u8>) -> u8 {
     }
 }
 
-// So many bytes that a crash may leave where there are old ones and new ones.
+/// So many bytes that a crash may leave where there are old ones and new ones.
 fn torn_bytes(
     alloc: Global,
     old: &[u8],
@@ -85,7 +85,7 @@ fn torn_bytes(
     Ok(made)
 }
 
-// The bytes with others in place of those from one place to another.
+/// The bytes with others in place of those from one place to another.
 fn spliced(
     alloc: Global,
     bytes: &[u8],
@@ -105,7 +105,7 @@ fn spliced(
     Ok(all)
 }
 
-// The bytes of a file after a write.
+/// The bytes of a file after a write.
 pub(crate) fn written(alloc: Global, old: &[u8], at: u64, new: &[u8]) -> Result<Vec<u8>, AllocError>
     ensures { IfOk result
         (λ all. all.items ≡ take at old.now ++ new.now ++ drop (at + length new.now) old.now) }
@@ -120,7 +120,7 @@ pub(crate) fn written(alloc: Global, old: &[u8], at: u64, new: &[u8]) -> Result<
     )
 }
 
-// The bytes of a file that a crash may leave of a write.
+/// The bytes of a file that a crash may leave of a write.
 fn torn_write(
     alloc: Global,
     old: &[u8],
@@ -139,7 +139,7 @@ fn torn_write(
     spliced(alloc, old, start, &made, end)
 }
 
-// The bytes of a file that a crash may leave of a cut.
+/// The bytes of a file that a crash may leave of a cut.
 fn torn_cut(alloc: Global, old: &[u8], to: u64, seed: u64) -> Result<Vec<u8>, AllocError>
     ensures { IfOk result (λ front. CutShort to old.now front.items) }
 {
@@ -147,7 +147,7 @@ fn torn_cut(alloc: Global, old: &[u8], to: u64, seed: u64) -> Result<Vec<u8>, Al
     old[..keep].to_vec(alloc)
 }
 
-// The bytes of a file after a change.
+/// The bytes of a file after a change.
 fn next_bytes(alloc: Global, change: &Change, old: &[u8]) -> Result<Vec<u8>, AllocError>
     ensures { IfOk result (λ new. new.items ≡ changed change.now old.now) }
 {
@@ -160,7 +160,7 @@ fn next_bytes(alloc: Global, change: &Change, old: &[u8]) -> Result<Vec<u8>, All
     }
 }
 
-// The bytes of a file after a change, though it was stopped.
+/// The bytes of a file after a change, though it was stopped.
 fn whole_bytes(alloc: Global, change: &Change, old: &[u8]) -> Result<Vec<u8>, AllocError>
     ensures { IfOk result (λ new. new.items ≡ whole change.now old.now) }
 {
@@ -173,7 +173,7 @@ fn whole_bytes(alloc: Global, change: &Change, old: &[u8]) -> Result<Vec<u8>, Al
     }
 }
 
-// The bytes of a file that a crash may leave of a change.
+/// The bytes of a file that a crash may leave of a change.
 fn torn_change(alloc: Global, change: &Change, old: &[u8], seed: u64) -> Result<Vec<u8>, AllocError>
     ensures { IfOk result (λ new. Leaves change.now old.now new.items) }
 {
@@ -186,7 +186,7 @@ fn torn_change(alloc: Global, change: &Change, old: &[u8], seed: u64) -> Result<
     }
 }
 
-// The bytes of a file of which a part of a change is left.
+/// The bytes of a file of which a part of a change is left.
 fn left_bytes(alloc: Global, change: &Change, old: &[u8], part: Part) -> Result<Vec<u8>, AllocError>
     ensures nothing { part ≡ Nothing → IfOk result (λ new. new.items ≡ old.now) }
     ensures all { part ≡ All → IfOk result (λ new. new.items ≡ whole change.now old.now) }
@@ -199,7 +199,7 @@ fn left_bytes(alloc: Global, change: &Change, old: &[u8], part: Part) -> Result<
     }
 }
 
-// Gives a file these bytes.
+/// Gives a file these bytes.
 fn set_bytes(
     alloc: Global,
     files: &mut Vec<Text>,
@@ -215,7 +215,7 @@ fn set_bytes(
     Ok(())
 }
 
-// Makes a change.
+/// Makes a change.
 fn redo(alloc: Global, files: &mut Vec<Text>, note: &Note) -> Result<(), AllocError>
     ensures { OnOk result (Redoes note.now (file_of files.old.items) (file_of files.new.items)) }
 {
@@ -224,7 +224,7 @@ fn redo(alloc: Global, files: &mut Vec<Text>, note: &Note) -> Result<(), AllocEr
     set_bytes(alloc, files, file, bytes)
 }
 
-// Makes a change in part.
+/// Makes a change in part.
 fn tear(
     alloc: Global,
     files: &mut Vec<Text>,
@@ -241,7 +241,7 @@ fn tear(
     set_bytes(alloc, files, file, bytes)
 }
 
-// Makes one file of an image what it is among the files.
+/// Makes one file of an image what it is among the files.
 fn settle(alloc: Global, files: &[Text], image: &mut Vec<Text>, file: u32) -> Result<(), AllocError>
     ensures { OnOk result (HasFile file (file_of files.now file)
         (file_of image.old.items) (file_of image.new.items)) }
@@ -251,7 +251,7 @@ fn settle(alloc: Global, files: &[Text], image: &mut Vec<Text>, file: u32) -> Re
     set_bytes(alloc, image, file, bytes)
 }
 
-// Whether a change is a sync.
+/// Whether a change is a sync.
 fn is_sync(change: &Change) -> bool
     ensures { IsTrue result ↔ (change.now ≡ Synced) }
 {
@@ -261,7 +261,7 @@ fn is_sync(change: &Change) -> bool
     }
 }
 
-// Makes a change in the files, and in part in their image; a sync makes its file whole there.
+/// Makes a change in the files, and in part in their image; a sync makes its file whole there.
 fn follow(
     alloc: Global,
     files: &mut Vec<Text>,
@@ -282,7 +282,7 @@ fn follow(
     }
 }
 
-// Files that a crash may leave after these changes of others, by a choice.
+/// Files that a crash may leave after these changes of others, by a choice.
 pub(crate) fn image_of(
     alloc: Global,
     first: &[Text],

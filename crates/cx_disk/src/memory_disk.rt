@@ -79,7 +79,7 @@ impl MemoryDisk {
         }
     }
 
-    // A disk that isn't mounted, of one of the images that a crash may leave of this one, by a choice.
+    /// A disk that isn't mounted, of one of the images that a crash may leave of this one, by a choice.
     pub(crate) fn image(&self, choice: u64) -> Result<MemoryDisk, AllocError>
         ensures image { IfOk result (IsImageOf (view_of self.now)) }
         ensures chosen { IfOk result (IsChosenOf choice self.now) }
@@ -88,7 +88,7 @@ impl MemoryDisk {
         Ok(MemoryDisk::new(self.alloc, List::new(files)))
     }
 
-    // Keeps the files as they read, from the first mount on.
+    /// Keeps the files as they read, from the first mount on.
     fn keep_files(&mut self) -> Result<(), AllocError>
         ensures mounted { OnOk result (self.new ≡ record self.old { mounted = true }) }
         ensures err { OnErr result (self.new ≡ self.old) }
@@ -100,7 +100,7 @@ impl MemoryDisk {
         Ok(())
     }
 
-    // Notes a change, after which the file has these bytes.
+    /// Notes a change, after which the file has these bytes.
     fn change(&mut self, note: Note, next: Vec<u8>) -> Result<(), AllocError>
         requires mounted { IsTrue self.old.mounted }
         requires bytes { next.items ≡ changed note.change ((view_of self.old).seen note.file) }
@@ -114,7 +114,7 @@ impl MemoryDisk {
         Ok(())
     }
 
-    // Notes a write that was stopped.
+    /// Notes a write that was stopped.
     pub(crate) fn stop_write(&mut self, file: u32, at: u64, bytes: &[u8]) -> Result<(), AllocError>
         requires mounted { IsTrue self.old.mounted }
         requires file { IsFile (files_in self.old.folders) file }
@@ -128,7 +128,7 @@ impl MemoryDisk {
         self.change(Note { file, change }, same)
     }
 
-    // Notes a cut that was stopped.
+    /// Notes a cut that was stopped.
     pub(crate) fn stop_cut(&mut self, file: u32, to: u64) -> Result<(), AllocError>
         requires mounted { IsTrue self.old.mounted }
         requires file { IsFile (files_in self.old.folders) file }
@@ -142,7 +142,7 @@ impl MemoryDisk {
     }
 }
 
-// The bytes of a file of a list.
+/// The bytes of a file of a list.
 pub(crate) fn bytes_of(files: &[Text], file: usize) -> &[u8]
     ensures { result.now ≡ file_of files.now file }
 {
@@ -152,7 +152,7 @@ pub(crate) fn bytes_of(files: &[Text], file: usize) -> &[u8]
     }
 }
 
-// The same files.
+/// The same files.
 pub(crate) fn copied(alloc: Global, files: &[Text]) -> Result<Vec<Text>, AllocError>
     ensures { IfOk result (λ copy. copy.items ≡ files.now) }
 {
@@ -163,7 +163,7 @@ pub(crate) fn copied(alloc: Global, files: &[Text]) -> Result<Vec<Text>, AllocEr
     Ok(copy)
 }
 
-// Adds empty files up to so many.
+/// Adds empty files up to so many.
 #[tactic(auto, using(crate::proofs::Filling::empty_file))]
 pub(crate) fn fill(alloc: Global, files: &mut Vec<Text>, count: usize) -> Result<(), AllocError>
     ensures all { OnOk result (count ≤ vec_len files.new) }

@@ -44,7 +44,7 @@ impl NotingDisk {
         self.disk
     }
 
-    // Adds the job to the list.
+    /// Adds the job to the list.
     fn note(&self) -> Result<(), DiskFault>
         ensures { IfErr result (λ fault. fault ≡ DiskFault.Memory) }
     {

@@ -13,7 +13,7 @@ pub enum PostFault {
     /// The wire failed.
     #[error("Wire")]
     Wire,
-    /// Memory was wanting.
+    /// Out of memory.
     #[error("Memory")]
     Memory,
 }

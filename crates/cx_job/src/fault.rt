@@ -64,7 +64,7 @@ pub enum JobFault {
     /// A routine might read a point that nobody has filled.
     #[error(transparent)]
     Region(RegionFault),
-    /// Memory is wanting.
+    /// Out of memory.
     #[error("Memory")]
     Memory,
 }

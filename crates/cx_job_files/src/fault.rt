@@ -28,7 +28,7 @@ pub enum ConfigFault {
     /// An active thorn doesn't stand in the list of thorns just once.
     #[error(transparent)]
     Bind(BindFault),
-    /// Memory is wanting.
+    /// Out of memory.
     #[error("Memory")]
     Memory,
 }

@@ -15,7 +15,7 @@ pub enum ShelfFault {
     /// The shelf failed. Its count of faults has risen in this call, or stands at 2^64 - 1.
     #[error("Failed")]
     Failed,
-    /// Memory was wanting.
+    /// Out of memory.
     #[error("Memory")]
     Memory,
 }
@@ -44,7 +44,7 @@ pub trait Shelf {
 
     /// The bytes under a name, or None where no file stands there. The files stay as they are.
     ///
-    /// `Failed` comes only where the count of faults rose, `Memory` where memory is wanting.
+    /// `Failed` comes only where the count of faults rose, `Memory` when out of memory.
     fn read(&mut self, alloc: Global, name: &Text) -> Result<Option<Vec<u8>>, ShelfFault>
         ensures found { tells → IfOk result (λ found. Gives found (held self.old name.now)) }
         ensures same { tells → held self.new ≡ held self.old }

@@ -16,7 +16,7 @@ pub enum MatchFault {
     /// what the object offers.
     #[error("RoutineMismatch {} {} {}", OrDash(.0), OrDash(.1), OrDash(.2))]
     RoutineMismatch(Text, Text, Text),
-    /// Memory is wanting.
+    /// Out of memory.
     #[error("Memory")]
     Memory,
 }

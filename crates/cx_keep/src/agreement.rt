@@ -7,14 +7,14 @@ ghost use Rattle.cx_keep.specs.Agreement.{split_at_byte, is_later, steered_in, s
 
 use cx_text::{decimal, is_digits};
 
-// Where the first such byte of a text is.
+/// Where the first such byte of a text is.
 fn place_of(byte: u8, text: &[u8]) -> Option<usize>
     ensures { result ≡ position (λ b. b == byte) text.now }
 {
     text.iter().position(|b| *b == byte)
 }
 
-// The part of a text before the first such byte, and what comes after that byte.
+/// The part of a text before the first such byte, and what comes after that byte.
 fn split_first(byte: u8, text: &[u8]) -> (&[u8], Option<&[u8]>)
     ensures parts { split_at_byte byte text.now
         ≡ result.0.now ∷ parts_in byte (option_copied result.1) }
@@ -26,14 +26,14 @@ fn split_first(byte: u8, text: &[u8]) -> (&[u8], Option<&[u8]>)
     }
 }
 
-// Whether a text is a number above this one.
+/// Whether a text is a number above this one.
 fn is_above(c: u64, text: &[u8]) -> bool
     ensures { result ≡ (is_digits text.now && nat_lt c (decimal_from 0 text.now)) }
 {
     is_digits(text) && decimal(text, c).is_none()
 }
 
-// Whether a line of these two words and others is a steer line of a later iteration.
+/// Whether a line of these two words and others is a steer line of a later iteration.
 fn are_later(c: u64, word: &[u8], number: &[u8]) -> bool
     ensures { (more : List ℕ) (rest : List (List ℕ)) → result
         ≡ is_later c (steered_in (word.now ∷ number.now ∷ more ∷ rest)) }
@@ -41,7 +41,7 @@ fn are_later(c: u64, word: &[u8], number: &[u8]) -> bool
     word == b"steer".as_slice() && is_above(c, number)
 }
 
-// Whether a line of this word and the words of a text is one.
+/// Whether a line of this word and the words of a text is one.
 fn is_later_with(c: u64, word: &[u8], rest: &[u8]) -> bool
     ensures { result ≡ is_later c (steered_in (word.now ∷ split_at_byte 32 rest.now)) }
 {
@@ -51,7 +51,7 @@ fn is_later_with(c: u64, word: &[u8], rest: &[u8]) -> bool
     }
 }
 
-// Whether a line is one.
+/// Whether a line is one.
 fn is_later(c: u64, line: &[u8]) -> bool
     ensures { result ≡ is_later c (steered_at line.now) }
 {
@@ -61,7 +61,7 @@ fn is_later(c: u64, line: &[u8]) -> bool
     }
 }
 
-// The first of these lines that counts up to an iteration, and the lines after it.
+/// The first of these lines that counts up to an iteration, and the lines after it.
 fn next_line(c: u64, lines: Option<&[u8]>) -> Option<(&[u8], Option<&[u8]>)>
     ensures next { MatchOption result (lines_from c (option_copied lines.entry) ≡ [])
         (λ r. lines_from c (option_copied lines.entry)

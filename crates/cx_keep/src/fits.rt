@@ -12,7 +12,7 @@ use cx_grid::{count, whole};
 use cx_plan::{Job, VarInfo, is_due};
 use cx_text::{List, Text};
 
-// Whether two lists of texts are the same.
+/// Whether two lists of texts are the same.
 fn same_texts(a: &[Text], b: &[Text]) -> bool
     ensures { result ≡ same_texts a.now b.now }
 {
@@ -23,7 +23,7 @@ fn same_texts(a: &[Text], b: &[Text]) -> bool
     }
 }
 
-// Whether a checkpoint's output files are those of these names; in version 1 there is one, which has none.
+/// Whether a checkpoint's output files are those of these names; in version 1 there is one, which has none.
 fn outputs_fit(names: &[Text], found: &Checkpoint) -> bool
     ensures { result ≡ (if found.now.version == 2
         then same_texts found.now.names names.now else length found.now.lengths == 1) }
@@ -41,42 +41,42 @@ pub fn outputs_are_few(job: &Job)
     ensures { output_count (setup_of job.now) ≤ output_limit }
 {}
 
-// How many values a checkpoint holds of a variable that is a scalar.
+/// How many values a checkpoint holds of a variable that is a scalar.
 fn scalar_count(v: &VarInfo) -> usize
     ensures { result ≡ scalar_count v.now }
 {
     if v.scalar { v.levels as usize } else { 0 }
 }
 
-// How many levels a checkpoint holds of a grid variable.
+/// How many levels a checkpoint holds of a grid variable.
 fn level_count(v: &VarInfo) -> usize
     ensures { result ≡ level_count v.now }
 {
     if v.scalar { 0 } else { v.levels as usize }
 }
 
-// Whether the variable's type holds a value.
+/// Whether the variable's type holds a value.
 fn holds_value(v: &VarInfo, value: i64) -> bool
     ensures { result ≡ holds_value v.now value }
 {
     v.low() <= value && value <= v.high()
 }
 
-// Whether the variable's type holds all these values.
+/// Whether the variable's type holds all these values.
 fn hold_all(v: &VarInfo, values: &[i64]) -> bool
     ensures { result ≡ list_all (holds_value v.now) values.now }
 {
     values.iter().all(|value| holds_value(v, *value))
 }
 
-// Whether a level has a value for each point, and the variable's type holds all of them.
+/// Whether a level has a value for each point, and the variable's type holds all of them.
 fn holds_level(points: usize, v: &VarInfo, level: &[i64]) -> bool
     ensures { result ≡ holds_level points v.now level.now }
 {
     level.len() == points && hold_all(v, level)
 }
 
-// Whether each of some levels is one of the variable.
+/// Whether each of some levels is one of the variable.
 fn hold_levels(points: usize, v: &VarInfo, levels: &[List<i64>]) -> bool
     ensures { result ≡ list_all (holds_level points v.now) levels.now }
 {
@@ -85,7 +85,7 @@ fn hold_levels(points: usize, v: &VarInfo, levels: &[List<i64>]) -> bool
         .all(|level| holds_level(points, v, level.as_slice()))
 }
 
-// Whether values begin with so many of the variable.
+/// Whether values begin with so many of the variable.
 fn begin_values(v: &VarInfo, count: usize, values: &[i64]) -> bool
     ensures { result ≡ begins_with (holds_value v.now) count values.now }
 {
@@ -95,7 +95,7 @@ fn begin_values(v: &VarInfo, count: usize, values: &[i64]) -> bool
     }
 }
 
-// Whether levels begin with so many of the variable.
+/// Whether levels begin with so many of the variable.
 fn begin_levels(points: usize, v: &VarInfo, count: usize, levels: &[List<i64>]) -> bool
     ensures { result ≡ begins_with (holds_level points v.now) count levels.now }
 {
@@ -105,7 +105,7 @@ fn begin_levels(points: usize, v: &VarInfo, count: usize, levels: &[List<i64>]) 
     }
 }
 
-// Whether the values are those of the scalars.
+/// Whether the values are those of the scalars.
 fn scalars_fit(vars: &[VarInfo], values: &[i64]) -> bool
     ensures { result ≡ scalars_fit vars.now values.now }
 {
@@ -120,7 +120,7 @@ fn scalars_fit(vars: &[VarInfo], values: &[i64]) -> bool
     at == values.len()
 }
 
-// Whether the levels are those of the grid variables.
+/// Whether the levels are those of the grid variables.
 fn levels_fit(points: usize, vars: &[VarInfo], levels: &[List<i64>]) -> bool
     ensures { result ≡ levels_fit points vars.now levels.now }
 {

@@ -23,7 +23,7 @@ use cx_plan::Job;
 use cx_text::{Memory, Text};
 use std::alloc::Global;
 
-// Tests that a checkpoint's key agrees with the job's up to its iteration.
+/// Tests that a checkpoint's key agrees with the job's up to its iteration.
 fn test_key(alloc: Global, found: &Checkpoint, job: &Job) -> Result<(), BeginFault>
     ensures fault { IfErr result (λ e. IsFaultOf e (key_judged job.now found.now)) }
     ensures told { IfErr result (λ e. e ≢ BeginFault.Disk) }
@@ -39,7 +39,7 @@ fn test_key(alloc: Global, found: &Checkpoint, job: &Job) -> Result<(), BeginFau
     }
 }
 
-// A checkpoint under the job's own key.
+/// A checkpoint under the job's own key.
 fn with_own_key(alloc: Global, found: Checkpoint, job: &Job) -> Result<Checkpoint, Memory>
     ensures { IfOk result (λ c. c ≡ with_key job.now.key found) }
 {
@@ -55,7 +55,7 @@ fn with_own_key(alloc: Global, found: Checkpoint, job: &Job) -> Result<Checkpoin
     })
 }
 
-// The checkpoint that a slot's bytes spell, if its key agrees with the job's and it fits the job.
+/// The checkpoint that a slot's bytes spell, if its key agrees with the job's and it fits the job.
 fn judge_bytes(alloc: Global, job: &Job, slot: u32, bytes: &[u8]) -> Result<Checkpoint, BeginFault>
     requires whole { IsWhole job.now }
     ensures fault { (files : Files) →
@@ -103,7 +103,7 @@ pub fn judge<D: Disk>(
     judge_bytes(alloc, job, slot, bytes.as_slice())
 }
 
-// The first output that is shorter than recorded, as both lengths.
+/// The first output that is shorter than recorded, as both lengths.
 fn short_of<D: Disk>(disk: &mut D, lengths: &[u64]) -> Result<Option<(u64, u64)>, DiskFault>
     requires mounted { IsTrue (D.mounted disk.old) }
     requires few { length lengths.now ≤ output_limit }

@@ -49,7 +49,7 @@ impl Model for Keep {
         (record { keep = k.keep; vars = k.vars.items; lengths = k.lengths.items }) };
 }
 
-// Settles so many outputs.
+/// Settles so many outputs.
 fn settle<D: Disk>(disk: &mut D, outputs: u32) -> Result<(), DiskFault>
     requires mounted { IsTrue (D.mounted disk.old) }
     requires few { outputs ≤ output_limit }
@@ -64,7 +64,7 @@ fn settle<D: Disk>(disk: &mut D, outputs: u32) -> Result<(), DiskFault>
     Ok(())
 }
 
-// Appends a piece to the output with this place, which ends at this offset.
+/// Appends a piece to the output with this place, which ends at this offset.
 fn append<D: Disk>(disk: &mut D, place: usize, at: u64, piece: &[u8]) -> Result<(), DiskFault>
     requires mounted { IsTrue (D.mounted disk.old) }
     requires few { place < output_limit }
@@ -80,7 +80,7 @@ fn append<D: Disk>(disk: &mut D, place: usize, at: u64, piece: &[u8]) -> Result<
     disk.write_at(named_output(place as u32), at, piece)
 }
 
-// The lengths of so many outputs behind a start.
+/// The lengths of so many outputs after a start.
 fn lengths_of(alloc: Global, outputs: usize, found: &Option<Checkpoint>) -> Result<Vec<u64>, Memory>
     ensures { IfOk result (λ lengths. lengths.items ≡ lengths_left outputs found.now) }
 {
@@ -91,7 +91,7 @@ fn lengths_of(alloc: Global, outputs: usize, found: &Option<Checkpoint>) -> Resu
 }
 
 impl Keep {
-    // A run's start on a mounted disk.
+    /// A run's start on a mounted disk.
     fn begin_mounted<D: Disk>(
         alloc: Global,
         disk: &mut D,

@@ -15,7 +15,7 @@ use cx_chk::Slots;
 use cx_disk::{Disk, DiskFault, named_output, rewrite};
 use cx_text::Text;
 
-// Writes the output with this place anew, and settles it.
+/// Writes the output with this place anew, and settles it.
 fn write_output<D: Disk>(disk: &mut D, place: usize, bytes: &[u8]) -> Result<(), DiskFault>
     requires mounted { IsTrue (D.mounted disk.old) }
     requires few { place < output_limit }
@@ -29,7 +29,7 @@ fn write_output<D: Disk>(disk: &mut D, place: usize, bytes: &[u8]) -> Result<(),
     rewrite(disk, named_output(place as u32), bytes)
 }
 
-// Writes each output anew with its text, and settles it.
+/// Writes each output anew with its text, and settles it.
 fn write_outputs<D: Disk>(disk: &mut D, texts: &[Text]) -> Result<(), DiskFault>
     requires mounted { IsTrue (D.mounted disk.old) }
     requires few { length texts.now ≤ output_limit }

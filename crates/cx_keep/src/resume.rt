@@ -28,7 +28,7 @@ pub fn settle_slots<D: Disk>(disk: &mut D) -> Result<(), DiskFault>
     Ok(())
 }
 
-// Cuts the output with this place, and settles it.
+/// Cuts the output with this place, and settles it.
 fn cut_output<D: Disk>(disk: &mut D, place: usize, to: u64) -> Result<(), DiskFault>
     requires mounted { IsTrue (D.mounted disk.old) }
     requires few { place < output_limit }
@@ -43,7 +43,7 @@ fn cut_output<D: Disk>(disk: &mut D, place: usize, to: u64) -> Result<(), DiskFa
     trim(disk, named_output(place as u32), to)
 }
 
-// Cuts each output to its length, and settles it.
+/// Cuts each output to its length, and settles it.
 fn cut_outputs<D: Disk>(disk: &mut D, lengths: &[u64]) -> Result<(), DiskFault>
     requires mounted { IsTrue (D.mounted disk.old) }
     requires few { length lengths.now ≤ output_limit }
@@ -80,7 +80,7 @@ pub fn resume<D: Disk>(disk: &mut D, c: &Checkpoint) -> Result<(), DiskFault>
     cut_outputs(disk, c.lengths.as_slice())
 }
 
-// Cuts the former output to nothing where it isn't empty, and settles it.
+/// Cuts the former output to nothing where it isn't empty, and settles it.
 fn empty_former<D: Disk>(disk: &mut D) -> Result<(), DiskFault>
     requires mounted { IsTrue (D.mounted disk.old) }
     requires files { count_with 0 ≤ D.file_count disk.old }

@@ -19,10 +19,10 @@ use cx_plan::Job;
 use cx_text::{List, Memory, Text};
 use std::alloc::Global;
 
-// The greatest length of a former output that is split.
+/// The greatest length of a former output that is split.
 const GREATEST: u64 = 268_435_456;
 
-// So many bytes of the former output, which has them, and isn't too long.
+/// So many bytes of the former output, which has them, and isn't too long.
 fn read_former<D: Disk>(alloc: Global, disk: &mut D, count: u64) -> Result<Text, BeginFault>
     requires mounted { IsTrue (D.mounted disk.old) }
     requires files { count_with 0 ≤ D.file_count disk.old }
@@ -43,7 +43,7 @@ fn read_former<D: Disk>(alloc: Global, disk: &mut D, count: u64) -> Result<Text,
     Ok(Text::new(bytes))
 }
 
-// The former output's bytes split by the variables' names.
+/// The former output's bytes split by the variables' names.
 fn split_bytes(alloc: Global, job: &Job, slot: u32, bytes: &[u8]) -> Result<List<Text>, BeginFault>
     requires whole { IsWhole job.now }
     ensures fault { (c : Spelled) → IfErr result (λ e. IsFaultOf e
@@ -86,7 +86,7 @@ pub fn split_former<D: Disk>(
     split_bytes(alloc, job, slot, bytes.as_slice())
 }
 
-// The lengths of some texts.
+/// The lengths of some texts.
 fn lengths_of(alloc: Global, texts: &[Text]) -> Result<List<u64>, Memory>
     ensures { IfOk result (λ lengths. lengths ≡ map (λ text. length text) texts.now) }
 {

@@ -23,7 +23,7 @@ use cx_disk::{Disk, DiskFault};
 use cx_plan::{Job, Recover};
 use std::alloc::Global;
 
-// Begins with nothing where no slot is open: settles the slots, and cuts the outputs to nothing.
+/// Begins with nothing where no slot is open: settles the slots, and cuts the outputs to nothing.
 fn afresh<D: Disk>(alloc: Global, disk: &mut D, job: &Job) -> Result<(), DiskFault>
     requires mounted { IsTrue (D.mounted disk.old) }
     requires files { D.file_count disk.old
@@ -41,7 +41,7 @@ fn afresh<D: Disk>(alloc: Global, disk: &mut D, job: &Job) -> Result<(), DiskFau
     empty(alloc, disk, job.out_vars.len())
 }
 
-// Gives up all checkpoints, and cuts the outputs to nothing.
+/// Gives up all checkpoints, and cuts the outputs to nothing.
 fn give_up<D: Disk>(alloc: Global, disk: &mut D, job: &Job) -> Result<(), DiskFault>
     requires mounted { IsTrue (D.mounted disk.old) }
     requires files { D.file_count disk.old
@@ -59,7 +59,7 @@ fn give_up<D: Disk>(alloc: Global, disk: &mut D, job: &Job) -> Result<(), DiskFa
     empty(alloc, disk, job.out_vars.len())
 }
 
-// Goes on from a checkpoint of version 2 that the newest slot holds, if no output is too short.
+/// Goes on from a checkpoint of version 2 that the newest slot holds, if no output is too short.
 fn go_on_second<D: Disk>(
     disk: &mut D,
     job: &Job,
@@ -94,7 +94,7 @@ fn go_on_second<D: Disk>(
     Ok(found)
 }
 
-// Goes on from a checkpoint of version 1 that the newest slot holds, if the former output splits.
+/// Goes on from a checkpoint of version 1 that the newest slot holds, if the former output splits.
 fn go_on_first<D: Disk>(
     alloc: Global,
     disk: &mut D,
@@ -131,7 +131,7 @@ fn go_on_first<D: Disk>(
     Ok(now)
 }
 
-// Goes on from a checkpoint that the newest slot holds, by its version.
+/// Goes on from a checkpoint that the newest slot holds, by its version.
 fn go_on_from<D: Disk>(
     alloc: Global,
     disk: &mut D,
@@ -169,7 +169,7 @@ fn go_on_from<D: Disk>(
     }
 }
 
-// Goes on from what the newest slot holds, if it passes the tests.
+/// Goes on from what the newest slot holds, if it passes the tests.
 fn go_on<D: Disk>(
     alloc: Global,
     disk: &mut D,
@@ -200,7 +200,7 @@ fn go_on<D: Disk>(
     go_on_from(alloc, disk, job, slot, iteration, found)
 }
 
-// Where no slot is open.
+/// Where no slot is open.
 fn with_none<D: Disk>(
     alloc: Global,
     disk: &mut D,
@@ -230,7 +230,7 @@ fn with_none<D: Disk>(
     Ok(None)
 }
 
-// Where this slot is the newest.
+/// Where this slot is the newest.
 fn with_newest<D: Disk>(
     alloc: Global,
     disk: &mut D,
@@ -261,7 +261,7 @@ fn with_newest<D: Disk>(
     Ok(Some(found))
 }
 
-// By the newest slot, if there is one.
+/// By the newest slot, if there is one.
 fn with_slot<D: Disk>(
     alloc: Global,
     disk: &mut D,
@@ -292,7 +292,7 @@ fn with_slot<D: Disk>(
     }
 }
 
-// Where old checkpoints aren't given up.
+/// Where old checkpoints aren't given up.
 fn with_kept<D: Disk>(
     alloc: Global,
     disk: &mut D,

@@ -35,7 +35,7 @@ pub enum OrderFault {
     /// More of these than may be.
     #[error("Limit {} {}", OrDash(.0), .1)]
     Limit(Text, u64),
-    /// Memory is wanting.
+    /// Out of memory.
     #[error("Memory")]
     Memory,
 }

@@ -131,9 +131,9 @@ fn planned(
 /// GroupCycle: a group contains itself, also through others. Cycle: entries of one bin or group must each come before the next,
 /// and the last before the first. Scope: a name of a STORAGE line, and then one of an entry that is placed, in the order of
 /// the trees, stands for nothing, an IF or WHILE isn't for one scalar, or a SYNC is for a scalar. Limit: trees are more than 32
-/// `depth` or have more than 4,096 `nodes`. The first of the first kind counts. Memory: memory is wanting.
+/// `depth` or have more than 4,096 `nodes`. The first of the first kind counts. Memory: out of memory.
 ///
-/// Files and values have one plan or a fault, and never both: where there is a plan, it is the answer, unless memory is wanting.
+/// Files and values have one plan or a fault, and never both: where there is a plan, it is the answer, unless memory runs out.
 pub fn order(
     alloc: Global,
     bound: &Bound,

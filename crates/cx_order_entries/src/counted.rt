@@ -43,7 +43,7 @@ pub struct Counted<'a> {
 pub enum Uncounted<'a> {
     /// An `if` has no value.
     Expr(&'a ExprFault),
-    /// Memory is wanting.
+    /// Out of memory.
     Memory,
 }
 
@@ -76,7 +76,7 @@ fn push_block<'a>(counted: &mut Counted<'a>, thorn: u32, block: &'a Block) -> Re
     Ok(())
 }
 
-/// What is added where memory isn't wanting.
+/// What is added where memory doesn't run out.
 fn unless_memory<'e>(done: Result<(), Memory>) -> Result<(), Uncounted<'e>>
     ensures { result ≡ unless_memory done }
 {

@@ -17,7 +17,7 @@ pub enum EntryFault {
     /// Two entries of one bin or group have one name: the bin's or group's, `/` and theirs.
     #[error("TwoNames {}", OrDash(.0))]
     TwoNames(Text),
-    /// Memory is wanting.
+    /// Out of memory.
     #[error("Memory")]
     Memory,
 }
@@ -31,7 +31,7 @@ pub enum PlaceFault {
     /// Entries of one bin or group, each of which must come before the next, and the last before the first.
     #[error("Cycle {}", Listed(.0))]
     Cycle(List<Text>),
-    /// Memory is wanting.
+    /// Out of memory.
     #[error("Memory")]
     Memory,
 }

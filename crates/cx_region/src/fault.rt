@@ -28,7 +28,7 @@ pub enum RegionFault {
         level: u8,
         flag: Flag,
     },
-    /// Memory is wanting.
+    /// Out of memory.
     #[error("Memory")]
     Memory,
 }

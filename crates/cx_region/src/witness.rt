@@ -52,7 +52,7 @@ pub(crate) enum Step<'a> {
 pub(crate) enum WitnessStop<'a> {
     /// On a way of these letters this need isn't met.
     Unset(Text, Unmet<'a>),
-    /// Memory is wanting.
+    /// Out of memory.
     Memory,
 }
 

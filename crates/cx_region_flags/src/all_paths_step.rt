@@ -18,7 +18,7 @@ use cx_text::Memory;
 pub enum Stop<'a> {
     /// This need isn't met.
     Unmet(Unmet<'a>),
-    /// Memory is wanting.
+    /// Out of memory.
     Memory,
 }
 

@@ -6,7 +6,7 @@ ghost use Rattle.cx_run_made.specs.Files.{file_name, interface, made_files, para
 use cx_text::{List, Memory, Text};
 use std::alloc::Global;
 
-/// The name of the parameter file, `made.par`. It fails where memory is wanting.
+/// The name of the parameter file, `made.par`. It fails when out of memory.
 pub fn file_name(alloc: Global) -> Result<Text, Memory>
     ensures { IfOk result (λ name. name ≡ file_name) }
 {
@@ -17,7 +17,7 @@ pub fn file_name(alloc: Global) -> Result<Text, Memory>
 /// parameters and schedule, and the parameter file `made.par`. The run takes 20 iterations on a sheet of `size` times `size` points,
 /// which is periodic both ways and cut into four times four parts, and begins with cells by the number `seed`.
 ///
-/// It fails where memory is wanting.
+/// It fails when out of memory.
 pub fn made_files(alloc: Global, seed: u64, size: u32) -> Result<List<(Text, Text)>, Memory>
     ensures { IfOk result (λ files. files ≡ made_files seed size) }
 {

@@ -28,7 +28,7 @@ pub enum ScopeFault {
     /// A scalar is to be synchronised.
     #[error("NotGrid {}", OrDash(.0))]
     NotGrid(Text),
-    /// Memory is wanting.
+    /// Out of memory.
     #[error("Memory")]
     Memory,
 }

@@ -34,7 +34,7 @@ pub enum ValueFault {
     /// A line of the steer file has an iteration below that of the line before.
     #[error("SteerOrder {0}")]
     SteerOrder(u32),
-    /// Memory is wanting.
+    /// Out of memory.
     #[error("Memory")]
     Memory,
 }

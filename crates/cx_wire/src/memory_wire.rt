@@ -45,7 +45,7 @@ impl MemoryWire {
     ///
     /// # Errors
     ///
-    /// `Memory` where memory is wanting.
+    /// `Memory` when out of memory.
     pub fn new(alloc: Global, parts: u32) -> Result<Self, Memory>
         ensures new { IfOk result (λ wire. wire ≡ new_wire parts) }
         ensures told { IfOk result (λ wire. (a b : ℕ) → told_queue wire a b ≡ []) }

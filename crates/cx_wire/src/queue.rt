@@ -35,7 +35,7 @@ impl Queue {
         }
     }
 
-    /// Adds a message at the end, or hands it back where memory is wanting.
+    /// Adds a message at the end, or hands it back when out of memory.
     pub fn add(&mut self, mail: Mail) -> Result<(), Mail>
         requires { IsCounted mail }
         ensures ok { OnOk result (self.new ≡ self.old ++ mail ∷ []) }

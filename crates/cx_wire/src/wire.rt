@@ -15,7 +15,7 @@ pub enum WireFault {
     /// The wire failed. Its count of faults has risen in this call, or stands at 2^64 - 1.
     #[error("Failed")]
     Failed,
-    /// Memory was wanting.
+    /// Out of memory.
     #[error("Memory")]
     Memory,
 }
@@ -47,7 +47,7 @@ pub trait Wire {
     ///
     /// # Errors
     ///
-    /// `Failed`: the wire failed. `Memory`: memory is wanting.
+    /// `Failed`: the wire failed. `Memory`: out of memory.
     fn send(&mut self, from: u32, to: u32, mail: Mail) -> Result<(), (WireFault, Mail)>
         requires from { from < parts self.old }
         requires to { to < parts self.old }

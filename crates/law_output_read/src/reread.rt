@@ -32,7 +32,7 @@ pub fn output_spells(job: &Job)
 
 /// The records that these bytes are, as `read_output` reads them. Where they are the output of a variable of the job's undivided
 /// run, by any rules, these are the run's records of that variable, in its order. Where they are the output of a former version,
-/// they are all the run's records. Only memory may be wanting.
+/// they are all the run's records. Only memory may run out.
 pub fn reread_output(alloc: Global, job: &Job, bytes: &[u8]) -> Result<Option<List<Record>>, Memory>
     requires whole { IsWhole job.now }
     requires shapes { HasShapes (setup_of job.now) }

@@ -26,7 +26,7 @@ use std::alloc::Global;
 
 /// The records that these bytes are, as `read_output` reads them. Where they are the output of `heatflux::total` of a
 /// job that the files of `HeatFlux` make, as `shipped_heat_stays` says, all of them have the value of the first. Only
-/// memory may be wanting.
+/// memory may run out.
 pub fn reread_shipped_heat(
     alloc: Global,
     job: &Job,
@@ -47,7 +47,7 @@ pub fn reread_shipped_heat(
 
 /// The records that these bytes are, as `read_output` reads them. Where they are the output of one of the sums of a job
 /// that the files of `LatticeGas` make, as `shipped_gas_stays` says, all of them have the value of the first. Only
-/// memory may be wanting.
+/// memory may run out.
 pub fn reread_shipped_gas(
     alloc: Global,
     job: &Job,

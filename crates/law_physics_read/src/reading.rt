@@ -22,7 +22,7 @@ use std::alloc::Global;
 
 /// The records that these bytes are, as `read_output` reads them. Where they are the output of `heatflux::total` of an
 /// accepted job whose items are all of the thorn `HeatFlux`, all of them have the value of the first. Only memory may
-/// be wanting.
+/// run out.
 pub fn reread_heat(alloc: Global, job: &Job, bytes: &[u8]) -> Result<Option<List<Record>>, Memory>
     requires whole { IsWhole job.now }
     requires shapes { HasShapes (setup_of job.now) }
@@ -39,7 +39,7 @@ pub fn reread_heat(alloc: Global, job: &Job, bytes: &[u8]) -> Result<Option<List
 
 /// The records that these bytes are, as `read_output` reads them. Where they are the output of `gas::particles`, of
 /// `gas::total_x` or of `gas::total_y` of an accepted job on a periodic grid whose items are all of the thorn
-/// `LatticeGas`, all of them have the value of the first. Only memory may be wanting.
+/// `LatticeGas`, all of them have the value of the first. Only memory may run out.
 pub fn reread_gas(alloc: Global, job: &Job, bytes: &[u8]) -> Result<Option<List<Record>>, Memory>
     requires whole { IsWhole job.now }
     requires shapes { HasShapes (setup_of job.now) }

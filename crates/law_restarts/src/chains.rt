@@ -29,7 +29,8 @@ pub fn thorns_see_the_same()
 /// however they begin. The two parameter files may have different names, on one shelf or on two. A setting counts by the
 /// parameter that it names, by whatever name, and neither it nor a line of a steer file by its place in the file.
 pub fn one_run()
-    ensures { (c : ℕ) (name_a name_b : List ℕ) (specs : List Spec) (held_a held_b : Held) (a b : Job)
+    ensures { (c : ℕ) (name_a name_b : List ℕ) (specs : List Spec) (held_a held_b : Held)
+        (a b : Job)
         → Made name_a specs held_a (Ok a) → Made name_b specs held_b (Ok b)
         → AreChained name_a name_b held_a held_b → HaveSteersTo c name_a name_b held_a held_b
         → AreAlikeTo c a b }

@@ -41,7 +41,7 @@ const MOST_PARTS: u32 = 512;
 ///
 /// # Errors
 ///
-/// `Memory` where memory is wanting for a wire or an image. A start that lacks memory ends with status 5, and isn't an error.
+/// `Memory` when out of memory for a wire or an image. A start that lacks memory ends with status 5, and isn't an error.
 pub fn run_through_stops<T: Turns>(
     alloc: Global,
     words: &[Text],
