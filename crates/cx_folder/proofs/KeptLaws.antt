@@ -199,7 +199,8 @@ entered_on folder {u} {v} reads entered image now path within =
 
 -- two paths are one or not
 path_cases : (a b : Path) → (a ≡ b) ⊎ (a ≢ b)
-path_cases a b = by (bytes_eq a b) (λ e. (bytes_eq-Decides a b).0 e) (λ e. (bytes_eq-Decides a b).1 e)
+path_cases a b =
+    by (bytes_eq a b) (λ e. (bytes_eq-Decides a b).0 e) (λ e. (bytes_eq-Decides a b).1 e)
   where
     no : false ≡ true → ⊥
     no e = cc
@@ -413,8 +414,8 @@ pub looked : {F T : Type 0} {tells : Type 0} {holds : F → Path → Type 0} {pa
     → IsReady tells holds path_of view folders f hs e → StillHeld holds f g
     → (tells → ReadsOn (view f) (view g)) → (tells → IsOpened path (view f) (view g))
     → IsReady tells holds path_of view folders g hs e
-looked {F} {T} {tells} {holds} {path_of} {view} {folders} {f} {hs} {e} g file path distinct is at shut
-    ready still reads opened =
+looked {F} {T} {tells} {holds} {path_of} {view} {folders} {f} {hs} {e} g file path distinct is at
+    shut ready still reads opened =
     ready_opened g file distinct is shut ready still reads
     (λ t. subst (λ (p : Path). IsOpened p (view f) (view g)) at (opened t))
 
@@ -459,8 +460,8 @@ pub makes_ready : {F T : Type 0} {tells : Type 0} {holds : F → Path → Type 0
     → (tells → Makes path (view f).seen (view g).seen)
     → (tells → IsOpened path (view f) (view g))
     → IsReady tells holds path_of view folders g hs next
-makes_ready {F} {T} {tells} {holds} {path_of} {view} {folders} {f} {hs} {e} g next file path distinct
-    is at shut one two three ready still makes opened =
+makes_ready {F} {T} {tells} {holds} {path_of} {view} {folders} {f} {hs} {e} g next file path
+    distinct is at shut one two three ready still makes opened =
     ready_made g next file distinct is shut one two three ready still
     (λ t. subst (λ (p : Path). Makes p (view f).seen (view g).seen) at (makes t))
     (λ t. subst (λ (p : Path). IsOpened p (view f) (view g)) at (opened t))
@@ -553,8 +554,8 @@ pub ready_entries : {F T : Type 0} {tells : Type 0} {holds : F → Path → Type
     → (tells → (path : Path) → (view g).care path ≡ (view f).care path)
     → (tells → AreEntered (view g) folders next)
     → IsReady tells holds path_of view folders g hs next
-ready_entries {F} {T} {tells} {holds} {path_of} {view} {folders} {f} {hs} {e} g next ready still reads
-    care entered =
+ready_entries {F} {T} {tells} {holds} {path_of} {view} {folders} {f} {hs} {e} g next ready still
+    reads care entered =
     record {
       held = held_still holds folders f g still ready.held;
       as_many = ready.as_many;

@@ -5,3 +5,4 @@ pub mod ReadyLaws
 pub mod PlacedLaws
 pub mod KeptLaws
 pub mod MemoryLaws
+pub mod CauseLaws

@@ -55,7 +55,8 @@ abbrev IsFile : Event → Type 0
 IsFile event = (path : Path) → is_of event path ≡ bytes_eq event.path path
 
 this_seen : (event : Event) (before : List Event) → IsFile event
-    → seen_in (event ∷ before) event.path ≡ record { is_there = event.is_there; bytes = event.bytes }
+    → seen_in (event ∷ before) event.path
+    ≡ record { is_there = event.is_there; bytes = event.bytes }
 this_seen event before is = by (is_of event event.path) (is event.path ∙ same_path event.path)
   where
     by : (b : Bool) → b ≡ true
@@ -99,8 +100,8 @@ not_of : (event : Event) (other : Path) → IsFile event → other ≢ event.pat
 not_of event other is ne = is other ∙ other_path event.path other ne
 
 -- whether a property holds at each path: at the event's own, and at the others
-at_each : (P : Path → Type 0) (path each : Path) → P path → ((other : Path) → other ≢ path → P other)
-    → P each
+at_each : (P : Path → Type 0) (path each : Path) → P path
+    → ((other : Path) → other ≢ path → P other) → P each
 at_each P path each this others = by (bytes_eq path each) refl
   where
     differ : bytes_eq path each ≡ false → each ≡ path → ⊥
@@ -302,8 +303,8 @@ on_either P event old new (Err fault) noted p q = subst P (sym noted.wanting) q
 pub on_made : {A : Type 0} (P : List Event → Type 0) (path : Path) (old new : List Event)
     (result : Result A DiskFault) → IsMade path old new result → P old
     → ((seen_in old path).is_there ≡ false → P (made path ∷ old)) → P new
-on_made {A} P path old new result is still whole = by (seen_in old path).is_there refl result is.done
-    is.wanting
+on_made {A} P path old new result is still whole =
+    by (seen_in old path).is_there refl result is.done is.wanting
   where
     by : (b : Bool) → (seen_in old path).is_there ≡ b → (r : Result A DiskFault)
         → ((seen_in old path).is_there ≡ false → OnOk r (new ≡ made path ∷ old))
@@ -328,8 +329,8 @@ made_there {A} path old new result is = by (seen_in old path).is_there refl resu
 
 pub made_reads : {A : Type 0} (path : Path) (old new : List Event) (result : Result A DiskFault)
     → IsMade path old new result → Makes path (seen_in old) (seen_in new)
-made_reads path old new result is = on_made (λ es. Makes path (seen_in old) (seen_in es)) path old new
-    result is (makes_still path (seen_in old))
+made_reads path old new result is = on_made (λ es. Makes path (seen_in old) (seen_in es)) path old
+    new result is (makes_still path (seen_in old))
     (λ gone. makes_in (made path) old (λ p. refl) refl refl gone)
 
 pub made_passes : {A : Type 0} (path : Path) (old new : List Event) (result : Result A DiskFault)
@@ -342,6 +343,6 @@ made_passes path old new result is = on_made (λ es. Passes (Makes path) (view_i
 
 pub made_opened : {A : Type 0} (path : Path) (old new : List Event) (result : Result A DiskFault)
     → IsMade path old new result → IsOpened path (view_in old) (view_in new)
-made_opened path old new result is = on_made (λ es. IsOpened path (view_in old) (view_in es)) path old
-    new result is (opened_still path (view_in old))
+made_opened path old new result is = on_made (λ es. IsOpened path (view_in old) (view_in es)) path
+    old new result is (opened_still path (view_in old))
     (λ gone. opened_in (made path) old (λ p. refl) refl)

@@ -1,17 +1,19 @@
 -- The paths of a disk's files: how many there are, that no two files have one place, and that each
 -- is in its folder.
-use Rattle.std.specs.Prelude.{ℕ, zero, suc, ◌+◌, ◌-◌, ◌<◌, ◌≤◌, ◌≡◌, ◌≢◌, ◌⊎◌, Bool, true, false, List, [], ◌∷◌, ◌++◌, map, length, slice_index_or, nat_lt, codes, take, if◌then◌else◌}
+use Rattle.std.specs.Prelude.{ℕ, zero, suc, ◌+◌, ◌-◌, ◌<◌, ◌≤◌, ◌≡◌, ◌≢◌, ◌⊎◌, Bool, true, false, List, [], ◌∷◌, ◌++◌, map, length, slice_index_or, nat_lt, codes, take, Result, Err, IsErrOf, if◌then◌else◌}
 use Rattle.std.specs.Fmt.{decimal}
 use Rattle.std.proofs.Common.{refl, sym, ◌∙◌, ap, subst, arith, inl, inr, append_assoc, append-nil}
 use Rattle.std.proofs.lemmas.List.{length-append, length-map, get_or_append_left, get_or-append_right, map-append, take_more}
 use Rattle.std.proofs.Math.ListN.{get_or-eq_default}
-use Rattle.std.specs.Str.{bytes_eq}
+use Rattle.std.specs.List.{All}
+use Rattle.std.specs.Str.{IsUtf8, bytes_eq}
+use Rattle.std.proofs.lemmas.List.Elements.{All-get_or, All-from_get_or}
 use Rattle.std.proofs.lemmas.Slice.Eq.{bytes_eq-Decides}
 use Rattle.std.proofs.lemmas.Bool.{cases_eq}
 use Rattle.std.proofs.lemmas.Bool.Decides.{nat_tests, Decides-ltb}
 use Rattle.cx_disk.specs.Disk.{Folders, files_in}
 use Rattle.cx_disk.specs.Files.{IsFile}
-use Rattle.cx_folder.specs.Names.{Path, IsIn, below, slot_path, old_output_path, named_path, chunk_path, recombined_path, paths_in, AreDistinct, IsNewAt, place_of, path_at, folder_at, output_folder, checkpoint_folder, AreAt}
+use Rattle.cx_folder.specs.Names.{Path, IsIn, below, slot_path, old_output_path, named_path, chunk_path, recombined_path, paths_in, AreDistinct, HavePlaces, IsNewAt, place_of, path_at, folder_at, output_folder, checkpoint_folder, AreAt}
 
 pub length_below : (path : ℕ → Path) (n : ℕ) → length (below path n) ≡ n
 unfolding below
@@ -163,7 +165,8 @@ each_rest folder names =
 
 -- an element of two lists, the first of one folder and the second of another
 in_either : (a b : Path) (xs ys : List Path) (file place : ℕ) → length xs ≡ 8 → EachIn a xs
-    → EachIn b ys → place < length xs + length ys → (file < 8 → place ≡ file) → (8 ≤ file → 8 ≤ place)
+    → EachIn b ys → place < length xs + length ys → (file < 8 → place ≡ file)
+    → (8 ≤ file → 8 ≤ place)
     → IsIn (if nat_lt file 8 then a else b) (slice_index_or (xs ++ ys) place [])
 in_either a b xs ys file place eight ex ey lt low high =
     by (nat_lt file 8) ((Decides-ltb file 8).0) (λ e. (Decides-ltb file 8).1 e)
@@ -217,10 +220,11 @@ map_at f (y ∷ ys) (suc i) x lt is = map_at f ys i x (omega arith) is
 pub each_more : (paths : List Path) (path : Path) (i : ℕ)
     → ((j : ℕ) → j < i → slice_index_or paths j [] ≢ path) → slice_index_or paths i [] ≢ path
     → (j : ℕ) → j < i + 1 → slice_index_or paths j [] ≢ path
-each_more paths path i below here j lt = elim (cases_eq j i) as (λ _. slice_index_or paths j [] ≢ path) [
-  | inl is ↦ subst (λ (k : ℕ). slice_index_or paths k [] ≢ path) (sym is) here
-  | inr ne ↦ below j (omega arith)
-]
+each_more paths path i below here j lt =
+    elim (cases_eq j i) as (λ _. slice_index_or paths j [] ≢ path) [
+      | inl is ↦ subst (λ (k : ℕ). slice_index_or paths k [] ≢ path) (sym is) here
+      | inr ne ↦ below j (omega arith)
+    ]
 
 -- two texts that a test found to differ
 pub differ : (a b x y : List ℕ) (test : Bool) → test ≡ bytes_eq a b → test ≡ false → a ≡ x → b ≡ y
@@ -240,3 +244,116 @@ pub same_more : (xs ys : List Path) (k : ℕ) (x y : Path) → k < length xs →
     → take (k + 1) xs ≡ take (k + 1) ys
 same_more xs ys k x y one other front at also same =
     cc (take_more xs k x one, take_more ys k y other)
+
+-- ---- what is refused
+
+-- where two texts are found to be one, the later isn't new
+taken_by : (paths : List Path) (i k : ℕ) (x y : Path) → i < k → x ≡ slice_index_or paths i []
+    → y ≡ slice_index_or paths k [] → x ≡ y → IsNewAt paths k → ⊥
+taken_by paths i k x y lt at also same new = new.is_new i lt (sym at ∙ same ∙ also)
+
+pub taken_at : (paths : List Path) (i k : ℕ) (a b : Path) (test : Bool) → i < k
+    → test ≡ bytes_eq a b → test ≡ true → a ≡ slice_index_or paths i []
+    → b ≡ slice_index_or paths k [] → IsNewAt paths k → ⊥
+taken_at paths i k a b test lt is holds at also new =
+    taken_by paths i k a b lt at also ((bytes_eq-Decides a b).0 (sym is ∙ holds)) new
+
+-- where no two are one, each is new
+new_of : (paths : List Path) → AreDistinct paths → (k : ℕ) → k < length paths → IsNewAt paths k
+new_of paths distinct k lt = record {
+  is_path = λ empty. distinct k (length paths) lt (λ (e : k ≡ length paths). omega (arith, e, lt))
+      (empty ∙ sym (get_or-eq_default paths [] (omega arith)));
+  is_new = λ i below. distinct i k (omega arith) (λ (e : i ≡ k). omega (arith, e, below));
+}
+
+pub clash_at : (paths : List Path) (k : ℕ) → k < length paths → (IsNewAt paths k → ⊥)
+    → AreDistinct paths → ⊥
+clash_at paths k lt taken distinct = taken (new_of paths distinct k lt)
+
+fault_is : {A E : Type 0} (result : Result A E) (x y : E) → result ≡ Err x → result ≡ Err y
+    → x ≡ y
+fault_is result x y one other = cc
+
+-- what a call told, as the call within it did
+pub told_as : {A B E : Type 0} (result : Result A E) (told got fault : E) → result ≡ Err told
+    → told ≡ got → result ≡ Err fault → IsErrOf {T = B} {E = E} (Err got) fault
+told_as {A} {B} {E} result told got fault is same failed =
+    subst (λ (e : E). IsErrOf {T = B} {E = E} (Err got) e)
+    (sym same ∙ fault_is result told fault is failed) refl
+
+-- a list of names that are texts, and one that has another
+pub all_texts : (names : List Path) → ((k : ℕ) → k < length names
+    → IsUtf8 (slice_index_or names k [])) → All IsUtf8 names
+all_texts names each = All-from_get_or IsUtf8 names [] each
+
+item_at : (names : List Path) (k : ℕ) (name : Path) → k < length names
+    → name ≡ slice_index_or names k name → name ≡ slice_index_or names k []
+item_at [] k name lt at = absurd (omega arith)
+item_at (x ∷ names) zero name lt at = at
+item_at (x ∷ names) (suc k) name lt at = item_at names k name (omega arith) at
+
+pub text_more : (names : List Path) (k : ℕ) (name : Path) → k < length names
+    → name ≡ slice_index_or names k name → IsUtf8 name
+    → ((j : ℕ) → j < k → IsUtf8 (slice_index_or names j []))
+    → (j : ℕ) → j < k + 1 → IsUtf8 (slice_index_or names j [])
+text_more names k name lt at text had j below =
+    elim (cases_eq j k) as (λ _. IsUtf8 (slice_index_or names j [])) [
+      | inl is ↦ subst (λ (n : ℕ). IsUtf8 (slice_index_or names n [])) (sym is)
+          (subst IsUtf8 (item_at names k name lt at) text)
+      | inr ne ↦ had j (omega arith)
+    ]
+
+-- one more of the paths of names
+pub named_more : {A : Type 0} (f : A → Path) (path : Path → Path) (first items new : List A)
+    (names : List Path) (k : ℕ) (name : Path) (x : A) → k < length names
+    → name ≡ slice_index_or names k name
+    → map f items ≡ map f first ++ map path (take k names) → new ≡ items ++ x ∷ []
+    → f x ≡ path name → map f new ≡ map f first ++ map path (take (k + 1) names)
+named_more f path first items new names k name x lt at had is one =
+    let front : take (k + 1) names ≡ take k names ++ name ∷ [] =
+    take_more names k name lt ∙ ap (λ (n : Path). take k names ++ n ∷ []) (sym at) in
+    pushed f items new x is ∙ ap (λ (ps : List Path). ps ++ f x ∷ []) had
+    ∙ append_assoc (map f first) (map path (take k names)) (f x ∷ [])
+    ∙ ap (λ (p : Path). map f first ++ (map path (take k names) ++ p ∷ [])) one
+    ∙ ap (λ (ps : List Path). map f first ++ ps) (sym (map-append path (take k names) (name ∷ [])))
+    ∙ ap (λ (ns : List Path). map f first ++ map path ns) (sym front)
+
+pub no_text : (names : List Path) (k : ℕ) (name : Path) → k < length names
+    → name ≡ slice_index_or names k name → (IsUtf8 name → ⊥) → All IsUtf8 names → ⊥
+no_text names k name lt at refused all =
+    refused (subst IsUtf8 (sym at) (All-get_or IsUtf8 names k name lt all))
+
+-- the paths that were made are those of the folders
+paths_are : (output checkpoints : Path) (names paths : List Path) (folders : Folders)
+    → output ≡ output_folder folders → checkpoints ≡ checkpoint_folder folders
+    → names ≡ folders.names → paths ≡ below (slot_path checkpoints) 8
+    ++ old_output_path output ∷ map (named_path output) names
+    ++ (below (chunk_path output) 512 ++ recombined_path output ∷ [])
+    → paths ≡ paths_in folders
+paths_are output checkpoints names paths folders at also named is =
+    rw (is, at, also, named) refl
+
+pub fit_by : (output checkpoints : Path) (names paths : List Path) (folders : Folders)
+    → output ≡ output_folder folders → checkpoints ≡ checkpoint_folder folders
+    → names ≡ folders.names → paths ≡ below (slot_path checkpoints) 8
+    ++ old_output_path output ∷ map (named_path output) names
+    ++ (below (chunk_path output) 512 ++ recombined_path output ∷ [])
+    → IsUtf8 folders.output → All IsUtf8 names → IsUtf8 folders.checkpoints
+    → AreDistinct paths → HavePlaces folders
+fit_by output checkpoints names paths folders at also named is one texts other distinct = record {
+  output = one;
+  names = subst (All IsUtf8) named texts;
+  checkpoints = other;
+  distinct = subst AreDistinct
+      (paths_are output checkpoints names paths folders at also named is) distinct;
+}
+
+pub clash_of : (output checkpoints : Path) (names paths : List Path) (folders : Folders)
+    → output ≡ output_folder folders → checkpoints ≡ checkpoint_folder folders
+    → names ≡ folders.names → paths ≡ below (slot_path checkpoints) 8
+    ++ old_output_path output ∷ map (named_path output) names
+    ++ (below (chunk_path output) 512 ++ recombined_path output ∷ [])
+    → (AreDistinct paths → ⊥) → HavePlaces folders → ⊥
+clash_of output checkpoints names paths folders at also named is clash fit =
+    clash (subst AreDistinct
+    (sym (paths_are output checkpoints names paths folders at also named is)) fit.distinct)

@@ -86,8 +86,8 @@ pub ready_open : {F T : Type 0} {tells : Type 0} {holds : F → Path → Type 0}
     → (tells → ((view g).seen (path_at folders file)).is_there ≡ true)
     → IsReady tells holds path_of view folders g
     (set hs (place_of (files_in folders) file) (Open open_file)) e
-ready_open {F} {T} {tells} {holds} {path_of} {view} {folders} {g} {hs} {e} file open_file distinct is
-    shut ready named there =
+ready_open {F} {T} {tells} {holds} {path_of} {view} {folders} {g} {hs} {e} file open_file distinct
+    is shut ready named there =
     let place = place_of (files_in folders) file in
     let lt = file_within folders file is in
     record {

@@ -129,8 +129,8 @@ pub tended_changed : {T : Type 0} {path_of : T → Path} {u v : TreeView} {folde
     → Passes (ChangesBytes step (slice_index_or (paths_in folders) place [])) u v
     → IsChanged (slice_index_or (paths_in folders) place []) u v
     → IsTended path_of u folders hs e → IsTended path_of v folders hs e
-tended_changed {T} {path_of} {u} {v} {folders} {hs} {e} seen_step step place file distinct lt is_open
-    changes passes changed is =
+tended_changed {T} {path_of} {u} {v} {folders} {hs} {e} seen_step step place file distinct lt
+    is_open changes passes changed is =
     let path = slice_index_or (paths_in folders) place [] in
     let kept : IsKept path_of u path (Open file) =
     subst (λ (h : Hold T). IsKept path_of u path h) is_open (is.each place lt) in

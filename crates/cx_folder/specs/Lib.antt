@@ -3,6 +3,7 @@ pub mod Tree
 pub mod Pulled
 pub mod Kept
 pub mod Tended
+pub mod Calls
 pub mod Placed
 pub mod Host
 pub mod Memory

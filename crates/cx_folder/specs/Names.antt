@@ -1,7 +1,9 @@
--- Where the files of a disk stand: the path of each, in the folder of the checkpoints or in that of
+-- Where the files of a disk are: the path of each, in the folder of the checkpoints or in that of
 -- the outputs.
 use Rattle.std.specs.Prelude.{ℕ, zero, suc, ◌+◌, ◌-◌, ◌<◌, ◌≡◌, ◌≢◌, ◌&&◌, not, List, [], ◌∷◌, ◌++◌, map, length, slice_index_or, nat_lt, codes, if◌then◌else◌}
 use Rattle.std.specs.Fmt.{decimal}
+use Rattle.std.specs.List.{All}
+use Rattle.std.specs.Str.{IsUtf8}
 use Rattle.cx_disk.specs.Disk.{Folders, files_in}
 use Rattle.cx_disk.specs.Files.{slot_count, chunk_count, chunk_file, recombined_file}
 
@@ -13,7 +15,7 @@ Path = List ℕ
 abbrev pub IsIn : Path → Path → Type 0
 IsIn folder path = (name : List ℕ) × (path ≡ folder ++ 47 ∷ name)
 
--- The path of a folder by its name. An empty name stands for the current folder.
+-- The path of a folder by its name. An empty name means the current folder.
 abbrev pub folder_path : List ℕ → Path
 folder_path [] = codes "."
 folder_path (byte ∷ rest) = byte ∷ rest
@@ -52,7 +54,8 @@ below path (suc n) = below path n ++ path n ∷ []
 abbrev pub low_paths : Folders → List Path
 low_paths folders =
     below (slot_path (checkpoint_folder folders)) slot_count
-    ++ old_output_path (output_folder folders) ∷ map (named_path (output_folder folders)) folders.names
+    ++ old_output_path (output_folder folders)
+    ∷ map (named_path (output_folder folders)) folders.names
 
 -- The chunks and the file that they are recombined to.
 abbrev pub high_paths : Folders → List Path
@@ -62,10 +65,22 @@ high_paths folders = below (chunk_path (output_folder folders)) chunk_count
 abbrev pub paths_in : Folders → List Path
 paths_in folders = low_paths folders ++ high_paths folders
 
--- No two files have one path, and none has the empty one, which stands for what is no file.
+-- No two files have one path, and none has the empty one, which is the path of no file.
 abbrev pub AreDistinct : List Path → Type 0
 AreDistinct paths = (i j : ℕ) → i < length paths → i ≢ j
     → slice_index_or paths i [] ≢ slice_index_or paths j []
+
+-- These folders, with outputs of these names.
+abbrev pub folders_named : List ℕ → List (List ℕ) → List ℕ → Folders
+folders_named output names checkpoints =
+    record { output = output; names = names; checkpoints = checkpoints }
+
+-- A disk can be over them: each name is a text, and no two files have one path.
+pub record HavePlaces (folders : Folders) : Type 0 where
+  pub output : IsUtf8 folders.output
+  pub names : All IsUtf8 folders.names
+  pub checkpoints : IsUtf8 folders.checkpoints
+  pub distinct : AreDistinct (paths_in folders)
 
 -- One of them isn't empty, and none of those before it.
 pub record IsNewAt (paths : List Path) (k : ℕ) : Type 0 where
@@ -75,7 +90,7 @@ pub record IsNewAt (paths : List Path) (k : ℕ) : Type 0 where
 -- ---- one of them
 
 -- The place of a file among all paths, where so many files are below the chunks. What is no file
--- has a place behind them.
+-- has a place after them.
 abbrev pub place_of : ℕ → ℕ → ℕ
 place_of count file =
     if not (nat_lt file (chunk_file 0)) && not (nat_lt recombined_file file)

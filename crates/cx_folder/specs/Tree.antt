@@ -3,7 +3,7 @@ use Rattle.std.specs.Prelude.{ℕ, ◌≤◌, ◌≡◌, ◌≢◌, ◌⊎◌, L
 use Rattle.cx_folder.specs.Names.{Path, IsIn}
 use Rattle.cx_folder.specs.declared.care.Care.{Care}
 
--- What stands under a path: whether its folder has an entry there, and the bytes of the entry's
+-- What is under a path: whether its folder has an entry there, and the bytes of the entry's
 -- file. One that was never made has none.
 pub record Entry : Type 0 where
   pub is_there : Bool

@@ -1,7 +1,11 @@
 //! A disk over two folders.
-ghost use Rattle.std.specs.Prelude.{◌≡◌, false, length, IsTrue, OnOk, OnErr, IfOk, IfErr};
+ghost use Rattle.std.specs.Prelude.{◌≡◌, ◌≤◌, ◌+◌, true, false, length, slice_range, IsTrue, OnOk, OnErr, IfOk, IfErr, IsErrOf};
 ghost use Rattle.cx_disk.specs.Cause.{HasCause};
-ghost use Rattle.cx_disk.specs.Disk.{files_in, no_folders, IsNamed};
+ghost use Rattle.cx_disk.specs.Disk.{files_in, no_folders, IsNamed, SameFiles, Passes};
+ghost use Rattle.cx_disk.specs.Files.{IsFile};
+ghost use Rattle.cx_folder.specs.Kept.{AreHeld};
+ghost use Rattle.cx_folder.specs.Names.{folders_named, HavePlaces};
+ghost use Rattle.cx_folder.specs.Placed.{seen_on, disk_view, CanMount, FailsAsFolders};
 ghost use Rattle.cx_folder.specs.Tree.{IsFresh};
 ghost use Rattle.cx_folder.specs.Pulled.{pulled, Stays};
 ghost use Rattle.cx_folder.specs.PulledLaws.{pulled_sound};
@@ -15,10 +19,9 @@ use cx_text::{List, Text};
 use std::alloc::Global;
 use std::marker::Model;
 
-/// Two folders of a host as a disk. In the folder of the checkpoints stand the slots, `checkpoint.chkpt.0` to
-/// `checkpoint.chkpt.7`. In the folder of the outputs stand `output.asc`, a file for each name that `mount` is given,
-/// the chunks `chunk.0.asc` to `chunk.511.asc`, and `recombined.asc`. An empty name of a folder stands for the current
-/// folder.
+/// Two folders of a host as a disk. The folder of the checkpoints has the slots, `checkpoint.chkpt.0` to
+/// `checkpoint.chkpt.7`. The folder of the outputs has `output.asc`, a file for each name that `mount` is given, the
+/// chunks `chunk.0.asc` to `chunk.511.asc`, and `recombined.asc`. An empty name of a folder means the current folder.
 ///
 /// `mount` takes the locks of both folders as long as the disk lives. Names that aren't text, or that give two files
 /// one path, are a failure, as are a second mount, one on other folders than those that it was made for, and a range
@@ -38,6 +41,7 @@ pub struct FolderDisk<F: Folder + Drop> {
 }
 
 impl<F: Folder + Drop> Model for FolderDisk<F> {
+    ghost use Rattle.std.specs.Prelude.{is_some};
     ghost use Rattle.cx_folder.specs.Placed.{Placed, placed_code, folders_of, IsPlaced};
 
     ghost Value = { Placed F };
@@ -47,6 +51,7 @@ impl<F: Folder + Drop> Model for FolderDisk<F> {
     ghost view = { λ disk. record {
       folder = disk.kept.folder;
       mounted = disk.mounted;
+      known = is_some disk.places;
       folders = folders_of disk.places;
       faults = disk.faults;
     } };
@@ -71,8 +76,13 @@ impl<F: Folder + Drop> FolderDisk<F> {
     /// `mount`.
     pub fn new(folder: F, alloc: Global) -> Self
         requires untold { F.tells → ⊥ }
-        ensures { result
-            ≡ record { folder = folder; mounted = false; folders = no_folders; faults = 0 } }
+        ensures { result ≡ record {
+          folder = folder;
+          mounted = false;
+          known = false;
+          folders = no_folders;
+          faults = 0;
+        } }
     {
         FolderDisk {
             kept: Kept {
@@ -87,9 +97,10 @@ impl<F: Folder + Drop> FolderDisk<F> {
         }
     }
 
-    /// A disk that is to be mounted on these folders and no others, and hasn't failed.
+    /// A disk that is to be mounted on these folders and no others, and hasn't failed. Of folders that tell nothing may
+    /// be outstanding.
     ///
-    /// `Failed`: a name isn't text, or two files would have one path.
+    /// `Failed`: a name isn't text, or two files would have one path. Nothing else is refused, but memory may run out.
     pub fn on(
         folder: F,
         alloc: Global,
@@ -98,16 +109,17 @@ impl<F: Folder + Drop> FolderDisk<F> {
         checkpoints: &Text,
     ) -> Result<Self, DiskFault>
         requires fresh { F.tells → IsFresh (F.view folder) }
-        ensures { IfOk result (λ disk. disk ≡ record {
+        ensures made { IfOk result (λ disk. disk ≡ record {
           folder = folder;
           mounted = false;
-          folders = record {
-            output = output.now;
-            names = names.now;
-            checkpoints = checkpoints.now;
-          };
+          known = true;
+          folders = folders_named output.now names.now checkpoints.now;
           faults = 0;
         }) }
+        ensures fit { OnOk result
+            (HavePlaces (folders_named output.now names.now checkpoints.now)) }
+        ensures refused { IsErrOf result Failed
+            → HavePlaces (folders_named output.now names.now checkpoints.now) → ⊥ }
     {
         let places = Places::new(alloc, output, names, checkpoints)?;
         let files = all_shut(alloc, places.count())?;
@@ -124,7 +136,7 @@ impl<F: Folder + Drop> FolderDisk<F> {
         })
     }
 
-    /// The folder within.
+    /// The folders within, with the locks that they have.
     pub fn into_inner(self) -> F
         ensures { result ≡ self.folder }
     {
@@ -145,6 +157,9 @@ impl<F: Folder + Drop> FolderDisk<F> {
             (IsNamed output.now names.now checkpoints.now self.new.folders) }
         ensures unnamed { OnErr result (self.new.folders ≡ self.old.folders) }
         ensures faults { self.new.faults ≡ self.old.faults }
+        ensures held { OnOk result (AreHeld (F.holds self.new.folder) self.new.folders) }
+        ensures fails { HavePlaces (folders_named output.now names.now checkpoints.now)
+            → FailsAsFolders F.Folder self.old self.new result }
     {
         let places = Places::new(self.alloc, output, names, checkpoints)?;
         let files = all_shut(self.alloc, places.count())?;
@@ -163,6 +178,7 @@ impl<F: Folder + Drop> FolderDisk<F> {
         checkpoints: &Text,
     ) -> Result<(), DiskFault>
         requires first { self.old.mounted ≡ false }
+        requires known { self.old.known ≡ true }
         ensures mounted { OnOk result (IsTrue self.new.mounted) }
         ensures named { OnOk result
             (IsNamed output.now names.now checkpoints.now self.new.folders) }
@@ -170,6 +186,9 @@ impl<F: Folder + Drop> FolderDisk<F> {
         ensures stays { F.tells → Stays self.old.folders
             (F.view self.old.folder) (F.view self.new.folder) }
         ensures faults { self.new.faults ≡ self.old.faults }
+        ensures held { OnOk result (AreHeld (F.holds self.new.folder) self.new.folders) }
+        ensures fails { IsNamed output.now names.now checkpoints.now self.old.folders
+            → FailsAsFolders F.Folder self.old self.new result }
     {
         match &self.places {
             Some(places) => {
@@ -200,6 +219,9 @@ impl<F: Folder + Drop> FolderDisk<F> {
         ensures alike { F.tells → Stays self.old.folders
             (F.view self.old.folder) (F.view self.new.folder) }
         ensures faults { self.new.faults ≡ self.old.faults }
+        ensures held { OnOk result (AreHeld (F.holds self.new.folder) self.new.folders) }
+        ensures fails { CanMount (folders_named output.now names.now checkpoints.now) self.old
+            → FailsAsFolders F.Folder self.old self.new result }
     {
         if self.mounted {
             return Err(DiskFault::Failed);
@@ -233,12 +255,38 @@ impl<F: Folder + Drop> Disk for FolderDisk<F> {
         output: &Text,
         names: &List<Text>,
         checkpoints: &Text,
-    ) -> Result<(), DiskFault> {
+    ) -> Result<(), DiskFault>
+        ensures mounted { OnOk result (IsTrue self.new.mounted) }
+        ensures stays { IsTrue self.old.mounted → IsTrue self.new.mounted }
+        ensures named { OnOk result
+            (IsNamed output.now names.now checkpoints.now self.new.folders) }
+        ensures unnamed { OnErr result (self.new.folders ≡ self.old.folders) }
+        ensures same { F.tells → SameFiles (seen_on F.Folder self.old) (seen_on F.Folder self.new) }
+        ensures after { F.tells → Passes SameFiles
+            (disk_view F.Folder self.old) (disk_view F.Folder self.new) }
+        ensures cause { HasCause DiskFault.Failed self.old.faults self.new.faults result }
+        ensures held { OnOk result (AreHeld (F.holds self.new.folder) self.new.folders) }
+        ensures fails { CanMount (folders_named output.now names.now checkpoints.now) self.old
+            → FailsAsFolders F.Folder self.old self.new result }
+    {
         let done = self.mount_once(output, names, checkpoints);
         counted(&mut self.faults, done)
     }
 
-    fn length(&mut self, file: u32) -> Result<u64, DiskFault> {
+    fn length(&mut self, file: u32) -> Result<u64, DiskFault>
+        requires mounted { IsTrue self.old.mounted }
+        requires file { IsFile (files_in self.old.folders) file }
+        ensures length { F.tells → IfOk result
+            (λ count. count ≡ length (seen_on F.Folder self.old file)) }
+        ensures mounted { IsTrue self.new.mounted }
+        ensures folders { self.new.folders ≡ self.old.folders }
+        ensures same { F.tells → SameFiles (seen_on F.Folder self.old) (seen_on F.Folder self.new) }
+        ensures after { F.tells → Passes SameFiles
+            (disk_view F.Folder self.old) (disk_view F.Folder self.new) }
+        ensures cause { HasCause DiskFault.Failed self.old.faults self.new.faults result }
+        ensures takes_no_memory { IfErr result (λ fault. fault ≡ DiskFault.Failed) }
+        ensures fails { FailsAsFolders F.Folder self.old self.new result }
+    {
         match &self.places {
             Some(places) => {
                 let done = self.kept.length(places, file);
@@ -248,7 +296,22 @@ impl<F: Folder + Drop> Disk for FolderDisk<F> {
         }
     }
 
-    fn read(&mut self, file: u32, at: u64, into: &mut [u8]) -> Result<(), DiskFault> {
+    fn read(&mut self, file: u32, at: u64, into: &mut [u8]) -> Result<(), DiskFault>
+        requires mounted { IsTrue self.old.mounted }
+        requires file { IsFile (files_in self.old.folders) file }
+        requires range { F.tells → at + length into.old
+            ≤ length (seen_on F.Folder self.old file) }
+        ensures read { F.tells → OnOk result (into.new
+            ≡ slice_range (seen_on F.Folder self.old file) at (at + length into.old)) }
+        ensures mounted { IsTrue self.new.mounted }
+        ensures folders { self.new.folders ≡ self.old.folders }
+        ensures same { F.tells → SameFiles (seen_on F.Folder self.old) (seen_on F.Folder self.new) }
+        ensures after { F.tells → Passes SameFiles
+            (disk_view F.Folder self.old) (disk_view F.Folder self.new) }
+        ensures cause { HasCause DiskFault.Failed self.old.faults self.new.faults result }
+        ensures takes_no_memory { IfErr result (λ fault. fault ≡ DiskFault.Failed) }
+        ensures fails { FailsAsFolders F.Folder self.old self.new result }
+    {
         match &self.places {
             Some(places) => {
                 let done = self.kept.read(places, file, at, into);

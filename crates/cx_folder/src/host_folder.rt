@@ -16,8 +16,8 @@ use std::marker::Model;
 use std::os::unix::fs::{FileExt, MetadataExt};
 use std::rt::Files;
 
-/// A folder that the run has for itself, under the path that it was asked for by. One that is missing is made with the first
-/// file in it.
+/// A folder that the run has for itself, under the path that it was asked for by. One that is missing is made with the
+/// first file in it.
 #[derive(Drop)]
 struct Home {
     path: String,
@@ -26,9 +26,9 @@ struct Home {
 
 /// The folders of the host. Contracts see of which the run has the locks, and how often the host has failed.
 ///
-/// A lock is the system's own on the open folder (`flock`), so no file is made for it, and it ends with the run. Two paths to
-/// one folder have one lock. A folder that is missing is made with its first file, with those above it, and each is settled
-/// by a sync of the one above; if another run has made it by then, that is a failure.
+/// A lock is the system's own on the open folder (`flock`), so no file is made for it, and it ends with the run. Two
+/// paths to one folder have one lock. A folder that is missing is made with its first file, with those above it, and
+/// each is settled by a sync of the one above; if another run has made it by then, that is a failure.
 #[derive(Drop)]
 pub struct HostFolder<R> {
     rt: R,

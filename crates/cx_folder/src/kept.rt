@@ -1,12 +1,13 @@
 //! Folders with the files that are kept open in them.
 ghost use Rattle.std.specs.Prelude.{ℕ, false, ◌≡◌, ◌≢◌, ◌≤◌, ◌<◌, ◌+◌, length, slice_range, slice_index_or, vec_len, set, OnOk, OnErr, IfOk, IfErr, Err};
-ghost use Rattle.cx_disk.specs.Disk.{files_in, Holds, Torn, Front, CutShort, IsSettled};
+ghost use Rattle.cx_disk.specs.Disk.{files_in, IsSettled};
 ghost use Rattle.cx_disk.specs.Files.{IsFile};
 ghost use Rattle.cx_folder.specs.Names.{Path, paths_in, path_at, place_of};
 ghost use Rattle.cx_folder.specs.Tree.{ReadsOn};
-ghost use Rattle.cx_folder.specs.Pulled.{pulled, files_of, Stays, Alters};
+ghost use Rattle.cx_folder.specs.Pulled.{pulled, files_of};
+ghost use Rattle.cx_folder.specs.Calls.{HasReady, HasUpTo, KeepsBytes, Writes, Cuts, FailsAs};
 ghost use Rattle.cx_folder.specs.Kept.{AreHeld, IsShut};
-ghost use Rattle.cx_folder.specs.Tended.{IsReady, IsTended, AreEntered, HasBytes, HasSettled};
+ghost use Rattle.cx_folder.specs.Tended.{IsTended, AreEntered, HasBytes, HasSettled};
 ghost use Rattle.cx_folder.specs.declared.kept.Hold.TheVariants.{Shut, Lost};
 ghost use Rattle.cx_folder.specs.declared.kept.Entries.TheVariants.{Settled, Made, Doubted};
 ghost use Rattle.cx_disk.specs.declared.disk.DiskFault.TheVariants.{Failed};
@@ -46,7 +47,7 @@ pub(crate) struct Kept<F: Folder + Drop> {
     pub(crate) entries: Entries,
 }
 
-/// So many files that are shut.
+/// What is kept of so many files that are shut.
 pub(crate) fn all_shut<T: Drop>(alloc: Global, count: usize) -> Result<Vec<Hold<T>>, AllocError>
     ensures as_many { IfOk result (λ files. vec_len files ≡ count) }
     ensures shut { IfOk result (λ files. (k : ℕ) → k < count
@@ -67,7 +68,7 @@ fn hold_at<T>(files: &Vec<Hold<T>>, place: usize) -> &Hold<T>
     &files[place]
 }
 
-/// Keeps a file otherwise.
+/// Keeps this of the file at a place.
 fn set_hold<T: Drop>(files: &mut Vec<Hold<T>>, place: usize, hold: Hold<T>)
     requires { place < vec_len files.old }
     ensures { files.new.items ≡ set files.old.items place hold }
@@ -112,8 +113,8 @@ impl<F: Folder + Drop> Kept<F> {
         ensures still_held { (other : Path) → F.holds self.old.folder other
             → F.holds self.new.folder other }
         ensures files { self.new.files ≡ self.old.files }
-        ensures stays { F.tells → Stays places.now
-            (F.view self.old.folder) (F.view self.new.folder) }
+        ensures stays { KeepsBytes F.Folder places.now self.old self.new }
+        ensures cause { FailsAs F.Folder self.old self.new result }
     {
         self.folder.hold(places.output_folder())?;
         self.folder.hold(places.checkpoint_folder())
@@ -122,15 +123,13 @@ impl<F: Folder + Drop> Kept<F> {
     /// The length of a file.
     pub(crate) fn length(&mut self, places: &Places, file: u32) -> Result<u64, DiskFault>
         requires file { IsFile (files_in places.now) file }
-        requires ready { IsReady F.tells F.holds F.path_of F.view places.now
-            self.old.folder self.old.files.items self.old.entries }
-        ensures ready { IsReady F.tells F.holds F.path_of F.view places.now
-            self.new.folder self.new.files.items self.new.entries }
-        ensures stays { F.tells → Stays places.now
-            (F.view self.old.folder) (F.view self.new.folder) }
+        requires ready { HasReady F.Folder places.now self.old }
+        ensures ready { HasReady F.Folder places.now self.new }
+        ensures stays { KeepsBytes F.Folder places.now self.old self.new }
         ensures length { F.tells → IfOk result (λ count. count
             ≡ length (files_of places.now (F.view self.old.folder).seen file)) }
         ensures takes_no_memory { IfErr result (λ fault. fault ≡ Failed) }
+        ensures cause { FailsAs F.Folder self.old self.new result }
     {
         self.folder.length(places.folder(file), places.path(file))
     }
@@ -144,17 +143,14 @@ impl<F: Folder + Drop> Kept<F> {
         into: &mut [u8],
     ) -> Result<(), DiskFault>
         requires file { IsFile (files_in places.now) file }
-        requires ready { IsReady F.tells F.holds F.path_of F.view places.now
-            self.old.folder self.old.files.items self.old.entries }
-        requires range { F.tells → at + length into.old
-            ≤ length (files_of places.now (F.view self.old.folder).seen file) }
-        ensures ready { IsReady F.tells F.holds F.path_of F.view places.now
-            self.new.folder self.new.files.items self.new.entries }
-        ensures stays { F.tells → Stays places.now
-            (F.view self.old.folder) (F.view self.new.folder) }
+        requires ready { HasReady F.Folder places.now self.old }
+        requires range { HasUpTo F.Folder (at + length into.old) places.now file self.old }
+        ensures ready { HasReady F.Folder places.now self.new }
+        ensures stays { KeepsBytes F.Folder places.now self.old self.new }
         ensures read { F.tells → OnOk result (into.new ≡ slice_range
             (files_of places.now (F.view self.old.folder).seen file) at (at + length into.old)) }
         ensures takes_no_memory { IfErr result (λ fault. fault ≡ Failed) }
+        ensures cause { FailsAs F.Folder self.old self.new result }
     {
         self.folder
             .read(places.folder(file), places.path(file), at, into)
@@ -164,12 +160,9 @@ impl<F: Folder + Drop> Kept<F> {
     fn open_shut(&mut self, places: &Places, file: u32) -> Result<bool, DiskFault>
         requires file { IsFile (files_in places.now) file }
         requires shut { IsShut self.old.files.items places.now file }
-        requires ready { IsReady F.tells F.holds F.path_of F.view places.now
-            self.old.folder self.old.files.items self.old.entries }
-        ensures ready { IsReady F.tells F.holds F.path_of F.view places.now
-            self.new.folder self.new.files.items self.new.entries }
-        ensures stays { F.tells → Stays places.now
-            (F.view self.old.folder) (F.view self.new.folder) }
+        requires ready { HasReady F.Folder places.now self.old }
+        ensures ready { HasReady F.Folder places.now self.new }
+        ensures stays { KeepsBytes F.Folder places.now self.old self.new }
         ensures missing { IfOk result (λ there. there ≡ false
             → IsShut self.new.files.items places.now file) }
         ensures absent { F.tells → IfOk result (λ there. there ≡ false
@@ -187,12 +180,9 @@ impl<F: Folder + Drop> Kept<F> {
     /// Has a file open that is to be changed, if it is there. One of which a sync failed is a failure.
     fn open(&mut self, places: &Places, file: u32) -> Result<bool, DiskFault>
         requires file { IsFile (files_in places.now) file }
-        requires ready { IsReady F.tells F.holds F.path_of F.view places.now
-            self.old.folder self.old.files.items self.old.entries }
-        ensures ready { IsReady F.tells F.holds F.path_of F.view places.now
-            self.new.folder self.new.files.items self.new.entries }
-        ensures stays { F.tells → Stays places.now
-            (F.view self.old.folder) (F.view self.new.folder) }
+        requires ready { HasReady F.Folder places.now self.old }
+        ensures ready { HasReady F.Folder places.now self.new }
+        ensures stays { KeepsBytes F.Folder places.now self.old self.new }
         ensures lost { slice_index_or self.old.files.items
             (place_of (files_in places.now) file) Lost ≡ Lost → result ≡ Err Failed }
         ensures missing { IfOk result (λ there. there ≡ false
@@ -211,12 +201,9 @@ impl<F: Folder + Drop> Kept<F> {
     fn make(&mut self, places: &Places, file: u32) -> Result<(), DiskFault>
         requires file { IsFile (files_in places.now) file }
         requires shut { IsShut self.old.files.items places.now file }
-        requires ready { IsReady F.tells F.holds F.path_of F.view places.now
-            self.old.folder self.old.files.items self.old.entries }
-        ensures ready { IsReady F.tells F.holds F.path_of F.view places.now
-            self.new.folder self.new.files.items self.new.entries }
-        ensures stays { F.tells → Stays places.now
-            (F.view self.old.folder) (F.view self.new.folder) }
+        requires ready { HasReady F.Folder places.now self.old }
+        ensures ready { HasReady F.Folder places.now self.new }
+        ensures stays { KeepsBytes F.Folder places.now self.old self.new }
         ensures outstanding { self.new.entries ≢ Settled }
     {
         self.entries = self.entries.made();
@@ -228,12 +215,9 @@ impl<F: Folder + Drop> Kept<F> {
     /// Has a file open that is to be written, which is made where it is missing.
     fn open_or_make(&mut self, places: &Places, file: u32) -> Result<(), DiskFault>
         requires file { IsFile (files_in places.now) file }
-        requires ready { IsReady F.tells F.holds F.path_of F.view places.now
-            self.old.folder self.old.files.items self.old.entries }
-        ensures ready { IsReady F.tells F.holds F.path_of F.view places.now
-            self.new.folder self.new.files.items self.new.entries }
-        ensures stays { F.tells → Stays places.now
-            (F.view self.old.folder) (F.view self.new.folder) }
+        requires ready { HasReady F.Folder places.now self.old }
+        ensures ready { HasReady F.Folder places.now self.new }
+        ensures stays { KeepsBytes F.Folder places.now self.old self.new }
     {
         if self.open(places, file)? {
             Ok(())
@@ -251,14 +235,11 @@ impl<F: Folder + Drop> Kept<F> {
         bytes: &[u8],
     ) -> Result<(), DiskFault>
         requires file { IsFile (files_in places.now) file }
-        requires ready { IsReady F.tells F.holds F.path_of F.view places.now
-            self.old.folder self.old.files.items self.old.entries }
-        requires start { F.tells → at ≤ length (files_of places.now
-            (F.view self.old.folder).seen file) }
-        ensures ready { IsReady F.tells F.holds F.path_of F.view places.now
-            self.new.folder self.new.files.items self.new.entries }
-        ensures alters { F.tells → Alters (Holds at bytes.now) (Torn at (length bytes.now))
-            places.now file result (F.view self.old.folder) (F.view self.new.folder) }
+        requires ready { HasReady F.Folder places.now self.old }
+        requires start { HasUpTo F.Folder at places.now file self.old }
+        ensures ready { HasReady F.Folder places.now self.new }
+        ensures alters { Writes F.Folder at bytes.now places.now file result
+            self.old self.new }
     {
         match hold_at(&self.files, places.place(file)) {
             Hold::Open(open) => self.folder.write(open, at, bytes),
@@ -275,14 +256,11 @@ impl<F: Folder + Drop> Kept<F> {
         bytes: &[u8],
     ) -> Result<(), DiskFault>
         requires file { IsFile (files_in places.now) file }
-        requires ready { IsReady F.tells F.holds F.path_of F.view places.now
-            self.old.folder self.old.files.items self.old.entries }
-        requires start { F.tells → at ≤ length (files_of places.now
-            (F.view self.old.folder).seen file) }
-        ensures ready { IsReady F.tells F.holds F.path_of F.view places.now
-            self.new.folder self.new.files.items self.new.entries }
-        ensures alters { F.tells → Alters (Holds at bytes.now) (Torn at (length bytes.now))
-            places.now file result (F.view self.old.folder) (F.view self.new.folder) }
+        requires ready { HasReady F.Folder places.now self.old }
+        requires start { HasUpTo F.Folder at places.now file self.old }
+        ensures ready { HasReady F.Folder places.now self.new }
+        ensures alters { Writes F.Folder at bytes.now places.now file result
+            self.old self.new }
     {
         self.open_or_make(places, file)?;
         self.write_open(places, file, at, bytes)
@@ -291,14 +269,10 @@ impl<F: Folder + Drop> Kept<F> {
     /// Cuts a file that is open. One that isn't is a failure.
     fn cut_open(&mut self, places: &Places, file: u32, to: u64) -> Result<(), DiskFault>
         requires file { IsFile (files_in places.now) file }
-        requires ready { IsReady F.tells F.holds F.path_of F.view places.now
-            self.old.folder self.old.files.items self.old.entries }
-        requires within { F.tells → to ≤ length (files_of places.now
-            (F.view self.old.folder).seen file) }
-        ensures ready { IsReady F.tells F.holds F.path_of F.view places.now
-            self.new.folder self.new.files.items self.new.entries }
-        ensures alters { F.tells → Alters (Front to) (CutShort to)
-            places.now file result (F.view self.old.folder) (F.view self.new.folder) }
+        requires ready { HasReady F.Folder places.now self.old }
+        requires within { HasUpTo F.Folder to places.now file self.old }
+        ensures ready { HasReady F.Folder places.now self.new }
+        ensures alters { Cuts F.Folder to places.now file result self.old self.new }
     {
         match hold_at(&self.files, places.place(file)) {
             Hold::Open(open) => self.folder.cut(open, to),
@@ -309,14 +283,10 @@ impl<F: Folder + Drop> Kept<F> {
     /// Cuts a file. One that isn't there has nothing to cut.
     pub(crate) fn cut(&mut self, places: &Places, file: u32, to: u64) -> Result<(), DiskFault>
         requires file { IsFile (files_in places.now) file }
-        requires ready { IsReady F.tells F.holds F.path_of F.view places.now
-            self.old.folder self.old.files.items self.old.entries }
-        requires within { F.tells → to ≤ length (files_of places.now
-            (F.view self.old.folder).seen file) }
-        ensures ready { IsReady F.tells F.holds F.path_of F.view places.now
-            self.new.folder self.new.files.items self.new.entries }
-        ensures alters { F.tells → Alters (Front to) (CutShort to)
-            places.now file result (F.view self.old.folder) (F.view self.new.folder) }
+        requires ready { HasReady F.Folder places.now self.old }
+        requires within { HasUpTo F.Folder to places.now file self.old }
+        ensures ready { HasReady F.Folder places.now self.new }
+        ensures alters { Cuts F.Folder to places.now file result self.old self.new }
     {
         if self.open(places, file)? {
             self.cut_open(places, file, to)
@@ -330,12 +300,9 @@ impl<F: Folder + Drop> Kept<F> {
     /// Settles the bytes of a file that is open, and shuts it, or loses it. One that isn't open is a failure.
     fn sync_open(&mut self, places: &Places, file: u32) -> Result<(), DiskFault>
         requires file { IsFile (files_in places.now) file }
-        requires ready { IsReady F.tells F.holds F.path_of F.view places.now
-            self.old.folder self.old.files.items self.old.entries }
-        ensures ready { IsReady F.tells F.holds F.path_of F.view places.now
-            self.new.folder self.new.files.items self.new.entries }
-        ensures stays { F.tells → Stays places.now
-            (F.view self.old.folder) (F.view self.new.folder) }
+        requires ready { HasReady F.Folder places.now self.old }
+        ensures ready { HasReady F.Folder places.now self.new }
+        ensures stays { KeepsBytes F.Folder places.now self.old self.new }
         ensures bytes { F.tells → OnOk result (HasBytes (path_at places.now file)
             (F.view self.new.folder)) }
         ensures shut { OnOk result (IsShut self.new.files.items places.now file) }
@@ -353,12 +320,9 @@ impl<F: Folder + Drop> Kept<F> {
     /// Settles the bytes of a file. One that isn't there has none.
     fn sync_bytes(&mut self, places: &Places, file: u32) -> Result<(), DiskFault>
         requires file { IsFile (files_in places.now) file }
-        requires ready { IsReady F.tells F.holds F.path_of F.view places.now
-            self.old.folder self.old.files.items self.old.entries }
-        ensures ready { IsReady F.tells F.holds F.path_of F.view places.now
-            self.new.folder self.new.files.items self.new.entries }
-        ensures stays { F.tells → Stays places.now
-            (F.view self.old.folder) (F.view self.new.folder) }
+        requires ready { HasReady F.Folder places.now self.old }
+        ensures ready { HasReady F.Folder places.now self.new }
+        ensures stays { KeepsBytes F.Folder places.now self.old self.new }
         ensures bytes { F.tells → OnOk result (HasSettled (path_at places.now file)
             (F.view self.new.folder)) }
         ensures shut { OnOk result (IsShut self.new.files.items places.now file) }
@@ -373,10 +337,8 @@ impl<F: Folder + Drop> Kept<F> {
     /// Settles the entries of both folders, one after the other. Until both are synced they are in doubt.
     fn sync_made(&mut self, places: &Places) -> Result<(), DiskFault>
         requires made { self.old.entries ≡ Made }
-        requires ready { IsReady F.tells F.holds F.path_of F.view places.now
-            self.old.folder self.old.files.items self.old.entries }
-        ensures ready { IsReady F.tells F.holds F.path_of F.view places.now
-            self.new.folder self.new.files.items self.new.entries }
+        requires ready { HasReady F.Folder places.now self.old }
+        ensures ready { HasReady F.Folder places.now self.new }
         ensures reads_on { F.tells → ReadsOn (F.view self.old.folder) (F.view self.new.folder) }
         ensures entered { F.tells → OnOk result (AreEntered (F.view self.new.folder)
             places.now Settled) }
@@ -393,10 +355,8 @@ impl<F: Folder + Drop> Kept<F> {
 
     /// Settles the entries of both folders. After a sync of them failed, each is a failure.
     fn sync_entries(&mut self, places: &Places) -> Result<(), DiskFault>
-        requires ready { IsReady F.tells F.holds F.path_of F.view places.now
-            self.old.folder self.old.files.items self.old.entries }
-        ensures ready { IsReady F.tells F.holds F.path_of F.view places.now
-            self.new.folder self.new.files.items self.new.entries }
+        requires ready { HasReady F.Folder places.now self.old }
+        ensures ready { HasReady F.Folder places.now self.new }
         ensures reads_on { F.tells → ReadsOn (F.view self.old.folder) (F.view self.new.folder) }
         ensures entered { F.tells → OnOk result (AreEntered (F.view self.new.folder)
             places.now Settled) }
@@ -414,12 +374,9 @@ impl<F: Folder + Drop> Kept<F> {
     /// Settles a file, and the entries of both folders. A file that isn't there has no bytes to settle.
     pub(crate) fn sync(&mut self, places: &Places, file: u32) -> Result<(), DiskFault>
         requires file { IsFile (files_in places.now) file }
-        requires ready { IsReady F.tells F.holds F.path_of F.view places.now
-            self.old.folder self.old.files.items self.old.entries }
-        ensures ready { IsReady F.tells F.holds F.path_of F.view places.now
-            self.new.folder self.new.files.items self.new.entries }
-        ensures stays { F.tells → Stays places.now
-            (F.view self.old.folder) (F.view self.new.folder) }
+        requires ready { HasReady F.Folder places.now self.old }
+        ensures ready { HasReady F.Folder places.now self.new }
+        ensures stays { KeepsBytes F.Folder places.now self.old self.new }
         ensures as_read { F.tells → OnOk result
             (IsSettled (pulled places.now (F.view self.new.folder)) file) }
         ensures settled { OnOk result (self.new.entries ≡ Settled) }

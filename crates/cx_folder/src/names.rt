@@ -1,9 +1,12 @@
-//! Where the files of a disk stand in its folders.
-ghost use Rattle.std.specs.Prelude.{ℕ, ◌≡◌, ◌≢◌, ◌<◌, ◌+◌, ◌∷◌, true, length, map, slice_index_or, vec_len, IfOk, IfErr, OnOk, [], string_bytes, codes, ◌++◌};
+//! Where the files of a disk are in its folders.
+ghost use Rattle.std.specs.Prelude.{ℕ, ◌≡◌, ◌≢◌, ◌<◌, ◌+◌, ◌∷◌, true, false, length, map, slice_index_or, vec_len, IfOk, IfErr, OnOk, IsErrOf, [], string_bytes, codes, ◌++◌};
 ghost use Rattle.std.specs.Fmt.{decimal};
+ghost use Rattle.std.specs.List.{All};
+ghost use Rattle.std.specs.Str.{IsUtf8};
 ghost use Rattle.cx_disk.specs.Disk.{Folders, files_in, IsNamed};
 ghost use Rattle.cx_disk.specs.Files.{IsFile, slot_count, chunk_count};
-ghost use Rattle.cx_folder.specs.Names.{IsIn, folder_path, slot_path, old_output_path, named_path, chunk_path, recombined_path, below, low_paths, high_paths, paths_in, AreDistinct, IsNewAt, place_of, path_at, folder_at, output_folder, checkpoint_folder};
+ghost use Rattle.cx_folder.specs.Names.{IsIn, folder_path, slot_path, old_output_path, named_path, chunk_path, recombined_path, below, low_paths, high_paths, paths_in, AreDistinct, folders_named, HavePlaces, IsNewAt, place_of, path_at, folder_at, output_folder, checkpoint_folder};
+ghost use Rattle.cx_disk.specs.declared.disk.DiskFault.TheVariants.{Failed};
 
 use cx_disk::{CHUNKS, DiskFault, FIRST_CHUNK, RECOMBINED, SLOTS};
 use cx_text::{List, Text};
@@ -43,14 +46,20 @@ impl Model for Places {
 }
 
 impl Places {
-    /// The places of files in these folders. `Failed`: a name isn't text, or two files would have one path.
+    /// The places of files in these folders.
+    ///
+    /// `Failed`: a name isn't text, or two files would have one path.
     pub(crate) fn new(
         alloc: Global,
         output: &Text,
         names: &List<Text>,
         checkpoints: &Text,
     ) -> Result<Places, DiskFault>
-        ensures { IfOk result (IsNamed output.now names.now checkpoints.now) }
+        ensures named { IfOk result (IsNamed output.now names.now checkpoints.now) }
+        ensures fit { OnOk result
+            (HavePlaces (folders_named output.now names.now checkpoints.now)) }
+        ensures refused { IsErrOf result Failed
+            → HavePlaces (folders_named output.now names.now checkpoints.now) → ⊥ }
     {
         let output_folder = folder(alloc, output)?;
         let checkpoint_folder = folder(alloc, checkpoints)?;
@@ -70,7 +79,10 @@ impl Places {
 
     /// Whether a mount names these.
     pub(crate) fn are(&self, output: &Text, names: &List<Text>, checkpoints: &Text) -> bool
-        ensures { result ≡ true → IsNamed output.now names.now checkpoints.now self.now }
+        ensures same { result ≡ true
+            → IsNamed output.now names.now checkpoints.now self.now }
+        ensures other { result ≡ false
+            → IsNamed output.now names.now checkpoints.now self.now → ⊥ }
     {
         self.output.as_slice() == output.as_slice()
             && same_names(self.names.as_slice(), names.as_slice())
@@ -154,8 +166,12 @@ impl Places {
 }
 
 /// The path of a folder by its name.
+///
+/// `Failed`: the name isn't text.
 fn folder(alloc: Global, name: &Text) -> Result<String, DiskFault>
-    ensures { IfOk result (λ path. string_bytes path ≡ folder_path name.now) }
+    ensures path { IfOk result (λ path. string_bytes path ≡ folder_path name.now) }
+    ensures text { OnOk result (IsUtf8 name.now) }
+    ensures refused { IsErrOf result Failed → IsUtf8 name.now → ⊥ }
 {
     match str::from_utf8(name.as_slice()) {
         Ok("") => Ok(format!(in alloc; ".")?),
@@ -179,8 +195,12 @@ fn slot_name(alloc: Global, folder: &str, slot: u32) -> Result<String, AllocErro
 }
 
 /// The path of an output by its name.
+///
+/// `Failed`: the name isn't text.
 fn named(alloc: Global, folder: &str, name: &Text) -> Result<String, DiskFault>
-    ensures { IfOk result (λ path. string_bytes path ≡ named_path folder.now name.now) }
+    ensures path { IfOk result (λ path. string_bytes path ≡ named_path folder.now name.now) }
+    ensures text { OnOk result (IsUtf8 name.now) }
+    ensures refused { IsErrOf result Failed → IsUtf8 name.now → ⊥ }
 {
     match str::from_utf8(name.as_slice()) {
         Ok(name) => Ok(in_folder(alloc, folder, name)?),
@@ -200,14 +220,18 @@ fn add_slots(alloc: Global, paths: &mut Vec<String>, folder: &str) -> Result<(),
 }
 
 /// Adds the outputs that are named.
+///
+/// `Failed`: a name isn't text.
 fn add_names(
     alloc: Global,
     paths: &mut Vec<String>,
     folder: &str,
     names: &[Text],
 ) -> Result<(), DiskFault>
-    ensures { OnOk result (map string_bytes paths.new.items
+    ensures added { OnOk result (map string_bytes paths.new.items
         ≡ map string_bytes paths.old.items ++ map (named_path folder.now) names.now) }
+    ensures texts { OnOk result (All IsUtf8 names.now) }
+    ensures refused { IsErrOf result Failed → All IsUtf8 names.now → ⊥ }
 {
     'names: for name in names {
         paths.push(named(alloc, folder, name)?)?;
@@ -226,17 +250,21 @@ fn add_chunks(alloc: Global, paths: &mut Vec<String>, folder: &str) -> Result<()
     Ok(())
 }
 
-/// All paths.
+/// All paths, in the order of the files' places.
+///
+/// `Failed`: a name isn't text.
 fn all_paths(
     alloc: Global,
     output: &str,
     names: &[Text],
     checkpoints: &str,
 ) -> Result<Vec<String>, DiskFault>
-    ensures { IfOk result (λ paths. map string_bytes paths.items
+    ensures paths { IfOk result (λ paths. map string_bytes paths.items
         ≡ below (slot_path checkpoints.now) slot_count
         ++ old_output_path output.now ∷ map (named_path output.now) names.now
         ++ (below (chunk_path output.now) chunk_count ++ recombined_path output.now ∷ [])) }
+    ensures texts { OnOk result (All IsUtf8 names.now) }
+    ensures refused { IsErrOf result Failed → All IsUtf8 names.now → ⊥ }
 {
     let mut paths = Vec::new(alloc);
     add_slots(alloc, &mut paths, checkpoints)?;
@@ -250,7 +278,8 @@ fn all_paths(
 /// Whether the k-th path isn't empty, and none of those before it.
 fn is_new(paths: &[String], k: usize) -> bool
     requires { k < length paths.now }
-    ensures { result ≡ true → IsNewAt (map string_bytes paths.now) k }
+    ensures fresh { result ≡ true → IsNewAt (map string_bytes paths.now) k }
+    ensures taken { result ≡ false → IsNewAt (map string_bytes paths.now) k → ⊥ }
 {
     if paths[k].as_str().is_empty() {
         return false;
@@ -265,7 +294,8 @@ fn is_new(paths: &[String], k: usize) -> bool
 
 /// Whether no two files have one path, and none has the empty one.
 fn are_distinct(paths: &[String]) -> bool
-    ensures { result ≡ true → AreDistinct (map string_bytes paths.now) }
+    ensures distinct { result ≡ true → AreDistinct (map string_bytes paths.now) }
+    ensures clash { result ≡ false → AreDistinct (map string_bytes paths.now) → ⊥ }
 {
     'places: for k in 0..paths.len() {
         if !is_new(paths, k) {
@@ -277,7 +307,8 @@ fn are_distinct(paths: &[String]) -> bool
 
 /// Whether these are the same names.
 fn same_names(names: &[Text], others: &[Text]) -> bool
-    ensures { result ≡ true → names.now ≡ others.now }
+    ensures same { result ≡ true → names.now ≡ others.now }
+    ensures other { result ≡ false → names.now ≢ others.now }
 {
     if names.len() != others.len() {
         return false;

@@ -9,8 +9,9 @@ chunks-init c = below_none (map string_bytes c.args.paths.now.items) (chunk_path
 
 pub chunks-preserved : goal.chunks-preserved
 chunks-preserved c =
-    let one : string_bytes c.in_ok-format.field-0 ≡ chunk_path c.args.folder.now c.chunks.part-counter =
+    let one : string_bytes c.in_ok-format.field-0
+    ≡ chunk_path c.args.folder.now c.chunks.part-counter =
     search rules in
     pushed_below string_bytes (chunk_path c.args.folder.now) c.args.paths.now.items
-    c.chunks.paths.items c.push.new.self.items c.in_ok-format.field-0 c.chunks.part-counter c.chunks.invariant
-    c.in_ok-push.ensures.items one
+    c.chunks.paths.items c.push.new.self.items c.in_ok-format.field-0 c.chunks.part-counter
+    c.chunks.invariant c.in_ok-push.ensures.items one

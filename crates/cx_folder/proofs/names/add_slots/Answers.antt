@@ -10,5 +10,5 @@ slots-init c = below_none (map string_bytes c.args.paths.now.items) (slot_path c
 pub slots-preserved : goal.slots-preserved
 slots-preserved c =
     pushed_below string_bytes (slot_path c.args.folder.now) c.args.paths.now.items
-    c.slots.paths.items c.push.new.self.items c.in_ok-slot_name.field-0 c.slots.slot c.slots.invariant
-    c.in_ok-push.ensures.items c.in_ok-slot_name.ensures
+    c.slots.paths.items c.push.new.self.items c.in_ok-slot_name.field-0 c.slots.slot
+    c.slots.invariant c.in_ok-push.ensures.items c.in_ok-slot_name.ensures

@@ -4,8 +4,8 @@ use Rattle.cx_folder.specs.Names.{Path, below, slot_path, old_output_path, named
 use Rattle.cx_folder.proofs.NamesLaws.{joined, pushed}
 use Rattle.cx_folder.proofs.names.all_paths.Goals as goal
 
-pub returns : goal.returns
-returns c =
+pub returns-clause-paths : goal.returns-clause-paths
+returns-clause-paths c =
     let output = c.args.output.now in
     joined (map string_bytes c.new-paths.result.items)
     (map string_bytes c.add_slots.new.paths.items) (map string_bytes c.push.new.self.items)
@@ -16,8 +16,9 @@ returns c =
     (ap (map string_bytes) c.new-paths.ensures.items) c.in_ok-add_slots.ensures
     (pushed string_bytes c.add_slots.new.paths.items c.push.new.self.items c.in_ok-in_folder.field-0
     c.in_ok-push.ensures.items
-    ∙ ap (λ (p : Path). map string_bytes c.add_slots.new.paths.items ++ p ∷ []) c.in_ok-in_folder.ensures)
-    c.in_ok-add_names.ensures c.in_ok-add_chunks.ensures
+    ∙ ap (λ (p : Path). map string_bytes c.add_slots.new.paths.items ++ p ∷ [])
+    c.in_ok-in_folder.ensures)
+    c.in_ok-add_names.ensures.added c.in_ok-add_chunks.ensures
     (pushed string_bytes c.add_chunks.new.paths.items c.push-2.new.self.items
     c.in_ok-in_folder-2.field-0 c.in_ok-push-2.ensures.items
     ∙ ap (λ (p : Path). map string_bytes c.add_chunks.new.paths.items ++ p ∷ [])

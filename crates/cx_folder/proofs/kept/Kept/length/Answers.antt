@@ -7,8 +7,8 @@ use Rattle.cx_folder.proofs.ReadyLaws.{ready_on, held_at, within_at}
 use Rattle.cx_folder.proofs.kept.Kept.length.Goals as goal
 
 pub length-requires-clause-held : goal.length-requires-clause-held
-length-requires-clause-held g c = held_at (g.F.Folder.holds c.args.self.now.folder) c.args.places.now
-    c.args.file c.folder.result.now c.folder.ensures c.requires.ready.held
+length-requires-clause-held g c = held_at (g.F.Folder.holds c.args.self.now.folder)
+    c.args.places.now c.args.file c.folder.result.now c.folder.ensures c.requires.ready.held
 
 pub length-requires-clause-within : goal.length-requires-clause-within
 length-requires-clause-within g c = within_at c.args.places.now c.args.file c.folder.result.now

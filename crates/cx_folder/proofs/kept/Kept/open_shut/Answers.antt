@@ -8,7 +8,8 @@ returns-in_err-open-clause-ready g c = looked c.open.new.self c.args.file c.path
     c.open.ensures.still_held c.open.ensures.reads_on c.open.ensures.opened
 
 pub returns-in_err-open-clause-stays : goal.returns-in_err-open-clause-stays
-returns-in_err-open-clause-stays g c = λ t. stays_reads c.args.places.now (c.open.ensures.reads_on t)
+returns-in_err-open-clause-stays g c = λ t. stays_reads c.args.places.now
+    (c.open.ensures.reads_on t)
 
 pub returns-in-Some-clause-ready : goal.returns-in-Some-clause-ready
 returns-in-Some-clause-ready g c = looked_open c.open.new.self c.args.file c.path.result.now

@@ -12,16 +12,17 @@ returns-clause-cut c = λ t.
     let path = c.args.file.now in
     let whole = Front c.args.to in
     let event = cut path c.args.to old in
-    on_noted (λ es. ChangesBytes whole path (seen_in old) (seen_in es)) event old c.note_cut.new.self
-    c.note_cut.result c.note_cut.ensures (changes_in event old whole (λ p. refl) refl refl)
+    on_noted (λ es. ChangesBytes whole path (seen_in old) (seen_in es)) event old
+    c.note_cut.new.self c.note_cut.result c.note_cut.ensures
+    (changes_in event old whole (λ p. refl) refl refl)
 
 pub returns-clause-stopped : goal.returns-clause-stopped
 returns-clause-stopped c = λ t.
     let old = c.args.self.now in
     let path = c.args.file.now in
     let step = CutShort c.args.to in
-    on_wanting (λ es. ChangesBytes step path (seen_in old) (seen_in es)) (cut path c.args.to old) old
-    c.note_cut.new.self c.note_cut.result c.note_cut.ensures
+    on_wanting (λ es. ChangesBytes step path (seen_in old) (seen_in es)) (cut path c.args.to old)
+    old c.note_cut.new.self c.note_cut.result c.note_cut.ensures
     (changes_still step path (seen_in old) (cut_same c.args.to))
 
 pub returns-clause-after : goal.returns-clause-after

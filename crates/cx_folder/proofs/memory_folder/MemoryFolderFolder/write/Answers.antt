@@ -12,8 +12,9 @@ returns-clause-written c = λ t.
     let path = c.args.file.now in
     let whole = Holds c.args.at c.args.bytes.now in
     let event = wrote path c.args.at c.args.bytes.now old in
-    on_noted (λ es. ChangesBytes whole path (seen_in old) (seen_in es)) event old c.note_write.new.self
-    c.note_write.result c.note_write.ensures (changes_in event old whole (λ p. refl) refl refl)
+    on_noted (λ es. ChangesBytes whole path (seen_in old) (seen_in es)) event old
+    c.note_write.new.self c.note_write.result c.note_write.ensures
+    (changes_in event old whole (λ p. refl) refl refl)
 
 pub returns-clause-stopped : goal.returns-clause-stopped
 returns-clause-stopped c = λ t.
