@@ -1,7 +1,9 @@
 //! The program over the current folder and standard output.
 
-ghost use Rattle.std.specs.Prelude.{◌≡◌, IfOk, OnErr};
+ghost use Rattle.std.specs.Prelude.{◌≡◌, drop, map, IfOk, OnErr};
 ghost use Rattle.std.specs.Process.{exit_status};
+ghost use Rattle.std.specs.String.{string_bytes};
+ghost use Rattle.std.specs.Vec.Iter.{into_iter_items};
 ghost use Rattle.cx_run.specs.Answers.{IsStatusFor};
 
 use crate::late_wire::LateWire;
@@ -11,7 +13,8 @@ use cx_rule::Meter;
 use cx_run::{FolderShelf, StdoutSink};
 use cx_text::{Memory, Text};
 use cx_turns::SeededTurns;
-use std::env;
+use std::alloc::Global;
+use std::env::{self, Args};
 use std::io::{self, ErrorKind};
 use std::process::ExitCode;
 
@@ -69,17 +72,23 @@ fn in_folder(rt: &HostRuntime, words: &[Text]) -> Result<u8, Memory>
 ///
 /// # Errors
 ///
-/// Those of the host that gives the words, want of memory among them.
+/// Those of the host that gives the words; that memory ran out is among them.
 pub fn program_words(rt: &HostRuntime) -> io::Result<Vec<Text>> {
-    let mut words = Vec::new(rt.alloc());
     match env::args(rt) {
-        Ok(args) => {
-            for word in args.skip(1) {
-                words.push(Text::new(word.into_bytes()))?;
-            }
-            Ok(words)
-        }
-        Err(error) if error.kind() == ErrorKind::InvalidData => Ok(words),
+        Ok(args) => words_of(rt.alloc(), args),
+        Err(error) if error.kind() == ErrorKind::InvalidData => Ok(Vec::new(rt.alloc())),
         Err(error) => Err(error),
     }
+}
+
+/// All of the host's words but the first one, which is the program's name.
+fn words_of(alloc: Global, args: Args) -> io::Result<Vec<Text>>
+    ensures { IfOk result
+        (λ words. words.items ≡ map string_bytes (drop 1 (into_iter_items args))) }
+{
+    let mut words = Vec::new(alloc);
+    for word in args.skip(1) {
+        words.push(Text::new(word.into_bytes()))?;
+    }
+    Ok(words)
 }
