@@ -6,6 +6,8 @@ mod common;
 #[cfg(test)]
 mod files;
 #[cfg(test)]
+mod jobs;
+#[cfg(test)]
 mod regions;
 #[cfg(test)]
 mod runs;

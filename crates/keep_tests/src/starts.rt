@@ -30,7 +30,7 @@ pub(crate) const OTHER_KEY: &[u8] = b"k\nv 6\nsteer 20 wave::factor = \"0\"";
 pub(crate) const VALUES: &[u8] =
     b"\0\0\0\x01\xff\xff\xff\xff\xff\xff\xff\xff\0\0\0\x01\0\0\0\0\0\0\0\x02\0\0\0\0\0\0\0\0\0\0\0\0\0\0\0\x01";
 
-// The last byte is wanting.
+// The last byte is missing.
 pub(crate) const CUT_OFF: &[u8] =
     b"\0\0\0\x01\xff\xff\xff\xff\xff\xff\xff\xff\0\0\0\x01\0\0\0\0\0\0\0\x02\0\0\0\0\0\0\0\0\0\0\0\0\0\0\0";
 

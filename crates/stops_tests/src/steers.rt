@@ -1,0 +1,161 @@
+//! A run whose steer file has changed after it was stopped: from each of its checkpoints up to the change it goes on
+//! with the new lines.
+
+use crate::starts::{Came, push, push_thorn, start};
+use cx_disk::{Disk, FuseDisk, MemoryDisk};
+use cx_run::MemoryShelf;
+use cx_text::{List, Memory};
+use sample_files::{THORN_LIST, waveint};
+use std::alloc::Global;
+use std::test::Fail;
+use test_cases::same;
+
+/// The parameters of the wave, whose factor may be steered anywhere.
+const PARAM: &[u8] = b"restricted:\n\
+    INT factor STEERABLE=ALWAYS { 0:* } 64\n\
+    KEYWORD pattern { \"point\" \"uniform\" \"alternate\" \"random\" } \"point\"\n\
+    INT amount { *:* } 8\n\
+    INT start { 0:* } 0\n\
+    INT seed { 0:* } 0\n\
+    INT edge { *:* } 0\n\
+    BOOLEAN sum { } \"no\"\n";
+
+/// A wave on a ring of six points, with a checkpoint of each of two iterations.
+const WAVE: &[u8] = b"ActiveThorns = \"WaveInt\"\n\
+    Cactus::cctk_itlast = 2\n\
+    driver::global_nx = 6\n\
+    driver::periodic = yes\n\
+    wave::factor = 256\n\
+    wave::start = 2\n\
+    IO::out_vars = \"wave::phi\"\n\
+    IO::checkpoint_every = 1\n\
+    IO::recover = \"autoprobe\"\n\
+    IO::steer_file = \"s.txt\"\n";
+
+/// No speed in iteration 2.
+const LINE: &[u8] = b"@2 wave::factor = 0\n";
+
+/// What the wave writes with this line, and without it.
+const STEERED: &[u8] = b"# wave::phi iteration 0 size 6\n\
+    0 0 8 0 0 0\n\
+    \n\
+    # wave::phi iteration 1 size 6\n\
+    0 8 -8 8 0 0\n\
+    \n\
+    # wave::phi iteration 2 size 6\n\
+    0 16 -24 16 0 0\n\
+    \n";
+
+const UNSTEERED: &[u8] = b"# wave::phi iteration 0 size 6\n\
+    0 0 8 0 0 0\n\
+    \n\
+    # wave::phi iteration 1 size 6\n\
+    0 8 -8 8 0 0\n\
+    \n\
+    # wave::phi iteration 2 size 6\n\
+    8 -8 8 -8 8 0\n\
+    \n";
+
+/// A shelf with the wave's files, and with a steer file of these lines.
+fn shelf(alloc: Global, lines: &[u8]) -> Result<MemoryShelf, Memory> {
+    let mut files = Vec::new(alloc);
+    push(alloc, &mut files, b"wave.par", WAVE)?;
+    push(alloc, &mut files, b"s.txt", lines)?;
+    push(alloc, &mut files, b"ThornList", THORN_LIST)?;
+    let texts = (waveint::INTERFACE, PARAM, waveint::SCHEDULE);
+    push_thorn(alloc, &mut files, b"WaveInt", texts)?;
+    Ok(MemoryShelf::new(List::new(files)))
+}
+
+/// A start of the wave with these lines over a disk.
+fn start_with<D: Disk>(rt: &HostRuntime, lines: &[u8], disk: &mut D) -> Result<Came, Fail> {
+    let mut shelf = shelf(rt.alloc(), lines)?;
+    start(rt, b"wave.par", &mut shelf, disk)
+}
+
+/// The status of a run with these lines that stops after so many calls of the disk, and what it leaves.
+fn stopped(rt: &HostRuntime, lines: &[u8], calls: u64) -> Result<(u8, MemoryDisk), Fail> {
+    let alloc = rt.alloc();
+    let disk = MemoryDisk::new(alloc, List::empty(alloc));
+    let mut fuse = FuseDisk::new(disk, calls);
+    let (status, _, _) = start_with(rt, lines, &mut fuse)?;
+    Ok((status, fuse.into_image(calls)?))
+}
+
+/// The iteration of an open slot, or 0.
+fn iteration_in(slot: &[u8]) -> u8 {
+    if slot.first() == Some(&1) {
+        slot.get(16).copied().unwrap_or(0)
+    } else {
+        0
+    }
+}
+
+/// The lines of the first run and of the next one, what that one writes from a checkpoint before iteration 2, and what
+/// it prints where the newest checkpoint is of iteration 2.
+#[derive(Drop)]
+struct Change {
+    name: &'static str,
+    before: &'static [u8],
+    after: &'static [u8],
+    output: &'static [u8],
+    refused: &'static [u8],
+}
+
+/// Fails unless the next start goes on from a checkpoint of iteration 0 or 1 with its own lines, and refuses that of
+/// iteration 2.
+fn starts(rt: &HostRuntime, change: &Change, calls: u64, mut disk: MemoryDisk) -> Result<u8, Fail> {
+    let newest = iteration_in(disk.bytes(0)).max(iteration_in(disk.bytes(1)));
+    let (status, _, out) = start_with(rt, change.after, &mut disk)?;
+    let case = (change.name, calls);
+    if newest < 2 {
+        let found = (status, out.bytes(), disk.bytes(9));
+        same(&case, &found, &(0, b"done: iteration 2\n", change.output))?;
+    } else {
+        same(&case, &(status, out.bytes()), &(6, change.refused))?;
+    }
+    Ok(newest)
+}
+
+/// More calls than a run makes.
+const MANY_CALLS: u64 = 100;
+
+/// A first run stops after each of its calls, and the next one has other lines. Each of the three checkpoints is met.
+fn change_lines(rt: &HostRuntime, change: &Change) -> Result<(), Fail> {
+    let mut met = [false, false, false];
+    for calls in 0..MANY_CALLS {
+        let (status, disk) = stopped(rt, change.before, calls)?;
+        let newest = starts(rt, change, calls, disk)?;
+        if let Some(it) = met.get_mut(newest as usize) {
+            *it = true;
+        }
+        if status == 0 {
+            break;
+        }
+    }
+    same(&change.name, &met, &[true, true, true])
+}
+
+#[test]
+fn line_that_comes_in(rt: HostRuntime) -> Result<(), Fail> {
+    let change = Change {
+        name: "a line comes in",
+        before: b"",
+        after: LINE,
+        output: STEERED,
+        refused: b"recovery: OtherJob\n\nsteer 2 wave::factor = \"0\"\n",
+    };
+    change_lines(&rt, &change)
+}
+
+#[test]
+fn line_that_is_taken_out(rt: HostRuntime) -> Result<(), Fail> {
+    let change = Change {
+        name: "a line is taken out",
+        before: LINE,
+        after: b"",
+        output: UNSTEERED,
+        refused: b"recovery: OtherJob\nsteer 2 wave::factor = \"0\"\n\n",
+    };
+    change_lines(&rt, &change)
+}
