@@ -104,6 +104,15 @@ def measure_steers(bench):
               f"{read / 1e6:.2f} million")
 
 
+def measure_parts(bench):
+    """The same in one part and in 16, each of which has as many points as the grids above."""
+    for name in ("Life", "gas without its sums", "heat in flux form, without its sum"):
+        *_, thorn, settings, points = rule_on(name, 16 * POINTS)
+        for parts, cut in ((1, {}), (16, {"driver::parts_x": 4, "driver::parts_y": 4})):
+            counts = of_iterations(bench, thorn, {**settings, **cut}, MORE // 5)
+            show(f"instructions a point and iteration of {name}, {points} points in {parts}", counts, points, 0.5)
+
+
 def measure_instructions(bench):
-    for measure in (measure_iterations, measure_text, measure_start, measure_steers):
+    for measure in (measure_iterations, measure_parts, measure_text, measure_start, measure_steers):
         measure(bench)
