@@ -13,6 +13,7 @@ use cx_region::{RegionFault, check};
 use cx_text::{Boxed, CType, List, Memory, Text};
 use std::alloc::Global;
 use std::test::Fail;
+use test_cases::same;
 
 const WAVE: VarId = VarId(0);
 
@@ -256,8 +257,7 @@ fn a_wave_that_is_exchanged_is_sound(rt: HostRuntime) -> Result<(), Fail> {
     let between = sync(alloc)?;
     let evol = step(alloc, between)?;
     let sound = is_sound(alloc, first, evol)?;
-    assert!(rt; sound, "an exchanged wave");
-    Ok(())
+    same(&"an exchanged wave", &sound, &true)
 }
 
 #[test]
@@ -267,8 +267,7 @@ fn a_wave_without_exchange_is_not(rt: HostRuntime) -> Result<(), Fail> {
     let between = nothing(alloc);
     let evol = step(alloc, between)?;
     let sound = is_sound(alloc, first, evol)?;
-    assert!(rt; !sound, "no exchange");
-    Ok(())
+    same(&"no exchange", &sound, &false)
 }
 
 #[test]
@@ -278,8 +277,7 @@ fn whiles_in_one_another_take_no_time(rt: HostRuntime) -> Result<(), Fail> {
     let turns = nested(alloc, 30, Tree::Call(2))?;
     let evol = both(alloc, turns, Tree::Call(1))?;
     let sound = is_sound(alloc, first, evol)?;
-    assert!(rt; sound, "thirty WHILEs, one in another");
-    Ok(())
+    same(&"thirty WHILEs, one in another", &sound, &true)
 }
 
 /// Whether this need is shown, on a way of these letters.
@@ -316,8 +314,7 @@ fn output_without_the_only_writer_is_shown(rt: HostRuntime) -> Result<(), Fail> 
     let between = sync(alloc)?;
     let evol = step(alloc, between)?;
     let shown = is_shown(alloc, first, evol, b"n", 0, Flag::I)?;
-    assert!(rt; shown, "n, level 0, I");
-    Ok(())
+    same(&"n, level 0, I", &shown, &true)
 }
 
 #[test]
@@ -326,8 +323,7 @@ fn a_missing_exchange_is_shown_in_the_second_iteration(rt: HostRuntime) -> Resul
     let first = initial(alloc, Tree::Call(1))?;
     let evol = both(alloc, Tree::Call(2), Tree::Call(4))?;
     let shown = is_shown(alloc, first, evol, b"ii", 1, Flag::G)?;
-    assert!(rt; shown, "ii, level 1, G");
-    Ok(())
+    same(&"ii, level 1, G", &shown, &true)
 }
 
 #[test]
@@ -337,6 +333,5 @@ fn a_turn_that_clears_the_boundary_is_shown(rt: HostRuntime) -> Result<(), Fail>
     let turns = nested(alloc, 3, Tree::Call(2))?;
     let evol = both(alloc, Tree::Call(1), turns)?;
     let shown = is_shown(alloc, first, evol, b"iwwwxxx", 0, Flag::B)?;
-    assert!(rt; shown, "iwwwxxx, level 0, B");
-    Ok(())
+    same(&"iwwwxxx, level 0, B", &shown, &true)
 }

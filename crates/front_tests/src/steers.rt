@@ -7,6 +7,7 @@ use cx_text::{List, Style, tokens};
 use cx_values::{SteerStep, ValueFault, assign, steer};
 use std::alloc::Global;
 use std::test::Fail;
+use test_cases::same;
 
 const WAVE: Files = (
     b"WaveInt",
@@ -114,15 +115,15 @@ fn lines_give_steps_or_have_their_first_fault(rt: HostRuntime) -> Result<(), Fai
     let alloc = rt.alloc();
     for (file, lines, want, line) in FAULTS {
         let fault = fault_of(&steered(alloc, file, lines)?);
-        assert_eq!(rt; fault, (*want, *line), "{lines:?} with {file:?}");
+        same(&(lines, file), &fault, &(*want, *line))?;
     }
     let steps = steered(alloc, PLAIN, LINES)??;
-    assert_eq!(rt; steps.len(), STEPS.len(), "how many steps");
+    same(&"how many steps", &steps.len(), &STEPS.len())?;
     for (step, want) in steps.as_slice().iter().zip(STEPS) {
         let found = (step.at, step.param, step.index);
-        assert_eq!(rt; found, (want.0, want.1, want.2), "{want:?}");
+        same(&want, &found, &(want.0, want.1, want.2))?;
         let value = words(alloc, &step.value)?;
-        assert_eq!(rt; value.as_slice(), want.3.as_bytes(), "{want:?}");
+        same(&want, &value.as_slice(), &want.3.as_bytes())?;
     }
     Ok(())
 }

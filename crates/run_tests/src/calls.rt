@@ -16,6 +16,7 @@ use sample_files::{FILES, File};
 use std::alloc::Global;
 use std::fs;
 use std::test::Fail;
+use test_cases::same;
 
 const PARAMETER_FILES: &[File] = &[
     File {
@@ -480,7 +481,7 @@ fn answers(rt: HostRuntime) -> Result<(), Fail> {
         let came = answer_to(&rt, asked.words, &mut shelf)?;
         let found = (came.status, came.printed.as_slice());
         let want = (asked.status, asked.printed.as_bytes());
-        assert_eq!(rt; found, want, "{:?}", asked.words);
+        same(&asked.words, &found, &want)?;
     }
     Ok(())
 }
@@ -494,8 +495,7 @@ fn description_of_eight_points(rt: HostRuntime) -> Result<(), Fail> {
     expected.push_slice(STARRED_AND_CUT)?;
     let came = answer_to(&rt, &["describe", "ca.par"], &mut shelf)?;
     let found = (came.status, came.printed.as_slice());
-    assert_eq!(rt; found, (0, expected.as_slice()), "describe ca.par");
-    Ok(())
+    same(&"describe ca.par", &found, &(0, expected.as_slice()))
 }
 
 /// Examples, the schedules that are printed of them, and the first lines of their descriptions.
@@ -525,10 +525,10 @@ fn sample_thorns_are_shown(rt: HostRuntime) -> Result<(), Fail> {
     for (file, schedule, thorns) in SHOWN {
         let came = answer_to(&rt, &["schedule", file], &mut shelf)?;
         let found = (came.status, came.printed.as_slice());
-        assert_eq!(rt; found, (0, schedule.as_bytes()), "schedule {file}");
+        same(&("schedule", file), &found, &(0, schedule.as_bytes()))?;
         let came = answer_to(&rt, &["describe", file], &mut shelf)?;
         let found = (came.status, came.printed.starts_with(thorns.as_bytes()));
-        assert_eq!(rt; found, (0, true), "describe {file}");
+        same(&("describe", file), &found, &(0, true))?;
     }
     Ok(())
 }
@@ -538,7 +538,7 @@ fn grids_that_are_cut(rt: HostRuntime) -> Result<(), Fail> {
     for cut in CUTS {
         let mut shelf = shelf_with(rt.alloc(), cut.file, "", cut.others)?;
         let came = answer_to(&rt, &[cut.word, "t.par"], &mut shelf)?;
-        assert_eq!(rt; came.printed.as_slice(), cut.printed, "{}", cut.name);
+        same(&cut.name, &came.printed.as_slice(), &cut.printed)?;
     }
     Ok(())
 }
@@ -554,12 +554,12 @@ fn faults_of_plain_and_sample_thorns(rt: HostRuntime) -> Result<(), Fail> {
     for fault in FAULTS {
         let printed = checked(&rt, fault.files, PLAIN)?;
         let want = fault.printed;
-        assert_eq!(rt; printed.as_slice(), want.as_bytes(), "{want}");
+        same(&want, &printed.as_slice(), &want.as_bytes())?;
     }
     for fault in SAMPLE_FAULTS {
         let printed = checked(&rt, fault.files, FILES)?;
         let want = fault.printed;
-        assert_eq!(rt; printed.as_slice(), want.as_bytes(), "{want}");
+        same(&want, &printed.as_slice(), &want.as_bytes())?;
     }
     Ok(())
 }
@@ -583,7 +583,7 @@ fn sample_thorns_on_many_grids(rt: HostRuntime) -> Result<(), Fail> {
             let mut shelf = shelf_with(alloc, line.as_slice(), grid, &[])?;
             let came = answer_to(&rt, &["check", "t.par"], &mut shelf)?;
             let found = (came.status, came.printed.as_slice());
-            assert_eq!(rt; found, (0, ACCEPTED), "{thorn} with {grid:?}");
+            same(&(thorn, grid), &found, &(0, ACCEPTED))?;
         }
     }
     Ok(())
@@ -595,15 +595,17 @@ fn runs_of_jobs(rt: HostRuntime) -> Result<(), Fail> {
     for run in RUNS {
         let mut shelf = shelf_with(alloc, run.file, run.more, run.others)?;
         let came = answer_to(&rt, &["run", "t.par"], &mut shelf)?;
-        let found = (came.status, came.printed.as_slice());
-        assert_eq!(rt; found, (run.status, run.printed), "{}", run.name);
-        let found = (came.first.as_slice(), came.second.as_slice());
-        assert_eq!(rt; found, (run.first, run.second), "{}", run.name);
+        let outputs = (came.first.as_slice(), came.second.as_slice());
+        let found = (came.status, came.printed.as_slice(), outputs, came.points);
         let points = run.points.unwrap_or(came.points);
-        assert_eq!(rt; came.points, points, "points of {}", run.name);
+        let want = (run.status, run.printed, (run.first, run.second), points);
+        same(&run.name, &found, &want)?;
     }
-    assert_eq!(rt; CA_OUTPUT.len(), 141, "the bytes of the automaton's output");
-    Ok(())
+    same(
+        &"the bytes of the automaton's output",
+        &CA_OUTPUT.len(),
+        &141,
+    )
 }
 
 #[test]
@@ -615,8 +617,7 @@ fn file_that_is_too_long(rt: HostRuntime) -> Result<(), Fail> {
     let came = answer_to(&rt, &["run", "long.par"], &mut shelf)?;
     let found = (came.status, came.printed.as_slice());
     let want = b"refused: long.par TooLong\n".as_slice();
-    assert_eq!(rt; found, (2, want), "1,048,577 bytes");
-    Ok(())
+    same(&"1,048,577 bytes", &found, &(2, want))
 }
 
 #[test]
@@ -626,8 +627,11 @@ fn files_of_the_current_folder(rt: HostRuntime) -> Result<(), Fail> {
     let mut shelf = FolderShelf::new(rt.clone()?);
     let found = shelf.read(alloc, &Text::from_slice(alloc, b"ca.par")?);
     let is_found = matches!(&found, Ok(Some(bytes)) if bytes.as_slice() == b"bytes".as_slice());
-    assert!(rt; is_found, "a file that is there");
+    same(&"a file that is there", &is_found, &true)?;
     let missing = shelf.read(alloc, &Text::from_slice(alloc, b"b.par")?);
-    assert!(rt; matches!(&missing, Ok(None)), "a file that is missing");
-    Ok(())
+    same(
+        &"a file that is missing",
+        &matches!(&missing, Ok(None)),
+        &true,
+    )
 }

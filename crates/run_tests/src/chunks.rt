@@ -8,6 +8,7 @@ use cx_run::MemoryShelf;
 use cx_text::{List, Memory, Text};
 use std::alloc::Global;
 use std::test::Fail;
+use test_cases::same;
 
 const RUN: &[&str] = &["run", "t.par"];
 
@@ -86,10 +87,13 @@ fn chunks_of_a_run(rt: HostRuntime) -> Result<(), Fail> {
         let came = answer_on(&rt, &[step.word, "t.par"], &mut shelf, &mut disk)?;
         let found = (came.status, came.printed.as_slice());
         let want = (step.status, step.printed.as_bytes());
-        assert_eq!(rt; found, want, "{} {}", step.word, step.more);
+        same(&(step.word, step.more), &found, &want)?;
     }
-    assert_eq!(rt; disk.bytes(WHOLE), disk.bytes(FIRST_OUTPUT));
-    Ok(())
+    same(
+        &"put together again",
+        &disk.bytes(WHOLE),
+        &disk.bytes(FIRST_OUTPUT),
+    )
 }
 
 /// The status of a run, and the disk that it leaves.
@@ -133,7 +137,7 @@ fn chunks_of_sample_thorns(rt: HostRuntime) -> Result<(), Fail> {
     for thorn in THORN_JOBS {
         for cut in thorn.cuts {
             let found = comes_together(&rt, thorn, cut)?;
-            assert!(rt; found, "{} {cut:?}", thorn.name);
+            same(&(thorn.name, cut), &found, &true)?;
         }
     }
     Ok(())
@@ -220,7 +224,7 @@ fn faults_of_chunks(rt: HostRuntime) -> Result<(), Fail> {
         let came = answer_on(&rt, &[fault.word, "t.par"], &mut shelf, &mut disk)?;
         let found = (came.status, came.printed.as_slice());
         let want = (7, fault.printed.as_bytes());
-        assert_eq!(rt; found, want, "{}", fault.printed);
+        same(&fault.printed, &found, &want)?;
     }
     Ok(())
 }

@@ -15,6 +15,7 @@ use cx_turns::SeededTurns;
 use sample_files::File;
 use std::alloc::Global;
 use std::test::Fail;
+use test_cases::same;
 
 /// A job, with how many calls of the disk, the wire and the shelf its run from nothing makes; the sink is called once.
 struct Job {
@@ -283,13 +284,13 @@ fn devices_that_fail_once(rt: HostRuntime) -> Result<(), Fail> {
     for device in DEVICES {
         for job in JOBS {
             let wrong = wrong_call(&rt, *device, job)?;
-            assert_eq!(rt; wrong, None, "{device:?}, {}", job.name);
+            same(&(device, job.name), &wrong, &None)?;
         }
     }
     for device in [Device::Disk, Device::Wire, Device::Shelf] {
         let came = device_fails(&rt, device, BOX_JOB, calls_of(device, BOX_JOB))?;
         let is_whole = is_whole(&came, said(device), BOX_JOB);
-        assert!(rt; is_whole, "{device:?}, the box");
+        same(&(device, "the box"), &is_whole, &true)?;
     }
     Ok(())
 }
@@ -301,6 +302,5 @@ fn shelf_that_is_given_back(rt: HostRuntime) -> Result<(), Fail> {
     let files = shelf_with(alloc, CA, EACH, &[])?;
     let mut within = failing_shelf(alloc, files, 0)?.into_inner();
     let came = answer_to(&rt, &["run", "t.par"], &mut within)?;
-    assert_eq!(rt; came.status, 0, "the shelf within");
-    Ok(())
+    same(&"the shelf within", &came.status, &0)
 }

@@ -12,6 +12,7 @@ use cx_thorn_ca::{CaCount, CaInit, CaStep, CaZero};
 use cx_thorn_pde::{ControlSet, ControlSpin, WaveFlat, WaveInit, WaveStep};
 use std::alloc::Global;
 use std::test::Fail;
+use test_cases::same;
 
 /// A parameter file, and the operations of its run, one after another.
 struct Flat {
@@ -119,7 +120,7 @@ fn schedules_are_flattened(rt: HostRuntime) -> Result<(), Fail> {
     for flat in FLATS {
         let ops = operations(alloc, flat.file)?;
         let words = words(alloc, ops.as_slice())?;
-        assert_eq!(rt; words.as_str(), flat.operations, "{}", flat.name);
+        same(&flat.name, &words.as_str(), &flat.operations)?;
     }
     Ok(())
 }

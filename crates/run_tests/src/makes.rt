@@ -5,6 +5,7 @@ use crate::devices::{failing_disk, failing_shelf};
 use cx_run::MemoryShelf;
 use cx_text::List;
 use std::test::Fail;
+use test_cases::same;
 
 /// Words, what is printed, and how long the output is, and for some its text. How many cells live is what a model of the game gives
 /// that was written apart.
@@ -75,9 +76,9 @@ fn runs_that_are_made(rt: HostRuntime) -> Result<(), Fail> {
         let came = answer_to(&rt, made.words, &mut shelf)?;
         let found = (came.status, came.printed.as_slice(), came.first.len());
         let want = (0, made.printed.as_bytes(), made.length);
-        assert_eq!(rt; found, want, "{:?}", made.words);
+        same(&made.words, &found, &want)?;
         let output = made.output.unwrap_or(came.first.as_slice());
-        assert_eq!(rt; came.first.as_slice(), output, "{:?}", made.words);
+        same(&made.words, &came.first.as_slice(), &output)?;
     }
     Ok(())
 }
@@ -92,10 +93,9 @@ fn devices_of_a_run_that_is_made(rt: HostRuntime) -> Result<(), Fail> {
     let first = answer_over(&rt, words, &mut shelf, &mut disk)?;
     let found = (first.status, first.printed.as_slice());
     let want = b"device: disk\n".as_slice();
-    assert_eq!(rt; found, (4, want), "the disk fails");
+    same(&"the disk fails", &found, &(4, want))?;
     let second = answer_over(&rt, words, &mut shelf, &mut disk)?;
     let found = (second.status, second.printed.as_slice());
     let want = b"done: iteration 20\nmade 7 8 points 64 parts 16 output 327 live 28\n".as_slice();
-    assert_eq!(rt; found, (0, want), "the next call");
-    Ok(())
+    same(&"the next call", &found, &(0, want))
 }

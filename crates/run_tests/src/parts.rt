@@ -6,6 +6,7 @@ use crate::samples::CA;
 use cx_run::MemoryShelf;
 use sample_files::File;
 use std::test::Fail;
+use test_cases::same;
 
 /// How a run is cut and how far its parts may lead; how many points are computed, how many values are exchanged, and their sum.
 struct Work {
@@ -231,10 +232,10 @@ fn work_of_the_automaton(rt: HostRuntime) -> Result<(), Fail> {
     for work in WORKS {
         let mut shelf = shelf_with(rt.alloc(), CA, work.more, &[])?;
         let came = answer_to(&rt, &["run", "t.par"], &mut shelf)?;
-        assert_eq!(rt; came.first.as_slice(), CA_OUTPUT, "{:?}", work.more);
+        same(&work.more, &came.first.as_slice(), &CA_OUTPUT)?;
         let found = (came.points, came.received, came.sum);
         let want = (work.points, work.received, work.sum);
-        assert_eq!(rt; found, want, "{:?}", work.more);
+        same(&work.more, &found, &want)?;
     }
     Ok(())
 }
@@ -265,13 +266,13 @@ fn sample_thorns_in_parts(rt: HostRuntime) -> Result<(), Fail> {
     for thorn in THORN_JOBS {
         let name = thorn.name;
         let one = whole_run(&rt, thorn)?;
-        assert_eq!(rt; one.status, 0, "{name} in one part");
+        same(&(name, "in one part"), &one.status, &0)?;
         for cut in thorn.cuts {
             let runs = runs_by_seeds(&rt, thorn.file, cut, thorn.others)?;
             for (k, came) in runs.iter().enumerate() {
                 let found = (came.status, came.first.as_slice(), came.second.as_slice());
                 let want = (0, one.first.as_slice(), one.second.as_slice());
-                assert_eq!(rt; found, want, "{name} {cut:?}, turns {k}");
+                same(&(name, cut, "turns", k), &found, &want)?;
             }
         }
     }
@@ -285,7 +286,7 @@ fn overflow_wherever_other_parts_stand(rt: HostRuntime) -> Result<(), Fail> {
         let runs = runs_by_seeds(&rt, LEAVES, lead, SHORT_FIELD)?;
         for (k, came) in runs.iter().enumerate() {
             let found = (came.status, came.printed.as_slice(), came.first.as_slice());
-            assert_eq!(rt; found, (3, ended, LEFT), "{lead:?}, turns {k}");
+            same(&(lead, "turns", k), &found, &(3, ended, LEFT))?;
         }
     }
     Ok(())

@@ -3,6 +3,7 @@
 use crate::calls::{answer_to, shelf_with};
 use sample_files::File;
 use std::test::Fail;
+use test_cases::same;
 
 /// The files of the thorns that conserve, byte for byte as examples/physics has them.
 const PHYSICS: &[File] = &[
@@ -314,9 +315,9 @@ fn heat_and_gas(rt: HostRuntime) -> Result<(), Fail> {
         let mut shelf = shelf_with(rt.alloc(), case.file, case.more, PHYSICS)?;
         let came = answer_to(&rt, &["run", "t.par"], &mut shelf)?;
         let found = (came.status, came.printed.as_slice());
-        assert_eq!(rt; found, (0, case.printed), "{}", case.name);
+        same(&case.name, &found, &(0, case.printed))?;
         let found = (came.first.as_slice(), came.second.as_slice());
-        assert_eq!(rt; found, (case.first, case.second), "{}", case.name);
+        same(&case.name, &found, &(case.first, case.second))?;
     }
     Ok(())
 }

@@ -6,6 +6,7 @@ use cx_disk::{FuseDisk, MemoryDisk};
 use cx_text::List;
 use sample_files::File;
 use std::test::Fail;
+use test_cases::same;
 
 /// The parameters of the wave: its factor may be steered anywhere, and its edge after a checkpoint.
 const PARAM: File = File {
@@ -132,9 +133,9 @@ fn waves_that_are_steered(rt: HostRuntime) -> Result<(), Fail> {
         for (k, came) in runs.iter().enumerate() {
             let found = (came.status, came.printed.as_slice());
             let want = (case.status, case.printed);
-            assert_eq!(rt; found, want, "{lines:?} {more:?}, turns {k}");
+            same(&(lines, more, "turns", k), &found, &want)?;
             let values = came.first.ends_with(case.values);
-            assert!(rt; values, "values of {lines:?} {more:?}, turns {k}");
+            same(&("values of", lines, more, "turns", k), &values, &true)?;
         }
     }
     Ok(())
@@ -195,15 +196,11 @@ fn steer_files_that_change_after_a_stop(rt: HostRuntime) -> Result<(), Fail> {
             let came = resumed(&rt, &mut disk, b"@1 wave::factor = 0\n")?;
             let found = (came.status, came.printed.as_slice());
             let want = b"recovery: OtherJob\n\nsteer 1 wave::factor = \"0\"\n".as_slice();
-            assert_eq!(rt;
-                found,
-                (6, want),
-                "a line of iteration 1 after {calls} calls"
-            );
+            same(&("a line of iteration 1", calls), &found, &(6, want))?;
         }
         let came = resumed(&rt, &mut disk, FACTOR_FROM_2)?;
         let found = (came.status, came.printed.as_slice(), came.points);
-        assert_eq!(rt; found, changed(newest), "stopped after {calls} calls");
+        same(&("stopped", calls), &found, &changed(newest))?;
     }
     Ok(())
 }

@@ -12,6 +12,7 @@ use cx_text::{List, Text};
 use sample_files::File;
 use std::alloc::Global;
 use std::test::Fail;
+use test_cases::same;
 
 /// Waves in a box of forty points, with two checkpoints.
 pub(crate) const BOX_FILE: &[u8] = b"!DESC \"Waves in a box of forty points\"\n\
@@ -157,20 +158,29 @@ const BOX_SLOTS: &[(usize, &[u8])] = &[
 fn box_with_checkpoints(rt: HostRuntime) -> Result<(), Fail> {
     let mut disk = empty_disk(rt.alloc());
     let came = run_on(&rt, BOX_FILE, "", BOX_THORNS, &mut disk)?;
-    let found = (came.status, came.printed.as_slice());
-    let want = (0, b"done: iteration 40\n".as_slice());
-    assert_eq!(rt; found, want, "the run");
-    let found = (came.first.as_slice(), came.second.as_slice());
-    assert_eq!(rt; found, (BOX_FIELDS, BOX_SUMS), "both outputs");
-    let found = (came.first.len(), came.second.len());
-    assert_eq!(rt; found, (341, 110), "bytes");
-    let found = (came.points, came.received);
-    assert_eq!(rt; found, (4944, 480), "points and values");
+    let outputs = (came.first.as_slice(), came.second.as_slice());
+    let found = (came.status, came.printed.as_slice(), outputs);
+    let want = (
+        0,
+        b"done: iteration 40\n".as_slice(),
+        (BOX_FIELDS, BOX_SUMS),
+    );
+    same(&"the run", &found, &want)?;
+    let lengths = (came.first.len(), came.second.len());
+    let found = (came.points, came.received, lengths);
+    same(
+        &"points, values and bytes",
+        &found,
+        &(4944, 480, (341, 110)),
+    )?;
     for (slot, front) in BOX_SLOTS {
-        assert!(rt; disk.bytes(*slot).starts_with(front), "slot {slot}");
+        same(
+            &("slot", slot),
+            &disk.bytes(*slot).starts_with(front),
+            &true,
+        )?;
     }
-    assert_eq!(rt; disk.bytes(2).len(), 0, "slot 2");
-    Ok(())
+    same(&"slot 2", &disk.bytes(2).len(), &0)
 }
 
 /// How a run starts on a disk that the box has left, of which one file is cut, or on an empty one.
@@ -245,11 +255,15 @@ fn starts_from_the_box(rt: HostRuntime) -> Result<(), Fail> {
         let length = left.bytes(file).len();
         let mut disk = cut_disk(alloc, &left, file, length.saturating_sub(less))?;
         let came = run_on(&rt, BOX_REST, start.more, &[], &mut disk)?;
-        let found = (came.status, came.printed.as_slice());
-        assert_eq!(rt; found, (start.status, start.printed), "{}", start.name);
-        let found = (came.first.as_slice(), came.second.as_slice());
-        assert_eq!(rt; found, (start.first, BOX_SUMS), "{}", start.name);
-        assert_eq!(rt; came.points, start.points, "points: {}", start.name);
+        let outputs = (came.first.as_slice(), came.second.as_slice());
+        let found = (came.status, came.printed.as_slice(), outputs, came.points);
+        let want = (
+            start.status,
+            start.printed,
+            (start.first, BOX_SUMS),
+            start.points,
+        );
+        same(&start.name, &found, &want)?;
     }
     Ok(())
 }
@@ -261,12 +275,11 @@ fn start_from_nothing(rt: HostRuntime) -> Result<(), Fail> {
     let refused = answer_to(&rt, RUN, &mut shelf)?;
     let found = (refused.status, refused.printed.as_slice(), refused.points);
     let want = b"recovery: NoCheckpoint\n".as_slice();
-    assert_eq!(rt; found, (6, want, 0), "auto");
+    same(&"auto", &found, &(6, want, 0))?;
     let mut shelf = shelf_with(alloc, CA, "IO::recover = \"autoprobe\"\n", &[])?;
     let came = answer_to(&rt, RUN, &mut shelf)?;
     let found = (came.status, came.first.as_slice());
-    assert_eq!(rt; found, (0, CA_OUTPUT), "autoprobe");
-    Ok(())
+    same(&"autoprobe", &found, &(0, CA_OUTPUT))
 }
 
 /// The box in three parts and in four, at leads 0 and 3.
@@ -311,9 +324,9 @@ fn box_that_stops_twice(rt: HostRuntime) -> Result<(), Fail> {
             let came = third_run(&rt, three, four, *stop)?;
             let found = (came.status, came.first.as_slice(), came.second.as_slice());
             let want = (0, BOX_FIELDS, BOX_SUMS);
-            assert_eq!(rt; found, want, "{four:?} after {stop:?}");
+            same(&(four, stop), &found, &want)?;
             let found = (came.points, came.received);
-            assert_eq!(rt; found, (2400, 360), "{four:?} after {stop:?}");
+            same(&(four, stop), &found, &(2400, 360))?;
         }
     }
     Ok(())
@@ -381,93 +394,7 @@ fn files_that_are_too_long(rt: HostRuntime) -> Result<(), Fail> {
         let mut disk = LongDisk::new(alloc, slot, 300_000_000);
         let came = answer_over(&rt, &[word, "t.par"], &mut shelf, &mut disk)?;
         let found = (came.status, came.printed.as_slice(), came.points);
-        assert_eq!(rt; found, (*status, *printed, 0), "{word}");
-    }
-    Ok(())
-}
-
-/// Whether a run of the box has come to its end from the checkpoint of iteration 40, with both outputs, and the former one is there.
-fn is_split(came: &Outcome, disk: &MemoryDisk) -> bool {
-    came.status == 0
-        && came.points == 0
-        && came.printed.as_slice() == b"done: iteration 40\n".as_slice()
-        && came.first.as_slice() == BOX_FIELDS
-        && came.second.as_slice() == BOX_SUMS
-        && disk.bytes(OLD_OUTPUT as usize) == BOX_FORMER
-}
-
-/// Whether a run is whole that goes on from this disk.
-fn goes_on_whole(rt: &HostRuntime, mut disk: MemoryDisk) -> Result<bool, Fail> {
-    let came = run_on(rt, BOX_FILE, "", BOX_THORNS, &mut disk)?;
-    Ok(is_split(&came, &disk))
-}
-
-/// The status of a run of the box that stops behind so many calls of a copy of a disk, and the image of that choice.
-fn box_stopped(rt: &HostRuntime, left: &MemoryDisk, calls: u64) -> Result<(u8, MemoryDisk), Fail> {
-    let alloc = rt.alloc();
-    let mut shelf = shelf_with(alloc, BOX_FILE, "", BOX_THORNS)?;
-    let mut fuse = FuseDisk::new(same_disk(alloc, left)?, calls);
-    let came = answer_over(rt, RUN, &mut shelf, &mut fuse)?;
-    Ok((came.status, fuse.into_image(calls)?))
-}
-
-/// How many calls a run makes on the files of a disk, where runs that stop at each of them are followed by a whole one.
-fn box_calls_from(rt: &HostRuntime, left: &MemoryDisk) -> Result<Option<u64>, Fail> {
-    for calls in 0..MANY_CALLS {
-        let (stopped, disk) = box_stopped(rt, left, calls)?;
-        if !goes_on_whole(rt, disk)? {
-            return Ok(None);
-        }
-        match stopped {
-            0 => return Ok(Some(calls)),
-            4 => {}
-            _ => return Ok(None),
-        }
-    }
-    Ok(None)
-}
-
-/// How many calls a run of the box makes from what a former version left, with slots of that version alone, and where the older slot is of
-/// today's version: the mount, 14 looks at slots, 2 at the newest, 2 at the old output, 8 syncs of slots, 14 looks at what is to be closed,
-/// for an open slot of today's version a write and a sync, three calls for each output, two pieces, and the outputs' syncs.
-const FORMER_CALLS: &[(bool, u64)] = &[(false, 51), (true, 53)];
-
-#[test]
-fn start_from_a_former_version(rt: HostRuntime) -> Result<(), Fail> {
-    for (older_is_new, calls) in FORMER_CALLS {
-        let disk = former_disk(&rt, *older_is_new)?;
-        let found = box_calls_from(&rt, &disk)?;
-        assert_eq!(rt; found, Some(*calls), "calls, {older_is_new}");
-        let whole = goes_on_whole(&rt, disk)?;
-        assert!(rt; whole, "without a stop, {older_is_new}");
-    }
-    Ok(())
-}
-
-/// Whether runs on the files of a disk that stop at each fifth of their calls, from one of the first on, are each followed by a whole one.
-fn fifths_are_whole(rt: &HostRuntime, left: &MemoryDisk, first: u64) -> Result<bool, Fail> {
-    for k in 0..MANY_CALLS / 5 {
-        let (stopped, disk) = box_stopped(rt, left, first.saturating_add(5 * k))?;
-        if !goes_on_whole(rt, disk)? {
-            return Ok(false);
-        }
-        if stopped != 4 {
-            return Ok(stopped == 0);
-        }
-    }
-    Ok(false)
-}
-
-/// A first run stops at each call, and a second one at each fifth of its own, from another one each time; the third one is whole.
-#[test]
-fn start_from_a_former_version_that_stops_twice(rt: HostRuntime) -> Result<(), Fail> {
-    for (older_is_new, calls) in FORMER_CALLS {
-        let disk = former_disk(&rt, *older_is_new)?;
-        for stop in 0..*calls {
-            let (status, left) = box_stopped(&rt, &disk, stop)?;
-            let found = (status, fifths_are_whole(&rt, &left, stop % 5)?);
-            assert_eq!(rt; found, (4, true), "after {stop} calls, {older_is_new}");
-        }
+        same(&word, &found, &(*status, *printed, 0))?;
     }
     Ok(())
 }
@@ -535,8 +462,7 @@ fn stopped_twice(rt: &HostRuntime, calls: u64) -> Result<(u8, Option<u64>), Fail
 #[test]
 fn automaton_that_stops_once(rt: HostRuntime) -> Result<(), Fail> {
     let calls = calls_from(&rt, &empty_disk(rt.alloc()))?;
-    assert_eq!(rt; calls, Some(AUTOMATON_CALLS), "calls of the disk");
-    Ok(())
+    same(&"calls of the disk", &calls, &Some(AUTOMATON_CALLS))
 }
 
 /// The status of a run that stops after so many calls, and whether one that follows can stop anywhere.
@@ -550,7 +476,7 @@ fn stopped_anywhere(rt: &HostRuntime, calls: u64) -> Result<(u8, bool), Fail> {
 fn automaton_that_stops_at_its_start_and_again(rt: HostRuntime) -> Result<(), Fail> {
     for calls in 0..21 {
         let found = stopped_anywhere(&rt, calls)?;
-        assert_eq!(rt; found, (4, true), "after {calls} calls");
+        same(&("stopped", calls), &found, &(4, true))?;
     }
     Ok(())
 }
@@ -560,7 +486,7 @@ fn automaton_that_stops_at_its_start_and_again(rt: HostRuntime) -> Result<(), Fa
 fn automaton_that_stops_at_its_first_checkpoint_and_again(rt: HostRuntime) -> Result<(), Fail> {
     for calls in 21..33 {
         let found = stopped_anywhere(&rt, calls)?;
-        assert_eq!(rt; found, (4, true), "after {calls} calls");
+        same(&("stopped", calls), &found, &(4, true))?;
     }
     Ok(())
 }
@@ -570,11 +496,10 @@ fn automaton_that_stops_at_its_first_checkpoint_and_again(rt: HostRuntime) -> Re
 fn automaton_that_stops_at_its_second_checkpoint_and_again(rt: HostRuntime) -> Result<(), Fail> {
     for calls in 33..AUTOMATON_CALLS {
         let found = stopped_anywhere(&rt, calls)?;
-        assert_eq!(rt; found, (4, true), "after {calls} calls");
+        same(&("stopped", calls), &found, &(4, true))?;
     }
     let found = stopped_anywhere(&rt, AUTOMATON_CALLS)?;
-    assert_eq!(rt; found, (0, true), "after all its calls");
-    Ok(())
+    same(&"after all its calls", &found, &(0, true))
 }
 
 /// Numbers that leave 16 bits in iteration 7, with a checkpoint in each third iteration.
@@ -594,7 +519,7 @@ fn overflow_twice(rt: HostRuntime) -> Result<(), Fail> {
     let mut disk = empty_disk(rt.alloc());
     let first = run_on(&rt, LEAVES, "", SHORT_FIELD, &mut disk)?;
     let found = (first.status, first.first.as_slice());
-    assert_eq!(rt; found, (3, LEFT), "the first run");
+    same(&"the first run", &found, &(3, LEFT))?;
     let second = run_on(&rt, LEAVES, "", SHORT_FIELD, &mut disk)?;
     let found = (
         second.status,
@@ -602,9 +527,8 @@ fn overflow_twice(rt: HostRuntime) -> Result<(), Fail> {
         second.first.as_slice(),
     );
     let ended = b"ended: Overflow 7 EVOL/diff_step\n".as_slice();
-    assert_eq!(rt; found, (3, ended, LEFT), "the second run");
-    assert!(rt; second.points <= 16, "points of the second run");
-    Ok(())
+    same(&"the second run", &found, &(3, ended, LEFT))?;
+    same(&"points of the second run", &(second.points <= 16), &true)
 }
 
 /// What stands in a slot behind the key of the automaton's checkpoint of iteration 2: one output with its name and
@@ -626,13 +550,16 @@ fn checkpoint_of_the_automaton(rt: HostRuntime) -> Result<(), Fail> {
     let described = answer_to(&rt, &["describe", "t.par"], &mut shelf)?;
     let slot = disk.bytes(0);
     let front = b"\x01CXCHKPT\x02\0\0\0\0\0\0\0\x02\0\0".as_slice();
-    assert!(rt; slot.starts_with(front), "the iteration before the key");
-    assert!(rt; slot.ends_with(VALUES), "the values after the key");
+    same(
+        &"the iteration before the key",
+        &slot.starts_with(front),
+        &true,
+    )?;
+    same(&"the values after the key", &slot.ends_with(VALUES), &true)?;
     let end = slot.len().saturating_sub(VALUES.len());
     let key = slot.get(21..end).unwrap_or(&[]);
-    assert!(rt; described.printed.starts_with(key), "the key");
+    same(&"the key", &described.printed.starts_with(key), &true)?;
     let rest = described.printed.get(key.len()..).unwrap_or(&[]);
     let next = b"parameter driver::parts_x = \"3\"\n".as_slice();
-    assert!(rt; rest.starts_with(next), "what comes after the key");
-    Ok(())
+    same(&"what comes after the key", &rest.starts_with(next), &true)
 }

@@ -11,6 +11,7 @@ use cx_rule::Meter;
 use cx_text::List;
 use cx_turns::{SeededTurns, Turns};
 use std::test::Fail;
+use test_cases::same;
 
 const TWO_PARTS: &str = "driver::parts_x = 2\n";
 
@@ -39,8 +40,7 @@ fn a_value_that_is_altered(rt: HostRuntime) -> Result<(), Fail> {
         alloc, &words, &mut shelf, &mut disk, &mut wire, &mut turns, &mut out, &mut meter,
     )?;
     let found = (status, disk.bytes(FIRST_OUTPUT));
-    assert_eq!(rt; found, (0, ALTERED), "the altered value is used");
-    Ok(())
+    same(&"the altered value is used", &found, &(0, ALTERED))
 }
 
 /// Whether the automaton's output comes of these turns, and from which part the first message is sent.
@@ -65,8 +65,15 @@ fn first_sender<T: Turns>(rt: &HostRuntime, turns: &mut T) -> Result<(bool, Opti
 #[test]
 fn picks_are_followed(rt: HostRuntime) -> Result<(), Fail> {
     let first = first_sender(&rt, &mut FirstTurns(None))?;
-    assert!(rt; matches!(first, (true, Some(0))), "part 0 sends first");
+    same(
+        &"part 0 sends first",
+        &matches!(first, (true, Some(0))),
+        &true,
+    )?;
     let last = first_sender(&rt, &mut LastTurns(None))?;
-    assert!(rt; matches!(last, (true, Some(1))), "part 1 sends first");
-    Ok(())
+    same(
+        &"part 1 sends first",
+        &matches!(last, (true, Some(1))),
+        &true,
+    )
 }

@@ -1,7 +1,7 @@
 //! Waves in a box of forty points with two checkpoints, and what its undivided run writes.
 
 /// The box in three parts.
-pub(crate) const THREE_PARTS: &[u8] = b"ActiveThorns = \"PUGH IOUtil\"\n\
+pub(crate) const BOX: &[u8] = b"ActiveThorns = \"PUGH IOUtil\"\n\
     ActiveThorns = \"WaveInt DiffInt ElemCA Control\"\n\
     Cactus::cctk_run_title = \"box\"\n\
     Cactus::terminate = \"iteration\"\n\
@@ -9,24 +9,6 @@ pub(crate) const THREE_PARTS: &[u8] = b"ActiveThorns = \"PUGH IOUtil\"\n\
     driver::global_nx = 40\n\
     driver::ghost_size = 1\n\
     driver::parts_x = 3\n\
-    wave::pattern = \"uniform\"\n\
-    wave::amount = 5\n\
-    wave::sum = yes\n\
-    IO::out_dir = $parfile\n\
-    IO::out_every = 20\n\
-    IO::out_vars = \"wave::phi wave::total\"\n\
-    IO::checkpoint_every = 20\n\
-    IO::checkpoint_keep = 2\n\
-    IO::recover = \"autoprobe\"\n";
-
-/// The same box in one part.
-pub(crate) const ONE_PART: &[u8] = b"ActiveThorns = \"PUGH IOUtil\"\n\
-    ActiveThorns = \"WaveInt DiffInt ElemCA Control\"\n\
-    Cactus::cctk_run_title = \"box\"\n\
-    Cactus::terminate = \"iteration\"\n\
-    Cactus::cctk_itlast = 40\n\
-    driver::global_nx = 40\n\
-    driver::ghost_size = 1\n\
     wave::pattern = \"uniform\"\n\
     wave::amount = 5\n\
     wave::sum = yes\n\

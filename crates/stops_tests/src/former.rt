@@ -48,7 +48,7 @@ fn older_slot(alloc: Global, slot: &[u8], older: Older) -> Result<Text, Memory> 
 pub(crate) fn former_disk(rt: &HostRuntime, older: Older) -> Result<MemoryDisk, Fail> {
     let alloc = rt.alloc();
     let mut left = MemoryDisk::new(alloc, List::empty(alloc));
-    start(rt, b"one.par", &mut shelf(alloc)?, &mut left)?;
+    start(rt, b"box.par", &mut shelf(alloc)?, &mut left)?;
     let mut files = List::empty(alloc);
     files.push(older_slot(alloc, left.bytes(0), older)?)?;
     files.push(former_slot(alloc, left.bytes(1), b"\0\0\x01\x2c")?)?;

@@ -1,8 +1,10 @@
-//! Tests of starts on what others left: a former version, a start that was stopped, a run with another steer file.
+//! Tests of starts on what others left: a former version, starts that were stopped, a run with another steer file.
 #![tactic(auto)]
 
 #[cfg(test)]
 mod boxes;
+#[cfg(test)]
+mod chains;
 #[cfg(test)]
 mod former;
 #[cfg(test)]

@@ -2,7 +2,7 @@
 ghost use Rattle.std.specs.Prelude.{◌≤◌};
 ghost use Rattle.cx_core.specs.Starts.{AreEmpty};
 
-use crate::boxes::{ONE_PART, THREE_PARTS};
+use crate::boxes::BOX;
 use cx_disk::Disk;
 use cx_program::answer;
 use cx_rule::Meter;
@@ -73,11 +73,10 @@ fn push_others(alloc: Global, files: &mut Files) -> Result<(), Memory> {
     push_thorn(alloc, files, b"Control", texts)
 }
 
-/// A shelf with both parameter files and the box's thorns.
+/// A shelf with the box's parameter file and its thorns.
 pub(crate) fn shelf(alloc: Global) -> Result<MemoryShelf, Memory> {
     let mut files = Vec::new(alloc);
-    push(alloc, &mut files, b"one.par", ONE_PART)?;
-    push(alloc, &mut files, b"three.par", THREE_PARTS)?;
+    push(alloc, &mut files, b"box.par", BOX)?;
     push(alloc, &mut files, b"ThornList", THORN_LIST)?;
     push_fields(alloc, &mut files)?;
     push_others(alloc, &mut files)?;
@@ -85,7 +84,7 @@ pub(crate) fn shelf(alloc: Global) -> Result<MemoryShelf, Memory> {
 }
 
 /// The words of a start.
-fn words(alloc: Global, file: &[u8]) -> Result<List<Text>, Memory> {
+pub(crate) fn words(alloc: Global, file: &[u8]) -> Result<List<Text>, Memory> {
     let mut words = List::empty(alloc);
     words.push(Text::from_slice(alloc, b"run")?)?;
     words.push(Text::from_slice(alloc, file)?)?;
@@ -93,7 +92,12 @@ fn words(alloc: Global, file: &[u8]) -> Result<List<Text>, Memory> {
 }
 
 /// What a start comes to: its status, the points that it computes, and what it prints.
-pub(crate) type Came = (u8, u128, MemorySink);
+#[derive(Drop)]
+pub(crate) struct Came {
+    pub(crate) status: u8,
+    pub(crate) points: u128,
+    pub(crate) out: MemorySink,
+}
 
 /// A start of this parameter file over a disk and a wire.
 fn start_over<D: Disk, W: Wire>(
@@ -121,7 +125,11 @@ fn start_over<D: Disk, W: Wire>(
         &mut out,
         &mut meter,
     )?;
-    Ok((status, meter.count(), out))
+    Ok(Came {
+        status,
+        points: meter.count(),
+        out,
+    })
 }
 
 /// A start of this parameter file over a disk, with a wire of its own.

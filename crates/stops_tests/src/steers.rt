@@ -78,8 +78,8 @@ fn stopped(rt: &HostRuntime, lines: &[u8], calls: u64) -> Result<(u8, MemoryDisk
     let alloc = rt.alloc();
     let disk = MemoryDisk::new(alloc, List::empty(alloc));
     let mut fuse = FuseDisk::new(disk, calls);
-    let (status, _, _) = start_with(rt, lines, &mut fuse)?;
-    Ok((status, fuse.into_image(calls)?))
+    let came = start_with(rt, lines, &mut fuse)?;
+    Ok((came.status, fuse.into_image(calls)?))
 }
 
 /// The iteration of an open slot, or 0.
@@ -106,13 +106,14 @@ struct Change {
 /// iteration 2.
 fn starts(rt: &HostRuntime, change: &Change, calls: u64, mut disk: MemoryDisk) -> Result<u8, Fail> {
     let newest = iteration_in(disk.bytes(0)).max(iteration_in(disk.bytes(1)));
-    let (status, _, out) = start_with(rt, change.after, &mut disk)?;
+    let came = start_with(rt, change.after, &mut disk)?;
     let case = (change.name, calls);
     if newest < 2 {
-        let found = (status, out.bytes(), disk.bytes(9));
+        let found = (came.status, came.out.bytes(), disk.bytes(9));
         same(&case, &found, &(0, b"done: iteration 2\n", change.output))?;
     } else {
-        same(&case, &(status, out.bytes()), &(6, change.refused))?;
+        let found = (came.status, came.out.bytes());
+        same(&case, &found, &(6, change.refused))?;
     }
     Ok(newest)
 }

@@ -32,8 +32,8 @@ fn stopped(
     calls: u64,
 ) -> Result<(u8, MemoryDisk), Fail> {
     let mut fuse = FuseDisk::new(same_disk(rt.alloc(), disk)?, calls);
-    let (status, _, _) = start(rt, b"three.par", shelf, &mut fuse)?;
-    Ok((status, fuse.into_image(calls)?))
+    let came = start(rt, b"box.par", shelf, &mut fuse)?;
+    Ok((came.status, fuse.into_image(calls)?))
 }
 
 /// Which case this is, after how many calls the first start stopped, and after how many the second one.
@@ -46,9 +46,9 @@ fn ends(
     shelf: &mut MemoryShelf,
     mut disk: MemoryDisk,
 ) -> Result<(), Fail> {
-    let (status, points, out) = start(rt, b"three.par", shelf, &mut disk)?;
+    let came = start(rt, b"box.par", shelf, &mut disk)?;
     let outputs = (disk.bytes(9), disk.bytes(10), disk.bytes(8));
-    let found = (status, points, out.bytes(), outputs);
+    let found = (came.status, came.points, came.out.bytes(), outputs);
     same(
         &case,
         &found,

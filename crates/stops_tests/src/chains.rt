@@ -1,10 +1,11 @@
 //! A row of cells with a checkpoint in each iteration: a run of it that is stopped twice, and started again in another
 //! cut.
 
+use crate::starts::{push, push_thorn, words};
 use cx_disk::{MemoryDisk, named_output};
 use cx_rule::{Meter, Routine};
 use cx_run::{MemoryShelf, MemorySink};
-use cx_text::{List, Memory, Text};
+use cx_text::{List, Memory};
 use cx_thorn_ca::{CaCount, CaInit, CaStep, CaZero};
 use cx_turns::SeededTurns;
 use law_restarts::{Stop, empty_disk, run_through_stops};
@@ -72,51 +73,15 @@ const FIRST: (u64, u64) = (33, 0);
 /// All is left of what isn't synced: the body is whole, and the gate is shut.
 const SECOND: (u64, u64) = (37, 1);
 
-/// Adds a file to those of a shelf.
-fn push(
-    alloc: Global,
-    files: &mut Vec<(Text, Text)>,
-    name: &[u8],
-    bytes: &[u8],
-) -> Result<(), Memory> {
-    let name = Text::from_slice(alloc, name)?;
-    files.push((name, Text::from_slice(alloc, bytes)?))?;
-    Ok(())
-}
-
 /// A shelf with both parameter files and the automaton's files.
 fn shelf(alloc: Global) -> Result<MemoryShelf, Memory> {
     let mut files = Vec::new(alloc);
     push(alloc, &mut files, b"one.par", ONE)?;
     push(alloc, &mut files, b"two.par", TWO)?;
     push(alloc, &mut files, b"ThornList", THORN_LIST)?;
-    push(
-        alloc,
-        &mut files,
-        b"arrangements/Integer/ElemCA/interface.ccl",
-        elemca::INTERFACE,
-    )?;
-    push(
-        alloc,
-        &mut files,
-        b"arrangements/Integer/ElemCA/param.ccl",
-        elemca::PARAM,
-    )?;
-    push(
-        alloc,
-        &mut files,
-        b"arrangements/Integer/ElemCA/schedule.ccl",
-        elemca::SCHEDULE,
-    )?;
+    let texts = (elemca::INTERFACE, elemca::PARAM, elemca::SCHEDULE);
+    push_thorn(alloc, &mut files, b"ElemCA", texts)?;
     Ok(MemoryShelf::new(List::new(files)))
-}
-
-/// The words of a start.
-fn words(alloc: Global, file: &[u8]) -> Result<List<Text>, Memory> {
-    let mut words = List::empty(alloc);
-    words.push(Text::from_slice(alloc, b"run")?)?;
-    words.push(Text::from_slice(alloc, file)?)?;
-    Ok(words)
 }
 
 /// A start of the row in one part that stops after so many calls of the disk, and leaves the image of a choice.
