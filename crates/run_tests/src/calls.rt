@@ -1,18 +1,14 @@
-//! The top call over objects in memory and over devices that fail.
+//! The top call over objects in memory.
 
-use crate::carriers::wire;
 use crate::cuts::CUTS;
 use crate::faults::{FAULTS, PLAIN, SAMPLE_FAULTS};
-use crate::jobs::{CA_OUTPUT, RUNS};
-use crate::samples::{BOX, CA, CONTROL, GLIDER, HEAT, LIFE, WAVE};
+use crate::jobs::RUNS;
 use crate::schedules;
-use cx_disk::{Disk, MemoryDisk};
-use cx_program::answer;
-use cx_rule::Meter;
-use cx_run::{FolderShelf, MemoryShelf, MemorySink, Shelf, Sink};
+use cx_run::{FolderShelf, MemoryShelf, Shelf};
 use cx_text::{List, Memory, Text};
-use cx_turns::SeededTurns;
 use sample_files::{FILES, File};
+use sample_runs::samples::{BOX, CA, CA_OUTPUT, CONTROL, GLIDER, HEAT, LIFE, WAVE};
+use sample_runs::{answer_to, shelf, shelf_with};
 use std::alloc::Global;
 use std::fs;
 use std::test::Fail;
@@ -357,121 +353,6 @@ const GRIDS: &[&str] = &[
     "driver::ghost_size = 8\ndriver::global_nsize = 40\n",
     "driver::ghost_size_x = 3\ndriver::periodic = yes\n",
 ];
-
-pub(crate) fn texts(alloc: Global, words: &[&str]) -> Result<Vec<Text>, Memory> {
-    let mut texts = Vec::new(alloc);
-    for word in words {
-        texts.push(Text::from_slice(alloc, word.as_bytes())?)?;
-    }
-    Ok(texts)
-}
-
-fn push_files(alloc: Global, list: &mut Vec<(Text, Text)>, files: &[File]) -> Result<(), Memory> {
-    for file in files {
-        list.push((
-            Text::from_slice(alloc, file.name.as_bytes())?,
-            Text::from_slice(alloc, file.bytes)?,
-        ))?;
-    }
-    Ok(())
-}
-
-/// A shelf of files; of several of one name the first counts.
-fn shelf(alloc: Global, files: &[File], more: &[File]) -> Result<MemoryShelf, Memory> {
-    let mut list = Vec::new(alloc);
-    push_files(alloc, &mut list, files)?;
-    push_files(alloc, &mut list, more)?;
-    Ok(MemoryShelf::new(List::new(list)))
-}
-
-/// A sink that fails in the calls of these numbers.
-pub(crate) fn sink(alloc: Global, fail: &[u64]) -> Result<MemorySink, Memory> {
-    MemorySink::new(alloc, 10_000, List::new(fail.to_vec(alloc)?))
-}
-
-/// The output files of the first variable that is written, and of the second one.
-pub(crate) const FIRST_OUTPUT: usize = 9;
-
-pub(crate) const SECOND_OUTPUT: usize = 10;
-
-/// What a call came to: its status, what is printed, the two output files, and how much is computed and exchanged.
-#[derive(Drop)]
-pub(crate) struct Outcome {
-    pub(crate) status: u8,
-    pub(crate) printed: Vec<u8>,
-    pub(crate) first: Vec<u8>,
-    pub(crate) second: Vec<u8>,
-    pub(crate) points: u128,
-    pub(crate) received: u64,
-    pub(crate) sum: u64,
-}
-
-/// What a command comes to over a shelf and a disk, whose outputs aren't looked at.
-pub(crate) fn answer_over<H: Shelf, D: Disk>(
-    rt: &HostRuntime,
-    words: &[&str],
-    shelf: &mut H,
-    disk: &mut D,
-) -> Result<Outcome, Fail> {
-    let alloc = rt.alloc();
-    let words = texts(alloc, words)?;
-    let mut wire = wire(alloc)?;
-    let mut turns = SeededTurns::new();
-    let mut out = sink(alloc, &[])?;
-    let mut meter = Meter::new(rt);
-    let status = answer(
-        alloc, &words, shelf, disk, &mut wire, &mut turns, &mut out, &mut meter,
-    )?;
-    Ok(Outcome {
-        status,
-        printed: out.bytes().to_vec(alloc)?,
-        first: Vec::new(alloc),
-        second: Vec::new(alloc),
-        points: meter.count(),
-        received: wire.received(),
-        sum: wire.received_sum(),
-    })
-}
-
-/// What a command comes to over a shelf, on this disk.
-pub(crate) fn answer_on(
-    rt: &HostRuntime,
-    words: &[&str],
-    shelf: &mut MemoryShelf,
-    disk: &mut MemoryDisk,
-) -> Result<Outcome, Fail> {
-    let mut came = answer_over(rt, words, shelf, disk)?;
-    came.first = disk.bytes(FIRST_OUTPUT).to_vec(rt.alloc())?;
-    came.second = disk.bytes(SECOND_OUTPUT).to_vec(rt.alloc())?;
-    Ok(came)
-}
-
-/// What a command comes to over a shelf, on a new disk.
-pub(crate) fn answer_to(
-    rt: &HostRuntime,
-    words: &[&str],
-    shelf: &mut MemoryShelf,
-) -> Result<Outcome, Fail> {
-    let alloc = rt.alloc();
-    let mut disk = MemoryDisk::new(alloc, List::empty(alloc));
-    answer_on(rt, words, shelf, &mut disk)
-}
-
-/// A shelf with the parameter file `t.par`, which has more lines behind those of a file, and with other files.
-pub(crate) fn shelf_with(
-    alloc: Global,
-    file: &[u8],
-    more: &str,
-    others: &[File],
-) -> Result<MemoryShelf, Memory> {
-    let mut text = Text::from_slice(alloc, file)?;
-    text.push_slice(more.as_bytes())?;
-    let mut list = Vec::new(alloc);
-    list.push((Text::from_slice(alloc, b"t.par")?, text))?;
-    push_files(alloc, &mut list, others)?;
-    push_files(alloc, &mut list, FILES)?;
-    Ok(MemoryShelf::new(List::new(list)))
-}
 
 #[test]
 fn answers(rt: HostRuntime) -> Result<(), Fail> {

@@ -1,11 +1,11 @@
 //! Commands on the chunks of runs.
 
-use crate::calls::{FIRST_OUTPUT, SECOND_OUTPUT, answer_on, shelf_with};
 use crate::parts::{THORN_JOBS, Thorn};
-use crate::samples::CA;
 use cx_disk::MemoryDisk;
 use cx_run::MemoryShelf;
 use cx_text::{List, Memory, Text};
+use sample_runs::samples::CA;
+use sample_runs::{FIRST_OUTPUT, SECOND_OUTPUT, answer_on, shelf_with};
 use std::alloc::Global;
 use std::test::Fail;
 use test_cases::same;

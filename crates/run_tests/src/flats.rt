@@ -2,14 +2,14 @@
 
 ghost use Rattle.std.specs.Prelude.{◌≤◌, ◌^◌, length};
 
-use crate::calls::shelf_with;
-use crate::samples::{CA, CONTROL, WAVE};
 use cx_flat::{Op, flatten};
 use cx_job::make_job;
 use cx_rule::Routine;
 use cx_text::{List, Memory, Text};
 use cx_thorn_ca::{CaCount, CaInit, CaStep, CaZero};
 use cx_thorn_pde::{ControlSet, ControlSpin, WaveFlat, WaveInit, WaveStep};
+use sample_runs::samples::{CA, CONTROL, WAVE};
+use sample_runs::shelf_with;
 use std::alloc::Global;
 use std::test::Fail;
 use test_cases::same;

@@ -1,6 +1,6 @@
 //! Jobs that run, and what comes of them.
-use crate::samples::{BOX, CA, CONTROL, GLIDER, HEAT, LIFE, WAVE};
 use sample_files::File;
+use sample_runs::samples::{BOX, CA, CA_OUTPUT, CONTROL, GLIDER, HEAT, LIFE, WAVE};
 
 /// A job that runs, and what comes of it.
 pub struct Run {
@@ -30,17 +30,6 @@ const OTHER_ORDER: &[u8] = b"# cells\n\
     DRIVER::periodic = yes\n\
     cactus::cctk_itlast = 02\n\
     driver::Global_NX = 8";
-
-/// The automaton's three iterations.
-pub const CA_OUTPUT: &[u8] = b"# ca::cell iteration 0 size 8\n\
-    0 0 0 1 0 0 0 0\n\
-    \n\
-    # ca::cell iteration 1 size 8\n\
-    0 0 1 0 1 0 0 0\n\
-    \n\
-    # ca::cell iteration 2 size 8\n\
-    0 1 0 0 0 1 0 0\n\
-    \n";
 
 /// The files of heat in three directions.
 pub(crate) const DIFF_IN_THREE: &[File] = &[File {

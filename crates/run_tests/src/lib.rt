@@ -1,18 +1,13 @@
-//! Tests of the top call with the sample thorns, also in parts and on disks that stop, of their schedules as lists of operations, and of the folder as a shelf.
+//! Tests of the top call with the sample thorns, also in parts, of their schedules as lists of operations, and of the
+//! folder as a shelf.
 #![tactic(auto)]
 
 #[cfg(test)]
 mod calls;
 #[cfg(test)]
-mod carriers;
-#[cfg(test)]
 mod chunks;
 #[cfg(test)]
 mod cuts;
-#[cfg(test)]
-mod devices;
-#[cfg(test)]
-mod failing;
 #[cfg(test)]
 mod faults;
 #[cfg(test)]
@@ -20,18 +15,10 @@ mod flats;
 #[cfg(test)]
 mod jobs;
 #[cfg(test)]
-mod makes;
-#[cfg(test)]
 mod parts;
 #[cfg(test)]
 mod physics;
 #[cfg(test)]
-mod samples;
-#[cfg(test)]
 mod schedules;
 #[cfg(test)]
 mod steers;
-#[cfg(test)]
-mod stops;
-#[cfg(test)]
-mod wires;

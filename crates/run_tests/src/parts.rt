@@ -1,10 +1,12 @@
 //! Runs in parts: the same bytes for every cut, every lead and every order of turns.
 
-use crate::calls::{Outcome, answer_to, shelf_with};
-use crate::jobs::{CA_OUTPUT, DIFF_IN_THREE};
-use crate::samples::CA;
+use crate::jobs::DIFF_IN_THREE;
+use cx_disk::MemoryDisk;
 use cx_run::MemoryShelf;
+use cx_text::List;
 use sample_files::File;
+use sample_runs::samples::{CA, CA_OUTPUT};
+use sample_runs::{Outcome, answer_on, answer_to, shelf_with};
 use std::test::Fail;
 use test_cases::same;
 
@@ -189,7 +191,7 @@ const LEAVES: &[u8] = b"ActiveThorns = \"DiffInt\"\n\
     IO::out_vars = \"diff::u\"\n";
 
 /// The field of `LEAVES` in 16 bits.
-pub(crate) const SHORT_FIELD: &[File] = &[File {
+const SHORT_FIELD: &[File] = &[File {
     name: "arrangements/Integer/DiffInt/interface.ccl",
     bytes: b"implements: diff\n\
         public:\n\
@@ -198,7 +200,7 @@ pub(crate) const SHORT_FIELD: &[File] = &[File {
 }];
 
 /// Its output up to iteration 6.
-pub(crate) const LEFT: &[u8] = b"# diff::u iteration 0 size 16\n\
+const LEFT: &[u8] = b"# diff::u iteration 0 size 16\n\
     0 0 100 0 0 0 0 0 0 0 0 0 0 0 0 0\n\
     \n\
     # diff::u iteration 1 size 16\n\
@@ -287,6 +289,26 @@ fn overflow_wherever_other_parts_stand(rt: HostRuntime) -> Result<(), Fail> {
         for (k, came) in runs.iter().enumerate() {
             let found = (came.status, came.printed.as_slice(), came.first.as_slice());
             same(&(lead, "turns", k), &found, &(3, ended, LEFT))?;
+        }
+    }
+    Ok(())
+}
+
+/// A checkpoint in each third iteration, and a start from the newest one.
+const THIRDS: &str = "IO::checkpoint_every = 3\nIO::recover = \"autoprobe\"\n";
+
+#[test]
+fn overflow_twice(rt: HostRuntime) -> Result<(), Fail> {
+    let alloc = rt.alloc();
+    let ended = b"ended: Overflow 7 EVOL/diff_step\n".as_slice();
+    let mut shelf = shelf_with(alloc, LEAVES, THIRDS, SHORT_FIELD)?;
+    let mut disk = MemoryDisk::new(alloc, List::empty(alloc));
+    for run in ["from nothing", "from iteration 6"] {
+        let came = answer_on(&rt, &["run", "t.par"], &mut shelf, &mut disk)?;
+        let found = (came.status, came.printed.as_slice(), came.first.as_slice());
+        same(&run, &found, &(3, ended, LEFT))?;
+        if run == "from iteration 6" {
+            same(&"points", &(came.points <= 16), &true)?;
         }
     }
     Ok(())

@@ -1,7 +1,7 @@
 //! Runs of the thorns that conserve, against numbers of a model of its own or by hand.
 
-use crate::calls::{answer_to, shelf_with};
 use sample_files::File;
+use sample_runs::{answer_to, shelf_with};
 use std::test::Fail;
 use test_cases::same;
 

@@ -1,9 +1,6 @@
-//! Runs whose parameters are steered, and starts whose steer file has changed.
+//! Runs whose parameters are steered.
 
-use crate::calls::{Outcome, answer_on, answer_over, shelf_with};
 use crate::parts::runs_by_seeds;
-use cx_disk::{FuseDisk, MemoryDisk};
-use cx_text::List;
 use sample_files::File;
 use std::test::Fail;
 use test_cases::same;
@@ -137,70 +134,6 @@ fn waves_that_are_steered(rt: HostRuntime) -> Result<(), Fail> {
             let values = came.first.ends_with(case.values);
             same(&("values of", lines, more, "turns", k), &values, &true)?;
         }
-    }
-    Ok(())
-}
-
-/// The iteration of the newest checkpoint on a disk, or 0.
-fn newest(disk: &MemoryDisk) -> u8 {
-    let mut newest = 0;
-    for slot in 0..8 {
-        let bytes = disk.bytes(slot);
-        if bytes.first() == Some(&1) {
-            newest = newest.max(bytes.get(16).copied().unwrap_or(0));
-        }
-    }
-    newest
-}
-
-/// What an unsteered run leaves that stops after so many calls of the disk, if it stops.
-fn stopped(rt: &HostRuntime, calls: u64) -> Result<Option<MemoryDisk>, Fail> {
-    let alloc = rt.alloc();
-    let mut shelf = shelf_with(alloc, WAVE, EACH, &[PARAM, steer_file(b"")])?;
-    let mut fuse = FuseDisk::new(MemoryDisk::new(alloc, List::empty(alloc)), calls);
-    let came = answer_over(rt, &["run", "t.par"], &mut shelf, &mut fuse)?;
-    if came.status == 0 {
-        return Ok(None);
-    }
-    Ok(Some(fuse.into_image(calls)?))
-}
-
-/// What the next start comes to on that disk, where the steer file has these lines by now.
-fn resumed(rt: &HostRuntime, disk: &mut MemoryDisk, lines: &'static [u8]) -> Result<Outcome, Fail> {
-    let mut shelf = shelf_with(rt.alloc(), WAVE, EACH, &[PARAM, steer_file(lines)])?;
-    answer_on(rt, &["run", "t.par"], &mut shelf, disk)
-}
-
-/// The answer to a start whose steer file has changed after the newest checkpoint, up to it, and at it.
-/// The start fills eight points, two of them ghost points, and each iteration six.
-fn changed(newest: u8) -> (u8, &'static [u8], u128) {
-    match newest {
-        0 => (0, b"done: iteration 2\n".as_slice(), 20),
-        1 => (0, b"done: iteration 2\n".as_slice(), 6),
-        _ => (
-            6,
-            b"recovery: OtherJob\n\nsteer 2 wave::factor = \"0\"\n".as_slice(),
-            0,
-        ),
-    }
-}
-
-#[test]
-fn steer_files_that_change_after_a_stop(rt: HostRuntime) -> Result<(), Fail> {
-    for calls in 0..200 {
-        let Some(mut disk) = stopped(&rt, calls)? else {
-            break;
-        };
-        let newest = newest(&disk);
-        if newest == 1 {
-            let came = resumed(&rt, &mut disk, b"@1 wave::factor = 0\n")?;
-            let found = (came.status, came.printed.as_slice());
-            let want = b"recovery: OtherJob\n\nsteer 1 wave::factor = \"0\"\n".as_slice();
-            same(&("a line of iteration 1", calls), &found, &(6, want))?;
-        }
-        let came = resumed(&rt, &mut disk, FACTOR_FROM_2)?;
-        let found = (came.status, came.printed.as_slice(), came.points);
-        same(&("stopped", calls), &found, &changed(newest))?;
     }
     Ok(())
 }

@@ -1,7 +1,6 @@
 //! A row of cells with a checkpoint in each iteration: a run of it that is stopped twice, and started again in another
 //! cut.
 
-use crate::starts::{push, push_thorn, words};
 use cx_disk::{MemoryDisk, named_output};
 use cx_rule::{Meter, Routine};
 use cx_run::{MemoryShelf, MemorySink};
@@ -9,7 +8,8 @@ use cx_text::{List, Memory};
 use cx_thorn_ca::{CaCount, CaInit, CaStep, CaZero};
 use cx_turns::SeededTurns;
 use law_restarts::{Stop, empty_disk, run_through_stops};
-use sample_files::{THORN_LIST, elemca};
+use sample_files::{FILES, File};
+use sample_runs::{push_files, sink, texts};
 use std::alloc::Global;
 use std::test::Fail;
 use test_cases::same;
@@ -73,14 +73,23 @@ const FIRST: (u64, u64) = (33, 0);
 /// All is left of what isn't synced: the body is whole, and the gate is shut.
 const SECOND: (u64, u64) = (37, 1);
 
-/// A shelf with both parameter files and the automaton's files.
+/// Both parameter files.
+const PARAMETER_FILES: &[File] = &[
+    File {
+        name: "one.par",
+        bytes: ONE,
+    },
+    File {
+        name: "two.par",
+        bytes: TWO,
+    },
+];
+
+/// A shelf with both parameter files and the thorns' files.
 fn shelf(alloc: Global) -> Result<MemoryShelf, Memory> {
     let mut files = Vec::new(alloc);
-    push(alloc, &mut files, b"one.par", ONE)?;
-    push(alloc, &mut files, b"two.par", TWO)?;
-    push(alloc, &mut files, b"ThornList", THORN_LIST)?;
-    let texts = (elemca::INTERFACE, elemca::PARAM, elemca::SCHEDULE);
-    push_thorn(alloc, &mut files, b"ElemCA", texts)?;
+    push_files(alloc, &mut files, PARAMETER_FILES)?;
+    push_files(alloc, &mut files, FILES)?;
     Ok(MemoryShelf::new(List::new(files)))
 }
 
@@ -88,7 +97,7 @@ fn shelf(alloc: Global) -> Result<MemoryShelf, Memory> {
 fn stop(alloc: Global, at: (u64, u64)) -> Result<Stop, Memory> {
     let (calls, choice) = at;
     Ok(Stop {
-        words: words(alloc, b"one.par")?,
+        words: List::new(texts(alloc, &["run", "one.par"])?),
         calls,
         choice,
     })
@@ -130,13 +139,13 @@ fn chain(
 ) -> Result<(u8, MemoryDisk), Memory> {
     let cells = new_automaton(alloc)?;
     let routines: [Box<dyn Routine>; 4] = [cells.init, cells.step, cells.zero, cells.count];
-    let words = words(alloc, b"two.par")?;
+    let words = texts(alloc, &["run", "two.par"])?;
     let stops = stops(alloc)?;
     let mut shelf = shelf(alloc)?;
     let mut turns = SeededTurns::new();
     run_through_stops(
         alloc,
-        words.as_slice(),
+        &words,
         &stops,
         &mut shelf,
         empty_disk(alloc),
@@ -150,7 +159,7 @@ fn chain(
 #[test]
 fn row_that_stops_twice(rt: HostRuntime) -> Result<(), Fail> {
     let alloc = rt.alloc();
-    let mut out = MemorySink::new(alloc, 100, List::empty(alloc))?;
+    let mut out = sink(alloc, &[])?;
     let mut meter = Meter::new(&rt);
     let (status, disk) = chain(alloc, &mut out, &mut meter)?;
     let output = disk.bytes(named_output(0) as usize);

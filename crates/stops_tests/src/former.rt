@@ -1,9 +1,9 @@
 //! What a former version left of the box.
 
-use crate::boxes::FORMER;
-use crate::starts::{shelf, start};
+use crate::boxes::{BOX, FORMER};
 use cx_disk::{MemoryDisk, OLD_OUTPUT};
 use cx_text::{List, Memory, Text};
+use sample_runs::{answer_over, shelf_with};
 use std::alloc::Global;
 use std::test::Fail;
 
@@ -18,7 +18,7 @@ fn key_end(slot: &[u8]) -> usize {
 }
 
 /// The same checkpoint as a former version saved it: of version 1, with one length, of four bytes here, and no name.
-fn former_slot(alloc: Global, slot: &[u8], length: &[u8]) -> Result<Text, Memory> {
+pub(crate) fn former_slot(alloc: Global, slot: &[u8], length: &[u8]) -> Result<Text, Memory> {
     let end = key_end(slot);
     let mut text = Text::from_slice(alloc, slot.get(..8).unwrap_or(&[]))?;
     text.push_slice(b"\x01")?;
@@ -48,7 +48,8 @@ fn older_slot(alloc: Global, slot: &[u8], older: Older) -> Result<Text, Memory> 
 pub(crate) fn former_disk(rt: &HostRuntime, older: Older) -> Result<MemoryDisk, Fail> {
     let alloc = rt.alloc();
     let mut left = MemoryDisk::new(alloc, List::empty(alloc));
-    start(rt, b"box.par", &mut shelf(alloc)?, &mut left)?;
+    let mut shelf = shelf_with(alloc, BOX, "", &[])?;
+    answer_over(rt, &["run", "t.par"], &mut shelf, &mut left)?;
     let mut files = List::empty(alloc);
     files.push(older_slot(alloc, left.bytes(0), older)?)?;
     files.push(former_slot(alloc, left.bytes(1), b"\0\0\x01\x2c")?)?;

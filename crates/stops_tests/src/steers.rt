@@ -1,24 +1,25 @@
 //! A run whose steer file has changed after it was stopped: from each of its checkpoints up to the change it goes on
 //! with the new lines.
 
-use crate::starts::{Came, push, push_thorn, start};
 use cx_disk::{Disk, FuseDisk, MemoryDisk};
-use cx_run::MemoryShelf;
-use cx_text::{List, Memory};
-use sample_files::{THORN_LIST, waveint};
-use std::alloc::Global;
+use cx_text::List;
+use sample_files::File;
+use sample_runs::{Outcome, answer_over, shelf_with};
 use std::test::Fail;
 use test_cases::same;
 
 /// The parameters of the wave, whose factor may be steered anywhere.
-const PARAM: &[u8] = b"restricted:\n\
-    INT factor STEERABLE=ALWAYS { 0:* } 64\n\
-    KEYWORD pattern { \"point\" \"uniform\" \"alternate\" \"random\" } \"point\"\n\
-    INT amount { *:* } 8\n\
-    INT start { 0:* } 0\n\
-    INT seed { 0:* } 0\n\
-    INT edge { *:* } 0\n\
-    BOOLEAN sum { } \"no\"\n";
+const PARAM: File = File {
+    name: "arrangements/Integer/WaveInt/param.ccl",
+    bytes: b"restricted:\n\
+        INT factor STEERABLE=ALWAYS { 0:* } 64\n\
+        KEYWORD pattern { \"point\" \"uniform\" \"alternate\" \"random\" } \"point\"\n\
+        INT amount { *:* } 8\n\
+        INT start { 0:* } 0\n\
+        INT seed { 0:* } 0\n\
+        INT edge { *:* } 0\n\
+        BOOLEAN sum { } \"no\"\n",
+};
 
 /// A wave on a ring of six points, with a checkpoint of each of two iterations.
 const WAVE: &[u8] = b"ActiveThorns = \"WaveInt\"\n\
@@ -56,25 +57,22 @@ const UNSTEERED: &[u8] = b"# wave::phi iteration 0 size 6\n\
     8 -8 8 -8 8 0\n\
     \n";
 
-/// A shelf with the wave's files, and with a steer file of these lines.
-fn shelf(alloc: Global, lines: &[u8]) -> Result<MemoryShelf, Memory> {
-    let mut files = Vec::new(alloc);
-    push(alloc, &mut files, b"wave.par", WAVE)?;
-    push(alloc, &mut files, b"s.txt", lines)?;
-    push(alloc, &mut files, b"ThornList", THORN_LIST)?;
-    let texts = (waveint::INTERFACE, PARAM, waveint::SCHEDULE);
-    push_thorn(alloc, &mut files, b"WaveInt", texts)?;
-    Ok(MemoryShelf::new(List::new(files)))
-}
-
 /// A start of the wave with these lines over a disk.
-fn start_with<D: Disk>(rt: &HostRuntime, lines: &[u8], disk: &mut D) -> Result<Came, Fail> {
-    let mut shelf = shelf(rt.alloc(), lines)?;
-    start(rt, b"wave.par", &mut shelf, disk)
+fn start_with<D: Disk>(
+    rt: &HostRuntime,
+    lines: &'static [u8],
+    disk: &mut D,
+) -> Result<Outcome, Fail> {
+    let steer_file = File {
+        name: "s.txt",
+        bytes: lines,
+    };
+    let mut shelf = shelf_with(rt.alloc(), WAVE, "", &[PARAM, steer_file])?;
+    answer_over(rt, &["run", "t.par"], &mut shelf, disk)
 }
 
 /// The status of a run with these lines that stops after so many calls of the disk, and what it leaves.
-fn stopped(rt: &HostRuntime, lines: &[u8], calls: u64) -> Result<(u8, MemoryDisk), Fail> {
+fn stopped(rt: &HostRuntime, lines: &'static [u8], calls: u64) -> Result<(u8, MemoryDisk), Fail> {
     let alloc = rt.alloc();
     let disk = MemoryDisk::new(alloc, List::empty(alloc));
     let mut fuse = FuseDisk::new(disk, calls);
@@ -102,18 +100,36 @@ struct Change {
     refused: &'static [u8],
 }
 
+/// The iteration of the newest checkpoint on a disk, or 0.
+fn newest_on(disk: &MemoryDisk) -> u8 {
+    iteration_in(disk.bytes(0)).max(iteration_in(disk.bytes(1)))
+}
+
+/// The points that a start computes which goes on from iteration 0 or 1. The beginning fills eight points, two of them
+/// ghost points, and each iteration six.
+fn points_from(newest: u8) -> u128 {
+    if newest == 0 { 20 } else { 6 }
+}
+
 /// Fails unless the next start goes on from a checkpoint of iteration 0 or 1 with its own lines, and refuses that of
 /// iteration 2.
 fn starts(rt: &HostRuntime, change: &Change, calls: u64, mut disk: MemoryDisk) -> Result<u8, Fail> {
-    let newest = iteration_in(disk.bytes(0)).max(iteration_in(disk.bytes(1)));
+    let newest = newest_on(&disk);
     let came = start_with(rt, change.after, &mut disk)?;
     let case = (change.name, calls);
     if newest < 2 {
-        let found = (came.status, came.out.bytes(), disk.bytes(9));
-        same(&case, &found, &(0, b"done: iteration 2\n", change.output))?;
+        let printed = b"done: iteration 2\n".as_slice();
+        let found = (
+            came.status,
+            came.printed.as_slice(),
+            disk.bytes(9),
+            came.points,
+        );
+        let want = (0, printed, change.output, points_from(newest));
+        same(&case, &found, &want)?;
     } else {
-        let found = (came.status, came.out.bytes());
-        same(&case, &found, &(6, change.refused))?;
+        let found = (came.status, came.printed.as_slice(), came.points);
+        same(&case, &found, &(6, change.refused, 0))?;
     }
     Ok(newest)
 }
@@ -159,4 +175,24 @@ fn line_that_is_taken_out(rt: HostRuntime) -> Result<(), Fail> {
         refused: b"recovery: OtherJob\nsteer 2 wave::factor = \"0\"\n\n",
     };
     change_lines(&rt, &change)
+}
+
+/// The next start has a line of the iteration that the newest checkpoint is of.
+#[test]
+fn line_of_the_newest_checkpoint(rt: HostRuntime) -> Result<(), Fail> {
+    let refused = b"recovery: OtherJob\n\nsteer 1 wave::factor = \"0\"\n".as_slice();
+    let mut met = false;
+    for calls in 0..MANY_CALLS {
+        let (status, mut disk) = stopped(&rt, b"", calls)?;
+        if newest_on(&disk) == 1 {
+            met = true;
+            let came = start_with(&rt, b"@1 wave::factor = 0\n", &mut disk)?;
+            let found = (came.status, came.printed.as_slice(), came.points);
+            same(&calls, &found, &(6, refused, 0))?;
+        }
+        if status == 0 {
+            break;
+        }
+    }
+    same(&"a checkpoint of iteration 1", &met, &true)
 }

@@ -1,11 +1,8 @@
 //! Each call of each device fails once, and what the next call over the same devices comes to.
 
-use crate::calls::{FIRST_OUTPUT, SECOND_OUTPUT, answer_to, shelf_with, sink, texts};
-use crate::carriers::{failing, wire};
+use crate::boxes::{FIELDS, SUMS};
 use crate::devices::{failing_disk, failing_shelf};
-use crate::jobs::CA_OUTPUT;
-use crate::samples::CA;
-use crate::stops::{BOX_FIELDS, BOX_FILE, BOX_SUMS, BOX_THORNS, EACH};
+use crate::stops::{BOX_FILE, BOX_THORNS};
 use cx_disk::{Disk, MemoryDisk};
 use cx_program::answer;
 use cx_rule::Meter;
@@ -13,6 +10,8 @@ use cx_run::{MemorySink, Shelf};
 use cx_text::{List, Text};
 use cx_turns::SeededTurns;
 use sample_files::File;
+use sample_runs::samples::{CA, CA_OUTPUT, EACH};
+use sample_runs::{FIRST_OUTPUT, SECOND_OUTPUT, answer_to, failing, shelf_with, sink, texts, wire};
 use std::alloc::Global;
 use std::test::Fail;
 use test_cases::same;
@@ -218,8 +217,8 @@ const BOX_JOB: &Job = &Job {
     shelf: 1,
     status: 0,
     printed: b"done: iteration 40\n",
-    first: BOX_FIELDS,
-    second: BOX_SUMS,
+    first: FIELDS,
+    second: SUMS,
 };
 
 /// A device of a call.

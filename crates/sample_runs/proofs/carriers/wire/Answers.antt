@@ -1,4 +1,4 @@
-use Rattle.run_tests.proofs.carriers.wire.Goals as goal
+use Rattle.sample_runs.proofs.carriers.wire.Goals as goal
 
 pub returns-clause-told : goal.returns-clause-told
 returns-clause-told c = c.in_ok-wire.ensures.told

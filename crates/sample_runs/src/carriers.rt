@@ -8,7 +8,7 @@ use cx_wire::{AlteringWire, FailingWire, MemoryWire, NotingWire};
 use std::alloc::Global;
 
 /// A wire in memory.
-pub(crate) fn wire(alloc: Global) -> Result<MemoryWire, Memory>
+pub fn wire(alloc: Global) -> Result<MemoryWire, Memory>
     ensures parts { IfOk result (λ wire. wire.parts ≡ 512) }
     ensures told { IfOk result (λ wire. AreEmpty (told_queue wire)) }
     ensures bare { IfOk result (λ wire. AreEmpty (bare_queue wire)) }
@@ -18,7 +18,7 @@ pub(crate) fn wire(alloc: Global) -> Result<MemoryWire, Memory>
 }
 
 /// The same wire, but a value is altered on its way.
-pub(crate) fn altering(alloc: Global) -> Result<AlteringWire, Memory>
+pub fn altering(alloc: Global) -> Result<AlteringWire, Memory>
     ensures parts { IfOk result (λ wire. wire.wire.parts ≡ 512) }
     ensures bare { IfOk result (λ wire. AreEmpty (bare_queue wire.wire)) }
 {
@@ -28,7 +28,7 @@ pub(crate) fn altering(alloc: Global) -> Result<AlteringWire, Memory>
 }
 
 /// The same wire, with notes of what is sent.
-pub(crate) fn noting(alloc: Global) -> Result<NotingWire, Memory>
+pub fn noting(alloc: Global) -> Result<NotingWire, Memory>
     ensures parts { IfOk result (λ wire. wire.wire.parts ≡ 512) }
     ensures told { IfOk result (λ wire. AreEmpty (told_queue wire.wire)) }
 {
@@ -38,7 +38,7 @@ pub(crate) fn noting(alloc: Global) -> Result<NotingWire, Memory>
 }
 
 /// The same wire, but one call of it fails.
-pub(crate) fn failing(alloc: Global, fail: u64) -> Result<FailingWire, Memory>
+pub fn failing(alloc: Global, fail: u64) -> Result<FailingWire, Memory>
     ensures parts { IfOk result (λ wire. wire.wire.parts ≡ 512) }
     ensures told { IfOk result (λ wire. AreEmpty (told_queue wire.wire)) }
 {

@@ -1,15 +1,13 @@
 //! Runs over wires that alter or note, and turns that always pick alike.
 
-use crate::calls::{FIRST_OUTPUT, shelf_with, sink, texts};
-use crate::carriers::{altering, noting};
 use crate::devices::{FirstTurns, LastTurns};
-use crate::jobs::CA_OUTPUT;
-use crate::samples::CA;
 use cx_disk::MemoryDisk;
 use cx_program::answer;
 use cx_rule::Meter;
 use cx_text::List;
 use cx_turns::{SeededTurns, Turns};
+use sample_runs::samples::{CA, CA_OUTPUT};
+use sample_runs::{FIRST_OUTPUT, altering, noting, shelf_with, sink, texts};
 use std::test::Fail;
 use test_cases::same;
 

@@ -1,5 +1,5 @@
 use Rattle.std.proofs.Common.{◌≡◌, take}
-use Rattle.run_tests.proofs.devices.copies.Given as goal
+use Rattle.stops_tests.proofs.devices.copies.Given as goal
 
 abbrev pub invariant-each : goal.invariant-each
 invariant-each l = l.copy.items ≡ take l.text-index l.texts

@@ -1,9 +1,9 @@
 //! Runs that are made from a seed and a size.
 
-use crate::calls::{answer_over, answer_to};
 use crate::devices::{failing_disk, failing_shelf};
 use cx_run::MemoryShelf;
 use cx_text::List;
+use sample_runs::{answer_over, answer_to};
 use std::test::Fail;
 use test_cases::same;
 

@@ -7,6 +7,17 @@ pub const CA: &[u8] = b"ActiveThorns = \"ElemCA\"\n\
         ca::start = 3\n\
         IO::out_vars = \"ca::cell\"\n";
 
+/// The automaton's three iterations.
+pub const CA_OUTPUT: &[u8] = b"# ca::cell iteration 0 size 8\n\
+    0 0 0 1 0 0 0 0\n\
+    \n\
+    # ca::cell iteration 1 size 8\n\
+    0 0 1 0 1 0 0 0\n\
+    \n\
+    # ca::cell iteration 2 size 8\n\
+    0 1 0 0 0 1 0 0\n\
+    \n";
+
 pub const LIFE: &[u8] = b"# a glider on a sheet that is periodic both ways\n\
         ActiveThorns = \"Life2D\"\n\
         Cactus::cctk_itlast = 4\n\
@@ -77,3 +88,6 @@ pub const BOX: &[u8] = b"!DESC \"a wave, heat, cells and a count, together in on
     IO::out_every = 20\n\
     IO::out_vars  = \"wave::phi\n\
     \x20                wave::total\"\n";
+
+/// A checkpoint in each iteration, and a start from the newest one.
+pub const EACH: &str = "IO::checkpoint_every = 1\nIO::recover = \"autoprobe\"\n";
