@@ -4,6 +4,7 @@ use cx_ascii_read::{Record, read_output};
 use cx_text::Memory;
 use std::alloc::Global;
 use std::test::Fail;
+use test_cases::same;
 
 // A text that is one record, and this record.
 struct Example {
@@ -71,15 +72,15 @@ fn examples_are_read(rt: HostRuntime) -> Result<(), Fail> {
         let Some(records) = read_output(alloc, example.text)? else {
             return Err(Memory.into());
         };
-        assert_eq!(rt; records.len(), 1, "iteration {}", example.iteration);
-        assert!(rt;
-            records
+        same(&("iteration", example.iteration), &records.len(), &1)?;
+        same(
+            &("iteration", example.iteration),
+            &records
                 .as_slice()
                 .iter()
                 .all(|record| is_example(record, example)),
-            "iteration {}",
-            example.iteration
-        );
+            &true,
+        )?;
     }
     Ok(())
 }
@@ -99,17 +100,20 @@ fn records_stand_in_order(rt: HostRuntime) -> Result<(), Fail> {
     let Some(records) = read_output(alloc, &whole_text(alloc)?)? else {
         return Err(Memory.into());
     };
-    assert_eq!(rt; records.len(), EXAMPLES.len(), "all examples");
+    same(&"all examples", &records.len(), &EXAMPLES.len())?;
     for (record, example) in records.as_slice().iter().zip(EXAMPLES) {
-        assert!(rt;
-            is_example(record, example),
-            "iteration {}",
-            example.iteration
-        );
+        same(
+            &("iteration", example.iteration),
+            &is_example(record, example),
+            &true,
+        )?;
     }
     let none = read_output(alloc, b"")?;
-    assert!(rt; none.is_some_and(|records| records.is_empty()), "no bytes");
-    Ok(())
+    same(
+        &"no bytes",
+        &none.is_some_and(|records| records.is_empty()),
+        &true,
+    )
 }
 
 // What is no output, and why.
@@ -167,7 +171,7 @@ const OTHERS: &[(&[u8], &[u8])] = &[
 fn others_are_none(rt: HostRuntime) -> Result<(), Fail> {
     let alloc = rt.alloc();
     for (why, text) in OTHERS {
-        assert!(rt; read_output(alloc, text)?.is_none(), "{why:?}");
+        same(&why, &read_output(alloc, text)?.is_none(), &true)?;
     }
     Ok(())
 }
@@ -180,7 +184,7 @@ fn no_front_but_a_record(rt: HostRuntime) -> Result<(), Fail> {
     let alloc = rt.alloc();
     for k in 1..TWO.len() {
         let found = read_output(alloc, &TWO[..k])?;
-        assert_eq!(rt; found.is_some(), k == 30, "at {k}");
+        same(&("at", k), &found.is_some(), &(k == 30))?;
     }
     Ok(())
 }

@@ -10,6 +10,7 @@ use cx_grid::{Point, Shape};
 use cx_text::{Memory, Text};
 use std::alloc::Global;
 use std::test::Fail;
+use test_cases::same;
 
 /// A plate of two times three points, periodic along x.
 fn plate() -> Shape
@@ -64,11 +65,10 @@ fn printed_is_read_and_printed_again(rt: HostRuntime) -> Result<(), Fail> {
     let Some(records) = read_output(alloc, text.as_slice())? else {
         return Err(Memory.into());
     };
-    assert_eq!(rt; records.len(), 6, "how many records");
+    same(&"how many records", &records.len(), &6)?;
     let mut again = Text::new(Vec::new(alloc));
     for record in records.as_slice() {
         again.push_slice(print_record(alloc, record)?.as_slice())?;
     }
-    assert_eq!(rt; again.as_slice(), text.as_slice(), "printed again");
-    Ok(())
+    same(&"printed again", &again.as_slice(), &text.as_slice())
 }

@@ -4,6 +4,7 @@ use cx_ascii_read::split;
 use cx_text::{List, Memory, Text};
 use std::alloc::Global;
 use std::test::Fail;
+use test_cases::same;
 
 // An output, the names by which it is split, and the texts of these names; none where it isn't split.
 struct Split {
@@ -116,7 +117,7 @@ fn is_split(alloc: Global, row: &Split) -> Result<bool, Memory> {
 fn outputs_are_split_by_name(rt: HostRuntime) -> Result<(), Fail> {
     let alloc = rt.alloc();
     for row in SPLITS {
-        assert!(rt; is_split(alloc, row)?, "{}", row.case);
+        same(&row.case, &is_split(alloc, row)?, &true)?;
     }
     Ok(())
 }

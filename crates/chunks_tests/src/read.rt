@@ -2,6 +2,7 @@
 
 use cx_chunks::read_chunk;
 use std::test::Fail;
+use test_cases::same;
 
 // Why bytes are a chunk of so many pieces, or none.
 struct Case {
@@ -89,7 +90,7 @@ fn chunks_are_read(rt: HostRuntime) -> Result<(), Fail> {
     for case in CASES {
         let found = read_chunk(alloc, case.text)?;
         let count = found.map(|pieces| pieces.len());
-        assert!(rt; count == case.count, "{}", case.case);
+        same(&case.case, &count, &case.count)?;
     }
     Ok(())
 }

@@ -13,6 +13,7 @@ use cx_plan::Job;
 use cx_text::{List, Memory, Text};
 use std::alloc::Global;
 use std::test::Fail;
+use test_cases::same;
 
 // Two chunks, and the whole text or the fault's words.
 struct Case {
@@ -189,7 +190,7 @@ fn pieces_are_joined_or_refused(rt: HostRuntime) -> Result<(), Fail> {
     let alloc = rt.alloc();
     for case in CASES {
         let found = outcome(alloc, &case.chunks)?;
-        assert!(rt; found.as_slice() == case.words, "{}", case.case);
+        same(&case.case, &found.as_slice(), &case.words)?;
     }
     Ok(())
 }
@@ -219,11 +220,10 @@ fn records_are_cut_and_joined(rt: HostRuntime) -> Result<(), Fail> {
     let [first, second] = found.as_slice() else {
         return Err(Memory.into());
     };
-    assert!(rt; first.as_slice() == FIRST, "chunk 0");
-    assert!(rt; second.as_slice() == SECOND, "chunk 1");
+    same(&"chunk 0", &first.as_slice(), &FIRST)?;
+    same(&"chunk 1", &second.as_slice(), &SECOND)?;
     let whole = outcome(alloc, &[FIRST, SECOND])?;
     let mut want = Text::from_slice(alloc, CELLS)?;
     want.push_slice(LIVE)?;
-    assert!(rt; whole.as_slice() == want.as_slice(), "the whole");
-    Ok(())
+    same(&"the whole", &whole.as_slice(), &want.as_slice())
 }

@@ -9,6 +9,7 @@ use std::cell::RefCell;
 use std::fs;
 use std::rc::Rc;
 use std::test::Fail;
+use test_cases::same;
 
 #[test]
 fn memory_disk_keeps_files(rt: HostRuntime) -> Result<(), Fail> {
@@ -17,12 +18,11 @@ fn memory_disk_keeps_files(rt: HostRuntime) -> Result<(), Fail> {
     let folder = Text::from_slice(alloc, b"out")?;
     disk.mount(&folder, &List::empty(alloc), &folder)?;
     put(&mut disk, OLD_OUTPUT, 0, b"0123456789")?;
-    assert_eq!(rt;
-        disk.bytes(OLD_OUTPUT as usize),
-        b"0123456789".as_slice(),
-        "the output"
-    );
-    Ok(())
+    same(
+        &"the output",
+        &disk.bytes(OLD_OUTPUT as usize),
+        &b"0123456789".as_slice(),
+    )
 }
 
 #[test]
@@ -34,8 +34,7 @@ fn memory_disk_cuts_files(rt: HostRuntime) -> Result<(), Fail> {
     let folder = Text::from_slice(alloc, b"out")?;
     disk.mount(&folder, &List::empty(alloc), &folder)?;
     trim(&mut disk, 0, 2)?;
-    assert_eq!(rt; disk.bytes(0), b"gi".as_slice(), "slot 0");
-    Ok(())
+    same(&"slot 0", &disk.bytes(0), &b"gi".as_slice())
 }
 
 #[test]
@@ -47,12 +46,11 @@ fn folder_disk_keeps_files(rt: HostRuntime) -> Result<(), Fail> {
     disk.mount(&output, &List::empty(alloc), &here)?;
     disk.write_at(OLD_OUTPUT, 0, b"0123456789")?;
     disk.write_at(OLD_OUTPUT, 8, b"abcd")?;
-    assert_eq!(rt;
-        fs::read_to_string(&rt, "new/out/output.asc")?.as_str(),
-        "01234567abcd",
-        "the output's file"
-    );
-    Ok(())
+    same(
+        &"the output's file",
+        &fs::read_to_string(&rt, "new/out/output.asc")?.as_str(),
+        &"01234567abcd",
+    )
 }
 
 #[test]
@@ -74,7 +72,7 @@ fn folder_disk_names_files(rt: HostRuntime) -> Result<(), Fail> {
         ("named/recombined.asc", "recombined"),
     ];
     for (path, bytes) in cases {
-        assert_eq!(rt; fs::read_to_string(&rt, path)?.as_str(), *bytes, "{path}");
+        same(&path, &fs::read_to_string(&rt, path)?.as_str(), bytes)?;
     }
     Ok(())
 }
@@ -89,8 +87,7 @@ fn folder_disk_cuts_files(rt: HostRuntime) -> Result<(), Fail> {
     disk.write_at(SLOTS - 1, 0, b"kept")?;
     disk.cut(SLOTS - 1, 3)?;
     disk.sync(SLOTS - 1)?;
-    assert_eq!(rt; disk.length(SLOTS - 1)?, 3, "the last slot");
-    Ok(())
+    same(&"the last slot", &disk.length(SLOTS - 1)?, &3)
 }
 
 #[test]
@@ -101,23 +98,22 @@ fn folder_disk_fails_outside_its_files(rt: HostRuntime) -> Result<(), Fail> {
     let mut disk = FolderDisk::new(rt, alloc);
     disk.mount(&output, &List::empty(alloc), &here)?;
     disk.write_at(OLD_OUTPUT, 0, b"012345678")?;
-    assert_eq!(rt;
-        disk.write_at(OLD_OUTPUT, 10, b"x"),
-        Err(DiskFault::Failed),
-        "past the end"
-    );
-    assert_eq!(rt;
-        disk.cut(OLD_OUTPUT, 10),
-        Err(DiskFault::Failed),
-        "longer than the file"
-    );
+    same(
+        &"past the end",
+        &disk.write_at(OLD_OUTPUT, 10, b"x"),
+        &Err(DiskFault::Failed),
+    )?;
+    same(
+        &"longer than the file",
+        &disk.cut(OLD_OUTPUT, 10),
+        &Err(DiskFault::Failed),
+    )?;
     let mut into = [0; 3];
-    assert_eq!(rt;
-        disk.read(OLD_OUTPUT, 7, &mut into),
-        Err(DiskFault::Failed),
-        "past the end"
-    );
-    Ok(())
+    same(
+        &"past the end",
+        &disk.read(OLD_OUTPUT, 7, &mut into),
+        &Err(DiskFault::Failed),
+    )
 }
 
 #[test]
@@ -129,12 +125,11 @@ fn memory_disk_writes_anew(rt: HostRuntime) -> Result<(), Fail> {
     let folder = Text::from_slice(alloc, b"out")?;
     disk.mount(&folder, &List::empty(alloc), &folder)?;
     rewrite(&mut disk, 0, b"new")?;
-    assert_eq!(rt;
-        read_whole(alloc, &mut disk, 0)?.as_slice(),
-        b"new".as_slice(),
-        "slot 0"
-    );
-    Ok(())
+    same(
+        &"slot 0",
+        &read_whole(alloc, &mut disk, 0)?.as_slice(),
+        &b"new".as_slice(),
+    )
 }
 
 #[test]
@@ -154,10 +149,9 @@ fn noting_disks_share_a_list(rt: HostRuntime) -> Result<(), Fail> {
     let Ok(notes) = list.try_borrow() else {
         return Err(Fail::new("the list is in use"));
     };
-    assert_eq!(rt;
-        notes.as_slice(),
-        [1, 2, 1, 1].as_slice(),
-        "whose calls changed a file"
-    );
-    Ok(())
+    same(
+        &"whose calls changed a file",
+        &notes.as_slice(),
+        &[1, 2, 1, 1].as_slice(),
+    )
 }

@@ -4,6 +4,7 @@ use cx_disk::{Disk, DiskFault, FailingDisk, FuseDisk, MemoryDisk, OLD_OUTPUT, pu
 use cx_text::{List, Memory, Text};
 use std::alloc::Global;
 use std::test::Fail;
+use test_cases::same;
 
 // The choices whose images are looked at for torn changes.
 const CHOICES: u64 = 32;
@@ -82,12 +83,8 @@ fn failing_disk_goes_on(rt: HostRuntime) -> Result<(), Fail> {
     ];
     for (fail, done, bytes) in cases {
         let (disk, found) = after_failure(alloc, *fail)?;
-        assert!(rt; found == *done, "call {fail} fails");
-        assert_eq!(rt;
-            disk.bytes(OLD_OUTPUT as usize),
-            *bytes,
-            "call {fail} fails"
-        );
+        same(&("call", fail), &found, done)?;
+        same(&("call", fail), &disk.bytes(OLD_OUTPUT as usize), bytes)?;
     }
     Ok(())
 }
@@ -98,12 +95,12 @@ fn image_has_what_is_synced(rt: HostRuntime) -> Result<(), Fail> {
     let cases: &[(u64, &[u8])] = &[(0, b""), (1, b"loose")];
     for (choice, bytes) in cases {
         let image = synced_image(alloc, *choice)?;
-        assert_eq!(rt; image.bytes(0), *bytes, "choice {choice}");
-        assert_eq!(rt;
-            image.bytes(OLD_OUTPUT as usize),
-            b"synced".as_slice(),
-            "choice {choice}"
-        );
+        same(&("choice", choice), &image.bytes(0), bytes)?;
+        same(
+            &("choice", choice),
+            &image.bytes(OLD_OUTPUT as usize),
+            &b"synced".as_slice(),
+        )?;
     }
     Ok(())
 }
@@ -123,9 +120,8 @@ fn image_is_torn(rt: HostRuntime) -> Result<(), Fail> {
         torn |= bytes != OLD && bytes != NEW;
         between |= (1..4).contains(&image.bytes(1).len());
     }
-    assert!(rt; untouched, "some image is untouched");
-    assert!(rt; written, "some image is written");
-    assert!(rt; torn, "some image is torn");
-    assert!(rt; between, "some cut is between");
-    Ok(())
+    same(&"some image is untouched", &untouched, &true)?;
+    same(&"some image is written", &written, &true)?;
+    same(&"some image is torn", &torn, &true)?;
+    same(&"some cut is between", &between, &true)
 }

@@ -9,6 +9,7 @@ use cx_folder::FolderDisk;
 use cx_text::{List, Text};
 use std::alloc::Global;
 use std::test::Fail;
+use test_cases::same;
 
 /// The name of one output.
 fn one_name(alloc: Global, name: &str) -> Result<List<Text>, Fail>
@@ -65,7 +66,7 @@ fn files_have_their_paths(rt: HostRuntime) -> Result<(), Fail> {
     write_path(&mut disk, RECOMBINED, PATHS[6])?;
     let folder = disk.into_inner();
     for path in PATHS {
-        assert!(rt; folder.reads(path, path.as_bytes()), "{path}");
+        same(&path, &folder.reads(path, path.as_bytes()), &true)?;
     }
     Ok(())
 }
@@ -80,12 +81,11 @@ fn a_sync_settles_a_file_and_new_entries(rt: HostRuntime) -> Result<(), Fail> {
     disk.cut(OLD_OUTPUT, 4)?;
     disk.sync(OLD_OUTPUT)?;
     let folder = disk.into_inner();
-    assert_eq!(rt;
-        folder.notes(),
-        "omwwsffowcs",
-        "what the folders were asked"
-    );
-    Ok(())
+    same(
+        &"what the folders were asked",
+        &folder.notes(),
+        &"omwwsffowcs",
+    )
 }
 
 /// Whether a second sync and a later write fail, where one of the calls failed in a first sync.
@@ -110,7 +110,7 @@ fn a_failed_sync_is_not_trusted_again(rt: HostRuntime) -> Result<(), Fail> {
     ];
     for (fail, fails) in cases {
         let found = after_failed_sync(rt.alloc(), *fail)?;
-        assert_eq!(rt; found, *fails, "call {fail}");
+        same(&("call", fail), &found, fails)?;
     }
     Ok(())
 }
@@ -124,7 +124,7 @@ fn two_files_have_two_paths(rt: HostRuntime) -> Result<(), Fail> {
         let names = one_name(alloc, case)?;
         let mut disk = FolderDisk::new(MemoryFolder::new(alloc, 0), alloc);
         let found = disk.mount(&here, &names, &here);
-        assert_eq!(rt; found, Err(DiskFault::Failed), "{case}");
+        same(&case, &found, &Err(DiskFault::Failed))?;
     }
     Ok(())
 }

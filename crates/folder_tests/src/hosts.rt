@@ -8,6 +8,7 @@ use cx_text::{List, Text};
 use std::alloc::Global;
 use std::fs;
 use std::test::Fail;
+use test_cases::same;
 
 // A disk over folders of the host, which isn't mounted.
 fn host_disk(rt: HostRuntime) -> FolderDisk<HostFolder<HostRuntime>> {
@@ -61,7 +62,7 @@ fn a_host_keeps_files(rt: HostRuntime) -> Result<(), Fail> {
         ("new/checkpoint.chkpt.7", "01234567ab"),
     ];
     for (path, bytes) in cases {
-        assert_eq!(rt; fs::read_to_string(&rt, path)?.as_str(), *bytes, "{path}");
+        same(&path, &fs::read_to_string(&rt, path)?.as_str(), bytes)?;
     }
     Ok(())
 }
@@ -69,8 +70,7 @@ fn a_host_keeps_files(rt: HostRuntime) -> Result<(), Fail> {
 #[test]
 fn a_host_reads_ranges(rt: HostRuntime) -> Result<(), Fail> {
     let within = keep_on_host(rt)?;
-    assert_eq!(rt; within, *b"7ab", "a range within a file");
-    Ok(())
+    same(&"a range within a file", &within, &*b"7ab")
 }
 
 // What a call told.
@@ -110,7 +110,7 @@ fn one_run_has_a_folder(rt: HostRuntime) -> Result<(), Fail> {
         ("another run has the lock", locked),
     ];
     for (case, told) in cases {
-        assert_eq!(rt; *told, Err(DiskFault::Failed), "{case}");
+        same(&case, told, &Err(DiskFault::Failed))?;
     }
     Ok(())
 }
@@ -143,8 +143,7 @@ fn left_on_host(rt: HostRuntime) -> Result<u64, Fail> {
 #[test]
 fn a_run_leaves_its_folder(rt: HostRuntime) -> Result<(), Fail> {
     let left = left_on_host(rt)?;
-    assert_eq!(rt; left, 5, "what the first run wrote");
-    Ok(())
+    same(&"what the first run wrote", &left, &5)
 }
 
 // What a disk is told of names that clash, of ranges that aren't in a file, and of a second mount.
@@ -185,7 +184,7 @@ fn a_host_fails_outside_its_files(rt: HostRuntime) -> Result<(), Fail> {
         ("a second mount", mounted),
     ];
     for (case, told) in cases {
-        assert_eq!(rt; *told, Err(DiskFault::Failed), "{case}");
+        same(&case, told, &Err(DiskFault::Failed))?;
     }
     Ok(())
 }

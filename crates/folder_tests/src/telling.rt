@@ -7,6 +7,7 @@ use cx_folder::{FolderDisk, MemoryFolder};
 use cx_text::{List, Text};
 use std::alloc::Global;
 use std::test::Fail;
+use test_cases::same;
 
 /// A disk over folders in memory, made for these and mounted on them.
 fn mounted(alloc: Global) -> Result<FolderDisk<MemoryFolder>, Fail>
@@ -29,12 +30,11 @@ fn folders_tell_what_was_done(rt: HostRuntime) -> Result<(), Fail> {
     disk.sync(OLD_OUTPUT)?;
     let folder = disk.into_inner();
     let found = folder.bytes(b"out/output.asc");
-    assert_eq!(rt;
-        found,
-        b"0123".as_slice(),
-        "the bytes under the file's path"
-    );
+    same(
+        &"the bytes under the file's path",
+        &found,
+        &b"0123".as_slice(),
+    )?;
     // The file was made, written and synced, and then both folders were.
-    assert_eq!(rt; folder.events().len(), 5, "the events");
-    Ok(())
+    same(&"the events", &folder.events().len(), &5)
 }

@@ -11,6 +11,7 @@ use cx_plan::Job;
 use cx_run_chunks::{ChunksFault, chunk, recombine};
 use std::alloc::Global;
 use std::test::Fail;
+use test_cases::same;
 
 /// The words of a fault.
 fn fault_words(alloc: Global, fault: &ChunksFault) -> Result<String, Fail> {
@@ -199,8 +200,8 @@ fn commands_answer_and_write(rt: HostRuntime) -> Result<(), Fail> {
     for case in CASES {
         let mut disk = disk(alloc, &case.texts)?;
         let found = words(alloc, &mut disk, case.cuts)?;
-        assert_eq!(rt; found.as_str(), case.words, "{}", case.case);
-        assert!(rt; is_after(&disk, case), "{}", case.case);
+        same(&case.case, &found.as_str(), &case.words)?;
+        same(&case.case, &is_after(&disk, case), &true)?;
     }
     Ok(())
 }

@@ -6,6 +6,7 @@ use cx_disk::{FailingDisk, FuseDisk, MemoryDisk};
 use cx_text::List;
 use std::alloc::Global;
 use std::test::Fail;
+use test_cases::same;
 
 // Images of each stop.
 const CHOICES: u64 = 8;
@@ -39,7 +40,7 @@ fn a_stop_leaves_the_outputs(rt: HostRuntime) -> Result<(), Fail> {
         for calls in 0..CALLS {
             for choice in 0..CHOICES {
                 let kept = keeps_image(alloc, cuts, calls, choice)?;
-                assert!(rt; kept, "{cuts} {calls} {choice}");
+                same(&(cuts, calls, choice), &kept, &true)?;
             }
         }
     }
@@ -52,14 +53,14 @@ fn a_failure_leaves_the_outputs(rt: HostRuntime) -> Result<(), Fail> {
     for cuts in [true, false] {
         for call in 1..CALLS {
             let mut disk = after_failure(alloc, cuts, call)?;
-            assert!(rt; has_outputs(&disk, &TEXTS), "{cuts} {call}");
+            same(&(cuts, call), &has_outputs(&disk, &TEXTS), &true)?;
             let again = words(alloc, &mut disk, cuts)?;
             let want = if cuts {
                 "parts 2 records 4"
             } else {
                 "records 3 bytes 141"
             };
-            assert_eq!(rt; again.as_str(), want, "{cuts} {call}");
+            same(&(cuts, call), &again.as_str(), &want)?;
         }
     }
     Ok(())

@@ -8,6 +8,7 @@ use cx_run_made::{file_name, live_variable, made_files, scalar_named, summary};
 use cx_text::{CType, List, Memory, Text};
 use std::alloc::Global;
 use std::test::Fail;
+use test_cases::same;
 
 /// A file's name and its bytes.
 struct File {
@@ -71,16 +72,15 @@ const FILES: &[File] = &[
 #[test]
 fn files_of_a_seed_and_a_size(rt: HostRuntime) -> Result<(), Fail> {
     let files = made_files(rt.alloc(), 7, 64)?;
-    assert_eq!(rt; files.len(), FILES.len(), "how many files");
+    same(&"how many files", &files.len(), &FILES.len())?;
     for (file, expected) in files.as_slice().iter().zip(FILES) {
         let found = (file.0.as_slice(), file.1.as_slice());
         let want = (expected.name.as_bytes(), expected.bytes);
-        assert_eq!(rt; found, want, "{}", expected.name);
+        same(&expected.name, &found, &want)?;
     }
     let name = file_name(rt.alloc())?;
     let want = b"made.par".as_slice();
-    assert_eq!(rt; name.as_slice(), want, "the parameter file's name");
-    Ok(())
+    same(&"the parameter file's name", &name.as_slice(), &want)
 }
 
 /// What is summed up, and the line.
@@ -113,7 +113,7 @@ const SUMS: &[Sum] = &[
 fn sums_of_runs(rt: HostRuntime) -> Result<(), Fail> {
     for sum in SUMS {
         let line = summary(rt.alloc(), sum.seed, sum.size, sum.output, sum.live)?;
-        assert_eq!(rt; line.as_slice(), sum.line.as_bytes(), "{}", sum.line);
+        same(&sum.line, &line.as_slice(), &sum.line.as_bytes())?;
     }
     Ok(())
 }
@@ -193,9 +193,9 @@ const NO_SCALARS: &[&str] = &["life::cell", "life::lives", ""];
 #[test]
 fn scalars_by_their_names(rt: HostRuntime) -> Result<(), Fail> {
     let job = job(rt.alloc())?;
-    assert_eq!(rt; live_variable(&job), Some(VarId(1)), "life::live");
+    same(&"life::live", &live_variable(&job), &Some(VarId(1)))?;
     for name in NO_SCALARS {
-        assert_eq!(rt; scalar_named(&job, name.as_bytes()), None, "{name:?}");
+        same(&name, &scalar_named(&job, name.as_bytes()), &None)?;
     }
     Ok(())
 }
