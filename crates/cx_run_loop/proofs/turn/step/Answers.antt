@@ -21,16 +21,18 @@ returns-clause-turn g c = record {
 }
 
 pub returns-clause-picked : goal.returns-clause-picked
-returns-clause-picked g c =
-    (c.pick-k.result,
-    subst (λ (n : ℕ). g.T.Turns.picks c.args.turns.now n c.pick-k.result c.pick-k.new.self)
-    c.enabled.ensures c.pick-k.ensures.picks)
+returns-clause-picked g c = (
+  c.pick-k.result,
+  subst (λ (n : ℕ). g.T.Turns.picks c.args.turns.now n c.pick-k.result c.pick-k.new.self)
+      c.enabled.ensures c.pick-k.ensures.picks,
+)
 
 pub returns-in_err-step-clause-picked : goal.returns-in_err-step-clause-picked
-returns-in_err-step-clause-picked g c =
-    (c.pick-k.result,
-    subst (λ (n : ℕ). g.T.Turns.picks c.args.turns.now n c.pick-k.result c.pick-k.new.self)
-    c.enabled.ensures c.pick-k.ensures.picks)
+returns-in_err-step-clause-picked g c = (
+  c.pick-k.result,
+  subst (λ (n : ℕ). g.T.Turns.picks c.args.turns.now n c.pick-k.result c.pick-k.new.self)
+      c.enabled.ensures c.pick-k.ensures.picks,
+)
 
 pub returns-in_err-step-clause-points : goal.returns-in_err-step-clause-points
 returns-in_err-step-clause-points g c =

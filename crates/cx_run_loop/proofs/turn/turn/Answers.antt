@@ -11,6 +11,7 @@ use Rattle.cx_run_loop.proofs.turn.turn.Goals as goal
 
 pub keep_event-requires-clause-behind : goal.keep_event-requires-clause-behind
 keep_event-requires-clause-behind g c =
+    let turn = c.in_ok-event.ensures.turn in
     behind _ c.args.keep.now
     (place_of g.D.Disk g.W.Wire c.args.job.now _
     (run_state (runs c.args.keep.now c.args.core.now) c.args.disk.now c.args.wire.now
@@ -19,8 +20,7 @@ keep_event-requires-clause-behind g c =
     (run_state (runs c.args.keep.now c.step.new.core) c.args.disk.now c.step.new.wire
     c.step.new.meter))
     c.in_ok-event.event c.requires.able.going
-    (λ b begins first at. (c.in_ok-event.ensures.turn.k,
-    c.in_ok-event.ensures.turn.does b begins first at))
+    (λ b begins first at. (turn.k, turn.does b begins first at))
 
 pub returns-clause-advances : goal.returns-clause-advances
 returns-clause-advances g c =
