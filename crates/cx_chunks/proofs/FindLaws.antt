@@ -1,11 +1,11 @@
 -- What is found among pieces of which no two are twins.
-use Rattle.std.proofs.Common.{◌≡◌, ℕ, zero, suc, ◌+◌, ◌<◌, ◌≤◌, ◌⊎◌, inl, inr, Bool, true, false, ◌&&◌, ◌||◌, eqb, ltb, arith, refl, sym, ap, ◌∙◌, subst, List, [], ◌∷◌, ◌++◌, length, drop, Option, Some, None}
+use Rattle.std.proofs.Common.{◌≡◌, ℕ, zero, suc, ◌+◌, ◌-◌, ◌<◌, ◌≤◌, ◌⊎◌, inl, inr, Bool, true, false, ◌&&◌, ◌||◌, eqb, ltb, arith, refl, sym, ap, ◌∙◌, subst, List, [], ◌∷◌, ◌++◌, length, take, drop, Option, Some, None}
 use Rattle.std.specs.Prelude.{find, slice_get, slice_index_or, is_some, option_copied, if◌then◌else◌}
 use Rattle.std.specs.List.{list_any, position, position_or_len, AllByRecursion}
 use Rattle.std.specs.Str.{bytes_eq}
 use Rattle.std.proofs.lemmas.Bool.{cases_Bool, cases_lt, eq-eqb, eqb-true, lt-ltb, le-ltb, true≢false, and_from}
 use Rattle.std.proofs.lemmas.Option.{slice_get_past}
-use Rattle.std.proofs.lemmas.List.{length-drop}
+use Rattle.std.proofs.lemmas.List.{length-drop, take_all}
 use Rattle.std.proofs.lemmas.List.Folds.{find_at, list_any-append}
 use Rattle.std.proofs.lemmas.Slice.Eq.{bytes_eq-Decides}
 use Rattle.cx_plan.specs.Lists.{or_else, first_again, first_again_behind}
@@ -91,9 +91,9 @@ position_below p xs k is = go (cases_lt (position_or_len p xs) (length xs))
 
 get_none : {X : Type 0} (xs : List X) (k : ℕ) → slice_get xs k ≡ None → k < length xs → ⊥
 get_none [] k e l = omega (arith, l)
-get_none (x ∷ xs) zero e l = absurd (some_none x e)
+get_none {X = X} (x ∷ xs) zero e l = absurd (some_none x e)
   where
-    some_none : {X : Type 0} (y : X) → Some y ≡ None → ⊥
+    some_none : (y : X) → Some y ≡ None → ⊥
     some_none y e = cc
 get_none (x ∷ xs) (suc k) e l = get_none xs k e (omega (arith, l))
 
@@ -121,7 +121,8 @@ behind_none : {X : Type 0} (same : X → X → Bool) (before xs : List X)
     → first_again_behind same before xs ≡ None
     → AllByRecursion (λ y. list_any (same y) before ≡ false) xs
 behind_none same before [] none = tt
-behind_none same before (x ∷ xs) none = go (cases_Bool (list_any (same x) before))
+behind_none {X = X} same before (x ∷ xs) none =
+    go (behind_none same (before ++ x ∷ []) xs) (cases_Bool (list_any (same x) before))
   where
     some_none : (y : X) → Some y ≡ None → ⊥
     some_none y e = cc
@@ -135,25 +136,32 @@ behind_none same before (x ∷ xs) none = go (cases_Bool (list_any (same x) befo
       less ys all.1,
     )
 
-    go : (list_any (same x) before ≡ true) ⊎ (list_any (same x) before ≡ false)
+    go : (first_again_behind same (before ++ x ∷ []) xs ≡ None
+        → AllByRecursion (λ y. list_any (same y) (before ++ x ∷ []) ≡ false) xs)
+        → (list_any (same x) before ≡ true) ⊎ (list_any (same x) before ≡ false)
         → AllByRecursion (λ y. list_any (same y) before ≡ false) (x ∷ xs)
-    go (inl again) = absurd (some_none x (
-      ap (λ b. if b then Some x else first_again_behind same (before ++ x ∷ []) xs) (sym again)
-      ∙ none))
-    go (inr new) = (new, less xs (behind_none same (before ++ x ∷ []) xs (
-      ap (λ b. if b then Some x else first_again_behind same (before ++ x ∷ []) xs) (sym new)
-      ∙ none)))
+    go others (inl again) =
+        let e : Some x ≡ None =
+        ap (λ b. if b then Some x else first_again_behind same (before ++ x ∷ []) xs) (sym again)
+        ∙ none in
+        absurd (some_none x e)
+    go others (inr new) =
+        let e : first_again_behind same (before ++ x ∷ []) xs ≡ None =
+        ap (λ b. if b then Some x else first_again_behind same (before ++ x ∷ []) xs) (sym new)
+        ∙ none in
+        (new, less xs (others e))
 
 pub pairs_apart : {X : Type 0} (same : X → X → Bool) (before xs : List X)
     → first_again_behind same before xs ≡ None → Pairs (λ x y. same y x ≡ false) xs
 pairs_apart same before [] none = tt
-pairs_apart same before (x ∷ xs) none =
+pairs_apart {X = X} same before (x ∷ xs) none =
     let new = (behind_none same before (x ∷ xs) none).0 in
     let rest : first_again_behind same (before ++ x ∷ []) xs ≡ None =
     ap (λ b. if b then Some x else first_again_behind same (before ++ x ∷ []) xs) (sym new)
-    ∙ none in
-    (differ xs (behind_none same (before ++ x ∷ []) xs rest),
-    pairs_apart same (before ++ x ∷ []) xs rest)
+    ∙ none in (
+      differ xs (behind_none same (before ++ x ∷ []) xs rest),
+      pairs_apart same (before ++ x ∷ []) xs rest,
+    )
   where
     differ : (ys : List X) → AllByRecursion (λ y. list_any (same y) (before ++ x ∷ []) ≡ false) ys
         → AllByRecursion (λ y. same y x ≡ false) ys
@@ -173,19 +181,20 @@ all_dropped P (suc n) (x ∷ xs) all = all_dropped P n xs all.1
 
 found_is : {X : Type 0} (P : X → Type 0) (p : X → Bool) (xs : List X) (y : X)
     → AllByRecursion P xs → find p xs ≡ Some y → P y × (p y ≡ true)
-found_is P p [] y all is = absurd (none_some y is)
+found_is {X = X} P p [] y all is = absurd (none_some y is)
   where
     none_some : (x : X) → None ≡ Some x → ⊥
     none_some x e = cc
-found_is P p (x ∷ xs) y all is = go (cases_Bool (p x))
+found_is P p (x ∷ xs) y all is = go (found_is P p xs y all.1) (cases_Bool (p x))
   where
-    go : (p x ≡ true) ⊎ (p x ≡ false) → P y × (p y ≡ true)
-    go (inl this) =
+    go : (find p xs ≡ Some y → P y × (p y ≡ true)) → (p x ≡ true) ⊎ (p x ≡ false)
+        → P y × (p y ≡ true)
+    go others (inl this) =
         let e : Some x ≡ Some y = ap (λ b. if b then Some x else find p xs) (sym this) ∙ is in
         let same : x ≡ y = cc in
         (subst P same all.0, subst (λ z. p z ≡ true) same this)
-    go (inr other) =
-        found_is P p xs y all.1 (ap (λ b. if b then Some x else find p xs) (sym other) ∙ is)
+    go others (inr other) =
+        others (ap (λ b. if b then Some x else find p xs) (sym other) ∙ is)
 
 -- two pieces of one variable and iteration are twins
 twins : (full : List ℕ) (n : ℕ) (p q : Piece) → is_at full n p ≡ true → is_at full n q ≡ true
@@ -207,20 +216,20 @@ module _ (full : List ℕ) (n : ℕ) where
       → find (is_at full n) (drop k ps) ≡ Some q → find (is_at full n) ps ≡ Some q
   found_later zero ps q apart is = is
   found_later (suc k) [] q apart is = is
-  found_later (suc k) (p ∷ ps) q apart is = go (cases_Bool (is_at full n p))
+  found_later (suc k) (p ∷ ps) q apart is =
+      go (found_later k ps q apart.1 is) (cases_Bool (is_at full n p))
     where
-      go : (is_at full n p ≡ true) ⊎ (is_at full n p ≡ false)
+      go : find (is_at full n) ps ≡ Some q → (is_at full n p ≡ true) ⊎ (is_at full n p ≡ false)
           → find (is_at full n) (p ∷ ps) ≡ Some q
-      go (inl this) =
+      go others (inl this) =
           let f = found_is (λ y. is_twin y p ≡ false) (is_at full n) (drop k ps) q
           (all_dropped (λ y. is_twin y p ≡ false) k ps apart.0) is in
           absurd (true≢false (sym (twins full n p q this f.1) ∙ f.0))
-      go (inr other) =
-          ap (λ b. if b then Some p else find (is_at full n) ps) other
-          ∙ found_later k ps q apart.1 is
+      go others (inr other) =
+          ap (λ b. if b then Some p else find (is_at full n) ps) other ∙ others
 
   -- the place of what is found from a place on
-  pub found_near : (near ahead : ℕ) (ps : List Piece) → first_again is_twin ps ≡ None
+  found_near : (near ahead : ℕ) (ps : List Piece) → first_again is_twin ps ≡ None
       → position (is_at full n) (drop near ps) ≡ Some ahead
       → piece_at ps (Some (near + ahead)) ≡ find (is_at full n) ps
   found_near near ahead ps single is =
@@ -238,6 +247,16 @@ module _ (full : List ℕ) (n : ℕ) where
           let less = length-drop near ps in
           absurd (get_none ps (near + ahead) e (omega (arith, below, less)))
 
+  -- the same of all that there is from a place on
+  pub found_ahead : (near ahead : ℕ) (ps : List Piece) → first_again is_twin ps ≡ None
+      → position (is_at full n) (take (length ps - near) (drop near ps)) ≡ Some ahead
+      → piece_at ps (Some (near + ahead)) ≡ find (is_at full n) ps
+  found_ahead near ahead ps single is =
+      let less = length-drop near ps in
+      let all : take (length ps - near) (drop near ps) ≡ drop near ps =
+      take_all (length ps - near) (drop near ps) (omega (arith, less)) in
+      found_near near ahead ps single (ap (position (is_at full n)) (sym all) ∙ is)
+
 pub found_first : (full : List ℕ) (n : ℕ) (ps : List Piece) (o : Option ℕ)
     → o ≡ position (is_at full n) ps → piece_at ps o ≡ find (is_at full n) ps
 found_first full n ps (Some k) is = sym (position_finds (is_at full n) ps k (sym is))
@@ -246,7 +265,7 @@ found_first full n ps None is = sym (position_lacks (is_at full n) ps (sym is))
 -- ---- no chunk has twins
 
 none_else : {X : Type 0} (a b : Option X) → or_else a b ≡ None → (a ≡ None) × (b ≡ None)
-none_else (Some x) b e = absurd (some_none x e)
+none_else {X = X} (Some x) b e = absurd (some_none x e)
   where
     some_none : (y : X) → Some y ≡ None → ⊥
     some_none y e = cc

@@ -4,11 +4,13 @@ use Rattle.std.specs.Prelude.{slice_index_or}
 use Rattle.std.specs.Int.{int_gap}
 use Rattle.std.specs.List.{range_with_len}
 use Rattle.std.proofs.Math.Nat.{div-lt_iff_lt-mul}
+use Rattle.std.proofs.Math.Seq.{take-append_seam}
 use Rattle.std.proofs.lemmas.Bool.{cases_lt}
 use Rattle.std.proofs.lemmas.Int.{ints}
 use Rattle.std.proofs.lemmas.Nat.{div-add-mod', div-mul-add, mod-mul-add}
-use Rattle.std.proofs.lemmas.List.{get_or-take, get_or-drop, get_or_append_left, get_or-append_right, get_or-replicate, get_or_past, length-append, length-drop, length-replicate, length-take, length-take-le, take_all, drop_all}
+use Rattle.std.proofs.lemmas.List.{get_or-take, get_or-drop, get_or_append_left, get_or-append_right, get_or-replicate, get_or_past, length-append, length-drop, length-replicate, length-take, length-take-le, take_all, drop_all, drop-drop, append-nil}
 use Rattle.std.proofs.lemmas.List.FromFn.{fill_by_all, length-map-range_with_len, get_or-map-range_with_len}
+use borrow.Rule.Slice.PartMut.{put_mid}
 use Rattle.cx_grid.specs.declared.boxes.Point.{Point}
 use Rattle.cx_grid.specs.declared.boxes.Box3.{Box3}
 use Rattle.cx_grid.specs.Boxes.{IsIn, extent, point_count, index_in, point_in}
@@ -89,6 +91,60 @@ row_pushed xs from n run old mid new is pushed now =
     ∙ ap (λ (l : List ℤ). old ++ (l ++ replicate (n - length l) (pos 0))) is
     ∙ ap (λ (l : List ℤ). old ++ l) (values_are xs from n)
 
+-- a row that is set: what is there in front, and zeros behind
+set_again : (xs : List ℤ) (from : ℕ) (row run filled : List ℤ)
+    → run ≡ take (length row) (drop from xs) → length run ≤ length row
+    → filled ≡ replicate (length (take (length (run ++ drop (length run) row) - length run)
+    (drop (length run) (run ++ drop (length run) row)))) (pos 0)
+    → put_mid (length run) (length (run ++ drop (length run) row) - length run)
+    (run ++ drop (length run) row) filled
+    ≡ values_from xs from (length row)
+set_again xs from row run filled is few none =
+    let all = run ++ drop (length run) row in
+    let a = length-append run (drop (length run) row) in
+    let b = length-drop (length run) row in
+    let c = length-take (length all - length run) (drop (length run) all) in
+    let d = length-drop (length run) all in
+    let size : length (take (length all - length run) (drop (length run) all))
+    ≡ length row - length run = omega (arith, a, b, c, d, few) in
+    let none_left : drop (length all - length run) (drop (length run) all) ≡ [] =
+    drop_all (length all - length run) (drop (length run) all) (omega (arith, d)) in
+    ap (λ (l : List ℤ). l ++ (filled ++ drop (length all - length run) (drop (length run) all)))
+    (take-append_seam run (drop (length run) row))
+    ∙ ap (λ (l : List ℤ). run ++ (filled ++ l)) none_left
+    ∙ ap (λ (l : List ℤ). run ++ l) (append-nil filled)
+    ∙ ap (λ (l : List ℤ). run ++ l) (none ∙ ap (λ m. replicate m (pos 0)) size)
+    ∙ ap (λ (l : List ℤ). l ++ replicate (length row - length l) (pos 0)) is
+    ∙ values_are xs from (length row)
+
+pub row_set : (xs : List ℤ) (from : ℕ) (row run copied filled : List ℤ)
+    → run ≡ take (length row) (drop from xs) → length run ≤ length row → copied ≡ run
+    → filled ≡ replicate (length (take (length (copied ++ drop (length run) row) - length run)
+    (drop (length run) (copied ++ drop (length run) row)))) (pos 0)
+    → put_mid (length run) (length (copied ++ drop (length run) row) - length run)
+    (copied ++ drop (length run) row) filled
+    ≡ values_from xs from (length row)
+row_set xs from row run copied filled is few copied_is none =
+    ap (λ (l : List ℤ). put_mid (length run) (length (l ++ drop (length run) row) - length run)
+    (l ++ drop (length run) row) filled) copied_is
+    ∙ set_again xs from row run filled is few (none
+    ∙ ap (λ (l : List ℤ). replicate (length (take (length (l ++ drop (length run) row) - length run)
+    (drop (length run) (l ++ drop (length run) row)))) (pos 0)) copied_is)
+
+-- a list in which a row is set
+pub row_at : (level new values : List ℤ) (at n from : ℕ) → at + n ≤ length level
+    → new ≡ values_from values from (length (take (at + n - at) (drop at level)))
+    → put_mid at (at + n - at) level new ≡ with_row level at n (values_from values from n)
+row_at level new values at n from room is =
+    let a = length-take (at + n - at) (drop at level) in
+    let b = length-drop at level in
+    let size : length (take (at + n - at) (drop at level)) ≡ n = omega (arith, a, b, room) in
+    let end : at + (at + n - at) ≡ at + n = omega arith in
+    ap (λ (l : List ℤ). take at level ++ (new ++ l))
+    (drop-drop (at + n - at) at level ∙ ap (λ k. drop k level) end)
+    ∙ ap (λ (l : List ℤ). take at level ++ (l ++ drop (at + n) level))
+    (is ∙ ap (values_from values from) size)
+
 pub values_count : (xs : List ℤ) (from n : ℕ) → length (values_from xs from n) ≡ n
 values_count xs from n =
     length-map-range_with_len (λ i. slice_index_or xs (from + i) (pos 0)) 0 n
@@ -163,6 +219,28 @@ module _ (level row : List ℤ) (at n : ℕ) (room : at + n ≤ length level) (c
         (omega (arith, l))
         ∙ get_or-drop (at + n) level (k - at - n) (pos 0)
         ∙ ap (λ i. slice_index_or level i (pos 0)) e
+
+-- the same of a Vec, of which a part is lent
+pub vec_row : (level lent new values : List ℤ) (len at n from : ℕ) → lent ≡ level
+    → len ≡ length level → at + n ≤ length level
+    → new ≡ values_from values from (length (take (at + n - at) (drop at lent)))
+    → take len (put_mid at (at + n - at) lent new
+    ++ drop (length (put_mid at (at + n - at) lent new)) level)
+    ≡ with_row level at n (values_from values from n)
+vec_row level lent new values len at n from lent_is len_is room is =
+    let all = put_mid at (at + n - at) lent new in
+    let row = values_from values from n in
+    let same : all ≡ with_row level at n row =
+    ap (λ (l : List ℤ). put_mid at (at + n - at) l new) lent_is
+    ∙ row_at level new values at n from room
+    (is ∙ ap (λ (l : List ℤ). values_from values from (length (take (at + n - at) (drop at l))))
+    lent_is) in
+    let size : length all ≡ length level =
+    ap length same ∙ row_length level row at n room (values_count values from n) in
+    let none : drop (length all) level ≡ [] =
+    drop_all (length all) level (omega (arith, size)) in
+    ap (λ (l : List ℤ). take len (all ++ l)) none ∙ ap (take len) (append-nil all)
+    ∙ take_all len all (omega (arith, size, len_is)) ∙ same
 
 -- ---- where rows are
 
@@ -338,3 +416,41 @@ module _ (all own : Box3) (values old level : List ℤ)
           absurd (omega (arith, far, same, l)))
           ∙ put.others p here (λ own_p. let far = past own_p in omega (arith, far));
     }
+
+-- ---- one row more, as the loops have it
+
+pub row_start : (own : Box3) (i w : ℕ) → w ≡ extent own 0 → IsStart own i → i < point_count own
+    → IsStart own (i + w)
+row_start own i w is start below =
+    subst (λ n. IsStart own (i + n)) (sym is) (row_is own i start below).next
+
+pub put_more : (all own : Box3) (values old level next : List ℤ)
+    → ((p : Point) → IsIn own p → IsIn all p) → (i w spot : ℕ) → IsStart own i → i < point_count own
+    → IsPut all own values old i level → w ≡ extent own 0 → spot ≡ index_in all (point_in own i)
+    → next ≡ with_row level spot w (values_from values i w)
+    → IsPut all own values old (i + w) next
+put_more all own values old level next inside i w spot start below put width place is =
+    let e : next ≡ with_row level (index_in all (point_in own i)) (extent own 0)
+    (values_from values i (extent own 0)) =
+    is ∙ ap (λ n. with_row level n w (values_from values i w)) place
+    ∙ ap (λ n. with_row level (index_in all (point_in own i)) n (values_from values i n)) width in
+    subst (λ n. IsPut all own values old (i + n) next) (sym width)
+    (subst (λ (l : List ℤ). IsPut all own values old (i + extent own 0) l) (sym e)
+    (row_put all own values old level inside i start below put))
+
+pub cut_more : (all own : Box3) (level old new : List ℤ)
+    → ((p : Point) → IsIn own p → IsIn all p) → (i w spot : ℕ) → IsStart own i → i < point_count own
+    → w ≡ extent own 0 → spot ≡ index_in all (point_in own i)
+    → old ≡ map (λ k. slice_index_or level (index_in all (point_in own k)) (pos 0))
+    (range_with_len 0 i)
+    → new ≡ old ++ values_from level spot w
+    → new ≡ map (λ k. slice_index_or level (index_in all (point_in own k)) (pos 0))
+    (range_with_len 0 (i + w))
+cut_more all own level old new inside i w spot start below width place before now =
+    grown_row (λ k. slice_index_or level (index_in all (point_in own k)) (pos 0)) old new
+    (values_from level spot w) i w before (values_count level spot w)
+    (λ j l. value_is level spot w j l
+    ∙ ap (λ n. slice_index_or level n (pos 0))
+    (ap (λ n. n + j) place
+    ∙ sym (row_place all own i j start.first (omega (arith, l, width))
+    (inside (point_in own i) (point_inside own i below))))) now

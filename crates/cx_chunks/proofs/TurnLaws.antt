@@ -1,17 +1,18 @@
 -- Pieces that come in turn have no twins.
-use Rattle.std.proofs.Common.{◌≡◌, ℕ, zero, suc, ◌+◌, ◌-◌, ◌<◌, ◌≤◌, ◌⊎◌, inl, inr, Bool, true, false, not, ◌&&◌, eqb, arith, refl, sym, ap, ◌∙◌, subst, List, [], ◌∷◌, ◌++◌, length, take, get_or, Option, Some, None}
+use Rattle.std.proofs.Common.{◌≡◌, ℕ, zero, suc, ◌+◌, ◌-◌, ◌<◌, ◌≤◌, ◌⊎◌, inl, inr, Bool, true, false, not, ◌&&◌, eqb, arith, refl, sym, ap, ◌∙◌, subst, List, [], ◌∷◌, ◌++◌, length, take, drop, get_or, Option, Some, None}
 use Rattle.std.specs.Prelude.{nat_lt, slice_get, if◌then◌else◌}
 use Rattle.std.specs.List.{list_any, AllByRecursion}
 use Rattle.std.proofs.lemmas.Bool.{cases_Bool, eqb-true, ltb-true, true≢false, not-true}
 use Rattle.std.proofs.lemmas.List.{length-append}
 use Rattle.std.proofs.lemmas.Slice.Eq.{bytes_eq-Decides}
 use Rattle.cx_ascii_read.proofs.RowLaws.{all-append}
+use Rattle.cx_plan.specs.Lists.{first_again_behind}
 use Rattle.cx_chunks.specs.declared.piece.Piece.{Piece}
 use Rattle.cx_chunks.specs.Combining.{full_of, iteration_of, is_of, is_twin}
 use Rattle.cx_chunks.specs.Turns.{in_turn_behind}
 use Rattle.cx_chunks.proofs.PieceLists.{name_is, any_none}
 use Rattle.cx_chunks.proofs.FindLaws.{both_hold, neither}
-use Rattle.cx_chunks.proofs.StepLaws.{taken}
+use Rattle.cx_chunks.proofs.StepLaws.{taken, left_over}
 
 -- the last of some pieces
 abbrev pub last_of : List Piece → Option Piece
@@ -96,7 +97,7 @@ turn_single ps p before = any_none (is_twin p) ps (go ps before)
     go (q ∷ qs) all = (this (cases_Bool (is_twin p q)), go qs all.1)
       where
         this : (is_twin p q ≡ true) ⊎ (is_twin p q ≡ false) → is_twin p q ≡ false
-        this (inr no) = no
+        this (inr differs) = differs
         this (inl twin) =
             let b = both_hold (is_of (full_of q) p) (eqb (iteration_of p) (iteration_of q)) twin in
             let less = all.0 (name_is (full_of q) (full_of p) (sym (name_of q p b.0))) in
@@ -129,13 +130,28 @@ top_more ps p before q e =
 pub next_single : (turn now : Bool) (ps : List Piece) (p : Piece) → (turn ≡ true → IsTop ps)
     → now ≡ (turn && in_turn_behind (last_of ps) ps p)
     → now ≡ true → list_any (is_twin p) ps ≡ false
-next_single turn now ps p tops is yes =
-    let b = both_hold turn (in_turn_behind (last_of ps) ps p) (sym is ∙ yes) in
+next_single turn now ps p tops is turns =
+    let b = both_hold turn (in_turn_behind (last_of ps) ps p) (sym is ∙ turns) in
     turn_single ps p (turn_before ps p (tops b.0) b.1)
 
 pub next_top : (turn now : Bool) (ps : List Piece) (p : Piece) → (turn ≡ true → IsTop ps)
     → now ≡ (turn && in_turn_behind (last_of ps) ps p)
     → now ≡ true → IsTop (ps ++ p ∷ [])
-next_top turn now ps p tops is yes =
-    let b = both_hold turn (in_turn_behind (last_of ps) ps p) (sym is ∙ yes) in
+next_top turn now ps p tops is turns =
+    let b = both_hold turn (in_turn_behind (last_of ps) ps p) (sym is ∙ turns) in
     top_more ps p (turn_before ps p (tops b.0) b.1)
+
+-- one piece more that is no twin
+pub again_more : (ps : List Piece) (k : ℕ) (p : Piece) (w : Option Piece) → k < length ps
+    → p ≡ get_or ps k p → list_any (is_twin p) (take k ps) ≡ false
+    → first_again_behind is_twin (take k ps) (drop k ps) ≡ w
+    → first_again_behind is_twin (take (k + 1) ps) (drop (k + 1) ps) ≡ w
+again_more ps k p w within at new all =
+    ap (λ (l : List Piece). first_again_behind is_twin l (drop (k + 1) ps)) (taken ps k p within at)
+    ∙ ap (λ b. if b then Some p
+    else first_again_behind is_twin (take k ps ++ p ∷ []) (drop (k + 1) ps)) (sym new)
+    ∙ ap (first_again_behind is_twin (take k ps)) (sym (left_over ps k p within at)) ∙ all
+
+pub top_taken : (ps : List Piece) (k : ℕ) (p : Piece) → k < length ps → p ≡ get_or ps k p
+    → IsTop (take k ps ++ p ∷ []) → IsTop (take (k + 1) ps)
+top_taken ps k p within at = subst IsTop (sym (taken ps k p within at))

@@ -177,6 +177,14 @@ fn is_in_turn(before: &[Piece], piece: &Piece) -> bool
     }
 }
 
+/// Whether pieces came in turn, and one more does.
+fn goes_on(in_turn: bool, before: &[Piece], piece: &Piece) -> bool
+    ensures { result ≡ (in_turn && in_turn_behind
+        (slice_get before.now (length before.now - 1)) before.now piece.now) }
+{
+    in_turn && is_in_turn(before, piece)
+}
+
 /// Whether one of the pieces before a piece is its twin. None is where all came in turn, it too.
 fn is_again(in_turn: bool, before: &[Piece], piece: &Piece) -> bool
     requires { in_turn ≡ true → list_any (is_twin piece.now) before.now ≡ false }
@@ -192,11 +200,12 @@ fn check_twins(alloc: Global, part: u32, pieces: &[Piece]) -> Result<(), ChunkFa
     let mut in_turn = true;
     'pieces: for place in 0..pieces.len() {
         let (before, piece) = (&pieces[..place], &pieces[place]);
-        in_turn = in_turn && is_in_turn(before, piece);
-        if is_again(in_turn, before, piece) {
+        let turn = goes_on(in_turn, before, piece);
+        if is_again(turn, before, piece) {
             let full = piece.full().copy(alloc)?;
             return Err(ChunkFault::Double(part, full, piece.iteration()));
         }
+        in_turn = turn;
     }
     Ok(())
 }
@@ -223,7 +232,7 @@ fn has_piece(
     part: u32,
     pieces: &[Piece],
 ) -> bool
-    requires single { first_again is_twin pieces.now ≡ None }
+    requires { first_again is_twin pieces.now ≡ None }
     ensures { result ≡ list_any (is_at full.now iteration) pieces.now }
 {
     find_piece(cursors, full, iteration, part, pieces).is_some()
@@ -248,7 +257,7 @@ fn check_everywhere(
     full: &Text,
     iteration: u64,
 ) -> Result<(), ChunkFault>
-    requires single { first_of_chunks double_in 0 chunks.now ≡ None }
+    requires { first_of_chunks double_in 0 chunks.now ≡ None }
     ensures { Tells faults.Memory (missing_at cut.now chunks.now full.now iteration) result }
 {
     'parts: for part in 0..cut.count() {
@@ -267,7 +276,7 @@ fn check_iterations(
     full: &Text,
     iterations: &[u64],
 ) -> Result<(), ChunkFault>
-    requires single { first_of_chunks double_in 0 chunks.now ≡ None }
+    requires { first_of_chunks double_in 0 chunks.now ≡ None }
     ensures { Tells faults.Memory
         (first_of_each (missing_at cut.now chunks.now full.now) iterations.now) result }
 {
@@ -285,7 +294,7 @@ fn check_variable(
     chunks: &[List<Piece>],
     info: &VarInfo,
 ) -> Result<(), ChunkFault>
-    requires single { first_of_chunks double_in 0 chunks.now ≡ None }
+    requires { first_of_chunks double_in 0 chunks.now ≡ None }
     ensures { Tells faults.Memory (missing_of cut.now chunks.now info.now) result }
 {
     if info.scalar {

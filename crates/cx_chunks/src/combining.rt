@@ -34,7 +34,7 @@ fn values_in<'a>(
     iteration: u64,
     part: u32,
 ) -> &'a [i64]
-    requires single { first_of_chunks double_in 0 chunks.now ≡ None }
+    requires { first_of_chunks double_in 0 chunks.now ≡ None }
     ensures { result.now ≡ values_in chunks.now full.now iteration part }
 {
     match find_piece(cursors, full, iteration, part, chunk(chunks, part)) {
@@ -203,6 +203,7 @@ fn check(alloc: Global, job: &Job, cut: &Cut, chunks: &[List<Piece>]) -> Result<
 ///   then the least iteration, then the least part.
 ///
 /// `Memory`: out of memory.
+#[tactic(auto, using(crate::proofs::FindLaws::no_double))]
 pub fn combine(
     alloc: Global,
     job: &Job,

@@ -77,7 +77,7 @@ pub(crate) fn find_piece<'a>(
     part: u32,
     pieces: &'a [Piece],
 ) -> Option<&'a Piece>
-    requires single { first_again is_twin pieces.now ≡ None }
+    requires { first_again is_twin pieces.now ≡ None }
     ensures { option_copied result ≡ find (is_at full.now iteration) pieces.now }
 {
     let near = cursors.place(part).min(pieces.len());
