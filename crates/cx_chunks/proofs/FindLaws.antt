@@ -1,5 +1,5 @@
 -- What is found among pieces of which no two are twins.
-use Rattle.std.proofs.Common.{◌≡◌, ℕ, zero, suc, ◌+◌, ◌-◌, ◌<◌, ◌≤◌, ◌⊎◌, inl, inr, Bool, true, false, ◌&&◌, ◌||◌, eqb, ltb, arith, refl, sym, ap, ◌∙◌, subst, List, [], ◌∷◌, ◌++◌, length, take, drop, Option, Some, None}
+use Rattle.std.proofs.Common.{◌≡◌, ℕ, zero, suc, ◌+◌, ◌-◌, ◌<◌, ◌≤◌, ◌⊎◌, inl, inr, Bool, true, false, ◌&&◌, ◌||◌, eqb, ltb, arith, refl, sym, ap, ◌∙◌, subst, List, [], ◌∷◌, ◌++◌, length, take, drop, Option, Some, None, Bor}
 use Rattle.std.specs.Prelude.{find, slice_get, slice_index_or, is_some, option_copied, if◌then◌else◌}
 use Rattle.std.specs.List.{list_any, position, position_or_len, AllByRecursion}
 use Rattle.std.specs.Str.{bytes_eq}
@@ -106,7 +106,7 @@ get_drop (suc n) (x ∷ xs) k =
     get_drop n xs k ∙ ap (slice_get (x ∷ xs)) (sym e)
 
 -- one is among them where one is found
-pub any_found : {X : Type 0} (p : X → Bool) (xs : List X) → is_some (find p xs) ≡ list_any p xs
+any_found : {X : Type 0} (p : X → Bool) (xs : List X) → is_some (find p xs) ≡ list_any p xs
 any_found p [] = refl
 any_found p (x ∷ xs) = go (p x) (any_found p xs)
   where
@@ -114,6 +114,15 @@ any_found p (x ∷ xs) = go (p x) (any_found p xs)
         → is_some (if b then Some x else find p xs) ≡ (b || list_any p xs)
     go true e = refl
     go false e = e
+
+-- whether one was found
+pub any_is : {T : Type 0} (p : T → Bool) (xs : List T) (r : Option (Bor T)) (b : Bool)
+    → option_copied r ≡ find p xs → b ≡ is_some r → b ≡ list_any p xs
+any_is p xs r b found is = is ∙ copied r ∙ ap is_some found ∙ any_found p xs
+  where
+    copied : {T : Type 0} (o : Option (Bor T)) → is_some o ≡ is_some (option_copied o)
+    copied (Some x) = refl
+    copied None = refl
 
 -- ---- no two are twins
 

@@ -224,7 +224,7 @@ pub(crate) fn check_doubles(alloc: Global, chunks: &[List<Piece>]) -> Result<(),
 }
 
 /// Whether the chunk of a part has a piece of this variable and iteration.
-#[tactic(auto, using(crate::proofs::FindLaws::any_found))]
+#[tactic(auto, using(crate::proofs::FindLaws::any_is))]
 fn has_piece(
     cursors: &mut Cursors,
     full: &Text,
