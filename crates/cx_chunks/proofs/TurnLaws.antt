@@ -20,7 +20,8 @@ last_of ps = slice_get ps (length ps - 1)
 
 -- no piece of this one's variable is later; each is earlier
 abbrev pub NotAfter : Piece → List Piece → Type 0
-NotAfter p ps = AllByRecursion (λ q. is_of (full_of p) q ≡ true → iteration_of q ≤ iteration_of p) ps
+NotAfter p ps =
+    AllByRecursion (λ q. is_of (full_of p) q ≡ true → iteration_of q ≤ iteration_of p) ps
 
 abbrev pub Before : Piece → List Piece → Type 0
 Before p ps = AllByRecursion (λ q. is_of (full_of p) q ≡ true → iteration_of q < iteration_of p) ps
