@@ -7,7 +7,6 @@ use cx_text::{List, Style, Text, tokens};
 use sample_files::{control, diffint, elemca, life2d, waveint};
 use std::alloc::Global;
 use std::test::Fail;
-use test_cases::same;
 
 const ELEMCA: Files = (b"ElemCA", elemca::INTERFACE, elemca::PARAM, b"");
 
@@ -184,7 +183,7 @@ fn bound_words(alloc: Global, all: &[Files]) -> Result<Text, Fail> {
 fn thorns_fit_or_have_their_first_fault(rt: HostRuntime) -> Result<(), Fail> {
     for (place, (all, want)) in BINDINGS.iter().enumerate() {
         let told = bound_words(rt.alloc(), all)?;
-        same(&("row", place, want), &told.as_slice(), &want.as_bytes())?;
+        assert_eq!(rt; told.as_slice(), want.as_bytes(), "row {place}: {want}");
     }
     Ok(())
 }
@@ -219,7 +218,7 @@ fn active_thorns_have_one_place_each(rt: HostRuntime) -> Result<(), Fail> {
     ];
     for (active, want) in cases {
         let told = selected(alloc, active)?;
-        same(&want, &told.as_slice(), &want.as_bytes())?;
+        assert_eq!(rt; told.as_slice(), want.as_bytes(), "{want}");
     }
     Ok(())
 }
@@ -250,15 +249,15 @@ fn sample_thorns_have_their_variables_and_parameters(rt: HostRuntime) -> Result<
     }
     let want: &[u8] =
         b" ca::cell ca::live wave::phi wave::total diff::u diff::total control::count";
-    same(&"variables", &names.as_slice(), &want)?;
+    assert_eq!(rt; names.as_slice(), want, "variables");
     let parameters = bound.parameters().as_slice();
-    same(&"how many parameters", &parameters.len(), &54)?;
-    same(&"ranges of ca::rule", &parameters[34].ranges.len(), &2)?;
+    assert_eq!(rt; parameters.len(), 54, "how many parameters");
+    assert_eq!(rt; parameters[34].ranges.len(), 2, "ranges of ca::rule");
     for (place, full, thorn) in PARAMETERS {
         match parameters.get(*place) {
             Some(parameter) => {
                 let found = (parameter.full.as_slice(), parameter.thorn);
-                same(&full, &found, &(full.as_bytes(), *thorn))?;
+                assert_eq!(rt; found, (full.as_bytes(), *thorn), "{full}");
             }
             None => panic!(rt; "no parameter {place}"),
         }

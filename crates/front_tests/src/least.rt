@@ -4,7 +4,6 @@ use cx_order_least::{Sorted, least_order};
 use cx_text::List;
 use std::alloc::Global;
 use std::test::Fail;
-use test_cases::same;
 
 /// How many numbers there are, pairs of them, and the least order.
 const ORDERS: &[(usize, &[(usize, usize)], &[usize])] = &[
@@ -45,7 +44,7 @@ fn orders_are_the_least_and_cycles_begin_with_the_least(rt: HostRuntime) -> Resu
         for (count, pairs, want) in table {
             let (found, numbers) = sorted(rt.alloc(), *count, pairs)?;
             let found = (found, numbers.as_slice());
-            same(&(count, pairs), &found, &(is_order, *want))?;
+            assert_eq!(rt; found, (is_order, *want), "{count} numbers, {pairs:?}");
         }
     }
     Ok(())

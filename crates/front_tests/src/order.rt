@@ -15,7 +15,6 @@ use sample_files::elemca;
 use std::alloc::Global;
 use std::process::Abort;
 use std::test::Fail;
-use test_cases::same;
 
 /// A thorn's name, and its interface, param and schedule files.
 #[derive(Clone, Copy)]
@@ -316,11 +315,11 @@ fn the_automaton(rt: HostRuntime) -> Result<(), Fail> {
     match ordered(alloc, &[AUTOMATON])? {
         Some(Ok(ordered)) => {
             let schedule = ordered.text.as_slice();
-            same(&"the schedule", &schedule, &AUTOMATON_TEXT.as_bytes())?;
+            assert_eq!(rt; schedule, AUTOMATON_TEXT.as_bytes(), "the schedule");
             let levels = [1u8, 1];
             let storage = ordered.storage.as_slice();
-            same(&"stored levels", &storage, &levels.as_slice())?;
-            same(&"how many items", &ordered.items.len(), &4)?;
+            assert_eq!(rt; storage, levels.as_slice(), "stored levels");
+            assert_eq!(rt; ordered.items.len(), 4, "how many items");
         }
         _ => panic!(rt; "the automaton has no order"),
     }
@@ -362,7 +361,8 @@ fn assert_told(
     want: &str,
 ) -> Result<(), Fail> {
     let told = told(alloc, thorns)?;
-    same(&name, &told.as_slice(), &want.as_bytes())
+    assert_eq!(rt; told.as_slice(), want.as_bytes(), "{name}");
+    Ok(())
 }
 
 #[test]
@@ -440,11 +440,8 @@ fn nested_groups_and_a_large_bin(rt: HostRuntime) -> Result<(), Fail> {
     let thorn = with_parameter(b"T", b"implements: t\n", schedule.as_slice());
     let told = told(alloc, &[thorn])?;
     let first: &[u8] = b"  call T::e4082\n  call T::e4081\n";
-    same(&"a large bin", &told.as_slice().starts_with(first), &true)?;
+    assert!(rt; told.as_slice().starts_with(first), "a large bin");
     let last: &[u8] = b"  call T::e5\n  call T::e4\n";
-    same(
-        &"a large bin's end",
-        &told.as_slice().ends_with(last),
-        &true,
-    )
+    assert!(rt; told.as_slice().ends_with(last), "a large bin's end");
+    Ok(())
 }

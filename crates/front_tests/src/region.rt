@@ -13,7 +13,6 @@ use cx_region::{RegionFault, check};
 use cx_text::{Boxed, CType, List, Memory, Text};
 use std::alloc::Global;
 use std::test::Fail;
-use test_cases::same;
 
 const WAVE: VarId = VarId(0);
 
@@ -257,7 +256,8 @@ fn a_wave_that_is_exchanged_is_sound(rt: HostRuntime) -> Result<(), Fail> {
     let between = sync(alloc)?;
     let evol = step(alloc, between)?;
     let sound = is_sound(alloc, first, evol)?;
-    same(&"an exchanged wave", &sound, &true)
+    assert!(rt; sound, "an exchanged wave");
+    Ok(())
 }
 
 #[test]
@@ -267,7 +267,8 @@ fn a_wave_without_exchange_is_not(rt: HostRuntime) -> Result<(), Fail> {
     let between = nothing(alloc);
     let evol = step(alloc, between)?;
     let sound = is_sound(alloc, first, evol)?;
-    same(&"no exchange", &sound, &false)
+    assert!(rt; !sound, "no exchange");
+    Ok(())
 }
 
 #[test]
@@ -277,7 +278,8 @@ fn whiles_in_one_another_take_no_time(rt: HostRuntime) -> Result<(), Fail> {
     let turns = nested(alloc, 30, Tree::Call(2))?;
     let evol = both(alloc, turns, Tree::Call(1))?;
     let sound = is_sound(alloc, first, evol)?;
-    same(&"thirty WHILEs, one in another", &sound, &true)
+    assert!(rt; sound, "thirty WHILEs, one in another");
+    Ok(())
 }
 
 /// Whether this need is shown, on a way of these letters.
@@ -314,7 +316,8 @@ fn output_without_the_only_writer_is_shown(rt: HostRuntime) -> Result<(), Fail> 
     let between = sync(alloc)?;
     let evol = step(alloc, between)?;
     let shown = is_shown(alloc, first, evol, b"n", 0, Flag::I)?;
-    same(&"n, level 0, I", &shown, &true)
+    assert!(rt; shown, "n, level 0, I");
+    Ok(())
 }
 
 #[test]
@@ -323,7 +326,8 @@ fn a_missing_exchange_is_shown_in_the_second_iteration(rt: HostRuntime) -> Resul
     let first = initial(alloc, Tree::Call(1))?;
     let evol = both(alloc, Tree::Call(2), Tree::Call(4))?;
     let shown = is_shown(alloc, first, evol, b"ii", 1, Flag::G)?;
-    same(&"ii, level 1, G", &shown, &true)
+    assert!(rt; shown, "ii, level 1, G");
+    Ok(())
 }
 
 #[test]
@@ -333,5 +337,6 @@ fn a_turn_that_clears_the_boundary_is_shown(rt: HostRuntime) -> Result<(), Fail>
     let turns = nested(alloc, 3, Tree::Call(2))?;
     let evol = both(alloc, Tree::Call(1), turns)?;
     let shown = is_shown(alloc, first, evol, b"iwwwxxx", 0, Flag::B)?;
-    same(&"iwwwxxx, level 0, B", &shown, &true)
+    assert!(rt; shown, "iwwwxxx, level 0, B");
+    Ok(())
 }

@@ -8,7 +8,6 @@ use cx_scope::{group_of, resolve};
 use cx_text::{List, Text};
 use std::alloc::Global;
 use std::test::Fail;
-use test_cases::same;
 
 /// A name: what stands before `::`, the name, and the number in brackets.
 type Name = (Option<&'static str>, &'static str, Option<u32>);
@@ -179,11 +178,11 @@ fn names_through_ancestors_and_friends(rt: HostRuntime) -> Result<(), Fail> {
     let storage = stored(alloc, &[1, 1, 0, 1])?;
     for (thorn, name, want) in FAMILY_NAMES {
         let told = resolved(alloc, &bound, &storage, *thorn, *name)?;
-        same(&(thorn, name), &told.as_slice(), &want.as_bytes())?;
+        assert_eq!(rt; told.as_slice(), want.as_bytes(), "{thorn} {name:?}");
     }
     for (thorn, name, want) in FAMILY_GROUPS {
         let told = grouped(alloc, &bound, *thorn, *name)?;
-        same(&(thorn, name), &told.as_slice(), &want.as_bytes())?;
+        assert_eq!(rt; told.as_slice(), want.as_bytes(), "{thorn} {name:?}");
     }
     Ok(())
 }
@@ -195,7 +194,7 @@ fn equal_names_copies_and_past_levels(rt: HostRuntime) -> Result<(), Fail> {
     let storage = stored(alloc, &[3, 1, 2, 1, 1, 1, 2, 2, 1, 1, 2])?;
     for (thorn, name, want) in TWIN_NAMES {
         let told = resolved(alloc, &bound, &storage, *thorn, *name)?;
-        same(&(thorn, name), &told.as_slice(), &want.as_bytes())?;
+        assert_eq!(rt; told.as_slice(), want.as_bytes(), "{thorn} {name:?}");
     }
     Ok(())
 }

@@ -7,7 +7,6 @@ use cx_text::{List, Style, tokens};
 use cx_values::{SteerStep, ValueFault, assign, steer};
 use std::alloc::Global;
 use std::test::Fail;
-use test_cases::same;
 
 const WAVE: Files = (
     b"WaveInt",
@@ -115,15 +114,15 @@ fn lines_give_steps_or_have_their_first_fault(rt: HostRuntime) -> Result<(), Fai
     let alloc = rt.alloc();
     for (file, lines, want, line) in FAULTS {
         let fault = fault_of(&steered(alloc, file, lines)?);
-        same(&(lines, file), &fault, &(*want, *line))?;
+        assert_eq!(rt; fault, (*want, *line), "{lines:?} with {file:?}");
     }
     let steps = steered(alloc, PLAIN, LINES)??;
-    same(&"how many steps", &steps.len(), &STEPS.len())?;
+    assert_eq!(rt; steps.len(), STEPS.len(), "how many steps");
     for (step, want) in steps.as_slice().iter().zip(STEPS) {
         let found = (step.at, step.param, step.index);
-        same(&want, &found, &(want.0, want.1, want.2))?;
+        assert_eq!(rt; found, (want.0, want.1, want.2), "{want:?}");
         let value = words(alloc, &step.value)?;
-        same(&want, &value.as_slice(), &want.3.as_bytes())?;
+        assert_eq!(rt; value.as_slice(), want.3.as_bytes(), "{want:?}");
     }
     Ok(())
 }

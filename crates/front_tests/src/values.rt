@@ -8,7 +8,6 @@ use cx_text::{Style, Text, tokens};
 use cx_values::{ValueFault, Values, assign};
 use std::alloc::Global;
 use std::test::Fail;
-use test_cases::same;
 
 const ELEMCA: Files = (
     b"ElemCA",
@@ -127,11 +126,12 @@ const BAD: Files = (
 fn settings_and_defaults_have_their_first_fault(rt: HostRuntime) -> Result<(), Fail> {
     for (file, want, line) in FAULTS {
         let fault = fault_of(&values(rt.alloc(), ALL, file)?);
-        same(&file, &fault, &(*want, *line))?;
+        assert_eq!(rt; fault, (*want, *line), "{file:?}");
     }
     let answer = values(rt.alloc(), &[BAD], "")?;
     let want = b"bad::n".as_slice();
-    same(&"a bad default", &bad_default(&answer), &want)
+    assert_eq!(rt; bad_default(&answer), want, "a bad default");
+    Ok(())
 }
 
 /// A parameter file; a parameter, an index of it, its value in words and its number.
@@ -231,7 +231,7 @@ fn settings_give_values_by_each_form_of_name(rt: HostRuntime) -> Result<(), Fail
     let alloc = rt.alloc();
     for told in VALUES {
         match values(alloc, ALL, told.0)? {
-            Ok(values) => same(&told, &is_told(alloc, &values, told)?, &true)?,
+            Ok(values) => assert!(rt; is_told(alloc, &values, told)?, "{told:?}"),
             Err(fault) => panic!(rt; "{fault:?} of {told:?}"),
         }
     }
@@ -285,7 +285,7 @@ fn built_in_parameters_have_their_defaults(rt: HostRuntime) -> Result<(), Fail> 
             Some(value) => words(alloc, value)?,
             None => text(alloc, b"no parameter")?,
         };
-        same(&full, &told.as_slice(), &want.as_bytes())?;
+        assert_eq!(rt; told.as_slice(), want.as_bytes(), "{full}");
     }
     Ok(())
 }
@@ -334,7 +334,7 @@ fn expressions_see_a_thorns_parameters(rt: HostRuntime) -> Result<(), Fail> {
     let values = values(alloc, ALL, "")??;
     for (thorn, source, want) in EXPRESSIONS {
         let found = evaluated(alloc, &values, *thorn, source)?;
-        same(&(source, thorn), &found, want)?;
+        assert_eq!(rt; found, *want, "{source} in thorn {thorn}");
     }
     Ok(())
 }
