@@ -17,4 +17,5 @@ mod stages;
 pub use cx_job_files::{FolderShelf, MemoryShelf, Shelf, ShelfFault};
 pub use fault::JobFault;
 pub use lines::direction_letter;
+pub use local_cells::local_cells;
 pub use making::make_job;

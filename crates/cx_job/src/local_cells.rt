@@ -102,8 +102,12 @@ fn greatest_window(dims: u8, items: &[Item]) -> u64
     window
 }
 
-/// How many numbers the parts of a job hold, or the greatest number of 64 bits.
-pub(crate) fn local_cells(cut: &Cut, job: &Job) -> u64
+/// How many numbers the parts of a job hold at once, or the greatest number of 64 bits.
+///
+/// Each point of a part, with its ghost zones, has a number for each stored level of each grid variable,
+/// and one for each write of the item that writes most. Each part also has one window, of the greatest
+/// number of values that an item reads. `make_job` refuses a job where this is above 2^27.
+pub fn local_cells(cut: &Cut, job: &Job) -> u64
     requires few { run_count job.now.plan ≤ 4096 }
     requires cut { cut.now ≡ parts_of job.now.shape job.now.cut }
     ensures { result ≡ in_64_bits (local_cells job.now) }
