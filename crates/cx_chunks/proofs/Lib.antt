@@ -8,3 +8,6 @@ pub mod PieceLists
 pub mod ReadLaws
 pub mod GroupLaws
 pub mod WholeLaws
+pub mod RowPlaces
+pub mod FindLaws
+pub mod TurnLaws

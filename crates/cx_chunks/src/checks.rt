@@ -1,18 +1,20 @@
 //! Tests before chunks are combined: no piece is a stranger in its chunk, none is there twice, and none is missing.
 
-ghost use Rattle.std.specs.Prelude.{◌≡◌, ◌<◌, ◌≤◌, ◌+◌, ◌&&◌, length, find, All, option_copied};
+ghost use Rattle.std.specs.Prelude.{◌≡◌, ◌<◌, ◌≤◌, ◌+◌, ◌-◌, ◌&&◌, true, false, None, length, find, slice_get, All, option_copied};
 ghost use Rattle.std.specs.List.{list_any};
 ghost use Rattle.cx_text.specs.Telling.{Tells};
-ghost use Rattle.cx_plan.specs.Lists.{first_of_each};
+ghost use Rattle.cx_plan.specs.Lists.{first_again, first_of_each};
 ghost use Rattle.cx_plan.specs.Lookups.{variable};
 ghost use Rattle.cx_plan.specs.Setups.{setup_of};
 ghost use Rattle.cx_plan.specs.Whole.{IsVariable};
 ghost use Rattle.cx_cut.specs.Cuts.{part_count};
 ghost use Rattle.cx_chunks.specs.declared.fault.ChunkFault.TheVariants as faults;
-ghost use Rattle.cx_chunks.specs.Combining.{is_at, is_twin, is_output_of, is_output, is_own, is_stranger, stranger_in, double_in, first_of_chunks, missing_at, missing_of, missing, chunk};
+ghost use Rattle.cx_chunks.specs.Combining.{is_of, is_at, is_twin, is_output_of, is_output, is_own, is_stranger, stranger_in, double_in, first_of_chunks, missing_at, missing_of, missing, chunk};
 ghost use Rattle.cx_chunks.specs.Laws.{IsCutOf};
+ghost use Rattle.cx_chunks.specs.Turns.{in_turn_behind};
 
 use crate::fault::ChunkFault;
+use crate::finding::{Cursors, find_piece};
 use crate::own_box::{OwnBox, own_box};
 use crate::piece::Piece;
 use crate::rising::iterations;
@@ -146,16 +148,64 @@ fn has_twin(piece: &Piece, pieces: &[Piece]) -> bool
     pieces.iter().any(|other| is_twin(piece, other))
 }
 
+/// Whether a piece is of this variable.
+fn is_of(full: &Text, piece: &Piece) -> bool
+    ensures { result ≡ is_of full.now piece.now }
+{
+    piece.full().as_slice() == full.as_slice()
+}
+
+/// Whether one of these pieces is of this variable.
+fn has_any(full: &Text, pieces: &[Piece]) -> bool
+    ensures { result ≡ list_any (is_of full.now) pieces.now }
+{
+    pieces.iter().any(|piece| is_of(full, piece))
+}
+
+/// Whether a piece is of the variable of the last one before it and later, or none before it is of its variable.
+fn is_in_turn(before: &[Piece], piece: &Piece) -> bool
+    ensures { result ≡ in_turn_behind (slice_get before.now (length before.now - 1))
+        before.now piece.now }
+{
+    let Some(last) = before.last() else {
+        return true;
+    };
+    if is_of(piece.full(), last) {
+        last.iteration() < piece.iteration()
+    } else {
+        !has_any(piece.full(), before)
+    }
+}
+
+/// Whether pieces came in turn, and one more does.
+fn goes_on(in_turn: bool, before: &[Piece], piece: &Piece) -> bool
+    ensures { result ≡ (in_turn && in_turn_behind
+        (slice_get before.now (length before.now - 1)) before.now piece.now) }
+{
+    in_turn && is_in_turn(before, piece)
+}
+
+/// Whether one of the pieces before a piece is its twin. None is where all came in turn, it too.
+fn is_again(in_turn: bool, before: &[Piece], piece: &Piece) -> bool
+    requires { in_turn ≡ true → list_any (is_twin piece.now) before.now ≡ false }
+    ensures { result ≡ list_any (is_twin piece.now) before.now }
+{
+    !in_turn && has_twin(piece, before)
+}
+
 /// Tests that no two pieces of a chunk are twins.
 fn check_twins(alloc: Global, part: u32, pieces: &[Piece]) -> Result<(), ChunkFault>
     ensures { Tells faults.Memory (double_in part pieces.now) result }
 {
+    let mut in_turn = true;
     'pieces: for place in 0..pieces.len() {
-        let piece = &pieces[place];
-        if has_twin(piece, &pieces[..place]) {
+        let (before, piece) = (&pieces[..place], &pieces[place]);
+        let turn = goes_on(in_turn, before, piece);
+        if is_again(turn, before, piece) {
             let full = piece.full().copy(alloc)?;
             return Err(ChunkFault::Double(part, full, piece.iteration()));
         }
+        in_turn = turn;
     }
     Ok(())
 }
@@ -173,18 +223,19 @@ pub(crate) fn check_doubles(alloc: Global, chunks: &[List<Piece>]) -> Result<(),
     Ok(())
 }
 
-/// Whether a piece is of this variable and iteration.
-pub(crate) fn is_at(full: &Text, iteration: u64, piece: &Piece) -> bool
-    ensures { result ≡ is_at full.now iteration piece.now }
-{
-    piece.full().as_slice() == full.as_slice() && piece.iteration() == iteration
-}
-
-/// Whether a chunk has a piece of this variable and iteration.
-fn has_piece(full: &Text, iteration: u64, pieces: &[Piece]) -> bool
+/// Whether the chunk of a part has a piece of this variable and iteration.
+#[tactic(auto, using(crate::proofs::FindLaws::any_is))]
+fn has_piece(
+    cursors: &mut Cursors,
+    full: &Text,
+    iteration: u64,
+    part: u32,
+    pieces: &[Piece],
+) -> bool
+    requires { first_again is_twin pieces.now ≡ None }
     ensures { result ≡ list_any (is_at full.now iteration) pieces.now }
 {
-    pieces.iter().any(|piece| is_at(full, iteration, piece))
+    find_piece(cursors, full, iteration, part, pieces).is_some()
 }
 
 /// The pieces of a part's chunk.
@@ -202,13 +253,15 @@ fn check_everywhere(
     alloc: Global,
     cut: &Cut,
     chunks: &[List<Piece>],
+    cursors: &mut Cursors,
     full: &Text,
     iteration: u64,
 ) -> Result<(), ChunkFault>
+    requires { first_of_chunks double_in 0 chunks.now ≡ None }
     ensures { Tells faults.Memory (missing_at cut.now chunks.now full.now iteration) result }
 {
     'parts: for part in 0..cut.count() {
-        if !has_piece(full, iteration, chunk(chunks, part)) {
+        if !has_piece(cursors, full, iteration, part, chunk(chunks, part)) {
             return Err(ChunkFault::Missing(part, full.copy(alloc)?, iteration));
         }
     }
@@ -223,11 +276,13 @@ fn check_iterations(
     full: &Text,
     iterations: &[u64],
 ) -> Result<(), ChunkFault>
+    requires { first_of_chunks double_in 0 chunks.now ≡ None }
     ensures { Tells faults.Memory
         (first_of_each (missing_at cut.now chunks.now full.now) iterations.now) result }
 {
+    let mut cursors = Cursors::new(alloc, chunks.len())?;
     'iterations: for iteration in iterations {
-        check_everywhere(alloc, cut, chunks, full, *iteration)?;
+        check_everywhere(alloc, cut, chunks, &mut cursors, full, *iteration)?;
     }
     Ok(())
 }
@@ -239,6 +294,7 @@ fn check_variable(
     chunks: &[List<Piece>],
     info: &VarInfo,
 ) -> Result<(), ChunkFault>
+    requires { first_of_chunks double_in 0 chunks.now ≡ None }
     ensures { Tells faults.Memory (missing_of cut.now chunks.now info.now) result }
 {
     if info.scalar {
@@ -255,7 +311,8 @@ pub(crate) fn check_missing(
     cut: &Cut,
     chunks: &[List<Piece>],
 ) -> Result<(), ChunkFault>
-    requires { All (IsVariable job.now) job.now.out_vars }
+    requires outputs { All (IsVariable job.now) job.now.out_vars }
+    requires single { first_of_chunks double_in 0 chunks.now ≡ None }
     ensures { Tells faults.Memory (missing (setup_of job.now) cut.now chunks.now) result }
 {
     'outputs: for v in job.out_vars.as_slice() {

@@ -1,6 +1,6 @@
 //! The whole output from chunks.
 
-ghost use Rattle.std.specs.Prelude.{◌≡◌, length, pos, slice_index_or, find, All, IfOk, option_copied};
+ghost use Rattle.std.specs.Prelude.{◌≡◌, length, pos, slice_index_or, None, All, IfOk};
 ghost use Rattle.cx_text.specs.Telling.{Answers, Tells};
 ghost use Rattle.cx_grid.specs.declared.boxes.Point.{Point};
 ghost use Rattle.cx_grid.specs.Boxes.{IsBox, IsIn, IsSmall, index_in, point_count};
@@ -8,14 +8,17 @@ ghost use Rattle.cx_plan.specs.Setups.{setup_of};
 ghost use Rattle.cx_plan.specs.Whole.{IsVariable};
 ghost use Rattle.cx_cut.specs.Cuts.{IsWhole, part_count};
 ghost use Rattle.cx_chunks.specs.declared.fault.ChunkFault.TheVariants as faults;
-ghost use Rattle.cx_chunks.specs.Combining.{is_at, values_in, joined, text_at, whole_text, whole_texts, chunk_fault, combined};
+ghost use Rattle.cx_chunks.specs.Combining.{double_in, first_of_chunks, values_in, joined, text_at, whole_text, whole_texts, chunk_fault, combined};
 ghost use Rattle.cx_chunks.specs.Laws.{IsCutOf};
 
-use crate::checks::{check_doubles, check_missing, check_strangers, chunk, info_of, is_at};
+use crate::checks::{check_doubles, check_missing, check_strangers, chunk, info_of};
 use crate::cutting::value_at;
 use crate::fault::ChunkFault;
+use crate::finding::{Cursors, find_piece};
+use crate::own_box::points_along;
 use crate::piece::Piece;
 use crate::rising::iterations;
+use crate::rows::put_row;
 use cx_ascii::{scalar_line, section};
 use cx_cut::Cut;
 use cx_grid::{Box3, Shape, count, index_of, point_at, whole};
@@ -23,24 +26,24 @@ use cx_plan::{Job, VarInfo};
 use cx_text::{List, Memory, Text};
 use std::alloc::Global;
 
-/// The piece of this variable and iteration in a chunk.
-fn find_piece<'a>(full: &Text, iteration: u64, pieces: &'a [Piece]) -> Option<&'a Piece>
-    ensures { option_copied result ≡ find (is_at full.now iteration) pieces.now }
-{
-    pieces.iter().find(|piece| is_at(full, iteration, piece))
-}
-
 /// The values that a part's chunk has of a variable at an iteration; none where it has no such piece.
-fn values_in<'a>(chunks: &'a [List<Piece>], full: &Text, iteration: u64, part: u32) -> &'a [i64]
+fn values_in<'a>(
+    chunks: &'a [List<Piece>],
+    cursors: &mut Cursors,
+    full: &Text,
+    iteration: u64,
+    part: u32,
+) -> &'a [i64]
+    requires { first_of_chunks double_in 0 chunks.now ≡ None }
     ensures { result.now ≡ values_in chunks.now full.now iteration part }
 {
-    match find_piece(full, iteration, chunk(chunks, part)) {
+    match find_piece(cursors, full, iteration, part, chunk(chunks, part)) {
         Some(piece) => piece.values().as_slice(),
         None => &[],
     }
 }
 
-/// Puts the values of a box at their places of a level.
+/// Puts the values of a box at their places of a level, row by row.
 fn put_part(level: &mut Vec<i64>, all: &Box3, own: &Box3, values: &[i64])
     requires all { IsSmall all.now }
     requires ordered { IsBox own.now }
@@ -55,9 +58,18 @@ fn put_part(level: &mut Vec<i64>, all: &Box3, own: &Box3, values: &[i64])
         → slice_index_or level.new.items (index_in all.now p) (pos 0)
         ≡ slice_index_or level.old.items (index_in all.now p) (pos 0) }
 {
-    'points: for place in 0..count(own) {
-        let point = point_at(own, place);
-        level[index_of(all, point)] = value_at(values, place);
+    let width = points_along(own, 0) as usize;
+    let end = count(own);
+    let mut from = 0;
+    'rows: while from < end {
+        put_row(
+            level,
+            index_of(all, point_at(own, from)),
+            width,
+            values,
+            from,
+        );
+        from += width;
     }
 }
 
@@ -76,11 +88,13 @@ fn joined(
     shape: &Shape,
     cut: &Cut,
     chunks: &[List<Piece>],
+    cursors: &mut Cursors,
     full: &Text,
     iteration: u64,
 ) -> Result<Vec<i64>, Memory>
     requires whole { IsWhole cut.now }
     requires shape { shape.now ≡ cut.now.shape }
+    requires single { first_of_chunks double_in 0 chunks.now ≡ None }
     ensures { IfOk result (λ level. level.items
         ≡ joined cut.now (values_in chunks.now full.now iteration)) }
 {
@@ -88,7 +102,7 @@ fn joined(
     let mut level = zeros(alloc, &all)?;
     'parts: for part in 0..cut.count() {
         let own = cut.part(part);
-        let values = values_in(chunks, full, iteration, part);
+        let values = values_in(chunks, cursors, full, iteration, part);
         put_part(&mut level, &all, &own, values);
     }
     Ok(level)
@@ -100,18 +114,22 @@ fn text_at(
     job: &Job,
     cut: &Cut,
     chunks: &[List<Piece>],
+    cursors: &mut Cursors,
     info: &VarInfo,
     iteration: u64,
 ) -> Result<Text, Memory>
-    requires { IsCutOf job.now cut.now }
+    requires cut { IsCutOf job.now cut.now }
+    requires single { first_of_chunks double_in 0 chunks.now ≡ None }
     ensures { IfOk result (λ text. text
         ≡ text_at (setup_of job.now) cut.now chunks.now info.now iteration) }
 {
     if info.scalar {
-        let values = values_in(chunks, &info.full, iteration, 0);
+        let values = values_in(chunks, cursors, &info.full, iteration, 0);
         scalar_line(alloc, &info.full, iteration, value_at(values, 0))
     } else {
-        let level = joined(alloc, &job.shape, cut, chunks, &info.full, iteration)?;
+        let level = joined(
+            alloc, &job.shape, cut, chunks, cursors, &info.full, iteration,
+        )?;
         section(alloc, &info.full, iteration, &job.shape, &level)
     }
 }
@@ -124,14 +142,16 @@ fn whole_text(
     chunks: &[List<Piece>],
     info: &VarInfo,
 ) -> Result<Text, Memory>
-    requires { IsCutOf job.now cut.now }
+    requires cut { IsCutOf job.now cut.now }
+    requires single { first_of_chunks double_in 0 chunks.now ≡ None }
     ensures { IfOk result (λ text. text
         ≡ whole_text (setup_of job.now) cut.now chunks.now info.now) }
 {
     let iterations = iterations(alloc, chunks, &info.full)?;
+    let mut cursors = Cursors::new(alloc, chunks.len())?;
     let mut text = Text::new(Vec::new(alloc));
     'iterations: for iteration in &iterations {
-        let part = text_at(alloc, job, cut, chunks, info, *iteration)?;
+        let part = text_at(alloc, job, cut, chunks, &mut cursors, info, *iteration)?;
         text.push_slice(part.as_slice())?;
     }
     Ok(text)
@@ -146,6 +166,7 @@ fn whole_texts(
 ) -> Result<List<Text>, Memory>
     requires outputs { All (IsVariable job.now) job.now.out_vars }
     requires cut { IsCutOf job.now cut.now }
+    requires single { first_of_chunks double_in 0 chunks.now ≡ None }
     ensures { IfOk result (λ texts. texts ≡ whole_texts (setup_of job.now) cut.now chunks.now) }
 {
     let mut texts = List::empty(alloc);
@@ -182,6 +203,7 @@ fn check(alloc: Global, job: &Job, cut: &Cut, chunks: &[List<Piece>]) -> Result<
 ///   then the least iteration, then the least part.
 ///
 /// `Memory`: out of memory.
+#[tactic(auto, using(crate::proofs::FindLaws::no_double))]
 pub fn combine(
     alloc: Global,
     job: &Job,

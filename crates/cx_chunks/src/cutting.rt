@@ -7,7 +7,8 @@ ghost use Rattle.cx_chunks.specs.Pieces.{piece_text, part_section};
 ghost use Rattle.cx_chunks.specs.Cutting.{own_of, own_values, line_in, pieces_in, chunk_text, chunk_texts};
 ghost use Rattle.cx_chunks.specs.Laws.{IsCutOf};
 
-use crate::own_box::own_box;
+use crate::own_box::{own_box, points_along};
+use crate::rows::push_row;
 use crate::section::part_section;
 use cx_ascii::scalar_line;
 use cx_ascii_read::Record;
@@ -27,7 +28,7 @@ pub(crate) fn value_at(values: &[i64], place: usize) -> i64
     }
 }
 
-/// The values of a whole level at the points that a part owns, x fastest.
+/// The values of a whole level at the points that a part owns, x fastest, row by row.
 fn own_values(
     alloc: Global,
     shape: &Shape,
@@ -42,12 +43,17 @@ fn own_values(
 {
     let own = cut.part(part);
     let all = whole(shape);
-    let mut values = List::empty(alloc);
-    'points: for place in 0..count(&own) {
-        let point = point_at(&own, place);
-        values.push(value_at(level, index_of(&all, point)))?;
+    let width = points_along(&own, 0) as usize;
+    let end = count(&own);
+    let mut values = Vec::new(alloc);
+    values.reserve_exact(end)?;
+    let mut from = 0;
+    'rows: while from < end {
+        let at = index_of(&all, point_at(&own, from));
+        push_row(&mut values, level, at, width)?;
+        from += width;
     }
-    Ok(values)
+    Ok(List::new(values))
 }
 
 /// The section of what a part owns of a level.

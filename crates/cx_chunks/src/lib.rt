@@ -5,12 +5,14 @@ mod checks;
 mod combining;
 mod cutting;
 mod fault;
+mod finding;
 mod laws;
 mod own_box;
 mod piece;
 mod place;
 mod reading;
 mod rising;
+mod rows;
 mod section;
 
 pub use combining::combine;

@@ -31,7 +31,7 @@ fn low_along(own: &Box3, direction: u8) -> u32
 
 /// How many points a box has in a direction.
 #[tactic(auto, using(crate::proofs::OwnLaws::gap_is))]
-fn points_along(own: &Box3, direction: u8) -> u32
+pub(crate) fn points_along(own: &Box3, direction: u8) -> u32
     requires { IsBox own.now }
     ensures { result ≡ extent own.now direction }
 {

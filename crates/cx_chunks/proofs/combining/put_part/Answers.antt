@@ -1,33 +1,58 @@
-use Rattle.std.proofs.Common.{rules, SFits, w64, to_z, of_z, to_z-of_z, ◌≡◌, ◌∙◌, ◌+◌, ◌<◌, ◌≤◌, ap, sym, subst, pos}
-use Rattle.std.specs.Prelude.{slice_index_or, slice_set}
+use Rattle.std.proofs.Common.{◌≡◌, ◌∙◌, ◌+◌, ◌-◌, ◌<◌, ◌≤◌, arith, ap}
 use Rattle.cx_grid.specs.Boxes.{point_count, index_in, point_in}
-use Rattle.cx_chunks.proofs.JoinLaws.{IsPut, one_put, all_put, rest_kept}
+use Rattle.cx_chunks.proofs.JoinLaws.{all_put, rest_kept}
+use Rattle.cx_chunks.proofs.RowPlaces.{row_is, row_start, row_room, put_more}
 use Rattle.cx_chunks.proofs.combining.put_part.Goals as goal
 
-pub points-preserved : goal.points-preserved
-points-preserved c =
+pub put_row-requires : goal.put_row-requires
+put_row-requires c =
     let all = c.args.all.now in
     let own = c.args.own.now in
-    let values = c.args.values.now in
-    let fits : SFits w64 c.value_at.result = search rules in
-    let kept = to_z w64 (of_z w64 c.value_at.result) in
-    let value : kept ≡ slice_index_or values c.points.place (pos 0) =
-    to_z-of_z fits ∙ c.value_at.ensures in
-    let at : c.index_of.result ≡ index_in all (point_in own c.points.place) =
-    c.index_of.ensures.value ∙ ap (index_in all) c.point_at-point.ensures.value in
-    let there : c.points.place < point_count own = search rules in
-    subst (λ n. IsPut all own values c.args.level.now.items (c.points.place + 1)
-    (slice_set c.points.level.items n kept)) (sym at)
-    (one_put all own values c.args.level.now.items c.requires.inside c.points.place
-    c.points.level.items kept there value c.points.invariant)
+    let below : c.rows.from < point_count own =
+    omega (arith, c.count-end.ensures, c.rows-test.true) in
+    let place : c.index_of.result ≡ index_in all (point_in own c.rows.from) =
+    c.index_of.ensures.value ∙ ap (index_in all) c.point_at.ensures.value in
+    let room = row_room all own c.args.values.now c.args.level.now.items c.rows.level.items
+    c.requires.inside c.rows.from c.rows.invariant.start below in
+    let count = c.rows.invariant.put.count in
+    let width = c.points_along-width.ensures in
+    omega (arith, room, place, count, width)
+
+pub rows-smaller : goal.rows-smaller
+rows-smaller c =
+    let below : c.rows.from < point_count c.args.own.now =
+    omega (arith, c.count-end.ensures, c.rows-test.true) in
+    let some = (row_is c.args.own.now c.rows.from c.rows.invariant.start below).some in
+    let width = c.points_along-width.ensures in
+    let less : c.count-end.result - (c.rows.from + c.points_along-width.result)
+    < c.count-end.result - c.rows.from = omega (arith, some, width, c.rows-test.true) in
+    less
+
+pub rows-preserved : goal.rows-preserved
+rows-preserved c =
+    let all = c.args.all.now in
+    let own = c.args.own.now in
+    let below : c.rows.from < point_count own =
+    omega (arith, c.count-end.ensures, c.rows-test.true) in
+    let place : c.index_of.result ≡ index_in all (point_in own c.rows.from) =
+    c.index_of.ensures.value ∙ ap (index_in all) c.point_at.ensures.value in
+    record {
+      put = put_more all own c.args.values.now c.args.level.now.items c.rows.level.items
+          c.put_row.new.level.items c.requires.inside c.rows.from c.points_along-width.result
+          c.index_of.result c.rows.invariant.start below c.rows.invariant.put
+          c.points_along-width.ensures place c.put_row.ensures;
+      start = row_start own c.rows.from c.points_along-width.result c.points_along-width.ensures
+          c.rows.invariant.start below;
+    }
 
 pub returns-clause-own : goal.returns-clause-own
 returns-clause-own c =
-    let end : point_count c.args.own.now ≤ c.points.place = search rules in
+    let end : point_count c.args.own.now ≤ c.rows.from =
+    omega (arith, c.count-end.ensures, c.rows-test.false) in
     all_put c.args.all.now c.args.own.now c.args.values.now c.args.level.now.items c.requires.inside
-    c.points.place c.points.level.items end c.points.invariant
+    c.rows.from c.rows.level.items end c.rows.invariant.put
 
 pub returns-clause-others : goal.returns-clause-others
 returns-clause-others c =
     rest_kept c.args.all.now c.args.own.now c.args.values.now c.args.level.now.items
-    c.requires.inside c.points.place c.points.level.items c.points.invariant
+    c.requires.inside c.rows.from c.rows.level.items c.rows.invariant.put

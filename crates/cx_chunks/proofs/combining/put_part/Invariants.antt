@@ -1,5 +1,14 @@
+use Rattle.std.proofs.Common.{◌-◌}
 use Rattle.cx_chunks.proofs.JoinLaws.{IsPut}
+use Rattle.cx_chunks.proofs.RowPlaces.{IsStart}
 use Rattle.cx_chunks.proofs.combining.put_part.Given as goal
 
-abbrev pub invariant-points : goal.invariant-points
-invariant-points l = IsPut l.all l.own l.values l.initial.level.items l.place l.level.items
+abbrev pub invariant-rows : goal.invariant-rows
+invariant-rows l =
+    record {
+      put : IsPut l.all l.own l.values l.initial.level.items l.from l.level.items;
+      start : IsStart l.own l.from;
+    }
+
+abbrev pub decreases-rows : goal.decreases-rows
+decreases-rows l = l.end - l.from

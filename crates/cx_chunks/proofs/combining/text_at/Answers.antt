@@ -11,4 +11,4 @@ section-requires-clause-values c =
     ap length (c.deref.ensures.value ∙ c.in_ok-level.ensures)
     ∙ joined_count c.args.cut.now
     (values_in c.args.chunks.now c.args.info.now.full c.args.iteration)
-    ∙ ap (λ (s : Shape). point_count (whole s)) c.requires.shape
+    ∙ ap (λ (s : Shape). point_count (whole s)) c.requires.cut.shape

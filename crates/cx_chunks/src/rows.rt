@@ -1,0 +1,58 @@
+//! Rows of a box: values that stand side by side both in the box and in the grid.
+
+ghost use Rattle.std.specs.Prelude.{◌≡◌, ◌≤◌, ◌+◌, ◌++◌, pos, length, take, drop, replicate, OnOk};
+ghost use Rattle.cx_chunks.specs.Rows.{values_from, with_row};
+
+use cx_text::Memory;
+
+/// At most so many values from a place on.
+fn run(values: &[i64], from: usize, count: usize) -> &[i64]
+    ensures value { result.now ≡ take count (drop from values.now) }
+    ensures few { length result.now ≤ count }
+{
+    let rest = &values[from.min(values.len())..];
+    &rest[..count.min(rest.len())]
+}
+
+/// Adds so many zeros.
+fn push_zeros(row: &mut Vec<i64>, count: usize) -> Result<(), Memory>
+    ensures { OnOk result (row.new.items ≡ row.old.items ++ replicate count (pos 0)) }
+{
+    'zeros: for _ in 0..count {
+        row.push(0)?;
+    }
+    Ok(())
+}
+
+/// Adds so many values from a place on; one that isn't there counts as 0.
+pub(crate) fn push_row(
+    row: &mut Vec<i64>,
+    values: &[i64],
+    from: usize,
+    count: usize,
+) -> Result<(), Memory>
+    ensures { OnOk result (row.new.items ≡ row.old.items ++ values_from values.now from count) }
+{
+    let there = run(values, from, count);
+    row.extend_from_slice(there)?;
+    push_zeros(row, count - there.len())
+}
+
+/// Sets a row to the values from a place on; one that isn't there counts as 0.
+fn set_row(row: &mut [i64], values: &[i64], from: usize)
+    ensures { row.new ≡ values_from values.now from (length row.old) }
+{
+    let there = run(values, from, row.len());
+    row[..there.len()].copy_from_slice(there);
+    row[there.len()..].fill(0);
+}
+
+/// Sets so many numbers from a place of a level on to the values from another place on.
+pub(crate) fn put_row(level: &mut Vec<i64>, at: usize, count: usize, values: &[i64], from: usize)
+    requires { at + count ≤ length level.old.items }
+    ensures { level.new.items
+        ≡ with_row level.old.items at count (values_from values.now from count) }
+{
+    let end = at + count;
+    set_row(&mut level[at..end], values, from);
+}
