@@ -1,6 +1,6 @@
 //! Turns that always take the first event or the last one, all orders of events one after another, and picks from a list.
 
-ghost use Rattle.std.specs.Prelude.{◌<◌};
+ghost use Rattle.std.specs.Prelude.{◌+◌, ◌≡◌, ◌<◌};
 
 use cx_core::Core;
 use cx_text::{Memory, Text};
@@ -32,6 +32,8 @@ impl Watch for FirstTurns {
 impl Turns for FirstTurns {
     ghost begun = { λ turns. turns.0 };
 
+    ghost picks = { λ was n k is. k ≡ 0 };
+
     fn start(&mut self, seed: u64) {
         self.0 = Some(seed);
     }
@@ -53,6 +55,8 @@ impl Watch for LastTurns {
 
 impl Turns for LastTurns {
     ghost begun = { λ turns. turns.0 };
+
+    ghost picks = { λ was n k is. k + 1 ≡ n };
 
     fn start(&mut self, seed: u64) {
         self.0 = Some(seed);
@@ -117,6 +121,8 @@ impl Watch for EachOrder {
 impl Turns for EachOrder {
     ghost begun = { λ turns. turns.begun };
 
+    ghost picks = { λ was n k is. k < n };
+
     fn start(&mut self, seed: u64) {
         self.begun = Some(seed);
         self.done = 0;
@@ -171,6 +177,8 @@ impl Watch for Listed {
 
 impl Turns for Listed {
     ghost begun = { λ turns. turns.begun };
+
+    ghost picks = { λ was n k is. k < n };
 
     fn start(&mut self, seed: u64) {
         self.begun = Some(seed);

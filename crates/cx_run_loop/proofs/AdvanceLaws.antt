@@ -1,5 +1,5 @@
 -- One call after another that moves a run on.
-use Rattle.std.proofs.Common.{◌≡◌, ◌≢◌, ◌≤◌, ◌<◌, ◌+◌, ℕ, List, [], ◌∷◌, ◌++◌, length, length-append, append_assoc, refl, sym, ◌∙◌, ap, subst, arith}
+use Rattle.std.proofs.Common.{◌≡◌, ◌≢◌, ◌≤◌, ◌<◌, ◌+◌, ℕ, List, [], ◌∷◌, ◌++◌, length, length-append, append_assoc, refl, sym, ◌∙◌, ap, subst, arith, inl, inr}
 use Rattle.std.proofs.lemmas.List.Elements.{All-nil, All-cons, All-head, All-tail, All-append}
 use Rattle.std.specs.Prelude.{All, IsTrue}
 use Rattle.cx_cut.specs.Cuts.{part_count}
@@ -8,21 +8,24 @@ use Rattle.cx_disk.specs.Disk.{Folders}
 use Rattle.cx_disk.specs.Moments.{IsQuiet}
 use Rattle.cx_disk.specs.declared.disk.Disk.{Ghosts as DiskGhosts}
 use Rattle.cx_wire.specs.declared.wire.Wire.{Ghosts as WireGhosts}
+use Rattle.cx_turns.specs.declared.turns.Turns.{Ghosts as TurnsGhosts}
 use Rattle.cx_plan.specs.declared.job.Job.{Job}
 use Rattle.cx_plan.specs.Setups.{setup_of}
 use Rattle.cx_rule.specs.Routine.{Rule}
 use Rattle.cx_core.specs.declared.answers.Event.{Event}
 use Rattle.cx_core.specs.declared.answers.Outcome.TheVariants.{Going}
+use Rattle.cx_core.specs.Cores.{enabled_in}
 use Rattle.cx_core.specs.Left.{steps_left}
-use Rattle.cx_core.specs.Steps.{Standing, counts}
-use Rattle.cx_run_loop.specs.Advances.{Advances, AnswersBy, CanAdvance, Keeps, RunState, StepsBy, came_of, place_of}
-use Rattle.cx_run_loop.specs.Going.{Place, EventMoments, IsGoing, IsKept, KeepsEvent, LeavesImages, MovesOn, Steps, setting}
+use Rattle.cx_core.specs.Steps.{counts}
+use Rattle.cx_run_loop.specs.Advances.{Advances, AnswersBy, CanAdvance, Keeps, RunState, came_of, place_of, turning_of}
+use Rattle.cx_run_loop.specs.Going.{Place, EventMoments, IsGoing, IsKept, KeepsEvent, LeavesImages, MovesOn, setting}
 use Rattle.cx_run_loop.specs.Laws.{DriveLaws}
+use Rattle.cx_run_loop.specs.Turning.{IsTurn, StepsBy, Turning, TurnsLead, TurnsStop}
 use Rattle.cx_run_loop.specs.Within.{StaysWithin}
 use Rattle.cx_run_loop.specs.declared.turn.Advance.{Advance}
 use Rattle.cx_run_loop.specs.declared.turn.Advance.TheVariants.{More, Saved}
 use Rattle.cx_run_loop.proofs.WithinLaws.{driven_within, stays_more, stays_there}
-use Rattle.cx_run_loop.proofs.TurnLaws.{fits_outcome, going_on, images_more, images_none, leaves_quiet, less, moves_more, moves_none, saves_more, turn_images, turn_moves, turn_saves}
+use Rattle.cx_run_loop.proofs.TurnLaws.{Steps, fits_outcome, going_on, images_more, images_none, leaves_quiet, less, moves_more, moves_none, saves_more, turn_images, turn_moves, turn_saves}
 
 -- ---- lists of events
 
@@ -108,13 +111,13 @@ answers_last n most came first events count below all other a =
       all = λ same. absurd (other same);
     }
 
-steps_more : (tells : Type 0) (job : Job) (rules : List Rule) (es fs : List Event)
-    (was mid is : Standing tells) → StepsBy tells job rules es was mid
-    → StepsBy tells job rules fs mid is → StepsBy tells job rules (es ++ fs) was is
-steps_more tells job rules [] fs was mid is one two =
-    subst (λ (x : Standing tells). StepsBy tells job rules fs x is) one two
-steps_more tells job rules (e ∷ es) fs was mid is (x, step, rest) two =
-    (x, step, steps_more tells job rules es fs x mid is rest two)
+steps_more : {T : Type 0} (t : TurnsGhosts T) (tells : Type 0) (job : Job) (rules : List Rule)
+    (es fs : List Event) (was mid is : Turning tells T) → StepsBy t tells job rules es was mid
+    → StepsBy t tells job rules fs mid is → StepsBy t tells job rules (es ++ fs) was is
+steps_more {T} t tells job rules [] fs was mid is one two =
+    subst (λ (x : Turning tells T). StepsBy t tells job rules fs x is) one two
+steps_more t tells job rules (e ∷ es) fs was mid is (x, turn, rest) two =
+    (x, turn, steps_more t tells job rules es fs x mid is rest two)
 
 -- ---- calls
 
@@ -192,133 +195,206 @@ module _ {D W : Type 0} (d : DiskGhosts D) (w : WireGhosts W) (job : Job) (rules
     going = going;
   }
 
-  -- ---- one turn
+  module _ {T : Type 0} (t : TurnsGhosts T) where
+    -- ---- one turn
 
-  module _ (laws : DriveLaws (IsTrue w.tells) job rules) (was is : RunState D W) (event : Event)
-      (able : CanAdvance d w job rules was) (outcome : was.run.core.outcome ≡ Going)
-      (steps : Steps (IsTrue w.tells) job rules (at was).is (at is).is event) where
-    pub turn_advances : (came : Advance) → came ≡ came_of event
-        → (d.tells → KeepsEvent (setup_of job) is.run.core (d.view was.disk) (d.view is.disk) event)
-        → IsKept job d.tells is.run.keeper is.run.core (d.view is.disk)
-        → Advances d w job rules 1 was is came
-    turn_advances came same keeps kept = record {
-      events = event ∷ [];
-      steps = ((at is).is, steps, refl);
-      answers = answers_one event came same;
-      over = fits_outcome (setting d w job rules) was.run.keeper (at was) (at is) event able.going
-          steps outcome came same;
-      moves = turn_moves (setting d w job rules) laws (at was) (at is) event outcome
-          able.going.kept.key steps keeps;
-      saved = λ saved. turn_saves (setting d w job rules) laws (at was) (at is) event outcome
-          able.going.kept.key steps keeps (sym same ∙ saved);
-      going = going_on (setting d w job rules) was.run.keeper (at was) (at is) event able.going
-          steps is.run.keeper kept;
-      less = less (setting d w job rules) was.run.keeper (at was) (at is) event able.going steps;
+    module _ (laws : DriveLaws (IsTrue w.tells) job rules) (was is : RunState D W)
+        (turns turns_after : T) (event : Event) (able : CanAdvance d w job rules was)
+        (outcome : was.run.core.outcome ≡ Going)
+        (turn : IsTurn t (IsTrue w.tells) job rules (turning_of w was turns)
+        (turning_of w is turns_after) event) where
+      abbrev steps : Steps (IsTrue w.tells) job rules (at was).is (at is).is event
+      steps b begins first there = (turn.k, turn.does b begins first there)
+
+      pub turn_advances : (came : Advance) → came ≡ came_of event
+          → (d.tells
+          → KeepsEvent (setup_of job) is.run.core (d.view was.disk) (d.view is.disk) event)
+          → IsKept job d.tells is.run.keeper is.run.core (d.view is.disk)
+          → Advances d w t job rules 1 was is turns turns_after came
+      turn_advances came same keeps kept = record {
+        events = event ∷ [];
+        steps = (turning_of w is turns_after, turn, refl);
+        answers = answers_one event came same;
+        over = fits_outcome (setting d w job rules) was.run.keeper (at was) (at is) event
+            able.going steps outcome came same;
+        moves = turn_moves (setting d w job rules) laws (at was) (at is) event outcome
+            able.going.kept.key steps keeps;
+        saved = λ saved. turn_saves (setting d w job rules) laws (at was) (at is) event outcome
+            able.going.kept.key steps keeps (sym same ∙ saved);
+        going = going_on (setting d w job rules) was.run.keeper (at was) (at is) event able.going
+            steps is.run.keeper kept;
+        less = less (setting d w job rules) was.run.keeper (at was) (at is) event able.going
+            steps;
+      }
+
+      pub turn_moments : (disk : D)
+          → (d.tells
+          → EventMoments (setup_of job) is.run.core (d.view was.disk) (d.view disk) event)
+          → LeavesImages (setting d w job rules) (at was) (d.view disk)
+      turn_moments disk moments found first x told heard y =
+          turn_images (setting d w job rules) laws (at was) (at is) event outcome
+          able.going.kept.key steps found first x (d.view disk) moments told heard y
+
+    -- ---- turn after turn
+
+    -- so many events, after each of which the run goes on
+    pub record HasGone (n : ℕ) (was is : RunState D W) (turns turns_after : T) : Type 0 where
+      pub events : List Event
+      pub count : length events ≡ n
+      pub go_on : All GoesOn events
+      pub steps : StepsBy t (IsTrue w.tells) job rules events (turning_of w was turns)
+          (turning_of w is turns_after)
+      pub moves : MovesOn (setting d w job rules) (at was) (at is)
+      pub able : CanAdvance d w job rules is
+      pub keeps : Keeps d w job rules was is.disk is.wire is.meter
+      pub outcome : is.run.core.outcome ≡ Going
+      pub less : steps_left (setup_of job) is.run.core.pace + n
+          ≤ steps_left (setup_of job) was.run.core.pace
+
+    pub gone_none : DriveLaws (IsTrue w.tells) job rules → (x : RunState D W) (turns : T)
+        → CanAdvance d w job rules x → x.run.core.outcome ≡ Going → HasGone 0 x x turns turns
+    gone_none laws x turns able outcome = record {
+      events = [];
+      count = refl;
+      go_on = All-nil GoesOn;
+      steps = refl;
+      moves = moves_none (setting d w job rules) (at x);
+      able = able;
+      keeps = keeps_none laws x able;
+      outcome = outcome;
+      less = omega arith;
     }
 
-    pub turn_moments : (disk : D)
-        → (d.tells → EventMoments (setup_of job) is.run.core (d.view was.disk) (d.view disk) event)
-        → LeavesImages (setting d w job rules) (at was) (d.view disk)
-    turn_moments disk moments found first x told heard y =
-        turn_images (setting d w job rules) laws (at was) (at is) event outcome
-        able.going.kept.key steps found first x (d.view disk) moments told heard y
+    module _ (n : ℕ) (was mid is : RunState D W) (turns between turns_after : T)
+        (gone : HasGone n was mid turns between) where
+      pub gone_more : (m : ℕ) → m ≡ n + 1 → (came : Advance) → came ≡ More
+          → Advances d w t job rules 1 mid is between turns_after came
+          → Keeps d w job rules mid is.disk is.wire is.meter
+          → HasGone m was is turns turns_after
+      gone_more m next came same one keeps =
+          let a : Advances d w t job rules 1 mid is between turns_after More =
+          subst (λ (x : Advance). Advances d w t job rules 1 mid is between turns_after x) same
+          one in
+          let all : length a.events ≡ 1 = a.answers.all refl in
+          let both : length (gone.events ++ a.events) ≡ length gone.events + length a.events =
+          length-append gone.events a.events in
+          let count : length gone.events ≡ n = gone.count in
+          let left : steps_left (setup_of job) mid.run.core.pace + n
+          ≤ steps_left (setup_of job) was.run.core.pace = gone.less in
+          let fewer : steps_left (setup_of job) is.run.core.pace
+          < steps_left (setup_of job) mid.run.core.pace = a.less in
+          record {
+            events = gone.events ++ a.events;
+            count = omega (arith, next, all, both, count);
+            go_on = All-append GoesOn gone.events a.events gone.go_on
+                (all_go_on 1 a.events a.answers);
+            steps = steps_more t (IsTrue w.tells) job rules gone.events a.events
+                (turning_of w was turns) (turning_of w mid between)
+                (turning_of w is turns_after) gone.steps a.steps;
+            moves = moves_more (setting d w job rules) (at was) (at mid) (at is) gone.moves
+                a.moves;
+            able = can_again mid is gone.able keeps a.going;
+            keeps = keeps_more was mid is.disk is.wire is.meter gone.moves gone.keeps keeps;
+            outcome = a.over;
+            less = omega (arith, next, left, fewer);
+          }
 
-  -- ---- turn after turn
-
-  -- so many events, after each of which the run goes on
-  pub record HasGone (n : ℕ) (was is : RunState D W) : Type 0 where
-    pub events : List Event
-    pub count : length events ≡ n
-    pub go_on : All GoesOn events
-    pub steps : StepsBy (IsTrue w.tells) job rules events (at was).is (at is).is
-    pub moves : MovesOn (setting d w job rules) (at was) (at is)
-    pub able : CanAdvance d w job rules is
-    pub keeps : Keeps d w job rules was is.disk is.wire is.meter
-    pub outcome : is.run.core.outcome ≡ Going
-    pub less : steps_left (setup_of job) is.run.core.pace + n
-        ≤ steps_left (setup_of job) was.run.core.pace
-
-  pub gone_none : DriveLaws (IsTrue w.tells) job rules → (x : RunState D W)
-      → CanAdvance d w job rules x → x.run.core.outcome ≡ Going → HasGone 0 x x
-  gone_none laws x able outcome = record {
-    events = [];
-    count = refl;
-    go_on = All-nil GoesOn;
-    steps = refl;
-    moves = moves_none (setting d w job rules) (at x);
-    able = able;
-    keeps = keeps_none laws x able;
-    outcome = outcome;
-    less = omega arith;
-  }
-
-  module _ (n : ℕ) (was mid is : RunState D W) (gone : HasGone n was mid) where
-    pub gone_more : (m : ℕ) → m ≡ n + 1 → (came : Advance) → came ≡ More
-        → Advances d w job rules 1 mid is came
-        → Keeps d w job rules mid is.disk is.wire is.meter → HasGone m was is
-    gone_more m next came same one keeps =
-        let a : Advances d w job rules 1 mid is More =
-        subst (λ (x : Advance). Advances d w job rules 1 mid is x) same one in
-        let all : length a.events ≡ 1 = a.answers.all refl in
-        let both : length (gone.events ++ a.events) ≡ length gone.events + length a.events =
-        length-append gone.events a.events in
-        let count : length gone.events ≡ n = gone.count in
-        let left : steps_left (setup_of job) mid.run.core.pace + n
-        ≤ steps_left (setup_of job) was.run.core.pace = gone.less in
-        let fewer : steps_left (setup_of job) is.run.core.pace
-        < steps_left (setup_of job) mid.run.core.pace = a.less in
-        record {
-          events = gone.events ++ a.events;
-          count = omega (arith, next, all, both, count);
-          go_on = All-append GoesOn gone.events a.events gone.go_on
-              (all_go_on 1 a.events a.answers);
-          steps = steps_more (IsTrue w.tells) job rules gone.events a.events (at was).is
-              (at mid).is (at is).is gone.steps a.steps;
-          moves = moves_more (setting d w job rules) (at was) (at mid) (at is) gone.moves a.moves;
-          able = can_again mid is gone.able keeps a.going;
-          keeps = keeps_more was mid is.disk is.wire is.meter gone.moves gone.keeps keeps;
-          outcome = a.over;
-          less = omega (arith, next, left, fewer);
-        }
-
-    -- the last one answers otherwise
-    pub gone_last : (most : ℕ) → n < most → (came : Advance) → came ≢ More
-        → Advances d w job rules 1 mid is came → Advances d w job rules most was is came
-    gone_last most below came other a =
-        let left : steps_left (setup_of job) mid.run.core.pace + n
-        ≤ steps_left (setup_of job) was.run.core.pace = gone.less in
-        let fewer : steps_left (setup_of job) is.run.core.pace
-        < steps_left (setup_of job) mid.run.core.pace = a.less in
-        record {
-          events = gone.events ++ a.events;
-          steps = steps_more (IsTrue w.tells) job rules gone.events a.events (at was).is
-              (at mid).is (at is).is gone.steps a.steps;
-          answers = answers_last n most came gone.events a.events gone.count below gone.go_on
-              other a.answers;
-          over = a.over;
-          moves = moves_more (setting d w job rules) (at was) (at mid) (at is) gone.moves a.moves;
-          saved = λ same. saves_more (setting d w job rules) (at was) (at mid) (at is) gone.moves
-              (a.saved same);
-          going = a.going;
-          less = omega (arith, left, fewer);
-        }
-
-  more_saves_none : More ≡ Saved → ⊥
-  more_saves_none same = cc
-
-  -- all that were asked for
-  pub gone_all : (n most : ℕ) (was is : RunState D W) → HasGone n was is → n ≡ most → 0 < most
-      → Advances d w job rules most was is More
-  gone_all n most was is gone same some =
-      let left : steps_left (setup_of job) is.run.core.pace + n
-      ≤ steps_left (setup_of job) was.run.core.pace = gone.less in
-      record {
-        events = gone.events;
-        steps = gone.steps;
-        answers = answers_more most gone.events some (gone.count ∙ same) gone.go_on;
-        over = gone.outcome;
-        moves = gone.moves;
-        saved = λ saved. absurd (more_saves_none saved);
-        going = gone.able.going;
-        less = omega (arith, left, same, some);
+      -- a fault stops the turn that follows
+      pub gone_stop : (k : ℕ) → t.picks between (enabled_in mid.run.core) k turns_after
+          → TurnsStop t (IsTrue w.tells) job rules (turning_of w was turns) turns_after
+      gone_stop k picked = record {
+        last = turning_of w mid between;
+        lead = (gone.events, gone.steps);
+        stop = inr (k, picked);
       }
+
+      -- the last one answers otherwise
+      pub gone_last : (most : ℕ) → n < most → (came : Advance) → came ≢ More
+          → Advances d w t job rules 1 mid is between turns_after came
+          → Advances d w t job rules most was is turns turns_after came
+      gone_last most below came other a =
+          let left : steps_left (setup_of job) mid.run.core.pace + n
+          ≤ steps_left (setup_of job) was.run.core.pace = gone.less in
+          let fewer : steps_left (setup_of job) is.run.core.pace
+          < steps_left (setup_of job) mid.run.core.pace = a.less in
+          record {
+            events = gone.events ++ a.events;
+            steps = steps_more t (IsTrue w.tells) job rules gone.events a.events
+                (turning_of w was turns) (turning_of w mid between)
+                (turning_of w is turns_after) gone.steps a.steps;
+            answers = answers_last n most came gone.events a.events gone.count below gone.go_on
+                other a.answers;
+            over = a.over;
+            moves = moves_more (setting d w job rules) (at was) (at mid) (at is) gone.moves
+                a.moves;
+            saved = λ same. saves_more (setting d w job rules) (at was) (at mid) (at is) gone.moves
+                (a.saved same);
+            going = a.going;
+            less = omega (arith, left, fewer);
+          }
+
+    more_saves_none : More ≡ Saved → ⊥
+    more_saves_none same = cc
+
+    -- all that were asked for
+    pub gone_all : (n most : ℕ) (was is : RunState D W) (turns turns_after : T)
+        → HasGone n was is turns turns_after → n ≡ most → 0 < most
+        → Advances d w t job rules most was is turns turns_after More
+    gone_all n most was is turns turns_after gone same some =
+        let left : steps_left (setup_of job) is.run.core.pace + n
+        ≤ steps_left (setup_of job) was.run.core.pace = gone.less in
+        record {
+          events = gone.events;
+          steps = gone.steps;
+          answers = answers_more most gone.events some (gone.count ∙ same) gone.go_on;
+          over = gone.outcome;
+          moves = gone.moves;
+          saved = λ saved. absurd (more_saves_none saved);
+          going = gone.able.going;
+          less = omega (arith, left, same, some);
+        }
+
+    -- ---- call after call
+
+    pub leads_none : (x : RunState D W) (turns : T)
+        → TurnsLead t (IsTrue w.tells) job rules (turning_of w x turns) (turning_of w x turns)
+    leads_none x turns = ([], refl)
+
+    pub leads_more : (most : ℕ) (was mid is : RunState D W) (turns between turns_after : T)
+        (came : Advance)
+        → TurnsLead t (IsTrue w.tells) job rules (turning_of w was turns)
+        (turning_of w mid between)
+        → Advances d w t job rules most mid is between turns_after came
+        → TurnsLead t (IsTrue w.tells) job rules (turning_of w was turns)
+        (turning_of w is turns_after)
+    leads_more most was mid is turns between turns_after came one a = (
+      one.0 ++ a.events,
+      steps_more t (IsTrue w.tells) job rules one.0 a.events (turning_of w was turns)
+          (turning_of w mid between) (turning_of w is turns_after) one.1 a.steps,
+    )
+
+    pub leads_stop : (was mid : RunState D W) (turns between turns_after : T)
+        → TurnsLead t (IsTrue w.tells) job rules (turning_of w was turns)
+        (turning_of w mid between)
+        → TurnsStop t (IsTrue w.tells) job rules (turning_of w mid between) turns_after
+        → TurnsStop t (IsTrue w.tells) job rules (turning_of w was turns) turns_after
+    leads_stop was mid turns between turns_after one two = record {
+      last = two.last;
+      lead = (
+        one.0 ++ two.lead.0,
+        steps_more t (IsTrue w.tells) job rules one.0 two.lead.0 (turning_of w was turns)
+            (turning_of w mid between) two.last one.1 two.lead.1,
+      );
+      stop = two.stop;
+    }
+
+    -- the last one was the end
+    pub leads_end : (was is : RunState D W) (turns turns_after : T)
+        → TurnsLead t (IsTrue w.tells) job rules (turning_of w was turns)
+        (turning_of w is turns_after)
+        → TurnsStop t (IsTrue w.tells) job rules (turning_of w was turns) turns_after
+    leads_end was is turns turns_after one = record {
+      last = turning_of w is turns_after;
+      lead = one;
+      stop = inl refl;
+    }

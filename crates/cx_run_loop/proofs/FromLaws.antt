@@ -71,3 +71,8 @@ pub if_ok_more : {A E : Type 0} {P Q : A → Type 0} (r : Result A E) → ((x : 
     → IfOk r P → IfOk r Q
 if_ok_more (Ok x) f h = f x h
 if_ok_more (Err e) f h = tt
+
+pub if_ok_is : {A E : Type 0} (r : Result A E) (P : A → Type 0) (x : A) → IfOk r (λ y. y ≡ x) → P x
+    → IfOk r P
+if_ok_is (Ok y) P x same h = subst P (sym same) h
+if_ok_is (Err e) P x same h = tt

@@ -2,7 +2,7 @@
 use Rattle.std.proofs.Common.{◌≡◌, ◌≢◌, ℕ, ◌+◌, ◌<◌, Bool, true, false, List, [], ◌∷◌, ◌++◌, length, length-append, refl, sym, ◌∙◌, ap, subst, arith, inl, inr}
 use Rattle.std.proofs.Math.Path.{fun_ext}
 use Rattle.std.proofs.lemmas.List.{length-take-le}
-use Rattle.std.specs.Prelude.{Option, Some, None, Result, Ok, Err, OnOk, ◌==◌, if◌then◌else◌}
+use Rattle.std.specs.Prelude.{Option, Some, None, Result, Ok, Err, OnErr, OnOk, ◌==◌, if◌then◌else◌}
 use Rattle.cx_plan.specs.Setups.{Setup, setup_of}
 use Rattle.cx_plan.specs.declared.job.Job.{Job}
 use Rattle.cx_plan.specs.declared.variable.VarId.{VarId}
@@ -20,7 +20,7 @@ use Rattle.cx_core_buffers.specs.Gathering.{piece_of}
 use Rattle.cx_keep.specs.Keeping.{Keeper, IsAppended, AppendMoments}
 use Rattle.cx_keep.specs.Beginning.{newest_left}
 use Rattle.cx_keep.specs.Trails.{NewestIs}
-use Rattle.law_parts.specs.Beginnings.{Beginning, Afresh, From, run_of}
+use Rattle.law_parts.specs.Beginnings.{Beginning, IsBeginning, Afresh, From, run_of}
 use Rattle.law_parts.specs.Runs.{Run}
 use Rattle.law_parts.specs.Totals.{undivided_from}
 use Rattle.law_reached.specs.Works.{works_of, handed_out, works_left}
@@ -32,14 +32,14 @@ use Rattle.cx_core.specs.Cores.{Cores}
 use Rattle.cx_core.specs.Hands.{HandsOut, IsCheckpointOf, Leaves, StepsTo}
 use Rattle.cx_core.specs.Left.{steps_left}
 use Rattle.cx_core.specs.Starts.{begins_in}
-use Rattle.cx_core.specs.Steps.{Counts}
+use Rattle.cx_core.specs.Steps.{Counts, IsAt, Standing}
 use Rattle.cx_core.specs.Texts.{text_of_piece}
 use Rattle.cx_core.specs.Writes.{ended_by}
 use Rattle.law_course.specs.Beginnings.{GoesOn, beginning_of, lengths_found}
 use Rattle.law_course.specs.Courses.{StatesPackAgain, checkpoint_of}
 use Rattle.law_course.specs.Works.{KeptRun, WorksFollow, lengths_done, newest_after, works_by, output_found}
 use Rattle.cx_run_loop.specs.Advances.{FitsOutcome, HasSaved, Saves, SavesOn, came_of}
-use Rattle.cx_run_loop.specs.Going.{Setting, Place, IsBehind, IsGoing, IsKept, IsDriving, IsDriven, IsImageOf, Moves, MovesOn, LeavesImages, Steps, KeepsEvent, EventMoments, run_in, trace_in, kept_in, handed}
+use Rattle.cx_run_loop.specs.Going.{Setting, Place, IsBehind, IsGoing, IsKept, IsDriving, IsDriven, IsImageOf, Moves, MovesOn, LeavesImages, KeepsEvent, EventMoments, run_in, trace_in, kept_in, handed}
 use Rattle.cx_run_loop.specs.Laws.{DriveLaws}
 use Rattle.cx_run_loop.specs.declared.turn.Advance.{Advance}
 use Rattle.cx_run_loop.specs.declared.turn.Advance.TheVariants as answer
@@ -257,6 +257,16 @@ outcome_after setup was is End (inr met) going =
 
 -- ---- one turn
 
+-- a step of the core, whatever the run began from
+abbrev pub Steps : (tells : Type 0) (job : Job) (rules : List Rule) (was is : Standing tells)
+    (event : Event) → Type 0
+Steps tells job rules was is event =
+    (b : Beginning) → IsBeginning (setup_of job) b → (first : Counts)
+    (at : IsAt tells (run_of job rules b) first was.core was.queue was.now)
+    → (k : ℕ)
+    × StepsTo tells (run_of job rules b) (undivided_from (setup_of job) rules b)
+    first k was is at event
+
 module _ (s : Setting) (laws : DriveLaws s.wire s.job s.rules) (was is : Place s) (event : Event)
     (going : was.is.core.outcome ≡ Going) (key : was.is.core.buffers.state.key ≡ s.job.key)
     (steps : Steps s.wire s.job s.rules was.is is.is event) (found : Option Checkpoint)
@@ -453,3 +463,7 @@ on_ok_told T P Q (Err e) f h = tt
 pub on_ok_fact : {A E : Type 0} (P : Type 0) (r : Result A E) → P → OnOk r P
 on_ok_fact P (Ok x) p = p
 on_ok_fact P (Err e) p = tt
+
+pub on_err_fact : {A E : Type 0} (P : Type 0) (r : Result A E) → P → OnErr r P
+on_err_fact P (Ok x) p = tt
+on_err_fact P (Err e) p = p

@@ -12,6 +12,7 @@ use Rattle.cx_disk.specs.Disk.{View}
 use Rattle.cx_disk.specs.Files.{count_with}
 use Rattle.cx_disk.specs.declared.disk.Disk.{Ghosts as DiskGhosts}
 use Rattle.cx_wire.specs.declared.wire.Wire.{Ghosts as WireGhosts}
+use Rattle.cx_turns.specs.declared.turns.Turns.{Ghosts as TurnsGhosts}
 use Rattle.cx_chk.specs.declared.checkpoint.Checkpoint.{Checkpoint}
 use Rattle.cx_keep.specs.Trails.{NewestIs}
 use Rattle.law_course.specs.Courses.{checkpoint_of}
@@ -21,8 +22,10 @@ use Rattle.cx_core.specs.declared.answers.Event.TheVariants.{Part, Section, Save
 use Rattle.cx_core.specs.declared.answers.Outcome.{Outcome}
 use Rattle.cx_core.specs.declared.answers.Outcome.TheVariants.{Going}
 use Rattle.cx_core.specs.Left.{steps_left}
-use Rattle.cx_core.specs.Steps.{Counts, Standing, counts}
-use Rattle.cx_run_loop.specs.Going.{Setting, Place, IsDriven, IsDriving, IsGoing, LeavesImages, Moves, MovesOn, Steps, handed, kept_in, place_at, setting}
+use Rattle.cx_core.specs.Steps.{Counts, counts}
+use Rattle.cx_run_loop.specs.Going.{Setting, Place, IsDriven, IsDriving, IsGoing, LeavesImages, Moves, MovesOn, handed, kept_in, place_at, setting}
+use Rattle.cx_run_loop.specs.Lent.{wired}
+use Rattle.cx_run_loop.specs.Turning.{StepsBy, Turning, turning}
 use Rattle.cx_run_loop.specs.UnderWay.{Runs}
 use Rattle.cx_run_loop.specs.Within.{StaysWithin}
 use Rattle.cx_run_loop.specs.declared.turn.Advance.{Advance}
@@ -36,14 +39,6 @@ came_of (Part k) = More
 came_of (Section v iteration) = More
 came_of (Save iteration) = Saved
 came_of End = Over
-
--- these events of a core, one after another
-abbrev pub StepsBy :
-    (tells : Type 0) → Job → List Rule → List Event → (was is : Standing tells) → Type 0
-StepsBy tells job rules [] was is = is ≡ was
-StepsBy tells job rules (event ∷ events) was is =
-    (mid : Standing tells) × Steps tells job rules was mid event
-    × StepsBy tells job rules events mid is
 
 -- The events of a call, which asks for at most so many, and its answer: that is what comes of the
 -- last one. None of those before it was a checkpoint or the end. It is More only after all that
@@ -103,6 +98,11 @@ abbrev pub place_of :
     → RunState D W → Place (setting d w job rules)
 place_of d w job rules x = place_at d w x.run.core x.disk x.wire x.meter
 
+-- where it is, with its source of turns
+abbrev pub turning_of :
+    {D W T : Type 0} → (w : WireGhosts W) → RunState D W → T → Turning (IsTrue w.tells) T
+turning_of w x turns = turning x.run.core (wired w x.wire) x.meter turns
+
 -- it can be moved on: over a disk that is mounted with the job's files, and a wire with room for
 -- its parts
 pub record CanAdvance {D W : Type 0} (d : DiskGhosts D) (w : WireGhosts W) (job : Job)
@@ -128,12 +128,14 @@ pub record Keeps {D W : Type 0} (d : DiskGhosts D) (w : WireGhosts W) (job : Job
   pub within : StaysWithin (setting d w job rules) (place_of d w job rules was)
       (counts meter (w.received wire) (w.sum wire))
 
--- Where it answers: it has moved the run on by at most so many events, with less left to do.
-pub record Advances {D W : Type 0} (d : DiskGhosts D) (w : WireGhosts W) (job : Job)
-    (rules : List Rule) (most : ℕ) (was is : RunState D W) (came : Advance) : Type 0 where
+-- Where it answers: it has moved the run on by at most so many events, each the one that the source
+-- of turns picks, with less left to do.
+pub record Advances {D W T : Type 0} (d : DiskGhosts D) (w : WireGhosts W) (t : TurnsGhosts T)
+    (job : Job) (rules : List Rule) (most : ℕ) (was is : RunState D W) (turns turns_after : T)
+    (came : Advance) : Type 0 where
   pub events : List Event
-  pub steps : StepsBy (IsTrue w.tells) job rules events (place_of d w job rules was).is
-      (place_of d w job rules is).is
+  pub steps : StepsBy t (IsTrue w.tells) job rules events (turning_of w was turns)
+      (turning_of w is turns_after)
   pub answers : AnswersBy most came events
   pub over : FitsOutcome came is.run.core.outcome
   pub moves : MovesOn (setting d w job rules) (place_of d w job rules was)

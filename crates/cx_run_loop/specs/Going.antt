@@ -12,7 +12,7 @@ use Rattle.cx_chk.specs.declared.checkpoint.Checkpoint.{Checkpoint}
 use Rattle.cx_chk.specs.Slots.{SlotsSettled, OutputsSame}
 use Rattle.cx_keep.specs.Keeping.{Keeper, IsAppended, AppendMoments, SaveStands, SaveMoments}
 use Rattle.cx_keep.specs.Trails.{Counts as AreCounted, IsTrailOf, OutputsSettled, Stands as KeeperStands}
-use Rattle.law_parts.specs.Beginnings.{Beginning, IsBeginning, run_of}
+use Rattle.law_parts.specs.Beginnings.{IsBeginning, run_of}
 use Rattle.law_parts.specs.Runs.{Run}
 use Rattle.law_parts.specs.Totals.{undivided_from}
 use Rattle.law_reached.specs.Works.{works_of, handed_out}
@@ -21,7 +21,7 @@ use Rattle.cx_core.specs.declared.answers.Event.{Event}
 use Rattle.cx_core.specs.declared.answers.Event.TheVariants.{Part, Section, Save, End}
 use Rattle.cx_core.specs.declared.answers.Outcome.TheVariants.{Going}
 use Rattle.cx_core.specs.Cores.{Cores}
-use Rattle.cx_core.specs.Hands.{Leaves, StepsTo, Stands}
+use Rattle.cx_core.specs.Hands.{Leaves, Stands}
 use Rattle.cx_core.specs.Starts.{begins_in}
 use Rattle.cx_core.specs.Steps.{Counts, Standing, IsAt, IsRunning, stands_at}
 use Rattle.cx_core.specs.Texts.{text_of_piece}
@@ -128,16 +128,6 @@ pub record IsKept (job : Job) (tells : Type 0) (k : Keeper) (core : Cores) (v : 
 pub record IsGoing (s : Setting) (k : Keeper) (p : Place s) : Type 0 where
   pub running : IsRunning s.wire s.job s.rules p.is
   pub kept : IsKept s.job s.disk k p.is.core p.view
-
--- a step of the core, whatever the run began from
-abbrev pub Steps : (tells : Type 0) (job : Job) (rules : List Rule) (was is : Standing tells)
-    (event : Event) → Type 0
-Steps tells job rules was is event =
-    (b : Beginning) → IsBeginning (setup_of job) b → (first : Counts)
-    (at : IsAt tells (run_of job rules b) first was.core was.queue was.now)
-    → (k : ℕ)
-    × StepsTo tells (run_of job rules b) (undivided_from (setup_of job) rules b)
-    first k was is at event
 
 -- what a step has left of a core that it found at this one
 pub record IsBehind (job : Job) (tells : Type 0) (k : Keeper) (is : Cores) (event : Event)

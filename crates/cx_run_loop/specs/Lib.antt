@@ -4,6 +4,7 @@ pub mod Faults
 pub mod Numbers
 pub mod Going
 pub mod Laws
+pub mod Turning
 pub mod Advances
 pub mod UnderWay
 pub mod Within

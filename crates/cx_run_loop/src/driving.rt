@@ -1,5 +1,5 @@
 //! A run of a job, from its start or from a checkpoint to its end.
-ghost use Rattle.std.specs.Prelude.{◌≡◌, ◌≤◌, map, IfOk, OnOk};
+ghost use Rattle.std.specs.Prelude.{◌≡◌, ◌≤◌, map, IsTrue, IfOk, OnErr, OnOk};
 ghost use Rattle.cx_cut.specs.Cuts.{part_count};
 ghost use Rattle.cx_cut.specs.Faults.{parts_of};
 ghost use Rattle.cx_disk.specs.Disk.{IsNamed};
@@ -11,6 +11,8 @@ ghost use Rattle.cx_run_loop.specs.Advances.{CanAdvance, Keeps, run_state};
 ghost use Rattle.cx_run_loop.specs.Drives.{Drives, LendsScalars, driven_by};
 ghost use Rattle.cx_run_loop.specs.Faults.{Stops};
 ghost use Rattle.cx_run_loop.specs.Going.{EndsAt, place_at, setting};
+ghost use Rattle.cx_run_loop.specs.Lent.{wired};
+ghost use Rattle.cx_run_loop.specs.Turning.{StopsTurns, TakesTurns, TurnsLead, TurnsStop, turning};
 
 use crate::fault::DriveFault;
 use crate::laws::drive_laws;
@@ -52,6 +54,12 @@ pub fn drive<D: Disk, W: Wire, T: Turns>(
     ensures folders { OnOk result
         (IsNamed job.now.out_dir (output_names (setup_of job.now)) job.now.chk_dir
         (D.folders disk.new)) }
+    ensures turns { IfOk result (TakesTurns T.Turns
+        (driven_by job.now (map rule routines.now) D.Disk W.Wire
+        disk.old disk.new wire.old wire.new meter.old meter.new) turns.old turns.new) }
+    ensures picked { OnErr result (StopsTurns T.Turns
+        (driven_by job.now (map rule routines.now) D.Disk W.Wire
+        disk.old disk.new wire.old wire.new meter.old meter.new) turns.old turns.new) }
     ensures begun { T.begun turns.new ≡ T.begun turns.old }
     ensures scalars { IfOk result (LendsScalars job.now) }
 {
@@ -82,6 +90,13 @@ fn run_to_end<D: Disk, W: Wire, T: Turns>(
         (place_at D.Disk W.Wire now disk.new wire.new meter.new)) }
     ensures keeps { Keeps D.Disk W.Wire job.now (map rule routines.now)
         (run_state run disk.old wire.old meter.old) disk.new wire.new meter.new }
+    ensures turns { IfOk result (λ now. TurnsLead T.Turns (IsTrue W.tells)
+        job.now (map rule routines.now)
+        (turning run.core (wired W.Wire wire.old) meter.old turns.old)
+        (turning now (wired W.Wire wire.new) meter.new turns.new)) }
+    ensures picked { OnErr result (TurnsStop T.Turns (IsTrue W.tells)
+        job.now (map rule routines.now)
+        (turning run.core (wired W.Wire wire.old) meter.old turns.old) turns.new) }
     ensures begun { T.begun turns.new ≡ T.begun turns.old }
     ensures stops { Stops
         (record { old = D.faults disk.old; new = D.faults disk.new })

@@ -1,5 +1,5 @@
 //! A run in steps: it begins, is moved on by so many events at a time, and is finished.
-ghost use Rattle.std.specs.Prelude.{◌≡◌, ◌<◌, ◌≤◌, ◌^◌, ◌↔◌, ℕ, Bool, IsTrue, List, length, map, IfErr, IfOk, IfSome, OnOk, true};
+ghost use Rattle.std.specs.Prelude.{◌≡◌, ◌<◌, ◌≤◌, ◌^◌, ◌↔◌, ℕ, Bool, IsTrue, List, length, map, IfErr, IfOk, IfSome, OnErr, OnOk, true};
 ghost use Rattle.cx_disk.specs.Disk.{IsNamed};
 ghost use Rattle.cx_disk.specs.Files.{count_with};
 ghost use Rattle.cx_disk.specs.Moments.{IsQuiet};
@@ -17,6 +17,8 @@ ghost use Rattle.cx_core.specs.Steps.{Begins, Counts};
 ghost use Rattle.cx_core.specs.declared.answers.Outcome.TheVariants as outcomes;
 ghost use Rattle.cx_run_loop.specs.Advances.{Advances, CanAdvance, Keeps, run_state};
 ghost use Rattle.cx_run_loop.specs.Faults.{Stops, StopsStart};
+ghost use Rattle.cx_run_loop.specs.Lent.{wired};
+ghost use Rattle.cx_run_loop.specs.Turning.{TurnsStop, turning};
 ghost use Rattle.cx_run_loop.specs.UnderWay.{HasBegun};
 
 use crate::fault::DriveFault;
@@ -120,11 +122,14 @@ impl Run {
             (run_state self.old disk.old wire.old meter.old) }
         requires outcome { self.old.core.outcome ≡ outcomes.Going }
         ensures advances { IfOk result
-            (Advances D.Disk W.Wire job.now (map rule routines.now) most
+            (Advances D.Disk W.Wire T.Turns job.now (map rule routines.now) most
             (run_state self.old disk.old wire.old meter.old)
-            (run_state self.new disk.new wire.new meter.new)) }
+            (run_state self.new disk.new wire.new meter.new) turns.old turns.new) }
         ensures keeps { Keeps D.Disk W.Wire job.now (map rule routines.now)
             (run_state self.old disk.old wire.old meter.old) disk.new wire.new meter.new }
+        ensures picked { OnErr result (TurnsStop T.Turns (IsTrue W.tells)
+            job.now (map rule routines.now)
+            (turning self.old.core (wired W.Wire wire.old) meter.old turns.old) turns.new) }
         ensures begun { T.begun turns.new ≡ T.begun turns.old }
         ensures stops { Stops
             (record { old = D.faults disk.old; new = D.faults disk.new })

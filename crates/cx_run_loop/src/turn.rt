@@ -5,12 +5,14 @@ ghost use Rattle.cx_cut.specs.Faults.{parts_of};
 ghost use Rattle.cx_plan.specs.Setups.{setup_of};
 ghost use Rattle.cx_outputs.specs.Names.{HasShortNames};
 ghost use Rattle.cx_rule.specs.Jobs.{FitJob};
+ghost use Rattle.cx_core.specs.Cores.{enabled_in};
 ghost use Rattle.cx_core.specs.Starts.{IsReady};
 ghost use Rattle.cx_core.specs.Steps.{IsRunning, counts, stands_at};
 ghost use Rattle.cx_core.specs.declared.answers.Outcome.TheVariants as outcomes;
 ghost use Rattle.cx_run_loop.specs.Advances.{Advances, CanAdvance, Keeps, came_of, run_state};
 ghost use Rattle.cx_run_loop.specs.Faults.{Stops};
-ghost use Rattle.cx_run_loop.specs.Going.{Steps};
+ghost use Rattle.cx_run_loop.specs.Lent.{wired};
+ghost use Rattle.cx_run_loop.specs.Turning.{IsTurn, turning};
 ghost use Rattle.cx_run_loop.specs.UnderWay.{runs};
 ghost use Rattle.cx_run_loop.specs.Within.{StepsWithin};
 
@@ -56,12 +58,14 @@ pub(crate) fn turn<D: Disk, W: Wire, T: Turns>(
         (run_state (runs keep.old core.old) disk.old wire.old meter.old) }
     requires outcome { core.old.outcome ≡ outcomes.Going }
     ensures advances { IfOk result
-        (Advances D.Disk W.Wire job.now (map rule routines.now) 1
+        (Advances D.Disk W.Wire T.Turns job.now (map rule routines.now) 1
         (run_state (runs keep.old core.old) disk.old wire.old meter.old)
-        (run_state (runs keep.new core.new) disk.new wire.new meter.new)) }
+        (run_state (runs keep.new core.new) disk.new wire.new meter.new)
+        turns.old turns.new) }
     ensures keeps { Keeps D.Disk W.Wire job.now (map rule routines.now)
         (run_state (runs keep.old core.old) disk.old wire.old meter.old)
         disk.new wire.new meter.new }
+    ensures picked { (k : ℕ) × T.picks turns.old (enabled_in core.old) k turns.new }
     ensures begun { T.begun turns.new ≡ T.begun turns.old }
     ensures stops { Stops
         (record { old = D.faults disk.old; new = D.faults disk.new })
@@ -101,11 +105,9 @@ fn step<W: Wire, T: Turns>(
         (stands_at core.old
         (W.queue wire.old) meter.old (W.received wire.old) (W.sum wire.old)) }
     requires outcome { core.old.outcome ≡ outcomes.Going }
-    ensures steps { IfOk result (Steps (IsTrue W.tells) job.now (map rule routines.now)
-        (stands_at core.old
-        (W.queue wire.old) meter.old (W.received wire.old) (W.sum wire.old))
-        (stands_at core.new
-        (W.queue wire.new) meter.new (W.received wire.new) (W.sum wire.new))) }
+    ensures turn { IfOk result (IsTurn T.Turns (IsTrue W.tells) job.now (map rule routines.now)
+        (turning core.old (wired W.Wire wire.old) meter.old turns.old)
+        (turning core.new (wired W.Wire wire.new) meter.new turns.new)) }
     ensures parts { W.parts wire.new ≡ W.parts wire.old }
     ensures points { meter.old ≤ meter.new }
     ensures values { W.received wire.old ≤ W.received wire.new }
@@ -113,6 +115,7 @@ fn step<W: Wire, T: Turns>(
         (stands_at core.old
         (W.queue wire.old) meter.old (W.received wire.old) (W.sum wire.old))
         (counts meter.new (W.received wire.new) (W.sum wire.new)) }
+    ensures picked { (k : ℕ) × T.picks turns.old (enabled_in core.old) k turns.new }
     ensures begun { T.begun turns.new ≡ T.begun turns.old }
     ensures stops { (n : ℕ) → Stops (record { old = n; new = n })
         (record { old = W.faults wire.old; new = W.faults wire.new }) result }

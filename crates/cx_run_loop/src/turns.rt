@@ -1,5 +1,5 @@
 //! Turn after turn.
-ghost use Rattle.std.specs.Prelude.{◌≡◌, ◌<◌, map, IfOk};
+ghost use Rattle.std.specs.Prelude.{◌≡◌, ◌<◌, map, IsTrue, IfOk, OnErr};
 ghost use Rattle.cx_plan.specs.Setups.{setup_of};
 ghost use Rattle.cx_outputs.specs.Names.{HasShortNames};
 ghost use Rattle.cx_rule.specs.Jobs.{FitJob};
@@ -7,6 +7,8 @@ ghost use Rattle.cx_core.specs.Starts.{IsReady};
 ghost use Rattle.cx_core.specs.declared.answers.Outcome.TheVariants as outcomes;
 ghost use Rattle.cx_run_loop.specs.Advances.{Advances, CanAdvance, Keeps, run_state};
 ghost use Rattle.cx_run_loop.specs.Faults.{Stops};
+ghost use Rattle.cx_run_loop.specs.Lent.{wired};
+ghost use Rattle.cx_run_loop.specs.Turning.{TurnsStop, turning};
 ghost use Rattle.cx_run_loop.specs.UnderWay.{runs};
 
 use crate::fault::DriveFault;
@@ -42,12 +44,16 @@ pub(crate) fn take_turns<D: Disk, W: Wire, T: Turns>(
         (run_state (runs keep.old core.old) disk.old wire.old meter.old) }
     requires outcome { core.old.outcome ≡ outcomes.Going }
     ensures advances { IfOk result
-        (Advances D.Disk W.Wire job.now (map rule routines.now) most
+        (Advances D.Disk W.Wire T.Turns job.now (map rule routines.now) most
         (run_state (runs keep.old core.old) disk.old wire.old meter.old)
-        (run_state (runs keep.new core.new) disk.new wire.new meter.new)) }
+        (run_state (runs keep.new core.new) disk.new wire.new meter.new)
+        turns.old turns.new) }
     ensures keeps { Keeps D.Disk W.Wire job.now (map rule routines.now)
         (run_state (runs keep.old core.old) disk.old wire.old meter.old)
         disk.new wire.new meter.new }
+    ensures picked { OnErr result (TurnsStop T.Turns (IsTrue W.tells)
+        job.now (map rule routines.now)
+        (turning core.old (wired W.Wire wire.old) meter.old turns.old) turns.new) }
     ensures begun { T.begun turns.new ≡ T.begun turns.old }
     ensures stops { Stops
         (record { old = D.faults disk.old; new = D.faults disk.new })

@@ -1,6 +1,6 @@
 //! Turns from a seed.
 ghost use Rattle.std.specs.Prelude.{◌≡◌, ◌<◌, None, Some};
-ghost use Rattle.cx_turns.specs.Picks.{next, picked};
+ghost use Rattle.cx_turns.specs.Picks.{IsNextPick};
 
 use crate::turns::Turns;
 use std::marker::Model;
@@ -35,6 +35,8 @@ impl SeededTurns {
 impl Turns for SeededTurns {
     ghost begun = { λ turns. turns.begun };
 
+    ghost picks = { IsNextPick };
+
     /// Begins the turns that belong to a seed.
     fn start(&mut self, seed: u64)
         ensures begun { self.new.begun ≡ Some seed }
@@ -48,9 +50,8 @@ impl Turns for SeededTurns {
     fn pick(&mut self, n: u64) -> u64
         requires { 0 < n }
         ensures below { result < n }
+        ensures picks { IsNextPick self.old n result self.new }
         ensures begun { self.new.begun ≡ self.old.begun }
-        ensures next { self.new.state ≡ next self.old.state }
-        ensures picked { result ≡ picked (next self.old.state) n }
     {
         self.state = self
             .state

@@ -1,5 +1,5 @@
 //! Devices that fail in one call, a disk whose files are long, and sources of turns that always pick alike.
-ghost use Rattle.std.specs.Prelude.{◌≡◌, IfOk};
+ghost use Rattle.std.specs.Prelude.{◌+◌, ◌≡◌, IfOk};
 ghost use Rattle.cx_disk.specs.Disk.{files_in, untold};
 
 use cx_disk::{Disk, DiskFault, FailingDisk, MemoryDisk, OLD_OUTPUT};
@@ -37,6 +37,8 @@ pub struct FirstTurns(pub Option<u64>);
 impl Turns for FirstTurns {
     ghost begun = { λ turns. turns.0 };
 
+    ghost picks = { λ was n k is. k ≡ 0 };
+
     fn start(&mut self, seed: u64) {
         self.0 = Some(seed);
     }
@@ -52,6 +54,8 @@ pub struct LastTurns(pub Option<u64>);
 
 impl Turns for LastTurns {
     ghost begun = { λ turns. turns.0 };
+
+    ghost picks = { λ was n k is. k + 1 ≡ n };
 
     fn start(&mut self, seed: u64) {
         self.0 = Some(seed);

@@ -1,9 +1,11 @@
-use Rattle.std.proofs.Common.{ap, refl, arith}
+use Rattle.std.proofs.Common.{List, map, ap, refl, arith, inl}
 use Rattle.std.proofs.lemmas.Result.{err_from_is_err_and}
 use Rattle.cx_disk.specs.Disk.{Folders}
+use Rattle.cx_rule.specs.Routine.{Rule}
 use Rattle.cx_run_loop.specs.Drives.{driven_by}
-use Rattle.cx_run_loop.proofs.BegunLaws.{can_go, drives_on, lends_on}
+use Rattle.cx_run_loop.proofs.BegunLaws.{can_go, drives_on, lends_on, stops_on, turns_on}
 use Rattle.cx_run_loop.proofs.DriveLaws.{refused}
+use Rattle.cx_run_loop.proofs.TurnLaws.{on_err_fact}
 use Rattle.cx_run_loop.proofs.driving.drive.Goals as goal
 
 pub run_to_end-requires-clause-able : goal.run_to_end-requires-clause-able
@@ -45,3 +47,26 @@ returns-clause-scalars g c =
     (c.drive_laws.ensures g.W.Wire.tells _)
     (λ t. (g.met.D.Disk.sound c.args.disk.now t).reads) c.run_to_end.new.disk
     c.run_to_end.new.wire c.run_to_end.new.meter c.run_to_end.result c.run_to_end.ensures.ends
+
+pub returns-clause-turns : goal.returns-clause-turns
+returns-clause-turns g c =
+    let rules : List Rule =
+    map (λ r. (goal.Routine-dyn g (r.vtable, r.value)).rule r.value) c.args.routines.now in
+    turns_on g.D.Disk g.W.Wire c.args.job.now rules c.args.disk.now c.begin.new.disk
+    c.args.wire.now c.args.meter.now c.in_ok-run._found c.in_ok-run.run'
+    c.in_ok-run.ensures.begins c.requires.empty (g.met.W.Wire.sum_fits c.args.wire.now) g.T.Turns
+    c.run_to_end.new.disk c.run_to_end.new.wire c.run_to_end.new.meter c.args.turns.now
+    c.run_to_end.new.turns c.run_to_end.result c.run_to_end.ensures.turns
+
+pub returns-in_err-run-clause-picked : goal.returns-in_err-run-clause-picked
+returns-in_err-run-clause-picked g c = on_err_fact _ c.from_residual.result (inl refl)
+
+pub returns-clause-picked : goal.returns-clause-picked
+returns-clause-picked g c =
+    let rules : List Rule =
+    map (λ r. (goal.Routine-dyn g (r.vtable, r.value)).rule r.value) c.args.routines.now in
+    stops_on g.D.Disk g.W.Wire c.args.job.now rules c.args.disk.now c.begin.new.disk
+    c.args.wire.now c.args.meter.now c.in_ok-run._found c.in_ok-run.run'
+    c.in_ok-run.ensures.begins c.requires.empty (g.met.W.Wire.sum_fits c.args.wire.now) g.T.Turns
+    c.run_to_end.new.disk c.run_to_end.new.wire c.run_to_end.new.meter c.args.turns.now
+    c.run_to_end.new.turns c.run_to_end.result c.run_to_end.ensures.picked

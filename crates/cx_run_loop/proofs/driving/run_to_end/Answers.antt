@@ -1,14 +1,18 @@
 use Rattle.std.proofs.Common.{◌≡◌, ◌≤◌, ℕ, true, false, List, map, arith, refl, sym, ◌∙◌}
 use Rattle.std.proofs.lemmas.Result.{err_from_is_err_and}
-use Rattle.std.specs.Prelude.{Err}
+use Rattle.std.specs.Prelude.{Err, IsTrue}
 use Rattle.cx_plan.specs.Setups.{setup_of}
 use Rattle.cx_rule.specs.Routine.{Rule}
+use Rattle.cx_core.specs.Cores.{Cores}
 use Rattle.cx_core.specs.Starts.{begins_in}
 use Rattle.cx_run_loop.specs.Advances.{place_of, run_state}
-use Rattle.cx_run_loop.proofs.AdvanceLaws.{can_again, keeps_more, keeps_none, keeps_quiet}
+use Rattle.cx_run_loop.specs.Lent.{wired}
+use Rattle.cx_run_loop.specs.Turning.{TurnsLead, turning}
+use Rattle.cx_run_loop.proofs.AdvanceLaws.{can_again, keeps_more, keeps_none, keeps_quiet, leads_end, leads_more, leads_none, leads_stop}
+use Rattle.cx_run_loop.proofs.FromLaws.{if_ok_is}
 use Rattle.cx_run_loop.proofs.StepLaws.{ends_with}
 use Rattle.cx_run_loop.proofs.StopLaws.{count, stopped_first, stopped_after}
-use Rattle.cx_run_loop.proofs.TurnLaws.{moves_none, moves_more}
+use Rattle.cx_run_loop.proofs.TurnLaws.{moves_none, moves_more, on_err_fact}
 use Rattle.cx_run_loop.proofs.driving.run_to_end.Goals as goal
 
 pub turns-init : goal.turns-init
@@ -16,6 +20,7 @@ turns-init g c =
     let was = run_state c.args.run c.args.disk.now c.args.wire.now c.args.meter.now in
     record {
       moves = moves_none _ (place_of g.D.Disk g.W.Wire c.args.job.now _ was);
+      lead = leads_none g.D.Disk g.W.Wire c.args.job.now _ g.T.Turns was c.args.turns.now;
       able = c.requires.able;
       keeps = keeps_none g.D.Disk g.W.Wire c.args.job.now _
           (c.drive_laws.ensures g.W.Wire.tells _) was c.requires.able;
@@ -43,6 +48,9 @@ turns-preserved g c =
           (place_of g.D.Disk g.W.Wire c.args.job.now _ mid)
           (place_of g.D.Disk g.W.Wire c.args.job.now _ is) c.turns.invariant.moves
           c.in_ok-advance.ensures.advances.moves;
+      lead = leads_more g.D.Disk g.W.Wire c.args.job.now _ g.T.Turns _ was mid is
+          c.args.turns.now c.turns.turns c.advance.new.turns _ c.turns.invariant.lead
+          c.in_ok-advance.ensures.advances;
       able = can_again g.D.Disk g.W.Wire c.args.job.now _ mid is c.turns.invariant.able
           c.in_ok-advance.ensures.keeps c.in_ok-advance.ensures.advances.going;
       keeps = keeps_more g.D.Disk g.W.Wire c.args.job.now _ was mid c.advance.new.disk
@@ -84,6 +92,32 @@ returns-clause-ends g c =
     (λ found first x. c.core_stands.ensures g.W.Wire.tells rules
     (begins_in (setup_of c.args.job.now) found) x.begins first mid.is x.at)
     c.finish.ensures.quiet c.finish.result c.finish.ensures.core c.finish.ensures.settled
+
+pub returns-clause-turns : goal.returns-clause-turns
+returns-clause-turns g c =
+    let rules : List Rule =
+    map (λ r. (goal.Routine-dyn g (r.vtable, r.value)).rule r.value) c.args.routines.now in
+    if_ok_is c.finish.result
+    (λ (now : Cores). TurnsLead g.T.Turns (IsTrue g.W.Wire.tells) c.args.job.now rules
+    (turning c.args.run.core (wired g.W.Wire c.args.wire.now) c.args.meter.now c.args.turns.now)
+    (turning now (wired g.W.Wire c.turns.wire) c.turns.meter c.turns.turns)) c.turns.run.core
+    c.finish.ensures.core c.turns.invariant.lead
+
+pub returns-in_err-advance-clause-picked : goal.returns-in_err-advance-clause-picked
+returns-in_err-advance-clause-picked g c =
+    on_err_fact _ c.from_residual.result
+    (leads_stop g.D.Disk g.W.Wire c.args.job.now _ g.T.Turns
+    (run_state c.args.run c.args.disk.now c.args.wire.now c.args.meter.now)
+    (run_state c.turns.run c.turns.disk c.turns.wire c.turns.meter) c.args.turns.now
+    c.turns.turns c.advance.new.turns c.turns.invariant.lead c.in_err-advance.ensures.picked)
+
+pub returns-clause-picked : goal.returns-clause-picked
+returns-clause-picked g c =
+    on_err_fact _ c.finish.result
+    (leads_end g.D.Disk g.W.Wire c.args.job.now _ g.T.Turns
+    (run_state c.args.run c.args.disk.now c.args.wire.now c.args.meter.now)
+    (run_state c.turns.run c.turns.disk c.turns.wire c.turns.meter) c.args.turns.now
+    c.turns.turns c.turns.invariant.lead)
 
 pub returns-clause-keeps : goal.returns-clause-keeps
 returns-clause-keeps g c =

@@ -1,9 +1,10 @@
 -- what was driven is driven here, and each moment so far is of the run
-use Rattle.std.proofs.Common.{◌≡◌, ◌≤◌, map}
+use Rattle.std.proofs.Common.{◌≡◌, ◌≤◌, map, IsTrue}
 use Rattle.cx_plan.specs.Setups.{setup_of}
 use Rattle.cx_core.specs.Left.{steps_left}
-use Rattle.cx_run_loop.specs.Advances.{CanAdvance, Keeps, place_of, run_state}
+use Rattle.cx_run_loop.specs.Advances.{CanAdvance, Keeps, place_of, run_state, turning_of}
 use Rattle.cx_run_loop.specs.Going.{MovesOn, setting}
+use Rattle.cx_run_loop.specs.Turning.{TurnsLead}
 use Rattle.cx_run_loop.proofs.driving.run_to_end.Given as goal
 
 abbrev pub invariant-turns : goal.invariant-turns
@@ -14,6 +15,8 @@ invariant-turns g l =
     record {
       moves : MovesOn (setting g.D.Disk g.W.Wire l.job rules)
           (place_of g.D.Disk g.W.Wire l.job rules was) (place_of g.D.Disk g.W.Wire l.job rules is);
+      lead : TurnsLead g.T.Turns (IsTrue g.W.Wire.tells) l.job rules
+          (turning_of g.W.Wire was l.initial.turns) (turning_of g.W.Wire is l.turns);
       able : CanAdvance g.D.Disk g.W.Wire l.job rules is;
       keeps : Keeps g.D.Disk g.W.Wire l.job rules was l.disk l.wire l.meter;
       begun : g.T.Turns.begun l.turns ≡ g.T.Turns.begun l.initial.turns;

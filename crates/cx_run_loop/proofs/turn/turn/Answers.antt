@@ -11,6 +11,7 @@ use Rattle.cx_run_loop.proofs.turn.turn.Goals as goal
 
 pub keep_event-requires-clause-behind : goal.keep_event-requires-clause-behind
 keep_event-requires-clause-behind g c =
+    let turn = c.in_ok-event.ensures.turn in
     behind _ c.args.keep.now
     (place_of g.D.Disk g.W.Wire c.args.job.now _
     (run_state (runs c.args.keep.now c.args.core.now) c.args.disk.now c.args.wire.now
@@ -18,17 +19,19 @@ keep_event-requires-clause-behind g c =
     (place_of g.D.Disk g.W.Wire c.args.job.now _
     (run_state (runs c.args.keep.now c.step.new.core) c.args.disk.now c.step.new.wire
     c.step.new.meter))
-    c.in_ok-event.event c.requires.able.going c.in_ok-event.ensures.steps
+    c.in_ok-event.event c.requires.able.going
+    (λ b begins first at. (turn.k, turn.does b begins first at))
 
 pub returns-clause-advances : goal.returns-clause-advances
 returns-clause-advances g c =
-    turn_advances g.D.Disk g.W.Wire c.args.job.now _ (c.drive_laws.ensures g.W.Wire.tells _)
+    turn_advances g.D.Disk g.W.Wire c.args.job.now _ g.T.Turns
+    (c.drive_laws.ensures g.W.Wire.tells _)
     (run_state (runs c.args.keep.now c.args.core.now) c.args.disk.now c.args.wire.now
     c.args.meter.now)
     (run_state (runs c.keep_event.new.keep c.step.new.core) c.keep_event.new.disk c.step.new.wire
     c.step.new.meter)
-    c.in_ok-event.event c.requires.able c.requires.outcome c.in_ok-event.ensures.steps
-    c.came_of.result c.came_of.ensures c.in_ok-keep_event.ensures.keeps
+    c.args.turns.now c.step.new.turns c.in_ok-event.event c.requires.able c.requires.outcome
+    c.in_ok-event.ensures.turn c.came_of.result c.came_of.ensures c.in_ok-keep_event.ensures.keeps
     c.in_ok-keep_event.ensures.kept
 
 pub returns-in_err-event-clause-keeps : goal.returns-in_err-event-clause-keeps
@@ -52,14 +55,14 @@ returns-in_err-event-clause-keeps g c =
 
 pub returns-in_err-keep_event-clause-keeps : goal.returns-in_err-keep_event-clause-keeps
 returns-in_err-keep_event-clause-keeps g c = record {
-  moments = turn_moments g.D.Disk g.W.Wire c.args.job.now _
+  moments = turn_moments g.D.Disk g.W.Wire c.args.job.now _ g.T.Turns
       (c.drive_laws.ensures g.W.Wire.tells _)
       (run_state (runs c.args.keep.now c.args.core.now) c.args.disk.now c.args.wire.now
       c.args.meter.now)
       (run_state (runs c.keep_event.new.keep c.step.new.core) c.keep_event.new.disk
       c.step.new.wire c.step.new.meter)
-      c.in_ok-event.event c.requires.able c.requires.outcome c.in_ok-event.ensures.steps
-      c.keep_event.new.disk c.in_err-keep_event.ensures.moments;
+      c.args.turns.now c.step.new.turns c.in_ok-event.event c.requires.able c.requires.outcome
+      c.in_ok-event.ensures.turn c.keep_event.new.disk c.in_err-keep_event.ensures.moments;
   parts = c.in_ok-event.ensures.parts;
   mounted = c.in_err-keep_event.ensures.mounted;
   files = c.in_err-keep_event.ensures.files;
@@ -73,14 +76,14 @@ returns-in_err-keep_event-clause-keeps g c = record {
 
 pub returns-clause-keeps : goal.returns-clause-keeps
 returns-clause-keeps g c = record {
-  moments = turn_moments g.D.Disk g.W.Wire c.args.job.now _
+  moments = turn_moments g.D.Disk g.W.Wire c.args.job.now _ g.T.Turns
       (c.drive_laws.ensures g.W.Wire.tells _)
       (run_state (runs c.args.keep.now c.args.core.now) c.args.disk.now c.args.wire.now
       c.args.meter.now)
       (run_state (runs c.keep_event.new.keep c.step.new.core) c.keep_event.new.disk
       c.step.new.wire c.step.new.meter)
-      c.in_ok-event.event c.requires.able c.requires.outcome c.in_ok-event.ensures.steps
-      c.keep_event.new.disk c.in_ok-keep_event.ensures.moments;
+      c.args.turns.now c.step.new.turns c.in_ok-event.event c.requires.able c.requires.outcome
+      c.in_ok-event.ensures.turn c.keep_event.new.disk c.in_ok-keep_event.ensures.moments;
   parts = c.in_ok-event.ensures.parts;
   mounted = c.in_ok-keep_event.ensures.mounted;
   files = c.in_ok-keep_event.ensures.files;

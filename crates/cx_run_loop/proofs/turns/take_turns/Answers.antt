@@ -1,15 +1,17 @@
 use Rattle.std.proofs.Common.{◌≤◌, arith, refl, ◌∙◌}
 use Rattle.cx_run_loop.specs.Advances.{run_state}
 use Rattle.cx_run_loop.specs.UnderWay.{runs}
-use Rattle.cx_run_loop.proofs.AdvanceLaws.{gone_all, gone_last, gone_more, gone_none, keeps_more}
+use Rattle.cx_run_loop.proofs.AdvanceLaws.{gone_all, gone_last, gone_more, gone_none, gone_stop, keeps_more}
 use Rattle.cx_run_loop.proofs.StopLaws.{count, goes_on}
+use Rattle.cx_run_loop.proofs.TurnLaws.{on_err_fact}
 use Rattle.cx_run_loop.proofs.turns.take_turns.Goals as goal
 
 pub turns-init : goal.turns-init
 turns-init g c = record {
-  gone = gone_none g.D.Disk g.W.Wire c.args.job.now _ (c.drive_laws.ensures g.W.Wire.tells _)
+  gone = gone_none g.D.Disk g.W.Wire c.args.job.now _ g.T.Turns
+      (c.drive_laws.ensures g.W.Wire.tells _)
       (run_state (runs c.args.keep.now c.args.core.now) c.args.disk.now c.args.wire.now
-      c.args.meter.now) c.requires.able c.requires.outcome;
+      c.args.meter.now) c.args.turns.now c.requires.able c.requires.outcome;
   begun = refl;
   disk_later = omega arith;
   wire_later = omega arith;
@@ -26,13 +28,14 @@ turns-preserved g c =
     let f : g.W.Wire.faults c.turns.wire ≤ g.W.Wire.faults c.turn.new.wire =
     c.in_ok-stop.ensures.stops.wire_later in
     record {
-      gone = gone_more g.D.Disk g.W.Wire c.args.job.now _ c.turns.counter
+      gone = gone_more g.D.Disk g.W.Wire c.args.job.now _ g.T.Turns c.turns.counter
           (run_state (runs c.args.keep.now c.args.core.now) c.args.disk.now c.args.wire.now
           c.args.meter.now)
           (run_state (runs c.turns.keep c.turns.core) c.turns.disk c.turns.wire c.turns.meter)
           (run_state (runs c.turn.new.keep c.turn.new.core) c.turn.new.disk c.turn.new.wire
           c.turn.new.meter)
-          c.turns.invariant.gone _ (omega arith) c.in_ok-stop.stop c.in-More.is
+          c.args.turns.now c.turns.turns c.turn.new.turns c.turns.invariant.gone _
+          (omega arith) c.in_ok-stop.stop c.in-More.is
           c.in_ok-stop.ensures.advances c.in_ok-stop.ensures.keeps;
       begun = c.in_ok-stop.ensures.begun ∙ c.turns.invariant.begun;
       disk_later = omega arith;
@@ -48,15 +51,28 @@ returns-in_err-stop-clause-keeps g c =
     c.turn.new.disk c.turn.new.wire c.turn.new.meter c.turns.invariant.gone.moves
     c.turns.invariant.gone.keeps c.in_err-stop.ensures.keeps
 
-pub returns-in_default-clause-advances : goal.returns-in_default-clause-advances
-returns-in_default-clause-advances g c =
-    gone_last g.D.Disk g.W.Wire c.args.job.now _ c.turns.counter
+pub returns-in_err-stop-clause-picked : goal.returns-in_err-stop-clause-picked
+returns-in_err-stop-clause-picked g c =
+    on_err_fact _ c.from_residual.result
+    (gone_stop g.D.Disk g.W.Wire c.args.job.now _ g.T.Turns c.turns.counter
     (run_state (runs c.args.keep.now c.args.core.now) c.args.disk.now c.args.wire.now
     c.args.meter.now)
     (run_state (runs c.turns.keep c.turns.core) c.turns.disk c.turns.wire c.turns.meter)
     (run_state (runs c.turn.new.keep c.turn.new.core) c.turn.new.disk c.turn.new.wire
     c.turn.new.meter)
-    c.turns.invariant.gone c.args.most (omega arith) c.in_ok-stop.stop c.in_default.not-More
+    c.args.turns.now c.turns.turns c.turn.new.turns c.turns.invariant.gone
+    c.in_err-stop.ensures.picked.0 c.in_err-stop.ensures.picked.1)
+
+pub returns-in_default-clause-advances : goal.returns-in_default-clause-advances
+returns-in_default-clause-advances g c =
+    gone_last g.D.Disk g.W.Wire c.args.job.now _ g.T.Turns c.turns.counter
+    (run_state (runs c.args.keep.now c.args.core.now) c.args.disk.now c.args.wire.now
+    c.args.meter.now)
+    (run_state (runs c.turns.keep c.turns.core) c.turns.disk c.turns.wire c.turns.meter)
+    (run_state (runs c.turn.new.keep c.turn.new.core) c.turn.new.disk c.turn.new.wire
+    c.turn.new.meter)
+    c.args.turns.now c.turns.turns c.turn.new.turns c.turns.invariant.gone c.args.most
+    (omega arith) c.in_ok-stop.stop c.in_default.not-More
     c.in_ok-stop.ensures.advances
 
 pub returns-in_default-clause-keeps : goal.returns-in_default-clause-keeps
@@ -88,8 +104,8 @@ returns-in_default-clause-stops g c =
 
 pub returns-clause-advances : goal.returns-clause-advances
 returns-clause-advances g c =
-    gone_all g.D.Disk g.W.Wire c.args.job.now _ c.turns.counter c.args.most
+    gone_all g.D.Disk g.W.Wire c.args.job.now _ g.T.Turns c.turns.counter c.args.most
     (run_state (runs c.args.keep.now c.args.core.now) c.args.disk.now c.args.wire.now
     c.args.meter.now)
     (run_state (runs c.turns.keep c.turns.core) c.turns.disk c.turns.wire c.turns.meter)
-    c.turns.invariant.gone (omega arith) c.requires.some
+    c.args.turns.now c.turns.turns c.turns.invariant.gone (omega arith) c.requires.some

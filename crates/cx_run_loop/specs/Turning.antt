@@ -1,0 +1,91 @@
+-- Which event is done: the one that the source of turns picks.
+use Rattle.std.specs.Prelude.{ℕ, ◌≡◌, ◌⊎◌, List, [], ◌∷◌, Option, Ok}
+use Rattle.cx_plan.specs.declared.job.Job.{Job}
+use Rattle.cx_plan.specs.Setups.{setup_of}
+use Rattle.cx_rule.specs.Routine.{Rule}
+use Rattle.cx_turns.specs.declared.turns.Turns.{Ghosts as TurnsGhosts}
+use Rattle.cx_chk.specs.declared.checkpoint.Checkpoint.{Checkpoint}
+use Rattle.cx_keep.specs.Tests.{begun}
+use Rattle.law_parts.specs.Beginnings.{Beginning, IsBeginning, run_of}
+use Rattle.law_parts.specs.Totals.{undivided_from}
+use Rattle.cx_core.specs.declared.answers.Event.{Event}
+use Rattle.cx_core.specs.Cores.{Cores, enabled_in}
+use Rattle.cx_core.specs.Hands.{StepsTo}
+use Rattle.cx_core.specs.Starts.{begins_in}
+use Rattle.cx_core.specs.Steps.{Begins, Counts, IsAt, Standing, stands_at}
+use Rattle.cx_run_loop.specs.Drives.{Drive, counts_old}
+use Rattle.cx_run_loop.specs.Lent.{Wired}
+
+-- where a run is, and its source of turns
+pub record Turning (tells T : Type 0) : Type 0 where
+  pub is : Standing tells
+  pub turns : T
+
+-- by its core, its wire, what the meter has counted, and the source
+abbrev pub turning : {tells T : Type 0} → Cores → Wired tells → ℕ → T → Turning tells T
+turning core wire meter turns = record {
+  is = stands_at core wire.queue meter wire.received wire.sum;
+  turns = turns;
+}
+
+-- One turn: of all events that can happen the source picks the k-th, and that one is done, whatever
+-- the run began from.
+pub record IsTurn {T : Type 0} (t : TurnsGhosts T) (tells : Type 0) (job : Job) (rules : List Rule)
+    (was is : Turning tells T) (event : Event) : Type 0 where
+  pub k : ℕ
+  pub picked : t.picks was.turns (enabled_in was.is.core) k is.turns
+  pub does : (b : Beginning) → IsBeginning (setup_of job) b → (first : Counts)
+      (at : IsAt tells (run_of job rules b) first was.is.core was.is.queue was.is.now)
+      → StepsTo tells (run_of job rules b) (undivided_from (setup_of job) rules b) first k was.is
+      is.is at event
+
+-- turn after turn, these events
+abbrev pub StepsBy :
+    {T : Type 0} → (t : TurnsGhosts T) → (tells : Type 0) → Job → List Rule → List Event
+    → (was is : Turning tells T) → Type 0
+StepsBy t tells job rules [] was is = is ≡ was
+StepsBy {T} t tells job rules (event ∷ events) was is =
+    (mid : Turning tells T) × IsTurn t tells job rules was mid event
+    × StepsBy t tells job rules events mid is
+
+-- some events
+abbrev pub TurnsLead :
+    {T : Type 0} → (t : TurnsGhosts T) → (tells : Type 0) → Job → List Rule
+    → (was is : Turning tells T) → Type 0
+TurnsLead t tells job rules was is = (events : List Event) × StepsBy t tells job rules events was is
+
+-- Where a fault stops them: they have led to some place, for which the source has picked at most
+-- once more.
+pub record TurnsStop {T : Type 0} (t : TurnsGhosts T) (tells : Type 0) (job : Job)
+    (rules : List Rule) (was : Turning tells T) (turns_after : T) : Type 0 where
+  pub last : Turning tells T
+  pub lead : TurnsLead t tells job rules was last
+  pub stop : (turns_after ≡ last.turns)
+      ⊎ ((k : ℕ) × t.picks last.turns (enabled_in last.is.core) k turns_after)
+
+-- ---- a run, and its source of turns before and after it
+
+-- a core in which nobody has done anything, as the run begins
+pub record IsFirst (d : Drive) (first : Cores) : Type 0 where
+  pub found : Option Checkpoint
+  pub began : d.disk.tells → begun d.job d.disk.old.seen ≡ Ok found
+  pub begins : Begins d.wire.tells (run_of d.job d.rules (begins_in (setup_of d.job) found))
+      (counts_old d) first d.wire.old.queue
+
+-- a run that came to its end: turn after turn led from its first core to the one that it answers
+pub record TakesTurns {T : Type 0} (t : TurnsGhosts T) (d : Drive) (turns turns_after : T)
+    (core : Cores) : Type 0 where
+  pub first : Cores
+  pub is_first : IsFirst d first
+  pub lead : TurnsLead t d.wire.tells d.job d.rules
+      (turning first d.wire.old d.meter.old turns)
+      (turning core d.wire.new d.meter.new turns_after)
+
+-- one that a fault stopped, before it had begun or after it
+abbrev pub StopsTurns :
+    {T : Type 0} → (t : TurnsGhosts T) → Drive → (turns turns_after : T) → Type 0
+StopsTurns t d turns turns_after =
+    (turns_after ≡ turns)
+    ⊎ ((first : Cores) × IsFirst d first
+    × TurnsStop t d.wire.tells d.job d.rules (turning first d.wire.old d.meter.old turns)
+    turns_after)
