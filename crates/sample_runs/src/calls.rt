@@ -1,4 +1,6 @@
 //! The top call over objects in memory.
+ghost use Rattle.std.specs.Prelude.{◌≤◌};
+ghost use Rattle.cx_core.specs.Starts.{AreEmpty};
 
 use crate::carriers::wire;
 use cx_disk::{Disk, MemoryDisk};
@@ -6,7 +8,8 @@ use cx_program::answer;
 use cx_rule::Meter;
 use cx_run::{MemoryShelf, MemorySink, Shelf};
 use cx_text::{List, Memory, Text};
-use cx_turns::SeededTurns;
+use cx_turns::{SeededTurns, Turns};
+use cx_wire::Wire;
 use sample_files::{FILES, File};
 use std::alloc::Global;
 use std::test::Fail;
@@ -65,6 +68,25 @@ pub struct Outcome {
     pub sum: u64,
 }
 
+/// The status of a command over these devices.
+pub fn status_over<H: Shelf, D: Disk, W: Wire, T: Turns>(
+    rt: &HostRuntime,
+    words: &[&str],
+    shelf: &mut H,
+    disk: &mut D,
+    wire: &mut W,
+    turns: &mut T,
+    out: &mut MemorySink,
+    meter: &mut Meter,
+) -> Result<u8, Fail>
+    requires parts { 512 ≤ W.parts wire.old }
+    requires empty { AreEmpty (W.queue wire.old) }
+{
+    let words = texts(rt.alloc(), words)?;
+    let status = answer(rt.alloc(), &words, shelf, disk, wire, turns, out, meter)?;
+    Ok(status)
+}
+
 /// What a command comes to over a shelf and a disk, whose outputs aren't looked at.
 pub fn answer_over<H: Shelf, D: Disk>(
     rt: &HostRuntime,
@@ -73,13 +95,12 @@ pub fn answer_over<H: Shelf, D: Disk>(
     disk: &mut D,
 ) -> Result<Outcome, Fail> {
     let alloc = rt.alloc();
-    let words = texts(alloc, words)?;
     let mut wire = wire(alloc)?;
     let mut turns = SeededTurns::new();
     let mut out = sink(alloc, &[])?;
     let mut meter = Meter::new(rt);
-    let status = answer(
-        alloc, &words, shelf, disk, &mut wire, &mut turns, &mut out, &mut meter,
+    let status = status_over(
+        rt, words, shelf, disk, &mut wire, &mut turns, &mut out, &mut meter,
     )?;
     Ok(Outcome {
         status,

@@ -7,6 +7,6 @@ pub mod samples;
 
 pub use calls::{
     FIRST_OUTPUT, Outcome, SECOND_OUTPUT, answer_on, answer_over, answer_to, push_files, shelf,
-    shelf_with, sink, texts,
+    shelf_with, sink, status_over, texts,
 };
 pub use carriers::{altering, failing, noting, wire};

@@ -4,7 +4,7 @@
 use cx_disk::{MemoryDisk, named_output};
 use cx_rule::{Meter, Routine};
 use cx_run::{MemoryShelf, MemorySink};
-use cx_text::{List, Memory};
+use cx_text::{List, Memory, Text};
 use cx_thorn_ca::{CaCount, CaInit, CaStep, CaZero};
 use cx_turns::SeededTurns;
 use law_restarts::{Stop, empty_disk, run_through_stops};
@@ -131,6 +131,31 @@ fn new_automaton(alloc: Global) -> Result<Automaton, Memory> {
     })
 }
 
+/// The starts of the row over a shelf with these routines, from a disk without files.
+fn run_chain(
+    alloc: Global,
+    words: &[Text],
+    stops: &[Stop],
+    shelf: &mut MemoryShelf,
+    cells: Automaton,
+    out: &mut MemorySink,
+    meter: &mut Meter,
+) -> Result<(u8, MemoryDisk), Memory> {
+    let routines: [Box<dyn Routine>; 4] = [cells.init, cells.step, cells.zero, cells.count];
+    let mut turns = SeededTurns::new();
+    run_through_stops(
+        alloc,
+        words,
+        stops,
+        shelf,
+        empty_disk(alloc),
+        &mut turns,
+        out,
+        &routines,
+        meter,
+    )
+}
+
 /// The status of a start in two parts after those that stop, and the disk that it leaves.
 fn chain(
     alloc: Global,
@@ -138,22 +163,10 @@ fn chain(
     meter: &mut Meter,
 ) -> Result<(u8, MemoryDisk), Memory> {
     let cells = new_automaton(alloc)?;
-    let routines: [Box<dyn Routine>; 4] = [cells.init, cells.step, cells.zero, cells.count];
     let words = texts(alloc, &["run", "two.par"])?;
     let stops = stops(alloc)?;
     let mut shelf = shelf(alloc)?;
-    let mut turns = SeededTurns::new();
-    run_through_stops(
-        alloc,
-        &words,
-        &stops,
-        &mut shelf,
-        empty_disk(alloc),
-        &mut turns,
-        out,
-        &routines,
-        meter,
-    )
+    run_chain(alloc, &words, &stops, &mut shelf, cells, out, meter)
 }
 
 #[test]

@@ -2,16 +2,17 @@
 
 use crate::boxes::{FIELDS, SUMS};
 use crate::devices::{failing_disk, failing_shelf};
-use crate::stops::{BOX_FILE, BOX_THORNS};
+use crate::stops::{BOX_FILE, BOX_THORNS, RUN};
 use cx_disk::{Disk, MemoryDisk};
-use cx_program::answer;
 use cx_rule::Meter;
 use cx_run::{MemorySink, Shelf};
-use cx_text::{List, Text};
+use cx_text::List;
 use cx_turns::SeededTurns;
 use sample_files::File;
 use sample_runs::samples::{CA, CA_OUTPUT, EACH};
-use sample_runs::{FIRST_OUTPUT, SECOND_OUTPUT, answer_to, failing, shelf_with, sink, texts, wire};
+use sample_runs::{
+    FIRST_OUTPUT, SECOND_OUTPUT, answer_to, failing, shelf_with, sink, status_over, wire,
+};
 use std::alloc::Global;
 use std::test::Fail;
 use test_cases::same;
@@ -98,14 +99,10 @@ fn run_anew<H: Shelf, D: Disk>(
     disk: &mut D,
     out: &mut MemorySink,
 ) -> Result<u8, Fail> {
-    let alloc = rt.alloc();
-    let words = texts(alloc, &["run", "t.par"])?;
-    let mut wire = wire(alloc)?;
+    let mut wire = wire(rt.alloc())?;
     let mut turns = SeededTurns::new();
     let mut meter = Meter::new(rt);
-    Ok(answer(
-        alloc, &words, shelf, disk, &mut wire, &mut turns, out, &mut meter,
-    )?)
+    status_over(rt, RUN, shelf, disk, &mut wire, &mut turns, out, &mut meter)
 }
 
 /// Runs it over a wire that fails in one call.
@@ -116,14 +113,10 @@ fn run_cut_off<H: Shelf, D: Disk>(
     out: &mut MemorySink,
     fail: u64,
 ) -> Result<u8, Fail> {
-    let alloc = rt.alloc();
-    let words = texts(alloc, &["run", "t.par"])?;
-    let mut wire = failing(alloc, fail)?;
+    let mut wire = failing(rt.alloc(), fail)?;
     let mut turns = SeededTurns::new();
     let mut meter = Meter::new(rt);
-    Ok(answer(
-        alloc, &words, shelf, disk, &mut wire, &mut turns, out, &mut meter,
-    )?)
+    status_over(rt, RUN, shelf, disk, &mut wire, &mut turns, out, &mut meter)
 }
 
 /// Both calls, by the first one's status and text.
@@ -300,6 +293,6 @@ fn shelf_that_is_given_back(rt: HostRuntime) -> Result<(), Fail> {
     let alloc = rt.alloc();
     let files = shelf_with(alloc, CA, EACH, &[])?;
     let mut within = failing_shelf(alloc, files, 0)?.into_inner();
-    let came = answer_to(&rt, &["run", "t.par"], &mut within)?;
+    let came = answer_to(&rt, RUN, &mut within)?;
     same(&"the shelf within", &came.status, &0)
 }

@@ -68,7 +68,8 @@ pub(crate) const BOX_THORNS: &[File] = &[File {
         Integer/Control\n",
 }];
 
-const RUN: &[&str] = &["run", "t.par"];
+/// The words of a run.
+pub(crate) const RUN: &[&str] = &["run", "t.par"];
 
 /// What a run of a job over a disk comes to.
 fn run_on(
