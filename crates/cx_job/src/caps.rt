@@ -8,7 +8,7 @@ ghost use Rattle.cx_job.specs.Caps.{part_points, greatest_part, too_large, cap_f
 ghost use Rattle.cx_job.specs.declared.fault.JobFault.TheVariants as faults;
 
 use crate::JobFault;
-use crate::local_cells::point_count;
+use crate::cells::point_count;
 use cx_cut::Cut;
 use cx_plan::Item;
 use cx_rule::Spec;

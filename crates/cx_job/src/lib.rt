@@ -2,6 +2,7 @@
 #![tactic(auto)]
 
 mod caps;
+mod cells;
 mod counting;
 mod fault;
 mod groups;
@@ -9,13 +10,12 @@ mod job;
 mod keys;
 mod limits;
 mod lines;
-mod local_cells;
 mod making;
 mod outputs;
 mod stages;
 
+pub use cells::local_cells;
 pub use cx_job_files::{FolderShelf, MemoryShelf, Shelf, ShelfFault};
 pub use fault::JobFault;
 pub use lines::direction_letter;
-pub use local_cells::local_cells;
 pub use making::make_job;

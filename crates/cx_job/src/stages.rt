@@ -20,13 +20,13 @@ ghost use Rattle.cx_job_files.specs.Stages.{Is};
 ghost use Rattle.cx_job.specs.Making.{Yields, Orders, Matches, Accepts, CutAnd, IsOutputFault, IsSteerFault, assigned_values, bound_thorns, steered_steps, key_within, job_within, part_limits, cut_limits, within_cut, output_ids};
 
 use crate::caps::{check_caps, greatest_part};
+use crate::cells::local_cells;
 use crate::counting::run_count;
 use crate::fault::JobFault;
 use crate::job::{job_of, steered_job};
 use crate::limits::{
     check_grid_limits, check_item_limits, check_key, check_local_cells, first_items,
 };
-use crate::local_cells::local_cells;
 use crate::outputs::output_variables;
 use cx_bind::{Bound, Thorn, bind};
 use cx_cut::{Cut, cut};

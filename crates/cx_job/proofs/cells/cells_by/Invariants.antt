@@ -2,7 +2,7 @@ use Rattle.std.proofs.Common.{◌≡◌}
 use Rattle.std.specs.Prelude.{sum_by}
 use Rattle.std.specs.List.{range_with_len}
 use Rattle.cx_job.specs.LocalCells.{part_cells}
-use Rattle.cx_job.proofs.local_cells.cells_by.Given as goal
+use Rattle.cx_job.proofs.cells.cells_by.Given as goal
 use Rattle.cx_text.specs.Numbers.{in_64_bits}
 
 abbrev pub invariant-parts : goal.invariant-parts

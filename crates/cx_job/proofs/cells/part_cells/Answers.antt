@@ -2,7 +2,7 @@ use Rattle.std.proofs.Common.{◌∙◌, ap, ◌*◌, ◌+◌}
 use Rattle.cx_grid.specs.Boxes.{point_count}
 use Rattle.cx_cut.specs.Cuts.{local}
 use Rattle.cx_job.proofs.LocalCellLaws.{held_cells}
-use Rattle.cx_job.proofs.local_cells.part_cells.Goals as goal
+use Rattle.cx_job.proofs.cells.part_cells.Goals as goal
 use Rattle.cx_text.specs.Numbers.{in_64_bits}
 
 pub returns : goal.returns

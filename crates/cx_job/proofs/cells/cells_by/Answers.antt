@@ -1,7 +1,7 @@
 use Rattle.std.proofs.Common.{◌∙◌, ap, ◌+◌}
 use Rattle.cx_job.specs.LocalCells.{part_cells}
 use Rattle.cx_job.proofs.LocalCellLaws.{sum_more}
-use Rattle.cx_job.proofs.local_cells.cells_by.Goals as goal
+use Rattle.cx_job.proofs.cells.cells_by.Goals as goal
 use Rattle.cx_text.specs.Numbers.{in_64_bits}
 
 pub parts-preserved : goal.parts-preserved

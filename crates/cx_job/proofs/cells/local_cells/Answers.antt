@@ -2,7 +2,7 @@ use Rattle.std.proofs.Common.{◌≡◌, ◌∙◌, ap, ◌+◌, rules}
 use Rattle.cx_plan.specs.Whole.{grid_levels}
 use Rattle.cx_job.specs.LocalCells.{greatest, items_run}
 use Rattle.cx_job.proofs.LocalCellLaws.{held_first, all_held}
-use Rattle.cx_job.proofs.local_cells.local_cells.Goals as goal
+use Rattle.cx_job.proofs.cells.local_cells.Goals as goal
 use Rattle.cx_rule.specs.Patches.{write_count, value_count}
 use Rattle.cx_text.specs.Numbers.{in_64_bits}
 
