@@ -12,6 +12,8 @@ mod exchange;
 #[cfg(test)]
 mod grids;
 #[cfg(test)]
+mod in_memory;
+#[cfg(test)]
 mod jobs;
 #[cfg(test)]
 mod mails;

@@ -1,5 +1,5 @@
-use Rattle.library_tests.proofs.JobLaws.{is_ready}
-use Rattle.library_tests.proofs.in_memory.job.Goals as goal
+use Rattle.core_tests.proofs.JobLaws.{is_ready}
+use Rattle.core_tests.proofs.in_memory.job.Goals as goal
 
 pub returns-clause-ready : goal.returns-clause-ready
 returns-clause-ready g c =

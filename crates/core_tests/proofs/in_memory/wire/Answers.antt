@@ -1,4 +1,4 @@
-use Rattle.library_tests.proofs.in_memory.wire.Goals as goal
+use Rattle.core_tests.proofs.in_memory.wire.Goals as goal
 
 pub returns-clause-empty : goal.returns-clause-empty
 returns-clause-empty c = c.in_ok-wire.ensures.told
