@@ -6,6 +6,5 @@ pub mod Moments
 pub mod Memory
 pub mod Fuse
 pub mod Failing
-pub mod Folder
 pub mod MemoryLaws
 pub mod Image

@@ -4,7 +4,6 @@
 mod disk;
 mod failing_disk;
 mod files;
-mod folder_disk;
 mod fuse_disk;
 mod image;
 mod memory_disk;
@@ -16,7 +15,6 @@ mod whole;
 pub use disk::{Disk, DiskFault};
 pub use failing_disk::FailingDisk;
 pub use files::{CHUNKS, FIRST_CHUNK, OLD_OUTPUT, RECOMBINED, SLOTS, chunk, named_output};
-pub use folder_disk::FolderDisk;
 pub use fuse_disk::FuseDisk;
 pub use memory_disk::MemoryDisk;
 pub use note::{Change, Note};

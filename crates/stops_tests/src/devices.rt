@@ -80,7 +80,7 @@ pub struct LongDisk {
 }
 
 impl Model for LongDisk {
-    ghost use Rattle.cx_disk.specs.Folder.{Adapter};
+    ghost use Rattle.stops_tests.specs.Adapter.{Adapter};
 
     ghost Value = { Adapter };
 

@@ -1,4 +1,4 @@
--- An adapter of a device, which tells nothing of what the device holds.
+-- A device that tells nothing of what it holds.
 use Rattle.std.specs.Prelude.{ℕ, Bool}
 use Rattle.cx_disk.specs.Disk.{Folders}
 
