@@ -370,12 +370,12 @@ const CASES: &[Case] = &[
     Case {
         name: "the sum of momenta",
         file: RING,
-        more: "IO::out_vars = \"gas::total_y gas::particles\"\n",
+        more: "IO::out_vars = \"gas::particles gas::total_y\"\n",
         printed: b"done: iteration 2\n",
-        first: b"# gas::total_y iteration 0 value -2\n\
-            # gas::total_y iteration 2 value -2\n",
-        second: b"# gas::particles iteration 0 value 6\n\
+        first: b"# gas::particles iteration 0 value 6\n\
             # gas::particles iteration 2 value 6\n",
+        second: b"# gas::total_y iteration 0 value -2\n\
+            # gas::total_y iteration 2 value -2\n",
     },
 ];
 
