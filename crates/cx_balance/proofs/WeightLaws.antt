@@ -167,7 +167,7 @@ level_there job state v is has e =
     points : length (current_level job state v) ≡ point_count (whole job.shape)
     points =
         subst (λ (o : Option VarId).
-            IfSome o (λ w. length (current_level job state w) ≡ point_count (whole job.shape)))
+        IfSome o (λ w. length (current_level job state w) ≡ point_count (whole job.shape)))
         e has
 
     go : (levels_before job.vars v < length state.levels)

@@ -23,12 +23,7 @@ use std::alloc::Global;
 /// # Errors
 ///
 /// `Memory` when out of memory.
-pub fn planes(
-    alloc: Global,
-    job: &Job,
-    state: &Checkpoint,
-    dir: u8,
-) -> Result<List<u128>, Memory>
+pub fn planes(alloc: Global, job: &Job, state: &Checkpoint, dir: u8) -> Result<List<u128>, Memory>
     requires whole { IsWhole job.now }
     requires state { HasWeight job.now state.now }
     requires direction { dir < job.now.shape.dims }
