@@ -1,5 +1,5 @@
 -- A job's own cut, and the one that the weights of a checkpoint choose in its place.
-use Rattle.std.proofs.Common.{◌≡◌, ℕ, zero, suc, ◌+◌, ◌-◌, ◌*◌, ◌<◌, ◌≤◌, Bool, true, false, ltb, cond, refl, sym, ap, subst, ◌∙◌, arith, List, [], ◌∷◌, length, Option, Some, None, Result, Ok, Err}
+use Rattle.std.proofs.Common.{◌≡◌, ℕ, zero, suc, ◌-◌, ◌*◌, ◌<◌, ◌≤◌, Bool, true, false, ltb, cond, refl, sym, ap, subst, ◌∙◌, arith, List, [], ◌∷◌, length, Option, Some, None, Result, Ok, Err}
 use Rattle.std.specs.Prelude.{max, unsigned_abs, IfOk}
 use Rattle.std.proofs.Math.Nat.{mul-le-mul, mul-le-mul_left}
 use Rattle.std.proofs.lemmas.Bool.{ltb-false}
@@ -17,7 +17,7 @@ use Rattle.cx_cut.specs.declared.faults.CutFault.TheVariants.{TooMany}
 use Rattle.cx_cut.specs.Faults.{parts_of, points, ghosts, axis_fault, many_fault, thin_fault, axes_fault, widths_fault, cut_fault}
 use Rattle.cx_text.specs.Numbers.{in_64_bits}
 use Rattle.cx_chk.specs.declared.checkpoint.Checkpoint.{Checkpoint}
-use Rattle.cx_balance.specs.Choosing.{chosen, HasRoom, CanChoose, AreWeights}
+use Rattle.cx_balance.specs.Choosing.{chosen, CanChoose, AreWeights}
 use Rattle.cx_balance.specs.Cutting.{chosen_cut, least_width, HasAsManyParts}
 use Rattle.cx_balance.specs.Weighing.{planes}
 use Rattle.cx_balance.proofs.ChooseLaws.{chosen_fits}

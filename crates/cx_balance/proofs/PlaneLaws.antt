@@ -1,13 +1,11 @@
 -- The planes of a grid as boxes.
-use Rattle.std.proofs.Common.{◌≡◌, ℕ, zero, suc, ◌+◌, ◌*◌, ◌^◌, ◌<◌, ◌≤◌, Bool, true, false, eqb, arith, ℤ, pos, negsuc, ◌≤ℤ◌}
+use Rattle.std.proofs.Common.{ℕ, zero, suc, ◌+◌, ◌^◌, ◌<◌, ◌≤◌, Bool, true, false, eqb, arith, ℤ, pos, negsuc, ◌≤ℤ◌}
 use Rattle.std.specs.Prelude.{unsigned_abs, if◌then◌else◌}
 use Rattle.std.specs.Int.{int_gap}
 use Rattle.std.proofs.Math.Nat.{mul-le-mul}
 use Rattle.std.proofs.lemmas.Int.{ints}
-use Rattle.cx_grid.specs.declared.boxes.Point.{Point}
-use Rattle.cx_grid.specs.declared.boxes.Box3.{Box3}
 use Rattle.cx_grid.specs.declared.shapes.Shape.{Shape}
-use Rattle.cx_grid.specs.Boxes.{along, extent, point_count, IsBox, IsIn, IsOn}
+use Rattle.cx_grid.specs.Boxes.{along, point_count, IsBox, IsOn}
 use Rattle.cx_grid.specs.Grid.{IsAxis, IsShape, whole}
 use Rattle.cx_balance.specs.Weighing.{plane, LiesOn}
 

@@ -1,5 +1,5 @@
 -- Worked rows.
-use Rattle.std.proofs.Common.{◌≡◌, ◌+◌, ◌*◌, ◌^◌, ℕ, ℤ, pos, negsuc, true, false, List, [], ◌∷◌, ◌++◌, replicate, refl}
+use Rattle.std.proofs.Common.{◌≡◌, ◌+◌, ◌-◌, ◌*◌, ◌^◌, ℤ, pos, negsuc, true, false, List, [], ◌∷◌, ◌++◌, replicate, refl}
 use Rattle.cx_grid.specs.declared.shapes.Shape.{Shape}
 use Rattle.cx_plan.specs.declared.job.Cuts.{Cuts}
 use Rattle.cx_plan.specs.declared.variable.VarInfo.{VarInfo}
@@ -33,7 +33,7 @@ row_below = refl
 pub row_far : number_weight 3 (pos (2 ^ 20 + 5)) ≡ 1 + 3 * 2 ^ 20
 row_far = refl
 
-pub row_farthest : number_weight 1 (negsuc (2 ^ 63 + 0)) ≡ 1 + 2 ^ 20
+pub row_farthest : number_weight 1 (negsuc (2 ^ 63 - 1)) ≡ 1 + 2 ^ 20
 row_farthest = refl
 
 pub row_no_factor : number_weight 0 (pos 7) ≡ 1

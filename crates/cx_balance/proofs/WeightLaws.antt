@@ -1,17 +1,16 @@
 -- What points and planes weigh.
-use Rattle.std.proofs.Common.{◌≡◌, ℕ, zero, suc, ◌+◌, ◌*◌, ◌^◌, ◌<◌, ◌≤◌, refl, sym, ap, subst, ◌∙◌, arith, ℤ, pos, List, [], ◌∷◌, ◌++◌, length, map, get_or, Option, Some, None, Result, Ok, Err, ◌⊎◌, inl, inr, false, cond}
-use Rattle.std.specs.Prelude.{min, unsigned_abs, All, slice_index_or, IfOk, IfSome}
+use Rattle.std.proofs.Common.{◌≡◌, ℕ, ◌+◌, ◌*◌, ◌^◌, ◌<◌, ◌≤◌, refl, sym, ap, subst, ◌∙◌, arith, ℤ, List, [], ◌∷◌, ◌++◌, length, length-append, map, get_or, Option, Some, None, Result, Ok, Err, ◌⊎◌, inl, inr, false, cond}
+use Rattle.std.specs.Prelude.{min, unsigned_abs, IfOk, IfSome}
 use Rattle.std.specs.List.{range_with_len, sum_by}
 use Rattle.std.proofs.Math.Nat.{mul-le-mul}
 use Rattle.std.proofs.lemmas.Bool.{cases_lt}
 use Rattle.std.proofs.lemmas.List.{get_or_past}
 use Rattle.std.proofs.lemmas.List.Sums.{sum_by-cons, sum_by-le, sum_by-take-le, sum_by_more}
 use Rattle.std.proofs.lemmas.List.Elements.{All-map}
-use Rattle.std.proofs.lemmas.List.FromFn.{length-map-range_with_len, map-range_with_len_more, sum_by-map-range_with_len_more}
+use Rattle.std.proofs.lemmas.List.FromFn.{get_or-map-range_with_len, length-map-range_with_len, map-range_with_len_more, sum_by-map-range_with_len_more}
 use Rattle.cx_grid.specs.declared.boxes.Point.{Point}
 use Rattle.cx_grid.specs.declared.boxes.Box3.{Box3}
-use Rattle.cx_grid.specs.declared.shapes.Shape.{Shape}
-use Rattle.cx_grid.specs.Boxes.{along, point_count, point_in, points_in}
+use Rattle.cx_grid.specs.Boxes.{along, point_count, point_in, points_in, IsIn}
 use Rattle.cx_grid.specs.Grid.{whole}
 use Rattle.cx_plan.specs.declared.variable.VarId.{VarId}
 use Rattle.cx_plan.specs.declared.job.Job.{Job}
@@ -20,7 +19,8 @@ use Rattle.cx_plan.specs.Lookups.{is_scalar, levels_of, variable, no_variable}
 use Rattle.cx_plan.specs.Whole.{level_count, IsStoredGrid, IsWhole}
 use Rattle.cx_chk.specs.declared.checkpoint.Checkpoint.{Checkpoint}
 use Rattle.cx_balance.specs.Choosing.{AreWeights}
-use Rattle.cx_balance.specs.Weighing.{plane, planes, planes_by, levels_before, current_level, number_weight, number_at, weight_at, point_weight, HasWeight, HoldsLevels}
+use Rattle.cx_balance.specs.Weighing.{plane, planes, levels_before, current_level, number_weight, number_at, point_weight, HasWeight, HoldsLevels}
+use Rattle.cx_grid.proofs.Places.{point_inside}
 use Rattle.cx_balance.proofs.PlaneLaws.{plane_some, plane_few, points_along, whole_some}
 
 -- ---- sums over lists
@@ -62,6 +62,30 @@ pub all_planes : (f : ℕ → ℕ) (k n : ℕ) (weights : List ℕ) → weights 
 all_planes f k n weights is e = is ∙ ap (λ m. map f (range_with_len 0 m)) e
 
 -- ---- one point after another
+
+-- a point that stands at a place of a box
+pub record IsPointOf (b : Box3) (k : ℕ) (p : Point) : Type 0 where
+  pub below : k < point_count b
+  pub place : p ≡ point_in b k
+  pub inside : IsIn b p
+
+pub point_of : (b : Box3) (k : ℕ) (p : Point) → k < length (points_in b)
+    → p ≡ get_or (points_in b) k p → IsPointOf b k p
+point_of b k p l e =
+    record {
+      below = below;
+      place = place;
+      inside = subst (IsIn b) (sym place) (point_inside b k below);
+    }
+  where
+    below : k < point_count b
+    below = let count = points_count b in omega (arith, l, count)
+
+    place : p ≡ point_in b k
+    place = e ∙ get_or-map-range_with_len (point_in b) 0 (point_count b) k k p below (omega arith)
+
+pub one_longer : {X : Type 0} (xs : List X) (x : X) → length (xs ++ x ∷ []) ≡ length xs + 1
+one_longer xs x = length-append xs (x ∷ [])
 
 pub point_added : (f : Point → ℕ) (b : Box3) (i weighs more weight : ℕ)
     → weight ≡ sum_by f (map (point_in b) (range_with_len 0 i)) → weighs ≡ f (point_in b i)

@@ -15,11 +15,11 @@ use cx_text::{List, Memory};
 use std::alloc::Global;
 
 /// The cut that the weights of a checkpoint's points choose: in each direction as many parts as the
-/// job's own cut has, each at least as wide as the ghost zone, and one point.
+/// job's own cut has, each at least as wide as the ghost zone, and at least one point wide.
 ///
 /// A direction that the grid doesn't have keeps its one part of width 1. The grid can be cut so
-/// wherever it can be cut as the job says. How many points a routine takes in one part isn't looked
-/// at: where a part has more points than that, the caller takes the job's own cut.
+/// wherever it can be cut as the job says. How many local points a routine takes in one part isn't
+/// looked at: where a part would have more of them, the caller is to take the job's own cut.
 ///
 /// # Errors
 ///

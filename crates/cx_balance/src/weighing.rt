@@ -8,17 +8,18 @@ ghost use Rattle.cx_balance.specs.Choosing.{AreWeights};
 ghost use Rattle.cx_balance.specs.Weighing.{plane, planes, planes_by, levels_before, current_level, number_weight, weight_at, HasWeight, LiesOn};
 
 use cx_chk::Checkpoint;
-use cx_grid::{Box3, Point, Shape, count, index_of, point_at, whole};
+use cx_grid::{Box3, Point, Shape, count, index_of, rows, whole};
 use cx_plan::{Job, VarId, VarInfo};
 use cx_text::{List, Memory};
 use std::alloc::Global;
 
-/// The weights of the planes of a direction (0, 1 and 2 are x, y and z), from coordinate 0 on.
+/// The weights of the planes of a direction (0, 1 and 2 are x, y and z), one for each coordinate,
+/// from 0 on.
 ///
-/// A point weighs 1, and the job's factor as often as its number's distance from 0 says; from 2^20
-/// on that is 2^20 times. Its number is that of the variable that the job names, on its current
-/// level in the checkpoint, whose points stand x fastest, then y. Where the job names no variable
-/// each point weighs 1.
+/// A point weighs 1, and where the job names a variable that weighs, `weight_factor` times the
+/// distance of its number from 0 more; from 2^20 on the distance counts as 2^20. The number is that
+/// of the variable's current level in the checkpoint, whose points stand x fastest, then y. So a
+/// point weighs at most 2^40 + 1, and a plane less than 2^65.
 ///
 /// # Errors
 ///
@@ -86,8 +87,8 @@ fn plane_weight(shape: &Shape, plane: &Box3, level: &[i64], factor: u64) -> u128
 {
     let grid = whole(shape);
     let mut weight = 0;
-    'points: for i in 0..count(plane) {
-        weight += number_weight(level[index_of(&grid, point_at(plane, i))], factor);
+    'points: for p in rows(plane) {
+        weight += number_weight(level[index_of(&grid, p)], factor);
     }
     weight
 }
