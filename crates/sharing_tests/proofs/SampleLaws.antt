@@ -1,4 +1,4 @@
--- The jobs of the tests are whole, and their checkpoints have the numbers that weigh.
+-- The jobs of the tests are whole.
 use Rattle.std.proofs.Common.{◌≡◌, ◌≢◌, ℕ, ◌+◌, ◌*◌, ◌^◌, ◌<◌, ◌≤◌, Bool, true, false, refl, sym, ap, subst, List, [], ◌∷◌, length, get_or, ℤ, pos, arith}
 use Rattle.std.specs.Prelude.{All, AllPairs, IfSome}
 use Rattle.std.proofs.lemmas.Int.{ints}
@@ -15,8 +15,7 @@ use Rattle.cx_plan.specs.Lookups.{item, no_item, no_variable}
 use Rattle.cx_plan.specs.Regions.{run_items}
 use Rattle.cx_plan.specs.Steering.{IsSteer}
 use Rattle.cx_plan.specs.Whole.{IsTree, IsName, IsItem, IsSmall, IsStored, IsStoredGrid, IsWhole}
-use Rattle.cx_balance.specs.Weighing.{HasWeight}
-use Rattle.sharing_tests.specs.Samples.{sample, sample_state, sample_variables, weighing, AreNumbers}
+use Rattle.sharing_tests.specs.Samples.{sample, sample_variables, weighing}
 
 -- ---- shapes
 
@@ -33,11 +32,11 @@ one : IsAxis (pos 1) (pos 0)
 one = axis 1 0 (omega arith) (omega arith) (omega arith)
 
 pub ring-shape : (n : ℕ) → 1 ≤ n → n ≤ 100 → IsShape (record {
-    dims = 1;
-    n = record { x = pos n; y = pos 1; z = pos 1 };
-    ghost_ = record { x = pos 1; y = pos 0; z = pos 0 };
-    periodic = true ∷ false ∷ false ∷ [];
-  })
+  dims = 1;
+  n = record { x = pos n; y = pos 1; z = pos 1 };
+  ghost_ = record { x = pos 1; y = pos 0; z = pos 0 };
+  periodic = true ∷ false ∷ false ∷ [];
+})
 ring-shape n some most =
     record {
       some = omega arith;
@@ -51,11 +50,11 @@ ring-shape n some most =
     }
 
 pub sheet-shape : IsShape (record {
-    dims = 2;
-    n = record { x = pos 8; y = pos 8; z = pos 1 };
-    ghost_ = record { x = pos 1; y = pos 1; z = pos 0 };
-    periodic = true ∷ true ∷ false ∷ [];
-  })
+  dims = 2;
+  n = record { x = pos 8; y = pos 8; z = pos 1 };
+  ghost_ = record { x = pos 1; y = pos 1; z = pos 0 };
+  periodic = true ∷ true ∷ false ∷ [];
+})
 sheet-shape =
     record {
       some = omega arith;
@@ -158,11 +157,3 @@ sample-whole shape own weighed factor is small =
       cells_limit = let few = is.few in omega (arith, few);
       key_limit = omega arith;
     }
-
--- ---- its checkpoint
-
-pub sample-weighs : (shape : Shape) (own : Cuts) (weighed : Bool) (factor : ℕ) (numbers : List ℤ)
-    → AreNumbers shape factor numbers
-    → HasWeight (sample shape own weighed factor) (sample_state numbers)
-sample-weighs shape own true factor numbers are = are.points
-sample-weighs shape own false factor numbers are = tt

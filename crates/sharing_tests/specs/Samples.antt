@@ -74,4 +74,4 @@ sample_state numbers =
 -- what is asked of the numbers of a row
 pub record AreNumbers (shape : Shape) (factor : ℕ) (numbers : List ℤ) : Type 0 where
   pub points : length numbers ≡ point_count (whole shape)
-  pub factor : factor ≤ 2 ^ 20
+  pub few_times : factor ≤ 2 ^ 20

@@ -220,13 +220,7 @@ fn weighing(weighed: bool) -> Option<VarId>
 }
 
 /// A job of a grid, whose second variable may weigh the points.
-fn job(
-    alloc: Global,
-    shape: Shape,
-    own: Cuts,
-    weighed: bool,
-    factor: u64,
-) -> Result<Job, Memory>
+fn job(alloc: Global, shape: Shape, own: Cuts, weighed: bool, factor: u64) -> Result<Job, Memory>
     ensures { IfOk result (λ job. job ≡ sample shape own weighed factor) }
 {
     Ok(Job {
