@@ -91,7 +91,8 @@ pub point_added : (f : Point → ℕ) (b : Box3) (i weighs more weight : ℕ)
     → weight ≡ sum_by f (map (point_in b) (range_with_len 0 i)) → weighs ≡ f (point_in b i)
     → more ≡ weight + weighs → more ≡ sum_by f (map (point_in b) (range_with_len 0 (i + 1)))
 point_added f b i weighs more weight is same e =
-    e ∙ ap (λ n. n + weighs) is ∙ ap (λ n. sum_by f (map (point_in b) (range_with_len 0 i)) + n) same
+    e ∙ ap (λ n. n + weighs) is
+    ∙ ap (λ n. sum_by f (map (point_in b) (range_with_len 0 i)) + n) same
     ∙ sym (sum_by-map-range_with_len_more f (point_in b) 0 i i (omega arith))
 
 -- ---- what a point weighs

@@ -29,7 +29,8 @@ LiesOn s b = (p : Point) → IsIn b p → IsIn (whole s) p
 -- what the planes of a direction weigh, each of its points together
 abbrev pub planes_by : Shape → (Point → ℕ) → (d : ℕ) → List ℕ
 planes_by s weight d =
-    map (λ k. sum_by weight (points_in (plane s d k))) (range_with_len 0 (unsigned_abs (along s.n d)))
+    map (λ k. sum_by weight (points_in (plane s d k)))
+    (range_with_len 0 (unsigned_abs (along s.n d)))
 
 -- ---- points
 

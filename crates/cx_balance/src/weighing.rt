@@ -16,10 +16,10 @@ use std::alloc::Global;
 /// The weights of the planes of a direction (0, 1 and 2 are x, y and z), one for each coordinate,
 /// from 0 on.
 ///
-/// A point weighs 1. Where the job names a variable that weighs, it weighs `weight_factor` times the
-/// distance of its number from 0 more; a distance above 2^20 counts as 2^20. The number is that of
-/// the variable's current level in the checkpoint, whose points stand x fastest, then y. So a point
-/// weighs at most 2^40 + 1, and a plane less than 2^65.
+/// A point weighs 1. Where the job names a variable that weighs, it weighs `weight_factor` times
+/// the distance of its number from 0 more; a distance above 2^20 counts as 2^20. The number is that
+/// of the variable's current level in the checkpoint, whose points stand x fastest, then y. So a
+/// point weighs at most 2^40 + 1, and a plane less than 2^65.
 ///
 /// # Errors
 ///

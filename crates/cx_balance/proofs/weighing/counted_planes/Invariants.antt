@@ -8,4 +8,5 @@ use Rattle.cx_balance.proofs.weighing.counted_planes.Given as goal
 abbrev pub invariant-planes : goal.invariant-planes
 invariant-planes l =
     l.weights
-    ≡ map (λ k. sum_by (λ (p : Point). 1) (points_in (plane l.shape l.dir k))) (range_with_len 0 l.k)
+    ≡ map (λ k. sum_by (λ (p : Point). 1) (points_in (plane l.shape l.dir k)))
+    (range_with_len 0 l.k)
