@@ -138,13 +138,19 @@ const CASES: &[Case] = &[
     },
 ];
 
+/// Adds the pieces of a chunk, if the text is one.
+fn push_pieces(alloc: Global, chunks: &mut List<List<Piece>>, text: &[u8]) -> Result<(), Memory> {
+    match read_chunk(alloc, text)? {
+        Some(pieces) => chunks.push(pieces),
+        None => Ok(()),
+    }
+}
+
 /// The pieces of each chunk.
 fn pieces(alloc: Global, texts: &[&[u8]]) -> Result<List<List<Piece>>, Memory> {
     let mut chunks = List::empty(alloc);
     for text in texts {
-        if let Some(pieces) = read_chunk(alloc, text)? {
-            chunks.push(pieces)?;
-        }
+        push_pieces(alloc, &mut chunks, text)?;
     }
     Ok(chunks)
 }
@@ -195,13 +201,23 @@ fn pieces_are_joined_or_refused(rt: HostRuntime) -> Result<(), Fail> {
     Ok(())
 }
 
+/// Adds the records of an output, if the text is one.
+fn push_records(
+    alloc: Global,
+    outputs: &mut List<List<Record>>,
+    text: &[u8],
+) -> Result<(), Memory> {
+    match read_output(alloc, text)? {
+        Some(records) => outputs.push(records),
+        None => Ok(()),
+    }
+}
+
 /// The records of these outputs.
 fn records(alloc: Global, texts: &[&[u8]]) -> Result<List<List<Record>>, Memory> {
     let mut outputs = List::empty(alloc);
     for text in texts {
-        if let Some(records) = read_output(alloc, text)? {
-            outputs.push(records)?;
-        }
+        push_records(alloc, &mut outputs, text)?;
     }
     Ok(outputs)
 }

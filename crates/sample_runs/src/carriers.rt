@@ -4,7 +4,7 @@ ghost use Rattle.cx_core.specs.Starts.{AreEmpty};
 ghost use Rattle.cx_wire.specs.Memory.{bare_queue, told_queue};
 
 use cx_text::{List, Memory};
-use cx_wire::{AlteringWire, FailingWire, MemoryWire, NotingWire};
+use cx_wire::{AlteringWire, FailingWire, MemoryWire};
 use std::alloc::Global;
 
 /// A wire in memory.
@@ -25,16 +25,6 @@ pub fn altering(alloc: Global) -> Result<AlteringWire, Memory>
     let carried = wire(alloc)?;
     let altering = AlteringWire::new(carried);
     Ok(altering)
-}
-
-/// The same wire, with notes of what is sent.
-pub fn noting(alloc: Global) -> Result<NotingWire, Memory>
-    ensures parts { IfOk result (λ wire. wire.wire.parts ≡ 512) }
-    ensures told { IfOk result (λ wire. AreEmpty (told_queue wire.wire)) }
-{
-    let carried = wire(alloc)?;
-    let noting = NotingWire::new(alloc, carried);
-    Ok(noting)
 }
 
 /// The same wire, but one call of it fails.

@@ -1,12 +1,11 @@
-//! Devices that fail in one call, a disk whose files are long, and sources of turns that always pick alike.
-ghost use Rattle.std.specs.Prelude.{◌+◌, ◌≡◌, IfOk};
+//! Devices that fail in one call, and a disk whose files are long.
+ghost use Rattle.std.specs.Prelude.{◌≡◌, IfOk};
 ghost use Rattle.cx_disk.specs.Disk.{files_in, untold};
 
 use cx_disk::{Disk, DiskFault, FailingDisk, MemoryDisk, OLD_OUTPUT};
 use cx_job_files::FailingShelf;
 use cx_run::MemoryShelf;
 use cx_text::{List, Memory, Text};
-use cx_turns::Turns;
 use std::alloc::{AllocError, Global};
 use std::marker::Model;
 
@@ -28,42 +27,6 @@ pub(crate) fn failing_shelf(
     calls: u64,
 ) -> Result<FailingShelf, Memory> {
     Ok(FailingShelf::new(shelf, behind(alloc, calls)?))
-}
-
-/// Turns that always pick the first event. They keep the seed that they were begun from.
-#[derive(Drop)]
-pub struct FirstTurns(pub Option<u64>);
-
-impl Turns for FirstTurns {
-    ghost begun = { λ turns. turns.0 };
-
-    ghost picks = { λ was n k is. k ≡ 0 };
-
-    fn start(&mut self, seed: u64) {
-        self.0 = Some(seed);
-    }
-
-    fn pick(&mut self, _n: u64) -> u64 {
-        0
-    }
-}
-
-/// Turns that always pick the last event.
-#[derive(Drop)]
-pub struct LastTurns(pub Option<u64>);
-
-impl Turns for LastTurns {
-    ghost begun = { λ turns. turns.0 };
-
-    ghost picks = { λ was n k is. k + 1 ≡ n };
-
-    fn start(&mut self, seed: u64) {
-        self.0 = Some(seed);
-    }
-
-    fn pick(&mut self, n: u64) -> u64 {
-        n - 1
-    }
 }
 
 /// A disk with a checkpoint in its second slot, each of whose files after the slots is said to be so long and has no byte. Nothing
