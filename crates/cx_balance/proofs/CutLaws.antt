@@ -20,14 +20,14 @@ use Rattle.cx_balance.proofs.ChooseLaws.{chosen_fits}
 
 -- ---- options
 
-some_none : {A : Type 0} (x : A) → Some x ≡ None → ⊥
+pub some_none : {A : Type 0} (x : A) → Some x ≡ None → ⊥
 some_none x e = cc
 
-none_first : {A : Type 0} (a b : Option A) → or_else a b ≡ None → a ≡ None
+pub none_first : {A : Type 0} (a b : Option A) → or_else a b ≡ None → a ≡ None
 none_first None b e = refl
 none_first (Some x) b e = e
 
-none_next : {A : Type 0} (a b : Option A) → or_else a b ≡ None → b ≡ None
+pub none_next : {A : Type 0} (a b : Option A) → or_else a b ≡ None → b ≡ None
 none_next None b e = e
 none_next (Some x) b e = absurd (some_none x e)
 
@@ -36,7 +36,7 @@ both_none a b e f = ap (λ x. or_else x b) e ∙ f
 
 -- ---- one direction
 
-thin : (least : ℕ) (ws : List ℕ) → thin_fault least ws ≡ None → length ws * least ≤ sum_of ws
+pub thin : (least : ℕ) (ws : List ℕ) → thin_fault least ws ≡ None → length ws * least ≤ sum_of ws
 thin least [] e = omega arith
 thin least (w ∷ ws) e = go (ltb w least) refl (thin least ws)
   where
@@ -60,7 +60,7 @@ wide least (w ∷ ws) all =
     ∙ wide least ws (All-tail (λ w. least ≤ w) w ws all)
 
 -- the widths together are the points, and the direction has an interior
-axis_sum : (ring : Bool) (n g : ℕ) (ws : List ℕ) → axis_fault ring n g ws ≡ None
+pub axis_sum : (ring : Bool) (n g : ℕ) (ws : List ℕ) → axis_fault ring n g ws ≡ None
     → (sum_of ws ≡ n) × (small_fault ring n g ≡ None)
 axis_sum ring n g ws e = go (eqb (sum_of ws) n) refl
   where

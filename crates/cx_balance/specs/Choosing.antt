@@ -47,6 +47,12 @@ pub record HasRoom (planes : List ℕ) (parts least : ℕ) : Type 0 where
   pub some_width : 1 ≤ least
   pub room : parts * least ≤ length planes
 
+-- at most 2^24 planes, each of which weighs from 1 to 2^70
+pub record AreWeights (planes : List ℕ) : Type 0 where
+  pub few : length planes ≤ 16777216
+  pub some : All (λ w. 1 ≤ w) planes
+  pub most : All (λ w. w ≤ 2 ^ 70) planes
+
 -- there is room, and 128 bits hold the weight of all planes as many times as there are parts
 pub record CanChoose (planes : List ℕ) (parts least : ℕ) : Type 0 where
   pub room : HasRoom planes parts least

@@ -2,7 +2,11 @@
 #![tactic(auto)]
 
 mod choosing;
+mod cutting;
 mod laws;
+mod weighing;
 
 pub use choosing::choose;
-pub use laws::{chosen_cuts, share_ends};
+pub use cutting::cut_by_weight;
+pub use laws::{checkpoints_weigh, chosen_cuts, share_ends};
+pub use weighing::planes;

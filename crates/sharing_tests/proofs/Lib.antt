@@ -1,1 +1,2 @@
 mod WeightLaws
+mod SampleLaws

@@ -1,5 +1,5 @@
-//! Tests of how work is shared out: tasks that take turns, disks that note whose turn it was, and widths by the weight of
-//! their planes.
+//! Tests of how work is shared out: tasks that take turns, disks that note whose turn it was, widths by the weight of planes,
+//! and cuts by the weight of points.
 #![tactic(auto)]
 
 #[cfg(test)]
@@ -8,5 +8,7 @@ mod counter;
 mod notes;
 #[cfg(test)]
 mod turns;
+#[cfg(test)]
+mod weights;
 #[cfg(test)]
 mod widths;

@@ -1,4 +1,4 @@
-use Rattle.std.proofs.Common.{ℕ, ◌≤◌, ◌^◌, take}
+use Rattle.std.proofs.Common.{◌≤◌, ◌^◌, take}
 use Rattle.std.specs.Prelude.{All}
 use Rattle.sharing_tests.proofs.widths.are_weights.Given as goal
 
