@@ -1,0 +1,21 @@
+use Rattle.cx_several.proofs.FirstLaws.{first_served, on_first}
+use Rattle.cx_several.proofs.several.on_first.Goals as goal
+
+pub cactus-requires-clause-parts : goal.cactus-requires-clause-parts
+cactus-requires-clause-parts g c =
+    (first_served g.W.Wire c.args.wires.now c.in-Some-split_first_mut._more_wires.now
+    c.in-Some-split_first_mut.wire.now c.in-Some-split_first_mut.ensures.cases.0
+    c.requires.empty).0
+
+pub cactus-requires-clause-empty : goal.cactus-requires-clause-empty
+cactus-requires-clause-empty g c =
+    (first_served g.W.Wire c.args.wires.now c.in-Some-split_first_mut._more_wires.now
+    c.in-Some-split_first_mut.wire.now c.in-Some-split_first_mut.ensures.cases.0
+    c.requires.empty).1
+
+pub returns : goal.returns
+returns g c =
+    on_first _ _ c.args.disks.now c.in-Some._more_disks.now c.args.wires.now
+    c.in-Some-split_first_mut._more_wires.now c.in-Some.disk.now c.cactus.new.disk
+    c.in-Some-split_first_mut.wire.now c.cactus.new.wire c.cactus.result c.in-Some.ensures.cases.0
+    c.in-Some-split_first_mut.ensures.cases.0 c.cactus.ensures.obeys
