@@ -2,7 +2,7 @@
 ghost use Rattle.std.specs.Prelude.{◌≡◌, IsTrue, OnOk};
 ghost use Rattle.cx_disk.specs.Disk.{files_in};
 
-use cx_disk::{Disk, DiskFault, OLD_OUTPUT, SLOTS, named_output, rewrite};
+use cx_disk::{Disk, DiskFault, OLD_OUTPUT, RECOMBINED, SLOTS, chunk, named_output, rewrite};
 use cx_folder::{Folder, FolderDisk, HostFolder};
 use cx_text::{List, Text};
 use std::alloc::Global;
@@ -31,6 +31,49 @@ fn mount_one<F: Folder + Drop>(
     let mut names = List::empty(alloc);
     names.push(Text::from_slice(alloc, b"ca::cell.asc")?)?;
     Ok(disk.mount(&output, &names, &checkpoints)?)
+}
+
+// Mounts a folder, with two outputs.
+fn mount_two<F: Folder + Drop>(alloc: Global, disk: &mut FolderDisk<F>) -> Result<(), Fail>
+    ensures mounted { OnOk result (IsTrue disk.new.mounted) }
+    ensures count { OnOk result (files_in disk.new.folders ≡ 11) }
+{
+    let folder = Text::from_slice(alloc, b"named")?;
+    let mut names = List::empty(alloc);
+    names.push(Text::from_slice(alloc, b"ca::cell.asc")?)?;
+    names.push(Text::from_slice(alloc, b"ca::live.asc")?)?;
+    Ok(disk.mount(&folder, &names, &folder)?)
+}
+
+// Writes the second output, the last chunk, and what chunks are combined into.
+fn write_named<F: Folder + Drop>(alloc: Global, disk: &mut FolderDisk<F>) -> Result<(), Fail>
+    requires { F.tells → ⊥ }
+{
+    mount_two(alloc, disk)?;
+    rewrite(disk, named_output(1), b"second output")?;
+    rewrite(disk, chunk(511), b"last chunk")?;
+    rewrite(disk, RECOMBINED, b"recombined")?;
+    Ok(())
+}
+
+// The same on the host.
+fn write_on_host(rt: HostRuntime) -> Result<(), Fail> {
+    let mut disk = host_disk(rt);
+    write_named(rt.alloc(), &mut disk)
+}
+
+#[test]
+fn a_host_names_files(rt: HostRuntime) -> Result<(), Fail> {
+    write_on_host(rt)?;
+    let cases: &[(&str, &str)] = &[
+        ("named/ca::live.asc", "second output"),
+        ("named/chunk.511.asc", "last chunk"),
+        ("named/recombined.asc", "recombined"),
+    ];
+    for (path, bytes) in cases {
+        same(&path, &fs::read_to_string(&rt, path)?.as_str(), bytes)?;
+    }
+    Ok(())
 }
 
 // Writes an output, and a slot that it cuts, and reads a range of the slot.

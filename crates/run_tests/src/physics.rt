@@ -144,6 +144,16 @@ const GAS: &[u8] = b"ActiveThorns = \"LatticeGas\"\n\
     gas::seed = 1\n\
     IO::out_vars = \"gas::cell gas::particles\"\n";
 
+/// The same on a ring, of which other variables are written, at the first and the last iteration.
+const RING: &[u8] = b"ActiveThorns = \"LatticeGas\"\n\
+    Cactus::cctk_itlast = 2\n\
+    driver::global_nx = 6\n\
+    driver::global_ny = 4\n\
+    driver::periodic = yes\n\
+    gas::size = 2\n\
+    gas::seed = 1\n\
+    IO::out_every = 2\n";
+
 /// A job, what its run prints, and the output files of the first variable that is written and of the second one.
 struct Case {
     name: &'static str,
@@ -306,6 +316,66 @@ const CASES: &[Case] = &[
         second: b"# gas::particles iteration 0 value 6\n\
             # gas::particles iteration 1 value 4\n\
             # gas::particles iteration 2 value 1\n",
+    },
+    Case {
+        name: "the particles of each cell",
+        file: RING,
+        more: "IO::out_vars = \"gas::number gas::total_x\"\n",
+        printed: b"done: iteration 2\n",
+        first: b"# gas::number iteration 0 size 6 4\n\
+            0 0 0 0 0 0\n\
+            0 0 2 1 0 0\n\
+            0 0 2 1 0 0\n\
+            0 0 0 0 0 0\n\
+            \n\
+            # gas::number iteration 2 size 6 4\n\
+            0 0 2 1 0 0\n\
+            1 0 0 0 1 0\n\
+            0 0 0 0 0 0\n\
+            0 0 0 1 0 0\n\
+            \n",
+        second: b"# gas::total_x iteration 0 value 0\n\
+            # gas::total_x iteration 2 value 0\n",
+    },
+    Case {
+        name: "the momenta of each cell",
+        file: RING,
+        more: "IO::out_vars = \"gas::momentum_x gas::momentum_y\"\n",
+        printed: b"done: iteration 2\n",
+        first: b"# gas::momentum_x iteration 0 size 6 4\n\
+            0 0 0 0 0 0\n\
+            0 0 0 0 0 0\n\
+            0 0 0 0 0 0\n\
+            0 0 0 0 0 0\n\
+            \n\
+            # gas::momentum_x iteration 2 size 6 4\n\
+            0 0 0 0 0 0\n\
+            -1 0 0 0 1 0\n\
+            0 0 0 0 0 0\n\
+            0 0 0 0 0 0\n\
+            \n",
+        second: b"# gas::momentum_y iteration 0 size 6 4\n\
+            0 0 0 0 0 0\n\
+            0 0 0 -1 0 0\n\
+            0 0 0 -1 0 0\n\
+            0 0 0 0 0 0\n\
+            \n\
+            # gas::momentum_y iteration 2 size 6 4\n\
+            0 0 0 -1 0 0\n\
+            0 0 0 0 0 0\n\
+            0 0 0 0 0 0\n\
+            0 0 0 -1 0 0\n\
+            \n",
+    },
+    Case {
+        name: "the sum of momenta",
+        file: RING,
+        more: "IO::out_vars = \"gas::total_y gas::particles\"\n",
+        printed: b"done: iteration 2\n",
+        first: b"# gas::total_y iteration 0 value -2\n\
+            # gas::total_y iteration 2 value -2\n",
+        second: b"# gas::particles iteration 0 value 6\n\
+            # gas::particles iteration 2 value 6\n",
     },
 ];
 

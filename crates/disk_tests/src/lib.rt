@@ -1,7 +1,0 @@
-//! Tests of disks.
-#![tactic(auto)]
-
-#[cfg(test)]
-mod disks;
-#[cfg(test)]
-mod fakes;
