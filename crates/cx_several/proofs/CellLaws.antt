@@ -1,5 +1,5 @@
 -- Sums of cells that stop at the greatest number.
-use Rattle.std.proofs.Common.{◌≡◌, ◌∙◌, ℕ, ◌+◌, List, [], ◌∷◌, map, sum, sym, ap, subst, arith}
+use Rattle.std.proofs.Common.{◌≡◌, ◌∙◌, ℕ, ◌+◌, List, [], ◌∷◌, ◌++◌, map, sum, sym, ap, subst, arith}
 use Rattle.std.proofs.lemmas.List.Sums.{sum_by-cons}
 use Rattle.std.specs.List.{AllByRecursion}
 use Rattle.cx_plan.specs.declared.job.Job.{Job}
@@ -40,8 +40,9 @@ all_cuttable specs [] x = tt
 all_cuttable specs (job ∷ jobs) x = (cuttable specs job x.0, all_cuttable specs jobs x.1)
 
 pub pushed_cuttable : (s : Lent Held) (specs : List Spec) (files : List (List ℕ))
-    (ms : List Member) → HasPushed s specs files [] ms
+    (old ms : List Member) → old ≡ [] → HasPushed s specs files old ms
     → AllByRecursion (λ (m : Member). IsCuttable m.job) ms
-pushed_cuttable s specs files ms x =
+pushed_cuttable s specs files old ms none x =
     subst (λ (l : List Member). AllByRecursion (λ (m : Member). IsCuttable m.job) l)
-    (sym x.members) (all_cuttable specs x.jobs x.servable)
+    (sym (x.members ∙ ap (λ (l : List Member). l ++ map waiting x.jobs) none))
+    (all_cuttable specs x.jobs x.servable)

@@ -208,11 +208,11 @@ module _ {D W : Type 0} (words : List (List ℕ)) (c : Batch D W) (sink : Lent (
   one_not n (inl e) other one = other (sym e ∙ one)
   one_not n (inr (inl e)) other one = absurd (four (sym e ∙ one))
     where
-      four : 4 ≡ 1 → ⊥
+      four : ◌≡◌ {A = ℕ} 4 1 → ⊥
       four x = cc
   one_not n (inr (inr e)) other one = absurd (five (sym e ∙ one))
     where
-      five : 5 ≡ 1 → ⊥
+      five : ◌≡◌ {A = ℕ} 5 1 → ⊥
       five x = cc
 
   fault_not_one : (fault : BatchFault) → fault_status fault ≢ 1

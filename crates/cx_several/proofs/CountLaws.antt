@@ -135,18 +135,18 @@ not_zero : (result n : ℕ) → (result ≡ n) ⊎ ((result ≡ 4) ⊎ (result �
 not_zero result n (inl e) other done = other (sym e ∙ done)
 not_zero result n (inr (inl e)) other done = absurd (four (sym e ∙ done))
   where
-    four : 4 ≡ 0 → ⊥
+    four : ◌≡◌ {A = ℕ} 4 0 → ⊥
     four x = cc
 not_zero result n (inr (inr e)) other done = absurd (five (sym e ∙ done))
   where
-    five : 5 ≡ 0 → ⊥
+    five : ◌≡◌ {A = ℕ} 5 0 → ⊥
     five x = cc
 
 is_zero : (result n : ℕ) → (result ≡ n) ⊎ ((result ≡ 4) ⊎ (result ≡ 5)) → result ≡ 0 → n ≡ 0
 is_zero result n (inl e) done = sym e ∙ done
 is_zero result n (inr e) done = absurd (not_zero result 4 (inr e) four done)
   where
-    four : 4 ≢ 0
+    four : ◌≢◌ {A = ℕ} 4 0
     four x = cc
 
 fault_not_zero : (fault : BatchFault) → fault_status fault ≢ 0

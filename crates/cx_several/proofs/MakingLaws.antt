@@ -195,7 +195,7 @@ module _ {H : Type 0} (h : ShelfGhosts H) (specs : List Spec) where
       → IsShelfKept (lent_shelf h a b) → IsShelfKept (lent_shelf h b c)
       → PushesJobs (lent_shelf h b c) specs files mid new result
       → PushesJobs (lent_shelf h a c) specs (file ∷ files) old new result
-  pushes_first a b c file files old mid new result one before kept more =
+  pushes_first {Y = Y} a b c file files old mid new result one before kept more =
       by one.jobs one.made one.servable one.members result more
     where
       by : (jobs : List Job) → AreMade (lent_shelf h a b) specs (file ∷ []) jobs
@@ -421,31 +421,38 @@ fault_why s specs files jobs (batch.Limit n) made is =
 
 -- ---- members
 
-pub pushed_jobs : (s : Lent Held) (specs : List Spec) (files : List (List ℕ)) (ms : List Member)
-    (x : HasPushed s specs files [] ms) → jobs_of ms ≡ x.jobs
-pushed_jobs s specs files ms x = ap jobs_of x.members ∙ jobs_waiting x.jobs
+pushed_are : (s : Lent Held) (specs : List Spec) (files : List (List ℕ)) (old ms : List Member)
+    → old ≡ [] → (x : HasPushed s specs files old ms) → ms ≡ map waiting x.jobs
+pushed_are s specs files old ms none x =
+    x.members ∙ ap (λ (l : List Member). l ++ map waiting x.jobs) none
+
+pushed_jobs : (s : Lent Held) (specs : List Spec) (files : List (List ℕ)) (old ms : List Member)
+    → old ≡ [] → (x : HasPushed s specs files old ms) → jobs_of ms ≡ x.jobs
+pushed_jobs s specs files old ms none x =
+    ap jobs_of (pushed_are s specs files old ms none x) ∙ jobs_waiting x.jobs
 
 pub checked_members : {V : Type 0} (items : V → List Member) (s : Lent Held) (specs : List Spec)
-    (files : List (List ℕ)) (ms : List Member) (result : Result V BatchFault)
-    → HasPushed s specs files [] ms
+    (files : List (List ℕ)) (old ms : List Member) (result : Result V BatchFault) → old ≡ []
+    → HasPushed s specs files old ms
     → MatchResult result (λ v. (items v ≡ ms) × (jobs_fault files (jobs_of ms) ≡ None))
     (λ e. (e ≡ batch.Memory) ⊎ (jobs_fault files (jobs_of ms) ≡ Some e))
     → MatchResult result (λ v. HasMembers s specs files (items v)) (IsWhy s specs files)
-checked_members items s specs files ms (Ok v) x is = record {
+checked_members items s specs files old ms (Ok v) none x is = record {
   jobs = x.jobs;
   are = record {
     made = x.made;
     no_fault = subst (λ (js : List Job). jobs_fault files js ≡ None)
-        (pushed_jobs s specs files ms x) is.1;
+        (pushed_jobs s specs files old ms none x) is.1;
     servable = x.servable;
   };
-  members = is.0 ∙ x.members;
+  members = is.0 ∙ pushed_are s specs files old ms none x;
 }
-checked_members items s specs files ms (Err e) x (inl memory) =
+checked_members items s specs files old ms (Err e) none x (inl memory) =
     subst (λ (f : BatchFault). IsWhy s specs files f) (sym memory) tt
-checked_members items s specs files ms (Err e) x (inr is) =
+checked_members items s specs files old ms (Err e) none x (inr is) =
     fault_why s specs files x.jobs e x.made
-    (subst (λ (js : List Job). jobs_fault files js ≡ Some e) (pushed_jobs s specs files ms x) is)
+    (subst (λ (js : List Job). jobs_fault files js ≡ Some e)
+    (pushed_jobs s specs files old ms none x) is)
 
 -- ---- members that can be run
 

@@ -82,10 +82,18 @@ fn unmade_text(alloc: Global, file: &Text, fault: JobFault) -> Result<Text, Memo
         ++ (fault_words fault ++ 10 ∷ [])) }
 {
     let refused = Answer::Refused(fault).text(alloc)?;
+    refused_line(alloc, file, behind_refused(refused.as_slice()))
+}
+
+/// The line of a file that is refused for what these words say.
+fn refused_line(alloc: Global, file: &Text, words: &[u8]) -> Result<Text, Memory>
+    ensures { IfOk result (λ text. text ≡ codes "refused: " ++ file.now ++ codes " "
+        ++ words.now) }
+{
     let mut text = Text::from_slice(alloc, b"refused: ")?;
     text.push_slice(file.as_slice())?;
     text.push_slice(b" ")?;
-    text.push_slice(behind_refused(refused.as_slice()))?;
+    text.push_slice(words)?;
     Ok(text)
 }
 

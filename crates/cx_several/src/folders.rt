@@ -49,14 +49,15 @@ fn same_folder<'a>(files: &'a [Text], members: &[Member]) -> Option<(&'a Text, &
     ensures { option_map (λ pair. (pair.0.now, pair.1.now)) result
         ≡ same_folder files.now (jobs_of members.now) }
 {
-    match (files, members) {
-        ([file, more @ ..], [member, others @ ..]) => {
-            match shared_with(&member.job, more, others) {
+    match files {
+        [] => None,
+        [file, more @ ..] => match members {
+            [] => None,
+            [member, others @ ..] => match shared_with(&member.job, more, others) {
                 Some(other) => Some((file, other)),
                 None => same_folder(more, others),
-            }
-        }
-        _ => None,
+            },
+        },
     }
 }
 
@@ -65,15 +66,18 @@ fn shared_with<'a>(job: &Job, files: &'a [Text], members: &[Member]) -> Option<&
     ensures { option_map (λ file. file.now) result
         ≡ shared_with job.now files.now (jobs_of members.now) }
 {
-    match (files, members) {
-        ([file, more @ ..], [member, others @ ..]) => {
-            if shares(job, &member.job) {
-                Some(file)
-            } else {
-                shared_with(job, more, others)
+    match files {
+        [] => None,
+        [file, more @ ..] => match members {
+            [] => None,
+            [member, others @ ..] => {
+                if shares(job, &member.job) {
+                    Some(file)
+                } else {
+                    shared_with(job, more, others)
+                }
             }
-        }
-        _ => None,
+        },
     }
 }
 
