@@ -1,16 +1,17 @@
 -- What the meter has counted where all jobs are done.
 use Rattle.std.proofs.Common.{◌≡◌, ◌≢◌, ◌⊎◌, ◌∙◌, ℕ, ◌≤◌, ◌<◌, ◌+◌, ◌-◌, ◌^◌, min, max, Bool, true, false, List, [], ◌∷◌, map, sum, inl, inr, refl, sym, ap, subst, arith}
-use Rattle.std.proofs.lemmas.Bool.Decides.{eqb_tells}
+use Rattle.std.proofs.lemmas.Bool.Decides.{eqb_tells, leb_tells}
 use Rattle.std.proofs.lemmas.List.Sums.{sum_by-cons}
 use Rattle.std.specs.List.{list_all}
-use Rattle.std.specs.Prelude.{nat_eq, if◌then◌else◌}
+use Rattle.std.specs.Prelude.{nat_eq, nat_le, if◌then◌else◌}
 use Rattle.cx_cut.specs.Faults.{parts_of}
 use Rattle.cx_plan.specs.Setups.{setup_of}
 use Rattle.cx_plan.specs.declared.job.Job.{Job}
+use Rattle.cx_rule.specs.Meter.{raised}
 use Rattle.law_course.specs.Beginnings.{entries_from}
 use Rattle.law_parts.specs.Work.{work}
 use Rattle.cx_run_loop.specs.Drives.{HasWorked}
-use Rattle.cx_run.specs.Calls.{Call, IsRun, driven}
+use Rattle.cx_run.specs.Calls.{IsRun, driven}
 use Rattle.cx_run.specs.Words.{is_file, request}
 use Rattle.cx_run.specs.declared.words.Command.TheVariants.{Run}
 use Rattle.cx_run.specs.Calls.{Lent}
@@ -53,6 +54,21 @@ spent_of : (most old new spent points : ℕ) → old + spent ≡ new
     → new ≡ max old (min (old + points) most) → new < most → spent ≡ points
 spent_of most old new spent points counted rises below = omega (arith, counted, rises, below)
 
+-- and what any meter has
+no_more_of : (most old new spent points : ℕ) → old + spent ≡ new
+    → new ≡ max old (min (old + points) most) → spent ≤ points
+no_more_of most old new spent points counted rises = omega (arith, counted, rises)
+
+-- what all have counted together, also at the meter's end
+risen_by : (old new spent points : ℕ) → new ≡ old + spent → spent ≤ points
+    → (new < 2 ^ 128 - 1 → spent ≡ points) → new < 2 ^ 128 → new ≡ raised old points
+risen_by old new spent points counts no_more below fits = go (leb_tells (2 ^ 128 - 1) new)
+  where
+    go : ((nat_le (2 ^ 128 - 1) new ≡ true) × (2 ^ 128 - 1 ≤ new))
+        ⊎ ((nat_le (2 ^ 128 - 1) new ≡ false) × (new < 2 ^ 128 - 1)) → new ≡ raised old points
+    go (inl h) = let end = h.1 in omega (arith, end, counts, no_more, fits)
+    go (inr h) = let less = h.1 in let all = below less in omega (arith, less, all, counts)
+
 below_too : (n m most : ℕ) → n ≤ m → m < most → n < most
 below_too n m most less below = omega (arith, less, below)
 
@@ -64,6 +80,7 @@ module _ {D W : Type 0} (c : Batch D W) (told : AreTold c) where
   record IsSpent (job : Job) (a : D) (spent : ℕ) : Type 0 where
     pub points : ℕ
     pub left : IsLeft c job a points
+    pub no_more : spent ≤ points
     pub spent_are : c.meter.new < 2 ^ 128 - 1 → spent ≡ points
 
   is_spent : (file : List ℕ) (p : Place D W) (job : Job) (s : Share) → is_file file ≡ true
@@ -73,6 +90,9 @@ module _ {D W : Type 0} (c : Batch D W) (told : AreTold c) where
     points = work (setup_of job) (parts_of job.shape job.cut)
         (entries_from (setup_of job) c.rules worked.start);
     left = record { start = worked.start; start_is = worked.start_is; points_are = refl };
+    no_more = no_more_of (2 ^ 128 - 1) x.meter.old x.meter.new s.spent
+        (work (setup_of job) (parts_of job.shape job.cut)
+        (entries_from (setup_of job) c.rules worked.start)) x.spent worked.done.points;
     spent_are = λ below. spent_of (2 ^ 128 - 1) x.meter.old x.meter.new s.spent
         (work (setup_of job) (parts_of job.shape job.cut)
         (entries_from (setup_of job) c.rules worked.start))
@@ -94,6 +114,7 @@ module _ {D W : Type 0} (c : Batch D W) (told : AreTold c) where
   record AreSpent (jobs : List Job) (disks : List D) (ss : List Share) : Type 0 where
     pub points : List ℕ
     pub left : AreLeft c jobs disks points
+    pub no_more : spent_on ss ≤ sum points
     pub spent_are : c.meter.new < 2 ^ 128 - 1 → spent_on ss ≡ sum points
 
   are_spent : (files : List (List ℕ)) (jobs : List Job) (ss : List Share) (was is : List D)
@@ -101,7 +122,7 @@ module _ {D W : Type 0} (c : Batch D W) (told : AreTold c) where
       → AllMade c.specs c.shelf.old files jobs → AllGoOn c jobs was
       → status_in (statuses_of ss) ≡ 0 → AreSpent jobs was ss
   are_spent [] [] [] was is vs us names x made go done =
-      record { points = []; left = tt; spent_are = λ below. refl }
+      record { points = []; left = tt; no_more = omega arith; spent_are = λ below. refl }
   are_spent [] [] (s ∷ ss) was is vs us names x made go done = absurd x
   are_spent [] (job ∷ jobs) ss was is vs us names x made go done = absurd made
   are_spent (file ∷ files) [] ss was is vs us names x made go done = absurd made
@@ -119,9 +140,16 @@ module _ {D W : Type 0} (c : Batch D W) (told : AreTold c) where
       let none = zeros s.status (status_in (statuses_of ss)) done in
       let one = is_spent file (place a b v u) job s named.0 x.0 (made.0, tt) go.0 none.0 in
       let more = are_spent files jobs ss was is vs us named.1 x.1 made.1 go.1 none.1 in
+      let spent_all : spent_on (s ∷ ss) ≡ s.spent + spent_on ss =
+      sum_cons s.spent (map (λ (t : Share). t.spent) ss) in
+      let points_all : sum (one.points ∷ more.points) ≡ one.points + sum more.points =
+      sum_cons one.points more.points in
+      let first = one.no_more in
+      let others = more.no_more in
       record {
         points = one.points ∷ more.points;
         left = (one.left, more.left);
+        no_more = omega (arith, spent_all, points_all, first, others);
         spent_are = λ below.
             sum_cons s.spent (map (λ (t : Share). t.spent) ss)
             ∙ ap (λ (n : ℕ). n + spent_on ss) (one.spent_are below)
@@ -167,7 +195,8 @@ counts_all words c sink result (inr (inl x)) told files jobs asks all go done =
 counts_all words c sink result (inr (inr x)) told files jobs asks all go done = record {
   points = spent.points;
   left = spent.left;
-  meter = λ below. x.turns.meter ∙ ap (λ (n : ℕ). c.meter.old + n) (spent.spent_are below);
+  meter = risen_by c.meter.old c.meter.new (spent_on x.turns.shares) (sum spent.points)
+      x.turns.meter spent.no_more spent.spent_are;
 }
   where
     same : x.files ≡ files

@@ -5,7 +5,7 @@ use Rattle.std.specs.Prelude.{nat_eq, if◌then◌else◌}
 use Rattle.cx_run.specs.Answers.{status_of, text_of}
 use Rattle.cx_run.specs.declared.reply.Answer.{Answer}
 use Rattle.cx_run_batch.specs.declared.member.Member.{Member}
-use Rattle.cx_several.specs.Members.{AddsLines, AnswersAll, AnswersStage, HasAdded, HasLine}
+use Rattle.cx_several.specs.Members.{AddsLines, AnswersStage, HasAdded, HasLine}
 use Rattle.cx_several.specs.Texts.{line, lines}
 
 -- ---- what was added to a text

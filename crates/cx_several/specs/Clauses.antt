@@ -1,6 +1,7 @@
 -- The clauses of the top call for several files.
-use Rattle.std.specs.Prelude.{◌≡◌, ◌⊎◌, ◌+◌, ◌-◌, ◌^◌, ◌<◌, ◌≤◌, ℕ, IsTrue, List, ◌∷◌, sum, None, Some}
+use Rattle.std.specs.Prelude.{◌≡◌, ◌⊎◌, ◌+◌, ◌^◌, ◌<◌, ◌≤◌, ℕ, IsTrue, List, ◌∷◌, sum, None, Some}
 use Rattle.cx_plan.specs.declared.job.Job.{Job}
+use Rattle.cx_rule.specs.Meter.{raised}
 use Rattle.cx_job.specs.Making.{without_witness}
 use Rattle.cx_job.specs.declared.fault.JobFault.{JobFault}
 use Rattle.cx_run_loop.specs.Lent.{HasRisen}
@@ -61,11 +62,12 @@ Comes words c sink result =
 
 -- ---- what all have counted
 
--- The meter has risen by the sum of what was left of the jobs. At its type's end it stands still.
+-- The meter, a number of 128 bits, has risen by the sum of what was left of the jobs. At its type's
+-- end it stands still.
 pub record HasCounted {D W : Type 0} (c : Batch D W) (jobs : List Job) : Type 0 where
   pub points : List ℕ
   pub left : AreLeft c jobs c.disks.old points
-  pub meter : c.meter.new < 2 ^ 128 - 1 → c.meter.new ≡ c.meter.old + sum points
+  pub meter : c.meter.new < 2 ^ 128 → c.meter.new ≡ raised c.meter.old (sum points)
 
 -- the shelf, the disks and the wires tell what they hold
 pub record AreTold {D W : Type 0} (c : Batch D W) : Type 0 where

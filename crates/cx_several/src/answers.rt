@@ -11,7 +11,7 @@ use cx_plan::Job;
 use cx_run::Answer;
 use cx_run_batch::{Member, Stage};
 use cx_run_loop::DriveFault;
-use cx_text::{Memory, Text};
+use cx_text::Memory;
 use std::alloc::Global;
 use std::mem;
 

@@ -25,6 +25,31 @@ use cx_wire::Wire;
 use std::alloc::Global;
 
 /// Does what the words of the command line ask, prints the answer on `out`, and gives the program's status.
+///
+/// Words that don't begin with `batch` are for `cactus` of cx_run, on the first disk and the first wire. The others stay as they are.
+///
+/// `batch FILE FILE [FILE ...]` makes the jobs of two to eight parameter files, and runs them in turns: the first on the first disk and
+/// the first wire, and so on. How a FILE is written, and what its job and its run are, is said at `cactus`. All jobs are made before any
+/// is run, in the order of the words and up to the first file that makes none. The source of turns begins from 0. A run that is
+/// over, for whatever reason, leaves the turns to the others.
+///
+/// | status | what came of it | printed |
+/// |---|---|---|
+/// | 1 | the words name no such files | the usage text |
+/// | 2 | FILE is the first that makes no job | `refused: FILE` and the words of the fault |
+/// | 2 | the jobs of A and B have a folder of outputs or checkpoints in common, as text | `refused: SameFolder A B` |
+/// | 2 | all jobs have more than 2^26 owned cells together, or more than 2^27 local cells: N | `refused: Limit batch cells N` |
+/// | 4 | the shelf failed | `device: shelf` |
+/// | 4 | the sink failed | nothing more |
+/// | 5 | memory runs out before the runs, or for what is printed | `memory` |
+/// | else | the jobs were run | a line for each, in the order of the words: FILE, `: ` and what `run` prints |
+///
+/// Of several pairs of jobs with a common folder the one with the least A is told, and of these the one with the least B, by their places
+/// among the words. Where the jobs were run, the status is the first of theirs that isn't 0, or 0.
+///
+/// Each job's disk, wire, text and status are as after `run` of its file alone, on a meter of its own, whatever the other jobs and their
+/// devices do; the one meter counts the sum. Where the words name no such files or the jobs aren't run, no disk, no wire and no
+/// meter is touched, and disks and wires behind those of the jobs never are.
 pub fn cactus_all<H: Shelf, D: Disk, W: Wire, T: Turns, O: Sink>(
     alloc: Global,
     words: &[Text],
