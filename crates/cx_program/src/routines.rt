@@ -4,6 +4,7 @@ ghost use Rattle.std.specs.Prelude.{◌≡◌, ◌≤◌, ◌<◌, ◌^◌, IsTr
 ghost use Rattle.cx_core.specs.Starts.{AreEmpty};
 ghost use Rattle.cx_run.specs.Calls.{lent_sink};
 ghost use Rattle.cx_run.specs.Clauses.{Obeys};
+ghost use Rattle.cx_run.specs.Turned.{FollowsTurns};
 ghost use Rattle.cx_program.specs.SampleCalls.{sample_call};
 ghost use Rattle.cx_program.specs.Samples.{sample_rules, sample_specs};
 
@@ -45,6 +46,10 @@ pub fn answer<H: Shelf, D: Disk, W: Wire, T: Turns, O: Sink>(
         (sample_call H.Shelf D.Disk W.Wire words.now shelf.old shelf.new
         disk.old disk.new wire.old wire.new meter.old meter.new (T.begun turns.new))
         (lent_sink O.Sink out.old out.new)) }
+    ensures turned { IfOk result (FollowsTurns T.Turns
+        (sample_call H.Shelf D.Disk W.Wire words.now shelf.old shelf.new
+        disk.old disk.new wire.old wire.new meter.old meter.new (T.begun turns.new))
+        turns.old turns.new) }
     ensures wanting { OnErr result
         ((shelf.new ≡ shelf.old) × (disk.new ≡ disk.old) × (wire.new ≡ wire.old)
         × (turns.new ≡ turns.old) × (out.new ≡ out.old) × (meter.new ≡ meter.old)) }
@@ -106,10 +111,14 @@ fn answer_with<H: Shelf, D: Disk, W: Wire, T: Turns, O: Sink>(
     requires specs { map spec_of routines.now ≡ sample_specs }
     requires parts { 512 ≤ W.parts wire.old }
     requires empty { AreEmpty (W.queue wire.old) }
-    ensures { Obeys
+    ensures obeys { Obeys
         (sample_call H.Shelf D.Disk W.Wire line.entry.words.now shelf.old shelf.new
         disk.old disk.new wire.old wire.new meter.old meter.new (T.begun turns.new))
         (lent_sink O.Sink out.old out.new) result }
+    ensures turned { FollowsTurns T.Turns
+        (sample_call H.Shelf D.Disk W.Wire line.entry.words.now shelf.old shelf.new
+        disk.old disk.new wire.old wire.new meter.old meter.new (T.begun turns.new))
+        turns.old turns.new result }
 {
     cactus(
         line.alloc, line.words, shelf, disk, wire, turns, out, routines, meter,

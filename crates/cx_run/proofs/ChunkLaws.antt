@@ -6,7 +6,7 @@ use Rattle.cx_plan.specs.declared.job.Job.{Job}
 use Rattle.cx_cut.specs.Cuts.{part_count}
 use Rattle.cx_disk.specs.Cause.{HasCause}
 use Rattle.cx_disk.specs.Disk.{Files, IsNamed, LeavesOnly, View}
-use Rattle.cx_disk.specs.Files.{chunk_count, chunk_file, old_output_file, output_limit, recombined_file, slot_count}
+use Rattle.cx_disk.specs.Files.{chunk_count, chunk_file, old_output_file, output_limit, recombined_file}
 use Rattle.cx_disk.specs.Moments.{IsQuiet}
 use Rattle.cx_disk.proofs.Moments.{weaker}
 use Rattle.cx_outputs.specs.Names.{output_names}
@@ -25,10 +25,10 @@ use Rattle.cx_run_chunks.specs.Commands.{chunked_of, chunks_to_write, outputs_fa
 use Rattle.cx_run_chunks.specs.Faults.{Finds, IsFaultOf, IsRefusal}
 use Rattle.cx_run_chunks.specs.Writing.{AreWritten, Writes}
 use Rattle.cx_run_chunks.proofs.WriteLaws.{only_quiet, writes_within}
-use Rattle.cx_run.specs.Answers.{answer_to_chunk, answer_to_fault, answer_to_recombine, answer_to_stop}
+use Rattle.cx_run.specs.Answers.{answer_to_chunk, answer_to_recombine, answer_to_stop}
 use Rattle.cx_run.specs.Calls.{IsStill, Runs, Work}
 use Rattle.cx_run.specs.Causes.{Comes, ComesTo}
-use Rattle.cx_run.specs.Chunks.{HasFileFault, IsApart, OnChunks, UsesDisk, files_fault}
+use Rattle.cx_run.specs.Chunks.{HasFileFault, IsApart, OnChunks, files_fault}
 use Rattle.cx_run.specs.declared.reply.Answer.{Answer}
 use Rattle.cx_run.specs.declared.words.Command.{Command}
 use Rattle.cx_run.specs.declared.words.Command.TheVariants as commands

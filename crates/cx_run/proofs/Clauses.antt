@@ -1,5 +1,5 @@
 -- From what stands behind an answer, and what was said, to what the top call ensures.
-use Rattle.std.proofs.Common.{◌≡◌, ◌≢◌, ◌⊎◌, ◌∙◌, ℕ, ℤ, ◌<◌, List, length, Option, Some, None, Result, Ok, Err, inl, inr, refl, sym, ap, subst, arith}
+use Rattle.std.proofs.Common.{◌≡◌, ◌≢◌, ◌⊎◌, ◌∙◌, ℕ, ℤ, ◌<◌, List, Option, Some, None, Result, Ok, Err, inl, inr, refl, sym, ap, subst, arith}
 use Rattle.cx_plan.specs.Setups.{setup_of}
 use Rattle.cx_plan.specs.declared.job.Job.{Job}
 use Rattle.cx_model.specs.Runs.{outputs, end_by, end as end_of}
@@ -127,7 +127,7 @@ run_of : (c : Call) (answer : Answer) → Explains c answer → (job : Job) (run
     → ComesTo c.work run.request.command job answer ⊎ HasFailed c answer
 run_of c answer x job run = job_of c answer x run.request job run.asks run.told run.makes
 
-end_said : (sink : Lent (List ℕ)) (answer : Answer) (result : ℕ) → WasSaid sink answer result
+pub end_said : (sink : Lent (List ℕ)) (answer : Answer) (result : ℕ) → WasSaid sink answer result
     → IsEnd result → (status_of answer ≡ result) × IsEnd (status_of answer)
 end_said sink answer result said (inl e) =
     let s = said_status sink answer result 0 said e (λ z. absurd cc) (λ z. absurd cc) in

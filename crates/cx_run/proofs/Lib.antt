@@ -7,6 +7,7 @@ pub mod Running
 pub mod Asked
 pub mod MadeLaws
 pub mod Clauses
+pub mod TurnLaws
 pub mod Readings
 mod FaultRows
 mod CallRows

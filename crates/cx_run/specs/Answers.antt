@@ -1,5 +1,5 @@
 -- The answers of a call: their statuses and texts, and how they are said.
-use Rattle.std.specs.Prelude.{◌≡◌, ◌⊎◌, ℕ, List, Option, Some, None, Result, Ok, Err, IfOk}
+use Rattle.std.specs.Prelude.{◌≡◌, ◌⊎◌, ℕ, List, Some, None, Result, Ok, Err, IfOk}
 use Rattle.cx_text.specs.declared.memory.Memory.{Memory}
 use Rattle.cx_model.specs.declared.ends.End.{End}
 use Rattle.cx_model.specs.declared.ends.End.TheVariants as ends

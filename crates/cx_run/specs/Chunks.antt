@@ -1,5 +1,5 @@
 -- The commands on chunks: what they come to, what they leave, and what is printed.
-use Rattle.std.specs.Prelude.{◌≡◌, ◌≢◌, ◌⊎◌, ℕ, ◌+◌, List, [], ◌∷◌, ◌++◌, codes, Option, None, Some, Result, Ok, Err}
+use Rattle.std.specs.Prelude.{◌≡◌, ◌⊎◌, ℕ, ◌+◌, List, [], ◌∷◌, ◌++◌, codes, Option, None, Some}
 use Rattle.std.specs.Fmt.{decimal}
 use Rattle.cx_plan.specs.Setups.{setup_of}
 use Rattle.cx_plan.specs.declared.job.Job.{Job}
@@ -10,8 +10,6 @@ use Rattle.cx_disk.specs.Moments.{IsQuiet}
 use Rattle.cx_outputs.specs.Names.{output_names}
 use Rattle.cx_chunks.specs.declared.fault.ChunkFault.{ChunkFault}
 use Rattle.cx_chunks.specs.declared.fault.ChunkFault.TheVariants as faults
-use Rattle.cx_run_chunks.specs.declared.fault.ChunksFault.{ChunksFault}
-use Rattle.cx_run_chunks.specs.declared.fault.ChunksFault.TheVariants as stops
 use Rattle.cx_run_chunks.specs.declared.summary.Chunked.{Chunked}
 use Rattle.cx_run_chunks.specs.declared.summary.Recombined.{Recombined}
 use Rattle.cx_run_chunks.specs.Commands.{chunked_of, chunks_to_write, outputs_fault, parts_in, recombine_fault, recombined_of, whole_output}

@@ -20,7 +20,7 @@ use Rattle.cx_job.specs.declared.fault.JobFault.{JobFault}
 use Rattle.cx_run_loop.specs.Lent.{HasRisen}
 use Rattle.cx_run_loop.specs.Drives.{CountsNoMore, StartsWell, HasWholeOutput, HasWorked, LeavesTrails}
 use Rattle.cx_run.specs.Answers.{text_of, Says, WasSaid}
-use Rattle.cx_run.specs.Calls.{Lent, Work, Call, Makes, TellsFiles, Runs, IsRun, AreTold, IsStill, SparesShelf, driven}
+use Rattle.cx_run.specs.Calls.{Lent, Work, Call, Makes, TellsFiles, IsRun, AreTold, IsStill, SparesShelf, driven}
 use Rattle.cx_run.specs.Causes.{HasLast, LiveIs, Explains, WereTrails, CanGoOn}
 use Rattle.cx_run.specs.Chunks.{IsApart, OnChunks, UsesDisk, files_fault, status_by}
 use Rattle.cx_run.specs.Sink.{Adds}

@@ -9,3 +9,4 @@ pub mod Chunks
 pub mod Answers
 pub mod Causes
 pub mod Clauses
+pub mod Turned

@@ -8,10 +8,11 @@ ghost use Rattle.cx_core.specs.declared.answers.Outcome.{Outcome};
 ghost use Rattle.cx_run_loop.specs.Drives.{LendsScalars};
 ghost use Rattle.cx_job.specs.Making.{IsReady};
 ghost use Rattle.cx_run_made.specs.Files.{made_files};
-ghost use Rattle.cx_run.specs.Answers.{AnswersRun, IsWayOf, answer_with};
-ghost use Rattle.cx_run.specs.Calls.{Runs, SparesShelf, called_with, lent_shelf, lent_sink, made_from, shelf_for, shelf_of, work_on};
+ghost use Rattle.cx_run.specs.Answers.{AnswersRun, IsWayOf, answer_with, status_of};
+ghost use Rattle.cx_run.specs.Calls.{Runs, SparesShelf, called_with, driven, lent_shelf, lent_sink, made_from, shelf_for, shelf_of, work_on};
 ghost use Rattle.cx_run.specs.Causes.{ComesTo, Explains, MakesOn};
 ghost use Rattle.cx_run.specs.Clauses.{Obeys};
+ghost use Rattle.cx_run.specs.Turned.{FollowsTurns, HasTurned};
 ghost use Rattle.cx_run.specs.Texts.{accepted_text};
 
 use crate::cut_texts::parts_text;
@@ -100,6 +101,11 @@ pub fn cactus<H: Shelf, D: Disk, W: Wire, T: Turns, O: Sink>(
         H.Shelf D.Disk W.Wire words.now shelf.old shelf.new
         disk.old disk.new wire.old wire.new meter.old meter.new (T.begun turns.new))
         (lent_sink O.Sink out.old out.new) result }
+    ensures turned { FollowsTurns T.Turns
+        (called_with (map rule routines.now) (map spec_of routines.now)
+        H.Shelf D.Disk W.Wire words.now shelf.old shelf.new
+        disk.old disk.new wire.old wire.new meter.old meter.new (T.begun turns.new))
+        turns.old turns.new result }
 {
     let answer = answer_to(alloc, words, shelf, disk, wire, turns, routines, meter);
     reply(alloc, answer, out)
@@ -122,6 +128,11 @@ fn answer_to<H: Shelf, D: Disk, W: Wire, T: Turns>(
     ensures explained { Explains (called_with (map rule routines.now) (map spec_of routines.now)
         H.Shelf D.Disk W.Wire words.now shelf.old shelf.new
         disk.old disk.new wire.old wire.new meter.old meter.new (T.begun turns.new)) result }
+    ensures turned { FollowsTurns T.Turns
+        (called_with (map rule routines.now) (map spec_of routines.now)
+        H.Shelf D.Disk W.Wire words.now shelf.old shelf.new
+        disk.old disk.new wire.old wire.new meter.old meter.new (T.begun turns.new))
+        turns.old turns.new (status_of result) }
     ensures held { H.tells → H.held shelf.new ≡ H.held shelf.old }
     ensures shelf_count { H.faults shelf.old ≤ H.faults shelf.new }
     ensures disk_count { D.faults disk.old ≤ D.faults disk.new }
@@ -240,6 +251,11 @@ fn done<D: Disk, W: Wire, T: Turns>(
     ensures comes { ComesTo (work_on (map rule routines.now) D.Disk W.Wire
         disk.old disk.new wire.old wire.new meter.old meter.new) command job.now result }
     ensures begun { Runs command → T.begun turns.new ≡ Some seed }
+    ensures turned { Runs command → HasTurned T.Turns
+        (driven (work_on (map rule routines.now) D.Disk W.Wire
+        disk.old disk.new wire.old wire.new meter.old meter.new) job.now)
+        seed turns.new (status_of result) }
+    ensures spared { (Runs command → ⊥) → turns.new ≡ turns.old }
     ensures disk_count { D.faults disk.old ≤ D.faults disk.new }
     ensures wire_count { W.faults wire.old ≤ W.faults wire.new }
     ensures points { meter.old ≤ meter.new }

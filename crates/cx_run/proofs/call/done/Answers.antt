@@ -2,6 +2,7 @@ use Rattle.std.proofs.Common.{refl, ◌∙◌, inl, arith}
 use Rattle.cx_disk.proofs.Moments.{quiet_at_start}
 use Rattle.cx_run.proofs.ChunkLaws as chunks
 use Rattle.cx_run.proofs.Running as running
+use Rattle.cx_run.proofs.TurnLaws as turned
 use Rattle.cx_run.proofs.call.done.Goals as goal
 
 pub drive-came-requires-clause-ready : goal.drive-came-requires-clause-ready
@@ -85,4 +86,25 @@ returns-in-Recombine-clause-comes g c =
 
 pub returns-in-Recombine-clause-begun : goal.returns-in-Recombine-clause-begun
 returns-in-Recombine-clause-begun g c = λ runs.
+    absurd (chunks.not_recombine c.args.command c.in-Recombine.ensures runs)
+
+pub returns-in-Run-clause-turned : goal.returns-in-Run-clause-turned
+returns-in-Run-clause-turned g c = λ runs.
+    turned.has_turned g.T.Turns _ _ _ _ c.start.ensures.begun c.drive-came.result
+    c.drive-came.ensures.turns c.drive-came.ensures.picked c.args.command c.args.job.now
+    c.answer_to_run.result
+    c.answer_to_run.ensures
+
+pub returns-in-Run-clause-spared : goal.returns-in-Run-clause-spared
+returns-in-Run-clause-spared g c = λ none. absurd (none c.in-Run.ensures)
+
+pub returns-in-Told-clause-turned : goal.returns-in-Told-clause-turned
+returns-in-Told-clause-turned g c = λ runs. absurd (c.in-Told.ensures.0 (inl runs))
+
+pub returns-in-Chunk-clause-turned : goal.returns-in-Chunk-clause-turned
+returns-in-Chunk-clause-turned g c = λ runs.
+    absurd (chunks.not_chunk c.args.command c.in-Chunk.ensures runs)
+
+pub returns-in-Recombine-clause-turned : goal.returns-in-Recombine-clause-turned
+returns-in-Recombine-clause-turned g c = λ runs.
     absurd (chunks.not_recombine c.args.command c.in-Recombine.ensures runs)
