@@ -6,8 +6,7 @@ use Rattle.cx_job.specs.Making.{without_witness}
 use Rattle.cx_job.specs.declared.fault.JobFault.{JobFault}
 use Rattle.cx_run_loop.specs.Lent.{HasRisen}
 use Rattle.cx_run.specs.Answers.{Says}
-use Rattle.cx_run.specs.Calls.{Call, Lent}
-use Rattle.cx_run.specs.Clauses.{Obeys}
+use Rattle.cx_run.specs.Calls.{Lent}
 use Rattle.cx_run.specs.Texts.{usage_text}
 use Rattle.cx_several.specs.Batches.{Batch, IsUntouched}
 use Rattle.cx_several.specs.Faults.{jobs_fault}
@@ -133,10 +132,9 @@ pub record ObeysAll {D W : Type 0} (words : List (List ℕ)) (c : Batch D W) (si
 
 -- ---- other words
 
--- a call on the first disk and the first wire, of words that ask for no batch; the other disks and
--- wires are as they were
-abbrev pub OnFirst : {D W : Type 0} → (D → D → W → W → Call) → Lent (List ℕ)
-    → (disks disks_after : List D) → (wires wires_after : List W) → ℕ → Type 0
-OnFirst call sink (a ∷ was) (b ∷ is) (v ∷ vs) (u ∷ us) result =
-    Obeys (call a b v u) sink result × ((is ≡ was) × (us ≡ vs))
-OnFirst call sink was is vs us result = ⊥
+-- this holds of the first disk and the first wire, each before and after; the others are as they
+-- were
+abbrev pub OnFirst : {D W : Type 0} → (D → D → W → W → Type 0) → (disks disks_after : List D)
+    → (wires wires_after : List W) → Type 0
+OnFirst holds (a ∷ was) (b ∷ is) (v ∷ vs) (u ∷ us) = holds a b v u × ((is ≡ was) × (us ≡ vs))
+OnFirst holds was is vs us = ⊥

@@ -3,7 +3,9 @@ ghost use Rattle.std.specs.Prelude.{◌≡◌, ◌≤◌, ◌^◌, true, false, 
 ghost use Rattle.std.specs.List.{AllByRecursion};
 ghost use Rattle.cx_core.specs.Starts.{AreEmpty};
 ghost use Rattle.cx_run.specs.Calls.{called_with, lent_shelf, lent_sink};
+ghost use Rattle.cx_run.specs.Clauses.{Obeys};
 ghost use Rattle.cx_run.specs.Texts.{usage_text};
+ghost use Rattle.cx_run.specs.Turned.{FollowsTurns};
 ghost use Rattle.cx_several.specs.Batches.{batch_with};
 ghost use Rattle.cx_several.specs.Clauses.{ObeysAll, OnFirst};
 ghost use Rattle.cx_several.specs.Making.{IsShelfKept};
@@ -72,11 +74,16 @@ pub fn cactus_all<H: Shelf, D: Disk, W: Wire, T: Turns, O: Sink>(
         wires.old.items wires.new.items meter.old meter.new (T.begun turns.new))
         (lent_sink O.Sink out.old out.new) result }
     ensures one { begins_batch words.now ≡ false → OnFirst
-        (λ a b v u. called_with (map rule routines.now) (map spec_of routines.now)
+        (λ a b v u. Obeys (called_with (map rule routines.now) (map spec_of routines.now)
         H.Shelf D.Disk W.Wire words.now shelf.old shelf.new a b v u
-        meter.old meter.new (T.begun turns.new))
-        (lent_sink O.Sink out.old out.new)
-        disks.old.items disks.new.items wires.old.items wires.new.items result }
+        meter.old meter.new (T.begun turns.new)) (lent_sink O.Sink out.old out.new) result)
+        disks.old.items disks.new.items wires.old.items wires.new.items }
+    ensures turned { begins_batch words.now ≡ false → OnFirst
+        (λ a b v u. FollowsTurns T.Turns
+        (called_with (map rule routines.now) (map spec_of routines.now)
+        H.Shelf D.Disk W.Wire words.now shelf.old shelf.new a b v u
+        meter.old meter.new (T.begun turns.new)) turns.old turns.new result)
+        disks.old.items disks.new.items wires.old.items wires.new.items }
 {
     if begins_batch(words) {
         batch(
@@ -106,12 +113,17 @@ fn on_first<H: Shelf, D: Disk, W: Wire, T: Turns, O: Sink>(
     requires wires { 8 ≤ length wires.old }
     requires empty { AllByRecursion
         (λ wire. (512 ≤ W.parts wire) × AreEmpty (W.queue wire)) wires.old }
-    ensures { OnFirst
-        (λ a b v u. called_with (map rule routines.now) (map spec_of routines.now)
+    ensures one { OnFirst
+        (λ a b v u. Obeys (called_with (map rule routines.now) (map spec_of routines.now)
         H.Shelf D.Disk W.Wire words.now shelf.old shelf.new a b v u
-        meter.old meter.new (T.begun turns.new))
-        (lent_sink O.Sink out.old out.new)
-        disks.old disks.new wires.old wires.new result }
+        meter.old meter.new (T.begun turns.new)) (lent_sink O.Sink out.old out.new) result)
+        disks.old disks.new wires.old wires.new }
+    ensures turned { OnFirst
+        (λ a b v u. FollowsTurns T.Turns
+        (called_with (map rule routines.now) (map spec_of routines.now)
+        H.Shelf D.Disk W.Wire words.now shelf.old shelf.new a b v u
+        meter.old meter.new (T.begun turns.new)) turns.old turns.new result)
+        disks.old disks.new wires.old wires.new }
 {
     let Some((disk, _more_disks)) = disks.split_first_mut() else {
         unreachable!();

@@ -13,9 +13,16 @@ cactus-requires-clause-empty g c =
     c.in-Some-split_first_mut.wire.now c.in-Some-split_first_mut.ensures.cases.0
     c.requires.empty).1
 
-pub returns : goal.returns
-returns g c =
-    on_first _ _ c.args.disks.now c.in-Some._more_disks.now c.args.wires.now
+pub returns-clause-one : goal.returns-clause-one
+returns-clause-one g c =
+    on_first _ c.args.disks.now c.in-Some._more_disks.now c.args.wires.now
     c.in-Some-split_first_mut._more_wires.now c.in-Some.disk.now c.cactus.new.disk
-    c.in-Some-split_first_mut.wire.now c.cactus.new.wire c.cactus.result c.in-Some.ensures.cases.0
+    c.in-Some-split_first_mut.wire.now c.cactus.new.wire c.in-Some.ensures.cases.0
     c.in-Some-split_first_mut.ensures.cases.0 c.cactus.ensures.obeys
+
+pub returns-clause-turned : goal.returns-clause-turned
+returns-clause-turned g c =
+    on_first _ c.args.disks.now c.in-Some._more_disks.now c.args.wires.now
+    c.in-Some-split_first_mut._more_wires.now c.in-Some.disk.now c.cactus.new.disk
+    c.in-Some-split_first_mut.wire.now c.cactus.new.wire c.in-Some.ensures.cases.0
+    c.in-Some-split_first_mut.ensures.cases.0 c.cactus.ensures.turned
