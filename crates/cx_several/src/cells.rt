@@ -1,5 +1,6 @@
 //! How many cells the jobs of a batch have together.
-ghost use Rattle.std.specs.Prelude.{◌≡◌, ◌<◌, ◌^◌, ℕ, IfOk};
+ghost use Rattle.std.specs.Prelude.{◌≡◌, ◌<◌, ◌^◌, ◌∷◌, ℕ, List, IfOk};
+ghost use Rattle.cx_plan.specs.declared.job.Job.{Job};
 ghost use Rattle.std.specs.List.{AllByRecursion};
 ghost use Rattle.cx_run_batch.specs.Members.{jobs_of};
 ghost use Rattle.cx_text.specs.Numbers.{in_64_bits};
@@ -86,11 +87,20 @@ fn local_by_all(alloc: Global, members: &[Member]) -> Result<u64, Memory>
     match members {
         [] => Ok(0),
         [member, others @ ..] => {
-            let cells = local_by(alloc, &member.job)?;
             let more = local_by_all(alloc, others)?;
-            Ok(cells.saturating_add(more))
+            local_with(alloc, &member.job, more)
         }
     }
+}
+
+/// The local cells of a job and so many more, or the greatest number of 64 bits.
+fn local_with(alloc: Global, job: &Job, more: u64) -> Result<u64, Memory>
+    requires { IsCuttable job.now }
+    ensures { (jobs : List Job) → more ≡ in_64_bits (local_by_all jobs)
+        → IfOk result (λ n. n ≡ in_64_bits (local_by_all (job.now ∷ jobs))) }
+{
+    let cells = local_by(alloc, job)?;
+    Ok(cells.saturating_add(more))
 }
 
 /// The local cells of a job, or the greatest number of 64 bits.
