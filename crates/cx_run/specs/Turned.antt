@@ -31,8 +31,8 @@ pub record HasTurned {T : Type 0} (t : TurnsGhosts T) (d : Drive) (seed : ℕ) (
   pub picks : PicksToEnd t d seed turns_after ⊎ PicksToStop t d seed turns_after
   pub ends : IsEnd status → PicksToEnd t d seed turns_after
 
--- A run goes by its picks, or the source is as it was: then no run was begun. Other commands leave
--- the source alone.
+-- A run that came to its end went by its picks. Any other one did, or the source is as it was.
+-- Other commands leave the source alone.
 pub record FollowsTurns {T : Type 0} (t : TurnsGhosts T) (c : Call) (turns turns_after : T)
     (status : ℕ) : Type 0 where
   pub picks : (job : Job) (run : IsRun c job) → (turns_after ≡ turns)
