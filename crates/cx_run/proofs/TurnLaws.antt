@@ -9,7 +9,7 @@ use Rattle.cx_run_loop.specs.Turning.{StopsTurns, TakesTurns}
 use Rattle.cx_run_loop.specs.declared.fault.DriveFault.{DriveFault}
 use Rattle.cx_run_loop.specs.declared.fault.DriveFault.TheVariants as stops
 use Rattle.cx_run.specs.Answers.{AnswersRun, answer_for, answer_of, status_of, WasSaid}
-use Rattle.cx_run.specs.Calls.{Call, IsRun, Lent, Makes, Runs, TellsFiles, driven}
+use Rattle.cx_run.specs.Calls.{Call, IsRun, IsStill, Lent, Makes, Runs, TellsFiles, driven}
 use Rattle.cx_run.specs.Causes.{MakesAs}
 use Rattle.cx_run.specs.Clauses.{IsEnd}
 use Rattle.cx_run.specs.Turned.{FollowsTurns, HasTurned, PicksToEnd}
@@ -97,10 +97,11 @@ wrong_use t c turns status none =
 -- the files make a fault
 pub with_fault :
     {T : Type 0} (t : TurnsGhosts T) (c : Call) (turns : T) (fault : JobFault) (answer : Answer)
-    → answer ≡ answer_of fault → FollowsTurns t c turns turns (status_of answer)
-with_fault t c turns fault answer is =
+    → answer ≡ answer_of fault → IsStill c.work
+    → FollowsTurns t c turns turns (status_of answer)
+with_fault t c turns fault answer is still =
     record {
-      picks = λ job run. inl refl;
+      picks = λ job run. inl (record { source = refl; still = still });
       ends = λ job run e.
           absurd (not_end answer (answer_of fault) is (fault_no_end fault (sorted fault)) e);
       spared = λ r asks none. refl;

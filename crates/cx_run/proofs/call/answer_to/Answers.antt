@@ -34,3 +34,10 @@ returns-in-Ok-clause-turned g c =
 pub returns-in-Err-clause-turned : goal.returns-in-Err-clause-turned
 returns-in-Err-clause-turned g c =
     turned.with_fault g.T.Turns _ _ c.in-Err.fault c.answer_of.result c.answer_of.ensures
+    (record {
+      disk = refl;
+      quiet = λ told. quiet_at_start _;
+      wire = refl;
+      received = refl;
+      meter = refl;
+    })
