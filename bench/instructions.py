@@ -113,6 +113,14 @@ def measure_parts(bench):
             show(f"instructions a point and iteration of {name}, {points} points in {parts}", counts, points, 0.5)
 
 
+def measure_turns(bench):
+    """What an iteration takes for each of many parts, most of it to find which part can go on."""
+    for count in (64, 512):
+        settings = grid_of({"global_nx": 16 * POINTS, "parts_x": count}, HEAT)
+        counts = of_iterations(bench, "DiffInt", settings, MORE // 10)
+        show(f"instructions a part and iteration of heat, {16 * POINTS} points in {count}", counts, count, 500)
+
+
 def measure_instructions(bench):
-    for measure in (measure_iterations, measure_parts, measure_text, measure_start, measure_steers):
+    for measure in (measure_iterations, measure_parts, measure_turns, measure_text, measure_start, measure_steers):
         measure(bench)
