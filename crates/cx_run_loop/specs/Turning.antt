@@ -1,5 +1,5 @@
 -- Which event is done: the one that the source of turns picks.
-use Rattle.std.specs.Prelude.{ℕ, ◌≡◌, ◌⊎◌, List, [], ◌∷◌, Option, Ok}
+use Rattle.std.specs.Prelude.{ℕ, ◌≡◌, ◌⊎◌, List, [], ◌∷◌, Option, Ok, slice_get}
 use Rattle.cx_plan.specs.declared.job.Job.{Job}
 use Rattle.cx_plan.specs.Setups.{setup_of}
 use Rattle.cx_rule.specs.Routine.{Rule}
@@ -7,12 +7,15 @@ use Rattle.cx_turns.specs.declared.turns.Turns.{Ghosts as TurnsGhosts}
 use Rattle.cx_chk.specs.declared.checkpoint.Checkpoint.{Checkpoint}
 use Rattle.cx_keep.specs.Tests.{begun}
 use Rattle.law_parts.specs.Beginnings.{Beginning, IsBeginning, run_of}
+use Rattle.law_parts.specs.Runs.{Run}
 use Rattle.law_parts.specs.Totals.{undivided_from}
+use Rattle.cx_core_part.specs.Jobs.{IsRunOf}
+use Rattle.cx_core_events.specs.Events.{events}
 use Rattle.cx_core.specs.declared.answers.Event.{Event}
 use Rattle.cx_core.specs.Cores.{Cores, enabled_in}
 use Rattle.cx_core.specs.Hands.{StepsTo}
 use Rattle.cx_core.specs.Starts.{begins_in}
-use Rattle.cx_core.specs.Steps.{Begins, Counts, IsAt, Standing, stands_at}
+use Rattle.cx_core.specs.Steps.{Begins, Counts, IsAt, RisesWithin, Standing, event_costs, stands_at}
 use Rattle.cx_run_loop.specs.Drives.{Drive, counts_old}
 use Rattle.cx_run_loop.specs.Lent.{Wired}
 
@@ -29,7 +32,7 @@ turning core wire meter turns = record {
 }
 
 -- One turn: of all events that can happen the source picks the k-th, and that one is done, whatever
--- the run began from.
+-- the run began from. What was counted rises by at most what that event costs.
 pub record IsTurn {T : Type 0} (t : TurnsGhosts T) (tells : Type 0) (job : Job) (rules : List Rule)
     (was is : Turning tells T) (event : Event) : Type 0 where
   pub k : ℕ
@@ -38,6 +41,9 @@ pub record IsTurn {T : Type 0} (t : TurnsGhosts T) (tells : Type 0) (job : Job) 
       (at : IsAt tells (run_of job rules b) first was.is.core was.is.queue was.is.now)
       → StepsTo tells (run_of job rules b) (undivided_from (setup_of job) rules b) first k was.is
       is.is at event
+  pub rises : (r : Run) → IsRunOf job r
+      → RisesWithin (event_costs r was.is.core.pace (slice_get (events was.is.core.pace) k))
+      was.is.now is.is.now
 
 -- turn after turn, these events
 abbrev pub StepsBy :

@@ -18,6 +18,7 @@ returns-clause-turn g c = record {
   picked = subst (λ (n : ℕ). g.T.Turns.picks c.args.turns.now n c.pick-k.result c.pick-k.new.self)
       c.enabled.ensures c.pick-k.ensures.picks;
   does = λ b begins first at. c.in_ok-step.ensures.does b begins first at;
+  rises = c.step.ensures.rises;
 }
 
 pub returns-clause-picked : goal.returns-clause-picked
