@@ -205,12 +205,6 @@ ran w command job runs (Err fault) drives named starts view answer is =
       apart = λ on. absurd (not_both command runs on);
     }
 
--- a run that gave its core is over
-pub over : (d : Drive) (came : Result Cores DriveFault) → Drives d came
-    → IfOk came (λ core. core.outcome ≢ outcomes.Going)
-over d (Ok core) drives = drives.comes.over
-over d (Err fault) drives = tt
-
 -- ---- another command
 
 told_cause : (w : Work) (command : Command) (job : Job) (text : Result (List ℕ) Memory)

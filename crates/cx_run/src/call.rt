@@ -1,10 +1,9 @@
 //! The top call.
-ghost use Rattle.std.specs.Prelude.{◌≡◌, ◌≢◌, ◌≤◌, ◌^◌, None, Some, IfOk, length, map};
+ghost use Rattle.std.specs.Prelude.{◌≡◌, ◌≤◌, ◌^◌, None, Some, IfOk, length, map};
 ghost use Rattle.cx_cut.specs.Faults.{parts_of, cut_fault};
 ghost use Rattle.cx_grid.specs.Grid.{HasInterior};
 ghost use Rattle.cx_plan.specs.Whole.{IsWhole};
 ghost use Rattle.cx_core.specs.Starts.{AreEmpty};
-ghost use Rattle.cx_core.specs.declared.answers.Outcome.{Outcome};
 ghost use Rattle.cx_run_loop.specs.Drives.{LendsScalars};
 ghost use Rattle.cx_job.specs.Making.{IsReady};
 ghost use Rattle.cx_run_made.specs.Files.{made_files};
@@ -317,7 +316,6 @@ fn answer_to_run(
     came: Result<Core, DriveFault>,
 ) -> Answer
     requires whole { IsWhole job.now }
-    requires over { IfOk came (λ core. core.outcome ≢ Outcome.Going) }
     requires scalars { IfOk came (LendsScalars job.now) }
     ensures { AnswersRun command job.now came result }
 {

@@ -14,7 +14,7 @@ mod words;
 pub use call::cactus;
 pub use cut_texts::parts_text;
 pub use cx_job::{FolderShelf, MemoryShelf, Shelf, ShelfFault};
-pub use reply::Answer;
+pub use reply::{Answer, answer_for, answer_to_outcome};
 pub use sink::{MemorySink, Sink, SinkFault};
 pub use stdout::StdoutSink;
 pub use texts::{describe, key_lines, schedule_text};

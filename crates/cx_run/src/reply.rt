@@ -1,7 +1,6 @@
 //! What the top call prints and answers.
-ghost use Rattle.std.specs.Prelude.{◌≡◌, ◌≢◌, ◌++◌, ◌≤◌, ◌⊎◌, ◌∷◌, [], codes, IfOk, OnOk};
+ghost use Rattle.std.specs.Prelude.{◌≡◌, ◌++◌, ◌≤◌, ◌⊎◌, ◌∷◌, [], codes, IfOk, OnOk};
 ghost use Rattle.std.specs.Fmt.{decimal};
-ghost use Rattle.cx_core.specs.declared.answers.Outcome.{Outcome};
 ghost use Rattle.cx_core.specs.Hands.{last_number};
 ghost use Rattle.cx_run_loop.specs.Drives.{LendsScalars};
 ghost use Rattle.cx_run_made.specs.Summaries.{live_variable};
@@ -134,7 +133,7 @@ pub(crate) fn answer_of(fault: JobFault) -> Answer
 }
 
 /// Why a run stopped before its end, as an answer.
-pub(crate) fn answer_for(fault: DriveFault) -> Answer
+pub fn answer_for(fault: DriveFault) -> Answer
     ensures { result ≡ answer_for fault }
 {
     match fault {
@@ -185,13 +184,12 @@ pub(crate) fn answer_to_recombine(came: Result<Recombined, ChunksFault>) -> Answ
     }
 }
 
-/// The end of a run that is over. It fails where memory runs out.
+/// The end of a run that is over. It fails where memory runs out, and for a run that goes on.
 fn end_in(alloc: Global, outcome: &Outcome) -> Result<End, Memory>
-    requires over { outcome.now ≢ Outcome.Going }
     ensures { IfOk result (λ end. end ≡ end_in outcome.now) }
 {
     match outcome {
-        Outcome::Going => unreachable!(),
+        Outcome::Going => Err(Memory),
         Outcome::Done => Ok(End::Done),
         Outcome::Overflow(iteration, path) => {
             Ok(End::Overflow(*iteration, Text::from_slice(alloc, path.as_slice())?))
@@ -214,8 +212,7 @@ fn answer_at(itlast: u64, end: End) -> Answer
 }
 
 /// The outcome of a run that is over, as an answer, by the last iteration of its job, or want of memory.
-pub(crate) fn answer_to_outcome(alloc: Global, itlast: u64, outcome: &Outcome) -> Answer
-    requires over { outcome.now ≢ Outcome.Going }
+pub fn answer_to_outcome(alloc: Global, itlast: u64, outcome: &Outcome) -> Answer
     ensures { (result ≡ Answer.Memory) ⊎ (result ≡ answer_at itlast (end_in outcome.now)) }
 {
     match end_in(alloc, outcome) {
@@ -227,7 +224,6 @@ pub(crate) fn answer_to_outcome(alloc: Global, itlast: u64, outcome: &Outcome) -
 /// The answer to a run that is over, or want of memory.
 pub(crate) fn answer_to_core(alloc: Global, command: Command, job: &Job, core: &Core) -> Answer
     requires whole { IsWhole job.now }
-    requires over { core.now.outcome ≢ Outcome.Going }
     requires scalars { LendsScalars job.now core.now }
     ensures { (result ≡ Answer.Memory) ⊎ (result
         ≡ summed command job.now core.now (answer_at job.now.itlast (end_in core.now.outcome))) }

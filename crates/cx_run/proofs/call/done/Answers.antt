@@ -17,10 +17,6 @@ drive-came-requires-clause-parts g c =
 pub drive-came-requires-clause-short : goal.drive-came-requires-clause-short
 drive-came-requires-clause-short g c = c.requires.ready.names
 
-pub answer_to_run-requires-clause-over : goal.answer_to_run-requires-clause-over
-answer_to_run-requires-clause-over g c =
-    running.over _ c.drive-came.result c.drive-came.ensures.drives
-
 pub returns-in-Run-clause-comes : goal.returns-in-Run-clause-comes
 returns-in-Run-clause-comes g c =
     running.ran _ c.args.command c.args.job.now c.in-Run.ensures c.drive-came.result
