@@ -68,8 +68,7 @@ const USAGE: &str = "usage: cactus run FILE [--turns SEED]\n\
         \x20      cactus parts FILE\n\
         \x20      cactus make SEED SIZE\n\
         \x20      cactus chunk FILE\n\
-        \x20      cactus recombine FILE\n\
-        \x20      cactus batch FILE FILE [FILE ...]\n";
+        \x20      cactus recombine FILE\n";
 
 /// What `describe` prints before the schedule text.
 const KEY_BEGINS: &[u8] = b"thorn Integer/ElemCA ca\n\
