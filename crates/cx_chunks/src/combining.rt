@@ -27,19 +27,21 @@ use cx_text::{List, Memory, Text};
 use std::alloc::Global;
 
 /// The values that a part's chunk has of a variable at an iteration; none where it has no such piece.
-fn values_in<'a>(
-    chunks: &'a [List<Piece>],
+fn values_in(
+    alloc: Global,
+    chunks: &[List<Piece>],
     cursors: &mut Cursors,
     full: &Text,
     iteration: u64,
     part: u32,
-) -> &'a [i64]
+) -> Result<Vec<i64>, Memory>
     requires { first_of_chunks double_in 0 chunks.now ≡ None }
-    ensures { result.now ≡ values_in chunks.now full.now iteration part }
+    ensures { IfOk result
+        (λ values. values.items ≡ values_in chunks.now full.now iteration part) }
 {
     match find_piece(cursors, full, iteration, part, chunk(chunks, part)) {
-        Some(piece) => piece.values().as_slice(),
-        None => &[],
+        Some(piece) => piece.values(alloc),
+        None => Ok(Vec::new(alloc)),
     }
 }
 
@@ -102,8 +104,8 @@ fn joined(
     let mut level = zeros(alloc, &all)?;
     'parts: for part in 0..cut.count() {
         let own = cut.part(part);
-        let values = values_in(chunks, cursors, full, iteration, part);
-        put_part(&mut level, &all, &own, values);
+        let values = values_in(alloc, chunks, cursors, full, iteration, part)?;
+        put_part(&mut level, &all, &own, &values);
     }
     Ok(level)
 }
@@ -124,8 +126,8 @@ fn text_at(
         ≡ text_at (setup_of job.now) cut.now chunks.now info.now iteration) }
 {
     if info.scalar {
-        let values = values_in(chunks, cursors, &info.full, iteration, 0);
-        scalar_line(alloc, &info.full, iteration, value_at(values, 0))
+        let values = values_in(alloc, chunks, cursors, &info.full, iteration, 0)?;
+        scalar_line(alloc, &info.full, iteration, value_at(&values, 0))
     } else {
         let level = joined(
             alloc, &job.shape, cut, chunks, cursors, &info.full, iteration,

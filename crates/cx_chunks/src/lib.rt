@@ -14,6 +14,7 @@ mod reading;
 mod rising;
 mod rows;
 mod section;
+mod values;
 
 pub use combining::combine;
 pub use cutting::cut_records;
@@ -22,3 +23,4 @@ pub use laws::chunks_are_whole;
 pub use piece::Piece;
 pub use reading::read_chunk;
 pub use rising::iterations;
+pub use values::Values;

@@ -1,10 +1,12 @@
 //! What a chunk file holds.
 
-ghost use Rattle.std.specs.Prelude.{◌≡◌};
+ghost use Rattle.std.specs.Prelude.{◌≡◌, IfOk};
 ghost use Rattle.cx_chunks.specs.Combining.{full_of, iteration_of, values_of};
 
+use crate::values::Values;
 use cx_ascii_read::Record;
-use cx_text::{List, Text};
+use cx_text::{List, Memory, Text};
+use std::alloc::Global;
 
 /// A scalar's value, or a part's own values of a grid variable.
 #[derive(Debug, Drop)]
@@ -25,7 +27,7 @@ pub enum Piece {
         /// How many points it has in each direction.
         size: List<u32>,
         /// The values of its own points, x fastest, then y.
-        values: List<i64>,
+        values: Values,
     },
 }
 
@@ -50,13 +52,22 @@ impl Piece {
         }
     }
 
-    /// Its values.
-    pub(crate) fn values(&self) -> &List<i64>
-        ensures { result.now ≡ values_of self.now }
+    /// Its values, in 64 bits each.
+    pub(crate) fn values(&self, alloc: Global) -> Result<Vec<i64>, Memory>
+        ensures { IfOk result (λ values. values.items ≡ values_of self.now) }
     {
         match self {
-            Piece::Line(record) => &record.values,
-            Piece::Box { values, .. } => values,
+            Piece::Line(record) => copied(alloc, record.values.as_slice()),
+            Piece::Box { values, .. } => values.to_vec(alloc),
         }
     }
+}
+
+/// The same numbers once more.
+fn copied(alloc: Global, numbers: &[i64]) -> Result<Vec<i64>, Memory>
+    ensures { IfOk result (λ copy. copy.items ≡ numbers.now) }
+{
+    let mut copy = Vec::new(alloc);
+    copy.extend_from_slice(numbers)?;
+    Ok(copy)
 }

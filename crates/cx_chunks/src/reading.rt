@@ -1,16 +1,26 @@
 //! Pieces from bytes.
 ghost use Rattle.std.specs.Prelude.{◌≡◌, Some, IfOk, codes, List as ListOf};
 ghost use Rattle.cx_ascii_read.specs.Spelling.{ReadsAll};
-ghost use Rattle.cx_ascii_read.specs.Reading.{Gives, skip_text};
+ghost use Rattle.cx_ascii_read.specs.Reading.{Gives, grid_at, skip_text};
 ghost use Rattle.cx_chunks.specs.declared.piece.Piece.{Piece};
 ghost use Rattle.cx_chunks.specs.Pieces.{IsPiece, SpellsChunk, piece_text};
 ghost use Rattle.cx_chunks.specs.Reading.{section_at, value_at, body_at, piece_at};
 
 use crate::piece::Piece;
 use crate::place::place_at;
+use crate::values::Values;
 use cx_ascii_read::{Entry, Stop, grid_at, head_at, line_at, read_all, skip_text, strip_text};
 use cx_text::{List, Memory, Text};
 use std::alloc::Global;
+
+/// A grid of values: its sizes, the values, and what comes after them.
+fn values_at(alloc: Global, bytes: &[u8]) -> Result<(List<u32>, Values, &[u8]), Stop>
+    ensures { Gives (λ x. ((x.0, x.1), x.2.now)) result (grid_at bytes.now) }
+{
+    let (size, numbers, rest) = grid_at(alloc, bytes)?;
+    let values = Values::new(alloc, numbers.as_slice())?;
+    Ok((size, values, rest))
+}
 
 /// A part's section, after the word `part`.
 #[tactic(auto, unfolding(crate::specs::Reading::section_at))]
@@ -23,7 +33,7 @@ fn section_at<'a>(
     ensures { Gives (λ x. (x.0, x.1.now)) result (section_at full.now iteration bytes.now) }
 {
     let (place, rest) = place_at(alloc, bytes)?;
-    let (size, values, rest) = grid_at(alloc, rest)?;
+    let (size, values, rest) = values_at(alloc, rest)?;
     if place.from.len() != size.len() {
         return Err(Stop::Other);
     }

@@ -49,8 +49,9 @@ parts-preserved c =
     let there : c.parts.part < part_count c.args.cut.now = search rules in
     one_more c.args.cut.now c.requires.whole
     (values_in c.args.chunks.now c.args.full.now c.args.iteration) c.parts.part there
-    c.whole-all.result c.part-own.result c.values_in-values.result.now c.parts.level.items
-    c.put_part.new.level.items all_is c.part-own.ensures.value c.values_in-values.ensures
+    c.whole-all.result c.part-own.result c.deref.result.now c.parts.level.items
+    c.put_part.new.level.items all_is c.part-own.ensures.value
+    (c.deref.ensures.value ∙ c.in_ok-values.ensures)
     c.put_part.ensures.length c.put_part.ensures.own c.put_part.ensures.others c.parts.invariant
 
 pub returns : goal.returns
