@@ -2,6 +2,7 @@ mod ChunkSamples
 pub mod PieceLaws
 pub mod OwnLaws
 pub mod StepLaws
+pub mod TextLaws
 pub mod JoinLaws
 pub mod RisingLaws
 pub mod PieceLists

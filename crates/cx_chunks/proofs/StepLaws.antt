@@ -42,16 +42,6 @@ map_push : {X Y : Type 0} (f : X → Y) (xs : List X) (x : X)
 map_push f [] x = refl
 map_push f (y ∷ ys) x = ap (λ l. f y ∷ l) (map_push f ys x)
 
--- what each element adds
-pub grown_flat : {X A : Type 0} (f : X → List A) (xs : List X) (k : ℕ) (x : X)
-    (start old new : List A)
-    → k < length xs → x ≡ get_or xs k x → old ≡ start ++ flat_map f (take k xs) → new ≡ old ++ f x
-    → new ≡ start ++ flat_map f (take (k + 1) xs)
-grown_flat f xs k x start old new within at before now =
-    now ∙ ap (λ l. l ++ f x) before ∙ append_assoc start (flat_map f (take k xs)) (f x)
-    ∙ ap (λ l. start ++ l) (ap (λ l. flat_map f (take k xs) ++ l) (sym (one_text f x))
-    ∙ sym (flat_map-append f (take k xs) (x ∷ [])) ∙ ap (flat_map f) (sym (taken xs k x within at)))
-
 pub grown_list : {X Y : Type 0} (f : X → Y) (xs : List X) (k : ℕ) (x : X) (old new : List Y)
     → k < length xs → x ≡ get_or xs k x → old ≡ map f (take k xs) → new ≡ old ++ f x ∷ []
     → new ≡ map f (take (k + 1) xs)
@@ -60,7 +50,7 @@ grown_list f xs k x old new within at before now =
     ∙ ap (map f) (sym (taken xs k x within at))
 
 -- the text of a chunk, variable by variable
-chunk_is : (c : Parts) (k : ℕ) (outputs : List (List Record))
+pub chunk_is : (c : Parts) (k : ℕ) (outputs : List (List Record))
     → chunk_text c outputs k
     ≡ flat_map (λ (rs : List Record). flat_map piece_text (flat_map (pieces_in c k) rs)) outputs
 chunk_is c k [] = refl
@@ -69,39 +59,6 @@ chunk_is c k (rs ∷ rss) =
     ∙ flat_map-append piece_text (flat_map (pieces_in c k) rs)
     (flat_map (flat_map (pieces_in c k)) rss)
     ∙ ap (λ l. flat_map piece_text (flat_map (pieces_in c k) rs) ++ l) (chunk_is c k rss)
-
-pub grown_chunk : (c : Parts) (k : ℕ) (outputs : List (List Record)) (i : ℕ) (rs : List Record)
-    (old new : List ℕ)
-    → i < length outputs → rs ≡ get_or outputs i rs → old ≡ chunk_text c (take i outputs) k
-    → new ≡ old ++ flat_map piece_text (flat_map (pieces_in c k) rs)
-    → new ≡ chunk_text c (take (i + 1) outputs) k
-grown_chunk c k outputs i rs old new within at before now =
-    grown_flat (λ (ss : List Record). flat_map piece_text (flat_map (pieces_in c k) ss))
-    outputs i rs [] old new within at
-    (before ∙ chunk_is c k (take i outputs)) now
-    ∙ sym (chunk_is c k (take (i + 1) outputs))
-
--- the text of the records of a variable, record by record
-records_are : (c : Parts) (k : ℕ) (rs : List Record)
-    → flat_map piece_text (flat_map (pieces_in c k) rs)
-    ≡ flat_map (λ (r : Record). flat_map piece_text (pieces_in c k r)) rs
-records_are c k [] = refl
-records_are c k (r ∷ rs) =
-    ap (flat_map piece_text) (flat_map-cons (pieces_in c k) r rs)
-    ∙ flat_map-append piece_text (pieces_in c k r) (flat_map (pieces_in c k) rs)
-    ∙ ap (λ l. flat_map piece_text (pieces_in c k r) ++ l) (records_are c k rs)
-
-pub grown_records : (c : Parts) (k : ℕ) (rs : List Record) (i : ℕ) (r : Record)
-    (start old new : List ℕ)
-    → i < length rs → r ≡ get_or rs i r
-    → old ≡ start ++ flat_map piece_text (flat_map (pieces_in c k) (take i rs))
-    → new ≡ old ++ flat_map piece_text (pieces_in c k r)
-    → new ≡ start ++ flat_map piece_text (flat_map (pieces_in c k) (take (i + 1) rs))
-grown_records c k rs i r start old new within at before now =
-    grown_flat (λ (s : Record). flat_map piece_text (pieces_in c k s))
-    rs i r start old new within at
-    (before ∙ ap (λ l. start ++ l) (records_are c k (take i rs))) now
-    ∙ ap (λ l. start ++ l) (sym (records_are c k (take (i + 1) rs)))
 
 -- one part after another
 pub range_left : (a n : ℕ) → a < n

@@ -1,5 +1,5 @@
 -- Records of the whole output, cut into pieces by parts.
-use Rattle.std.specs.Prelude.{ℕ, ◌<◌, ◌≡◌, ◌==◌, ℤ, pos, unsigned_abs, List, [], ◌∷◌, map, slice_index_or, if◌then◌else◌}
+use Rattle.std.specs.Prelude.{ℕ, ◌+◌, ◌<◌, ◌≡◌, ◌==◌, ℤ, pos, unsigned_abs, List, [], ◌∷◌, ◌++◌, map, slice_index_or, if◌then◌else◌}
 use Rattle.std.specs.List.{flat_map, range_with_len, AllByRecursion}
 use Rattle.cx_grid.specs.declared.boxes.Box3.{Box3}
 use Rattle.cx_grid.specs.Boxes.{along, extent, index_in, numbers_in}
@@ -95,3 +95,21 @@ chunk_text c records k = flat_map piece_text (pieces_of c records k)
 
 abbrev pub chunk_texts : Parts → List (List Record) → List (List ℕ)
 chunk_texts c records = map (chunk_text c records) (range_with_len 0 (part_count c))
+
+-- texts of parts, from part k on, to each of which what its part has of one more record is added
+abbrev pub with_record : Parts → Record → ℕ → List (List ℕ) → List (List ℕ)
+with_record c r k [] = []
+with_record c r k (text ∷ texts) =
+    (text ++ flat_map piece_text (pieces_in c k r)) ∷ with_record c r (k + 1) texts
+
+-- Texts of chunks are added the records of one more variable, or one more record of the last one.
+abbrev pub AddsVariable : Parts → List Record → List (List ℕ) → List (List ℕ) → Type 0
+AddsVariable c records old new =
+    (done : List (List Record)) → old ≡ chunk_texts c done
+    → new ≡ chunk_texts c (done ++ records ∷ [])
+
+abbrev pub AddsRecord : Parts → Record → List (List ℕ) → List (List ℕ) → Type 0
+AddsRecord c r old new =
+    (done : List (List Record)) (records : List Record)
+    → old ≡ chunk_texts c (done ++ records ∷ [])
+    → new ≡ chunk_texts c (done ++ (records ++ r ∷ []) ∷ [])

@@ -1,10 +1,10 @@
 //! Records cut into chunks.
 
-ghost use Rattle.std.specs.Prelude.{◌≡◌, ◌<◌, ◌++◌, [], pos, slice_index_or, IfOk, OnOk};
+ghost use Rattle.std.specs.Prelude.{◌≡◌, ◌<◌, ◌++◌, [], pos, length, slice_index_or, slice_set, IfOk, OnOk};
 ghost use Rattle.std.specs.List.{flat_map};
 ghost use Rattle.cx_cut.specs.Cuts.{IsWhole, part_count};
 ghost use Rattle.cx_chunks.specs.Pieces.{piece_text, part_section};
-ghost use Rattle.cx_chunks.specs.Cutting.{own_of, own_values, line_in, pieces_in, chunk_text, chunk_texts};
+ghost use Rattle.cx_chunks.specs.Cutting.{own_of, own_values, line_in, pieces_in, chunk_texts, with_record, AddsRecord, AddsVariable};
 ghost use Rattle.cx_chunks.specs.Laws.{IsCutOf};
 
 use crate::own_box::{own_box, points_along};
@@ -17,6 +17,7 @@ use cx_grid::{Shape, count, index_of, point_at, whole};
 use cx_plan::Job;
 use cx_text::{List, Memory, Text};
 use std::alloc::Global;
+use std::mem;
 
 /// The value at a place, or 0 after the last one.
 pub(crate) fn value_at(values: &[i64], place: usize) -> i64
@@ -119,46 +120,98 @@ fn record_text(
     }
 }
 
-/// Adds what a part has of the records of a variable.
-fn push_records(
+/// Adds what a part has of a record to its text.
+fn push_part(
     alloc: Global,
-    text: &mut Text,
+    all: &mut Vec<Text>,
     shape: &Shape,
     cut: &Cut,
     part: u32,
-    records: &[Record],
+    entry: &Record,
 ) -> Result<(), Memory>
     requires whole { IsWhole cut.now }
     requires shape { shape.now ≡ cut.now.shape }
     requires part { part < part_count cut.now }
-    ensures { OnOk result (text.new ≡ text.old
-        ++ flat_map piece_text (flat_map (pieces_in cut.now part) records.now)) }
+    requires texts { part < length all.old.items }
+    ensures { OnOk result (all.new.items ≡ slice_set all.old.items part
+        (slice_index_or all.old.items part []
+        ++ flat_map piece_text (pieces_in cut.now part entry.now))) }
 {
-    'records: for entry in records {
-        let piece = record_text(alloc, shape, cut, part, entry)?;
-        text.push_slice(piece.as_slice())?;
+    let piece = record_text(alloc, shape, cut, part, entry)?;
+    all[part as usize].push_slice(piece.as_slice())
+}
+
+/// Adds what each part has of a record to its text.
+fn push_parts(
+    alloc: Global,
+    all: &mut Vec<Text>,
+    shape: &Shape,
+    cut: &Cut,
+    entry: &Record,
+) -> Result<(), Memory>
+    requires whole { IsWhole cut.now }
+    requires shape { shape.now ≡ cut.now.shape }
+    requires texts { length all.old.items ≡ part_count cut.now }
+    ensures { OnOk result (all.new.items ≡ with_record cut.now entry.now 0 all.old.items) }
+{
+    'parts: for part in 0..cut.count() {
+        push_part(alloc, all, shape, cut, part, entry)?;
     }
     Ok(())
 }
 
-/// The text of a part's chunk.
-fn chunk_text(
-    alloc: Global,
-    shape: &Shape,
-    cut: &Cut,
-    part: u32,
-    outputs: &[List<Record>],
-) -> Result<Text, Memory>
-    requires whole { IsWhole cut.now }
-    requires shape { shape.now ≡ cut.now.shape }
-    requires part { part < part_count cut.now }
-    ensures { IfOk result (λ text. text ≡ chunk_text cut.now outputs.now part) }
+/// The text of each part's chunk where there are no records: none is longer than nothing.
+///
+/// Begin with these texts, and add each record by `push_record`.
+pub fn empty_texts(alloc: Global, cut: &Cut) -> Result<List<Text>, Memory>
+    ensures { IfOk result (λ texts. texts ≡ chunk_texts cut.now []) }
 {
-    let mut text = Text::new(Vec::new(alloc));
-    'outputs: for records in outputs {
-        push_records(alloc, &mut text, shape, cut, part, records.as_slice())?;
+    let mut texts = List::empty(alloc);
+    'parts: for _ in 0..cut.count() {
+        texts.push(Text::new(Vec::new(alloc)))?;
     }
-    Ok(text)
+    Ok(texts)
+}
+
+/// Adds a record to the texts of the chunks, of which there is one for each part: to each what its part has of the record.
+///
+/// So records can be cut one after another, and none has to be kept: those of one output variable after those of the one before
+/// it. Where memory runs out, the texts are no longer those of any records.
+pub fn push_record(
+    alloc: Global,
+    job: &Job,
+    cut: &Cut,
+    entry: &Record,
+    texts: &mut List<Text>,
+) -> Result<(), Memory>
+    requires cut { IsCutOf job.now cut.now }
+    requires texts { length texts.old ≡ part_count cut.now }
+    ensures texts { OnOk result (AddsRecord cut.now entry.now texts.old texts.new) }
+    ensures many { OnOk result (length texts.new ≡ part_count cut.now) }
+{
+    let mut all = mem::replace(texts, List::empty(alloc)).into_vec();
+    let pushed = push_parts(alloc, &mut all, &job.shape, cut, entry);
+    *texts = List::new(all);
+    pushed
+}
+
+/// Adds the records of one more variable to the texts of the chunks.
+fn push_records(
+    alloc: Global,
+    job: &Job,
+    cut: &Cut,
+    records: &[Record],
+    texts: &mut List<Text>,
+) -> Result<(), Memory>
+    requires cut { IsCutOf job.now cut.now }
+    requires texts { length texts.old ≡ part_count cut.now }
+    ensures texts { OnOk result (AddsVariable cut.now records.now texts.old texts.new) }
+    ensures many { OnOk result (length texts.new ≡ part_count cut.now) }
+{
+    'records: for entry in records {
+        push_record(alloc, job, cut, entry, texts)?;
+    }
+    Ok(())
 }
 
 /// The text of each part's chunk. `records` has a list for each output variable, in the order of their numbers.
@@ -174,9 +227,9 @@ pub fn cut_records(
     requires { IsCutOf job.now cut.now }
     ensures { IfOk result (λ texts. texts ≡ chunk_texts cut.now records.now) }
 {
-    let mut texts = List::empty(alloc);
-    'parts: for part in 0..cut.count() {
-        texts.push(chunk_text(alloc, &job.shape, cut, part, records.as_slice())?)?;
+    let mut texts = empty_texts(alloc, cut)?;
+    'outputs: for list in records.as_slice() {
+        push_records(alloc, job, cut, list.as_slice(), &mut texts)?;
     }
     Ok(texts)
 }

@@ -17,7 +17,7 @@ mod section;
 mod values;
 
 pub use combining::combine;
-pub use cutting::cut_records;
+pub use cutting::{cut_records, empty_texts, push_record};
 pub use fault::ChunkFault;
 pub use laws::chunks_are_whole;
 pub use piece::Piece;

@@ -1,7 +1,6 @@
-use Rattle.std.proofs.Common.{◌≡◌, map}
-use Rattle.std.specs.List.{range_with_len}
-use Rattle.cx_chunks.specs.Cutting.{chunk_text}
+use Rattle.std.proofs.Common.{◌≡◌, take}
+use Rattle.cx_chunks.specs.Cutting.{chunk_texts}
 use Rattle.cx_chunks.proofs.cutting.cut_records.Given as goal
 
-abbrev pub invariant-parts : goal.invariant-parts
-invariant-parts l = l.texts ≡ map (chunk_text l.cut l.records) (range_with_len 0 l.part)
+abbrev pub invariant-outputs : goal.invariant-outputs
+invariant-outputs l = l.texts ≡ chunk_texts l.cut (take l.list-index l.records)

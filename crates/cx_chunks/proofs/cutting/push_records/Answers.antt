@@ -1,15 +1,16 @@
-use Rattle.std.proofs.Common.{rules, ◌≡◌, ◌++◌}
-use Rattle.std.specs.List.{flat_map}
-use Rattle.cx_chunks.specs.Pieces.{piece_text}
-use Rattle.cx_chunks.specs.Cutting.{pieces_in}
-use Rattle.cx_chunks.proofs.StepLaws.{grown_records}
+use Rattle.cx_chunks.proofs.TextLaws.{next_record, none_yet}
 use Rattle.cx_chunks.proofs.cutting.push_records.Goals as goal
 
+pub records-init : goal.records-init
+records-init c = record {
+  many = c.requires.texts;
+  texts = none_yet c.args.cut.now c.args.texts.now;
+}
+
 pub records-preserved : goal.records-preserved
-records-preserved c =
-    let pushed : c.push_slice.new.self ≡ c.records.text
-    ++ flat_map piece_text (pieces_in c.args.cut.now c.args.part c.entry-item.result) =
-    search rules in
-    grown_records c.args.cut.now c.args.part c.args.records.now c.records.entry-index
-    c.entry-item.result _ c.records.text c.push_slice.new.self c.records-test.true c.entry-item.is
-    c.records.invariant pushed
+records-preserved c = record {
+  many = c.in_ok-push_record.ensures.many;
+  texts = next_record c.args.cut.now c.args.records.now c.records.entry-index c.entry-item.result
+      c.args.texts.now c.records.texts c.push_record.new.texts c.records-test.true
+      c.entry-item.is c.records.invariant.texts c.in_ok-push_record.ensures.texts;
+}

@@ -1,11 +1,10 @@
-use Rattle.std.proofs.Common.{◌≡◌, ◌++◌, take}
-use Rattle.std.specs.List.{flat_map}
-use Rattle.cx_chunks.specs.Pieces.{piece_text}
-use Rattle.cx_chunks.specs.Cutting.{pieces_in}
+use Rattle.std.proofs.Common.{◌≡◌, length, take}
+use Rattle.cx_cut.specs.Cuts.{part_count}
+use Rattle.cx_chunks.specs.Cutting.{AddsVariable}
 use Rattle.cx_chunks.proofs.cutting.push_records.Given as goal
 
 abbrev pub invariant-records : goal.invariant-records
-invariant-records l =
-    l.text
-    ≡ l.initial.text ++ flat_map piece_text
-    (flat_map (pieces_in l.cut l.part) (take l.entry-index l.records))
+invariant-records l = record {
+  many : length l.texts ≡ part_count l.cut;
+  texts : AddsVariable l.cut (take l.entry-index l.records) l.initial.texts l.texts;
+}
