@@ -19,6 +19,7 @@ use Rattle.cx_run_chunks.specs.declared.summary.Chunked.{Chunked}
 use Rattle.cx_run_chunks.specs.declared.summary.Recombined.{Recombined}
 use Rattle.cx_run_chunks.specs.Commands.{all_pieces, chunked_of, chunks_to_write, files_fault, output_records, outputs_fault, parts_in, recombine_fault, recombined_of, record_count, whole_output}
 use Rattle.cx_run_chunks.specs.Faults.{IsFaultOf}
+use Rattle.cx_run_chunks.specs.Next.{total_of}
 use Rattle.cx_run_chunks.proofs.CountLaws.{pieces_fit, records_fit}
 use Rattle.cx_run_chunks.proofs.LoopLaws.{second_fault}
 use Rattle.cx_run_chunks.proofs.OutputLaws.{few_outputs}
@@ -28,24 +29,20 @@ use Rattle.cx_run_chunks.proofs.OutputLaws.{few_outputs}
 abbrev chunked : ℕ → ℕ → Chunked
 chunked parts records = record { parts = parts; records = records }
 
-pub chunked_is : (job : Job) (files : Files) (outputs : List (List Record)) (parts records : ℕ)
-    → outputs_fault (setup_of job) files ≡ None → outputs ≡ output_records (setup_of job) files
-    → parts ≡ part_count (parts_in job)
-    → records ≡ min (length (flat_map (λ (rs : List Record). rs) outputs)) (2 ^ 64 - 1)
+pub chunked_is : (job : Job) (files : Files) (c : Parts) (parts records : ℕ)
+    → outputs_fault (setup_of job) files ≡ None → c ≡ parts_in job → parts ≡ part_count c
+    → records ≡ total_of (output_records (setup_of job) files)
     → chunked parts records ≡ chunked_of job files
-chunked_is job files outputs parts records none same cut count =
-    let fits = records_fit (setup_of job) files records none
-    (count ∙ ap (λ (os : List (List Record)). min (length (flat_map (λ (rs : List Record). rs) os))
-    (2 ^ 64 - 1)) same) in
-    ap (λ (n : ℕ). chunked n records) cut
+chunked_is job files c parts records none cut count all =
+    let fits = records_fit (setup_of job) files records none all in
+    ap (λ (n : ℕ). chunked n records) (count ∙ ap part_count cut)
     ∙ ap (λ (n : ℕ). chunked (part_count (parts_in job)) n) fits
 
-pub texts_are : (job : Job) (files : Files) (c : Parts) (outputs : List (List Record))
-    (texts : List (List ℕ)) → c ≡ parts_in job → outputs ≡ output_records (setup_of job) files
-    → texts ≡ chunk_texts c outputs → texts ≡ chunks_to_write job files
-texts_are job files c outputs texts cut same is =
-    is ∙ ap (chunk_texts c) same
-    ∙ ap (λ (k : Parts). chunk_texts k (output_records (setup_of job) files)) cut
+pub texts_are : (job : Job) (files : Files) (c : Parts) (texts : List (List ℕ)) → c ≡ parts_in job
+    → texts ≡ chunk_texts c (output_records (setup_of job) files)
+    → texts ≡ chunks_to_write job files
+texts_are job files c texts cut is =
+    is ∙ ap (λ (k : Parts). chunk_texts k (output_records (setup_of job) files)) cut
 
 -- ---- chunks that are put together
 

@@ -1,5 +1,5 @@
 -- What is read of bytes is what they spell.
-use Rattle.std.proofs.Common.{◌≡◌, ℕ, zero, suc, ◌≤◌, ◌+◌, List, [], ◌∷◌, ◌++◌, length, Option, Some, None, refl, sym, ap, subst, ◌∙◌, arith}
+use Rattle.std.proofs.Common.{◌≡◌, ℕ, zero, suc, ◌≤◌, ◌+◌, List, [], ◌∷◌, ◌++◌, length, Option, Some, None, refl, sym, ap, subst, ◌∙◌, append_assoc, arith}
 use Rattle.std.specs.List.{flat_map, AllByRecursion}
 use Rattle.std.proofs.lemmas.List.{append-nil, length-append}
 use Rattle.std.proofs.lemmas.List.Concat.{flat_map-cons}
@@ -88,6 +88,15 @@ module _ {E : Type 0} (text : E → List ℕ) (read : List ℕ → Option (E × 
             ∙ sym (flat_map-cons text a.0.0 d.0);
       })
 
+  -- an entry has some bytes
+  pub gets_shorter : (bytes : List ℕ) (x : E) (after : List ℕ) → read bytes ≡ Some (x, after)
+      → suc (length after) ≤ length bytes
+  gets_shorter bytes x after h =
+      let t = field.takes bytes (x, after) h in
+      let s = some_text x t.1 in
+      let long : length (text x) ≡ suc (length s.1) = ap length s.2 in
+      omega (arith, long, ap length t.0, length-append (text x) after)
+
   -- a reader's answer is what is read
   pub answer_is : (bytes : List ℕ) (answer : Option (List E)) → ReadsAll text Fits bytes answer
       → answer ≡ entries_at read (length bytes) bytes
@@ -111,3 +120,100 @@ few_read read (suc count) (b ∷ bytes) xs h =
     let rest = few_read read count a.0.1 d.0 d.1 in
     let e = ap length (some_is (a.0.0 ∷ d.0) xs d.2) in
     omega arith
+
+-- ---- one entry after another
+
+-- what was read before, and what is still read
+abbrev pub with_taken : {E : Type 0} → List E → Option (List E) → Option (List E)
+with_taken taken others = others >>= λ os. Some (taken ++ os)
+
+-- Of all entries some are taken, and the rest is still to be read.
+pub record AreTaken {E : Type 0} (read : List ℕ → Option (E × List ℕ)) (bytes : List ℕ)
+    (taken : List E) (rest : List ℕ) : Type 0 where
+  pub count : ℕ
+  pub enough : length rest ≤ count
+  pub left : entries_at read (length bytes) bytes ≡ with_taken taken (entries_at read count rest)
+
+module _ {E : Type 0} (read : List ℕ → Option (E × List ℕ)) (bytes : List ℕ) where
+  none_before : (others : Option (List E)) → others ≡ with_taken [] others
+  none_before None = refl
+  none_before (Some os) = refl
+
+  pub none_taken : AreTaken read bytes [] bytes
+  none_taken = record {
+    count = length bytes;
+    enough = omega arith;
+    left = none_before (entries_at read (length bytes) bytes);
+  }
+
+  one_before : (taken : List E) (x : E) (others : Option (List E))
+      → with_taken taken (others >>= λ os. Some (x ∷ os)) ≡ with_taken (taken ++ x ∷ []) others
+  one_before taken x None = refl
+  one_before taken x (Some os) =
+      ap (λ (xs : List E). Some xs) (sym (append_assoc taken (x ∷ []) os))
+
+  -- the entry in front, and what comes after it
+  in_front : (count : ℕ) (rest : List ℕ) (x : E) (after : List ℕ) → (rest ≡ [] → ⊥)
+      → length rest ≤ count → read rest ≡ Some (x, after)
+      → (more : ℕ) × (count ≡ suc more)
+      × (entries_at read count rest ≡ (entries_at read more after >>= λ os. Some (x ∷ os)))
+  unfolding entries_at
+  in_front count [] x after some enough h = absurd (some refl)
+  in_front zero (b ∷ bs) x after some enough h = absurd (omega arith)
+  in_front (suc more) (b ∷ bs) x after some enough h = (
+    more,
+    refl,
+    ap (λ (o : Option (E × List ℕ)). o
+        >>= λ f. entries_at read more f.1 >>= λ os. Some (f.0 ∷ os)) h,
+  )
+
+  none_in_front : (count : ℕ) (rest : List ℕ) → (rest ≡ [] → ⊥) → read rest ≡ None
+      → entries_at read count rest ≡ None
+  unfolding entries_at
+  none_in_front count [] some h = absurd (some refl)
+  none_in_front zero (b ∷ bs) some h = refl
+  none_in_front (suc more) (b ∷ bs) some h =
+      ap (λ (o : Option (E × List ℕ)). o
+      >>= λ f. entries_at read more f.1 >>= λ os. Some (f.0 ∷ os)) h
+
+  none_after : (count : ℕ) → entries_at read count [] ≡ Some []
+  unfolding entries_at
+  none_after zero = refl
+  none_after (suc count) = refl
+
+  module _ (taken : List E) (rest : List ℕ) (so_far : AreTaken read bytes taken rest) where
+    -- one more is taken
+    pub one_taken : (x : E) (after : List ℕ) → (rest ≡ [] → ⊥) → read rest ≡ Some (x, after)
+        → suc (length after) ≤ length rest → AreTaken read bytes (taken ++ x ∷ []) after
+    one_taken x after some h shorter =
+        let f = in_front so_far.count rest x after some so_far.enough h in
+        let one : so_far.count ≡ suc f.0 = f.1 in
+        let long : length rest ≤ so_far.count = so_far.enough in
+        record {
+          count = f.0;
+          enough = omega arith;
+          left = so_far.left ∙ ap (with_taken taken) f.2
+              ∙ one_before taken x (entries_at read f.0 after);
+        }
+
+    -- where one is in front, all are those before it, this one and others
+    pub one_left : (x : E) (after : List ℕ) → (rest ≡ [] → ⊥) → read rest ≡ Some (x, after)
+        → (others : Option (List E))
+        × (entries_at read (length bytes) bytes
+        ≡ with_taken taken (others >>= λ os. Some (x ∷ os)))
+    one_left x after some h =
+        let f = in_front so_far.count rest x after some so_far.enough h in
+        (entries_at read f.0 after, so_far.left ∙ ap (with_taken taken) f.2)
+
+    -- where none is in front, the bytes aren't entries
+    pub not_entries : (rest ≡ [] → ⊥) → read rest ≡ None
+        → entries_at read (length bytes) bytes ≡ None
+    not_entries some h =
+        so_far.left ∙ ap (with_taken taken) (none_in_front so_far.count rest some h)
+
+    -- where nothing is left, all are taken
+    pub all_taken : rest ≡ [] → entries_at read (length bytes) bytes ≡ Some taken
+    all_taken none =
+        so_far.left ∙ ap (λ (bs : List ℕ). with_taken taken (entries_at read so_far.count bs)) none
+        ∙ ap (with_taken taken) (none_after so_far.count)
+        ∙ ap (λ (xs : List E). Some xs) (append-nil taken)

@@ -4,4 +4,5 @@ pub mod LoopLaws
 pub mod WriteLaws
 pub mod CauseLaws
 pub mod OutputLaws
+pub mod TakeLaws
 pub mod CombineLaws

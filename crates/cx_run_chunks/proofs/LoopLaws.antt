@@ -11,6 +11,8 @@ use Rattle.cx_plan.specs.Lists.{or_else, first_of_each}
 use Rattle.cx_disk.specs.declared.disk.DiskFault.{DiskFault}
 use Rattle.cx_disk.specs.declared.disk.DiskFault.TheVariants as disk
 use Rattle.cx_disk.specs.Moments.{IsQuiet}
+use Rattle.cx_ascii_read.specs.declared.record.Record.{Record}
+use Rattle.cx_chunks.specs.Cutting.{chunk_texts, AddsVariable}
 use Rattle.cx_chunks.specs.declared.fault.ChunkFault.{ChunkFault}
 use Rattle.cx_chunks.specs.declared.fault.ChunkFault.TheVariants.{Memory, NotOutput}
 use Rattle.cx_run_chunks.specs.declared.fault.ChunksFault.{ChunksFault}
@@ -25,6 +27,7 @@ use Rattle.cx_disk.specs.Files.{chunk_file, named_output_file}
 use Rattle.cx_outputs.specs.Names.{output_count}
 use Rattle.cx_cut.specs.Cuts.{Parts, part_count}
 use Rattle.cx_run_chunks.specs.Commands.{chunk_files, fault_unless, first_by_place, not_output, output_files, output_in, too_long}
+use Rattle.cx_run_chunks.specs.Next.{total_of}
 
 -- calls that change no byte leave the files as they read
 pub seen_same : {old new : View} → IsQuiet old new → new.seen ≡ old.seen
@@ -117,6 +120,39 @@ sum_more f xs k x d n count now lt at before this is =
     most : (sum n more top total now : ℕ) → total ≡ min sum top → more ≡ sum + n
         → now ≡ min (total + n) top → now ≡ min more top
     most sum n more top total now a b c = omega arith
+
+-- the records of one variable more
+pub total_more : (f : ℕ → List Record) (k n total now : ℕ)
+    → total ≡ total_of (map f (range_with_len 0 k)) → n ≡ min (length (f k)) (2 ^ 64 - 1)
+    → now ≡ min (total + n) (2 ^ 64 - 1) → now ≡ total_of (map f (range_with_len 0 (k + 1)))
+total_more f k n total now before count is =
+    let all = λ (rs : List Record). rs in
+    let done = map f (range_with_len 0 k) in
+    let grown : length (flat_map all (map f (range_with_len 0 (k + 1))))
+    ≡ length (flat_map all done) + length (f k) =
+    ap (λ (rss : List (List Record)). length (flat_map all rss))
+    (map-range_with_len_more f 0 k k (omega arith))
+    ∙ ap length (flat_map-append all done (f k ∷ []))
+    ∙ length-append (flat_map all done) (flat_map all (f k ∷ []))
+    ∙ ap (λ (rs : List Record). length (flat_map all done) + length rs)
+    (flat_map-cons all (f k) [] ∙ append-nil (f k)) in
+    most (length (flat_map all done)) (length (f k))
+    (length (flat_map all (map f (range_with_len 0 (k + 1))))) n total now (2 ^ 64 - 1)
+    before count grown is
+  where
+    most : (sum more both n total now top : ℕ) → total ≡ min sum top → n ≡ min more top
+        → both ≡ sum + more → now ≡ min (total + n) top → now ≡ min both top
+    most sum more both n total now top a b c d = omega arith
+
+pub total_none : (top : ℕ) → 0 ≡ min 0 top
+total_none top = omega arith
+
+pub texts_more : (c : Parts) (f : ℕ → List Record) (k : ℕ) (old new : List (List ℕ))
+    → old ≡ chunk_texts c (map f (range_with_len 0 k)) → AddsVariable c (f k) old new
+    → new ≡ chunk_texts c (map f (range_with_len 0 (k + 1)))
+texts_more c f k old new before more =
+    more (map f (range_with_len 0 k)) before
+    ∙ ap (chunk_texts c) (sym (map-range_with_len_more f 0 k k (omega arith)))
 
 pub sum_next : {X A : Type 0} (f : X → List A) (xs ys : List X) (k : ℕ) (d : X) (n count now : ℕ)
     → ys ≡ xs → k < length ys

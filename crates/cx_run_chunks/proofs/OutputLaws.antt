@@ -135,34 +135,10 @@ files_are_outputs job files none =
 
 -- ---- what a reader's answer is
 
-pub records_answer : (bytes : List ℕ) (answer : Option (List Record)) → ReadsAs bytes answer
-    → answer ≡ records_of bytes
-records_answer bytes answer reads =
-    answer_is record_text record_at IsRecord record_field no_record bytes answer reads
-
 pub pieces_answer : (bytes : List ℕ) (answer : Option (List Piece))
     → ReadsAll piece_text IsPiece bytes answer → answer ≡ pieces_of bytes
 pieces_answer bytes answer reads =
     answer_is piece_text piece_at IsPiece piece_field no_piece bytes answer reads
-
-pub no_output : (setup : Setup) (v : VarInfo) (bytes : List ℕ) (o : Option (List Record))
-    → o ≡ records_of bytes → o ≡ None → output_in setup v bytes ≡ None
-no_output setup v bytes o same none =
-    ap (λ (p : Option (List Record)). p >>= if_output setup v) (sym same ∙ none)
-
-pub an_output : (setup : Setup) (v : VarInfo) (bytes : List ℕ) (o : Option (List Record))
-    (rs : List Record) → o ≡ records_of bytes → o ≡ Some rs
-    → output_in setup v bytes ≡ if_output setup v rs
-an_output setup v bytes o rs same some =
-    ap (λ (p : Option (List Record)). p >>= if_output setup v) (sym same ∙ some)
-
--- an output's records are those of its file
-pub output_found : (setup : Setup) (v : VarInfo) (bytes : List ℕ) (rs : List Record)
-    → output_in setup v bytes ≡ Some rs → rs ≡ found (records_of bytes)
-output_found setup v bytes rs h =
-    let a = bind_some (records_of bytes) (if_output setup v) rs h in
-    let g = goes_where (is_output_of setup v a.0) a.0 rs a.2 in
-    sym g.1 ∙ sym (ap found a.1)
 
 -- ---- entries that are there, and entries that aren't
 

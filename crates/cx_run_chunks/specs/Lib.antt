@@ -1,4 +1,5 @@
 pub mod Entries
+pub mod Next
 pub mod Faults
 pub mod Commands
 pub mod Writing

@@ -1,64 +1,28 @@
 //! The output of a job, cut into chunks.
 
-ghost use Rattle.std.specs.Prelude.{◌≡◌, ◌≤◌, None, length, IsTrue, IfOk, IfErr, OnOk};
+ghost use Rattle.std.specs.Prelude.{◌≡◌, None, IsTrue, IfOk, IfErr, OnOk};
 ghost use Rattle.cx_cut.specs.Cuts.{part_count};
 ghost use Rattle.cx_cut.specs.Faults.{cut_fault};
 ghost use Rattle.cx_disk.specs.Cause.{HasCause};
 ghost use Rattle.cx_disk.specs.Disk.{IsNamed};
-ghost use Rattle.cx_disk.specs.Files.{chunk_file, count_with};
-ghost use Rattle.cx_disk.specs.Keeps.{Keeps};
+ghost use Rattle.cx_disk.specs.Files.{chunk_file};
 ghost use Rattle.cx_disk.specs.Moments.{IsQuiet};
-ghost use Rattle.cx_outputs.specs.Names.{output_count, output_names};
+ghost use Rattle.cx_outputs.specs.Names.{output_names};
 ghost use Rattle.cx_plan.specs.Setups.{setup_of};
 ghost use Rattle.cx_plan.specs.Whole.{IsWhole};
-ghost use Rattle.cx_chunks.specs.Laws.{IsCutOf};
 ghost use Rattle.cx_run_chunks.specs.Commands.{chunked_of, chunks_to_write, outputs_fault, parts_in};
 ghost use Rattle.cx_run_chunks.specs.Faults.{Finds, IsRefusal};
 ghost use Rattle.cx_run_chunks.specs.Writing.{AreWritten, Writes};
 
 use crate::fault::ChunksFault;
-use crate::outputs::{read_outputs, record_count};
+use crate::outputs::cut_outputs;
 use crate::parts::{cut_of, mount};
 use crate::summary::Chunked;
 use crate::writing::write_files;
-use cx_chunks::cut_records;
-use cx_cut::Cut;
 use cx_disk::{Disk, FIRST_CHUNK};
 use cx_outputs::output_names;
 use cx_plan::Job;
-use cx_text::{List, Text};
 use std::alloc::Global;
-
-/// The texts of the chunks, and how many there are and of how many records, from the output files of a mounted disk.
-fn cut_outputs<D: Disk>(
-    alloc: Global,
-    disk: &mut D,
-    job: &Job,
-    cut: &Cut,
-) -> Result<(Chunked, List<Text>), ChunksFault>
-    requires mounted { IsTrue (D.mounted disk.old) }
-    requires files { D.file_count disk.old ≡ count_with (output_count (setup_of job.now)) }
-    requires whole { IsWhole job.now }
-    requires parts { cut.now ≡ parts_in job.now }
-    requires cut { IsCutOf job.now cut.now }
-    ensures told { D.tells →
-        Finds (outputs_fault (setup_of job.now) (D.view disk.old).seen) result }
-    ensures value { D.tells → IfOk result
-        (λ x. x.0 ≡ chunked_of job.now (D.view disk.old).seen) }
-    ensures texts { D.tells → IfOk result
-        (λ x. x.1 ≡ chunks_to_write job.now (D.view disk.old).seen) }
-    ensures many { IfOk result (λ x. length x.1 ≡ part_count (parts_in job.now)) }
-    ensures quiet { D.tells → IsQuiet (D.view disk.old) (D.view disk.new) }
-    ensures kept { Keeps D.Disk ChunksFault.Disk disk.old disk.new result }
-{
-    let outputs = read_outputs(alloc, disk, job)?;
-    let texts = cut_records(alloc, job, cut, &outputs)?;
-    let summary = Chunked {
-        parts: cut.count(),
-        records: record_count(outputs.as_slice()),
-    };
-    Ok((summary, texts))
-}
 
 /// Cuts the output files of a job into chunks: mounts the disk with the job's folders and output files, reads these files, and
 /// writes the chunk file of each part of the job's cut anew and settles it. A file that isn't there counts as empty.
@@ -94,7 +58,10 @@ pub fn chunk<D: Disk>(alloc: Global, disk: &mut D, job: &Job) -> Result<Chunked,
     let cut = cut_of(alloc, job)?;
     let names = output_names(alloc, job)?;
     mount(disk, job, &names)?;
-    let (done, texts) = cut_outputs(alloc, disk, job, &cut)?;
+    let (records, texts) = cut_outputs(alloc, disk, job, &cut)?;
     write_files(disk, FIRST_CHUNK, texts.as_slice())?;
-    Ok(done)
+    Ok(Chunked {
+        parts: cut.count(),
+        records,
+    })
 }

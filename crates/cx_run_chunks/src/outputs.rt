@@ -1,8 +1,8 @@
-//! The records of a job's output files.
+//! A job's output files, cut record by record into the texts of its chunks.
 
-ghost use Rattle.std.specs.Prelude.{◌≡◌, ◌≤◌, ◌<◌, ◌++◌, ◌-◌, ◌^◌, ◌&&◌, min, map, length, codes, bytes_eq, unsigned_abs, IsTrue, IfOk};
-ghost use Rattle.std.specs.List.{flat_map, list_all};
+ghost use Rattle.std.specs.Prelude.{◌≡◌, ◌≤◌, ◌<◌, ◌++◌, ◌-◌, ◌^◌, ◌&&◌, [], min, length, codes, bytes_eq, unsigned_abs, IsTrue, IfOk, OnOk};
 ghost use Rattle.cx_text.specs.Telling.{Tells};
+ghost use Rattle.cx_cut.specs.Cuts.{part_count};
 ghost use Rattle.cx_disk.specs.Files.{count_with, output_limit};
 ghost use Rattle.cx_disk.specs.Keeps.{Keeps};
 ghost use Rattle.cx_disk.specs.Moments.{IsQuiet};
@@ -12,16 +12,20 @@ ghost use Rattle.cx_plan.specs.Lookups.{variable};
 ghost use Rattle.cx_plan.specs.Setups.{setup_of};
 ghost use Rattle.cx_plan.specs.Whole.{IsWhole};
 ghost use Rattle.cx_ascii_read.specs.Printed.{sizes_of};
+ghost use Rattle.cx_ascii_read.specs.Reading.{Gives};
 ghost use Rattle.cx_chunks.specs.declared.fault.ChunkFault.TheVariants as chunk;
-ghost use Rattle.cx_chunks.specs.Cutting.{sizes_in};
-ghost use Rattle.cx_run_chunks.specs.Commands.{fault_unless, first_by_place, if_output, is_output_of, is_record_of, is_rising, not_output, output_in, output_records, outputs_fault, records_at};
+ghost use Rattle.cx_chunks.specs.Cutting.{chunk_texts, sizes_in, AddsVariable};
+ghost use Rattle.cx_chunks.specs.Laws.{IsCutOf};
+ghost use Rattle.cx_run_chunks.specs.Commands.{fault_unless, first_by_place, not_output, output_in, output_records, outputs_fault, records_at};
 ghost use Rattle.cx_run_chunks.specs.Entries.{found, records_of};
 ghost use Rattle.cx_run_chunks.specs.Faults.{Finds};
+ghost use Rattle.cx_run_chunks.specs.Next.{is_above, is_next, next_record, total_of};
 
 use crate::fault::ChunksFault;
 use crate::files::check_length;
-use cx_ascii_read::{Record, read_output};
-use cx_chunks::ChunkFault;
+use cx_ascii_read::{Entry, Record, Stop};
+use cx_chunks::{ChunkFault, empty_texts, push_record};
+use cx_cut::Cut;
 use cx_disk::{Disk, named_output, read_whole};
 use cx_grid::{Point, Shape};
 use cx_plan::{Job, VarId, VarInfo};
@@ -92,37 +96,73 @@ fn is_of(full: &Text, sizes: &[u32], entry: &Record) -> bool
     entry.full.as_slice() == full.as_slice() && entry.size.as_slice() == sizes
 }
 
-/// Whether each record has this name and these sizes.
-fn are_of(full: &Text, sizes: &[u32], records: &[Record]) -> bool
-    ensures { result
-        ≡ list_all (λ r. bytes_eq r.full full.now && bytes_eq r.size sizes.now) records.now }
+/// Whether an iteration is above the last one, if there was one.
+fn is_above(last: Option<u64>, iteration: u64) -> bool
+    ensures { result ≡ is_above last iteration }
 {
-    records.iter().all(|entry| is_of(full, sizes, entry))
-}
-
-/// Whether the iteration of each record is above that of the one before it.
-fn are_rising(records: &[Record]) -> bool
-    ensures { result ≡ is_rising (map (λ r. r.iteration) records.now) }
-{
-    let Some((first, others)) = records.split_first() else {
-        return true;
-    };
-    let mut last = first.iteration;
-    'records: for entry in others {
-        if entry.iteration <= last {
-            return false;
-        }
-        last = entry.iteration;
+    match last {
+        None => true,
+        Some(last) => last < iteration,
     }
-    true
 }
 
-/// Whether records are the output of a variable: each has its name and sizes, in rising iterations.
-fn is_output(alloc: Global, job: &Job, info: &VarInfo, records: &[Record]) -> Result<bool, Memory>
-    ensures { IfOk result (λ is. is ≡ is_output_of (setup_of job.now) info.now records.now) }
+/// Whether a record has this name and these sizes, and comes after the last iteration.
+fn is_next(full: &Text, sizes: &[u32], last: Option<u64>, entry: &Record) -> bool
+    ensures { result ≡ is_next full.now sizes.now last entry.now }
+{
+    is_of(full, sizes, entry) && is_above(last, entry.iteration)
+}
+
+/// The record in front, if it has this name and these sizes and comes after the last iteration, and what comes after it.
+#[tactic(auto, unfolding(crate::specs::Next::next_record))]
+fn next_record<'a>(
+    alloc: Global,
+    full: &Text,
+    sizes: &[u32],
+    last: Option<u64>,
+    bytes: &'a [u8],
+) -> Result<(Record, &'a [u8]), Stop>
+    ensures { Gives (λ x. (x.0, x.1.now)) result (next_record full.now sizes.now last bytes.now) }
+{
+    let (entry, rest) = Record::read(alloc, bytes)?;
+    if !is_next(full, sizes, last, &entry) {
+        return Err(Stop::Other);
+    }
+    Ok((entry, rest))
+}
+
+/// Adds the records of a variable's output file to the texts of the chunks, one after another, and gives how many they are. A
+/// count that 64 bits don't hold is the greatest number that they hold.
+fn cut_bytes(
+    alloc: Global,
+    job: &Job,
+    cut: &Cut,
+    info: &VarInfo,
+    bytes: &[u8],
+    texts: &mut List<Text>,
+) -> Result<u64, Stop>
+    requires cut { IsCutOf job.now cut.now }
+    requires texts { length texts.old ≡ part_count cut.now }
+    ensures told { Gives (λ _. found (records_of bytes.now)) result
+        (output_in (setup_of job.now) info.now bytes.now) }
+    ensures count { IfOk result
+        (λ count. count ≡ min (length (found (records_of bytes.now))) (2 ^ 64 - 1)) }
+    ensures texts { OnOk result
+        (AddsVariable cut.now (found (records_of bytes.now)) texts.old texts.new) }
+    ensures many { OnOk result (length texts.new ≡ part_count cut.now) }
 {
     let sizes = sizes_in(alloc, job, info)?;
-    Ok(are_of(&info.full, sizes.as_slice(), records) && are_rising(records))
+    let mut rest = bytes;
+    let mut last = None;
+    let mut count = 0_u64;
+    'records: while !rest.is_empty() {
+        let (entry, after) = next_record(alloc, &info.full, sizes.as_slice(), last, rest)?;
+        push_record(alloc, job, cut, &entry, texts)?;
+        last = Some(entry.iteration);
+        count = count.saturating_add(1);
+        rest = after;
+    }
+    Ok(count)
 }
 
 /// The fault of an output file that isn't the output of this variable.
@@ -134,137 +174,127 @@ fn other_file(alloc: Global, info: &VarInfo) -> Result<ChunkFault, Memory>
     Ok(ChunkFault::NotOutput(name))
 }
 
-/// Records, if they are the output of this variable.
-fn if_output(
+/// The same, or the fault of the file.
+fn cut_file(
     alloc: Global,
     job: &Job,
-    info: &VarInfo,
-    records: List<Record>,
-) -> Result<Option<List<Record>>, Memory>
-    ensures { IfOk result (λ found. found ≡ if_output (setup_of job.now) info.now records) }
-{
-    if is_output(alloc, job, info, records.as_slice())? {
-        Ok(Some(records))
-    } else {
-        Ok(None)
-    }
-}
-
-/// The records that the bytes of an output file are, if they are the output of this variable.
-fn records_in(
-    alloc: Global,
-    job: &Job,
+    cut: &Cut,
     info: &VarInfo,
     bytes: &[u8],
-) -> Result<Option<List<Record>>, Memory>
-    ensures { IfOk result (λ records. records ≡ output_in (setup_of job.now) info.now bytes.now) }
-{
-    let found = read_output(alloc, bytes)?;
-    match found {
-        Some(records) => if_output(alloc, job, info, records),
-        None => Ok(None),
-    }
-}
-
-/// The records that the bytes of an output file are, or its fault.
-fn output_in(
-    alloc: Global,
-    job: &Job,
-    info: &VarInfo,
-    bytes: &[u8],
-) -> Result<List<Record>, ChunkFault>
+    texts: &mut List<Text>,
+) -> Result<u64, ChunkFault>
+    requires cut { IsCutOf job.now cut.now }
+    requires texts { length texts.old ≡ part_count cut.now }
     ensures told { Tells chunk.Memory
         (fault_unless (chunk.NotOutput (info.now.full ++ codes ".asc"))
         (output_in (setup_of job.now) info.now bytes.now)) result }
-    ensures records { IfOk result (λ records. records ≡ found (records_of bytes.now)) }
+    ensures count { IfOk result
+        (λ count. count ≡ min (length (found (records_of bytes.now))) (2 ^ 64 - 1)) }
+    ensures texts { OnOk result
+        (AddsVariable cut.now (found (records_of bytes.now)) texts.old texts.new) }
+    ensures many { OnOk result (length texts.new ≡ part_count cut.now) }
 {
-    let found = records_in(alloc, job, info, bytes)?;
-    match found {
-        Some(records) => Ok(records),
-        None => Err(other_file(alloc, info)?),
+    match cut_bytes(alloc, job, cut, info, bytes, texts) {
+        Ok(count) => Ok(count),
+        Err(Stop::Other) => Err(other_file(alloc, info)?),
+        Err(Stop::Memory) => Err(ChunkFault::Memory),
     }
 }
 
-/// The records of the output file of a variable, by its place among the job's outputs, or its fault.
-fn read_one<D: Disk>(
+/// Adds the records of the output file of a variable, by its place among the job's outputs, and gives how many they are, or
+/// the file's fault.
+fn cut_one<D: Disk>(
     alloc: Global,
     disk: &mut D,
     job: &Job,
+    cut: &Cut,
     place: u32,
     v: VarId,
-) -> Result<List<Record>, ChunksFault>
+    texts: &mut List<Text>,
+) -> Result<u64, ChunksFault>
     requires mounted { IsTrue (D.mounted disk.old) }
     requires files { D.file_count disk.old ≡ count_with (output_count (setup_of job.now)) }
     requires few { output_count (setup_of job.now) ≤ output_limit }
     requires place { place < output_count (setup_of job.now) }
     requires variable { v.0 < length job.now.vars }
+    requires cut { IsCutOf job.now cut.now }
+    requires texts { length texts.old ≡ part_count cut.now }
     ensures told { D.tells →
         Finds (not_output (setup_of job.now) (D.view disk.old).seen place v) result }
-    ensures records { D.tells → IfOk result
-        (λ records. records ≡ records_at (D.view disk.old).seen place) }
+    ensures count { D.tells → IfOk result (λ count. count
+        ≡ min (length (records_at (D.view disk.old).seen place)) (2 ^ 64 - 1)) }
+    ensures texts { D.tells → OnOk result
+        (AddsVariable cut.now (records_at (D.view disk.old).seen place) texts.old texts.new) }
+    ensures many { OnOk result (length texts.new ≡ part_count cut.now) }
     ensures quiet { D.tells → IsQuiet (D.view disk.old) (D.view disk.new) }
     ensures kept { Keeps D.Disk ChunksFault.Disk disk.old disk.new result }
 {
     let bytes = read_whole(alloc, disk, named_output(place))?;
-    Ok(output_in(alloc, job, info_of(job, v), bytes.as_slice())?)
+    Ok(cut_file(alloc, job, cut, info_of(job, v), bytes.as_slice(), texts)?)
 }
 
-/// The records of each output file, or the first fault of the files.
-fn read_each<D: Disk>(
+/// Adds the records of each output file to the texts of the chunks, and gives how many they are together, or the first fault
+/// of the files.
+fn cut_each<D: Disk>(
     alloc: Global,
     disk: &mut D,
     job: &Job,
-) -> Result<List<List<Record>>, ChunksFault>
+    cut: &Cut,
+    texts: &mut List<Text>,
+) -> Result<u64, ChunksFault>
     requires mounted { IsTrue (D.mounted disk.old) }
     requires files { D.file_count disk.old ≡ count_with (output_count (setup_of job.now)) }
     requires whole { IsWhole job.now }
     requires few { output_count (setup_of job.now) ≤ output_limit }
+    requires cut { IsCutOf job.now cut.now }
+    requires texts { texts.old ≡ chunk_texts cut.now [] }
     ensures told { D.tells → Finds (first_by_place
         (not_output (setup_of job.now) (D.view disk.old).seen) 0 job.now.out_vars) result }
-    ensures records { D.tells → IfOk result
-        (λ records. records ≡ output_records (setup_of job.now) (D.view disk.old).seen) }
+    ensures count { D.tells → IfOk result (λ count. count
+        ≡ total_of (output_records (setup_of job.now) (D.view disk.old).seen)) }
+    ensures texts { D.tells → OnOk result
+        (texts.new ≡ chunk_texts cut.now (output_records (setup_of job.now) (D.view disk.old).seen)) }
+    ensures many { OnOk result (length texts.new ≡ part_count cut.now) }
     ensures quiet { D.tells → IsQuiet (D.view disk.old) (D.view disk.new) }
     ensures kept { Keeps D.Disk ChunksFault.Disk disk.old disk.new result }
 {
-    let mut outputs = List::empty(alloc);
+    let mut records = 0_u64;
     let mut place = 0;
     'outputs: for v in job.out_vars.as_slice() {
-        let records = read_one(alloc, disk, job, place, *v)?;
-        outputs.push(records)?;
+        let count = cut_one(alloc, disk, job, cut, place, *v, texts)?;
+        records = records.saturating_add(count);
         place += 1;
     }
-    Ok(outputs)
+    Ok(records)
 }
 
-/// The records of each output file of a job, or the first fault of the files: they are too long together, or one isn't the
-/// output of its variable. No byte is read where they are too long.
-pub(crate) fn read_outputs<D: Disk>(
+/// The texts of a job's chunks, and how many records are in them, or the first fault of the output files: they are too long
+/// together, or one isn't the output of its variable. No byte is read where they are too long.
+///
+/// The bytes of one file and one of its records are held at a time, beside the texts.
+pub(crate) fn cut_outputs<D: Disk>(
     alloc: Global,
     disk: &mut D,
     job: &Job,
-) -> Result<List<List<Record>>, ChunksFault>
+    cut: &Cut,
+) -> Result<(u64, List<Text>), ChunksFault>
     requires mounted { IsTrue (D.mounted disk.old) }
     requires files { D.file_count disk.old ≡ count_with (output_count (setup_of job.now)) }
     requires whole { IsWhole job.now }
+    requires cut { IsCutOf job.now cut.now }
     ensures told { D.tells →
         Finds (outputs_fault (setup_of job.now) (D.view disk.old).seen) result }
-    ensures records { D.tells → IfOk result
-        (λ records. records ≡ output_records (setup_of job.now) (D.view disk.old).seen) }
+    ensures count { D.tells → IfOk result (λ x. x.0
+        ≡ total_of (output_records (setup_of job.now) (D.view disk.old).seen)) }
+    ensures texts { D.tells → IfOk result (λ x. x.1
+        ≡ chunk_texts cut.now (output_records (setup_of job.now) (D.view disk.old).seen)) }
+    ensures many { IfOk result (λ x. length x.1 ≡ part_count cut.now) }
     ensures quiet { D.tells → IsQuiet (D.view disk.old) (D.view disk.new) }
     ensures kept { Keeps D.Disk ChunksFault.Disk disk.old disk.new result }
 {
     let count = count_outputs(job);
     check_length(disk, named_output(0), count)?;
-    read_each(alloc, disk, job)
-}
-
-/// How many records there are of all outputs.
-pub(crate) fn record_count(outputs: &[List<Record>]) -> u64
-    ensures { result ≡ min (length (flat_map (λ rs. rs) outputs.now)) (2 ^ 64 - 1) }
-{
-    let mut count = 0_u64;
-    'outputs: for records in outputs {
-        count = count.saturating_add(records.len() as u64);
-    }
-    count
+    let mut texts = empty_texts(alloc, cut)?;
+    let records = cut_each(alloc, disk, job, cut, &mut texts)?;
+    Ok((records, texts))
 }
