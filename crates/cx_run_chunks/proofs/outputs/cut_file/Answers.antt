@@ -10,5 +10,6 @@ returns-in-Ok-clause-told c =
 
 pub returns-in_ok-other_file-in-Err-Other-clause-told : goal.returns-in_ok-other_file-in-Err-Other-clause-told
 returns-in_ok-other_file-in-Err-Other-clause-told c =
-    inr (ap (fault_unless (NotOutput (c.args.info.now.full ++ codes ".asc")))
-    c.in-Err.ensures.told ∙ ap (λ f. Some f) (sym c.in_ok-other_file-in-Err-Other.ensures))
+    let none = rw c.in-Err-Other.field-0-is at c.in-Err-Other.ensures.told in
+    inr (ap (fault_unless (NotOutput (c.args.info.now.full ++ codes ".asc"))) none
+    ∙ ap (λ f. Some f) (sym c.in_ok-other_file-in-Err-Other.ensures))
