@@ -4,7 +4,11 @@ pub mod Faults
 pub mod Numbers
 pub mod Going
 pub mod Laws
+pub mod Recuts
+pub mod Segments
+pub mod Sums
 pub mod Turning
 pub mod Advances
 pub mod UnderWay
+pub mod Waiting
 pub mod Within

@@ -1,0 +1,102 @@
+-- A run whose core is begun anew at each checkpoint: what is known from one core to the next, and at
+-- the end.
+use Rattle.std.specs.Prelude.{ℕ, ◌+◌, ◌%◌, ◌^◌, ◌<◌, ◌≡◌, ◌≢◌, true, List, [], length, Option}
+use Rattle.cx_plan.specs.declared.job.Cuts.{Cuts}
+use Rattle.cx_plan.specs.declared.variable.VarId.{VarId}
+use Rattle.cx_plan.specs.Lookups.{is_scalar, levels_of}
+use Rattle.cx_plan.specs.Setups.{Setup, setup_of}
+use Rattle.cx_outputs.specs.Names.{output_count}
+use Rattle.cx_rule.specs.Meter.{raised}
+use Rattle.cx_rule.specs.States.{State, scalar_of}
+use Rattle.cx_model.specs.Traces.{Entry, Goes}
+use Rattle.cx_cut.specs.Cuts.{Parts}
+use Rattle.cx_cut.specs.Faults.{parts_of}
+use Rattle.cx_disk.specs.Disk.{Files, View, LeavesOnly}
+use Rattle.cx_wire.specs.Received.{counted}
+use Rattle.cx_chk.specs.declared.checkpoint.Checkpoint.{Checkpoint}
+use Rattle.cx_keep.specs.Trails.{Counts as AreCounted, OutputsSettled}
+use Rattle.law_course.specs.Works.{KeptRun, works_by}
+use Rattle.cx_core.specs.declared.answers.Outcome.TheVariants.{Going, Done}
+use Rattle.cx_core.specs.Hands.{HasScalar, ended_as, last_number}
+use Rattle.cx_core.specs.Starts.{AreEmpty}
+use Rattle.cx_core.specs.Steps.{Counts}
+use Rattle.cx_run_loop.specs.Going.{Setting, Place, IsDriven, IsImageOf, kept_in, trace_in}
+use Rattle.cx_run_loop.specs.Sums.{carried_in, sum_in, work_in}
+
+-- ---- from one core to the next
+
+-- where a core begins: its cut, what it goes on from, what was counted by then, and the disk
+pub record Start : Type 1 where
+  pub cut : Cuts
+  pub found : Option Checkpoint
+  pub counts : Counts
+  pub view : View
+
+abbrev pub parts_at : Setting → Start → Parts
+parts_at s a = parts_of s.job.shape a.cut
+
+abbrev pub entries_at : Setting → Start → List Entry
+entries_at s a = (trace_in s a.found).entries
+
+-- what was counted from one to the other, and what is still to count, is what there was to count
+pub record CountsSplit (s : Setting) (again : State → Parts) (was is : Start) : Type 0 where
+  pub points : (n : ℕ) × (is.counts.points ≡ raised was.counts.points n)
+      × (work_in (setup_of s.job) again (parts_at s was) (entries_at s was)
+      ≡ n + work_in (setup_of s.job) again (parts_at s is) (entries_at s is))
+  pub values : (n : ℕ) × (is.counts.values ≡ counted was.counts.values n)
+      × (carried_in (setup_of s.job) again (parts_at s was) (entries_at s was)
+      ≡ n + carried_in (setup_of s.job) again (parts_at s is) (entries_at s is))
+  pub sum : (n : ℕ) × (is.counts.sum ≡ (was.counts.sum + n) % 2 ^ 64)
+      × (sum_in (setup_of s.job) again (parts_at s was) (entries_at s was)
+      ≡ n + sum_in (setup_of s.job) again (parts_at s is) (entries_at s is))
+
+-- What the disk has of the later run it has of the earlier one, too: at each moment, and once all is
+-- done.
+pub record GoesOver (r q : KeptRun) (old new : View) : Type 0 where
+  pub driven : IsDriven q [] new
+  pub moments : LeavesOnly old new (IsImageOf r)
+  pub images : (image : Files) → IsImageOf q image → IsImageOf r image
+  pub whole : (v : View) → IsDriven q (works_by q) v → IsDriven r (works_by r) v
+
+-- From where one core began to where another one begins, which ends as the run would have.
+pub record SegmentTo (s : Setting) (again : State → Parts) (was is : Start) : Type 0 where
+  pub outcome : s.wire → (trace_in s is.found).outcome ≡ (trace_in s was.found).outcome
+  pub counts : s.wire → (last : State) → (trace_in s was.found).outcome ≡ Goes last
+      → CountsSplit s again was is
+  pub goes_over : s.disk → s.wire → IsDriven (kept_in s was.found) [] was.view
+      → GoesOver (kept_in s was.found) (kept_in s is.found) was.view is.view
+
+-- ---- the end
+
+-- what was counted is what the run counts from its start on
+pub record HasTotalsBy (s : Setting) (again : State → Parts) (a : Start) (now : Counts)
+    : Type 0 where
+  pub points : now.points
+      ≡ raised a.counts.points (work_in (setup_of s.job) again (parts_at s a) (entries_at s a))
+  pub values : now.values
+      ≡ counted a.counts.values
+      (carried_in (setup_of s.job) again (parts_at s a) (entries_at s a))
+  pub sum : now.sum
+      ≡ (a.counts.sum + sum_in (setup_of s.job) again (parts_at s a) (entries_at s a)) % 2 ^ 64
+
+-- a run that is done, whichever cores did it
+pub record IsDoneBy (s : Setting) (again : State → Parts) (a : Start) (p : Place s) : Type 0 where
+  pub totals : HasTotalsBy s again a p.is.now
+  pub none_left : AreEmpty p.is.queue
+  pub last : (state : State) (v : VarId) → (trace_in s a.found).outcome ≡ Goes state
+      → is_scalar (setup_of s.job) v ≡ true → last_number p.is.core v ≡ scalar_of state v
+
+-- A run from a start that is over, with its outputs settled. Nothing of it names the core that did
+-- it.
+pub record RunsBy (s : Setting) (again : State → Parts) (a : Start) (p : Place s) : Type 0 where
+  pub over : p.is.core.outcome ≢ Going
+  pub ended : s.wire → p.is.core.outcome ≡ ended_as (trace_in s a.found).outcome
+  pub done : s.wire → p.is.core.outcome ≡ Done → IsDoneBy s again a p
+  pub driven : s.disk → s.wire → IsDriven (kept_in s a.found) [] a.view
+      → IsDriven (kept_in s a.found) (works_by (kept_in s a.found)) p.view
+  pub settled : s.disk → OutputsSettled (output_count (setup_of s.job)) p.view
+  pub counts : s.disk → AreCounted p.is.core.lengths p.view
+  pub lengths : length p.is.core.lengths ≡ output_count (setup_of s.job)
+  pub scalars : (v : VarId) → v.0 < length (setup_of s.job).vars
+      → 0 < levels_of (setup_of s.job) v → is_scalar (setup_of s.job) v ≡ true
+      → HasScalar p.is.core v
