@@ -14,13 +14,12 @@ use Rattle.cx_plan.specs.Setups.{setup_of}
 use Rattle.cx_rule.specs.Routine.{Rule}
 use Rattle.cx_core.specs.declared.answers.Event.{Event}
 use Rattle.cx_core.specs.declared.answers.Outcome.TheVariants.{Going}
-use Rattle.cx_core.specs.Cores.{enabled_in}
 use Rattle.cx_core.specs.Left.{steps_left}
 use Rattle.cx_core.specs.Steps.{counts}
 use Rattle.cx_run_loop.specs.Advances.{Advances, AnswersBy, CanAdvance, Keeps, RunState, came_of, place_of, turning_of}
 use Rattle.cx_run_loop.specs.Going.{Place, EventMoments, IsGoing, IsKept, KeepsEvent, LeavesImages, MovesOn, setting}
 use Rattle.cx_run_loop.specs.Laws.{DriveLaws}
-use Rattle.cx_run_loop.specs.Turning.{IsTurn, StepsBy, Turning, TurnsLead, TurnsStop}
+use Rattle.cx_run_loop.specs.Turning.{IsTurn, Picks, StepsBy, Turning, TurnsLead, TurnsStop}
 use Rattle.cx_run_loop.specs.Within.{StaysWithin}
 use Rattle.cx_run_loop.specs.declared.turn.Advance.{Advance}
 use Rattle.cx_run_loop.specs.declared.turn.Advance.TheVariants.{More, Saved}
@@ -300,7 +299,7 @@ module _ {D W : Type 0} (d : DiskGhosts D) (w : WireGhosts W) (job : Job) (rules
           }
 
       -- a fault stops the turn that follows
-      pub gone_stop : (k : ℕ) → t.picks between (enabled_in mid.run.core) k turns_after
+      pub gone_stop : (k : ℕ) → Picks t job.balance mid.run.core between k turns_after
           → TurnsStop t (IsTrue w.tells) job rules (turning_of w was turns) turns_after
       gone_stop k picked = record {
         last = turning_of w mid between;

@@ -5,8 +5,10 @@ pub mod Elements
 pub mod FoundLaws
 pub mod FromLaws
 pub mod NumberLaws
+pub mod PickLaws
 pub mod StartLaws
 pub mod StopLaws
+pub mod SumLaws
 pub mod Works
 pub mod TurnLaws
 pub mod WholeLaws

@@ -1,5 +1,7 @@
 -- Which event is done: the one that the source of turns picks.
-use Rattle.std.specs.Prelude.{ℕ, ◌≡◌, ◌⊎◌, List, [], ◌∷◌, Option, Ok}
+use Rattle.std.specs.Prelude.{ℕ, ◌≡◌, ◌⊎◌, Bool, true, false, not, List, [], ◌∷◌, length, filter, Option, Some, Ok, slice_get}
+use Rattle.std.specs.List.{range_with_len}
+use Rattle.cx_plan.specs.declared.job.Cuts.{Cuts}
 use Rattle.cx_plan.specs.declared.job.Job.{Job}
 use Rattle.cx_plan.specs.Setups.{setup_of}
 use Rattle.cx_rule.specs.Routine.{Rule}
@@ -9,12 +11,13 @@ use Rattle.cx_keep.specs.Tests.{begun}
 use Rattle.law_parts.specs.Beginnings.{Beginning, IsBeginning, run_of}
 use Rattle.law_parts.specs.Totals.{undivided_from}
 use Rattle.cx_core.specs.declared.answers.Event.{Event}
-use Rattle.cx_core.specs.Cores.{Cores, enabled_in}
+use Rattle.cx_core.specs.Cores.{Cores, ahead_in, enabled_in}
 use Rattle.cx_core.specs.Hands.{StepsTo}
 use Rattle.cx_core.specs.Starts.{begins_in}
 use Rattle.cx_core.specs.Steps.{Begins, Counts, IsAt, Standing, stands_at}
 use Rattle.cx_run_loop.specs.Drives.{Drive, counts_old}
 use Rattle.cx_run_loop.specs.Lent.{Wired}
+use Rattle.cx_run_loop.specs.Recuts.{first_cut, next_cut, with_cut}
 
 -- where a run is, and its source of turns
 pub record Turning (tells T : Type 0) : Type 0 where
@@ -28,12 +31,27 @@ turning core wire meter turns = record {
   turns = turns;
 }
 
--- One turn: of all events that can happen the source picks the k-th, and that one is done, whatever
--- the run began from.
+-- ---- one turn
+
+-- the numbers of the events that can happen and don't lie ahead
+abbrev pub waiting : Cores → List ℕ
+waiting core = filter (λ k. not (ahead_in core k)) (range_with_len 0 (enabled_in core))
+
+-- The source picks the k-th event: of all that can happen, or, where parts wait for each other at
+-- checkpoints, of those that don't lie ahead.
+abbrev pub Picks : {T : Type 0} → TurnsGhosts T → (waits : Bool) → Cores → (turns : T) → (k : ℕ)
+    → (turns_after : T) → Type 0
+Picks t false core turns k turns_after = t.picks turns (enabled_in core) k turns_after
+Picks t true core turns k turns_after =
+    (i : ℕ) × t.picks turns (length (waiting core)) i turns_after
+    × (slice_get (waiting core) i ≡ Some k)
+
+-- One turn: the source picks the k-th event, and that one is done, whatever the run began from.
+-- Parts of a balanced job wait.
 pub record IsTurn {T : Type 0} (t : TurnsGhosts T) (tells : Type 0) (job : Job) (rules : List Rule)
     (was is : Turning tells T) (event : Event) : Type 0 where
   pub k : ℕ
-  pub picked : t.picks was.turns (enabled_in was.is.core) k is.turns
+  pub picked : Picks t job.balance was.is.core was.turns k is.turns
   pub does : (b : Beginning) → IsBeginning (setup_of job) b → (first : Counts)
       (at : IsAt tells (run_of job rules b) first was.is.core was.is.queue was.is.now)
       → StepsTo tells (run_of job rules b) (undivided_from (setup_of job) rules b) first k was.is
@@ -61,7 +79,7 @@ pub record TurnsStop {T : Type 0} (t : TurnsGhosts T) (tells : Type 0) (job : Jo
   pub last : Turning tells T
   pub lead : TurnsLead t tells job rules was last
   pub stop : (turns_after ≡ last.turns)
-      ⊎ ((k : ℕ) × t.picks last.turns (enabled_in last.is.core) k turns_after)
+      ⊎ ((k : ℕ) × Picks t job.balance last.is.core last.turns k turns_after)
 
 -- ---- a run, and its source of turns before and after it
 

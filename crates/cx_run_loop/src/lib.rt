@@ -6,6 +6,7 @@ mod event;
 mod fault;
 mod laws;
 mod numbers;
+mod picking;
 mod steps;
 mod turn;
 mod turns;

@@ -5,20 +5,20 @@ ghost use Rattle.cx_cut.specs.Faults.{parts_of};
 ghost use Rattle.cx_plan.specs.Setups.{setup_of};
 ghost use Rattle.cx_outputs.specs.Names.{HasShortNames};
 ghost use Rattle.cx_rule.specs.Jobs.{FitJob};
-ghost use Rattle.cx_core.specs.Cores.{enabled_in};
 ghost use Rattle.cx_core.specs.Starts.{IsReady};
 ghost use Rattle.cx_core.specs.Steps.{IsRunning, counts, stands_at};
 ghost use Rattle.cx_core.specs.declared.answers.Outcome.TheVariants as outcomes;
 ghost use Rattle.cx_run_loop.specs.Advances.{Advances, CanAdvance, Keeps, came_of, run_state};
 ghost use Rattle.cx_run_loop.specs.Faults.{Stops};
 ghost use Rattle.cx_run_loop.specs.Lent.{wired};
-ghost use Rattle.cx_run_loop.specs.Turning.{IsTurn, turning};
+ghost use Rattle.cx_run_loop.specs.Turning.{IsTurn, Picks, turning};
 ghost use Rattle.cx_run_loop.specs.UnderWay.{runs};
 ghost use Rattle.cx_run_loop.specs.Within.{StepsWithin};
 
 use crate::event::keep_event;
 use crate::fault::DriveFault;
 use crate::laws::drive_laws;
+use crate::picking::pick;
 use cx_core::{Core, Event, core_stands};
 use cx_disk::Disk;
 use cx_keep::Keep;
@@ -65,7 +65,7 @@ pub(crate) fn turn<D: Disk, W: Wire, T: Turns>(
     ensures keeps { Keeps D.Disk W.Wire job.now (map rule routines.now)
         (run_state (runs keep.old core.old) disk.old wire.old meter.old)
         disk.new wire.new meter.new }
-    ensures picked { (k : ℕ) × T.picks turns.old (enabled_in core.old) k turns.new }
+    ensures picked { (k : ℕ) × Picks T.Turns job.now.balance core.old turns.old k turns.new }
     ensures begun { T.begun turns.new ≡ T.begun turns.old }
     ensures stops { Stops
         (record { old = D.faults disk.old; new = D.faults disk.new })
@@ -115,13 +115,13 @@ fn step<W: Wire, T: Turns>(
         (stands_at core.old
         (W.queue wire.old) meter.old (W.received wire.old) (W.sum wire.old))
         (counts meter.new (W.received wire.new) (W.sum wire.new)) }
-    ensures picked { (k : ℕ) × T.picks turns.old (enabled_in core.old) k turns.new }
+    ensures picked { (k : ℕ) × Picks T.Turns job.now.balance core.old turns.old k turns.new }
     ensures begun { T.begun turns.new ≡ T.begun turns.old }
     ensures stops { (n : ℕ) → Stops (record { old = n; new = n })
         (record { old = W.faults wire.old; new = W.faults wire.new }) result }
 {
     core_stands(job);
     drive_laws(job);
-    let k = turns.pick(core.enabled());
+    let k = pick(job, core, turns);
     Ok(core.step(alloc, k, job, routines, wire, meter)?)
 }
