@@ -15,3 +15,11 @@ pub mod WholeLaws
 pub mod UnderWayLaws
 pub mod WithinLaws
 pub mod StepLaws
+pub mod ContinueLaws
+pub mod GatherCounts
+pub mod OneList
+pub mod SegmentLaws
+pub mod WaitCounts
+pub mod WaitLaws
+pub mod TurnWaits
+pub mod WaitMore

@@ -155,3 +155,33 @@ some_from test from (suc count) k low high passes =
 pub some_passes : (test : ℕ → Bool) (n k : ℕ) → k < n → test k ≡ true
     → 0 < length (passing test n)
 some_passes test n k l passes = some_from test 0 n k (omega arith) (omega (arith, l)) passes
+
+-- ---- each of them passes
+
+passes_from : (test : ℕ → Bool) (from count i k : ℕ)
+    → slice_get (filter test (range_with_len from count)) i ≡ Some k → test k ≡ true
+passes_from test from zero i k there = absurd cc
+passes_from test from (suc count) i k there =
+    go (λ j. passes_from test (from + 1) count j k) (test from) refl i there
+  where
+    some_is : (a b : ℕ) → Some a ≡ Some b → a ≡ b
+    some_is a b e = cc
+
+    go : ((j : ℕ) → slice_get (filter test (range_with_len (from + 1) count)) j ≡ Some k
+        → test k ≡ true)
+        → (b : Bool) → test from ≡ b → (i : ℕ)
+        → slice_get (filter test (range_with_len from (suc count))) i ≡ Some k → test k ≡ true
+    go more true is zero there =
+        let first : Some from ≡ Some k =
+        sym (ap (λ (ks : List ℕ). slice_get ks 0) (first_passes test from count is)) ∙ there in
+        subst (λ (j : ℕ). test j ≡ true) (some_is from k first) is
+    go more true is (suc i) there =
+        more i
+        (sym (ap (λ (ks : List ℕ). slice_get ks (suc i)) (first_passes test from count is)) ∙ there)
+    go more false is i there =
+        more i
+        (sym (ap (λ (ks : List ℕ). slice_get ks i) (first_fails test from count is)) ∙ there)
+
+pub passes_there : (test : ℕ → Bool) (n i k : ℕ) → slice_get (passing test n) i ≡ Some k
+    → test k ≡ true
+passes_there test n i k there = passes_from test 0 n i k there

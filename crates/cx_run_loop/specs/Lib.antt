@@ -9,6 +9,8 @@ pub mod Segments
 pub mod Sums
 pub mod Turning
 pub mod Advances
+pub mod Cores
+pub mod CoresWait
 pub mod UnderWay
 pub mod Waiting
 pub mod Within

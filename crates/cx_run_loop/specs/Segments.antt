@@ -1,5 +1,5 @@
--- A run whose core is begun anew at each checkpoint: what is known from one core to the next, and at
--- the end.
+-- A run whose core is begun anew at each checkpoint: what is known from one core to the next, and
+-- at the end.
 use Rattle.std.specs.Prelude.{ℕ, ◌+◌, ◌%◌, ◌^◌, ◌<◌, ◌≡◌, ◌≢◌, true, List, [], length, Option}
 use Rattle.cx_plan.specs.declared.job.Cuts.{Cuts}
 use Rattle.cx_plan.specs.declared.variable.VarId.{VarId}
@@ -50,8 +50,8 @@ pub record CountsSplit (s : Setting) (again : State → Parts) (was is : Start) 
       × (sum_in (setup_of s.job) again (parts_at s was) (entries_at s was)
       ≡ n + sum_in (setup_of s.job) again (parts_at s is) (entries_at s is))
 
--- What the disk has of the later run it has of the earlier one, too: at each moment, and once all is
--- done.
+-- What the disk has of the later run it has of the earlier one, too: at each moment, and once all
+-- is done.
 pub record GoesOver (r q : KeptRun) (old new : View) : Type 0 where
   pub driven : IsDriven q [] new
   pub moments : LeavesOnly old new (IsImageOf r)

@@ -1,10 +1,13 @@
 -- What a run in parts counts that is cut anew at each checkpoint.
-use Rattle.std.specs.Prelude.{ℕ, ◌+◌, ◌≡◌, List, [], ◌∷◌, ◌++◌}
+use Rattle.std.specs.Prelude.{ℕ, ◌+◌, ◌≡◌, ◌≤◌, List, [], ◌∷◌, ◌++◌}
 use Rattle.cx_plan.specs.Setups.{Setup}
+use Rattle.cx_rule.specs.Meter.{raised}
 use Rattle.cx_rule.specs.States.{State}
 use Rattle.cx_cut.specs.Cuts.{Parts}
 use Rattle.cx_model.specs.Traces.{Entry, Turned, Overflowed, Exchanged, Tested, Rotated, Wrote, Saved}
+use Rattle.cx_wire.specs.Received.{counted}
 use Rattle.law_parts.specs.Work.{entry_work, entry_count, entry_sum, work, carried_count, total_sum}
+use Rattle.cx_core.specs.Steps.{Counts}
 
 -- the cut after an entry: the state at a checkpoint place chooses it
 abbrev pub cut_after : (State → Parts) → Parts → Entry → Parts
@@ -32,6 +35,12 @@ carried_in setup again cut es = counted_in (entry_count setup) again cut es
 abbrev pub sum_in : Setup → (State → Parts) → Parts → List Entry → ℕ
 sum_in setup again cut es = counted_in (entry_sum setup) again cut es
 
+-- no more points and values were counted than these entries count
+pub record CountsBelow (setup : Setup) (again : State → Parts) (cut : Parts) (es : List Entry)
+    (first now : Counts) : Type 0 where
+  pub points : now.points ≤ raised first.points (work_in setup again cut es)
+  pub values : now.values ≤ counted first.values (carried_in setup again cut es)
+
 -- ---- the law
 
 -- no checkpoint place is among them
@@ -43,8 +52,8 @@ abbrev pub AreUnsaved : List Entry → Type 0
 AreUnsaved [] = Unit {0}
 AreUnsaved (e ∷ es) = IsUnsaved e × AreUnsaved es
 
--- What all entries count is what those up to a checkpoint place count by one cut, and those after it
--- from the next cut on.
+-- What all entries count is what those up to a checkpoint place count by one cut, and those after
+-- it from the next cut on.
 abbrev pub Adds : (Setup → (State → Parts) → Parts → List Entry → ℕ)
     → (Setup → Parts → List Entry → ℕ) → Setup → Type 0
 Adds all one setup =

@@ -21,7 +21,7 @@ use Rattle.cx_core.specs.Gathered.{saves}
 use Rattle.cx_core.specs.Starts.{AreEmpty}
 use Rattle.cx_core.specs.Steps.{Counts}
 use Rattle.cx_run_loop.specs.Going.{Setting, Place, IsDriving, Moves, handed, run_in, trace_in}
-use Rattle.cx_run_loop.specs.Sums.{AreUnsaved, carried_in, work_in}
+use Rattle.cx_run_loop.specs.Sums.{AreUnsaved, CountsBelow}
 use Rattle.cx_run_loop.specs.declared.turn.Advance.{Advance}
 use Rattle.cx_run_loop.specs.declared.turn.Advance.TheVariants.{Saved}
 
@@ -42,10 +42,11 @@ pub record IsWaiting (s : Setting) (found : Option Checkpoint) (first : Counts) 
 
 -- ---- at a checkpoint
 
--- a core holds the checkpoint that came last: a whole state, and a length for each output
+-- a core holds the checkpoint that came last: a whole state, and the outputs' lengths as they are
 pub record HoldsCheckpoint (setup : Setup) (core : Cores) : Type 0 where
   pub state : HoldsState setup core.buffers.state
-  pub lengths : length core.buffers.state.lengths ≡ output_count setup
+  pub lengths : core.buffers.state.lengths ≡ core.lengths
+  pub count : length core.lengths ≡ output_count setup
 
 -- The run is what it has done up to this checkpoint, which is the first one, and the run that goes
 -- on from there.
@@ -69,8 +70,8 @@ pub record HasCounted (setup : Setup) (cut : Parts) (es : List Entry) (first now
   pub values : now.values ≡ counted first.values (carried_count setup cut es)
   pub sum : now.sum ≡ (first.sum + total_sum setup cut es) % 2 ^ 64
 
--- A checkpoint was just saved: no message is left. Where the wire tells, the run has come to it, and
--- what was counted is what it has done.
+-- A checkpoint was just saved: no message is left. Where the wire tells, the run has come to it,
+-- and what was counted is what it has done.
 pub record HasGathered (s : Setting) (found : Option Checkpoint) (first : Counts) (p : Place s)
     (x : IsDriving s found first p) : Type 0 where
   pub none_left : AreEmpty p.is.queue
@@ -94,11 +95,6 @@ WaitsOn s was is came =
     (found : Option Checkpoint) (first : Counts) (x : IsDriving s found first was)
     → Waits s found first was is x came
 
--- no more points and values were counted than so many
-pub record CountsBelow (first now : Counts) (points values : ℕ) : Type 0 where
-  pub points_most : now.points ≤ raised first.points points
-  pub values_most : now.values ≤ counted first.values values
-
 -- of a run that comes to its end no more was counted than it counts in all, however it is cut anew
 -- at the checkpoints that are to come
 abbrev pub StaysBelow : (s : Setting) → Place s → Counts → Type 0
@@ -106,7 +102,5 @@ StaysBelow s was now =
     s.wire → (found : Option Checkpoint) (first : Counts) (x : IsDriving s found first was)
     → IsWaiting s found first was x → (last : State) → (trace_in s found).outcome ≡ Goes last
     → (again : State → Parts)
-    → CountsBelow first now
-    (work_in (setup_of s.job) again (parts_of s.job.shape s.job.cut) (trace_in s found).entries)
-    (carried_in (setup_of s.job) again (parts_of s.job.shape s.job.cut)
-    (trace_in s found).entries)
+    → CountsBelow (setup_of s.job) again (parts_of s.job.shape s.job.cut)
+    (trace_in s found).entries first now

@@ -7,6 +7,7 @@ mod fault;
 mod laws;
 mod numbers;
 mod picking;
+mod recutting;
 mod steps;
 mod turn;
 mod turns;

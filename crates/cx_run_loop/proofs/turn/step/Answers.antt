@@ -3,6 +3,7 @@ use Rattle.cx_core_part.proofs.MoveLaws.{is_run}
 use Rattle.law_parts.specs.Beginnings.{Afresh, run_of}
 use Rattle.cx_core.specs.Steps.{counts, stands_at}
 use Rattle.cx_run_loop.proofs.StartLaws.{some_before}
+use Rattle.cx_run_loop.proofs.WaitMore.{steps_below}
 use Rattle.cx_run_loop.proofs.WithinLaws.{steps_within}
 use Rattle.cx_run_loop.proofs.turn.step.Goals as goal
 
@@ -62,5 +63,25 @@ returns-clause-within g c =
     (c.drive_laws.ensures g.W.Wire.tells _).counts
     (stands_at c.args.core.now (g.W.Wire.queue c.args.wire.now) c.args.meter.now
     (g.W.Wire.received c.args.wire.now) (g.W.Wire.sum c.args.wire.now)) c.pick-k.result
+    (counts c.step.new.meter (g.W.Wire.received c.step.new.wire) (g.W.Wire.sum c.step.new.wire))
+    c.step.ensures.rises
+
+pub returns-in_err-step-clause-below : goal.returns-in_err-step-clause-below
+returns-in_err-step-clause-below g c = λ same.
+    steps_below (IsTrue g.W.Wire.tells) c.args.job.now _
+    (c.cores_wait.ensures g.W.Wire.tells _)
+    (stands_at c.args.core.now (g.W.Wire.queue c.args.wire.now) c.args.meter.now
+    (g.W.Wire.received c.args.wire.now) (g.W.Wire.sum c.args.wire.now)) c.pick-k.result
+    (c.pick-k.ensures.waits same)
+    (counts c.step.new.meter (g.W.Wire.received c.step.new.wire) (g.W.Wire.sum c.step.new.wire))
+    c.step.ensures.rises
+
+pub returns-clause-below : goal.returns-clause-below
+returns-clause-below g c = λ same.
+    steps_below (IsTrue g.W.Wire.tells) c.args.job.now _
+    (c.cores_wait.ensures g.W.Wire.tells _)
+    (stands_at c.args.core.now (g.W.Wire.queue c.args.wire.now) c.args.meter.now
+    (g.W.Wire.received c.args.wire.now) (g.W.Wire.sum c.args.wire.now)) c.pick-k.result
+    (c.pick-k.ensures.waits same)
     (counts c.step.new.meter (g.W.Wire.received c.step.new.wire) (g.W.Wire.sum c.step.new.wire))
     c.step.ensures.rises
