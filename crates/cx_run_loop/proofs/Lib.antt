@@ -23,3 +23,4 @@ pub mod WaitCounts
 pub mod WaitLaws
 pub mod TurnWaits
 pub mod WaitMore
+pub mod RecutLaws

@@ -1,7 +1,7 @@
 //! A run of a job, from its start or from a checkpoint to its end.
-ghost use Rattle.std.specs.Prelude.{◌≡◌, ◌≤◌, ◌<◌, ◌^◌, ◌⊎◌, ℕ, true, map, IsTrue, IfOk, IfSome, OnErr, OnOk, Some};
+ghost use Rattle.std.specs.Prelude.{◌≡◌, ◌≤◌, ◌<◌, ◌^◌, ◌⊎◌, ℕ, true, map, IsTrue, IfOk, IfSome, None, OnErr, OnOk, Some};
 ghost use Rattle.cx_cut.specs.Cuts.{part_count};
-ghost use Rattle.cx_cut.specs.Faults.{parts_of};
+ghost use Rattle.cx_cut.specs.Faults.{cut_fault, parts_of};
 ghost use Rattle.cx_disk.specs.Disk.{IsNamed};
 ghost use Rattle.cx_plan.specs.Setups.{setup_of};
 ghost use Rattle.cx_outputs.specs.Names.{HasShortNames, output_names};
@@ -58,6 +58,7 @@ pub fn drive<D: Disk, W: Wire, T: Turns>(
     requires ready { IsReady job.old }
     requires short { HasShortNames (setup_of job.old) }
     requires routines { FitJob (map spec_of routines.now) job.old }
+    requires cut { cut_fault (parts_of job.old.shape job.old.cut) ≡ None }
     requires parts { part_count (parts_of job.old.shape job.old.cut) ≤ W.parts wire.old }
     requires empty { AreEmpty (W.queue wire.old) }
     ensures job { job.new ≡ job.old }
@@ -100,6 +101,7 @@ fn run_to_end<D: Disk, W: Wire, T: Turns>(
     requires begun { HasBegunAt (setting D.Disk W.Wire job.old (map rule routines.now)) found
         run.keeper (place_at D.Disk W.Wire run.core disk.old wire.old meter.old) }
     requires going { run.core.outcome ≡ outcomes.Going }
+    requires cut { cut_fault (parts_of job.old.shape job.old.cut) ≡ None }
     requires holds { IfSome found (λ c. CanBegin (setup_of job.old) (Some c)) }
     requires empty { AreEmpty (W.queue wire.old) }
     ensures job { job.new ≡ job.old }
@@ -148,6 +150,7 @@ fn run_cores<D: Disk, W: Wire, T: Turns>(
     requires begun { HasBegunAt (setting D.Disk W.Wire job.old (map rule routines.now)) found
         run.keeper (place_at D.Disk W.Wire run.core disk.old wire.old meter.old) }
     requires going { run.core.outcome ≡ outcomes.Going }
+    requires cut { cut_fault (parts_of job.old.shape job.old.cut) ≡ None }
     requires holds { IfSome found (λ c. CanBegin (setup_of job.old) (Some c)) }
     requires empty { AreEmpty (W.queue wire.old) }
     ensures job { job.new ≡ with_cut job.old job.new.cut }
@@ -191,6 +194,7 @@ fn begin_cores(
     requires own { own.now ≡ job.old.cut }
     requires ready { IsReady job.old }
     requires routines { FitJob (map spec_of routines.now) job.old }
+    requires cut { cut_fault (parts_of job.old.shape job.old.cut) ≡ None }
     requires holds { IfSome found (λ c. CanBegin (setup_of job.old) (Some c)) }
     ensures job { job.new ≡ with_cut job.old job.new.cut }
     ensures cut { OnOk result

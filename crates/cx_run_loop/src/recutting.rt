@@ -1,7 +1,7 @@
 //! The cut that a run goes on with after a checkpoint.
-ghost use Rattle.std.specs.Prelude.{◌≡◌, ◌*◌, map, None, IfOk, OnOk};
+ghost use Rattle.std.specs.Prelude.{◌≡◌, ◌<◌, ◌*◌, nat_le, map, None, IfOk, OnOk};
 ghost use Rattle.std.specs.Int.{int_gap};
-ghost use Rattle.cx_cut.specs.Cuts.{IsWhole as IsWholeCut, part_count};
+ghost use Rattle.cx_cut.specs.Cuts.{IsWhole as IsWholeCut, local, part_count};
 ghost use Rattle.cx_cut.specs.Faults.{cut_fault, parts_of};
 ghost use Rattle.cx_grid.specs.Boxes.{point_count};
 ghost use Rattle.cx_plan.specs.Setups.{setup_of};
@@ -30,6 +30,7 @@ pub(crate) fn recut(
 ) -> Result<(), Memory>
     requires ready { IsReady (with_cut job.old own.now) }
     requires routines { FitJob (map spec_of routines.now) (with_cut job.old own.now) }
+    requires cut { cut_fault (parts_of job.old.shape own.now) ≡ None }
     requires state { HoldsState (setup_of job.old) c.now }
     ensures job { job.new ≡ with_cut job.old job.new.cut }
     ensures cut { OnOk result (job.new.cut
@@ -54,9 +55,17 @@ fn weighed(
     c: &Checkpoint,
 ) -> Result<Option<Cuts>, Memory>
     requires ready { IsReady job.now }
+    requires routines { FitJob (map spec_of routines.now) job.now }
+    requires cut { cut_fault (parts_of job.now.shape job.now.cut) ≡ None }
     requires state { HoldsState (setup_of job.now) c.now }
-    ensures { IfOk result (λ cut. cut_or cut job.now.cut
+    ensures cut { IfOk result (λ cut. cut_or cut job.now.cut
         ≡ next_cut (map spec_of routines.now) job.now c.now) }
+    ensures ready { IfOk result (λ cut. IsReady (with_cut job.now (cut_or cut job.now.cut))) }
+    ensures routines { IfOk result (λ cut. FitJob (map spec_of routines.now)
+        (with_cut job.now (cut_or cut job.now.cut))) }
+    ensures parts { IfOk result (λ cut.
+        part_count (parts_of job.now.shape (cut_or cut job.now.cut))
+        ≡ part_count (parts_of job.now.shape job.now.cut)) }
 {
     if !job.balance {
         return Ok(None);
@@ -114,11 +123,19 @@ fn has_small_parts(cut: &Cut, most: u64) -> bool
     ensures { result ≡ has_small_parts cut.now most }
 {
     'parts: for part in 0..cut.count() {
-        if most as u128 < points_of(&cut.local(part)) {
+        if !is_small(cut, part, most) {
             return false;
         }
     }
     true
+}
+
+/// Whether a part of a cut has no more points than so many.
+fn is_small(cut: &Cut, part: u32, most: u64) -> bool
+    requires { part < part_count cut.now }
+    ensures { result ≡ nat_le (point_count (local cut.now part)) most }
+{
+    points_of(&cut.local(part)) <= most as u128
 }
 
 /// How many points a box has.

@@ -1,5 +1,6 @@
 //! A run in steps: it begins, is moved on by so many events at a time, and is finished.
-ghost use Rattle.std.specs.Prelude.{◌≡◌, ◌<◌, ◌≤◌, ◌^◌, ◌↔◌, ℕ, Bool, IsTrue, List, length, map, IfErr, IfOk, IfSome, OnErr, OnOk, Some, true};
+ghost use Rattle.std.specs.Prelude.{◌≡◌, ◌<◌, ◌≤◌, ◌^◌, ◌↔◌, ℕ, Bool, IsTrue, List, length, map, IfErr, IfOk, IfSome, None, OnErr, OnOk, Some, true};
+ghost use Rattle.cx_cut.specs.Faults.{cut_fault, parts_of};
 ghost use Rattle.cx_disk.specs.Disk.{IsNamed};
 ghost use Rattle.cx_disk.specs.Files.{count_with};
 ghost use Rattle.cx_disk.specs.Moments.{IsQuiet};
@@ -180,6 +181,7 @@ impl Run {
     ) -> Result<Run, DriveFault>
         requires ready { IsReady (with_cut job.old own.now) }
         requires routines { FitJob (map spec_of routines.now) (with_cut job.old own.now) }
+        requires cut { cut_fault (parts_of job.old.shape own.now) ≡ None }
         requires state { CanBegin (setup_of job.old) (Some self.core.buffers.state) }
         ensures job { job.new ≡ with_cut job.old job.new.cut }
         ensures begins { IfOk result (BeginsAnew job.new (map spec_of routines.now)
@@ -207,6 +209,7 @@ impl Run {
     ) -> Result<Run, DriveFault>
         requires ready { IsReady (with_cut job.old own.now) }
         requires routines { FitJob (map spec_of routines.now) (with_cut job.old own.now) }
+        requires cut { cut_fault (parts_of job.old.shape own.now) ≡ None }
         requires state { CanBegin (setup_of job.old) (Some found) }
         ensures job { job.new ≡ with_cut job.old job.new.cut }
         ensures begins { IfOk result (BeginsAnew job.new (map spec_of routines.now)
@@ -289,6 +292,7 @@ fn begin_at(
 ) -> Result<Run, DriveFault>
     requires ready { IsReady (with_cut job.old own.now) }
     requires routines { FitJob (map spec_of routines.now) (with_cut job.old own.now) }
+    requires cut { cut_fault (parts_of job.old.shape own.now) ≡ None }
     requires state { CanBegin (setup_of job.old) (Some found) }
     ensures job { job.new ≡ with_cut job.old job.new.cut }
     ensures begins { IfOk result (BeginsAnew job.new (map spec_of routines.now)
