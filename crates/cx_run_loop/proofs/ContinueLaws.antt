@@ -10,15 +10,20 @@ use Rattle.cx_plan.specs.Setups.{Setup}
 use Rattle.cx_rule.specs.Routine.{Rule}
 use Rattle.cx_rule.specs.States.{State, rotate}
 use Rattle.cx_model.specs.Checkpoints.{Continues, ReachesFrom}
-use Rattle.cx_model.specs.Runs.{Lengths, no_lengths, lengths_after, lengths_behind, all_written, run_stage, run_stages, undivided_run, continued_run, stages_after, Reaches}
-use Rattle.cx_model.specs.Stages.{Stage, Bin, Rotate, Save, Write}
-use Rattle.cx_model.specs.Traces.{Entry, Turned, Overflowed, Exchanged, Tested, Rotated, Wrote, Saved, Trace, after, does}
+use Rattle.cx_model.specs.Runs.{Lengths, no_lengths, lengths_after, lengths_behind, all_written, run_stage, run_stages, passing, stop_or, within_limit, undivided_run, continued_run, Reaches}
+use Rattle.cx_model.specs.Stages.{Stage, Bin, Rotate, Save, Write, stages, stages_after}
+use Rattle.cx_model.specs.States.{start}
+use Rattle.cx_model.specs.declared.ends.End.{End}
+use Rattle.cx_model.specs.declared.ends.End.TheVariants as ends
+use Rattle.cx_model.specs.Traces.{Entry, Turned, Overflowed, Exchanged, Tested, Rotated, Wrote, Saved, Outcome, Goes, Ends, Trace, after, does}
 use Rattle.cx_model.specs.Trees.{run_tree}
-use Rattle.cx_model.proofs.WalkLaws.{Each, OfTrees, Throughout, throughout-stays, throughout-then, walk-tree}
+use Rattle.cx_model.proofs.WalkLaws.{Each, OfEnd, OfTrees, Throughout, throughout-stays, throughout-then, walk-tree}
 use Rattle.cx_outputs.specs.Names.{lengths_in, lengths_by}
 use Rattle.law_parts.specs.Beginnings.{Beginning, Afresh, From}
 use Rattle.law_parts.specs.Totals.{undivided_from}
 use Rattle.law_reached.specs.Works.{works_of}
+use Rattle.cx_core.specs.declared.answers.Outcome.TheVariants.{Done}
+use Rattle.cx_core.specs.Hands.{ended_as}
 use Rattle.law_course.proofs.OutputLaws.{IsAmong, WritesTo, each_front, each_within, run_writes}
 use Rattle.cx_run_loop.specs.Sums.{AreUnsaved}
 
@@ -88,9 +93,15 @@ split_works (Tested v path t ∷ es) a b c s u e =
 split_works (Rotated t ∷ es) a b c s u e =
     skipped (Rotated t) es a b c s (split_works es a b c s u e) refl (λ l. refl)
 
--- ---- a run that is continued writes to the job's outputs alone
+-- ---- a run writes to the job's outputs alone, and no end that it meets is that of the last iteration
 
-trees_write_none : (vs : List VarId) → OfTrees (WritesTo vs) (λ end. Unit {0})
+abbrev pub IsStop : End → Type 0
+IsStop ends.Done = ⊥
+IsStop (ends.Overflow iteration path) = Unit {0}
+IsStop (ends.WhileLimit iteration path) = Unit {0}
+IsStop (ends.OutputLimit iteration) = Unit {0}
+
+trees_write_none : (vs : List VarId) → OfTrees (WritesTo vs) IsStop
 trees_write_none vs = record {
   turned = λ k n state. tt;
   overflowed = λ k n state. tt;
@@ -109,23 +120,23 @@ all_write setup n state vs (u ∷ us) some =
 
 module _ (setup : Setup) (rules : List Rule) where
   stages_write : (ss : List Stage) (state : State)
-      → Throughout (WritesTo setup.out_vars) (λ end. Unit {0}) (run_stages setup rules ss state)
-  stages_write [] state = throughout-stays (WritesTo setup.out_vars) (λ end. Unit {0}) state
+      → Throughout (WritesTo setup.out_vars) IsStop (run_stages setup rules ss state)
+  stages_write [] state = throughout-stays (WritesTo setup.out_vars) IsStop state
   stages_write (Bin k n ∷ ss) state =
-      throughout-then (WritesTo setup.out_vars) (λ end. Unit {0})
+      throughout-then (WritesTo setup.out_vars) IsStop
       (run_tree setup rules n (bin setup k) state) (run_stages setup rules ss)
-      (walk-tree (WritesTo setup.out_vars) (λ end. Unit {0}) setup rules n (bin setup k) state
+      (walk-tree (WritesTo setup.out_vars) IsStop setup rules n (bin setup k) state
       (trees_write_none setup.out_vars)) (stages_write ss)
   stages_write (Rotate ∷ ss) state =
-      throughout-then (WritesTo setup.out_vars) (λ end. Unit {0})
+      throughout-then (WritesTo setup.out_vars) IsStop
       (does (Rotated state) (rotate state)) (run_stages setup rules ss)
       (record { entries = (tt, tt); outcome = tt }) (stages_write ss)
   stages_write (Save n ∷ ss) state =
-      throughout-then (WritesTo setup.out_vars) (λ end. Unit {0})
+      throughout-then (WritesTo setup.out_vars) IsStop
       (does (Saved n state) state) (run_stages setup rules ss)
       (record { entries = (tt, tt); outcome = tt }) (stages_write ss)
   stages_write (Write n ∷ ss) state =
-      throughout-then (WritesTo setup.out_vars) (λ end. Unit {0})
+      throughout-then (WritesTo setup.out_vars) IsStop
       (run_stage setup rules (Write n) state) (run_stages setup rules ss)
       (record {
         entries = all_write setup n state setup.out_vars setup.out_vars (λ u there. there);
@@ -138,6 +149,35 @@ module _ (setup : Setup) (rules : List Rule) where
       let t = run_stages setup rules (stages_after setup c) state in
       each_within (WritesTo setup.out_vars) so_far t.entries t.outcome
       (stages_write (stages_after setup c) state).entries
+
+  limit_stops : (so_far : Lengths) (es : List Entry) (o : Outcome) → OfEnd IsStop o
+      → OfEnd IsStop (within_limit so_far es o).outcome
+  limit_stops so_far [] o of = of
+  limit_stops so_far (e ∷ es) o of =
+      by (passing so_far e) (within_limit (lengths_after so_far e) es o)
+      (limit_stops (lengths_after so_far e) es o of)
+    where
+      by : (p : Option ℕ) (rest : Trace) → OfEnd IsStop rest.outcome
+          → OfEnd IsStop (stop_or p (after (e ∷ []) rest)).outcome
+      by None rest of = of
+      by (Some n) rest of = tt
+
+  pub run_stops : (b : Beginning) → OfEnd IsStop (undivided_from setup rules b).outcome
+  run_stops Afresh =
+      let t = run_stages setup rules (stages setup) (start setup) in
+      limit_stops no_lengths t.entries t.outcome (stages_write (stages setup) (start setup)).outcome
+  run_stops (From c state so_far) =
+      let t = run_stages setup rules (stages_after setup c) state in
+      limit_stops so_far t.entries t.outcome (stages_write (stages_after setup c) state).outcome
+
+-- a run that is done goes on to a last state
+pub done_goes : (o : Outcome) → OfEnd IsStop o → ended_as o ≡ Done
+    → (last : State) × (o ≡ Goes last)
+done_goes (Goes last) of is = (last, refl)
+done_goes (Ends ends.Done) of is = absurd of
+done_goes (Ends (ends.Overflow iteration path)) of is = absurd cc
+done_goes (Ends (ends.WhileLimit iteration path)) of is = absurd cc
+done_goes (Ends (ends.OutputLimit iteration)) of is = absurd cc
 
 -- ---- lengths by the variables' numbers, in a list and back
 

@@ -24,3 +24,5 @@ pub mod WaitLaws
 pub mod TurnWaits
 pub mod WaitMore
 pub mod RecutLaws
+pub mod CoreLaws
+pub mod OneCut

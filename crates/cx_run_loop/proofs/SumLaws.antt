@@ -72,6 +72,15 @@ module _ (count : Parts → Entry → ℕ) (all : Parts → List Entry → ℕ)
   all_later again cut earlier later u =
       let both = more_later again cut earlier later u in omega (arith, both)
 
+  -- without a checkpoint place it doesn't matter which cuts are to come
+  alone : (again : State → Parts) (cut : Parts) (es : List Entry) → AreUnsaved es
+      → counted_in count again cut es ≡ all cut es
+  alone again cut [] u = sym (none cut)
+  alone again cut (e ∷ es) u =
+      ap (λ (p : Parts). count cut e + counted_in count again p es) (unsaved_cut again cut e u.0)
+      ∙ ap (λ (n : ℕ). count cut e + n) (alone again cut es u.1)
+      ∙ sym (more cut e es)
+
 pub sums_add : (setup : Setup) → SumsAdd setup
 sums_add setup = record {
   one_work = one (entry_work setup) (work setup) (λ cut. refl) (λ cut e es. refl);
@@ -96,3 +105,17 @@ pub count_later : (setup : Setup) (again : State → Parts) (cut : Parts)
     → carried_count setup cut earlier ≤ carried_in setup again cut (earlier ++ later)
 count_later setup =
     all_later (entry_count setup) (carried_count setup) (λ cut. refl) (λ cut e es. refl)
+
+-- entries without a checkpoint place count what they do by one cut
+pub work_alone : (setup : Setup) (again : State → Parts) (cut : Parts) (es : List Entry)
+    → AreUnsaved es → work_in setup again cut es ≡ work setup cut es
+work_alone setup = alone (entry_work setup) (work setup) (λ cut. refl) (λ cut e es. refl)
+
+pub count_alone : (setup : Setup) (again : State → Parts) (cut : Parts) (es : List Entry)
+    → AreUnsaved es → carried_in setup again cut es ≡ carried_count setup cut es
+count_alone setup =
+    alone (entry_count setup) (carried_count setup) (λ cut. refl) (λ cut e es. refl)
+
+pub sum_alone : (setup : Setup) (again : State → Parts) (cut : Parts) (es : List Entry)
+    → AreUnsaved es → sum_in setup again cut es ≡ total_sum setup cut es
+sum_alone setup = alone (entry_sum setup) (total_sum setup) (λ cut. refl) (λ cut e es. refl)

@@ -21,7 +21,7 @@ use Rattle.cx_core.specs.Hands.{HasScalar, ended_as, last_number}
 use Rattle.cx_core.specs.Starts.{AreEmpty}
 use Rattle.cx_core.specs.Steps.{Counts}
 use Rattle.cx_run_loop.specs.Going.{Setting, Place, IsDriven, IsImageOf, kept_in, trace_in}
-use Rattle.cx_run_loop.specs.Sums.{carried_in, sum_in, work_in}
+use Rattle.cx_run_loop.specs.Sums.{CountsBelow, carried_in, sum_in, work_in}
 
 -- ---- from one core to the next
 
@@ -38,17 +38,24 @@ parts_at s a = parts_of s.job.shape a.cut
 abbrev pub entries_at : Setting → Start → List Entry
 entries_at s a = (trace_in s a.found).entries
 
--- what was counted from one to the other, and what is still to count, is what there was to count
-pub record CountsSplit (s : Setting) (again : State → Parts) (was is : Start) : Type 0 where
-  pub points : (n : ℕ) × (is.counts.points ≡ raised was.counts.points n)
-      × (work_in (setup_of s.job) again (parts_at s was) (entries_at s was)
-      ≡ n + work_in (setup_of s.job) again (parts_at s is) (entries_at s is))
-  pub values : (n : ℕ) × (is.counts.values ≡ counted was.counts.values n)
-      × (carried_in (setup_of s.job) again (parts_at s was) (entries_at s was)
-      ≡ n + carried_in (setup_of s.job) again (parts_at s is) (entries_at s is))
-  pub sum : (n : ℕ) × (is.counts.sum ≡ (was.counts.sum + n) % 2 ^ 64)
-      × (sum_in (setup_of s.job) again (parts_at s was) (entries_at s was)
-      ≡ n + sum_in (setup_of s.job) again (parts_at s is) (entries_at s is))
+-- what was counted is what the run counts from its start on
+pub record HasTotalsBy (s : Setting) (again : State → Parts) (a : Start) (now : Counts)
+    : Type 0 where
+  pub points : now.points
+      ≡ raised a.counts.points (work_in (setup_of s.job) again (parts_at s a) (entries_at s a))
+  pub values : now.values
+      ≡ counted a.counts.values
+      (carried_in (setup_of s.job) again (parts_at s a) (entries_at s a))
+  pub sum : now.sum
+      ≡ (a.counts.sum + sum_in (setup_of s.job) again (parts_at s a) (entries_at s a)) % 2 ^ 64
+
+-- what a run counts from the later one on is, with what was counted by then, what it counts from
+-- the earlier one on
+pub record CountsOver (s : Setting) (again : State → Parts) (was is : Start) : Type 0 where
+  pub totals : (now : Counts) → HasTotalsBy s again is now → HasTotalsBy s again was now
+  pub below : (now : Counts)
+      → CountsBelow (setup_of s.job) again (parts_at s is) (entries_at s is) is.counts now
+      → CountsBelow (setup_of s.job) again (parts_at s was) (entries_at s was) was.counts now
 
 -- What the disk has of the later run it has of the earlier one, too: at each moment, and once all
 -- is done.
@@ -62,22 +69,11 @@ pub record GoesOver (r q : KeptRun) (old new : View) : Type 0 where
 pub record SegmentTo (s : Setting) (again : State → Parts) (was is : Start) : Type 0 where
   pub outcome : s.wire → (trace_in s is.found).outcome ≡ (trace_in s was.found).outcome
   pub counts : s.wire → (last : State) → (trace_in s was.found).outcome ≡ Goes last
-      → CountsSplit s again was is
+      → CountsOver s again was is
   pub goes_over : s.disk → s.wire → IsDriven (kept_in s was.found) [] was.view
       → GoesOver (kept_in s was.found) (kept_in s is.found) was.view is.view
 
 -- ---- the end
-
--- what was counted is what the run counts from its start on
-pub record HasTotalsBy (s : Setting) (again : State → Parts) (a : Start) (now : Counts)
-    : Type 0 where
-  pub points : now.points
-      ≡ raised a.counts.points (work_in (setup_of s.job) again (parts_at s a) (entries_at s a))
-  pub values : now.values
-      ≡ counted a.counts.values
-      (carried_in (setup_of s.job) again (parts_at s a) (entries_at s a))
-  pub sum : now.sum
-      ≡ (a.counts.sum + sum_in (setup_of s.job) again (parts_at s a) (entries_at s a)) % 2 ^ 64
 
 -- a run that is done, whichever cores did it
 pub record IsDoneBy (s : Setting) (again : State → Parts) (a : Start) (p : Place s) : Type 0 where
