@@ -26,3 +26,4 @@ pub mod WaitMore
 pub mod RecutLaws
 pub mod CoreLaws
 pub mod OneCut
+pub mod CoreTurns

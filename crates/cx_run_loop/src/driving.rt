@@ -20,7 +20,7 @@ ghost use Rattle.cx_run_loop.specs.Turning.{StopsTurns, TakesTurns, TurnsStop, t
 ghost use Rattle.cx_run_loop.specs.UnderWay.{BeginsAnew, HasBegunAt};
 
 use crate::fault::DriveFault;
-use crate::laws::{drive_laws, sums_add};
+use crate::laws::{cores_wait, drive_laws, sums_add};
 use crate::recutting::copy_cuts;
 use crate::steps::Run;
 use crate::turn::Advance;
@@ -238,6 +238,7 @@ fn run_core<D: Disk, W: Wire, T: Turns>(
     requires routines { FitJob (map spec_of routines.now) job.now }
     requires able { CanAdvance D.Disk W.Wire job.now (map rule routines.now)
         (run_state run.old disk.old wire.old meter.old) }
+    requires outcome { run.old.core.outcome ≡ outcomes.Going }
     ensures runs { IfOk result
         (RunsCore D.Disk W.Wire T.Turns job.now (map rule routines.now) next
         (run_state run.old disk.old wire.old meter.old)
@@ -258,6 +259,7 @@ fn run_core<D: Disk, W: Wire, T: Turns>(
 {
     core_stands(job);
     drive_laws(job);
+    cores_wait(job);
     'turns: while run.goes_on() {
         let came = run.advance(alloc, u32::MAX, job, routines, disk, wire, turns, meter)?;
         if is_cut_anew(job, next, came, run) {
