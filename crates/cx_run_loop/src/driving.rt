@@ -27,6 +27,7 @@ use crate::turn::Advance;
 use cx_chk::Checkpoint;
 use cx_core::{Core, core_stands};
 use cx_disk::Disk;
+use cx_model::run_continues;
 use cx_plan::{Cuts, Job};
 use cx_rule::{Meter, Routine};
 use cx_turns::Turns;
@@ -77,6 +78,7 @@ pub fn drive<D: Disk, W: Wire, T: Turns>(
     ensures scalars { IfOk result (LendsScalars job.old) }
 {
     drive_laws(job);
+    run_continues(job);
     let (run, found) = Run::begin(alloc, job, disk)?;
     run_to_end(alloc, job, routines, run, found, disk, wire, turns, meter)
 }

@@ -76,6 +76,7 @@ impl Run {
         requires ready { IsReady job.now }
         ensures begins { IfOk result
             (λ r. HasBegun job.now D.tells r.1 r.0 (D.view disk.old) (D.view disk.new)) }
+        ensures can { IfOk result (λ r. CanBegin (setup_of job.now) r.1) }
         ensures stops { IfErr result (StopsStart job.now D.tells (D.view disk.old) (D.view disk.new)
             (record { old = D.faults disk.old; new = D.faults disk.new })) }
         ensures moments { D.tells →
@@ -270,6 +271,7 @@ fn start(alloc: Global, job: &Job, found: &Option<Checkpoint>) -> Result<Core, D
         → IfOk result (λ core. Begins (IsTrue told)
         (run_of job.now rules (begins_in (setup_of job.now) found.now)) first core queue) }
     ensures can { IsBeginning (setup_of job.now) (begins_in (setup_of job.now) found.now) }
+    ensures state { CanBegin (setup_of job.now) found.now }
     ensures key { IfOk result (λ core. core.buffers.state.key ≡ job.now.key) }
     ensures lengths { IfOk result
         (λ core. core.lengths ≡ lengths_first (setup_of job.now) found.now) }
