@@ -112,7 +112,7 @@ answers_last n most came first events count below all other a =
       all = λ same. absurd (other same);
     }
 
-steps_more : {T : Type 0} (t : TurnsGhosts T) (tells : Type 0) (job : Job) (rules : List Rule)
+pub steps_more : {T : Type 0} (t : TurnsGhosts T) (tells : Type 0) (job : Job) (rules : List Rule)
     (es fs : List Event) (was mid is : Turning tells T) → StepsBy t tells job rules es was mid
     → StepsBy t tells job rules fs mid is → StepsBy t tells job rules (es ++ fs) was is
 steps_more {T} t tells job rules [] fs was mid is one two =

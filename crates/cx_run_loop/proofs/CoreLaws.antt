@@ -26,6 +26,7 @@ use Rattle.law_parts.specs.Work.{work, carried_count, total_sum}
 use Rattle.law_reached.specs.Works.{works_of}
 use Rattle.law_course.specs.Courses.{checkpoint_of}
 use Rattle.law_course.specs.Works.{works_by}
+use Rattle.cx_core.proofs.MovedStates.{mod_more}
 use Rattle.cx_core.specs.Hands.{HasTotals, IsDone, ended_as}
 use Rattle.cx_core.specs.Starts.{begins_in}
 use Rattle.cx_core.specs.Steps.{Counts}
@@ -117,7 +118,7 @@ summed_on first n now rest all mid is sum here =
     ∙ ap (λ (m : ℕ). (first + m) % 2 ^ 64) (sym sum)
   where
     mod_on : (a b c : ℕ) → ((a + b) % 2 ^ 64 + c) % 2 ^ 64 ≡ (a + (b + c)) % 2 ^ 64
-    mod_on a b c = omega arith
+    mod_on a b c = mod_more (2 ^ 64) (a + b) c ∙ ap (λ (n : ℕ). n % 2 ^ 64) (omega arith)
 
 module _ (s : Setting) (laws : DriveLaws s.wire s.job s.rules) (sums : SumsAdd (setup_of s.job))
     (specs : List Spec) (own : Job) (shape : own.shape ≡ s.job.shape)

@@ -27,3 +27,5 @@ pub mod RecutLaws
 pub mod CoreLaws
 pub mod OneCut
 pub mod CoreTurns
+pub mod LeadLaws
+pub mod Recast

@@ -57,11 +57,11 @@ module _ (tells : Type 0) (r : Run) (run : IsRun r) (trace : Trace)
     (goes : trace.outcome ≡ Goes last)
     (together : AreTogether (net tells within_lead r o) (saves r o) w)
     (unsaved : AreUnsaved (handed_out r w)) where
-  next : First r runs.count
-  next = first_save r runs.count
+  mark : First r runs.count
+  mark = first_save r runs.count
 
   abbrev m : ℕ
-  m = next.place
+  m = mark.place
 
   abbrev spent_by : ℕ → ℕ → ℕ → ℕ
   spent_by i k n = spent (net tells within_lead r o) i k n
@@ -80,7 +80,7 @@ module _ (tells : Type 0) (r : Run) (run : IsRun r) (trace : Trace)
   is_next l e = record {
     from = written e;
     marked = ap is_save (op_is tells t r run o w st m ∙ e);
-    none_before = λ j a b marked. both_ways (is_save (op_of r j)) (next.none j b)
+    none_before = λ j a b marked. both_ways (is_save (op_of r j)) (mark.none j b)
         (sym (ap is_save (op_is tells t r run o w st j)) ∙ marked);
   }
 
@@ -105,7 +105,7 @@ module _ (tells : Type 0) (r : Run) (run : IsRun r) (trace : Trace)
       omega (arith, a, b)
 
   place_spent : (i k : ℕ) → k < parts_in r → spent_by i k (w.place k) ≤ spent_by i k m
-  place_spent i k l = spent_to i k (w.place k) (go next.saves)
+  place_spent i k l = spent_to i k (w.place k) (go mark.saves)
     where
       go : (m ≡ runs.count) ⊎ ((m < runs.count) × (op_of r m ≡ Save))
           → (w.place k ≤ m) ⊎ ((w.place k ≤ suc m) × (op_of r m ≡ Save))
@@ -159,7 +159,7 @@ module _ (tells : Type 0) (r : Run) (run : IsRun r) (trace : Trace)
       fitted.looks j (w.place j) (w.held j) can.part (st.woven.agrees j can.part) in
       let below : w.place j < last_of r o = halts_not j can in
       let here : spent_by i j (suc (w.place j)) ≤ spent_by i j m =
-      spent_to i j (suc (w.place j)) (go (omega (arith, below, last_is)) next.saves) in
+      spent_to i j (suc (w.place j)) (go (omega (arith, below, last_is)) mark.saves) in
       let a : sum_below (parts_in r) (λ k. spent_by i k (w.place k))
       + costs r i j (next_op r (guided r o (w.place j)).control)
       ≤ sum_below (parts_in r) (λ k. spent_by i k m) =
@@ -183,13 +183,13 @@ module _ (tells : Type 0) (r : Run) (run : IsRun r) (trace : Trace)
 
   waits_at : (j : ℕ) → j < parts_in r → has_saved p j ≡ false → (n : ℕ)
       → IsNextMark (saves r o) w.wrote n → w.place j ≤ n
-  waits_at j part fails n mark = go (cases_lt n (w.place j))
+  waits_at j part fails n coming = go (cases_lt n (w.place j))
     where
       behind : IsNextSave r o w.wrote n
       behind = record {
-        from = mark.from;
-        save = save_is (next_op r (guided r o n).control) mark.marked;
-        none_before = λ i a b e. mark.none_before i a b (ap is_save e);
+        from = coming.from;
+        save = save_is (next_op r (guided r o n).control) coming.marked;
+        none_before = λ i a b e. coming.none_before i a b (ap is_save e);
       }
 
       go : (n < w.place j) ⊎ (w.place j ≤ n) → w.place j ≤ n
@@ -220,12 +220,12 @@ module _ (tells : Type 0) (r : Run) (run : IsRun r) (trace : Trace)
 
   quiet : AllQuiet (noted r m)
   quiet =
-      let more = noted_more r m runs.count next.within in
+      let more = noted_more r m runs.count mark.within in
       quiet_left (noted r m) more.0
       (subst AllQuiet more.1 (all_noted r trace runs last goes).0)
 
   apart : ends_pair (op_of r m) ≡ None
-  apart = go next.saves
+  apart = go mark.saves
     where
       go : (m ≡ runs.count) ⊎ ((m < runs.count) × (op_of r m ≡ Save))
           → ends_pair (op_of r m) ≡ None
@@ -240,7 +240,7 @@ module _ (tells : Type 0) (r : Run) (run : IsRun r) (trace : Trace)
 
   split : (rest : List Entry) × (trace.entries ≡ before ++ rest)
   split =
-      let more = entries_more r m runs.count next.within in
+      let more = entries_more r m runs.count mark.within in
       (more.0, (all_noted r trace runs last goes).1 ∙ more.1)
 
   pub spends_below : (k : ℕ) → lies_ahead p (slice_get (events p) k) ≡ false
@@ -252,7 +252,7 @@ module _ (tells : Type 0) (r : Run) (run : IsRun r) (trace : Trace)
         points_to tells t r run o w st m quiet in
         let c : work r.setup (cut_of r) before
         ≤ work_in r.setup again (cut_of r) (before ++ split.0) =
-        work_later r.setup again (cut_of r) before split.0 (none_noted r m next.none) in
+        work_later r.setup again (cut_of r) before split.0 (none_noted r m mark.none) in
         subst (λ (es : List Entry). w.meter 0 + event_costs r p (slice_get (events p) k) 0
         ≤ work_in r.setup again (cut_of r) es) (sym split.1) (omega (arith, a, b, c));
     values = λ again.
@@ -261,7 +261,7 @@ module _ (tells : Type 0) (r : Run) (run : IsRun r) (trace : Trace)
         values_to tells t r run o w st m apart in
         let c : carried_count r.setup (cut_of r) before
         ≤ carried_in r.setup again (cut_of r) (before ++ split.0) =
-        count_later r.setup again (cut_of r) before split.0 (none_noted r m next.none) in
+        count_later r.setup again (cut_of r) before split.0 (none_noted r m mark.none) in
         subst (λ (es : List Entry). w.meter 1 + event_costs r p (slice_get (events p) k) 1
         ≤ carried_in r.setup again (cut_of r) es) (sym split.1) (omega (arith, a, b, c));
   }

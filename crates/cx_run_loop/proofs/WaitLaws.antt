@@ -193,7 +193,7 @@ module _ (tells : Type 0) (t : tells) (r : Run) (run : IsRun r) (trace : Trace)
   abbrev n : ℕ
   n = writes.place
 
-  abbrev here : IsGathered (net tells within_lead r o) (script tells r o) w n
+  here : IsGathered (net tells within_lead r o) (script tells r o) w n
   here = (parts_gather (net tells within_lead r o) (script tells r o) (Agrees tells r o)
       (Books tells r)).gathers (saves r o) (works o) w n st.woven together writes.next
       writes.saves_there
