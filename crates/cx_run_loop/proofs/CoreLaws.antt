@@ -36,7 +36,7 @@ use Rattle.cx_run_loop.specs.Recuts.{cut_from, next_cut, with_cut}
 use Rattle.cx_run_loop.specs.Segments.{CountsOver, GoesOver, HasTotalsBy, IsDoneBy, RunsBy, SegmentTo, Start, entries_at, parts_at}
 use Rattle.cx_run_loop.specs.Sums.{AreUnsaved, CountsBelow, SumsAdd, carried_in, sum_in, work_in}
 use Rattle.cx_run_loop.specs.UnderWay.{HasCome}
-use Rattle.cx_run_loop.specs.Waiting.{ComesTo, HasCounted, HasGathered, IsWaiting}
+use Rattle.cx_run_loop.specs.Waiting.{ComesTo, HasCounted, HasGathered}
 use Rattle.cx_run_loop.proofs.ContinueLaws.{done_goes, run_stops}
 use Rattle.cx_run_loop.proofs.FromLaws.{length_count}
 use Rattle.cx_run_loop.proofs.RecutLaws.{next_same}
@@ -124,8 +124,7 @@ module _ (s : Setting) (laws : DriveLaws s.wire s.job s.rules) (sums : SumsAdd (
     (specs : List Spec) (own : Job) (shape : own.shape ≡ s.job.shape)
     (setup : setup_of own ≡ setup_of s.job)
     (found : Option Checkpoint) (first : Counts) (old : View) (p : Place s)
-    (x : HasCome s found first old p) (w : IsWaiting s found first p x.there)
-    (g : HasGathered s found first p x.there) where
+    (x : HasCome s found first old p) (g : HasGathered s found first p x.there) where
   abbrev c : Checkpoint
   c = p.is.core.buffers.state
 

@@ -128,16 +128,17 @@ module _ (next : ℕ) (s : Setting) (was mid is : Place s) (came : Advance)
           absurd (both_ways (is_cut_anew s.job next came is.is.core) fails anew)
 
   -- one after which it is
-  pub waits_for : (anew : Bool) → came ≡ Saved → (found : Option Checkpoint) (first : Counts)
-      (x : IsDriving s found first was) → WaitsFor s found first was is x next anew
-  waits_for anew saved found first x = record {
+  pub waits_for : came ≡ Saved → (found : Option Checkpoint) (first : Counts)
+      (x : IsDriving s found first was) → WaitsFor s found first was is x next true
+  waits_for saved found first x = record {
     moves = record {
       there = (after found first x).moves.there;
       driven = λ d t y.
           (after found first x).moves.driven d t ((one found first x).moves.driven d t y);
     };
-    gathers = λ yes same w.
+    gathers = λ is_anew same w.
         (after found first x).gathers saved ((one found first x).waiting same w);
+    unsaved = λ fails. absurd (let bad : true ≡ false = fails in cc);
   }
 
 -- the end
@@ -146,7 +147,8 @@ pub still_over : (next : ℕ) (s : Setting) (was is : Place s) → StillOn next 
     → WaitsFor s found first was is x next false
 still_over next s was is one found first x = record {
   moves = (one found first x).moves;
-  gathers = λ yes. absurd (let bad : false ≡ true = yes in cc);
+  gathers = λ is_anew. absurd (let bad : false ≡ true = is_anew in cc);
+  unsaved = λ fails same w. ((one found first x).waiting same w).unsaved;
 }
 
 pub still_below : (next : ℕ) (s : Setting) (was mid : Place s) (now : Counts)

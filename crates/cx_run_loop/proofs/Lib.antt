@@ -29,3 +29,4 @@ pub mod OneCut
 pub mod CoreTurns
 pub mod LeadLaws
 pub mod Recast
+pub mod CoresGo

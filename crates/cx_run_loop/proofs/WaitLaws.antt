@@ -321,6 +321,7 @@ module _ (tells : Type 0) (job : Job) (rules : List Rule) (b : Beginning)
 
   pub cores_wait : CoresWait tells job rules b
   cores_wait = record {
+    begins = λ first core queue x. gather.begins first core queue x;
     keeps = λ first k was is at event s fails together.
         gather.keeps first k was is at event s together
         (lies_not tells r trace first k was is at event s (stands first was at) fails);

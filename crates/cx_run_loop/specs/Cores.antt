@@ -22,11 +22,11 @@ use Rattle.cx_core.specs.Cores.{Cores}
 use Rattle.cx_core.specs.Starts.{begins_in}
 use Rattle.cx_core.specs.Steps.{Begins, Counts, counts}
 use Rattle.cx_run_loop.specs.Advances.{CanAdvance, RunState, place_of, turning_of}
-use Rattle.cx_run_loop.specs.Going.{Setting, Place, IsDriving, Moves, MovesOn, RunLeaves, place_at, setting, trace_in}
+use Rattle.cx_run_loop.specs.Going.{Setting, Place, IsDriving, Moves, MovesOn, RunLeaves, handed, place_at, setting, trace_in}
 use Rattle.cx_run_loop.specs.Lent.{Wired, wired}
 use Rattle.cx_run_loop.specs.Recuts.{cut_from, first_cut, with_cut}
 use Rattle.cx_run_loop.specs.Segments.{RunsBy, Start}
-use Rattle.cx_run_loop.specs.Sums.{CountsBelow}
+use Rattle.cx_run_loop.specs.Sums.{AreUnsaved, CountsBelow}
 use Rattle.cx_run_loop.specs.Turning.{CoresLead, CoresStop, Turning, TurnsLead, turning}
 use Rattle.cx_run_loop.specs.Waiting.{HasGathered, HoldsCheckpoint, IsWaiting}
 use Rattle.cx_run_loop.specs.declared.turn.Advance.{Advance}
@@ -64,13 +64,16 @@ abbrev pub StopsAt : Job → (next : ℕ) → Cores → (anew : Bool) → Type 0
 StopsAt job next core true = CanCutAnew job next core
 StopsAt job next core false = core.outcome ≢ Going
 
--- What was driven is driven, and a core whose parts wait has gathered where the run is to be cut
--- anew. From `next` on each checkpoint comes that is later than what was found.
+-- What was driven is driven. A core whose parts wait has gathered where the run is to be cut anew,
+-- and else it has saved no checkpoint, if those that are later than what was found come from this
+-- iteration on.
 pub record WaitsFor (s : Setting) (found : Option Checkpoint) (first : Counts) (was is : Place s)
     (x : IsDriving s found first was) (next : ℕ) (anew : Bool) : Type 0 where
   pub moves : Moves s found first was is x
   pub gathers : anew ≡ true → next ≡ next_after found → IsWaiting s found first was x
       → HasGathered s found first is moves.there
+  pub unsaved : anew ≡ false → next ≡ next_after found → IsWaiting s found first was x → s.wire
+      → AreUnsaved (handed moves.there)
 
 -- a core's run, up to where another one goes on, or to the end
 pub record RunsCore {D W T : Type 0} (d : DiskGhosts D) (w : WireGhosts W) (t : TurnsGhosts T)

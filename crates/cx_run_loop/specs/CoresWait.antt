@@ -14,14 +14,15 @@ use Rattle.law_parts.specs.Nets.{net, within_lead}
 use Rattle.law_parts.specs.Runs.{Run}
 use Rattle.law_parts.specs.Totals.{undivided_from}
 use Rattle.law_reached.specs.Works.{handed_out}
+use Rattle.cx_wire.specs.Messages.{Sent}
 use Rattle.cx_core_events.specs.Events.{events}
 use Rattle.cx_core.specs.declared.answers.Event.{Event}
 use Rattle.cx_core.specs.declared.answers.Event.TheVariants as answers
-use Rattle.cx_core.specs.Cores.{ahead_in}
+use Rattle.cx_core.specs.Cores.{Cores, ahead_in}
 use Rattle.cx_core.specs.Gathered.{saves}
 use Rattle.cx_core.specs.Hands.{StepsTo}
 use Rattle.cx_core.specs.Starts.{AreEmpty}
-use Rattle.cx_core.specs.Steps.{Counts, IsAt, Standing, event_costs}
+use Rattle.cx_core.specs.Steps.{Begins, Counts, IsAt, Standing, event_costs}
 use Rattle.cx_run_loop.specs.Sums.{AreUnsaved, CountsBelow, carried_in, work_in}
 use Rattle.cx_run_loop.specs.Waiting.{HasCounted}
 
@@ -56,6 +57,11 @@ pub record SpendsBelow (tells : Type 0) (job : Job) (rules : List Rule) (b : Beg
 
 pub record CoresWait (tells : Type 0) (job : Job) (rules : List Rule) (b : Beginning)
     : Type 0 where
+  -- they are together as a run begins
+  pub begins : (first : Counts) (core : Cores) (queue : ℕ → ℕ → List (Sent tells))
+      (x : Begins tells (run_of job rules b) first core queue)
+      → IsTogether tells (run_of job rules b) first
+      (record { core = core; queue = queue; now = first }) x.at
   -- a step that doesn't lie ahead keeps them together
   pub keeps : (first : Counts) (k : ℕ) (was is : Standing tells)
       (at : IsAt tells (run_of job rules b) first was.core was.queue was.now) (event : Event)

@@ -126,7 +126,7 @@ returns-then-is_cut_anew-clause-runs g c =
       waits = λ same. waits_for c.args.next _ (place_of g.D.Disk g.W.Wire c.args.job.now _ was)
           (place_of g.D.Disk g.W.Wire c.args.job.now _ mid)
           (place_of g.D.Disk g.W.Wire c.args.job.now _ is) c.in_ok-came.came
-          (c.turns.invariant.still same) (c.in_ok-came.ensures.waits same) true cut.saved;
+          (c.turns.invariant.still same) (c.in_ok-came.ensures.waits same) cut.saved;
     }
 
 pub returns-then-is_cut_anew-clause-keeps : goal.returns-then-is_cut_anew-clause-keeps

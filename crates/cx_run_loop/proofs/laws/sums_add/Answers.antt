@@ -9,6 +9,7 @@ use Rattle.cx_run_loop.proofs.AdvanceLaws as advance_laws
 use Rattle.cx_run_loop.proofs.BegunLaws as begun_laws
 use Rattle.cx_run_loop.proofs.LeadLaws as lead_laws
 use Rattle.cx_run_loop.proofs.Recast as recast
+use Rattle.cx_run_loop.proofs.CoresGo as cores_go
 use Rattle.cx_run_loop.proofs.laws.sums_add.Goals as goal
 
 pub returns : goal.returns
