@@ -55,25 +55,30 @@ waits_at s found k p b going wait = record {
       handed_out (run_in s found) w) b.begun.nothing_done)) tt;
 }
 
--- a keeper goes on with a core that begins in the checkpoint that it has saved
+-- a keeper goes on with another core, of as long outputs
+pub kept_on : (job now : Job) (tells : Type 0) (k : Keeper) (was is : Cores) (v : View)
+    → now.keep ≡ job.keep → now.out_vars ≡ job.out_vars → is.buffers.state.key ≡ now.key
+    → IsKept job tells k was v → was.lengths ≡ is.lengths → IsKept now tells k is v
+kept_on job now tells k was is v keep vars has_key kept same = record {
+  keeper = kept.keeper
+      ∙ ap (λ (l : List ℕ). record { keep = job.keep; vars = job.out_vars; lengths = l }) same
+      ∙ ap (λ (n : ℕ). record { keep = n; vars = job.out_vars; lengths = is.lengths })
+      (sym keep)
+      ∙ ap (λ us. record { keep = now.keep; vars = us; lengths = is.lengths }) (sym vars);
+  key = has_key;
+  counts = λ t. subst (λ (l : List ℕ). AreCounted l v) same (kept.counts t);
+  slots = kept.slots;
+}
+
+-- so with one that begins in the checkpoint that it has saved
 pub kept_anew : (job now : Job) (tells : Type 0) (k : Keeper) (was is : Cores) (c : Checkpoint)
-    (v : View) → now.keep ≡ job.keep → now.out_vars ≡ job.out_vars → now.key ≡ job.key
+    (v : View) → now.keep ≡ job.keep → now.out_vars ≡ job.out_vars
     → IsKept job tells k was v → HoldsCheckpoint (setup_of job) was
     → was.buffers.state ≡ c → is.buffers.state.key ≡ now.key → is.lengths ≡ c.lengths
     → IsKept now tells k is v
-kept_anew job now tells k was is c v keep vars key kept holds same_c has_key lengths =
-    let same : was.lengths ≡ is.lengths =
-    sym holds.lengths ∙ ap (λ (x : Checkpoint). x.lengths) same_c ∙ sym lengths in
-    record {
-      keeper = kept.keeper
-          ∙ ap (λ (l : List ℕ). record { keep = job.keep; vars = job.out_vars; lengths = l }) same
-          ∙ ap (λ (n : ℕ). record { keep = n; vars = job.out_vars; lengths = is.lengths })
-          (sym keep)
-          ∙ ap (λ us. record { keep = now.keep; vars = us; lengths = is.lengths }) (sym vars);
-      key = has_key;
-      counts = λ t. subst (λ (l : List ℕ). AreCounted l v) same (kept.counts t);
-      slots = kept.slots;
-    }
+kept_anew job now tells k was is c v keep vars kept holds same_c has_key lengths =
+    kept_on job now tells k was is v keep vars has_key kept
+    (sym holds.lengths ∙ ap (λ (x : Checkpoint). x.lengths) same_c ∙ sym lengths)
 
 module _ {D W T : Type 0} (d : DiskGhosts D) (w : WireGhosts W) (t : TurnsGhosts T) (f : From)
     (disk : D) (wire : W) (meter : ℕ) (turns : T) where
@@ -176,7 +181,7 @@ module _ {D W T : Type 0} (d : DiskGhosts D) (w : WireGhosts W) (t : TurnsGhosts
             IsKept (job_by (next_cut f.specs f.job c)) d.tells k run.core (d.view mid.disk))
             (sym anew.keeper)
             (kept_anew (job_by cut) (job_by (next_cut f.specs f.job c)) d.tells mid.run.keeper
-            mid.run.core run.core c (d.view mid.disk) refl refl refl runs.able.going.kept
+            mid.run.core run.core c (d.view mid.disk) refl refl runs.able.going.kept
             runs.stops.holds refl anew.key anew.lengths);
       }
 

@@ -6,7 +6,7 @@ ghost use Rattle.cx_disk.specs.Disk.{IsNamed};
 ghost use Rattle.cx_plan.specs.Setups.{setup_of};
 ghost use Rattle.cx_outputs.specs.Names.{HasShortNames, output_names};
 ghost use Rattle.cx_rule.specs.Jobs.{FitJob};
-ghost use Rattle.cx_core.specs.Starts.{AreEmpty, CanBegin, IsReady};
+ghost use Rattle.cx_core.specs.Starts.{AreEmpty, CanBegin, IsReady, lengths_first};
 ghost use Rattle.cx_core.specs.Steps.{counts};
 ghost use Rattle.cx_core.specs.declared.answers.Outcome.TheVariants as outcomes;
 ghost use Rattle.cx_run_loop.specs.Advances.{CanAdvance, Keeps, run_state};
@@ -105,6 +105,7 @@ fn run_to_end<D: Disk, W: Wire, T: Turns>(
     requires going { run.core.outcome ≡ outcomes.Going }
     requires cut { cut_fault (parts_of job.old.shape job.old.cut) ≡ None }
     requires holds { IfSome found (λ c. CanBegin (setup_of job.old) (Some c)) }
+    requires lengths { run.core.lengths ≡ lengths_first (setup_of job.old) found }
     requires empty { AreEmpty (W.queue wire.old) }
     ensures job { job.new ≡ job.old }
     ensures ends { IfOk result (RunsOut D.Disk W.Wire
@@ -154,6 +155,7 @@ fn run_cores<D: Disk, W: Wire, T: Turns>(
     requires going { run.core.outcome ≡ outcomes.Going }
     requires cut { cut_fault (parts_of job.old.shape job.old.cut) ≡ None }
     requires holds { IfSome found (λ c. CanBegin (setup_of job.old) (Some c)) }
+    requires lengths { run.core.lengths ≡ lengths_first (setup_of job.old) found }
     requires empty { AreEmpty (W.queue wire.old) }
     ensures job { job.new ≡ with_cut job.old job.new.cut }
     ensures ends { IfOk result (RunsOut D.Disk W.Wire
@@ -201,7 +203,7 @@ fn begin_cores(
     ensures job { job.new ≡ with_cut job.old job.new.cut }
     ensures cut { OnOk result
         (job.new.cut ≡ first_cut (map spec_of routines.now) job.old found) }
-    ensures begins { IfOk result (λ r. (r ≡ run) ⊎ IfSome found
+    ensures begins { IfOk result (λ r. ((r ≡ run) × (job.new.cut ≡ job.old.cut)) ⊎ IfSome found
         (λ c. BeginsAnew job.new (map spec_of routines.now) job.old c run.keeper r)) }
     ensures stops { (m n : ℕ) → Stops
         (record { old = m; new = m }) (record { old = n; new = n }) result }

@@ -77,6 +77,8 @@ impl Run {
         ensures begins { IfOk result
             (λ r. HasBegun job.now D.tells r.1 r.0 (D.view disk.old) (D.view disk.new)) }
         ensures can { IfOk result (λ r. CanBegin (setup_of job.now) r.1) }
+        ensures lengths { IfOk result
+            (λ r. r.0.core.lengths ≡ lengths_first (setup_of job.now) r.1) }
         ensures stops { IfErr result (StopsStart job.now D.tells (D.view disk.old) (D.view disk.new)
             (record { old = D.faults disk.old; new = D.faults disk.new })) }
         ensures moments { D.tells →

@@ -31,6 +31,9 @@ run_to_end-requires-clause-going g c = c.in_ok-run.ensures.begins.going
 pub run_to_end-requires-clause-holds : goal.run_to_end-requires-clause-holds
 run_to_end-requires-clause-holds g c = c.in_ok-run.ensures.can
 
+pub run_to_end-requires-clause-lengths : goal.run_to_end-requires-clause-lengths
+run_to_end-requires-clause-lengths g c = c.in_ok-run.ensures.lengths
+
 pub returns-in_err-run-clause-drives : goal.returns-in_err-run-clause-drives
 returns-in_err-run-clause-drives g c =
     let p = err_from_is_err_and c.from_residual.result c.from_residual.ensures.1 in

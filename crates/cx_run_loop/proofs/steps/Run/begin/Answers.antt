@@ -39,3 +39,6 @@ returns-in_err-core-clause-stops g c =
 
 pub returns-clause-can : goal.returns-clause-can
 returns-clause-can g c = c.in_ok-core.ensures.state
+
+pub returns-clause-lengths : goal.returns-clause-lengths
+returns-clause-lengths g c = c.in_ok-core.ensures.lengths
