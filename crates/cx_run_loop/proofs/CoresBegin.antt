@@ -1,5 +1,5 @@
 -- A run by one core after another, as it begins.
-use Rattle.std.proofs.Common.{◌≡◌, ◌≤◌, ◌<◌, ◌^◌, ◌+◌, ℕ, true, false, List, [], refl, sym, ◌∙◌, ap, subst}
+use Rattle.std.proofs.Common.{◌≡◌, ◌≤◌, ◌<◌, ◌^◌, ◌+◌, ℕ, true, false, List, [], arith, refl, sym, ◌∙◌, ap, subst}
 use Rattle.std.specs.Prelude.{Bool, Option, Some, IsTrue}
 use Rattle.cx_plan.specs.declared.job.Cuts.{Cuts}
 use Rattle.cx_plan.specs.declared.job.Job.{Job}
@@ -70,7 +70,11 @@ module _ {D W T : Type 0} (d : DiskGhosts D) (w : WireGhosts W) (t : TurnsGhosts
           (place_of d w f.job f.rules (run_state run disk wire meter)) begun going wait;
       plain = λ no. refl;
       able = able;
+      parts = able.parts;
       going = going;
+      folders = refl;
+      points = omega arith;
+      values = omega arith;
       core = run.core;
       begins = subst (λ (cut : Cuts). Begins (IsTrue w.tells)
           (run_of (with_cut f.job cut) f.rules (begins_in (setup_of f.job) f.found))
@@ -130,7 +134,11 @@ module _ {D W T : Type 0} (d : DiskGhosts D) (w : WireGhosts W) (t : TurnsGhosts
         names = able.names;
         going = going_at (setting d w job_now rules) (Some c) run.keeper q begun_anew;
       };
+      parts = able.parts;
       going = anew.going;
+      folders = refl;
+      points = omega arith;
+      values = omega arith;
       core = run.core;
       begins = begun_anew.begun;
       checkpoints = [];

@@ -1,5 +1,5 @@
 -- A run by one core after another, between two of them.
-use Rattle.std.proofs.Common.{◌≡◌, ◌≢◌, ◌≤◌, ◌<◌, ◌^◌, ◌+◌, ℕ, true, false, List, [], ◌∷◌, ◌++◌, length, refl, sym, ◌∙◌, ap, subst}
+use Rattle.std.proofs.Common.{◌≡◌, ◌≢◌, ◌≤◌, ◌<◌, ◌^◌, ◌+◌, ℕ, true, false, List, [], ◌∷◌, ◌++◌, length, arith, refl, sym, ◌∙◌, ap, subst}
 use Rattle.std.specs.Prelude.{Option, Some, IsTrue}
 use Rattle.cx_plan.specs.declared.job.Cuts.{Cuts}
 use Rattle.cx_plan.specs.declared.job.Job.{Job}
@@ -108,7 +108,11 @@ module _ {D W T : Type 0} (d : DiskGhosts D) (w : WireGhosts W) (t : TurnsGhosts
         (place_of d w (job_by cut) f.rules x) come.there
     pub plain : f.job.balance ≡ false → cut ≡ f.job.cut
     pub able : CanAdvance d w (job_by cut) f.rules x
+    pub parts : part_count (parts_of f.job.shape f.job.cut) ≤ w.parts x.wire
     pub going : x.run.core.outcome ≡ Going
+    pub folders : d.folders x.disk ≡ d.folders disk
+    pub points : meter ≤ x.meter
+    pub values : w.received wire ≤ w.received x.wire
     pub core : Cores
     pub begins : BeginsCut (IsTrue w.tells) f core (wired w wire) meter
     pub checkpoints : List Checkpoint
@@ -164,8 +168,7 @@ module _ {D W T : Type 0} (d : DiskGhosts D) (w : WireGhosts W) (t : TurnsGhosts
     module _ (run : Runs) (anew : BeginsAnew (job_by (next_cut f.specs f.job c)) f.specs f.job c
         mid.run.keeper run) (fits : IsTrue w.tells → w.sum mid.wire < 2 ^ 64)
         (wait : CoresWait (IsTrue w.tells) (job_by (next_cut f.specs f.job c)) f.rules
-        (begins_in (setup_of f.job) (Some c)))
-        (own_parts : part_count (parts_of f.job.shape f.job.cut) ≤ w.parts mid.wire) where
+        (begins_in (setup_of f.job) (Some c))) where
       abbrev is : RunState D W
       is = run_state run mid.disk mid.wire mid.meter
 
@@ -185,6 +188,22 @@ module _ {D W T : Type 0} (d : DiskGhosts D) (w : WireGhosts W) (t : TurnsGhosts
             runs.stops.holds refl anew.key anew.lengths);
       }
 
+      parts_now : part_count (parts_of f.job.shape f.job.cut) ≤ w.parts mid.wire
+      parts_now = subst (λ (n : ℕ). part_count (parts_of f.job.shape f.job.cut) ≤ n)
+          (sym keeps.parts) b.parts
+
+      points_now : meter ≤ mid.meter
+      points_now =
+          let one : meter ≤ was.meter = b.points in
+          let two : was.meter ≤ mid.meter = keeps.points in
+          omega arith
+
+      values_now : w.received wire ≤ w.received mid.wire
+      values_now =
+          let one : w.received wire ≤ w.received was.wire = b.values in
+          let two : w.received was.wire ≤ w.received mid.wire = keeps.values in
+          omega arith
+
       pub between_anew : AreBetween (next_cut f.specs f.job c) (c.iteration + 1) is turns_mid
       between_anew = record {
         found = Some c;
@@ -197,13 +216,17 @@ module _ {D W T : Type 0} (d : DiskGhosts D) (w : WireGhosts W) (t : TurnsGhosts
             anew.going wait;
         plain = λ no_balance. absurd (let bad : true ≡ false = sym balance ∙ no_balance in cc);
         able = record {
-          parts = subst (λ (n : ℕ). n ≤ w.parts mid.wire) (sym anew.parts) own_parts;
+          parts = subst (λ (n : ℕ). n ≤ w.parts mid.wire) (sym anew.parts) parts_now;
           mounted = runs.able.mounted;
           files = runs.able.files;
           names = runs.able.names;
           going = going_at (by (next_cut f.specs f.job c)) (Some c) run.keeper q begun;
         };
+        parts = parts_now;
         going = anew.going;
+        folders = keeps.folders ∙ b.folders;
+        points = points_now;
+        values = values_now;
         core = b.core;
         begins = b.begins;
         checkpoints = b.checkpoints ++ c ∷ [];
