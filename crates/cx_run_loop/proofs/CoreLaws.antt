@@ -40,7 +40,7 @@ use Rattle.cx_run_loop.specs.Waiting.{ComesTo, HasCounted, HasGathered}
 use Rattle.cx_run_loop.proofs.ContinueLaws.{done_goes, run_stops}
 use Rattle.cx_run_loop.proofs.FromLaws.{length_count}
 use Rattle.cx_run_loop.proofs.RecutLaws.{next_same}
-use Rattle.cx_run_loop.proofs.SegmentLaws.{begins_there, image_more, outcome, whole_more}
+use Rattle.cx_run_loop.proofs.SegmentLaws.{after_more, after_none, begins_there, comes_after, image_more, outcome, whole_after}
 use Rattle.cx_run_loop.proofs.SumLaws.{count_alone, sum_alone, work_alone}
 use Rattle.cx_run_loop.proofs.TurnLaws.{same_beginning, setup_is}
 
@@ -57,7 +57,7 @@ module _ (s : Setting) (again : State → Parts) where
       driven = y;
       moments = started a.view (IsImageOf (kept_in s a.found));
       images = λ image w. w;
-      whole = λ v w. w;
+      after = after_none (kept_in s a.found) y.of_run;
     };
   }
 
@@ -79,7 +79,7 @@ module _ (s : Setting) (again : State → Parts) where
           driven = z.driven;
           moments = joins (IsImageOf (kept_in s a.found)) x.moments z.moments x.images;
           images = λ image w. x.images image (z.images image w);
-          whole = λ v w. x.whole v (z.whole v w);
+          after = after_more (kept_in s a.found) b.found c.found x.after z.after;
         };
   }
 
@@ -216,7 +216,7 @@ module _ (s : Setting) (laws : DriveLaws s.wire s.job s.rules) (sums : SumsAdd (
           driven = begins_there s laws found c (handed x.there) (comes t) p.view driven;
           moments = x.moments d t y;
           images = image_more s laws found c (handed x.there) (comes t) p.view driven;
-          whole = whole_more s laws found c (handed x.there) (comes t) p.view driven;
+          after = comes_after s laws found c (handed x.there) (comes t) p.view driven;
         };
   }
 
@@ -292,7 +292,7 @@ module _ (s : Setting) (again : State → Parts) (a b : Start) (seg : SegmentTo 
         done_by t ((runs.stands.told t).done is) goes.0 (seg.outcome t ∙ goes.1);
     driven = λ d t y.
         let o = seg.goes_over d t y in
-        o.whole p.view
+        whole_after (kept_in s a.found) b.found p.view o.after
         (subst (λ (l : List Entry). IsDriven (kept_in s b.found) l p.view) (all_handed t)
         (runs.driven d t o.driven));
     settled = runs.settled;

@@ -56,8 +56,6 @@ module _ {D W T : Type 0} (d : DiskGhosts D) (w : WireGhosts W) (t : TurnsGhosts
         (run_state run disk wire meter) turns
     between_own = record {
       found = f.found;
-      first = counts meter (w.received wire) (w.sum wire);
-      old = d.view disk;
       next_is = refl;
       segment = subst (λ (cut : Cuts). SegmentTo (setting_of d w f) (cut_from f.specs f.job)
           (start_of f (counts meter (w.received wire) (w.sum wire)) (d.view disk))
@@ -118,8 +116,6 @@ module _ {D W T : Type 0} (d : DiskGhosts D) (w : WireGhosts W) (t : TurnsGhosts
         (next_after (Some c)) (run_state run disk wire meter) turns
     between_first = record {
       found = Some c;
-      first = counts meter (w.received wire) (w.sum wire);
-      old = d.view disk;
       next_is = refl;
       segment = segment_none (setting_of d w f) (cut_from specs job)
           (start_of f (counts meter (w.received wire) (w.sum wire)) (d.view disk));

@@ -61,7 +61,7 @@ module _ {D W T : Type 0} (d : DiskGhosts D) (w : WireGhosts W) (t : TurnsGhosts
     s = setting d w job_now f.rules
 
     abbrev here : Start
-    here = record { cut = cut; found = b.found; counts = b.first; view = b.old }
+    here = record { cut = cut; found = b.found; counts = p.is.now; view = p.view }
 
     abbrev p : Place s
     p = place_of d w job_now f.rules was
@@ -88,17 +88,17 @@ module _ {D W T : Type 0} (d : DiskGhosts D) (w : WireGhosts W) (t : TurnsGhosts
         goes_here = b.segment.outcome tells ∙ goes
 
         by_balance : (z : Bool) → f.job.balance ≡ z
-            → CountsBelow (setup_of f.job) again (parts_at s here) (entries_at s here) b.first now
+            → CountsBelow (setup_of f.job) again (parts_at s here) (entries_at s here) p.is.now now
         by_balance true same =
-            from same tells b.found b.first b.come.there b.next_is (b.waits same) last goes_here
+            from same tells b.found p.is.now b.come.there b.next_is (b.waits same) last goes_here
             again
         by_balance false no =
-            let h = within tells b.found b.first b.come.there last goes_here in
+            let h = within tells b.found p.is.now b.come.there last goes_here in
             let one = plain_counts no in
             record {
-              points = subst (λ (n : ℕ). now.points ≤ raised b.first.points n) (sym one.points)
+              points = subst (λ (n : ℕ). now.points ≤ raised p.is.now.points n) (sym one.points)
                   h.points;
-              values = subst (λ (n : ℕ). now.values ≤ counted b.first.values n) (sym one.values)
+              values = subst (λ (n : ℕ). now.values ≤ counted p.is.now.values n) (sym one.values)
                   h.values;
             }
 
@@ -117,7 +117,7 @@ module _ {D W T : Type 0} (d : DiskGhosts D) (w : WireGhosts W) (t : TurnsGhosts
           moments = λ dd tt y.
               let o = b.segment.goes_over dd tt y in
               joins (IsImageOf (kept_in (setting_of d w f) f.found)) o.moments
-              (leaves_on s b.found b.first b.old p b.come (d.view disk_after) keeps.moments dd tt
+              (leaves_on s b.found p.is.now p.view p b.come (d.view disk_after) keeps.moments dd tt
               o.driven) o.images;
           mounted = keeps.mounted;
           files = keeps.files;
@@ -138,8 +138,8 @@ module _ {D W T : Type 0} (d : DiskGhosts D) (w : WireGhosts W) (t : TurnsGhosts
       -- balanced, it has saved no checkpoint
       unsaved : f.job.balance ≡ true → IsTrue w.tells → AreUnsaved (entries_at s here)
       unsaved same tells =
-          let it : WaitsFor s b.found b.first p q b.come.there next false =
-          runs.waits same b.found b.first b.come.there in
+          let it : WaitsFor s b.found p.is.now p q b.come.there next false =
+          runs.waits same b.found p.is.now b.come.there in
           works_unsaved (entries_at s here)
           (subst AreUnsaved (sym (it.moves.there.over tells runs.stops))
           (it.unsaved refl b.next_is (b.waits same) tells))
@@ -152,11 +152,11 @@ module _ {D W T : Type 0} (d : DiskGhosts D) (w : WireGhosts W) (t : TurnsGhosts
           by_balance false no = plain_counts no
 
       module _ (leaves : Keeps d w job_now f.rules was mid.disk mid.wire mid.meter) where
-        come : HasCome s b.found b.first b.old q
-        come = comes_on s b.found b.first b.old p b.come q runs.moves leaves.moments
+        come : HasCome s b.found p.is.now p.view q
+        come = comes_on s b.found p.is.now p.view p b.come q runs.moves leaves.moments
 
-        last : RunsFrom s b.found b.first b.old is
-        last = ends s b.found b.first b.old q come is end
+        last : RunsFrom s b.found p.is.now p.view is
+        last = ends s b.found p.is.now p.view q come is end
 
         pub runs_out : RunsBy (setting_of d w f) again start
             (record { is = is.is; view = is.view })

@@ -94,17 +94,23 @@ module _ {D W T : Type 0} (d : DiskGhosts D) (w : WireGhosts W) (t : TurnsGhosts
   abbrev by : Cuts → Setting
   by cut = setting d w (job_by cut) f.rules
 
+  abbrev pub counted_at : RunState D W → Counts
+  counted_at x = counts x.meter (w.received x.wire) (w.sum x.wire)
+
+  abbrev pub start_at : Cuts → Option Checkpoint → RunState D W → Start
+  start_at cut found x =
+      record { cut = cut; found = found; counts = counted_at x; view = d.view x.disk }
+
   -- between two cores: the last one has begun in this cut, and each later checkpoint comes from
   -- this iteration on
-  pub record AreBetween (cut : Cuts) (next : ℕ) (x : RunState D W) (turns_now : T) : Type 1 where
+  pub record AreBetween (cut : Cuts) (next : ℕ) (x : RunState D W) (turns_now : T) : Type 0 where
     pub found : Option Checkpoint
-    pub first : Counts
-    pub old : View
     pub next_is : next ≡ next_after found
     pub segment : SegmentTo (setting_of d w f) again start
-        (record { cut = cut; found = found; counts = first; view = old })
-    pub come : HasCome (by cut) found first old (place_of d w (job_by cut) f.rules x)
-    pub waits : f.job.balance ≡ true → IsWaiting (by cut) found first
+        (start_at cut found x)
+    pub come : HasCome (by cut) found (counted_at x) (d.view x.disk)
+        (place_of d w (job_by cut) f.rules x)
+    pub waits : f.job.balance ≡ true → IsWaiting (by cut) found (counted_at x)
         (place_of d w (job_by cut) f.rules x) come.there
     pub plain : f.job.balance ≡ false → cut ≡ f.job.cut
     pub able : CanAdvance d w (job_by cut) f.rules x
@@ -133,18 +139,20 @@ module _ {D W T : Type 0} (d : DiskGhosts D) (w : WireGhosts W) (t : TurnsGhosts
     abbrev p : Place (by cut)
     p = place_of d w (job_by cut) f.rules mid
 
-    abbrev it : WaitsFor (by cut) b.found b.first (place_of d w (job_by cut) f.rules was) p
+    abbrev it : WaitsFor (by cut) b.found (counted_at was)
+        (place_of d w (job_by cut) f.rules was) p
         b.come.there next true
-    it = runs.waits balance b.found b.first b.come.there
+    it = runs.waits balance b.found (counted_at was) b.come.there
 
-    gathered : HasGathered (by cut) b.found b.first p it.moves.there
+    gathered : HasGathered (by cut) b.found (counted_at was) p it.moves.there
     gathered = it.gathers refl b.next_is (b.waits balance)
 
-    come : HasCome (by cut) b.found b.first b.old p
+    come : HasCome (by cut) b.found (counted_at was) (d.view was.disk) p
     come = record {
       there = it.moves.there;
       driven = λ td tw y. it.moves.driven td tw (b.come.driven td tw y);
-      moments = leaves_on (by cut) b.found b.first b.old (place_of d w (job_by cut) f.rules was)
+      moments = leaves_on (by cut) b.found (counted_at was) (d.view was.disk)
+          (place_of d w (job_by cut) f.rules was)
           b.come p.view keeps.moments;
     }
 
@@ -159,10 +167,11 @@ module _ {D W T : Type 0} (d : DiskGhosts D) (w : WireGhosts W) (t : TurnsGhosts
     segment : SegmentTo (setting_of d w f) again start after
     segment =
         segment_more (setting_of d w f) again start
-        (record { cut = cut; found = b.found; counts = b.first; view = b.old }) after b.segment
+        (start_at cut b.found was) after b.segment
         (segment_cast (setting_of d w f) cut again
-        (record { cut = cut; found = b.found; counts = b.first; view = b.old }) after
-        (segment_one (by cut) laws sums f.specs f.job refl refl b.found b.first b.old p come
+        (start_at cut b.found was) after
+        (segment_one (by cut) laws sums f.specs f.job refl refl b.found (counted_at was)
+        (d.view was.disk) p come
         gathered))
 
     module _ (run : Runs) (anew : BeginsAnew (job_by (next_cut f.specs f.job c)) f.specs f.job c
@@ -207,8 +216,6 @@ module _ {D W T : Type 0} (d : DiskGhosts D) (w : WireGhosts W) (t : TurnsGhosts
       pub between_anew : AreBetween (next_cut f.specs f.job c) (c.iteration + 1) is turns_mid
       between_anew = record {
         found = Some c;
-        first = p.is.now;
-        old = p.view;
         next_is = refl;
         segment = segment;
         come = come_at (by (next_cut f.specs f.job c)) (Some c) run.keeper q begun anew.going;

@@ -26,6 +26,7 @@ use Rattle.law_course.proofs.BeginLaws.{newest_both}
 use Rattle.cx_run_loop.specs.Advances.{HasSaved}
 use Rattle.cx_run_loop.specs.Going.{Setting, IsDriven, IsImageOf, kept_in, run_in, trace_in}
 use Rattle.cx_run_loop.specs.Laws.{DriveLaws}
+use Rattle.cx_run_loop.specs.Segments.{ComesAfter, run_after}
 use Rattle.cx_run_loop.specs.Waiting.{ComesTo}
 use Rattle.cx_run_loop.proofs.TurnLaws.{counted_as, newest_last, same_beginning, so_far_is}
 
@@ -184,24 +185,15 @@ module _ (s : Setting) (laws : DriveLaws s.wire s.job s.rules) (found : Option C
       trail = trail_more w.done w.left image w.trail;
     }
 
-    driven_more : (later : List Entry) (new : View) → IsDriven q later new
-        → IsDriven r (done ++ later) new
-    driven_more later new y = record {
+    pub comes_after : ComesAfter r (Some c)
+    comes_after = record {
       of_run = x.of_run;
-      left = y.left;
-      has = has_more later y.left y.has;
-      files = λ j lt. y.files j lt ∙ sym (output_more later j);
-      stands = subst (λ (n : Option ℕ).
-          Stands (course_by r) n (next_of r (done ++ later) y.left) new)
-          (sym (newest_more later))
-          (subst (λ (k : Option Checkpoint). Stands (course_by r) (newest_of q later) k new)
-          (sym (next_more later y.left)) y.stands);
+      done = done;
+      works = works;
+      outputs = output_more;
+      newest = newest_more;
+      next = next_more;
     }
-
-    pub whole_more : (new : View) → IsDriven q (works_by q) new → IsDriven r (works_by r) new
-    whole_more new y =
-        subst (λ (l : List Entry). IsDriven r l new) (sym works)
-        (driven_more (works_by q) new y)
 
     left_is : x.left ≡ works_by q
     left_is = append_cancel_left done x.left (works_by q) (sym x.has ∙ works)
@@ -220,3 +212,53 @@ module _ (s : Setting) (laws : DriveLaws s.wire s.job s.rules) (found : Option C
           (ap (λ (l : List Entry). next_of r l x.left) (sym (append-nil done))
           ∙ next_more [] x.left ∙ ap (next_of q []) left_is) x.stands);
     }
+
+-- ---- from one run to the next
+
+-- it comes after itself
+pub after_none : (r : KeptRun) → IsFound r.setup r.key r.rules r.found → ComesAfter r r.found
+after_none r of_run = record {
+  of_run = of_run;
+  done = [];
+  works = refl;
+  outputs = λ later j. refl;
+  newest = λ later. refl;
+  next = λ later left. refl;
+}
+
+pub after_more : (r : KeptRun) (f g : Option Checkpoint) → ComesAfter r f
+    → ComesAfter (run_after r f) g → ComesAfter r g
+after_more r f g a b = record {
+  of_run = a.of_run;
+  done = a.done ++ b.done;
+  works = a.works ∙ ap (λ (l : List Entry). a.done ++ l) b.works
+      ∙ sym (append_assoc a.done b.done (works_by (run_after r g)));
+  outputs = λ later j.
+      ap (λ (l : List Entry). output_done r l j) (append_assoc a.done b.done later)
+      ∙ a.outputs (b.done ++ later) j ∙ b.outputs later j;
+  newest = λ later.
+      ap (newest_of r) (append_assoc a.done b.done later)
+      ∙ a.newest (b.done ++ later) ∙ b.newest later;
+  next = λ later left.
+      ap (λ (l : List Entry). next_of r l left) (append_assoc a.done b.done later)
+      ∙ a.next (b.done ++ later) left ∙ b.next later left;
+}
+
+-- where the later run is done, so is the earlier one
+pub whole_after : (r : KeptRun) (f : Option Checkpoint) (v : View) → ComesAfter r f
+    → IsDriven (run_after r f) (works_by (run_after r f)) v → IsDriven r (works_by r) v
+whole_after r f v a y =
+    let later : List Entry = works_by (run_after r f) in
+    subst (λ (l : List Entry). IsDriven r l v) (sym a.works)
+    (record {
+      of_run = a.of_run;
+      left = y.left;
+      has = a.works ∙ ap (λ (l : List Entry). a.done ++ l) y.has
+          ∙ sym (append_assoc a.done later y.left);
+      files = λ j lt. y.files j lt ∙ sym (a.outputs later j);
+      stands = subst (λ (n : Option ℕ).
+          Stands (course_by r) n (next_of r (a.done ++ later) y.left) v) (sym (a.newest later))
+          (subst (λ (k : Option Checkpoint).
+          Stands (course_by r) (newest_of (run_after r f) later) k v)
+          (sym (a.next later y.left)) y.stands);
+    })

@@ -1,6 +1,6 @@
 -- A run whose core is begun anew at each checkpoint: what is known from one core to the next, and
 -- at the end.
-use Rattle.std.specs.Prelude.{ℕ, ◌+◌, ◌%◌, ◌^◌, ◌<◌, ◌≡◌, ◌≢◌, true, List, [], length, Option}
+use Rattle.std.specs.Prelude.{ℕ, ◌+◌, ◌%◌, ◌^◌, ◌<◌, ◌≡◌, ◌≢◌, true, List, [], ◌++◌, length, Option}
 use Rattle.cx_plan.specs.declared.job.Cuts.{Cuts}
 use Rattle.cx_plan.specs.declared.variable.VarId.{VarId}
 use Rattle.cx_plan.specs.Lookups.{is_scalar, levels_of}
@@ -15,7 +15,8 @@ use Rattle.cx_disk.specs.Disk.{Files, View, LeavesOnly}
 use Rattle.cx_wire.specs.Received.{counted}
 use Rattle.cx_chk.specs.declared.checkpoint.Checkpoint.{Checkpoint}
 use Rattle.cx_keep.specs.Trails.{Counts as AreCounted, OutputsSettled}
-use Rattle.law_course.specs.Works.{KeptRun, works_by}
+use Rattle.law_course.specs.Beginnings.{IsFound}
+use Rattle.law_course.specs.Works.{KeptRun, newest_of, next_of, output_done, works_by}
 use Rattle.cx_core.specs.declared.answers.Outcome.TheVariants.{Going, Done}
 use Rattle.cx_core.specs.Hands.{HasScalar, ended_as, last_number}
 use Rattle.cx_core.specs.Starts.{AreEmpty}
@@ -57,13 +58,28 @@ pub record CountsOver (s : Setting) (again : State → Parts) (was is : Start) :
       → CountsBelow (setup_of s.job) again (parts_at s is) (entries_at s is) is.counts now
       → CountsBelow (setup_of s.job) again (parts_at s was) (entries_at s was) was.counts now
 
--- What the disk has of the later run it has of the earlier one, too: at each moment, and once all
--- is done.
-pub record GoesOver (r q : KeptRun) (old new : View) : Type 0 where
-  pub driven : IsDriven q [] new
+-- the run from a checkpoint that was found, instead of what it was from
+abbrev pub run_after : KeptRun → Option Checkpoint → KeptRun
+run_after r found = record r { found = found }
+
+-- what the later run does, the earlier one does after what was done by then
+pub record ComesAfter (r : KeptRun) (found : Option Checkpoint) : Type 0 where
+  pub of_run : IsFound r.setup r.key r.rules r.found
+  pub done : List Entry
+  pub works : works_by r ≡ done ++ works_by (run_after r found)
+  pub outputs : (later : List Entry) (j : ℕ)
+      → output_done r (done ++ later) j ≡ output_done (run_after r found) later j
+  pub newest : (later : List Entry)
+      → newest_of r (done ++ later) ≡ newest_of (run_after r found) later
+  pub next : (later left : List Entry)
+      → next_of r (done ++ later) left ≡ next_of (run_after r found) later left
+
+-- what the disk has of the later run it has of the earlier one, too
+pub record GoesOver (r : KeptRun) (found : Option Checkpoint) (old new : View) : Type 0 where
+  pub driven : IsDriven (run_after r found) [] new
   pub moments : LeavesOnly old new (IsImageOf r)
-  pub images : (image : Files) → IsImageOf q image → IsImageOf r image
-  pub whole : (v : View) → IsDriven q (works_by q) v → IsDriven r (works_by r) v
+  pub images : (image : Files) → IsImageOf (run_after r found) image → IsImageOf r image
+  pub after : ComesAfter r found
 
 -- From where one core began to where another one begins, which ends as the run would have.
 pub record SegmentTo (s : Setting) (again : State → Parts) (was is : Start) : Type 0 where
@@ -71,7 +87,7 @@ pub record SegmentTo (s : Setting) (again : State → Parts) (was is : Start) : 
   pub counts : s.wire → (last : State) → (trace_in s was.found).outcome ≡ Goes last
       → CountsOver s again was is
   pub goes_over : s.disk → s.wire → IsDriven (kept_in s was.found) [] was.view
-      → GoesOver (kept_in s was.found) (kept_in s is.found) was.view is.view
+      → GoesOver (kept_in s was.found) is.found was.view is.view
 
 -- ---- the end
 
