@@ -179,10 +179,15 @@ fn run_cores<D: Disk, W: Wire, T: Turns>(
     sums_add(job);
     let mut next = next_after(&found);
     let mut run = begin_cores(alloc, job, own, routines, run, found)?;
+    cores_wait(job);
     'cores: while run_core(alloc, next, job, routines, &mut run, disk, wire, turns, meter)? {
+        drive_laws(job);
         next = run.saved().iteration + 1;
         run = run.cut_anew(alloc, job, own, routines)?;
+        cores_wait(job);
     }
+    core_stands(job);
+    drive_laws(job);
     run.finish(disk)
 }
 

@@ -10,6 +10,9 @@ use Rattle.cx_run_loop.proofs.BegunLaws as begun_laws
 use Rattle.cx_run_loop.proofs.LeadLaws as lead_laws
 use Rattle.cx_run_loop.proofs.Recast as recast
 use Rattle.cx_run_loop.proofs.CoresGo as cores_go
+use Rattle.cx_run_loop.proofs.CoresBegin as cores_begin
+use Rattle.cx_run_loop.proofs.CoresEnd as cores_end
+use Rattle.cx_run_loop.proofs.CoresLed as cores_led
 use Rattle.cx_run_loop.proofs.laws.sums_add.Goals as goal
 
 pub returns : goal.returns
