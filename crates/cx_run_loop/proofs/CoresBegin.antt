@@ -4,12 +4,15 @@ use Rattle.std.specs.Prelude.{Bool, Option, Some, IsTrue}
 use Rattle.cx_plan.specs.declared.job.Cuts.{Cuts}
 use Rattle.cx_plan.specs.declared.job.Job.{Job}
 use Rattle.cx_plan.specs.Setups.{setup_of}
+use Rattle.cx_rule.specs.Meter.{raised}
 use Rattle.cx_rule.specs.Routine.{Rule}
 use Rattle.cx_rule.specs.States.{State}
 use Rattle.cx_rule.specs.declared.spec.Spec.{Spec}
 use Rattle.cx_cut.specs.Cuts.{Parts, part_count}
 use Rattle.cx_cut.specs.Faults.{parts_of}
 use Rattle.cx_disk.specs.declared.disk.Disk.{Ghosts as DiskGhosts}
+use Rattle.cx_disk.proofs.Moments.{started}
+use Rattle.cx_wire.specs.Received.{counted}
 use Rattle.cx_wire.specs.declared.wire.Wire.{Ghosts as WireGhosts}
 use Rattle.cx_turns.specs.declared.turns.Turns.{Ghosts as TurnsGhosts}
 use Rattle.cx_chk.specs.declared.checkpoint.Checkpoint.{Checkpoint}
@@ -18,9 +21,9 @@ use Rattle.cx_core.specs.declared.answers.Outcome.TheVariants.{Going}
 use Rattle.cx_core.specs.Starts.{AreEmpty, begins_in}
 use Rattle.cx_core.specs.Steps.{Begins, Counts, counts}
 use Rattle.cx_run_loop.specs.Advances.{CanAdvance, RunState, place_of, run_state}
-use Rattle.cx_run_loop.specs.Cores.{BeginsCut, From, next_after, run_by, setting_of, start_of}
+use Rattle.cx_run_loop.specs.Cores.{BeginsCut, From, RunsOn, next_after, run_by, setting_of, start_of}
 use Rattle.cx_run_loop.specs.CoresWait.{CoresWait}
-use Rattle.cx_run_loop.specs.Going.{Setting, Place, IsKept, run_in, setting}
+use Rattle.cx_run_loop.specs.Going.{IsImageOf, IsKept, Place, Setting, kept_in, setting}
 use Rattle.cx_run_loop.specs.Lent.{wired}
 use Rattle.cx_run_loop.specs.Recuts.{cut_from, first_cut, next_cut, swept_cut, weighed_cut, with_cut}
 use Rattle.cx_run_loop.specs.Segments.{SegmentTo, Start}
@@ -141,3 +144,30 @@ module _ {D W T : Type 0} (d : DiskGhosts D) (w : WireGhosts W) (t : TurnsGhosts
       lead = ([], refl);
       cut_is = refl;
     }
+
+-- ---- where nothing was done
+
+no_fewer_points : (first n : ℕ) → first ≤ raised first n
+no_fewer_points first n = omega arith
+
+no_fewer_values : (first n : ℕ) → first ≤ counted first n
+no_fewer_values first n = omega arith
+
+-- there was no memory for a first core
+pub runs_none : {D W : Type 0} → (d : DiskGhosts D) (w : WireGhosts W) (f : From) (run : Runs)
+    (disk : D) (wire : W) (meter : ℕ)
+    → CanAdvance d w f.job f.rules (run_state run disk wire meter)
+    → RunsOn d w f disk disk wire wire meter meter
+runs_none d w f run disk wire meter able = record {
+  moments = λ td tw y.
+      started (d.view disk) (IsImageOf (kept_in (setting_of d w f) f.found));
+  mounted = able.mounted;
+  files = able.files;
+  folders = refl;
+  points = omega arith;
+  values = omega arith;
+  below = λ tells last goes. record {
+    points = no_fewer_points meter _;
+    values = no_fewer_values (w.received wire) _;
+  };
+}
