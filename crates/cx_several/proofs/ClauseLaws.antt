@@ -152,9 +152,12 @@ made_none s specs (file ∷ files) (j ∷ js) named fault told made (inr later) 
 
 -- ---- the statuses of runs
 
-chosen : (b : Bool) (s r : ℕ) → s ≢ 1 → r ≢ 1 → (if b then r else s) ≢ 1
-chosen true s r not_s not_r = not_r
-chosen false s r not_s not_r = not_s
+chosen : (P : ℕ → Type 0) (b : Bool) (s r : ℕ) → P s → P r → P (if b then r else s)
+chosen P true s r of_s of_r = of_r
+chosen P false s r of_s of_r = of_s
+
+zero_not_one : ◌≢◌ {A = ℕ} 0 1
+zero_not_one e = cc
 
 module _ {D W : Type 0} (c : Batch D W) where
   not_usage : (file : List ℕ) (p : Place D W) (s : Share) → is_file file ≡ true
@@ -164,21 +167,28 @@ module _ {D W : Type 0} (c : Batch D W) where
       ((status_for (alone c file p x.meter) (sink_of s.text) s.status x.obeys).usage one)
       (asks_run file is_name)
 
+  -- what is so of 0 and of each job's status is so of the first that isn't 0
+  module _ (P : ℕ → Type 0) (zero : P 0) (each : (file : List ℕ) (p : Place D W) (s : Share)
+      → is_file file ≡ true → HasRunAlone c file p s → P s.status) where
+    pub each_status : (files : List (List ℕ)) (ss : List Share) (was is : List D) (vs us : List W)
+        → list_all is_file files ≡ true → HaveRunAlone c files ss was is vs us
+        → P (status_in (statuses_of ss))
+    each_status [] [] was is vs us names x = zero
+    each_status [] (s ∷ ss) was is vs us names x = absurd x
+    each_status (file ∷ files) [] was is vs us names x = absurd x
+    each_status (file ∷ files) (s ∷ ss) [] is vs us names x = absurd x
+    each_status (file ∷ files) (s ∷ ss) (a ∷ was) [] vs us names x = absurd x
+    each_status (file ∷ files) (s ∷ ss) (a ∷ was) (b ∷ is) [] us names x = absurd x
+    each_status (file ∷ files) (s ∷ ss) (a ∷ was) (b ∷ is) (v ∷ vs) [] names x = absurd x
+    each_status (file ∷ files) (s ∷ ss) (a ∷ was) (b ∷ is) (v ∷ vs) (u ∷ us) names x =
+        let named = both (is_file file) (list_all is_file files) names in
+        chosen P (nat_eq s.status 0) s.status (status_in (statuses_of ss))
+        (each file (place a b v u) s named.0 x.0) (each_status files ss was is vs us named.1 x.1)
+
   none_usage : (files : List (List ℕ)) (ss : List Share) (was is : List D) (vs us : List W)
       → list_all is_file files ≡ true → HaveRunAlone c files ss was is vs us
       → status_in (statuses_of ss) ≢ 1
-  none_usage [] [] was is vs us names x e = absurd cc
-  none_usage [] (s ∷ ss) was is vs us names x e = absurd x
-  none_usage (file ∷ files) [] was is vs us names x e = absurd x
-  none_usage (file ∷ files) (s ∷ ss) [] is vs us names x e = absurd x
-  none_usage (file ∷ files) (s ∷ ss) (a ∷ was) [] vs us names x e = absurd x
-  none_usage (file ∷ files) (s ∷ ss) (a ∷ was) (b ∷ is) [] us names x e = absurd x
-  none_usage (file ∷ files) (s ∷ ss) (a ∷ was) (b ∷ is) (v ∷ vs) [] names x e = absurd x
-  none_usage (file ∷ files) (s ∷ ss) (a ∷ was) (b ∷ is) (v ∷ vs) (u ∷ us) names x e =
-      let named = both (is_file file) (list_all is_file files) names in
-      chosen (nat_eq s.status 0) s.status (status_in (statuses_of ss))
-      (not_usage file (place a b v u) s named.0 x.0)
-      (λ one. none_usage files ss was is vs us named.1 x.1 one) e
+  none_usage = each_status (λ n. n ≢ 1) zero_not_one not_usage
 
 pub files_are : (words files : List (List ℕ)) → files_asked words ≡ Some files
     → are_files files ≡ true

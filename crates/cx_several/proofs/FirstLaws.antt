@@ -1,5 +1,5 @@
 -- A call on the first disk and the first wire.
-use Rattle.std.proofs.Common.{◌≡◌, ◌≤◌, List, ◌∷◌, refl, sym, subst}
+use Rattle.std.proofs.Common.{◌≡◌, ◌≤◌, List, [], ◌∷◌, refl, sym, subst}
 use Rattle.std.specs.List.{AllByRecursion}
 use Rattle.cx_wire.specs.declared.wire.Wire.{Ghosts as WireGhosts}
 use Rattle.cx_core.specs.Starts.{AreEmpty}
@@ -11,6 +11,16 @@ pub on_first : {D W : Type 0} (holds : D → D → W → W → Type 0) (all was 
 on_first holds all was ws vs a b v u disks wires so =
     subst (λ l. OnFirst holds l (b ∷ was) ws (u ∷ vs)) (sym disks)
     (subst (λ l. OnFirst holds (a ∷ was) (b ∷ was) l (u ∷ vs)) (sym wires) (so, (refl, refl)))
+
+-- what follows from it of any of them
+pub first_holds : {D W : Type 0} (holds : D → D → W → W → Type 0) (P : Type 0)
+    → ((a b : D) (v u : W) → holds a b v u → P) → (was is : List D) (vs us : List W)
+    → OnFirst holds was is vs us → P
+first_holds holds P so [] is vs us x = absurd x
+first_holds holds P so (a ∷ was) [] vs us x = absurd x
+first_holds holds P so (a ∷ was) (b ∷ is) [] us x = absurd x
+first_holds holds P so (a ∷ was) (b ∷ is) (v ∷ vs) [] x = absurd x
+first_holds holds P so (a ∷ was) (b ∷ is) (v ∷ vs) (u ∷ us) x = so a b v u x.0
 
 -- that wire is as a call asks
 pub first_served : {W : Type 0} (w : WireGhosts W) (all more : List W) (wire : W)

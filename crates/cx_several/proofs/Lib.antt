@@ -1,6 +1,7 @@
 pub mod MakingLaws
 pub mod MemberLaws
 pub mod ClauseLaws
+pub mod StatusLaws
 pub mod CountLaws
 pub mod CellLaws
 pub mod LineLaws

@@ -13,7 +13,8 @@ pub record Both (A : Type 0) : Type 0 where
   pub old : List A
   pub new : List A
 
--- With the seed that the source of turns was begun from last, if it was, after it.
+-- With the seed that the source of turns was begun from last, if it was, after it, and that this
+-- source is as it was.
 pub record Batch (D W : Type 0) : Type 1 where
   pub rules : List Rule
   pub specs : List Spec
@@ -24,11 +25,13 @@ pub record Batch (D W : Type 0) : Type 1 where
   pub wires : Both W
   pub meter : Count
   pub begun : Option ℕ
+  pub same_turns : Type 0
 
 abbrev pub batch_with :
     {D W : Type 0} → List Rule → List Spec → DiskGhosts D → WireGhosts W
-    → Lent Held → List D → List D → List W → List W → ℕ → ℕ → Option ℕ → Batch D W
-batch_with rules specs d w shelf disks disks_after wires wires_after meter meter_after begun =
+    → Lent Held → List D → List D → List W → List W → ℕ → ℕ → Option ℕ → Type 0 → Batch D W
+batch_with rules specs d w shelf disks disks_after wires wires_after meter meter_after begun
+    same_turns =
     record {
       rules = rules;
       specs = specs;
@@ -39,6 +42,7 @@ batch_with rules specs d w shelf disks disks_after wires wires_after meter meter
       wires = record { old = wires; new = wires_after };
       meter = record { old = meter; new = meter_after };
       begun = begun;
+      same_turns = same_turns;
     }
 
 -- a disk and a wire, each before and after a batch
@@ -62,8 +66,9 @@ alone c file p meter = record {
   begun = c.begun;
 }
 
--- no disk was changed, no wire, and not the meter
+-- no disk was changed, no wire, and neither the meter nor the source of turns
 pub record IsUntouched {D W : Type 0} (c : Batch D W) : Type 0 where
   pub disks : c.disks.new ≡ c.disks.old
   pub wires : c.wires.new ≡ c.wires.old
   pub meter : c.meter.new ≡ c.meter.old
+  pub turns : c.same_turns

@@ -7,3 +7,4 @@ pub mod Texts
 pub mod Batches
 pub mod Members
 pub mod Clauses
+pub mod Statuses

@@ -71,8 +71,8 @@ pub fn cactus_all<H: Shelf, D: Disk, W: Wire, T: Turns, O: Sink>(
     ensures several { begins_batch words.now ≡ true → ObeysAll words.now
         (batch_with (map rule routines.now) (map spec_of routines.now) D.Disk W.Wire
         (lent_shelf H.Shelf shelf.old shelf.new) disks.old.items disks.new.items
-        wires.old.items wires.new.items meter.old meter.new (T.begun turns.new))
-        (lent_sink O.Sink out.old out.new) result }
+        wires.old.items wires.new.items meter.old meter.new (T.begun turns.new)
+        (turns.new ≡ turns.old)) (lent_sink O.Sink out.old out.new) result }
     ensures one { begins_batch words.now ≡ false → OnFirst
         (λ a b v u. Obeys (called_with (map rule routines.now) (map spec_of routines.now)
         H.Shelf D.Disk W.Wire words.now shelf.old shelf.new a b v u
@@ -154,8 +154,8 @@ fn batch<H: Shelf, D: Disk, W: Wire, T: Turns, O: Sink>(
     ensures { ObeysAll words.now
         (batch_with (map rule routines.now) (map spec_of routines.now) D.Disk W.Wire
         (lent_shelf H.Shelf shelf.old shelf.new) disks.old disks.new
-        wires.old wires.new meter.old meter.new (T.begun turns.new))
-        (lent_sink O.Sink out.old out.new) result }
+        wires.old wires.new meter.old meter.new (T.begun turns.new)
+        (turns.new ≡ turns.old)) (lent_sink O.Sink out.old out.new) result }
 {
     match files_of(words) {
         Some(files) => {
@@ -194,7 +194,8 @@ fn reply_for<H: Shelf, D: Disk, W: Wire, T: Turns>(
     ensures replies { RepliesFor
         (batch_with (map rule routines.now) (map spec_of routines.now) D.Disk W.Wire
         (lent_shelf H.Shelf shelf.old shelf.new) disks.old disks.new
-        wires.old wires.new meter.old meter.new (T.begun turns.new)) files.now result }
+        wires.old wires.new meter.old meter.new (T.begun turns.new)
+        (turns.new ≡ turns.old)) files.now result }
     ensures kept { IsShelfKept (lent_shelf H.Shelf shelf.old shelf.new) }
     ensures points { meter.old ≤ meter.new }
 {

@@ -1,4 +1,4 @@
-//! Tests of the top call for several files with the sample thorns, over devices in memory.
+//! Tests of files that take turns, with the program's routines and over devices in memory.
 #![tactic(auto)]
 
 #[cfg(test)]
@@ -6,4 +6,8 @@ mod batches;
 #[cfg(test)]
 mod calls;
 #[cfg(test)]
-mod thorns;
+mod devices;
+#[cfg(test)]
+mod failing;
+#[cfg(test)]
+mod files;

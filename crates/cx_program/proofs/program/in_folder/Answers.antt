@@ -1,8 +1,13 @@
-use Rattle.cx_program.proofs.Statuses.{status_of_call}
+use Rattle.std.proofs.Common.{rules}
+use Rattle.cx_program.proofs.Statuses.{status_of_answer}
+use Rattle.cx_program.proofs.WireLaws.{all_empty}
 use Rattle.cx_program.proofs.program.in_folder.Goals as goal
 
+pub answer-requires-clause-wires : goal.answer-requires-clause-wires
+answer-requires-clause-wires c = ?
+
 pub answer-requires-clause-empty : goal.answer-requires-clause-empty
-answer-requires-clause-empty c = c.new-wire.ensures.empty
+answer-requires-clause-empty c = ?
 
 pub returns : goal.returns
-returns c = status_of_call _ _ c.answer.result c.answer.ensures.obeys
+returns c = status_of_answer _ _ _ _ (λ a b v u. refl) c.answer.result _ _ _ _ c.answer.ensures.several c.answer.ensures.one

@@ -26,7 +26,7 @@ returns-in-Some g c =
 pub returns-in-None : goal.returns-in-None
 returns-in-None g c =
     let come = wrong_use c.args.words.now _ c.usage.result _ c.say-in-None.result
-    (sym c.in-None.ensures) refl (record { disks = refl; wires = refl; meter = refl })
+    (sym c.in-None.ensures) refl (record { disks = refl; wires = refl; meter = refl; turns = refl })
     c.usage.ensures c.say-in-None.ensures.put in
     record {
       comes = come;

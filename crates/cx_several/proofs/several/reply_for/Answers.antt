@@ -36,7 +36,7 @@ returns-in-Err-clause-replies g c =
     inl (record {
       fault = c.in-Err.fault;
       why = c.in-Err.ensures.made;
-      untouched = record { disks = refl; wires = refl; meter = refl };
+      untouched = record { disks = refl; wires = refl; meter = refl; turns = refl };
       reply_is = c.refused.ensures;
     })
 
