@@ -73,7 +73,7 @@ fn in_folder(rt: &HostRuntime, words: &[Text]) -> Result<u8, Memory>
 }
 
 /// Disks over the current folder, which touch it when they are mounted.
-fn folder_disks(rt: &HostRuntime) -> Result<Vec<FolderDisk<HostFolder>>, Memory>
+fn folder_disks(rt: &HostRuntime) -> Result<Vec<FolderDisk<HostFolder<HostRuntime>>>, Memory>
     ensures { IfOk result (λ disks. length disks.items ≡ 8) }
 {
     let alloc = rt.alloc();
