@@ -39,6 +39,19 @@ all_cuttable : (specs : List Spec) (jobs : List Job) → AreServable specs jobs
 all_cuttable specs [] x = tt
 all_cuttable specs (job ∷ jobs) x = (cuttable specs job x.0, all_cuttable specs jobs x.1)
 
+pub others_cuttable : (all others : List Member) (m : Member) → all ≡ m ∷ others
+    → AllByRecursion (λ (m : Member). IsCuttable m.job) all
+    → AllByRecursion (λ (m : Member). IsCuttable m.job) others
+others_cuttable all others m is each =
+    let both : AllByRecursion (λ (m : Member). IsCuttable m.job) (m ∷ others) =
+    subst (λ l. AllByRecursion (λ (m : Member). IsCuttable m.job) l) is each in both.1
+
+pub first_cuttable : (all others : List Member) (m : Member) → all ≡ m ∷ others
+    → AllByRecursion (λ (m : Member). IsCuttable m.job) all → IsCuttable m.job
+first_cuttable all others m is each =
+    let both : AllByRecursion (λ (m : Member). IsCuttable m.job) (m ∷ others) =
+    subst (λ l. AllByRecursion (λ (m : Member). IsCuttable m.job) l) is each in both.0
+
 pub pushed_cuttable : (s : Lent Held) (specs : List Spec) (files : List (List ℕ))
     (old ms : List Member) → old ≡ [] → HasPushed s specs files old ms
     → AllByRecursion (λ (m : Member). IsCuttable m.job) ms

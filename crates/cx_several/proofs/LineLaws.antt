@@ -1,4 +1,4 @@
--- The lines of a batch, one behind the other.
+-- The lines of a batch, one after another.
 use Rattle.std.proofs.Common.{◌≡◌, ◌∙◌, ℕ, List, [], ◌∷◌, ◌++◌, length, sym, ap, subst, refl, arith}
 use Rattle.std.proofs.lemmas.List.{append-nil, append_assoc}
 use Rattle.std.specs.Prelude.{nat_eq, if◌then◌else◌}
@@ -20,7 +20,7 @@ none_added [] [] text same none = record {
 none_added [] (m ∷ ms) text same none = absurd (omega (arith, same))
 none_added (file ∷ files) ms text same none = absurd (omega (arith, none))
 
--- a line, and those of the others behind it
+-- a line, and those of the others after it
 line_first : (file : List ℕ) (files : List (List ℕ)) (m : Member) (ms : List Member)
     (x : Answer) (old one new : List ℕ) (others status : ℕ)
     → AnswersStage m.job m.stage x → one ≡ old ++ line file (text_of x)

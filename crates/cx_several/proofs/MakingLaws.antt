@@ -139,7 +139,7 @@ module _ {H : Type 0} (h : ShelfGhosts H) (specs : List Spec) where
       → HasRisen (record { old = i; new = k })
   rises_more i j k before rose = omega (arith, before, rose)
 
-  -- the file that makes no job stands behind one that makes one
+  -- the file that makes no job is after one that makes one
   unmade_later : (a b c : H) (file named : List ℕ) (files : List (List ℕ)) (job : Job)
       (fault : JobFault) → MakesOn (lent_shelf h a b) file specs (Ok job)
       → IsUnmade (lent_shelf h b c) specs files named fault
@@ -246,7 +246,7 @@ module _ {H : Type 0} (h : ShelfGhosts H) (specs : List Spec) where
   pushed_one a b file job old new (Err e) makes servable is =
       subst (λ (f : BatchFault). IsWhyUnmade (lent_shelf h a b) specs (file ∷ []) f) (sym is) tt
 
-  -- a file that makes no job goes before those behind it
+  -- a file that makes no job goes before those after it
   unmade_before : (a b : H) (file named : List ℕ) (files : List (List ℕ)) (fault : JobFault)
       → IsUnmade (lent_shelf h a b) specs (file ∷ []) named fault
       → IsUnmade (lent_shelf h a b) specs (file ∷ files) named fault

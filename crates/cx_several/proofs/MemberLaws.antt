@@ -46,7 +46,7 @@ asks_run file is = asked_if (is_file file) (request commands.Run file 0) is
 was_said : (x : Answer) → WasSaid (sink_of (text_of x)) x (status_of x)
 was_said x = inl (inl (record { status_is = refl; count = refl; text_is = λ told. refl }))
 
--- what follows from what stands behind an answer, and from what was said
+-- what follows from the cause of an answer, and from what was said
 record IsCounted (c : Call) : Type 0 where
   pub held : c.shelf.tells → c.shelf.new ≡ c.shelf.old
   pub shelf : c.shelf.faults.old ≤ c.shelf.faults.new

@@ -1,4 +1,4 @@
--- The words behind `refused: `.
+-- The words after `refused: `.
 use Rattle.std.proofs.Common.{◌≡◌, ◌≤◌, ℕ, List, [], ◌∷◌, ◌++◌, drop, length, refl, arith}
 use Rattle.cx_job.specs.declared.fault.JobFault.{JobFault}
 use Rattle.cx_run.specs.FaultWords.{fault_words, refused_text}
@@ -10,5 +10,5 @@ long_enough fault = by (fault_words fault ++ 10 ∷ [])
         → 9 ≤ length (114 ∷ 101 ∷ 102 ∷ 117 ∷ 115 ∷ 101 ∷ 100 ∷ 58 ∷ 32 ∷ rest)
     by rest = omega arith
 
-pub behind_is : (fault : JobFault) → drop 9 (refused_text fault) ≡ fault_words fault ++ 10 ∷ []
-behind_is fault = refl
+pub after_is : (fault : JobFault) → drop 9 (refused_text fault) ≡ fault_words fault ++ 10 ∷ []
+after_is fault = refl

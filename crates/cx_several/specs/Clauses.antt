@@ -62,7 +62,7 @@ Comes words c sink result =
 -- ---- what all have counted
 
 -- The meter, a number of 128 bits, has risen by the sum of what was left of the jobs. At its type's
--- end it stands still.
+-- end it stays.
 pub record HasCounted {D W : Type 0} (c : Batch D W) (jobs : List Job) : Type 0 where
   pub points : List ℕ
   pub left : AreLeft c jobs c.disks.old points

@@ -22,8 +22,8 @@ shared_with a (file ∷ files) (job ∷ jobs) =
 abbrev pub pair_with : List ℕ → Option (List ℕ) → Option (List ℕ × List ℕ)
 pair_with first second = option_map (λ file. (first, file)) second
 
--- the first two files whose jobs share a folder: of several pairs the one with the first file that
--- stands first, and of these the one with the second
+-- the first two files whose jobs share a folder: of several pairs the one whose first file comes
+-- first, and of these the one whose second file does
 abbrev pub same_folder : List (List ℕ) → List Job → Option (List ℕ × List ℕ)
 same_folder [] jobs = None
 same_folder (file ∷ files) [] = None

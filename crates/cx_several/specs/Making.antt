@@ -111,7 +111,7 @@ pub record HasMembers (s : Lent Held) (specs : List Spec) (files : List (List �
   pub are : AreJobs s specs files jobs
   pub members : ms ≡ map waiting jobs
 
--- such members were put behind those that there were
+-- such members were put after those that there were
 pub record HasPushed (s : Lent Held) (specs : List Spec) (files : List (List ℕ))
     (old new : List Member) : Type 0 where
   pub jobs : List Job

@@ -57,7 +57,7 @@ pub record HasRunAlone {D W : Type 0} (c : Batch D W) (file : List ℕ) (p : Pla
   pub within : meter.new ≤ c.meter.new
   pub obeys : Obeys (alone c file p meter) (sink_of s.text) s.status
 
--- so are all jobs; the disks and wires behind them are as they were
+-- so are all jobs; the disks and wires after them are as they were
 abbrev pub HaveRunAlone : {D W : Type 0} → Batch D W → List (List ℕ) → List Share
     → (disks disks_after : List D) → (wires wires_after : List W) → Type 0
 HaveRunAlone c [] [] was is vs us = (is ≡ was) × (us ≡ vs)
@@ -118,7 +118,7 @@ answer_texts xs = map text_of xs
 abbrev pub answer_statuses : List Answer → List ℕ
 answer_statuses xs = map status_of xs
 
--- a line was put behind a text for a member's run
+-- a line was put after a text for a member's run
 pub record HasLine (file : List ℕ) (m : Member) (old new : List ℕ) (status : ℕ) : Type 0 where
   pub answer : Answer
   pub is : AnswersStage m.job m.stage answer
@@ -133,7 +133,7 @@ pub record AddsLines (files : List (List ℕ)) (ms : List Member) (added : List 
   pub lines_are : added ≡ lines files (answer_texts answers)
   pub status_is : status ≡ status_in (answer_statuses answers)
 
--- they were put behind a text
+-- they were put after a text
 pub record HasAdded (files : List (List ℕ)) (ms : List Member) (old new : List ℕ) (status : ℕ)
     : Type 0 where
   pub added : List ℕ

@@ -12,7 +12,7 @@ begins_batch (word ∷ words) = bytes_eq word (codes "batch")
 abbrev pub are_files : List (List ℕ) → Bool
 are_files words = nat_le 2 (length words) && nat_le (length words) 8 && list_all is_file words
 
--- the files behind the first word
+-- the files after the first word
 abbrev pub files_asked : List (List ℕ) → Option (List (List ℕ))
 files_asked [] = None
 files_asked (word ∷ words) = if are_files words then Some words else None

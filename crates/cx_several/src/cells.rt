@@ -80,17 +80,16 @@ fn owned_by(job: &Job) -> u64
 }
 
 /// The local cells of all jobs, or the greatest number of 64 bits.
+#[tactic(auto, using(crate::proofs::CellLaws::others_cuttable, crate::proofs::CellLaws::first_cuttable))]
 fn local_by_all(alloc: Global, members: &[Member]) -> Result<u64, Memory>
     requires { AllByRecursion (λ m. IsCuttable m.job) members.now }
     ensures { IfOk result (λ n. n ≡ in_64_bits (local_by_all (jobs_of members.now))) }
 {
-    match members {
-        [] => Ok(0),
-        [member, others @ ..] => {
-            let more = local_by_all(alloc, others)?;
-            local_with(alloc, &member.job, more)
-        }
-    }
+    let Some((member, others)) = members.split_first() else {
+        return Ok(0);
+    };
+    let more = local_by_all(alloc, others)?;
+    local_with(alloc, &member.job, more)
 }
 
 /// The local cells of a job and so many more, or the greatest number of 64 bits.

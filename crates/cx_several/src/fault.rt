@@ -82,7 +82,7 @@ fn unmade_text(alloc: Global, file: &Text, fault: JobFault) -> Result<Text, Memo
         ++ (fault_words fault ++ 10 ∷ [])) }
 {
     let refused = Answer::Refused(fault).text(alloc)?;
-    refused_line(alloc, file, behind_refused(refused.as_slice()))
+    refused_line(alloc, file, after_refused(refused.as_slice()))
 }
 
 /// The line of a file that is refused for what these words say.
@@ -97,8 +97,8 @@ fn refused_line(alloc: Global, file: &Text, words: &[u8]) -> Result<Text, Memory
     Ok(text)
 }
 
-/// What stands behind `refused: `, nine bytes.
-fn behind_refused(text: &[u8]) -> &[u8]
+/// What comes after `refused: `, nine bytes.
+fn after_refused(text: &[u8]) -> &[u8]
     requires { 9 ≤ length text.now }
     ensures { result.now ≡ drop 9 text.now }
 {

@@ -51,7 +51,7 @@ use std::alloc::Global;
 ///
 /// Each job's disk, wire, text and status are as after `run` of its file alone, on a meter of its own, whatever the other jobs and their
 /// devices do; the one meter counts the sum. Where the words name no such files or the jobs aren't run, no disk, no wire and no
-/// meter is touched, and disks and wires behind those of the jobs never are.
+/// meter is touched, and disks and wires after those of the jobs never are.
 pub fn cactus_all<H: Shelf, D: Disk, W: Wire, T: Turns, O: Sink>(
     alloc: Global,
     words: &[Text],

@@ -16,7 +16,7 @@ pub(crate) fn begins_batch(words: &[Text]) -> bool
     }
 }
 
-/// The files behind the first word, if there are two to eight and each is the name of one.
+/// The files after the first word, if there are two to eight and each is the name of one.
 pub(crate) fn files_of(words: &[Text]) -> Option<&[Text]>
     ensures { option_map (λ files. files.now) result ≡ files_asked words.now }
 {
