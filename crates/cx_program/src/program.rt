@@ -78,7 +78,7 @@ fn folder_disks(rt: &HostRuntime) -> Result<Vec<FolderDisk<HostFolder<HostRuntim
 {
     let alloc = rt.alloc();
     let mut disks = Vec::new(alloc);
-    for _ in 0..MOST_FILES {
+    'disks: for _ in 0..MOST_FILES {
         disks.push(FolderDisk::new(HostFolder::new(rt.clone()?, alloc), alloc))?;
     }
     Ok(disks)
@@ -89,7 +89,7 @@ fn late_wires(alloc: Global) -> Result<Vec<LateWire>, Memory>
     ensures { IfOk result (λ wires. wires.items ≡ replicate 8 (new_wire 512)) }
 {
     let mut wires = Vec::new(alloc);
-    for _ in 0..MOST_FILES {
+    'wires: for _ in 0..MOST_FILES {
         wires.push(LateWire::new(alloc, MOST_PARTS))?;
     }
     Ok(wires)

@@ -2,6 +2,7 @@
 use Rattle.std.proofs.Common.{◌≡◌, ◌⊎◌, ℕ, ◌≤◌, List, None, inl, inr, Some, arith}
 use Rattle.cx_run.specs.Answers.{IsStatus}
 use Rattle.cx_run.specs.Calls.{Lent}
+use Rattle.cx_run.specs.Texts.{usage_text}
 use Rattle.cx_run.specs.Words.{is_file, request}
 use Rattle.cx_run.specs.declared.words.Command.TheVariants.{Run}
 use Rattle.cx_run.proofs.Readings.{status_for}
@@ -49,7 +50,7 @@ module _ {D W : Type 0} (words : List (List ℕ)) (c : Batch D W) (sink : Lent (
       (λ seven. is.refused (request Run file 0) (asks_run file is_name) seven)
 
   known : Comes words c sink result → result ≤ 6
-  known (inl x) = result_six 1 result (omega arith) (result_of sink 1 _ result x.said)
+  known (inl x) = result_six 1 result (omega arith) (result_of sink 1 usage_text result x.said)
   known (inr (inl x)) =
       result_six (fault_status x.fault) result (fault_six x.fault)
       (result_of sink (fault_status x.fault) (fault_text x.fault) result x.said)
@@ -63,7 +64,7 @@ module _ {D W : Type 0} (words : List (List ℕ)) (c : Batch D W) (sink : Lent (
 
   wrong_use : Comes words c sink result → files_asked words ≡ None
       → (result ≡ 1) ⊎ ((result ≡ 4) ⊎ (result ≡ 5))
-  wrong_use (inl x) none = result_of sink 1 _ result x.said
+  wrong_use (inl x) none = result_of sink 1 usage_text result x.said
   wrong_use (inr (inl x)) none = absurd (none_some (files_asked words) x.files none x.asks)
   wrong_use (inr (inr x)) none = absurd (none_some (files_asked words) x.files none x.asks)
 

@@ -60,7 +60,7 @@ pub(crate) fn wires(alloc: Global) -> Result<Vec<MemoryWire>, Memory>
         (λ wire. (512 ≤ wire.parts) × AreEmpty (told_queue wire)) wires.items) }
 {
     let mut wires = Vec::new(alloc);
-    for _ in 0..8_u8 {
+    'wires: for _ in 0..8_u8 {
         wires.push(wire(alloc)?)?;
     }
     Ok(wires)
@@ -73,7 +73,7 @@ pub(crate) fn cut_wires(alloc: Global, call: u64) -> Result<Vec<FailingWire>, Me
         (λ wire. (512 ≤ wire.wire.parts) × AreEmpty (told_queue wire.wire)) wires.items) }
 {
     let mut wires = Vec::new(alloc);
-    for job in 0..8_u8 {
+    'wires: for job in 0..8_u8 {
         let fail = if job == 1 { call } else { u64::MAX };
         wires.push(failing(alloc, fail)?)?;
     }

@@ -3,5 +3,5 @@ use Rattle.std.specs.Prelude.{replicate}
 use Rattle.cx_wire.specs.Memory.{new_wire}
 use Rattle.cx_program.proofs.program.late_wires.Given as goal
 
-abbrev pub invariant-loop : goal.invariant-loop
-invariant-loop l = l.wires.items ≡ replicate l.counter (new_wire 512)
+abbrev pub invariant-wires : goal.invariant-wires
+invariant-wires l = l.wires.items ≡ replicate l.counter (new_wire 512)
