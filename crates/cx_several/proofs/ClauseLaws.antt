@@ -55,6 +55,7 @@ comes words c files reply sink result asks (inr x) put = inr (inr (record {
   jobs = x.jobs;
   are = x.are;
   turns = record {
+    begun = x.begun;
     shares = x.shares;
     each = x.each;
     meter = x.meter;

@@ -233,6 +233,7 @@ module _ {D W : Type 0} (c : Batch D W) (begun : c.begun ≡ Some 0) (kept : IsS
   turned_with files jobs ms xs reply names are e ran counts answers replied = record {
     jobs = jobs;
     are = are;
+    begun = begun;
     shares = shares ms xs;
     each = all_alone files jobs ms xs c.disks.old c.disks.new c.wires.old c.wires.new names are.made
         are.servable e ran answers;

@@ -37,10 +37,11 @@ pub record IsRefused {D W : Type 0} (words : List (List ℕ)) (c : Batch D W) (s
   pub untouched : IsUntouched c
   pub said : IsReplied sink (fault_status fault) (fault_text fault) result
 
--- The jobs have taken turns: each is as after its run alone. The meter has counted the sum, and a
--- line of each is printed.
+-- The jobs have taken turns, begun from 0: each is as after its run alone. The meter has counted
+-- the sum, and a line of each is printed.
 pub record HasTakenTurns {D W : Type 0} (c : Batch D W) (files : List (List ℕ))
     (sink : Lent (List ℕ)) (result : ℕ) : Type 0 where
+  pub begun : c.begun ≡ Some 0
   pub shares : List Share
   pub each : HaveRunAlone c files shares c.disks.old c.disks.new c.wires.old c.wires.new
   pub meter : c.meter.new ≡ c.meter.old + spent_on shares

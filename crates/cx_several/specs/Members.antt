@@ -1,5 +1,5 @@
 -- What comes of each job of a batch.
-use Rattle.std.specs.Prelude.{◌≡◌, ◌⊎◌, ◌+◌, ◌≤◌, ℕ, List, [], ◌∷◌, map, sum, ◌++◌, Option, Result, IfOk}
+use Rattle.std.specs.Prelude.{◌≡◌, ◌⊎◌, ◌+◌, ◌≤◌, ℕ, List, [], ◌∷◌, map, sum, ◌++◌, Option, Some, Result, IfOk}
 use Rattle.cx_plan.specs.Setups.{setup_of}
 use Rattle.cx_plan.specs.declared.job.Job.{Job}
 use Rattle.cx_plan.specs.declared.job.Recover.TheVariants.{No}
@@ -166,11 +166,12 @@ pub record IsRefusedBy {D W : Type 0} (c : Batch D W) (files : List (List ℕ))
   pub reply_is : IfOk reply
       (λ r. (r.status ≡ fault_status fault) × (r.text ≡ fault_text fault))
 
--- they have taken turns
+-- they have taken turns, begun from 0
 pub record HaveTurned {D W : Type 0} (c : Batch D W) (files : List (List ℕ))
     (reply : Result Reply Memory) : Type 0 where
   pub jobs : List Job
   pub are : AreJobs c.shelf c.specs files jobs
+  pub begun : c.begun ≡ Some 0
   pub shares : List Share
   pub each : HaveRunAlone c files shares c.disks.old c.disks.new c.wires.old c.wires.new
   pub meter : c.meter.new ≡ c.meter.old + spent_on shares
