@@ -19,14 +19,14 @@ use Rattle.cx_several.proofs.MemberLaws.{asks_run}
 
 -- a status that isn't 7
 six_of : (s : ℕ) → IsStatus s → (s ≡ 7 → ⊥) → s ≤ 6
-six_of s (inl e) not = omega (arith, e)
-six_of s (inr (inl e)) not = omega (arith, e)
-six_of s (inr (inr (inl e))) not = omega (arith, e)
-six_of s (inr (inr (inr (inl e)))) not = omega (arith, e)
-six_of s (inr (inr (inr (inr (inl e))))) not = omega (arith, e)
-six_of s (inr (inr (inr (inr (inr (inl e)))))) not = omega (arith, e)
-six_of s (inr (inr (inr (inr (inr (inr (inl e))))))) not = omega (arith, e)
-six_of s (inr (inr (inr (inr (inr (inr (inr e))))))) not = absurd (not e)
+six_of s (inl e) differs = omega (arith, e)
+six_of s (inr (inl e)) differs = omega (arith, e)
+six_of s (inr (inr (inl e))) differs = omega (arith, e)
+six_of s (inr (inr (inr (inl e)))) differs = omega (arith, e)
+six_of s (inr (inr (inr (inr (inl e))))) differs = omega (arith, e)
+six_of s (inr (inr (inr (inr (inr (inl e)))))) differs = omega (arith, e)
+six_of s (inr (inr (inr (inr (inr (inr (inl e))))))) differs = omega (arith, e)
+six_of s (inr (inr (inr (inr (inr (inr (inr e))))))) differs = absurd (differs e)
 
 fault_six : (fault : BatchFault) → fault_status fault ≤ 6
 fault_six batch.Shelf = omega arith
