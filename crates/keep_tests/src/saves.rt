@@ -17,23 +17,37 @@ use std::alloc::Global;
 use std::test::Fail;
 use test_cases::same;
 
+/// The names of both outputs.
+fn names(alloc: Global) -> Result<List<Text>, Fail>
+    ensures { IfOk result (λ names. names ≡ sample_checkpoint.names) }
+{
+    let phi = text(alloc, b"wave::phi.asc")?;
+    let total = text(alloc, b"wave::total.asc")?;
+    Ok(List::new(Vec::from_array(alloc, [phi, total])?))
+}
+
+/// One level, with 0 and 1.
+fn levels(alloc: Global) -> Result<List<List<i64>>, Fail>
+    ensures { IfOk result (λ levels. levels ≡ sample_checkpoint.levels) }
+{
+    let level = List::new(Vec::from_array(alloc, [0, 1])?);
+    Ok(List::new(Vec::from_array(alloc, [level])?))
+}
+
 /// A checkpoint of iteration 20 behind three bytes and two bytes of output, with a scalar of -1, and a level with 0 and 1.
 fn checkpoint(alloc: Global) -> Result<Checkpoint, Fail>
     ensures { IfOk result (λ c. c ≡ sample_checkpoint) }
 {
-    let names = [
-        text(alloc, b"wave::phi.asc")?,
-        text(alloc, b"wave::total.asc")?,
-    ];
-    let level = List::new(Vec::from_array(alloc, [0, 1])?);
+    let lengths = Vec::from_array(alloc, [3, 2])?;
+    let scalars = Vec::from_array(alloc, [-1])?;
     Ok(Checkpoint {
         version: 2,
         iteration: 20,
         key: key(alloc)?,
-        names: List::new(Vec::from_array(alloc, names)?),
-        lengths: List::new(Vec::from_array(alloc, [3, 2])?),
-        scalars: List::new(Vec::from_array(alloc, [-1])?),
-        levels: List::new(Vec::from_array(alloc, [level])?),
+        names: names(alloc)?,
+        lengths: List::new(lengths),
+        scalars: List::new(scalars),
+        levels: levels(alloc)?,
     })
 }
 
@@ -140,7 +154,27 @@ fn a_run_that_stops(rt: HostRuntime) -> Result<(), Fail> {
     Ok(())
 }
 
-/// A start from these slots that stops after so many calls of the disk, and what one comes to behind it, with its outputs.
+/// A start on a disk, whatever it comes to.
+fn start_on<D: Disk>(alloc: Global, disk: &mut D) -> Result<(), Fail> {
+    let job = job(alloc, true, Recover::Auto)?;
+    let _words = begin_words(alloc, disk, &job)?;
+    Ok(())
+}
+
+/// An image of the disk behind a start from these slots that stops after so many calls of it.
+fn stopped_start(
+    alloc: Global,
+    slots: &[Slot],
+    outputs: &[&[u8]],
+    calls: u64,
+    choice: u64,
+) -> Result<MemoryDisk, Fail> {
+    let mut stopping = FuseDisk::new(disk(alloc, slots, outputs)?, calls);
+    start_on(alloc, &mut stopping)?;
+    Ok(stopping.into_image(choice)?)
+}
+
+/// What a start comes to behind one that stops after so many calls of the disk, with its outputs.
 fn behind(
     alloc: Global,
     slots: &[Slot],
@@ -148,10 +182,7 @@ fn behind(
     calls: u64,
     choice: u64,
 ) -> Result<(String, MemoryDisk), Fail> {
-    let mut stopping = FuseDisk::new(disk(alloc, slots, outputs)?, calls);
-    let job = job(alloc, true, Recover::Auto)?;
-    let _stopped = begin_words(alloc, &mut stopping, &job)?;
-    let mut image = stopping.into_image(choice)?;
+    let mut image = stopped_start(alloc, slots, outputs, calls, choice)?;
     let words = start_words(alloc, &mut image, true, Recover::Auto)?;
     Ok((words, image))
 }
