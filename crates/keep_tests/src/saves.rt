@@ -12,7 +12,7 @@ use cx_chk::Checkpoint;
 use cx_disk::{Disk, FuseDisk, MemoryDisk};
 use cx_keep::{BeginFault, Keep};
 use cx_plan::{Job, Recover, VarId};
-use cx_text::List;
+use cx_text::{List, Text};
 use std::alloc::Global;
 use std::test::Fail;
 use test_cases::same;
@@ -24,6 +24,20 @@ fn names(alloc: Global) -> Result<List<Text>, Fail>
     let phi = text(alloc, b"wave::phi.asc")?;
     let total = text(alloc, b"wave::total.asc")?;
     Ok(List::new(Vec::from_array(alloc, [phi, total])?))
+}
+
+/// Three bytes and two bytes of output.
+fn lengths(alloc: Global) -> Result<List<u64>, Fail>
+    ensures { IfOk result (λ lengths. lengths ≡ sample_checkpoint.lengths) }
+{
+    Ok(List::new(Vec::from_array(alloc, [3, 2])?))
+}
+
+/// One scalar, of -1.
+fn scalars(alloc: Global) -> Result<List<i64>, Fail>
+    ensures { IfOk result (λ scalars. scalars ≡ sample_checkpoint.scalars) }
+{
+    Ok(List::new(Vec::from_array(alloc, [-1])?))
 }
 
 /// One level, with 0 and 1.
@@ -38,15 +52,13 @@ fn levels(alloc: Global) -> Result<List<List<i64>>, Fail>
 fn checkpoint(alloc: Global) -> Result<Checkpoint, Fail>
     ensures { IfOk result (λ c. c ≡ sample_checkpoint) }
 {
-    let lengths = Vec::from_array(alloc, [3, 2])?;
-    let scalars = Vec::from_array(alloc, [-1])?;
     Ok(Checkpoint {
         version: 2,
         iteration: 20,
         key: key(alloc)?,
         names: names(alloc)?,
-        lengths: List::new(lengths),
-        scalars: List::new(scalars),
+        lengths: lengths(alloc)?,
+        scalars: scalars(alloc)?,
         levels: levels(alloc)?,
     })
 }

@@ -5,10 +5,10 @@ ghost use Rattle.cx_rule.specs.Staging.{CanStage, CanCommit};
 ghost use Rattle.cx_rule.specs.Swept.{IsSamePatch, swept_zone};
 ghost use Rattle.cx_rule.specs.Zones.{in_zone};
 ghost use Rattle.cx_thorn_ca.specs.Automaton.{ca_step_spec};
-ghost use Rattle.thorns_tests.specs.Fields.{field_vars, IsFieldFor, IsTested, IsTrial};
+ghost use Rattle.thorns_tests.specs.Fields.{field_vars, IsTrial};
 
 use crate::fields::Grid;
-use crate::trials::{Field, field_for, first_item, in_zone, part_of, shown, window_point};
+use crate::trials::{field_for, first_item, in_zone, part_of, shown, window_point};
 use cx_grid::{Point, contains};
 use cx_plan::Item;
 use cx_rule::{Meter, Patch, Routine, Zone};
@@ -108,33 +108,19 @@ fn set_all(rt: &HostRuntime, routine: &Box<dyn Routine>, item: &Item, patch: &mu
     set_staged(item, patch, &zone) && given
 }
 
-/// What the row of a field has then, where each stage is done.
-fn staged_in<R: Routine>(
-    rt: &HostRuntime,
-    routine: &Box<dyn Routine>,
-    step: &R,
-    field: &Field,
-) -> Result<Option<Vec<i64>>, Fail>
-    requires same { spec_of routine.now ≡ R.spec_of step.now }
-    requires tested { IsTested (R.spec_of step.now) }
-    requires field { IsFieldFor (R.spec_of step.now)
-        field.now.shape field.now.cut field.now.items }
-{
-    let item = first_item(&field.items);
-    let mut patch = part_of(rt, step, field, 0)?;
-    if set_all(rt, routine, item, &mut patch) {
-        return Ok(Some(shown(rt, &patch)?));
-    }
-    Ok(None)
-}
-
-/// What the row of cells has then, where each stage is done.
+/// What the row has then, where each stage is done.
+#[tactic(auto, using(crate::proofs::TestedSpecs::ca_step))]
 fn staged(rt: &HostRuntime, routine: &Box<dyn Routine>) -> Result<Option<Vec<i64>>, Fail>
     requires { spec_of routine.now ≡ ca_step_spec }
 {
     let step = CaStep::new(rt.alloc())?;
     let field = field_for(rt, &step, Grid::Line(7), &[], &[110, 0, 0, 0], &CELLS)?;
-    staged_in(rt, routine, &step, &field)
+    let item = first_item(&field.items);
+    let mut patch = part_of(rt, &step, &field, 0)?;
+    if set_all(rt, routine, item, &mut patch) {
+        return Ok(Some(shown(rt, &patch)?));
+    }
+    Ok(None)
 }
 
 #[test]

@@ -6,7 +6,7 @@ returns c =
     rw (
       c.in_ok-key.ensures,
       c.in_ok-names.ensures,
-      c.in_ok-lengths.ensures.items,
-      c.in_ok-scalars.ensures.items,
+      c.in_ok-lengths.ensures,
+      c.in_ok-scalars.ensures,
       c.in_ok-levels.ensures,
     ) refl
