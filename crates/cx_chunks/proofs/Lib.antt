@@ -12,3 +12,5 @@ pub mod WholeLaws
 pub mod RowPlaces
 pub mod FindLaws
 pub mod TurnLaws
+pub mod RowTexts
+pub mod RunLaws

@@ -116,7 +116,7 @@ module _ (c : Parts) (is : IsWhole c) (k : ℕ) (there : k < part_count c) where
   place_there : (d : ℕ) → d < 3 → place_along c k d < length (widths c d)
   place_there = place_below c k there
 
-  extent_size : (d : ℕ) → d < 3 → IsSize (extent (owned c k) d)
+  pub extent_size : (d : ℕ) → d < 3 → IsSize (extent (owned c k) d)
   extent_size = by_direction (λ d. IsSize (extent (owned c k) d))
       (axis_size c.x (place_along c k 0) _ _ is.cut.x is.shape.x.most (place_there 0 (omega arith)))
       (axis_size c.y (place_along c k 1) _ _ is.cut.y is.shape.y.most (place_there 1 (omega arith)))

@@ -1,8 +1,7 @@
 -- Rows of a part's box: their places in the grid, and their values one after another.
-use Rattle.std.proofs.Common.{◌≡◌, ℕ, zero, suc, ◌+◌, ◌-◌, ◌*◌, ◌/◌, ◌%◌, ◌<◌, ◌≤◌, ◌⊎◌, inl, inr, arith, refl, sym, ap, ◌∙◌, subst, mul-le-mul_left, ℤ, pos, ◌+ℤ◌, ◌≤ℤ◌, List, [], ◌∷◌, ◌++◌, append_assoc, min, length, map, take, drop, replicate}
+use Rattle.std.proofs.Common.{◌≡◌, ℕ, zero, suc, ◌+◌, ◌-◌, ◌*◌, ◌/◌, ◌%◌, ◌<◌, ◌≤◌, ◌⊎◌, inl, inr, arith, refl, sym, ap, ◌∙◌, subst, mul-le-mul_left, ℤ, pos, ◌+ℤ◌, ◌≤ℤ◌, List, [], ◌∷◌, ◌++◌, append_assoc, min, length, take, drop, replicate}
 use Rattle.std.specs.Prelude.{slice_index_or}
 use Rattle.std.specs.Int.{int_gap}
-use Rattle.std.specs.List.{range_with_len}
 use Rattle.std.proofs.Math.Nat.{div-lt_iff_lt-mul}
 use Rattle.std.proofs.Math.Seq.{take-append_seam}
 use Rattle.std.proofs.lemmas.Bool.{cases_lt}
@@ -154,28 +153,6 @@ pub value_is : (xs : List ℤ) (from n j : ℕ) → j < n
 value_is xs from n j l =
     get_or-map-range_with_len (λ i. slice_index_or xs (from + i) (pos 0)) 0 n j j (pos 0) l
     (omega arith)
-
--- a list grows by a row
-pub grown_row : (f : ℕ → ℤ) (old new row : List ℤ) (i n : ℕ) → old ≡ map f (range_with_len 0 i)
-    → length row ≡ n
-    → ((j : ℕ) → j < n → slice_index_or row j (pos 0) ≡ f (i + j)) → new ≡ old ++ row
-    → new ≡ map f (range_with_len 0 (i + n))
-grown_row f old new row i n before count same now =
-    let size : length old ≡ i = ap length before ∙ length-map-range_with_len f 0 i in
-    let all = length-append old row in
-    now ∙ fill_by_all f (old ++ row) (i + n) (pos 0) (omega (arith, size, all, count))
-    (λ k l. number k l size (cases_lt k i))
-  where
-    number : (k : ℕ) → k < i + n → length old ≡ i → (k < i) ⊎ (i ≤ k)
-        → slice_index_or (old ++ row) k (pos 0) ≡ f k
-    number k l size (inl m) =
-        get_or_append_left old row (pos 0) k (omega (arith, size, m))
-        ∙ ap (λ (xs : List ℤ). slice_index_or xs k (pos 0)) before
-        ∙ get_or-map-range_with_len f 0 i k k (pos 0) m (omega arith)
-    number k l size (inr m) =
-        let e : i + (k - i) ≡ k = omega (arith, m) in
-        get_or-append_right old row i k (pos 0) size m
-        ∙ same (k - i) (omega (arith, l, m)) ∙ ap f e
 
 -- ---- a list with a row
 
@@ -437,20 +414,3 @@ put_more all own values old level next inside i w spot start below put width pla
     subst (λ n. IsPut all own values old (i + n) next) (sym width)
     (subst (λ (l : List ℤ). IsPut all own values old (i + extent own 0) l) (sym e)
     (row_put all own values old level inside i start below put))
-
-pub cut_more : (all own : Box3) (level old new : List ℤ)
-    → ((p : Point) → IsIn own p → IsIn all p) → (i w spot : ℕ) → IsStart own i → i < point_count own
-    → w ≡ extent own 0 → spot ≡ index_in all (point_in own i)
-    → old ≡ map (λ k. slice_index_or level (index_in all (point_in own k)) (pos 0))
-    (range_with_len 0 i)
-    → new ≡ old ++ values_from level spot w
-    → new ≡ map (λ k. slice_index_or level (index_in all (point_in own k)) (pos 0))
-    (range_with_len 0 (i + w))
-cut_more all own level old new inside i w spot start below width place before now =
-    grown_row (λ k. slice_index_or level (index_in all (point_in own k)) (pos 0)) old new
-    (values_from level spot w) i w before (values_count level spot w)
-    (λ j l. value_is level spot w j l
-    ∙ ap (λ n. slice_index_or level n (pos 0))
-    (ap (λ n. n + j) place
-    ∙ sym (row_place all own i j start.first (omega (arith, l, width))
-    (inside (point_in own i) (point_inside own i below))))) now

@@ -1,6 +1,6 @@
 //! The whole output from chunks.
 
-ghost use Rattle.std.specs.Prelude.{◌≡◌, length, pos, slice_index_or, None, All, IfOk};
+ghost use Rattle.std.specs.Prelude.{◌≡◌, ◌++◌, length, pos, slice_index_or, take, drop, None, All, IfOk, OnOk, option_copied};
 ghost use Rattle.cx_text.specs.Telling.{Answers, Tells};
 ghost use Rattle.cx_grid.specs.declared.boxes.Point.{Point};
 ghost use Rattle.cx_grid.specs.Boxes.{IsBox, IsIn, IsSmall, index_in, point_count};
@@ -8,11 +8,10 @@ ghost use Rattle.cx_plan.specs.Setups.{setup_of};
 ghost use Rattle.cx_plan.specs.Whole.{IsVariable};
 ghost use Rattle.cx_cut.specs.Cuts.{IsWhole, part_count};
 ghost use Rattle.cx_chunks.specs.declared.fault.ChunkFault.TheVariants as faults;
-ghost use Rattle.cx_chunks.specs.Combining.{double_in, first_of_chunks, values_in, joined, text_at, whole_text, whole_texts, chunk_fault, combined};
+ghost use Rattle.cx_chunks.specs.Combining.{double_in, first_of_chunks, found_values, values_in, joined, text_at, whole_text, whole_texts, chunk_fault, combined};
 ghost use Rattle.cx_chunks.specs.Laws.{IsCutOf};
 
 use crate::checks::{check_doubles, check_missing, check_strangers, chunk, info_of};
-use crate::cutting::value_at;
 use crate::fault::ChunkFault;
 use crate::finding::{Cursors, find_piece};
 use crate::own_box::points_along;
@@ -26,53 +25,80 @@ use cx_plan::{Job, VarInfo};
 use cx_text::{List, Memory, Text};
 use std::alloc::Global;
 
-/// The values that a part's chunk has of a variable at an iteration; none where it has no such piece.
-fn values_in(
-    alloc: Global,
-    chunks: &[List<Piece>],
+/// The piece that a part's chunk has of a variable at an iteration.
+fn piece_in<'a>(
+    chunks: &'a [List<Piece>],
     cursors: &mut Cursors,
     full: &Text,
     iteration: u64,
     part: u32,
-) -> Result<Vec<i64>, Memory>
+) -> Option<&'a Piece>
     requires { first_of_chunks double_in 0 chunks.now ≡ None }
-    ensures { IfOk result
-        (λ values. values.items ≡ values_in chunks.now full.now iteration part) }
+    ensures { found_values (option_copied result)
+        ≡ values_in chunks.now full.now iteration part }
 {
-    match find_piece(cursors, full, iteration, part, chunk(chunks, part)) {
-        Some(piece) => piece.values(alloc),
-        None => Ok(Vec::new(alloc)),
+    find_piece(cursors, full, iteration, part, chunk(chunks, part))
+}
+
+/// The first value of a piece, and 0 where there is none.
+fn value_of(piece: Option<&Piece>) -> i64
+    ensures { result ≡ slice_index_or (found_values (option_copied piece.entry)) 0 (pos 0) }
+{
+    match piece {
+        Some(piece) => piece.first(),
+        None => 0,
     }
 }
 
-/// Puts the values of a box at their places of a level, row by row.
-fn put_part(level: &mut Vec<i64>, all: &Box3, own: &Box3, values: &[i64])
+/// Adds at most so many values of a piece from a place on, and none where there is no piece.
+fn push_run(
+    row: &mut Vec<i64>,
+    piece: Option<&Piece>,
+    from: usize,
+    count: usize,
+) -> Result<(), Memory>
+    ensures { OnOk result (row.new.items ≡ row.old.items
+        ++ take count (drop from (found_values (option_copied piece.entry)))) }
+{
+    match piece {
+        Some(piece) => piece.push_run(row, from, count),
+        None => Ok(()),
+    }
+}
+
+/// Puts the values of a piece at the places of its box in a level, row by row; values that it lacks count as 0.
+fn put_part(
+    alloc: Global,
+    level: &mut Vec<i64>,
+    all: &Box3,
+    own: &Box3,
+    piece: Option<&Piece>,
+) -> Result<(), Memory>
     requires all { IsSmall all.now }
     requires ordered { IsBox own.now }
     requires own { IsSmall own.now }
     requires inside { (p : Point) → IsIn own.now p → IsIn all.now p }
     requires level { length level.old.items ≡ point_count all.now }
-    ensures length { length level.new.items ≡ point_count all.now }
-    ensures own { (p : Point) → IsIn own.now p
+    ensures length { OnOk result (length level.new.items ≡ point_count all.now) }
+    ensures own { OnOk result ((p : Point) → IsIn own.now p
         → slice_index_or level.new.items (index_in all.now p) (pos 0)
-        ≡ slice_index_or values.now (index_in own.now p) (pos 0) }
-    ensures others { (p : Point) → IsIn all.now p → (IsIn own.now p → ⊥)
+        ≡ slice_index_or (found_values (option_copied piece.entry)) (index_in own.now p)
+        (pos 0)) }
+    ensures others { OnOk result ((p : Point) → IsIn all.now p → (IsIn own.now p → ⊥)
         → slice_index_or level.new.items (index_in all.now p) (pos 0)
-        ≡ slice_index_or level.old.items (index_in all.now p) (pos 0) }
+        ≡ slice_index_or level.old.items (index_in all.now p) (pos 0)) }
 {
     let width = points_along(own, 0) as usize;
     let end = count(own);
+    let mut row = Vec::new(alloc);
     let mut from = 0;
     'rows: while from < end {
-        put_row(
-            level,
-            index_of(all, point_at(own, from)),
-            width,
-            values,
-            from,
-        );
+        row.clear();
+        push_run(&mut row, piece, from, width)?;
+        put_row(level, index_of(all, point_at(own, from)), width, &row);
         from += width;
     }
+    Ok(())
 }
 
 /// A level of zeros.
@@ -104,8 +130,8 @@ fn joined(
     let mut level = zeros(alloc, &all)?;
     'parts: for part in 0..cut.count() {
         let own = cut.part(part);
-        let values = values_in(alloc, chunks, cursors, full, iteration, part)?;
-        put_part(&mut level, &all, &own, &values);
+        let piece = piece_in(chunks, cursors, full, iteration, part);
+        put_part(alloc, &mut level, &all, &own, piece)?;
     }
     Ok(level)
 }
@@ -126,8 +152,8 @@ fn text_at(
         ≡ text_at (setup_of job.now) cut.now chunks.now info.now iteration) }
 {
     if info.scalar {
-        let values = values_in(alloc, chunks, cursors, &info.full, iteration, 0)?;
-        scalar_line(alloc, &info.full, iteration, value_at(&values, 0))
+        let value = value_of(piece_in(chunks, cursors, &info.full, iteration, 0));
+        scalar_line(alloc, &info.full, iteration, value)
     } else {
         let level = joined(
             alloc, &job.shape, cut, chunks, cursors, &info.full, iteration,

@@ -2,15 +2,17 @@
 
 ghost use Rattle.std.specs.Prelude.{◌≡◌, ◌<◌, ◌++◌, [], pos, length, slice_index_or, slice_set, IfOk, OnOk};
 ghost use Rattle.std.specs.List.{flat_map};
+ghost use Rattle.cx_ascii.specs.Output.{rows_text};
+ghost use Rattle.cx_ascii_read.specs.Records.{shape_of};
 ghost use Rattle.cx_cut.specs.Cuts.{IsWhole, part_count};
-ghost use Rattle.cx_chunks.specs.Pieces.{piece_text, part_section};
-ghost use Rattle.cx_chunks.specs.Cutting.{own_of, own_values, line_in, pieces_in, chunk_texts, with_record, AddsRecord, AddsVariable};
+ghost use Rattle.cx_chunks.specs.Pieces.{piece_text};
+ghost use Rattle.cx_chunks.specs.Cutting.{own_of, own_values, line_in, section_in, pieces_in, chunk_texts, with_record, AddsRecord, AddsVariable};
 ghost use Rattle.cx_chunks.specs.Laws.{IsCutOf};
 
 use crate::own_box::{own_box, points_along};
-use crate::rows::push_row;
-use crate::section::part_section;
-use cx_ascii::scalar_line;
+use crate::rows::{push_row, value_at};
+use crate::section::push_section_head;
+use cx_ascii::{push_rows, scalar_line};
 use cx_ascii_read::Record;
 use cx_cut::Cut;
 use cx_grid::{Shape, count, index_of, point_at, whole};
@@ -19,69 +21,56 @@ use cx_text::{List, Memory, Text};
 use std::alloc::Global;
 use std::mem;
 
-/// The value at a place, or 0 after the last one.
-pub(crate) fn value_at(values: &[i64], place: usize) -> i64
-    ensures { result ≡ slice_index_or values.now place (pos 0) }
-{
-    match values.get(place) {
-        Some(value) => *value,
-        None => 0,
-    }
-}
-
-/// The values of a whole level at the points that a part owns, x fastest, row by row.
-fn own_values(
+/// Adds the rows of the points that a part owns of a level, a line for each row along x.
+fn push_own_rows(
     alloc: Global,
+    text: &mut Text,
     shape: &Shape,
     cut: &Cut,
     part: u32,
     level: &[i64],
-) -> Result<List<i64>, Memory>
+) -> Result<(), Memory>
     requires whole { IsWhole cut.now }
     requires shape { shape.now ≡ cut.now.shape }
     requires part { part < part_count cut.now }
-    ensures { IfOk result (λ values. values ≡ own_values cut.now part level.now) }
+    ensures { OnOk result (text.new ≡ text.old ++ rows_text
+        (shape_of (own_of cut.now part).size) (own_values cut.now part level.now)) }
 {
     let own = cut.part(part);
     let all = whole(shape);
     let width = points_along(&own, 0) as usize;
     let end = count(&own);
-    let mut values = Vec::new(alloc);
-    values.reserve_exact(end)?;
+    let mut row = Vec::new(alloc);
     let mut from = 0;
     'rows: while from < end {
         let at = index_of(&all, point_at(&own, from));
-        push_row(&mut values, level, at, width)?;
+        row.clear();
+        push_row(&mut row, level, at, width)?;
+        push_rows(text, width, 1, &row)?;
         from += width;
     }
-    Ok(List::new(values))
+    Ok(())
 }
 
-/// The section of what a part owns of a level.
-fn own_section(
+/// Adds the section of what a part owns of a level.
+fn push_own_section(
     alloc: Global,
+    text: &mut Text,
     shape: &Shape,
     cut: &Cut,
     part: u32,
     entry: &Record,
-) -> Result<Text, Memory>
+) -> Result<(), Memory>
     requires whole { IsWhole cut.now }
     requires shape { shape.now ≡ cut.now.shape }
     requires part { part < part_count cut.now }
-    ensures { IfOk result (λ text. text ≡ part_section entry.now.full entry.now.iteration part
-        (part_count cut.now) (own_of cut.now part).place.from (own_of cut.now part).size
-        (own_values cut.now part entry.now.values)) }
+    ensures { OnOk result (text.new
+        ≡ text.old ++ piece_text (section_in cut.now part entry.now)) }
 {
     let own = own_box(alloc, cut, shape.dims, part)?;
-    let values = own_values(alloc, shape, cut, part, entry.values.as_slice())?;
-    part_section(
-        alloc,
-        &entry.full,
-        entry.iteration,
-        &own.place,
-        own.size.as_slice(),
-        values.as_slice(),
-    )
+    push_section_head(alloc, text, &entry.full, entry.iteration, &own)?;
+    push_own_rows(alloc, text, shape, cut, part, entry.values.as_slice())?;
+    text.push_slice(b"\n")
 }
 
 /// The line of a scalar in the chunk of part 0, and nothing in the others.
@@ -101,22 +90,34 @@ fn own_line(alloc: Global, part: u32, entry: &Record) -> Result<Text, Memory>
     }
 }
 
-/// What a part has of a record: its section of a level, or a scalar's line.
-fn record_text(
+/// Adds the line of a scalar to the chunk of part 0, and nothing to the others.
+fn push_own_line(alloc: Global, text: &mut Text, part: u32, entry: &Record) -> Result<(), Memory>
+    requires { entry.now.size ≡ [] }
+    ensures { OnOk result (text.new
+        ≡ text.old ++ flat_map piece_text (line_in part entry.now)) }
+{
+    let line = own_line(alloc, part, entry)?;
+    text.push_slice(line.as_slice())
+}
+
+/// Adds what a part has of a record: its section of a level, or a scalar's line.
+fn push_pieces(
     alloc: Global,
+    text: &mut Text,
     shape: &Shape,
     cut: &Cut,
     part: u32,
     entry: &Record,
-) -> Result<Text, Memory>
+) -> Result<(), Memory>
     requires whole { IsWhole cut.now }
     requires shape { shape.now ≡ cut.now.shape }
     requires part { part < part_count cut.now }
-    ensures { IfOk result (λ text. text ≡ flat_map piece_text (pieces_in cut.now part entry.now)) }
+    ensures { OnOk result (text.new
+        ≡ text.old ++ flat_map piece_text (pieces_in cut.now part entry.now)) }
 {
     match entry.size.as_slice() {
-        [] => own_line(alloc, part, entry),
-        [_, ..] => own_section(alloc, shape, cut, part, entry),
+        [] => push_own_line(alloc, text, part, entry),
+        [_, ..] => push_own_section(alloc, text, shape, cut, part, entry),
     }
 }
 
@@ -137,8 +138,7 @@ fn push_part(
         (slice_index_or all.old.items part []
         ++ flat_map piece_text (pieces_in cut.now part entry.now))) }
 {
-    let piece = record_text(alloc, shape, cut, part, entry)?;
-    all[part as usize].push_slice(piece.as_slice())
+    push_pieces(alloc, &mut all[part as usize], shape, cut, part, entry)
 }
 
 /// Adds what each part has of a record to its text.

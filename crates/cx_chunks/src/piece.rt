@@ -1,12 +1,12 @@
 //! What a chunk file holds.
 
-ghost use Rattle.std.specs.Prelude.{◌≡◌, IfOk};
+ghost use Rattle.std.specs.Prelude.{◌≡◌, ◌++◌, pos, slice_index_or, take, drop, OnOk};
 ghost use Rattle.cx_chunks.specs.Combining.{full_of, iteration_of, values_of};
 
+use crate::rows::{run, value_at};
 use crate::values::Values;
 use cx_ascii_read::Record;
 use cx_text::{List, Memory, Text};
-use std::alloc::Global;
 
 /// A scalar's value, or a part's own values of a grid variable.
 #[derive(Debug, Drop)]
@@ -52,22 +52,37 @@ impl Piece {
         }
     }
 
-    /// Its values, in 64 bits each.
-    pub(crate) fn values(&self, alloc: Global) -> Result<Vec<i64>, Memory>
-        ensures { IfOk result (λ values. values.items ≡ values_of self.now) }
+    /// Its first value, and 0 where it has none.
+    pub(crate) fn first(&self) -> i64
+        ensures { result ≡ slice_index_or (values_of self.now) 0 (pos 0) }
     {
         match self {
-            Piece::Line(record) => copied(alloc, record.values.as_slice()),
-            Piece::Box { values, .. } => values.to_vec(alloc),
+            Piece::Line(record) => value_at(record.values.as_slice(), 0),
+            Piece::Box { values, .. } => values.first(),
+        }
+    }
+
+    /// Adds at most so many of its values from a place on.
+    pub(crate) fn push_run(
+        &self,
+        row: &mut Vec<i64>,
+        from: usize,
+        count: usize,
+    ) -> Result<(), Memory>
+        ensures { OnOk result
+            (row.new.items ≡ row.old.items ++ take count (drop from (values_of self.now))) }
+    {
+        match self {
+            Piece::Line(record) => push_slice(row, run(record.values.as_slice(), from, count)),
+            Piece::Box { values, .. } => values.push_run(row, from, count),
         }
     }
 }
 
-/// The same numbers once more.
-fn copied(alloc: Global, numbers: &[i64]) -> Result<Vec<i64>, Memory>
-    ensures { IfOk result (λ copy. copy.items ≡ numbers.now) }
+/// Adds numbers.
+fn push_slice(row: &mut Vec<i64>, numbers: &[i64]) -> Result<(), Memory>
+    ensures { OnOk result (row.new.items ≡ row.old.items ++ numbers.now) }
 {
-    let mut copy = Vec::new(alloc);
-    copy.extend_from_slice(numbers)?;
-    Ok(copy)
+    row.extend_from_slice(numbers)?;
+    Ok(())
 }

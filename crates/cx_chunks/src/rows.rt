@@ -1,12 +1,22 @@
 //! Rows of a box: values that stand side by side both in the box and in the grid.
 
-ghost use Rattle.std.specs.Prelude.{◌≡◌, ◌≤◌, ◌+◌, ◌++◌, pos, length, take, drop, replicate, OnOk};
+ghost use Rattle.std.specs.Prelude.{◌≡◌, ◌≤◌, ◌+◌, ◌++◌, pos, length, slice_index_or, take, drop, replicate, OnOk};
 ghost use Rattle.cx_chunks.specs.Rows.{values_from, with_row};
 
 use cx_text::Memory;
 
+/// The value at a place, or 0 after the last one.
+pub(crate) fn value_at(values: &[i64], place: usize) -> i64
+    ensures { result ≡ slice_index_or values.now place (pos 0) }
+{
+    match values.get(place) {
+        Some(value) => *value,
+        None => 0,
+    }
+}
+
 /// At most so many values from a place on.
-fn run(values: &[i64], from: usize, count: usize) -> &[i64]
+pub(crate) fn run<T>(values: &[T], from: usize, count: usize) -> &[T]
     ensures value { result.now ≡ take count (drop from values.now) }
     ensures few { length result.now ≤ count }
 {
@@ -38,21 +48,21 @@ pub(crate) fn push_row(
     push_zeros(row, count - there.len())
 }
 
-/// Sets a row to the values from a place on; one that isn't there counts as 0.
-fn set_row(row: &mut [i64], values: &[i64], from: usize)
-    ensures { row.new ≡ values_from values.now from (length row.old) }
+/// Sets a row to the first values; one that isn't there counts as 0.
+fn set_row(row: &mut [i64], values: &[i64])
+    ensures { row.new ≡ values_from values.now 0 (length row.old) }
 {
-    let there = run(values, from, row.len());
+    let there = run(values, 0, row.len());
     row[..there.len()].copy_from_slice(there);
     row[there.len()..].fill(0);
 }
 
-/// Sets so many numbers from a place of a level on to the values from another place on.
-pub(crate) fn put_row(level: &mut Vec<i64>, at: usize, count: usize, values: &[i64], from: usize)
+/// Sets so many numbers from a place of a level on to the first values; one that isn't there counts as 0.
+pub(crate) fn put_row(level: &mut Vec<i64>, at: usize, count: usize, values: &[i64])
     requires { at + count ≤ length level.old.items }
     ensures { level.new.items
-        ≡ with_row level.old.items at count (values_from values.now from count) }
+        ≡ with_row level.old.items at count (values_from values.now 0 count) }
 {
     let end = at + count;
-    set_row(&mut level[at..end], values, from);
+    set_row(&mut level[at..end], values);
 }

@@ -1,13 +1,13 @@
-//! The text of a part's section.
+//! What a part's section begins with.
 
-ghost use Rattle.std.specs.Prelude.{◌≡◌, ◌++◌, ◌∷◌, ◌*◌, slice_index_or, IfOk, OnOk};
+ghost use Rattle.std.specs.Prelude.{◌≡◌, ◌++◌, ◌∷◌, [], codes, OnOk};
 ghost use Rattle.std.specs.Fmt.{decimal};
-ghost use Rattle.cx_ascii.specs.Output.{rows_text};
-ghost use Rattle.cx_ascii_read.specs.Records.{shape_of};
-ghost use Rattle.cx_chunks.specs.Pieces.{numbers_text, part_section, place_text};
+ghost use Rattle.cx_ascii.specs.Output.{head_text};
+ghost use Rattle.cx_chunks.specs.Pieces.{numbers_text, place_text};
 
+use crate::own_box::OwnBox;
 use crate::place::Place;
-use cx_ascii::{head, push_count, push_rows};
+use cx_ascii::{head, push_count};
 use cx_text::{Memory, Text};
 use std::alloc::Global;
 
@@ -42,42 +42,22 @@ fn push_place(text: &mut Text, place: &Place) -> Result<(), Memory>
     push_numbers(text, place.from.as_slice())
 }
 
-/// How many points a direction has: one where there is no size for it.
-fn points_along(size: &[u32], direction: usize) -> u32
-    ensures { result ≡ slice_index_or size.now direction 1 }
-{
-    match size.get(direction) {
-        Some(points) => *points,
-        None => 1,
-    }
-}
-
-/// Adds values in rows along x.
-fn push_values(text: &mut Text, size: &[u32], values: &[i64]) -> Result<(), Memory>
-    ensures { OnOk result (text.new ≡ text.old ++ rows_text (shape_of size.now) values.now) }
-{
-    let rows = u64::from(points_along(size, 1)) * u64::from(points_along(size, 2));
-    push_rows(text, points_along(size, 0) as usize, rows, values)
-}
-
-/// The section of a part: its head, a line for each row along x, and an empty line.
-pub(crate) fn part_section(
+/// Adds what a part's section has before its rows: a head, where the part is, and its sizes.
+pub(crate) fn push_section_head(
     alloc: Global,
+    text: &mut Text,
     full: &Text,
     iteration: u64,
-    place: &Place,
-    size: &[u32],
-    values: &[i64],
-) -> Result<Text, Memory>
-    ensures { IfOk result (λ text. text ≡ part_section full.now iteration place.now.part
-        place.now.parts place.now.from size.now values.now) }
+    own: &OwnBox,
+) -> Result<(), Memory>
+    ensures { OnOk result (text.new ≡ text.old ++ (head_text full.now iteration
+        ++ place_text own.now.place.part own.now.place.parts own.now.place.from
+        ++ codes " size" ++ numbers_text own.now.size ++ 10 ∷ [])) }
 {
-    let mut text = head(alloc, full, iteration)?;
-    push_place(&mut text, place)?;
+    let head = head(alloc, full, iteration)?;
+    text.push_slice(head.as_slice())?;
+    push_place(text, &own.place)?;
     text.push_slice(b" size")?;
-    push_numbers(&mut text, size)?;
-    text.push_slice(b"\n")?;
-    push_values(&mut text, size, values)?;
-    text.push_slice(b"\n")?;
-    Ok(text)
+    push_numbers(text, own.size.as_slice())?;
+    text.push_slice(b"\n")
 }

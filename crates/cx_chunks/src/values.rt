@@ -1,7 +1,8 @@
 //! Whole numbers in little memory.
 
-ghost use Rattle.std.specs.Prelude.{◌≡◌, ◌++◌, ◌∷◌, [], IfOk, IfSome, OnOk};
+ghost use Rattle.std.specs.Prelude.{◌≡◌, ◌++◌, ◌∷◌, [], pos, slice_index_or, take, drop, IfOk, IfSome, OnOk};
 
+use crate::rows::{run, value_at};
 use cx_text::Memory;
 use std::alloc::Global;
 use std::marker::Model;
@@ -56,13 +57,30 @@ impl Values {
         Ok(())
     }
 
-    /// The numbers in 64 bits each.
-    pub fn to_vec(&self, alloc: Global) -> Result<Vec<i64>, Memory>
-        ensures { IfOk result (λ numbers. numbers.items ≡ self.now) }
+    /// The first number, and 0 where there is none.
+    pub(crate) fn first(&self) -> i64
+        ensures { result ≡ slice_index_or self.now 0 (pos 0) }
     {
-        let mut numbers = widened(alloc, &self.narrow)?;
-        numbers.extend_from_slice(&self.wide)?;
-        Ok(numbers)
+        match self.narrow.first() {
+            Some(number) => i64::from(*number),
+            None => value_at(&self.wide, 0),
+        }
+    }
+
+    /// Adds at most so many of the numbers from a place on, in 64 bits each.
+    pub(crate) fn push_run(
+        &self,
+        row: &mut Vec<i64>,
+        from: usize,
+        count: usize,
+    ) -> Result<(), Memory>
+        ensures { OnOk result (row.new.items ≡ row.old.items ++ take count (drop from self.now)) }
+    {
+        let narrow = run(&self.narrow, from, count);
+        push_widened(row, narrow)?;
+        let after = from.saturating_sub(self.narrow.len());
+        row.extend_from_slice(run(&self.wide, after, count - narrow.len()))?;
+        Ok(())
     }
 }
 
@@ -77,14 +95,12 @@ fn narrowed(wide: &[i64], number: i64) -> Option<i32>
     }
 }
 
-/// Numbers of 32 bits in 64 bits each.
-fn widened(alloc: Global, narrow: &[i32]) -> Result<Vec<i64>, Memory>
-    ensures { IfOk result (λ numbers. numbers.items ≡ narrow.now) }
+/// Adds numbers of 32 bits, in 64 bits each.
+fn push_widened(row: &mut Vec<i64>, narrow: &[i32]) -> Result<(), Memory>
+    ensures { OnOk result (row.new.items ≡ row.old.items ++ narrow.now) }
 {
-    let mut numbers = Vec::new(alloc);
-    numbers.reserve_exact(narrow.len())?;
     'numbers: for number in narrow {
-        numbers.push(i64::from(*number))?;
+        row.push(i64::from(*number))?;
     }
-    Ok(numbers)
+    Ok(())
 }

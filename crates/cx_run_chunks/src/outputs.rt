@@ -253,7 +253,8 @@ fn cut_each<D: Disk>(
     ensures count { D.tells → IfOk result (λ count. count
         ≡ total_of (output_records (setup_of job.now) (D.view disk.old).seen)) }
     ensures texts { D.tells → OnOk result
-        (texts.new ≡ chunk_texts cut.now (output_records (setup_of job.now) (D.view disk.old).seen)) }
+        (texts.new
+        ≡ chunk_texts cut.now (output_records (setup_of job.now) (D.view disk.old).seen)) }
     ensures many { OnOk result (length texts.new ≡ part_count cut.now) }
     ensures quiet { D.tells → IsQuiet (D.view disk.old) (D.view disk.new) }
     ensures kept { Keeps D.Disk ChunksFault.Disk disk.old disk.new result }

@@ -1,10 +1,11 @@
 use Rattle.std.proofs.Common.{rules, ◌≡◌, ◌∙◌, ◌<◌, ◌≤◌, ap, sym, subst}
+use Rattle.std.specs.Prelude.{option_copied}
 use Rattle.cx_grid.specs.declared.boxes.Box3.{Box3}
 use Rattle.cx_grid.specs.declared.shapes.Shape.{Shape}
 use Rattle.cx_grid.specs.Boxes.{IsBox, IsIn, IsSmall, point_count}
 use Rattle.cx_grid.specs.Grid.{whole}
 use Rattle.cx_cut.specs.Cuts.{part_count}
-use Rattle.cx_chunks.specs.Combining.{values_in}
+use Rattle.cx_chunks.specs.Combining.{found_values, values_in}
 use Rattle.cx_chunks.proofs.OwnLaws.{own_is_box, own_small, own_inside}
 use Rattle.cx_chunks.proofs.JoinLaws.{none_are, one_more, all_are}
 use Rattle.cx_chunks.proofs.combining.joined.Goals as goal
@@ -49,10 +50,10 @@ parts-preserved c =
     let there : c.parts.part < part_count c.args.cut.now = search rules in
     one_more c.args.cut.now c.requires.whole
     (values_in c.args.chunks.now c.args.full.now c.args.iteration) c.parts.part there
-    c.whole-all.result c.part-own.result c.deref.result.now c.parts.level.items
-    c.put_part.new.level.items all_is c.part-own.ensures.value
-    (c.deref.ensures.value ∙ c.in_ok-values.ensures)
-    c.put_part.ensures.length c.put_part.ensures.own c.put_part.ensures.others c.parts.invariant
+    c.whole-all.result c.part-own.result (found_values (option_copied c.piece_in-piece.result))
+    c.parts.level.items c.put_part.new.level.items all_is c.part-own.ensures.value
+    c.piece_in-piece.ensures c.in_ok-put_part.ensures.length c.in_ok-put_part.ensures.own
+    c.in_ok-put_part.ensures.others c.parts.invariant
 
 pub returns : goal.returns
 returns c =

@@ -1,12 +1,15 @@
-use Rattle.std.proofs.Common.{◌≡◌, ◌∙◌, ◌<◌, arith, ap, sym, subst}
+use Rattle.std.proofs.Common.{rules, ◌≡◌, ◌∙◌, ◌<◌, arith, ap, sym, subst}
 use Rattle.cx_grid.specs.declared.boxes.Box3.{Box3}
 use Rattle.cx_grid.specs.declared.shapes.Shape.{Shape}
 use Rattle.cx_grid.specs.Boxes.{IsBox, IsIn, IsSmall, extent, point_count, index_in, point_in}
 use Rattle.cx_grid.specs.Grid.{whole}
 use Rattle.cx_cut.specs.Cuts.{owned}
 use Rattle.cx_chunks.proofs.OwnLaws.{own_is_box, own_small, own_inside}
-use Rattle.cx_chunks.proofs.RowPlaces.{row_start, cut_more}
-use Rattle.cx_chunks.proofs.cutting.own_values.Goals as goal
+use Rattle.cx_chunks.specs.Rows.{values_from}
+use Rattle.cx_chunks.specs.Cutting.{own_values}
+use Rattle.cx_chunks.proofs.RowPlaces.{row_is, row_start}
+use Rattle.cx_chunks.proofs.RowTexts.{row_added, rows_are}
+use Rattle.cx_chunks.proofs.cutting.push_own_rows.Goals as goal
 
 pub points_along-width-requires : goal.points_along-width-requires
 points_along-width-requires c =
@@ -51,11 +54,37 @@ rows-preserved c =
     (c.whole-all.ensures.value ∙ ap (λ (s : Shape). whole s) c.requires.shape)
     ∙ ap (index_in all) (c.point_at.ensures.value
     ∙ ap (λ (b : Box3). point_in b c.rows.from) own_is) in
+    let run : c.deref.result.now
+    ≡ values_from c.args.level.now c.index_of-at.result c.points_along-width.result =
+    search rules in
     record {
-      values = cut_more all own c.args.level.now c.rows.values.items c.push_row.new.row.items
-          (own_inside c.args.cut.now c.args.part c.requires.whole c.requires.part)
-          c.rows.from c.points_along-width.result c.index_of-at.result c.rows.invariant.start below
-          width place c.rows.invariant.values c.in_ok-push_row.ensures;
       start = row_start own c.rows.from c.points_along-width.result width c.rows.invariant.start
           below;
+      rows = row_added all own c.args.level.now
+          (own_inside c.args.cut.now c.args.part c.requires.whole c.requires.part)
+          c.rows.from c.rows.invariant.start below c.args.text.now c.rows.text
+          c.push_rows.new.text c.deref.result.now c.points_along-width.result
+          c.index_of-at.result width place run c.rows.invariant.rows
+          c.in_ok-push_rows.ensures;
     }
+
+pub returns : goal.returns
+returns c =
+    let own_is = c.part-own.ensures.value in
+    let end = c.count-end.ensures ∙ ap (λ (b : Box3). point_count b) own_is in
+    rows_are c.args.cut.now c.requires.whole c.args.part c.requires.part
+    (own_values c.args.cut.now c.args.part c.args.level.now) c.args.text.now c.rows.text
+    c.rows.from c.rows.invariant.start (omega (arith, end, c.rows-test.false))
+    c.rows.invariant.rows
+
+pub overflow_add-from : goal.overflow_add-from
+overflow_add-from c =
+    let own = owned c.args.cut.now c.args.part in
+    let own_is = c.part-own.ensures.value in
+    let width : c.points_along-width.result ≡ extent own 0 =
+    c.points_along-width.ensures ∙ ap (λ (b : Box3). extent b 0) own_is in
+    let end = c.count-end.ensures ∙ ap (λ (b : Box3). point_count b) own_is in
+    let below : c.rows.from < point_count own = omega (arith, end, c.rows-test.true) in
+    let within = (row_is own c.rows.from c.rows.invariant.start below).next.within in
+    let few = own_small c.args.cut.now c.args.part c.requires.whole in
+    omega (arith, within, width, few)
