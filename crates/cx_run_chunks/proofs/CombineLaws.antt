@@ -1,19 +1,17 @@
 -- What is told of cut output, and of chunks that are put together.
-use Rattle.std.proofs.Common.{◌≡◌, ◌≢◌, ◌⊎◌, inl, inr, ℕ, ◌-◌, ◌^◌, ◌≤◌, min, List, length, map, Option, Some, None, Result, Ok, Err, refl, sym, ap, subst, ◌∙◌}
-use Rattle.std.specs.List.{concat, flat_map, range_with_len}
+use Rattle.std.proofs.Common.{◌≡◌, ◌⊎◌, inl, inr, ℕ, ◌-◌, ◌^◌, min, List, length, Option, Some, None, Ok, Err, refl, sym, ap, ◌∙◌}
+use Rattle.std.specs.List.{concat}
 use Rattle.cx_plan.specs.declared.job.Job.{Job}
 use Rattle.cx_plan.specs.Setups.{setup_of}
 use Rattle.cx_plan.specs.Whole.{IsWhole}
 use Rattle.cx_plan.specs.Lists.{or_else}
 use Rattle.cx_cut.specs.Cuts.{Parts, part_count}
 use Rattle.cx_disk.specs.Disk.{Files}
-use Rattle.cx_ascii_read.specs.declared.record.Record.{Record}
 use Rattle.cx_chunks.specs.declared.fault.ChunkFault.{ChunkFault}
 use Rattle.cx_chunks.specs.declared.fault.ChunkFault.TheVariants.{Memory}
 use Rattle.cx_chunks.specs.declared.piece.Piece.{Piece}
 use Rattle.cx_chunks.specs.Cutting.{chunk_texts}
-use Rattle.cx_chunks.specs.Combining.{chunk_fault, combined, unless, whole_texts}
-use Rattle.cx_run_chunks.specs.declared.fault.ChunksFault.{ChunksFault}
+use Rattle.cx_chunks.specs.Combining.{chunk_fault, combined, unless}
 use Rattle.cx_run_chunks.specs.declared.fault.ChunksFault.TheVariants as chunks
 use Rattle.cx_run_chunks.specs.declared.summary.Chunked.{Chunked}
 use Rattle.cx_run_chunks.specs.declared.summary.Recombined.{Recombined}

@@ -1,5 +1,5 @@
 -- The outputs of a job: how many they are, and what their files hold.
-use Rattle.std.proofs.Common.{◌≡◌, ℕ, zero, suc, ◌+◌, ◌≤◌, ◌<◌, Bool, true, false, List, [], ◌∷◌, length, map, Option, Some, None, refl, sym, ◌∙◌, ap, arith}
+use Rattle.std.proofs.Common.{◌≡◌, ℕ, suc, ◌+◌, ◌≤◌, ◌<◌, Bool, true, false, List, [], ◌∷◌, length, map, Option, Some, None, refl, sym, ◌∙◌, ap, arith}
 use Rattle.std.specs.Prelude.{All, AllPairs, bytes_eq, nat_lt, slice_index_or, if◌then◌else◌}
 use Rattle.std.specs.List.{list_all, range_with_len, AllByRecursion}
 use Rattle.std.proofs.lemmas.Bool.{and_parts}
@@ -15,9 +15,8 @@ use Rattle.cx_disk.specs.Disk.{Files}
 use Rattle.cx_disk.specs.Files.{named_output_file}
 use Rattle.cx_outputs.specs.Names.{output_count}
 use Rattle.cx_ascii_read.specs.declared.record.Record.{Record}
-use Rattle.cx_ascii_read.specs.Records.{IsRecord, ReadsAs, Spells, record_text}
+use Rattle.cx_ascii_read.specs.Records.{IsRecord, record_text}
 use Rattle.cx_ascii_read.specs.Spelling.{ReadsAll}
-use Rattle.cx_ascii_read.proofs.WordLaws.{bind_some, goes_where}
 use Rattle.cx_ascii_read.specs.Reading.{◌>>=◌, record_at}
 use Rattle.cx_ascii_read.proofs.RecordLaws.{record_field, no_record}
 use Rattle.cx_chunks.specs.declared.fault.ChunkFault.{ChunkFault}

@@ -16,8 +16,8 @@ use Rattle.cx_ascii_read.proofs.WordLaws.{bind_some, goes_where}
 use Rattle.cx_ascii_read.proofs.RecordLaws.{record_field, no_record}
 use Rattle.cx_chunks.specs.Cutting.{AddsRecord, AddsVariable, sizes_in}
 use Rattle.cx_chunks.proofs.TextLaws.{none_yet}
-use Rattle.cx_run_chunks.specs.Entries.{entries_at, found, records_of}
-use Rattle.cx_run_chunks.specs.Next.{is_above, is_next, next_record}
+use Rattle.cx_run_chunks.specs.Entries.{found, records_of}
+use Rattle.cx_run_chunks.specs.Next.{is_next, next_record}
 use Rattle.cx_run_chunks.specs.Commands.{if_output, is_output_of, is_record_of, is_rising_from, output_in}
 use Rattle.cx_run_chunks.proofs.EntryLaws.{AreTaken, all_taken, gets_shorter, none_taken, not_entries, one_left, one_taken, with_taken}
 

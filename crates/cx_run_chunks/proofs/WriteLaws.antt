@@ -1,5 +1,5 @@
 -- Files written anew, one after another.
-use Rattle.std.proofs.Common.{◌≡◌, ◌⊎◌, inl, inr, ℕ, ◌+◌, ◌≤◌, ◌<◌, List, [], length, refl, sym, ◌∙◌, ap, subst, arith}
+use Rattle.std.proofs.Common.{◌≡◌, ◌⊎◌, inl, inr, ℕ, ◌+◌, ◌≤◌, ◌<◌, List, [], length, refl, sym, ◌∙◌, subst, arith}
 use Rattle.std.specs.Prelude.{slice_index_or}
 use Rattle.std.proofs.lemmas.Bool.{cases_eq}
 use Rattle.cx_disk.specs.Disk.{Files, View, Anew, IsSettled}
@@ -7,7 +7,7 @@ use Rattle.cx_cut.specs.Cuts.{Parts, part_count}
 use Rattle.cx_disk.specs.Files.{IsFile, chunk_file}
 use Rattle.cx_disk.specs.Moments.{After, IsDone, IsQuiet, Stepped}
 use Rattle.cx_disk.proofs.Moments.{joins, started, weaker}
-use Rattle.cx_run_chunks.specs.Writing.{AfterWriting, AreFiles, AreWritten, SameOutside, Writes}
+use Rattle.cx_run_chunks.specs.Writing.{AfterWriting, AreFiles, AreWritten, Writes}
 
 pub file_among : (below first count k : ℕ) → AreFiles below first count → k < count
     → IsFile below (first + k)

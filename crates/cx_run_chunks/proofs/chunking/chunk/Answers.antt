@@ -1,7 +1,7 @@
-use Rattle.std.proofs.Common.{rules, ◌≡◌, ◌≤◌, ◌∙◌, ℕ, List, ap, sym, refl, subst, length, arith}
-use Rattle.std.proofs.lemmas.Result.{err_from_is_err_and, on_ok_weaker}
+use Rattle.std.proofs.Common.{◌≡◌, ◌≤◌, ◌∙◌, ℕ, List, ap, subst, length, arith}
+use Rattle.std.proofs.lemmas.Result.{err_from_is_err_and}
 use Rattle.cx_disk.specs.Disk.{Files}
-use Rattle.cx_disk.proofs.Moments.{quiet_at_start, quiet_more}
+use Rattle.cx_disk.proofs.Moments.{quiet_more}
 use Rattle.cx_plan.specs.Setups.{setup_of}
 use Rattle.cx_run_chunks.specs.Faults.{IsFaultOf}
 use Rattle.std.specs.Prelude.{None}

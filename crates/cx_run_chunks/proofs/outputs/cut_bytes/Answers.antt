@@ -1,9 +1,8 @@
-use Rattle.std.proofs.Common.{◌≡◌, ◌∙◌, List, ℕ, Option, Some, subst}
+use Rattle.std.proofs.Common.{◌≡◌, ◌∙◌, List, ℕ, Some, subst}
 use Rattle.std.proofs.lemmas.Result.{err_from_is_err_and}
 use Rattle.cx_plan.specs.Setups.{setup_of}
 use Rattle.cx_ascii_read.specs.Reading.{Stops}
 use Rattle.cx_ascii_read.proofs.SplitLaws.{none_left}
-use Rattle.cx_chunks.specs.Cutting.{sizes_in}
 use Rattle.cx_run_chunks.specs.Next.{next_record}
 use Rattle.cx_run_chunks.proofs.TakeLaws.{less_left, some_left, taken_count, taken_more, taken_none, taken_output, taken_stops, taken_texts}
 use Rattle.cx_run_chunks.proofs.outputs.cut_bytes.Goals as goal

@@ -1,4 +1,4 @@
-use Rattle.std.proofs.Common.{◌≡◌, ◌∙◌, ◌-◌, ◌^◌, List, ℕ, ap, length, min, sym, subst}
+use Rattle.std.proofs.Common.{◌∙◌, ◌-◌, ◌^◌, List, ℕ, ap, length, min, sym, subst}
 use Rattle.std.proofs.lemmas.Result.{err_from_is_err_and}
 use Rattle.cx_plan.specs.Setups.{setup_of}
 use Rattle.cx_chunks.specs.Cutting.{AddsVariable}

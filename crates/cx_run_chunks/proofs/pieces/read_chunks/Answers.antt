@@ -1,11 +1,11 @@
-use Rattle.std.proofs.Common.{◌≡◌, ◌∙◌, ℕ, IfOk, map, ap, refl, sym, subst}
+use Rattle.std.proofs.Common.{◌≡◌, ◌∙◌, ℕ, IfOk, map, refl, sym, subst}
 use Rattle.std.specs.List.{range_with_len}
 use Rattle.std.proofs.lemmas.Result.{err_from_is_err_and}
 use Rattle.cx_cut.specs.Cuts.{part_count}
 use Rattle.cx_disk.specs.Disk.{Files}
 use Rattle.cx_disk.proofs.Moments.{quiet_more}
 use Rattle.cx_plan.specs.Lists.{first_of_each}
-use Rattle.cx_run_chunks.specs.Commands.{all_pieces, bad, chunk_files, pieces_in, too_long}
+use Rattle.cx_run_chunks.specs.Commands.{bad, chunk_files, pieces_in, too_long}
 use Rattle.cx_run_chunks.specs.Faults.{Finds, IsFaultOf}
 use Rattle.cx_run_chunks.proofs.LoopLaws.{chunk_length, first_fault, second_finds, seen_same}
 use Rattle.cx_run_chunks.proofs.pieces.read_chunks.Goals as goal

@@ -1,6 +1,6 @@
-use Rattle.std.proofs.Common.{rules, ◌≡◌, ◌∙◌, ℕ, ap, sym, refl, subst, length, arith}
+use Rattle.std.proofs.Common.{◌∙◌, ap, sym}
 use Rattle.std.proofs.lemmas.Result.{err_from_is_err_and}
-use Rattle.cx_run_chunks.specs.Commands.{bad, fault_unless}
+use Rattle.cx_run_chunks.specs.Commands.{fault_unless}
 use Rattle.cx_run_chunks.specs.Entries.{found, pieces_of}
 use Rattle.cx_chunks.specs.declared.fault.ChunkFault.TheVariants.{Bad}
 use Rattle.cx_run_chunks.proofs.LoopLaws.{disk_fault, same_fault}
