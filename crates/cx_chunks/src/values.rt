@@ -67,8 +67,13 @@ impl Values {
         }
     }
 
-    /// Adds at most so many of the numbers from a place on, in 64 bits each.
-    pub(crate) fn push_run(
+    /// Adds at most so many of the numbers from a place on, in 64 bits each, to a row. So values are read a row at a time, into
+    /// one buffer.
+    ///
+    /// # Errors
+    ///
+    /// `Memory`: out of memory.
+    pub fn push_run(
         &self,
         row: &mut Vec<i64>,
         from: usize,
