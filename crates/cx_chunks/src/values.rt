@@ -73,12 +73,7 @@ impl Values {
     /// # Errors
     ///
     /// `Memory`: out of memory.
-    pub fn push_run(
-        &self,
-        row: &mut Vec<i64>,
-        from: usize,
-        count: usize,
-    ) -> Result<(), Memory>
+    pub fn push_run(&self, row: &mut Vec<i64>, from: usize, count: usize) -> Result<(), Memory>
         ensures { OnOk result (row.new.items ≡ row.old.items ++ take count (drop from self.now)) }
     {
         let narrow = run(&self.narrow, from, count);
