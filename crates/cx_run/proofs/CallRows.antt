@@ -80,7 +80,7 @@ a_dash = refl
 -- the usage text as it stands on the screen
 usage_line : text_of a.Usage
     ≡ codes
-    "usage: cactus run FILE [--turns SEED]\n       cactus check FILE\n       cactus schedule FILE\n       cactus describe FILE\n       cactus parts FILE\n       cactus make SEED SIZE\n       cactus chunk FILE\n       cactus recombine FILE\n"
+    "usage: cactus run FILE [--turns SEED]\n       cactus check FILE\n       cactus schedule FILE\n       cactus describe FILE\n       cactus parts FILE\n       cactus make SEED SIZE\n       cactus chunk FILE\n       cactus recombine FILE\n       cactus batch FILE FILE [FILE ...]\n"
 usage_line = refl
 
 done : text_of (a.Done 2) ≡ codes "done: iteration 2\n"

@@ -77,6 +77,7 @@ usage_text =
     ∷ codes "       cactus make SEED SIZE" ++ 10
     ∷ codes "       cactus chunk FILE" ++ 10
     ∷ codes "       cactus recombine FILE" ++ 10
+    ∷ codes "       cactus batch FILE FILE [FILE ...]" ++ 10
     ∷ []
 
 abbrev pub shelf_text : List ℕ

@@ -67,7 +67,7 @@ use std::alloc::Global;
 /// | status | what came of it | printed |
 /// |---|---|---|
 /// | 0 | the command is done | as above |
-/// | 1 | the words are others | the usage text, a line for each command |
+/// | 1 | the words are others | the usage text: a line for each command, and one for `batch`, which cx_several does |
 /// | 2 | the file makes no job | `refused: ` and the words of the fault |
 /// | 3 | its run ended earlier | `ended: `, the end's name, the iteration, and the path of the item or WHILE, if it has one |
 /// | 4 | a device failed | `device: shelf`, `device: disk`, `device: wire`; after a failure of the sink nothing more |

@@ -30,7 +30,7 @@ use cx_text::{Memory, Text};
 use std::alloc::Global;
 
 const USAGE: &[u8] =
-    b"usage: cactus run FILE [--turns SEED]\n       cactus check FILE\n       cactus schedule FILE\n       cactus describe FILE\n       cactus parts FILE\n       cactus make SEED SIZE\n       cactus chunk FILE\n       cactus recombine FILE\n";
+    b"usage: cactus run FILE [--turns SEED]\n       cactus check FILE\n       cactus schedule FILE\n       cactus describe FILE\n       cactus parts FILE\n       cactus make SEED SIZE\n       cactus chunk FILE\n       cactus recombine FILE\n       cactus batch FILE FILE [FILE ...]\n";
 
 /// What came of a call.
 #[derive(Debug, Drop)]

@@ -68,7 +68,8 @@ const USAGE: &str = "usage: cactus run FILE [--turns SEED]\n\
         \x20      cactus parts FILE\n\
         \x20      cactus make SEED SIZE\n\
         \x20      cactus chunk FILE\n\
-        \x20      cactus recombine FILE\n";
+        \x20      cactus recombine FILE\n\
+        \x20      cactus batch FILE FILE [FILE ...]\n";
 
 /// What `describe` prints before the schedule text.
 const KEY_BEGINS: &[u8] = b"thorn Integer/ElemCA ca\n\
