@@ -1,0 +1,11 @@
+pub mod MakingLaws
+pub mod MemberLaws
+pub mod ClauseLaws
+pub mod StatusLaws
+pub mod CountLaws
+pub mod CellLaws
+pub mod LineLaws
+pub mod RunLaws
+pub mod FirstLaws
+pub mod AnswerLaws
+pub mod RefusedLaws

@@ -1,0 +1,10 @@
+pub mod Words
+pub mod Folders
+pub mod Cells
+pub mod Faults
+pub mod Making
+pub mod Texts
+pub mod Batches
+pub mod Members
+pub mod Clauses
+pub mod Statuses
