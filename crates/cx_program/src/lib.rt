@@ -8,3 +8,4 @@ mod thorns;
 
 pub use program::{program_words, run_words};
 pub use routines::answer;
+pub use thorns::{Automata, Fields, Physics};

@@ -1,10 +1,11 @@
 //! The program over the current folder and standard output.
 
-ghost use Rattle.std.specs.Prelude.{◌≡◌, drop, map, IfOk, OnErr};
+ghost use Rattle.std.specs.Prelude.{◌≡◌, drop, length, map, replicate, IfOk, OnErr};
 ghost use Rattle.std.specs.Process.{exit_status};
 ghost use Rattle.std.specs.String.{string_bytes};
 ghost use Rattle.std.specs.Vec.Iter.{into_iter_items};
-ghost use Rattle.cx_run.specs.Answers.{IsStatusFor};
+ghost use Rattle.cx_wire.specs.Memory.{new_wire};
+ghost use Rattle.cx_several.specs.Statuses.{IsStatusForAll};
 
 use crate::late_wire::LateWire;
 use crate::routines::answer;
@@ -21,7 +22,7 @@ use std::process::ExitCode;
 /// Does what these words ask in the current folder, prints the answer, and gives the program's exit code: the
 /// status of the top call, or 5 where memory runs out, or where the host couldn't give its words.
 pub fn run_words(rt: &HostRuntime, words: io::Result<Vec<Text>>) -> ExitCode
-    ensures given { IfOk words (λ given. IsStatusFor given.items (exit_status result)) }
+    ensures given { IfOk words (λ given. IsStatusForAll given.items (exit_status result)) }
     ensures wanting { OnErr words (exit_status result ≡ 5) }
 {
     match words {
@@ -33,7 +34,7 @@ pub fn run_words(rt: &HostRuntime, words: io::Result<Vec<Text>>) -> ExitCode
 /// Does what the words ask, and gives the exit code.
 #[tactic(auto, using(crate::proofs::Statuses::same_status, crate::proofs::Statuses::wanting_status))]
 fn exit_code(rt: &HostRuntime, words: &[Text]) -> ExitCode
-    ensures { IsStatusFor words.now (exit_status result) }
+    ensures { IsStatusForAll words.now (exit_status result) }
 {
     match in_folder(rt, words) {
         Ok(status) => ExitCode::from(status),
@@ -52,20 +53,46 @@ fn wanting(rt: &HostRuntime) -> ExitCode
 /// The greatest number of parts that a grid is cut into.
 const MOST_PARTS: u32 = 512;
 
-/// What the top call answers over the current folder, a wire in memory, turns from a seed and standard output.
+/// The most files of a batch, each of which has a disk and a wire of its own.
+const MOST_FILES: u8 = 8;
+
+/// What the top call answers over the current folder, wires in memory, turns from a seed and standard output.
 fn in_folder(rt: &HostRuntime, words: &[Text]) -> Result<u8, Memory>
-    ensures { IfOk result (IsStatusFor words.now) }
+    ensures { IfOk result (IsStatusForAll words.now) }
 {
     let alloc = rt.alloc();
     let mut shelf = FolderShelf::new(rt.clone()?);
-    let mut disk = FolderDisk::new(HostFolder::new(rt.clone()?, alloc), alloc);
-    let mut wire = LateWire::new(alloc, MOST_PARTS);
+    let mut disks = folder_disks(rt)?;
+    let mut wires = late_wires(alloc)?;
     let mut turns = SeededTurns::new();
     let mut out = StdoutSink::new(rt.clone()?);
     let mut meter = Meter::new(rt);
     answer(
-        alloc, words, &mut shelf, &mut disk, &mut wire, &mut turns, &mut out, &mut meter,
+        alloc, words, &mut shelf, &mut disks, &mut wires, &mut turns, &mut out, &mut meter,
     )
+}
+
+/// Disks over the current folder, which touch it when they are mounted.
+fn folder_disks(rt: &HostRuntime) -> Result<Vec<FolderDisk<HostFolder<HostRuntime>>>, Memory>
+    ensures { IfOk result (λ disks. length disks.items ≡ 8) }
+{
+    let alloc = rt.alloc();
+    let mut disks = Vec::new(alloc);
+    'disks: for _ in 0..MOST_FILES {
+        disks.push(FolderDisk::new(HostFolder::new(rt.clone()?, alloc), alloc))?;
+    }
+    Ok(disks)
+}
+
+/// Wires in memory, which take none before their first messages.
+fn late_wires(alloc: Global) -> Result<Vec<LateWire>, Memory>
+    ensures { IfOk result (λ wires. wires.items ≡ replicate 8 (new_wire 512)) }
+{
+    let mut wires = Vec::new(alloc);
+    'wires: for _ in 0..MOST_FILES {
+        wires.push(LateWire::new(alloc, MOST_PARTS))?;
+    }
+    Ok(wires)
 }
 
 /// The words after the program's name. Words that aren't text are those of no command, as no words are.

@@ -14,20 +14,20 @@ use std::alloc::Global;
 
 /// The routines of `ElemCA` and `Life2D`.
 #[derive(Drop)]
-pub(crate) struct Automata {
-    pub(crate) ca_init: Box<CaInit>,
-    pub(crate) ca_step: Box<CaStep>,
-    pub(crate) ca_zero: Box<CaZero>,
-    pub(crate) ca_count: Box<CaCount>,
-    pub(crate) life_init: Box<LifeInit>,
-    pub(crate) life_step: Box<LifeStep>,
-    pub(crate) life_zero: Box<LifeZero>,
-    pub(crate) life_count: Box<LifeCount>,
+pub struct Automata {
+    pub ca_init: Box<CaInit>,
+    pub ca_step: Box<CaStep>,
+    pub ca_zero: Box<CaZero>,
+    pub ca_count: Box<CaCount>,
+    pub life_init: Box<LifeInit>,
+    pub life_step: Box<LifeStep>,
+    pub life_zero: Box<LifeZero>,
+    pub life_count: Box<LifeCount>,
 }
 
 impl Automata {
     /// All of them, new.
-    pub(crate) fn new(alloc: Global) -> Result<Self, Memory> {
+    pub fn new(alloc: Global) -> Result<Self, Memory> {
         Ok(Automata {
             ca_init: Box::new(alloc, CaInit::new(alloc)?)?,
             ca_step: Box::new(alloc, CaStep::new(alloc)?)?,
@@ -43,26 +43,26 @@ impl Automata {
 
 /// The routines of `WaveInt`, `DiffInt` and `Control`.
 #[derive(Drop)]
-pub(crate) struct Fields {
-    pub(crate) wave_init: Box<WaveInit>,
-    pub(crate) wave_init1: Box<WaveInit1>,
-    pub(crate) wave_step: Box<WaveStep>,
-    pub(crate) wave_copy: Box<WaveCopy>,
-    pub(crate) wave_flat: Box<WaveFlat>,
-    pub(crate) wave_scalar: Box<WaveScalar>,
-    pub(crate) wave_sum: Box<WaveSum>,
-    pub(crate) diff_init: Box<DiffInit>,
-    pub(crate) diff_step: Box<DiffStep>,
-    pub(crate) diff_flat: Box<DiffFlat>,
-    pub(crate) diff_scalar: Box<DiffScalar>,
-    pub(crate) diff_sum: Box<DiffSum>,
-    pub(crate) control_set: Box<ControlSet>,
-    pub(crate) control_spin: Box<ControlSpin>,
+pub struct Fields {
+    pub wave_init: Box<WaveInit>,
+    pub wave_init1: Box<WaveInit1>,
+    pub wave_step: Box<WaveStep>,
+    pub wave_copy: Box<WaveCopy>,
+    pub wave_flat: Box<WaveFlat>,
+    pub wave_scalar: Box<WaveScalar>,
+    pub wave_sum: Box<WaveSum>,
+    pub diff_init: Box<DiffInit>,
+    pub diff_step: Box<DiffStep>,
+    pub diff_flat: Box<DiffFlat>,
+    pub diff_scalar: Box<DiffScalar>,
+    pub diff_sum: Box<DiffSum>,
+    pub control_set: Box<ControlSet>,
+    pub control_spin: Box<ControlSpin>,
 }
 
 impl Fields {
     /// All of them, new.
-    pub(crate) fn new(alloc: Global) -> Result<Self, Memory> {
+    pub fn new(alloc: Global) -> Result<Self, Memory> {
         Ok(Fields {
             wave_init: Box::new(alloc, WaveInit::new(alloc)?)?,
             wave_init1: Box::new(alloc, WaveInit1::new(alloc)?)?,
@@ -84,23 +84,23 @@ impl Fields {
 
 /// The routines of `HeatFlux` and `LatticeGas`.
 #[derive(Drop)]
-pub(crate) struct Physics {
-    pub(crate) heat_init: Box<HeatInit>,
-    pub(crate) heat_step: Box<HeatStep>,
-    pub(crate) heat_zero: Box<HeatZero>,
-    pub(crate) heat_sum: Box<HeatSum>,
-    pub(crate) gas_init: Box<GasInit>,
-    pub(crate) gas_step: Box<GasStep>,
-    pub(crate) gas_zero: Box<GasZero>,
-    pub(crate) gas_measure: Box<GasMeasure>,
-    pub(crate) gas_particles: Box<GasParticles>,
-    pub(crate) gas_total_x: Box<GasTotalX>,
-    pub(crate) gas_total_y: Box<GasTotalY>,
+pub struct Physics {
+    pub heat_init: Box<HeatInit>,
+    pub heat_step: Box<HeatStep>,
+    pub heat_zero: Box<HeatZero>,
+    pub heat_sum: Box<HeatSum>,
+    pub gas_init: Box<GasInit>,
+    pub gas_step: Box<GasStep>,
+    pub gas_zero: Box<GasZero>,
+    pub gas_measure: Box<GasMeasure>,
+    pub gas_particles: Box<GasParticles>,
+    pub gas_total_x: Box<GasTotalX>,
+    pub gas_total_y: Box<GasTotalY>,
 }
 
 impl Physics {
     /// All of them, new.
-    pub(crate) fn new(alloc: Global) -> Result<Self, Memory> {
+    pub fn new(alloc: Global) -> Result<Self, Memory> {
         Ok(Physics {
             heat_init: Box::new(alloc, HeatInit::new(alloc)?)?,
             heat_step: Box::new(alloc, HeatStep::new(alloc)?)?,

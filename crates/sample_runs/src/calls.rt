@@ -3,8 +3,8 @@ ghost use Rattle.std.specs.Prelude.{◌≤◌};
 ghost use Rattle.cx_core.specs.Starts.{AreEmpty};
 
 use crate::carriers::wire;
+use crate::routines::status_of;
 use cx_disk::{Disk, MemoryDisk};
-use cx_program::answer;
 use cx_rule::Meter;
 use cx_run::{MemoryShelf, MemorySink, Shelf};
 use cx_text::{List, Memory, Text};
@@ -83,7 +83,7 @@ pub fn status_over<H: Shelf, D: Disk, W: Wire, T: Turns>(
     requires empty { AreEmpty (W.queue wire.old) }
 {
     let words = texts(rt.alloc(), words)?;
-    let status = answer(rt.alloc(), &words, shelf, disk, wire, turns, out, meter)?;
+    let status = status_of(rt.alloc(), &words, shelf, disk, wire, turns, out, meter)?;
     Ok(status)
 }
 

@@ -3,6 +3,7 @@
 
 mod calls;
 mod carriers;
+mod routines;
 pub mod samples;
 
 pub use calls::{
