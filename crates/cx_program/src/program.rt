@@ -1,10 +1,12 @@
 //! The program over the current folder and standard output.
 
-ghost use Rattle.std.specs.Prelude.{◌≡◌, drop, length, map, replicate, IfOk, OnErr};
+ghost use Rattle.std.specs.Prelude.{◌≡◌, ◌≤◌, drop, length, map, IfOk, OnErr};
+ghost use Rattle.std.specs.List.{AllByRecursion};
 ghost use Rattle.std.specs.Process.{exit_status};
 ghost use Rattle.std.specs.String.{string_bytes};
 ghost use Rattle.std.specs.Vec.Iter.{into_iter_items};
-ghost use Rattle.cx_wire.specs.Memory.{new_wire};
+ghost use Rattle.cx_core.specs.Starts.{AreEmpty};
+ghost use Rattle.cx_wire.specs.Memory.{told_queue};
 ghost use Rattle.cx_several.specs.Statuses.{IsStatusForAll};
 
 use crate::late_wire::LateWire;
@@ -86,7 +88,9 @@ fn folder_disks(rt: &HostRuntime) -> Result<Vec<FolderDisk<HostFolder<HostRuntim
 
 /// Wires in memory, which take none before their first messages.
 fn late_wires(alloc: Global) -> Result<Vec<LateWire>, Memory>
-    ensures { IfOk result (λ wires. wires.items ≡ replicate 8 (new_wire 512)) }
+    ensures many { IfOk result (λ wires. length wires.items ≡ 8) }
+    ensures empty { IfOk result (λ wires. AllByRecursion
+        (λ wire. (512 ≤ wire.parts) × AreEmpty (told_queue wire)) wires.items) }
 {
     let mut wires = Vec::new(alloc);
     'wires: for _ in 0..MOST_FILES {
