@@ -228,6 +228,7 @@ fn begins_number(text: &[u8]) -> bool
 }
 
 /// What stands behind a byte in front, if that byte ends a word.
+#[inline(always)]
 fn skip_end(byte: u8, bytes: &[u8]) -> Option<&[u8]>
     ensures { IfSome result (λ rest. (is_end byte ≡ true) × (bytes.now ≡ byte ∷ rest.now)) }
 {
@@ -238,6 +239,7 @@ fn skip_end(byte: u8, bytes: &[u8]) -> Option<&[u8]>
 }
 
 /// A number of one digit, and what stands behind the byte that ends it.
+#[inline(always)]
 fn digit_at(byte: u8, bytes: &[u8]) -> Option<(u64, &[u8])>
     ensures number { IfSome result (λ x. (high : ℕ) → 10 ^ 18 ≤ high
         → field_at (number_of high) byte bytes.now ≡ Some (x.0, x.1.now)) }
@@ -268,6 +270,7 @@ fn some_digits_at(byte: u8, bytes: &[u8]) -> Option<(u64, &[u8])>
 }
 
 /// A number of at most 18 digits, and what stands behind the byte that ends it.
+#[inline(always)]
 fn short_number_at(byte: u8, bytes: &[u8]) -> Option<(u64, &[u8])>
     ensures number { IfSome result (λ x. (high : ℕ) → 10 ^ 18 ≤ high
         → field_at (number_of high) byte bytes.now ≡ Some (x.0, x.1.now)) }
@@ -280,6 +283,7 @@ fn short_number_at(byte: u8, bytes: &[u8]) -> Option<(u64, &[u8])>
 }
 
 /// A value of at most 18 digits and without a sign, and what stands behind the byte that ends it.
+#[inline(always)]
 fn short_positive_at(byte: u8, bytes: &[u8]) -> Option<(i64, &[u8])>
     ensures { IfSome result (λ x. value_at byte bytes.now ≡ Some (x.0, x.1.now)) }
 {
@@ -299,6 +303,7 @@ fn short_negative_at(byte: u8, digits: &[u8]) -> Option<(i64, &[u8])>
 }
 
 /// A value of at most 18 digits, and what stands behind the byte that ends it.
+#[inline(always)]
 fn short_value_at(byte: u8, bytes: &[u8]) -> Option<(i64, &[u8])>
     ensures { IfSome result (λ x. value_at byte bytes.now ≡ Some (x.0, x.1.now)) }
 {
@@ -320,6 +325,7 @@ fn long_value_at(byte: u8, bytes: &[u8]) -> Result<(i64, &[u8]), Stop>
 }
 
 /// A value and a byte behind it. One of at most 18 digits is read in one pass.
+#[inline(always)]
 pub fn value_at(byte: u8, bytes: &[u8]) -> Result<(i64, &[u8]), Stop>
     ensures { Gives (λ x. (x.0, x.1.now)) result (value_at byte bytes.now) }
 {
