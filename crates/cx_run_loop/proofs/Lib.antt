@@ -30,3 +30,6 @@ pub mod CoreTurns
 pub mod LeadLaws
 pub mod Recast
 pub mod CoresGo
+pub mod CoresBegin
+pub mod CoresEnd
+pub mod CoresLed

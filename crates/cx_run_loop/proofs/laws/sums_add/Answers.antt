@@ -1,5 +1,8 @@
 use Rattle.cx_plan.specs.Setups.{setup_of}
 use Rattle.cx_run_loop.proofs.SumLaws as laws
+use Rattle.cx_run_loop.proofs.RecutLaws as recut_laws
+use Rattle.cx_run_loop.proofs.ContinueLaws as continue_laws
+use Rattle.cx_run_loop.proofs.SegmentLaws as segment_laws
 use Rattle.cx_run_loop.proofs.CoreLaws as core_laws
 use Rattle.cx_run_loop.proofs.TurnWaits as turn_waits
 use Rattle.cx_run_loop.proofs.WaitMore as wait_more

@@ -1,6 +1,6 @@
 use Rattle.std.proofs.Common.{◌≡◌, ◌<◌, ◌≤◌, ◌+◌, ℕ, Bool, true, false, not, refl, sym, ap, ◌∙◌, subst}
 use Rattle.cx_core.specs.Cores.{ahead_in, enabled_in}
-use Rattle.cx_run_loop.proofs.PickLaws.{IsLeft, left_all, left_end, left_no, left_yes}
+use Rattle.cx_run_loop.proofs.PickLaws.{IsLeft, left_all, left_end, left_here, left_no, left_yes}
 use Rattle.cx_run_loop.proofs.picking.nth_waiting.Goals as goal
 use Rattle.cx_run_loop.proofs.picking.nth_waiting.Goals.{then-not-ahead+else-left-eq0, else-not-ahead}
 
@@ -32,3 +32,10 @@ unreachable-requires c =
     c.events.k c.events.left
     (subst (λ (m : ℕ). m ≤ c.events.k) c.enabled-k-end.ensures c.events-test.false)
     c.requires.there c.events.invariant
+
+pub returns-then-left-eq0-clause-nth : goal.returns-then-left-eq0-clause-nth
+returns-then-left-eq0-clause-nth c =
+    left_here (λ k. not (ahead_in c.args.core.now k)) (enabled_in c.args.core.now) c.args.i
+    c.events.k c.events.left
+    (subst (λ (m : ℕ). c.events.k < m) c.enabled-k-end.ensures c.events-test.true)
+    (ap not (sym c.ahead.ensures ∙ c.if-not-ahead.true)) c.if-left-eq0.true c.events.invariant

@@ -9,20 +9,20 @@ pick-requires g c =
     let below : some.0 < enabled_in c.args.core.now = some.1 in
     subst (λ (n : ℕ). 0 < n) (sym c.enabled.ensures) (omega (arith, below))
 
-pub returns-then-balance-clause-picks : goal.returns-then-balance-clause-picks
-returns-then-balance-clause-picks g c =
+pub returns-then-job-clause-picks : goal.returns-then-job-clause-picks
+returns-then-job-clause-picks g c =
     subst (λ (z : Bool). Picks g.T.Turns z c.args.core.now c.args.turns.now
-    c.pick_waiting.result c.pick_waiting.new.turns) (sym c.if-balance.true)
+    c.pick_waiting.result c.pick_waiting.new.turns) (sym c.if-job.true)
     c.pick_waiting.ensures.picks
 
-pub returns-else-balance-clause-picks : goal.returns-else-balance-clause-picks
-returns-else-balance-clause-picks g c =
+pub returns-else-job-clause-picks : goal.returns-else-job-clause-picks
+returns-else-job-clause-picks g c =
     subst (λ (z : Bool). Picks g.T.Turns z c.args.core.now c.args.turns.now c.pick.result
-    c.pick.new.self) (sym c.if-balance.false)
+    c.pick.new.self) (sym c.if-job.false)
     (subst (λ (n : ℕ). g.T.Turns.picks c.args.turns.now n c.pick.result c.pick.new.self)
     c.enabled.ensures c.pick.ensures.picks)
 
-pub returns-else-balance-clause-waits : goal.returns-else-balance-clause-waits
-returns-else-balance-clause-waits g c = λ same.
-    let both : true ≡ false = sym same ∙ c.if-balance.false in
+pub returns-else-job-clause-waits : goal.returns-else-job-clause-waits
+returns-else-job-clause-waits g c = λ same.
+    let both : true ≡ false = sym same ∙ c.if-job.false in
     absurd (let bad : ⊥ = cc in bad)
