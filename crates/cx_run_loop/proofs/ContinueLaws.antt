@@ -1,8 +1,8 @@
 -- A run that has come to a checkpoint is what it has done up to there, and the run that goes on
 -- from that checkpoint, whatever it began from.
-use Rattle.std.proofs.Common.{◌≡◌, ◌≢◌, ◌≤◌, ◌<◌, ◌+◌, ◌⊎◌, inl, inr, ℕ, zero, suc, Bool, true, false, List, [], ◌∷◌, ◌++◌, length, Option, Some, None, if◌then◌else◌, arith, refl, sym, ap, ◌∙◌, subst, append_assoc}
+use Rattle.std.proofs.Common.{◌≡◌, ◌≢◌, ◌≤◌, ◌<◌, ◌+◌, ◌⊎◌, inl, inr, ℕ, zero, suc, Bool, true, false, List, [], ◌∷◌, ◌++◌, length, Option, Some, None, if◌then◌else◌, arith, eqb-true, refl, sym, ap, ◌∙◌, subst, append_assoc}
 use Rattle.std.proofs.lemmas.Bool.{eq-eqb}
-use Rattle.std.specs.Prelude.{◌==◌, IfSome, eqb-true}
+use Rattle.std.specs.Prelude.{◌==◌, IfSome}
 use Rattle.cx_plan.specs.declared.variable.VarId.{VarId}
 use Rattle.cx_plan.specs.Dues.{is_due}
 use Rattle.cx_plan.specs.Lookups.{bin}
@@ -209,14 +209,13 @@ by_in (w ∷ ws) f v none =
 pub by_outputs : (vs : List VarId) (ls : List ℕ) → IsOfOutputs vs (lengths_by vs ls)
 by_outputs [] ls v missing = refl
 by_outputs (w ∷ ws) [] v missing = refl
-by_outputs (w ∷ ws) (l ∷ ls) v missing = go (w.0 == v.0) refl
+by_outputs (w ∷ ws) (l ∷ ls) v missing =
+    go (w.0 == v.0) refl (by_outputs ws ls v (λ there. missing (inr there)))
   where
-    rest : lengths_by ws ls v.0 ≡ 0
-    rest = by_outputs ws ls v (λ there. missing (inr there))
-
-    go : (b : Bool) → (w.0 == v.0) ≡ b → (if b then l else lengths_by ws ls v.0) ≡ 0
-    go true is = absurd (missing (inl (sym (eqb-true w.0 v.0 is))))
-    go false is = rest
+    go : (b : Bool) → (w.0 == v.0) ≡ b → lengths_by ws ls v.0 ≡ 0
+        → (if b then l else lengths_by ws ls v.0) ≡ 0
+    go true is rest = absurd (missing (inl (sym (eqb-true w.0 v.0 is))))
+    go false is rest = rest
 
 -- entries that write to outputs alone make no other longer
 entries_outputs : (vs : List VarId) (es : List Entry) (f : Lengths) → Each (WritesTo vs) es

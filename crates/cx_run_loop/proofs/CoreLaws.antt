@@ -161,6 +161,7 @@ module _ (s : Setting) (laws : DriveLaws s.wire s.job s.rules) (sums : SumsAdd (
 
     over : (last : State) → (trace_in s found).outcome ≡ Goes last
         → CountsOver s (cut_from specs own) was is
+    unfolding comes
     over last goes =
         let h = g.counted t last goes in
         let work_is : work_in (setup_of s.job) (cut_from specs own) (parts_at s was)

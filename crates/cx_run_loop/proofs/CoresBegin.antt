@@ -1,6 +1,6 @@
 -- A run by one core after another, as it begins.
 use Rattle.std.proofs.Common.{◌≡◌, ◌≤◌, ◌<◌, ◌^◌, ◌+◌, ℕ, true, false, List, [], arith, refl, sym, ◌∙◌, ap, subst}
-use Rattle.std.specs.Prelude.{Bool, Option, Some, IsTrue}
+use Rattle.std.specs.Prelude.{Bool, Option, Some, IsTrue, if◌then◌else◌}
 use Rattle.cx_plan.specs.declared.job.Cuts.{Cuts}
 use Rattle.cx_plan.specs.declared.job.Job.{Job}
 use Rattle.cx_plan.specs.Setups.{setup_of}

@@ -1,6 +1,6 @@
 -- A run by one core after another: what holds of it at each answer, and its end.
 use Rattle.std.proofs.Common.{◌≡◌, ◌≢◌, ◌≤◌, ℕ, true, false, List, arith, refl, sym, ◌∙◌, ap, subst}
-use Rattle.std.specs.Prelude.{Bool, Option, Some, IsTrue}
+use Rattle.std.specs.Prelude.{Bool, Option, Some, IsTrue, if◌then◌else◌}
 use Rattle.cx_plan.specs.declared.job.Cuts.{Cuts}
 use Rattle.cx_plan.specs.declared.job.Job.{Job}
 use Rattle.cx_plan.specs.Setups.{setup_of}
@@ -60,11 +60,11 @@ module _ {D W T : Type 0} (d : DiskGhosts D) (w : WireGhosts W) (t : TurnsGhosts
     abbrev s : Setting
     s = setting d w job_now f.rules
 
-    abbrev here : Start
-    here = record { cut = cut; found = b.found; counts = p.is.now; view = p.view }
-
     abbrev p : Place s
     p = place_of d w job_now f.rules was
+
+    abbrev here : Start
+    here = record { cut = cut; found = b.found; counts = p.is.now; view = p.view }
 
     -- with one cut the entries of this core are counted by it
     plain_counts : f.job.balance ≡ false → CountAsOne s again here

@@ -48,6 +48,7 @@ pub waits_at : (s : Setting) (found : Option Checkpoint) (k : Keeper) (p : Place
     (b : HasBegunAt s found k p) (going : p.is.core.outcome ≡ Going)
     → CoresWait s.wire s.job s.rules (begins_in (setup_of s.job) found)
     → IsWaiting s found p.is.now p (come_at s found k p b going).there
+unfolding come_at
 waits_at s found k p b going wait = record {
   together = wait.begins p.is.now p.is.core p.is.queue b.begun;
   unsaved = λ t. subst AreUnsaved

@@ -8,12 +8,13 @@ use Rattle.cx_grid.specs.Boxes.{point_count}
 use Rattle.cx_plan.specs.declared.item.Item.{Item}
 use Rattle.cx_plan.specs.declared.job.Cuts.{Cuts}
 use Rattle.cx_plan.specs.declared.job.Job.{Job}
+use Rattle.cx_plan.specs.declared.tree.Tree.{Tree, Seq', Call, Sync, If', While', Row_of-Tree, end_of-Tree, more_of-Tree}
 use Rattle.cx_plan.specs.declared.variable.VarId.{VarId}
 use Rattle.cx_plan.specs.declared.variable.VarInfo.{VarInfo}
 use Rattle.cx_plan.specs.Lookups.{item}
 use Rattle.cx_plan.specs.Regions.{run_items}
 use Rattle.cx_plan.specs.Setups.{setup_of}
-use Rattle.cx_plan.specs.Whole.{IsWhole, level_count}
+use Rattle.cx_plan.specs.Whole.{IsRow, IsTree, IsWhole, level_count}
 use Rattle.cx_rule.specs.declared.spec.Spec.{Spec}
 use Rattle.cx_rule.specs.Jobs.{FitItem, FitJob}
 use Rattle.cx_cut.specs.Cuts.{Parts, part_count, local}
@@ -92,6 +93,21 @@ all_end f k n l =
 
 -- ---- a job with another cut
 
+mutual
+  tree_with : (job : Job) (own cut : Cuts) (t : Tree) → IsTree (with_cut job own) t
+      → IsTree (with_cut job cut) t
+  tree_with job own cut (Seq' shape all) w = row_with job own cut all w
+  tree_with job own cut (Call k) w = w
+  tree_with job own cut (Sync vars path) w = w
+  tree_with job own cut (If' v path shape one) w = (w.0, row_with job own cut one w.1)
+  tree_with job own cut (While' v path shape one) w = (w.0, row_with job own cut one w.1)
+
+  row_with : {m : _} (job : Job) (own cut : Cuts) (row : Row_of-Tree m)
+      → IsRow (with_cut job own) row → IsRow (with_cut job cut) row
+  row_with job own cut end_of-Tree w = w
+  row_with job own cut (more_of-Tree tree rest) w =
+      (tree_with job own cut tree w.0, row_with job own cut rest w.1)
+
 whole_with : (job : Job) (own cut : Cuts) → IsWhole (with_cut job own) → IsWhole (with_cut job cut)
 whole_with job own cut w = record {
   shape = w.shape;
@@ -105,7 +121,7 @@ whole_with job own cut w = record {
   };
   run_items = w.run_items;
   bins = w.bins;
-  trees = w.trees;
+  trees = λ k d lt. tree_with job own cut (get_or job.plan.bins k d) (w.trees k d lt);
   nodes_limit = w.nodes_limit;
   depth_limit = w.depth_limit;
   outputs = w.outputs;

@@ -47,7 +47,7 @@ so_far_of job rules (From c state so_far) = refl
 of_outputs : (setup : Setup) (found : Option Checkpoint)
     → IsOfOutputs setup.out_vars (first_lengths (begins_in setup found))
 of_outputs setup None v missing = refl
-of_outputs setup (Some c) = by_outputs setup.out_vars c.lengths
+of_outputs setup (Some c) v missing = by_outputs setup.out_vars c.lengths v missing
 
 later_by : (setup : Setup) (found : Option Checkpoint) (n : ℕ)
     → first_place (begins_in setup found) ≤ n → IfSome found (λ f. f.iteration < n)

@@ -35,7 +35,7 @@ going_at s found k p b = record {
   kept = b.kept;
 }
 
-pub come_at : (s : Setting) (found : Option Checkpoint) (k : Keeper) (p : Place s)
+unfoldable pub come_at : (s : Setting) (found : Option Checkpoint) (k : Keeper) (p : Place s)
     → HasBegunAt s found k p → p.is.core.outcome ≡ Going → HasCome s found p.is.now p.view p
 come_at s found k p b going =
     let nothing_handed : handed_out (run_in s found) b.begun.at.world ≡ [] =

@@ -87,13 +87,13 @@ lies_not tells r trace first k was is at event s stands fails lies =
 -- ---- a checkpoint that was just saved
 
 -- that it is the writer's work at a place
-record WritesAt (tells : Type 0) (r : Run) (o : Oracle)
+pub record WritesAt (tells : Type 0) (r : Run) (o : Oracle)
     (w v : World Held (Message tells) Channel Lengths) : Type 0 where
-  place : ℕ
-  next : IsNext (net tells within_lead r o) w place
-  saves_there : is_save (next_op r (guided r o place).control) ≡ true
-  places : v.place ≡ w.place
-  meter : v.meter ≡ w.meter
+  pub place : ℕ
+  pub next : IsNext (net tells within_lead r o) w place
+  pub saves_there : is_save (next_op r (guided r o place).control) ≡ true
+  pub places : v.place ≡ w.place
+  pub meter : v.meter ≡ w.meter
 
 work_saves : (o : Op) (iteration c : ℕ) → Save c ≡ work_event o iteration → is_save o ≡ true
 work_saves ops.Save iteration c e = refl

@@ -4,6 +4,7 @@ ghost use Rattle.std.specs.Int.{int_gap};
 ghost use Rattle.cx_cut.specs.Cuts.{IsWhole as IsWholeCut, local, part_count};
 ghost use Rattle.cx_cut.specs.Faults.{cut_fault, parts_of};
 ghost use Rattle.cx_grid.specs.Boxes.{point_count};
+ghost use Rattle.cx_grid.specs.Grid.{IsShape};
 ghost use Rattle.cx_plan.specs.Setups.{setup_of};
 ghost use Rattle.cx_rule.specs.Jobs.{FitJob};
 ghost use Rattle.cx_core_buffers.specs.Checkpoints.{HoldsState};
@@ -86,6 +87,7 @@ fn all_sweep(
     shape: &Shape,
     widths: &Cuts,
 ) -> Result<bool, Memory>
+    requires shape { IsShape shape.now }
     requires cut { cut_fault (parts_of shape.now widths.now) ≡ None }
     ensures { IfOk result (λ all. all
         ≡ all_sweep (map spec_of routines.now) (parts_of shape.now widths.now)) }

@@ -11,8 +11,9 @@ pick-i-requires g c =
     some.1 (ap not some.2))
 
 pub nth_waiting-requires : goal.nth_waiting-requires
-nth_waiting-requires g c =
-    subst (λ (n : ℕ). c.pick-i.result < n) c.waiting.ensures c.pick-i.ensures.below
+nth_waiting-requires g c = record {
+  there = subst (λ (n : ℕ). c.pick-i.result < n) c.waiting.ensures c.pick-i.ensures.below;
+}
 
 pub returns-clause-picks : goal.returns-clause-picks
 returns-clause-picks g c = (

@@ -6,3 +6,31 @@ pub cut_by_weight-requires-clause-state : goal.cut_by_weight-requires-clause-sta
 cut_by_weight-requires-clause-state g c =
     c.checkpoints_weigh.ensures c.args.job.now c.args.c.now c.requires.ready.whole
     (holds_levels c.args.job.now c.args.c.now c.requires.state)
+
+pub returns-then-not-job-clause-cut : goal.returns-then-not-job-clause-cut
+returns-then-not-job-clause-cut g c =
+    next_unbalanced _ c.args.job.now c.args.c.now c.if-not-job.true
+
+pub returns-then-all_sweep-clause-cut : goal.returns-then-all_sweep-clause-cut
+returns-then-all_sweep-clause-cut g c =
+    next_weighed _ c.args.job.now c.args.c.now c.in_ok-chosen.chosen c.if-not-job.false
+    c.in_ok-chosen.ensures.value (sym c.in_ok-all_sweep.ensures ∙ c.if-all_sweep.true)
+
+pub returns-then-all_sweep-clause-ready : goal.returns-then-all_sweep-clause-ready
+returns-then-all_sweep-clause-ready g c =
+    ready_with c.args.job.now c.args.job.now.cut c.in_ok-chosen.chosen c.requires.ready
+    c.in_ok-chosen.ensures.accepted
+
+pub returns-then-all_sweep-clause-routines : goal.returns-then-all_sweep-clause-routines
+returns-then-all_sweep-clause-routines g c =
+    fits_with _ c.args.job.now c.args.job.now.cut c.in_ok-chosen.chosen
+    (sym c.in_ok-all_sweep.ensures ∙ c.if-all_sweep.true) c.requires.routines
+
+pub returns-then-all_sweep-clause-parts : goal.returns-then-all_sweep-clause-parts
+returns-then-all_sweep-clause-parts g c =
+    parts_with c.args.job.now c.in_ok-chosen.chosen c.in_ok-chosen.ensures.parts
+
+pub returns-else-all_sweep-clause-cut : goal.returns-else-all_sweep-clause-cut
+returns-else-all_sweep-clause-cut g c =
+    next_too_large _ c.args.job.now c.args.c.now c.in_ok-chosen.chosen c.if-not-job.false
+    c.in_ok-chosen.ensures.value (sym c.in_ok-all_sweep.ensures ∙ c.if-all_sweep.false)
