@@ -38,10 +38,11 @@ use Rattle.cx_run_loop.proofs.UnderWayLaws.{comes_on, ends, leaves_on}
 -- a job that isn't balanced has one cut, whatever state it goes on from
 pub one_again : (specs : List Spec) (job : Job) → job.balance ≡ false
     → cut_from specs job ≡ (λ state. parts_of job.shape job.cut)
-one_again specs job no =
-    ap (λ (z : Bool) (state : State). parts_of job.shape
+one_again specs job unbalanced =
+    ap {B = State → Parts} (λ (z : Bool) (state : State). parts_of job.shape
     (if z then swept_cut specs job
-    (weighed_cut job (checkpoint_of (setup_of job) job.key 0 state no_lengths)) else job.cut)) no
+    (weighed_cut job (checkpoint_of (setup_of job) job.key 0 state no_lengths)) else job.cut))
+    unbalanced
 
 module _ {D W T : Type 0} (d : DiskGhosts D) (w : WireGhosts W) (t : TurnsGhosts T) (f : From)
     (disk : D) (wire : W) (meter : ℕ) (turns : T) where
@@ -68,10 +69,11 @@ module _ {D W T : Type 0} (d : DiskGhosts D) (w : WireGhosts W) (t : TurnsGhosts
 
     -- with one cut the entries of this core are counted by it
     plain_counts : f.job.balance ≡ false → CountAsOne s again here
-    plain_counts no =
+    plain_counts unbalanced =
         subst (λ (g : State → Parts). CountAsOne s g here)
-        (sym (one_again f.specs f.job no
-        ∙ ap (λ (u : Cuts) (state : State). parts_of f.job.shape u) (sym (b.plain no))))
+        (sym (one_again f.specs f.job unbalanced
+        ∙ ap {B = State → Parts} (λ (u : Cuts) (state : State). parts_of f.job.shape u)
+        (sym (b.plain unbalanced))))
         (one_cut s here sums)
 
     -- no more was counted than the run counts in all, whatever the answer
@@ -92,9 +94,9 @@ module _ {D W T : Type 0} (d : DiskGhosts D) (w : WireGhosts W) (t : TurnsGhosts
         by_balance true same =
             from same tells b.found p.is.now b.come.there b.next_is (b.waits same) last goes_here
             again
-        by_balance false no =
+        by_balance false unbalanced =
             let h = within tells b.found p.is.now b.come.there last goes_here in
-            let one = plain_counts no in
+            let one = plain_counts unbalanced in
             record {
               points = subst (λ (n : ℕ). now.points ≤ raised p.is.now.points n) (sym one.points)
                   h.points;
@@ -149,7 +151,7 @@ module _ {D W T : Type 0} (d : DiskGhosts D) (w : WireGhosts W) (t : TurnsGhosts
         where
           by_balance : (z : Bool) → f.job.balance ≡ z → CountAsOne s again here
           by_balance true same = one_unsaved s again here (unsaved same tells)
-          by_balance false no = plain_counts no
+          by_balance false unbalanced = plain_counts unbalanced
 
       module _ (leaves : Keeps d w job_now f.rules was mid.disk mid.wire mid.meter) where
         come : HasCome s b.found p.is.now p.view q

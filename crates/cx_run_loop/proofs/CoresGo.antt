@@ -1,6 +1,6 @@
 -- A run by one core after another, between two of them.
 use Rattle.std.proofs.Common.{◌≡◌, ◌≢◌, ◌≤◌, ◌<◌, ◌^◌, ◌+◌, ℕ, true, false, List, [], ◌∷◌, ◌++◌, length, arith, refl, sym, ◌∙◌, ap, subst}
-use Rattle.std.specs.Prelude.{Option, Some, IsTrue}
+use Rattle.std.specs.Prelude.{Bool, Option, Some, IsTrue}
 use Rattle.cx_plan.specs.declared.job.Cuts.{Cuts}
 use Rattle.cx_plan.specs.declared.job.Job.{Job}
 use Rattle.cx_plan.specs.Setups.{setup_of}
@@ -18,7 +18,7 @@ use Rattle.cx_chk.specs.declared.checkpoint.Checkpoint.{Checkpoint}
 use Rattle.cx_keep.specs.Keeping.{Keeper}
 use Rattle.cx_keep.specs.Trails.{Counts as AreCounted}
 use Rattle.law_network.specs.Machine.{World}
-use Rattle.law_parts.specs.Beginnings.{run_of}
+use Rattle.law_parts.specs.Beginnings.{Beginning, IsBeginning, run_of}
 use Rattle.law_parts.specs.Holding.{Held}
 use Rattle.law_parts.specs.Moves.{Message, Channel}
 use Rattle.law_reached.specs.Works.{handed_out}
@@ -166,6 +166,7 @@ module _ {D W T : Type 0} (d : DiskGhosts D) (w : WireGhosts W) (t : TurnsGhosts
     }
 
     segment : SegmentTo (setting_of d w f) again start after
+    unfolding come
     segment =
         segment_more (setting_of d w f) again start
         (start_at cut b.found was) after b.segment
@@ -253,5 +254,45 @@ module _ {D W T : Type 0} (d : DiskGhosts D) (w : WireGhosts W) (t : TurnsGhosts
               now = refl;
               turns = refl;
             });
-        cut_is = sym (last_anew f.specs f.job (first_cut f.specs f.job f.found) b.checkpoints c);
+        cut_is = sym (last_anew t (IsTrue w.tells) f.specs f.job f.rules
+            (first_cut f.specs f.job f.found) b.checkpoints c);
       }
+
+  -- so of a job that is this one by an equation, as a loop has it
+  pub between_on : (own cut : Cuts) (next : ℕ) (was mid : RunState D W) (turns_was turns_mid : T)
+      (b : AreBetween cut next was turns_was) → own ≡ f.job.cut → (now : Job) → now ≡ job_by cut
+      → DriveLaws (IsTrue w.tells) now f.rules → SumsAdd (setup_of now) → (anew : Bool)
+      → anew ≡ true → RunsCore d w t now f.rules next was mid turns_was turns_mid anew
+      → Keeps d w now f.rules was mid.disk mid.wire mid.meter → (new : Job) (run : Runs)
+      → new ≡ with_cut now new.cut
+      → BeginsAnew new f.specs (with_cut now own) mid.run.core.buffers.state mid.run.keeper run
+      → (IsTrue w.tells → w.sum mid.wire < 2 ^ 64)
+      → ((b : Beginning) → IsBeginning (setup_of new) b
+      → CoresWait (IsTrue w.tells) new f.rules b)
+      → AreBetween new.cut (mid.run.core.buffers.state.iteration + 1)
+      (run_state run mid.disk mid.wire mid.meter) turns_mid
+  between_on own cut next was mid turns_was turns_mid b own_is now now_is laws sums anew is_anew runs
+      keeps new run new_is begins fits wait =
+      let c : Checkpoint = mid.run.core.buffers.state in
+      let base : with_cut now own ≡ f.job =
+      ap (with_cut now) own_is ∙ ap (λ (j : Job). with_cut j f.job.cut) now_is in
+      let begun : BeginsAnew new f.specs f.job c mid.run.keeper run =
+      subst (λ (j : Job). BeginsAnew new f.specs j c mid.run.keeper run) base begins in
+      let cut_new : new.cut ≡ next_cut f.specs f.job c = begun.cut in
+      let job_new : new ≡ job_by (next_cut f.specs f.job c) =
+      new_is ∙ ap (λ (j : Job). with_cut j new.cut) now_is ∙ ap (with_cut f.job) cut_new in
+      let runs_true : RunsCore d w t (job_by cut) f.rules next was mid turns_was turns_mid true =
+      subst (λ (z : Bool). RunsCore d w t (job_by cut) f.rules next was mid turns_was turns_mid z)
+      is_anew (subst (λ (j : Job). RunsCore d w t j f.rules next was mid turns_was turns_mid anew)
+      now_is runs) in
+      subst (λ (u : Cuts). AreBetween u (c.iteration + 1)
+      (run_state run mid.disk mid.wire mid.meter) turns_mid) (sym cut_new)
+      (between_anew cut next was mid turns_was turns_mid b
+      (subst (λ (j : Job). DriveLaws (IsTrue w.tells) j f.rules) now_is laws)
+      (subst (λ (j : Job). SumsAdd (setup_of j)) now_is sums) runs_true.stops.balance runs_true
+      (subst (λ (j : Job). Keeps d w j f.rules was mid.disk mid.wire mid.meter) now_is keeps)
+      run (subst (λ (j : Job). BeginsAnew j f.specs f.job c mid.run.keeper run) job_new begun)
+      fits
+      (subst (λ (j : Job). CoresWait (IsTrue w.tells) j f.rules
+      (begins_in (setup_of j) (Some c))) job_new
+      (wait (begins_in (setup_of new) (Some c)) begun.can)))

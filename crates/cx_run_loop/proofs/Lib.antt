@@ -33,3 +33,4 @@ pub mod CoresGo
 pub mod CoresBegin
 pub mod CoresEnd
 pub mod CoresLed
+pub mod CoresOver

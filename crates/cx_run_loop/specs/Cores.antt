@@ -28,6 +28,7 @@ use Rattle.cx_run_loop.specs.Recuts.{cut_from, first_cut, with_cut}
 use Rattle.cx_run_loop.specs.Segments.{RunsBy, Start}
 use Rattle.cx_run_loop.specs.Sums.{AreUnsaved, CountsBelow}
 use Rattle.cx_run_loop.specs.Turning.{CoresLead, CoresStop, Turning, TurnsLead, turning}
+use Rattle.cx_run_loop.specs.UnderWay.{BeginsAnew, Runs}
 use Rattle.cx_run_loop.specs.Waiting.{HasGathered, HoldsCheckpoint, IsWaiting}
 use Rattle.cx_run_loop.specs.declared.turn.Advance.{Advance}
 use Rattle.cx_run_loop.specs.declared.turn.Advance.TheVariants.{More, Saved, Over}
@@ -49,6 +50,13 @@ abbrev pub is_cut_anew : Job → (next : ℕ) → Advance → Cores → Bool
 is_cut_anew job next came core =
     job.balance && is_saved came && nat_le next core.buffers.state.iteration
     && nat_le core.buffers.state.iteration job.itlast
+
+-- A run's first core: the one that it began with, where that is in the first cut, or another one in
+-- the cut after what was found.
+abbrev pub BeginsCores : Job → List Spec → (own : Job) → Option Checkpoint → (was is : Runs) → Type 0
+BeginsCores job specs own found was is =
+    ((is ≡ was) × (job.cut ≡ own.cut))
+    ⊎ ((c : Checkpoint) × (found ≡ Some c) × BeginsAnew job specs own c was.keeper is)
 
 -- ---- one core
 

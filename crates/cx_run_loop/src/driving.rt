@@ -1,5 +1,5 @@
 //! A run of a job, from its start or from a checkpoint to its end.
-ghost use Rattle.std.specs.Prelude.{◌≡◌, ◌≤◌, ◌<◌, ◌^◌, ◌⊎◌, ℕ, true, map, IsTrue, IfOk, IfSome, None, OnErr, OnOk, Some};
+ghost use Rattle.std.specs.Prelude.{◌≡◌, ◌≤◌, ◌<◌, ◌^◌, ℕ, true, map, IsTrue, IfOk, IfSome, None, OnErr, OnOk, Some};
 ghost use Rattle.cx_cut.specs.Cuts.{part_count};
 ghost use Rattle.cx_cut.specs.Faults.{cut_fault, parts_of};
 ghost use Rattle.cx_disk.specs.Disk.{IsNamed};
@@ -10,14 +10,14 @@ ghost use Rattle.cx_core.specs.Starts.{AreEmpty, CanBegin, IsReady, lengths_firs
 ghost use Rattle.cx_core.specs.Steps.{counts};
 ghost use Rattle.cx_core.specs.declared.answers.Outcome.TheVariants as outcomes;
 ghost use Rattle.cx_run_loop.specs.Advances.{CanAdvance, Keeps, run_state};
-ghost use Rattle.cx_run_loop.specs.Cores.{LeadsOut, LeadsStop, RunsCore, RunsOn, RunsOut, StaysBelowFrom, is_cut_anew, next_after, run_by};
+ghost use Rattle.cx_run_loop.specs.Cores.{BeginsCores, LeadsOut, LeadsStop, RunsCore, RunsOn, RunsOut, StaysBelowFrom, is_cut_anew, next_after, run_by};
 ghost use Rattle.cx_run_loop.specs.Drives.{Drives, LendsScalars, driven_by};
 ghost use Rattle.cx_run_loop.specs.Faults.{Stops};
 ghost use Rattle.cx_run_loop.specs.Going.{place_at, setting};
 ghost use Rattle.cx_run_loop.specs.Lent.{wired};
 ghost use Rattle.cx_run_loop.specs.Recuts.{first_cut, with_cut};
 ghost use Rattle.cx_run_loop.specs.Turning.{StopsTurns, TakesTurns, TurnsStop, turning};
-ghost use Rattle.cx_run_loop.specs.UnderWay.{BeginsAnew, HasBegunAt};
+ghost use Rattle.cx_run_loop.specs.UnderWay.{HasBegunAt};
 
 use crate::fault::DriveFault;
 use crate::laws::{cores_wait, drive_laws, sums_add};
@@ -208,14 +208,19 @@ fn begin_cores(
     ensures job { job.new ≡ with_cut job.old job.new.cut }
     ensures cut { OnOk result
         (job.new.cut ≡ first_cut (map spec_of routines.now) job.old found) }
-    ensures begins { IfOk result (λ r. ((r ≡ run) × (job.new.cut ≡ job.old.cut)) ⊎ IfSome found
-        (λ c. BeginsAnew job.new (map spec_of routines.now) job.old c run.keeper r)) }
+    ensures begins { IfOk result (BeginsCores job.new (map spec_of routines.now) job.old found
+        run) }
+    ensures ready { OnOk result (IsReady job.new) }
+    ensures routines { OnOk result (FitJob (map spec_of routines.now) job.new) }
     ensures stops { (m n : ℕ) → Stops
         (record { old = m; new = m }) (record { old = n; new = n }) result }
 {
+    if !job.balance {
+        return Ok(run);
+    }
     match found {
-        Some(c) if job.balance => run.cut_at(alloc, job, own, routines, c),
-        _ => Ok(run),
+        Some(c) => run.cut_at(alloc, job, own, routines, c),
+        None => Ok(run),
     }
 }
 

@@ -16,6 +16,7 @@ use Rattle.cx_run_loop.proofs.CoresGo as cores_go
 use Rattle.cx_run_loop.proofs.CoresBegin as cores_begin
 use Rattle.cx_run_loop.proofs.CoresEnd as cores_end
 use Rattle.cx_run_loop.proofs.CoresLed as cores_led
+use Rattle.cx_run_loop.proofs.CoresOver as cores_over
 use Rattle.cx_run_loop.proofs.laws.sums_add.Goals as goal
 
 pub returns : goal.returns

@@ -11,26 +11,26 @@ pub returns-then-not-job-clause-cut : goal.returns-then-not-job-clause-cut
 returns-then-not-job-clause-cut g c =
     next_unbalanced _ c.args.job.now c.args.c.now c.if-not-job.true
 
-pub returns-then-all_sweep-clause-cut : goal.returns-then-all_sweep-clause-cut
-returns-then-all_sweep-clause-cut g c =
+pub returns-then-branch-clause-cut : goal.returns-then-branch-clause-cut
+returns-then-branch-clause-cut g c =
     next_weighed _ c.args.job.now c.args.c.now c.in_ok-chosen.chosen c.if-not-job.false
-    c.in_ok-chosen.ensures.value (sym c.in_ok-all_sweep.ensures ∙ c.if-all_sweep.true)
+    c.in_ok-chosen.ensures.value (sym c.in_ok-all_sweep.ensures ∙ c.if-branch.true)
 
-pub returns-then-all_sweep-clause-ready : goal.returns-then-all_sweep-clause-ready
-returns-then-all_sweep-clause-ready g c =
+pub returns-then-branch-clause-ready : goal.returns-then-branch-clause-ready
+returns-then-branch-clause-ready g c =
     ready_with c.args.job.now c.args.job.now.cut c.in_ok-chosen.chosen c.requires.ready
     c.in_ok-chosen.ensures.accepted
 
-pub returns-then-all_sweep-clause-routines : goal.returns-then-all_sweep-clause-routines
-returns-then-all_sweep-clause-routines g c =
+pub returns-then-branch-clause-routines : goal.returns-then-branch-clause-routines
+returns-then-branch-clause-routines g c =
     fits_with _ c.args.job.now c.args.job.now.cut c.in_ok-chosen.chosen
-    (sym c.in_ok-all_sweep.ensures ∙ c.if-all_sweep.true) c.requires.routines
+    (sym c.in_ok-all_sweep.ensures ∙ c.if-branch.true) c.requires.routines
 
-pub returns-then-all_sweep-clause-parts : goal.returns-then-all_sweep-clause-parts
-returns-then-all_sweep-clause-parts g c =
+pub returns-then-branch-clause-parts : goal.returns-then-branch-clause-parts
+returns-then-branch-clause-parts g c =
     parts_with c.args.job.now c.in_ok-chosen.chosen c.in_ok-chosen.ensures.parts
 
-pub returns-else-all_sweep-clause-cut : goal.returns-else-all_sweep-clause-cut
-returns-else-all_sweep-clause-cut g c =
+pub returns-else-branch-clause-cut : goal.returns-else-branch-clause-cut
+returns-else-branch-clause-cut g c =
     next_too_large _ c.args.job.now c.args.c.now c.in_ok-chosen.chosen c.if-not-job.false
-    c.in_ok-chosen.ensures.value (sym c.in_ok-all_sweep.ensures ∙ c.if-all_sweep.false)
+    c.in_ok-chosen.ensures.value (sym c.in_ok-all_sweep.ensures ∙ c.if-branch.false)
