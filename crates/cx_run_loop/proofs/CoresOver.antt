@@ -1,10 +1,10 @@
 -- A run by one core after another, with the job as a loop over cores has it: one that is the job in
 -- the present cut by an equation.
 use Rattle.std.proofs.Common.{◌≡◌, ◌≢◌, ◌≤◌, ◌<◌, ◌+◌, ◌-◌, ◌^◌, ℕ, true, false, List, length, arith, refl, sym, ◌∙◌, ap, subst}
-use Rattle.std.specs.Prelude.{Bool, Option, Some, None, Result, Ok, Err, IfOk, OnOk, IsTrue}
+use Rattle.std.specs.Prelude.{Bool, Option, Some, None, Result, Ok, Err, IfOk, IfSome, OnOk, IsTrue}
 use Rattle.cx_plan.specs.declared.job.Cuts.{Cuts}
 use Rattle.cx_plan.specs.declared.job.Job.{Job}
-use Rattle.cx_plan.specs.Setups.{setup_of}
+use Rattle.cx_plan.specs.Setups.{Setup, setup_of}
 use Rattle.cx_outputs.specs.Names.{HasShortNames}
 use Rattle.cx_rule.specs.Jobs.{FitJob}
 use Rattle.cx_rule.specs.Routine.{Rule}
@@ -64,6 +64,13 @@ pub short_own : (job now : Job) (cut : Cuts) → now ≡ with_cut job cut
     → HasShortNames (setup_of job) → HasShortNames (setup_of now)
 short_own job now cut now_is short =
     subst (λ (j : Job). HasShortNames (setup_of j)) (sym now_is) short
+
+-- ---- where a core begins
+
+pub some_begins : (setup : Setup) (found : Option Checkpoint) → CanBegin setup found
+    → IfSome found (λ c. CanBegin setup (Some c))
+some_begins setup None can = tt
+some_begins setup (Some c) can = can
 
 -- ---- where a core is cut anew
 

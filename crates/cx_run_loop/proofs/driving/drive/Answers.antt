@@ -1,9 +1,11 @@
 use Rattle.std.proofs.Common.{List, map, ap, refl, arith, inl}
 use Rattle.std.proofs.lemmas.Result.{err_from_is_err_and}
 use Rattle.cx_disk.specs.Disk.{Folders}
+use Rattle.cx_plan.specs.Setups.{setup_of}
 use Rattle.cx_rule.specs.Routine.{Rule}
 use Rattle.cx_run_loop.specs.Drives.{driven_by}
 use Rattle.cx_run_loop.proofs.BegunLaws.{begun_at, can_go, drives_on, lends_on, stops_on, turns_on}
+use Rattle.cx_run_loop.proofs.CoresOver.{some_begins}
 use Rattle.cx_run_loop.proofs.DriveLaws.{refused}
 use Rattle.cx_run_loop.proofs.TurnLaws.{on_err_fact}
 use Rattle.cx_run_loop.proofs.driving.drive.Goals as goal
@@ -29,7 +31,8 @@ pub run_to_end-requires-clause-going : goal.run_to_end-requires-clause-going
 run_to_end-requires-clause-going g c = c.in_ok-run.ensures.begins.going
 
 pub run_to_end-requires-clause-holds : goal.run_to_end-requires-clause-holds
-run_to_end-requires-clause-holds g c = c.in_ok-run.ensures.can
+run_to_end-requires-clause-holds g c =
+    some_begins (setup_of c.args.job.now) c.in_ok-run.found c.in_ok-run.ensures.can
 
 pub run_to_end-requires-clause-lengths : goal.run_to_end-requires-clause-lengths
 run_to_end-requires-clause-lengths g c = c.in_ok-run.ensures.lengths

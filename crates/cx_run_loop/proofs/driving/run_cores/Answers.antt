@@ -109,14 +109,14 @@ cores-preserved g c =
     let f : g.W.Wire.faults c.cores.wire ≤ g.W.Wire.faults c.run_core.new.wire =
     c.in_ok-run_core.ensures.stops.wire_later in
     record {
-      job = c.in_ok-cut_anew.ensures.job
+      job = c.in_ok-run-2.ensures.job
           ∙ ap (λ (j : Job). with_cut j c.cut_anew.new.job.cut) c.cores.invariant.job;
-      ready = c.in_ok-cut_anew.ensures.begins.ready;
-      routines = c.in_ok-cut_anew.ensures.begins.routines;
+      ready = c.in_ok-run-2.ensures.begins.ready;
+      routines = c.in_ok-run-2.ensures.begins.routines;
       between = subst (λ (k : Checkpoint). AreBetween g.D.Disk g.W.Wire g.T.Turns
           (run_by c.args.job.now rules specs c.args.found) c.args.disk.now c.args.wire.now
           c.args.meter.now c.args.turns.now c.cut_anew.new.job.cut (k.iteration + 1)
-          (run_state c.in_ok-cut_anew.field-0 c.run_core.new.disk c.run_core.new.wire
+          (run_state c.in_ok-run-2.field-0 c.run_core.new.disk c.run_core.new.wire
           c.run_core.new.meter) c.run_core.new.turns) (sym c.saved.ensures)
           (between_on g.D.Disk g.W.Wire g.T.Turns
           (run_by c.args.job.now rules specs c.args.found) c.args.disk.now c.args.wire.now
@@ -126,9 +126,9 @@ cores-preserved g c =
           (subst (λ (j : Job). SumsAdd (setup_of j)) (sym c.cores.invariant.job)
           c.sums_add.ensures) c.in_ok-run_core.field-0 c.cores-test.true
           c.in_ok-run_core.ensures.runs
-          c.in_ok-run_core.ensures.keeps c.cut_anew.new.job c.in_ok-cut_anew.field-0
-          c.in_ok-cut_anew.ensures.job
-          c.in_ok-cut_anew.ensures.begins (g.met.W.Wire.sum_fits c.run_core.new.wire)
+          c.in_ok-run_core.ensures.keeps c.cut_anew.new.job c.in_ok-run-2.field-0
+          c.in_ok-run-2.ensures.job
+          c.in_ok-run-2.ensures.begins (g.met.W.Wire.sum_fits c.run_core.new.wire)
           (c.cores_wait-2.ensures g.W.Wire.tells rules));
       begun = c.in_ok-run_core.ensures.begun ∙ c.cores.invariant.begun;
       disk_later = omega arith;
@@ -183,8 +183,8 @@ returns-in_err-run_core-clause-picked g c =
     was c.cores.turns c.cores.invariant.between c.cores.job c.cores.invariant.job
     c.run_core.new.turns c.in_err-run_core.ensures.picked)
 
-pub returns-in_err-cut_anew-clause-runs : goal.returns-in_err-cut_anew-clause-runs
-returns-in_err-cut_anew-clause-runs g c =
+pub returns-in_err-run-2-clause-runs : goal.returns-in_err-run-2-clause-runs
+returns-in_err-run-2-clause-runs g c =
     let rules : List Rule =
     map (λ r. (goal.Routine-dyn g (r.vtable, r.value)).rule r.value) c.args.routines.now in
     let specs : List Spec =
@@ -197,8 +197,8 @@ returns-in_err-cut_anew-clause-runs g c =
     c.sums_add.ensures c.run_core.new.disk c.run_core.new.wire c.run_core.new.meter
     c.in_ok-run_core.ensures.keeps c.in_ok-run_core.ensures.below
 
-pub returns-in_err-cut_anew-clause-picked : goal.returns-in_err-cut_anew-clause-picked
-returns-in_err-cut_anew-clause-picked g c =
+pub returns-in_err-run-2-clause-picked : goal.returns-in_err-run-2-clause-picked
+returns-in_err-run-2-clause-picked g c =
     let rules : List Rule =
     map (λ r. (goal.Routine-dyn g (r.vtable, r.value)).rule r.value) c.args.routines.now in
     let specs : List Spec =
@@ -306,8 +306,8 @@ returns-in_err-run_core-clause-stops g c =
     c.in_err-run_core.field-0.0 refl (omega arith) refl (omega arith)
     c.in_err-run_core.ensures.stops))
 
-pub returns-in_err-cut_anew-clause-stops : goal.returns-in_err-cut_anew-clause-stops
-returns-in_err-cut_anew-clause-stops g c =
+pub returns-in_err-run-2-clause-stops : goal.returns-in_err-run-2-clause-stops
+returns-in_err-run-2-clause-stops g c =
     let p = err_from_is_err_and c.from_residual.result c.from_residual.ensures.1 in
     let a : ℕ = g.D.Disk.faults c.args.disk.now in
     let b : ℕ = g.D.Disk.faults c.cores.disk in
@@ -320,10 +320,10 @@ returns-in_err-cut_anew-clause-stops g c =
     let disk_on : b ≤ d = c.in_ok-run_core.ensures.stops.disk_later in
     let wire_on : w ≤ x = c.in_ok-run_core.ensures.stops.wire_later in
     rw (p.1, p.2) (stopped_after _ (count d d) (count x x) (count a d) (count v x)
-    (Err c.in_err-cut_anew.field-0.0) (omega arith) (omega arith) (omega arith) (omega arith)
+    (Err c.in_err-run-2.field-0.0) (omega arith) (omega arith) (omega arith) (omega arith)
     (stopped_first _ _ (count d d) (count x x) (count d d) (count x x)
-    c.in_err-cut_anew.field-0.0 refl (omega arith) refl (omega arith)
-    (c.in_err-cut_anew.ensures.stops d x)))
+    c.in_err-run-2.field-0.0 refl (omega arith) refl (omega arith)
+    (c.in_err-run-2.ensures.stops d x)))
 
 pub returns-clause-stops : goal.returns-clause-stops
 returns-clause-stops g c =

@@ -13,17 +13,17 @@ invariant-cores g l =
     let rules = map (λ r. (goal.Routine-dyn g (r.vtable, r.value)).rule r.value) l.routines in
     let specs = map (λ r. (goal.Routine-dyn g (r.vtable, r.value)).spec_of r.value) l.routines in
     record {
-      job : l.job ≡ with_cut l.initial.job l.job.cut;
+      job : l.job ≡ with_cut l.fn.job l.job.cut;
       ready : IsReady l.job;
       routines : FitJob specs l.job;
       between : AreBetween g.D.Disk g.W.Wire g.T.Turns
-          (run_by l.initial.job rules specs l.initial.found) l.initial.disk l.initial.wire
-          l.initial.meter l.initial.turns l.job.cut l.next
+          (run_by l.fn.job rules specs l.fn.found) l.fn.disk l.fn.wire
+          l.fn.meter l.fn.turns l.job.cut l.next
           (run_state l.run l.disk l.wire l.meter) l.turns;
-      begun : g.T.Turns.begun l.turns ≡ g.T.Turns.begun l.initial.turns;
-      disk_later : g.D.Disk.faults l.initial.disk ≤ g.D.Disk.faults l.disk;
-      wire_later : g.W.Wire.faults l.initial.wire ≤ g.W.Wire.faults l.wire;
+      begun : g.T.Turns.begun l.turns ≡ g.T.Turns.begun l.fn.turns;
+      disk_later : g.D.Disk.faults l.fn.disk ≤ g.D.Disk.faults l.disk;
+      wire_later : g.W.Wire.faults l.fn.wire ≤ g.W.Wire.faults l.wire;
     }
 
 abbrev pub decreases-cores : goal.decreases-cores
-decreases-cores g l = (l.initial.job.itlast + 1) - l.next
+decreases-cores g l = (l.fn.job.itlast + 1) - l.next
