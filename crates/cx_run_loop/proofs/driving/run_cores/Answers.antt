@@ -89,7 +89,7 @@ pub cut_anew-requires-clause-state : goal.cut_anew-requires-clause-state
 cut_anew-requires-clause-state g c =
     begins_anew c.cores.job c.cores.next c.run_core.new.run.core
     (subst (λ (z : Bool). StopsAt c.cores.job c.cores.next c.run_core.new.run.core z)
-    c.cores-test.true c.in_ok-run_core.ensures.runs.stops)
+    c.if-branch.true c.in_ok-run_core.ensures.runs.stops)
 
 pub cores-preserved : goal.cores-preserved
 cores-preserved g c =
@@ -116,20 +116,20 @@ cores-preserved g c =
       between = subst (λ (k : Checkpoint). AreBetween g.D.Disk g.W.Wire g.T.Turns
           (run_by c.args.job.now rules specs c.args.found) c.args.disk.now c.args.wire.now
           c.args.meter.now c.args.turns.now c.cut_anew.new.job.cut (k.iteration + 1)
-          (run_state c.in_ok-run-2.field-0 c.run_core.new.disk c.run_core.new.wire
+          (run_state c.in_ok-run-2.run' c.run_core.new.disk c.run_core.new.wire
           c.run_core.new.meter) c.run_core.new.turns) (sym c.saved.ensures)
           (between_on g.D.Disk g.W.Wire g.T.Turns
           (run_by c.args.job.now rules specs c.args.found) c.args.disk.now c.args.wire.now
           c.args.meter.now c.args.turns.now c.args.own.now c.cores.job.cut c.cores.next was mid
           c.cores.turns c.run_core.new.turns c.cores.invariant.between c.requires.own c.cores.job
-          c.cores.invariant.job (c.drive_laws-2.ensures g.W.Wire.tells rules)
+          c.cores.invariant.job (c.drive_laws-in-cores.ensures g.W.Wire.tells rules)
           (subst (λ (j : Job). SumsAdd (setup_of j)) (sym c.cores.invariant.job)
-          c.sums_add.ensures) c.in_ok-run_core.field-0 c.cores-test.true
+          c.sums_add.ensures) c.in_ok-run_core.field-0 c.if-branch.true
           c.in_ok-run_core.ensures.runs
-          c.in_ok-run_core.ensures.keeps c.cut_anew.new.job c.in_ok-run-2.field-0
+          c.in_ok-run_core.ensures.keeps c.cut_anew.new.job c.in_ok-run-2.run'
           c.in_ok-run-2.ensures.job
           c.in_ok-run-2.ensures.begins (g.met.W.Wire.sum_fits c.run_core.new.wire)
-          (c.cores_wait-2.ensures g.W.Wire.tells rules));
+          (c.cores_wait-in-cores.ensures g.W.Wire.tells rules));
       begun = c.in_ok-run_core.ensures.begun ∙ c.cores.invariant.begun;
       disk_later = omega arith;
       wire_later = omega arith;
@@ -138,7 +138,7 @@ cores-preserved g c =
 pub cores-smaller : goal.cores-smaller
 cores-smaller g c =
     let can = (subst (λ (z : Bool). StopsAt c.cores.job c.cores.next c.run_core.new.run.core z)
-    c.cores-test.true c.in_ok-run_core.ensures.runs.stops) in
+    c.if-branch.true c.in_ok-run_core.ensures.runs.stops) in
     subst (λ (k : Checkpoint).
     c.args.job.now.itlast + 1 - (k.iteration + 1) < c.args.job.now.itlast + 1 - c.cores.next)
     (sym c.saved.ensures)
@@ -177,7 +177,7 @@ returns-in_err-run_core-clause-picked g c =
     let specs : List Spec =
     map (λ r. (goal.Routine-dyn g (r.vtable, r.value)).spec_of r.value) c.args.routines.now in
     let was = run_state c.cores.run c.cores.disk c.cores.wire c.cores.meter in
-    on_err_fact _ c.from_residual.result (stops_here_by g.D.Disk g.W.Wire g.T.Turns
+    on_err_fact _ c.from_residual-in_err-run_core.result (stops_here_by g.D.Disk g.W.Wire g.T.Turns
     (run_by c.args.job.now rules specs c.args.found) c.args.disk.now c.args.wire.now
     c.args.meter.now c.args.turns.now c.cores.job.cut c.cores.next
     was c.cores.turns c.cores.invariant.between c.cores.job c.cores.invariant.job
@@ -206,7 +206,7 @@ returns-in_err-run-2-clause-picked g c =
     let was = run_state c.cores.run c.cores.disk c.cores.wire c.cores.meter in
     let mid = run_state c.run_core.new.run c.run_core.new.disk c.run_core.new.wire
     c.run_core.new.meter in
-    on_err_fact _ c.from_residual.result (stops_after_by g.D.Disk g.W.Wire g.T.Turns
+    on_err_fact _ c.from_residual-in_err-run-2.result (stops_after_by g.D.Disk g.W.Wire g.T.Turns
     (run_by c.args.job.now rules specs c.args.found) c.args.disk.now c.args.wire.now
     c.args.meter.now c.args.turns.now c.cores.job.cut c.cores.next
     was c.cores.turns c.cores.invariant.between c.cores.job c.cores.invariant.job
@@ -226,7 +226,7 @@ returns-clause-ends g c =
     c.args.meter.now c.args.turns.now c.cores.job.cut c.cores.next
     was c.cores.turns c.cores.invariant.between c.cores.job c.cores.invariant.job
     mid c.run_core.new.turns c.in_ok-run_core.field-0 c.in_ok-run_core.ensures.runs
-    c.cores-test.false
+    c.if-branch.false
     c.in_ok-run_core.ensures.keeps c.sums_add.ensures (c.core_stands.ensures g.W.Wire.tells rules)
     c.finish.new.disk c.finish.ensures.quiet c.finish.result c.finish.ensures.core
     c.finish.ensures.settled
@@ -248,7 +248,7 @@ returns-clause-runs g c =
     (keeps_more g.D.Disk g.W.Wire c.cores.job rules was mid c.finish.new.disk c.run_core.new.wire
     c.run_core.new.meter c.in_ok-run_core.ensures.runs.moves c.in_ok-run_core.ensures.keeps
     (keeps_quiet g.D.Disk g.W.Wire c.cores.job rules
-    (c.drive_laws-3.ensures g.W.Wire.tells rules) mid c.in_ok-run_core.ensures.runs.able
+    (c.drive_laws-2.ensures g.W.Wire.tells rules) mid c.in_ok-run_core.ensures.runs.able
     c.finish.new.disk
     c.finish.ensures.quiet c.finish.ensures.mounted c.finish.ensures.files
     c.finish.ensures.folders))
@@ -291,7 +291,7 @@ returns-clause-begun g c =
 
 pub returns-in_err-run_core-clause-stops : goal.returns-in_err-run_core-clause-stops
 returns-in_err-run_core-clause-stops g c =
-    let p = err_from_is_err_and c.from_residual.result c.from_residual.ensures.1 in
+    let p = err_from_is_err_and c.from_residual-in_err-run_core.result c.from_residual-in_err-run_core.ensures.1 in
     let a : ℕ = g.D.Disk.faults c.args.disk.now in
     let b : ℕ = g.D.Disk.faults c.cores.disk in
     let d : ℕ = g.D.Disk.faults c.run_core.new.disk in
@@ -308,7 +308,7 @@ returns-in_err-run_core-clause-stops g c =
 
 pub returns-in_err-run-2-clause-stops : goal.returns-in_err-run-2-clause-stops
 returns-in_err-run-2-clause-stops g c =
-    let p = err_from_is_err_and c.from_residual.result c.from_residual.ensures.1 in
+    let p = err_from_is_err_and c.from_residual-in_err-run-2.result c.from_residual-in_err-run-2.ensures.1 in
     let a : ℕ = g.D.Disk.faults c.args.disk.now in
     let b : ℕ = g.D.Disk.faults c.cores.disk in
     let d : ℕ = g.D.Disk.faults c.run_core.new.disk in
@@ -340,3 +340,11 @@ returns-clause-stops g c =
     let wire_on : w ≤ x = c.in_ok-run_core.ensures.stops.wire_later in
     stopped_after _ (count d e) (count x x) (count a e) (count v x) c.finish.result (omega arith)
     (omega arith) (omega arith) (omega arith) (c.finish.ensures.stops x)
+
+pub returns-in_err-run-clause-stops : goal.returns-in_err-run-clause-stops
+returns-in_err-run-clause-stops g c =
+    let p = err_from_is_err_and c.from_residual.result c.from_residual.ensures.1 in
+    let a : ℕ = g.D.Disk.faults c.args.disk.now in
+    let v : ℕ = g.W.Wire.faults c.args.wire.now in
+    rw (p.1, p.2) (stopped_first _ _ (count a a) (count v v) (count a a) (count v v)
+    c.in_err-run.field-0.0 refl (omega arith) refl (omega arith) (c.in_err-run.ensures.stops a v))
