@@ -1,5 +1,5 @@
 -- From a run that has begun on a disk to the end of its drive.
-use Rattle.std.proofs.Common.{◌≡◌, ◌≤◌, ◌<◌, ◌^◌, ℕ, List, inl, inr}
+use Rattle.std.proofs.Common.{◌≤◌, ◌<◌, ◌^◌, ℕ, List, inl, inr}
 use Rattle.std.specs.Prelude.{Option, Result, Ok, Err, IfOk, OnErr, IsTrue}
 use Rattle.cx_plan.specs.declared.job.Job.{Job}
 use Rattle.cx_plan.specs.Setups.{setup_of}

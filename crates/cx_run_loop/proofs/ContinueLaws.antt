@@ -1,8 +1,8 @@
 -- A run that has come to a checkpoint is what it has done up to there, and the run that goes on
 -- from that checkpoint, whatever it began from.
-use Rattle.std.proofs.Common.{◌≡◌, ◌≢◌, ◌≤◌, ◌<◌, ◌+◌, ◌⊎◌, inl, inr, ℕ, zero, suc, Bool, true, false, List, [], ◌∷◌, ◌++◌, length, Option, Some, None, if◌then◌else◌, arith, eqb-true, refl, sym, ap, ◌∙◌, subst, append_assoc}
+use Rattle.std.proofs.Common.{◌≡◌, ◌≤◌, ◌<◌, ◌+◌, inl, inr, ℕ, suc, Bool, true, false, List, [], ◌∷◌, ◌++◌, length, Option, Some, None, if◌then◌else◌, arith, eqb-true, refl, sym, ap, ◌∙◌, subst}
 use Rattle.std.proofs.lemmas.Bool.{eq-eqb}
-use Rattle.std.specs.Prelude.{◌==◌, IfSome}
+use Rattle.std.specs.Prelude.{◌==◌}
 use Rattle.cx_plan.specs.declared.variable.VarId.{VarId}
 use Rattle.cx_plan.specs.Dues.{is_due}
 use Rattle.cx_plan.specs.Lookups.{bin}
@@ -10,7 +10,7 @@ use Rattle.cx_plan.specs.Setups.{Setup}
 use Rattle.cx_rule.specs.Routine.{Rule}
 use Rattle.cx_rule.specs.States.{State, rotate}
 use Rattle.cx_model.specs.Checkpoints.{Continues, ReachesFrom}
-use Rattle.cx_model.specs.Runs.{Lengths, no_lengths, lengths_after, lengths_behind, all_written, run_stage, run_stages, passing, stop_or, within_limit, undivided_run, continued_run, Reaches}
+use Rattle.cx_model.specs.Runs.{Lengths, no_lengths, lengths_after, lengths_behind, all_written, run_stage, run_stages, passing, stop_or, within_limit, continued_run, Reaches}
 use Rattle.cx_model.specs.Stages.{Stage, Bin, Rotate, Save, Write, stages, stages_after}
 use Rattle.cx_model.specs.States.{start}
 use Rattle.cx_model.specs.declared.ends.End.{End}

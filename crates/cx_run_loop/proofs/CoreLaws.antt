@@ -1,26 +1,24 @@
 -- From core to core: what is known between two, and at the end.
-use Rattle.std.proofs.Common.{◌≡◌, ◌≢◌, ◌≤◌, ◌<◌, ◌+◌, ℕ, true, List, [], ◌∷◌, ◌++◌, length, arith, refl, sym, ◌∙◌, ap, subst, append_assoc}
-use Rattle.std.specs.Prelude.{◌%◌, ◌^◌, Option, Some, None}
+use Rattle.std.proofs.Common.{◌≡◌, ◌≤◌, ◌<◌, ◌+◌, ℕ, true, List, [], ◌∷◌, ◌++◌, length, arith, refl, sym, ◌∙◌, ap, subst, append_assoc}
+use Rattle.std.specs.Prelude.{◌%◌, ◌^◌, Option, Some}
 use Rattle.cx_grid.specs.declared.shapes.Shape.{Shape}
 use Rattle.cx_plan.specs.declared.job.Cuts.{Cuts}
 use Rattle.cx_plan.specs.declared.job.Job.{Job}
-use Rattle.cx_plan.specs.declared.variable.VarId.{VarId}
 use Rattle.cx_plan.specs.Lookups.{is_scalar, levels_of}
 use Rattle.cx_plan.specs.Setups.{Setup, setup_of}
 use Rattle.cx_rule.specs.Meter.{raised, raised_twice}
 use Rattle.cx_rule.specs.Routine.{Rule}
 use Rattle.cx_rule.specs.States.{State}
 use Rattle.cx_rule.specs.declared.spec.Spec.{Spec}
-use Rattle.cx_model.specs.Runs.{lengths_behind, no_lengths}
+use Rattle.cx_model.specs.Runs.{no_lengths}
 use Rattle.cx_model.specs.Traces.{Entry, Saved, Trace, Goes}
 use Rattle.cx_cut.specs.Cuts.{Parts}
 use Rattle.cx_cut.specs.Faults.{parts_of}
-use Rattle.cx_disk.specs.Disk.{Files, View}
+use Rattle.cx_disk.specs.Disk.{View}
 use Rattle.cx_disk.proofs.Moments.{joins, started}
 use Rattle.cx_wire.specs.Received.{counted, counted_twice}
 use Rattle.cx_chk.specs.declared.checkpoint.Checkpoint.{Checkpoint}
 use Rattle.law_parts.specs.Beginnings.{Beginning, Afresh, From, run_of}
-use Rattle.law_parts.specs.Runs.{cut_of}
 use Rattle.law_parts.specs.Totals.{undivided_from}
 use Rattle.law_parts.specs.Work.{work, carried_count, total_sum}
 use Rattle.law_reached.specs.Works.{works_of}
@@ -30,11 +28,11 @@ use Rattle.cx_core.proofs.MovedStates.{mod_more}
 use Rattle.cx_core.specs.Hands.{HasTotals, IsDone, ended_as}
 use Rattle.cx_core.specs.Starts.{begins_in}
 use Rattle.cx_core.specs.Steps.{Counts}
-use Rattle.cx_run_loop.specs.Going.{Setting, Place, IsDriven, IsDriving, IsImageOf, RunsFrom, handed, kept_in, run_in, trace_in}
+use Rattle.cx_run_loop.specs.Going.{Setting, Place, IsDriven, IsImageOf, RunsFrom, handed, kept_in, run_in, trace_in}
 use Rattle.cx_run_loop.specs.Laws.{DriveLaws}
 use Rattle.cx_run_loop.specs.Recuts.{cut_from, next_cut, with_cut}
-use Rattle.cx_run_loop.specs.Segments.{CountsOver, GoesOver, HasTotalsBy, IsDoneBy, RunsBy, SegmentTo, Start, entries_at, parts_at}
-use Rattle.cx_run_loop.specs.Sums.{AreUnsaved, CountsBelow, SumsAdd, carried_in, sum_in, work_in}
+use Rattle.cx_run_loop.specs.Segments.{CountsOver, HasTotalsBy, IsDoneBy, RunsBy, SegmentTo, Start, entries_at, parts_at}
+use Rattle.cx_run_loop.specs.Sums.{AreUnsaved, SumsAdd, carried_in, sum_in, work_in}
 use Rattle.cx_run_loop.specs.UnderWay.{HasCome}
 use Rattle.cx_run_loop.specs.Waiting.{ComesTo, HasCounted, HasGathered}
 use Rattle.cx_run_loop.proofs.ContinueLaws.{done_goes, run_stops}

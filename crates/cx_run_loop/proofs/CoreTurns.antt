@@ -1,5 +1,5 @@
 -- The turns of one core, up to where another one goes on.
-use Rattle.std.proofs.Common.{◌≡◌, ◌≢◌, ◌≤◌, ◌<◌, ◌+◌, ◌⊎◌, inl, inr, ℕ, Bool, true, false, List, arith, refl, sym, ◌∙◌, ap}
+use Rattle.std.proofs.Common.{◌≡◌, ◌≢◌, ◌≤◌, ◌<◌, ◌⊎◌, inl, inr, ℕ, Bool, true, false, arith, refl, ◌∙◌, ap}
 use Rattle.std.proofs.lemmas.Bool.{both_ways, le-leb, leb-true}
 use Rattle.std.specs.Prelude.{◌&&◌, nat_le, Option, Some, None, IfSome}
 use Rattle.cx_plan.specs.declared.job.Job.{Job}

@@ -1,5 +1,5 @@
 -- A run by one core after another, as it begins.
-use Rattle.std.proofs.Common.{◌≡◌, ◌≤◌, ◌<◌, ◌^◌, ◌+◌, ℕ, inl, inr, true, false, List, [], arith, refl, sym, ◌∙◌, ap, subst}
+use Rattle.std.proofs.Common.{◌≡◌, ◌≤◌, ◌<◌, ◌^◌, ℕ, inl, inr, false, List, [], arith, refl, sym, ◌∙◌, ap, subst}
 use Rattle.std.specs.Prelude.{Bool, Option, Some, None, Result, Ok, Err, IfOk, IfSome, OnOk, IsTrue, if◌then◌else◌}
 use Rattle.cx_plan.specs.declared.job.Cuts.{Cuts}
 use Rattle.cx_plan.specs.declared.job.Job.{Job}
@@ -8,10 +8,7 @@ use Rattle.cx_plan.specs.Whole.{IsWhole}
 use Rattle.cx_rule.specs.Jobs.{FitJob}
 use Rattle.cx_rule.specs.Meter.{raised}
 use Rattle.cx_rule.specs.Routine.{Rule}
-use Rattle.cx_rule.specs.States.{State}
 use Rattle.cx_rule.specs.declared.spec.Spec.{Spec}
-use Rattle.cx_cut.specs.Cuts.{Parts, part_count}
-use Rattle.cx_cut.specs.Faults.{parts_of}
 use Rattle.cx_disk.specs.declared.disk.Disk.{Ghosts as DiskGhosts}
 use Rattle.cx_disk.proofs.Moments.{started}
 use Rattle.cx_wire.specs.Received.{counted}
@@ -21,12 +18,11 @@ use Rattle.cx_chk.specs.declared.checkpoint.Checkpoint.{Checkpoint}
 use Rattle.law_parts.specs.Beginnings.{Beginning, IsBeginning, run_of}
 use Rattle.cx_core.specs.declared.answers.Outcome.TheVariants.{Going}
 use Rattle.cx_core.specs.Starts.{AreEmpty, CanBegin, IsReady, begins_in, lengths_first}
-use Rattle.cx_core.specs.Steps.{Begins, Counts, counts}
-use Rattle.cx_run_loop.specs.Advances.{CanAdvance, RunState, place_of, run_state}
+use Rattle.cx_core.specs.Steps.{Begins, counts}
+use Rattle.cx_run_loop.specs.Advances.{CanAdvance, place_of, run_state}
 use Rattle.cx_run_loop.specs.Cores.{BeginsCores, From, RunsOn, next_after, run_by, setting_of, start_of}
 use Rattle.cx_run_loop.specs.CoresWait.{CoresWait}
-use Rattle.cx_run_loop.specs.Going.{IsImageOf, IsKept, Place, Setting, kept_in, setting}
-use Rattle.cx_run_loop.specs.Lent.{wired}
+use Rattle.cx_run_loop.specs.Going.{IsImageOf, IsKept, Place, kept_in, setting}
 use Rattle.cx_run_loop.specs.Recuts.{cut_from, first_cut, next_cut, swept_cut, weighed_cut, with_cut}
 use Rattle.cx_run_loop.specs.Segments.{SegmentTo, Start}
 use Rattle.cx_run_loop.specs.UnderWay.{BeginsAnew, HasBegunAt, Runs}

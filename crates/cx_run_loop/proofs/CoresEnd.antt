@@ -1,32 +1,29 @@
 -- A run by one core after another: what holds of it at each answer, and its end.
-use Rattle.std.proofs.Common.{◌≡◌, ◌≢◌, ◌≤◌, ℕ, true, false, List, arith, refl, sym, ◌∙◌, ap, subst}
-use Rattle.std.specs.Prelude.{Bool, Option, Some, IsTrue, if◌then◌else◌}
+use Rattle.std.proofs.Common.{◌≡◌, ◌≤◌, ℕ, true, false, List, arith, refl, sym, ◌∙◌, ap, subst}
+use Rattle.std.specs.Prelude.{Bool, IsTrue, if◌then◌else◌}
 use Rattle.cx_plan.specs.declared.job.Cuts.{Cuts}
 use Rattle.cx_plan.specs.declared.job.Job.{Job}
 use Rattle.cx_plan.specs.Setups.{setup_of}
 use Rattle.cx_rule.specs.Meter.{raised}
-use Rattle.cx_rule.specs.Routine.{Rule}
 use Rattle.cx_rule.specs.States.{State}
 use Rattle.cx_rule.specs.declared.spec.Spec.{Spec}
 use Rattle.cx_model.specs.Runs.{no_lengths}
-use Rattle.cx_model.specs.Traces.{Entry, Goes}
+use Rattle.cx_model.specs.Traces.{Goes}
 use Rattle.cx_cut.specs.Cuts.{Parts}
 use Rattle.cx_cut.specs.Faults.{parts_of}
-use Rattle.cx_disk.specs.Disk.{View}
 use Rattle.cx_disk.specs.declared.disk.Disk.{Ghosts as DiskGhosts}
 use Rattle.cx_disk.proofs.Moments.{joins}
 use Rattle.cx_wire.specs.Received.{counted}
 use Rattle.cx_wire.specs.declared.wire.Wire.{Ghosts as WireGhosts}
 use Rattle.cx_turns.specs.declared.turns.Turns.{Ghosts as TurnsGhosts}
 use Rattle.law_course.specs.Courses.{checkpoint_of}
-use Rattle.cx_core.specs.Cores.{Cores}
 use Rattle.cx_core.specs.Steps.{Counts, counts}
 use Rattle.cx_run_loop.specs.Advances.{Keeps, RunState, place_of}
 use Rattle.cx_run_loop.specs.Cores.{From, RunsCore, RunsOn, StaysBelowFrom, WaitsFor, setting_of, start_of}
-use Rattle.cx_run_loop.specs.Going.{EndsAt, IsImageOf, Place, RunsFrom, Setting, handed, kept_in, setting, trace_in}
-use Rattle.cx_run_loop.specs.Recuts.{cut_from, next_cut, swept_cut, weighed_cut, with_cut}
+use Rattle.cx_run_loop.specs.Going.{EndsAt, IsImageOf, Place, RunsFrom, Setting, kept_in, setting, trace_in}
+use Rattle.cx_run_loop.specs.Recuts.{cut_from, swept_cut, weighed_cut, with_cut}
 use Rattle.cx_run_loop.specs.Segments.{RunsBy, Start, entries_at, parts_at}
-use Rattle.cx_run_loop.specs.Sums.{AreUnsaved, CountsBelow, SumsAdd, carried_in, work_in}
+use Rattle.cx_run_loop.specs.Sums.{AreUnsaved, CountsBelow, SumsAdd}
 use Rattle.cx_run_loop.specs.UnderWay.{HasCome}
 use Rattle.cx_run_loop.specs.Within.{StaysWithin}
 use Rattle.cx_run_loop.proofs.CoreLaws.{CountAsOne, one_cut, one_unsaved, runs_by}

@@ -1,13 +1,11 @@
 -- A run by one core after another, between two of them.
-use Rattle.std.proofs.Common.{◌≡◌, ◌≢◌, ◌≤◌, ◌<◌, ◌^◌, ◌+◌, ℕ, true, false, List, [], ◌∷◌, ◌++◌, length, arith, refl, sym, ◌∙◌, ap, subst}
+use Rattle.std.proofs.Common.{◌≡◌, ◌≤◌, ◌<◌, ◌^◌, ◌+◌, ℕ, true, false, List, [], ◌∷◌, ◌++◌, arith, refl, sym, ◌∙◌, ap, subst}
 use Rattle.std.specs.Prelude.{Bool, Option, Some, IsTrue}
 use Rattle.cx_plan.specs.declared.job.Cuts.{Cuts}
 use Rattle.cx_plan.specs.declared.job.Job.{Job}
 use Rattle.cx_plan.specs.Setups.{setup_of}
-use Rattle.cx_rule.specs.Routine.{Rule}
 use Rattle.cx_rule.specs.States.{State}
 use Rattle.cx_model.specs.Runs.{Lengths}
-use Rattle.cx_model.specs.Traces.{Entry}
 use Rattle.cx_cut.specs.Cuts.{Parts, part_count}
 use Rattle.cx_cut.specs.Faults.{parts_of}
 use Rattle.cx_disk.specs.Disk.{View}
@@ -18,18 +16,18 @@ use Rattle.cx_chk.specs.declared.checkpoint.Checkpoint.{Checkpoint}
 use Rattle.cx_keep.specs.Keeping.{Keeper}
 use Rattle.cx_keep.specs.Trails.{Counts as AreCounted}
 use Rattle.law_network.specs.Machine.{World}
-use Rattle.law_parts.specs.Beginnings.{Beginning, IsBeginning, run_of}
+use Rattle.law_parts.specs.Beginnings.{Beginning, IsBeginning}
 use Rattle.law_parts.specs.Holding.{Held}
 use Rattle.law_parts.specs.Moves.{Message, Channel}
 use Rattle.law_reached.specs.Works.{handed_out}
 use Rattle.cx_core.specs.declared.answers.Outcome.TheVariants.{Going}
 use Rattle.cx_core.specs.Cores.{Cores}
-use Rattle.cx_core.specs.Starts.{AreEmpty, begins_in}
+use Rattle.cx_core.specs.Starts.{begins_in}
 use Rattle.cx_core.specs.Steps.{Counts, counts}
 use Rattle.cx_run_loop.specs.Advances.{CanAdvance, Keeps, RunState, place_of, run_state, turning_of}
-use Rattle.cx_run_loop.specs.Cores.{BeginsCut, CanCutAnew, From, RunsCore, WaitsFor, next_after, setting_of, start_of}
+use Rattle.cx_run_loop.specs.Cores.{BeginsCut, From, RunsCore, WaitsFor, next_after, setting_of, start_of}
 use Rattle.cx_run_loop.specs.CoresWait.{CoresWait}
-use Rattle.cx_run_loop.specs.Going.{Setting, Place, IsDriving, IsGoing, IsKept, handed, run_in, setting}
+use Rattle.cx_run_loop.specs.Going.{Setting, Place, IsKept, run_in, setting}
 use Rattle.cx_run_loop.specs.Laws.{DriveLaws}
 use Rattle.cx_run_loop.specs.Lent.{wired}
 use Rattle.cx_run_loop.specs.Recuts.{cut_from, first_cut, next_cut, with_cut}

@@ -1,5 +1,5 @@
 -- A run by one core after another: the turns that led there.
-use Rattle.std.proofs.Common.{◌≡◌, inl, inr, ℕ, true, false, List, [], refl, sym, subst}
+use Rattle.std.proofs.Common.{inl, inr, ℕ, refl, subst}
 use Rattle.std.specs.Prelude.{Bool, IsTrue}
 use Rattle.cx_plan.specs.declared.job.Cuts.{Cuts}
 use Rattle.cx_disk.specs.declared.disk.Disk.{Ghosts as DiskGhosts}
@@ -9,7 +9,7 @@ use Rattle.cx_run_loop.specs.Advances.{RunState, turning_of}
 use Rattle.cx_run_loop.specs.Cores.{From, LeadsOut, LeadsStop, RunsCore}
 use Rattle.cx_run_loop.specs.Lent.{wired}
 use Rattle.cx_run_loop.specs.Recuts.{first_cut, with_cut}
-use Rattle.cx_run_loop.specs.Turning.{CoresLead, TurnsLead, TurnsStop, turning}
+use Rattle.cx_run_loop.specs.Turning.{TurnsLead, TurnsStop, turning}
 use Rattle.cx_run_loop.proofs.CoresGo.{AreBetween}
 use Rattle.cx_run_loop.proofs.LeadLaws.{leads_on, leads_stop}
 

@@ -1,13 +1,12 @@
 -- A run by one core after another, with the job as a loop over cores has it: one that is the job in
 -- the present cut by an equation.
-use Rattle.std.proofs.Common.{◌≡◌, ◌≢◌, ◌≤◌, ◌<◌, ◌+◌, ◌-◌, ◌^◌, ℕ, true, false, List, length, arith, refl, sym, ◌∙◌, ap, subst}
+use Rattle.std.proofs.Common.{◌≡◌, ◌≤◌, ◌<◌, ◌+◌, ◌-◌, ℕ, true, false, List, length, arith, sym, ◌∙◌, ap, subst}
 use Rattle.std.specs.Prelude.{Bool, Option, Some, None, Result, Ok, Err, IfOk, IfSome, OnOk, IsTrue}
 use Rattle.cx_plan.specs.declared.job.Cuts.{Cuts}
 use Rattle.cx_plan.specs.declared.job.Job.{Job}
 use Rattle.cx_plan.specs.Setups.{Setup, setup_of}
 use Rattle.cx_outputs.specs.Names.{HasShortNames}
 use Rattle.cx_rule.specs.Jobs.{FitJob}
-use Rattle.cx_rule.specs.Routine.{Rule}
 use Rattle.cx_rule.specs.declared.spec.Spec.{Spec}
 use Rattle.cx_cut.specs.Faults.{cut_fault, parts_of}
 use Rattle.cx_disk.specs.Moments.{IsQuiet}
@@ -23,12 +22,11 @@ use Rattle.cx_core.specs.Hands.{Stands}
 use Rattle.cx_core.specs.Starts.{CanBegin, IsReady, begins_in}
 use Rattle.cx_core.specs.Steps.{Counts, IsAt, Standing, counts}
 use Rattle.cx_run_loop.specs.Advances.{CanAdvance, Keeps, RunState, place_of, turning_of}
-use Rattle.cx_run_loop.specs.Cores.{CanCutAnew, From, LeadsOut, LeadsStop, RunsCore, RunsOn, RunsOut, StaysBelowFrom, setting_of}
+use Rattle.cx_run_loop.specs.Cores.{CanCutAnew, From, LeadsOut, LeadsStop, RunsCore, RunsOn, RunsOut, StaysBelowFrom}
 use Rattle.cx_run_loop.specs.Going.{EndsAt, Place, Setting, place_at, setting}
 use Rattle.cx_run_loop.specs.Recuts.{with_cut}
 use Rattle.cx_run_loop.specs.Sums.{SumsAdd}
 use Rattle.cx_run_loop.specs.Turning.{TurnsStop}
-use Rattle.cx_run_loop.proofs.AdvanceLaws.{keeps_more}
 use Rattle.cx_run_loop.proofs.CoresEnd.{runs_on, runs_out}
 use Rattle.cx_run_loop.proofs.CoresGo.{AreBetween}
 use Rattle.cx_run_loop.proofs.CoresLed.{leads_out, stops_after, stops_here}

@@ -29,7 +29,7 @@ use Rattle.cx_run_loop.specs.Sums.{CountsBelow}
 use Rattle.cx_run_loop.specs.Laws.{DriveLaws}
 use Rattle.cx_run_loop.proofs.StopLaws.{stopped_after}
 use Rattle.cx_run_loop.proofs.TurnLaws.{same_beginning}
-use Rattle.cx_run_loop.proofs.WholeLaws.{setting, counts_before, place_behind, has_run, has_ended, leaves_trails, lends, start_at, start_trails}
+use Rattle.cx_run_loop.proofs.WholeLaws.{setting, place_behind, has_run, has_ended, leaves_trails, lends, start_at, start_trails}
 
 no_points : (old new more : ℕ) → new ≡ old → new ≤ raised old more
 no_points old new more same = omega (arith, same)

@@ -1,7 +1,7 @@
 -- What parts have counted that wait for each other: no more than the entries before the next
 -- checkpoint place count, and just that once they are at it.
-use Rattle.std.proofs.Common.{◌≡◌, ◌≢◌, ◌≤◌, ◌<◌, ◌+◌, ℕ, zero, suc, ◌⊎◌, inl, inr, Bool, true, false, List, [], ◌∷◌, ◌++◌, Option, Some, None, arith, refl, sym, ◌∙◌, ap, subst, append_assoc, append-nil, cond}
-use Rattle.std.proofs.lemmas.Bool.{and_from, both_ways, cases_lt, lt-ltb}
+use Rattle.std.proofs.Common.{◌≡◌, ◌≤◌, ◌<◌, ◌+◌, ℕ, zero, suc, ◌⊎◌, inl, inr, Bool, true, false, List, [], ◌∷◌, ◌++◌, Option, Some, None, arith, refl, sym, ◌∙◌, ap, subst, append_assoc, append-nil, cond}
+use Rattle.std.proofs.lemmas.Bool.{and_from, cases_lt, lt-ltb}
 use Rattle.std.specs.Prelude.{if◌then◌else◌, ◌==◌}
 use Rattle.cx_plan.specs.declared.item.Item.{Item}
 use Rattle.cx_plan.specs.Setups.{Setup}
@@ -11,35 +11,32 @@ use Rattle.cx_rule.specs.States.{State}
 use Rattle.cx_model.specs.declared.ends.End.TheVariants.{WhileLimit}
 use Rattle.cx_model.specs.Courses.{Note, note, turn_note, limit_note}
 use Rattle.cx_model.specs.Runs.{Lengths}
-use Rattle.cx_model.specs.Traces.{Entry, Turned, Overflowed, Exchanged, Tested, Rotated, Wrote, Saved, Trace, Goes}
+use Rattle.cx_model.specs.Traces.{Entry, Turned, Overflowed, Exchanged, Tested, Rotated, Wrote, Saved}
 use Rattle.cx_model.specs.Turns.{turn, values_of}
-use Rattle.cx_cut.specs.Cuts.{Parts}
 use Rattle.cx_flat.specs.Flats.{Control, Flat, ends_pair, last_turns, notes_at}
-use Rattle.cx_flat.specs.Laws.{RunsAs}
 use Rattle.cx_flat.specs.declared.op.Op.{Op}
 use Rattle.cx_flat.specs.declared.op.Op.TheVariants.{Sweep, Apply, Give, Join, Post, Take, Test, Open, Turn, Again, Rotate, Due, Written, Skip, Next, Piece, Save, Halt}
-use Rattle.law_network.specs.Machine.{Net, World, sum_below}
+use Rattle.law_network.specs.Machine.{World, sum_below}
 use Rattle.law_network.specs.Agreement.{spent, taken, takes}
-use Rattle.law_network.specs.Together.{AreTogether, IsNextMark}
 use Rattle.law_network.proofs.Put as put
 use Rattle.law_parts.specs.Ends.{noted}
 use Rattle.law_parts.specs.Holding.{Held}
 use Rattle.law_parts.specs.Laws.{IsReachedState}
 use Rattle.law_parts.specs.Moves.{Message, Channel, Wire, op_posts, faces_by}
 use Rattle.law_parts.specs.Nets.{net, within_lead, costs, values_sum, taken_sum}
-use Rattle.law_parts.specs.Runs.{Run, Oracle, cut_of, parts_in, next_op, undivided, op_of, notes_of, guided, last_of}
+use Rattle.law_parts.specs.Runs.{Run, Oracle, cut_of, parts_in, next_op, undivided, op_of, notes_of, guided}
 use Rattle.law_parts.specs.Truths.{script, mail_at, entries_of}
 use Rattle.law_parts.specs.Work.{work, carried_count, total_sum}
 use Rattle.law_parts.proofs.CountLaws.{sum_same, sum_add, sum_none}
 use Rattle.law_parts.proofs.PlaceTotals.{points_before, values_before, done_count}
-use Rattle.law_parts.proofs.TraceTotals.{AllQuiet, all_noted, entries_both, quiet_left}
+use Rattle.law_parts.proofs.TraceTotals.{AllQuiet, entries_both}
 use Rattle.law_parts.proofs.WholeRun.{IsRun, names_at, first_pair, next_pairs}
-use Rattle.law_reached.specs.Works.{works_of, handed_out}
+use Rattle.law_reached.specs.Works.{works_of}
 use Rattle.law_reached.proofs.SentSums.{pair_sum, done_sum, op_sent, sum_before}
 use Rattle.law_reached.proofs.TakenLaws.{values_both, taken_next}
-use Rattle.law_reached.proofs.TellLaws.{count_is, way}
-use Rattle.cx_core.specs.Gathered.{is_save, saves}
-use Rattle.cx_run_loop.specs.Sums.{AreUnsaved, IsUnsaved}
+use Rattle.law_reached.proofs.TellLaws.{way}
+use Rattle.cx_core.specs.Gathered.{is_save}
+use Rattle.cx_run_loop.specs.Sums.{AreUnsaved}
 
 -- ---- entries without a checkpoint place
 

@@ -1,5 +1,5 @@
 -- Turns over one core after another.
-use Rattle.std.proofs.Common.{◌≡◌, ◌⊎◌, inl, inr, ℕ, List, [], ◌∷◌, ◌++◌, refl, subst}
+use Rattle.std.proofs.Common.{◌≡◌, List, [], ◌∷◌, ◌++◌, refl}
 use Rattle.cx_plan.specs.declared.job.Cuts.{Cuts}
 use Rattle.cx_plan.specs.declared.job.Job.{Job}
 use Rattle.cx_rule.specs.Routine.{Rule}
@@ -7,7 +7,7 @@ use Rattle.cx_rule.specs.declared.spec.Spec.{Spec}
 use Rattle.cx_chk.specs.declared.checkpoint.Checkpoint.{Checkpoint}
 use Rattle.cx_turns.specs.declared.turns.Turns.{Ghosts as TurnsGhosts}
 use Rattle.cx_run_loop.specs.Recuts.{next_cut, with_cut}
-use Rattle.cx_run_loop.specs.Turning.{CoresLead, CoresStop, IsCutAnew, Picks, Turning, TurnsLead, TurnsStop}
+use Rattle.cx_run_loop.specs.Turning.{CoresLead, CoresStop, IsCutAnew, Turning, TurnsLead, TurnsStop}
 use Rattle.cx_run_loop.proofs.AdvanceLaws.{steps_more}
 
 -- the cut after all of some checkpoints

@@ -1,5 +1,5 @@
 -- The run of a job that isn't balanced counts what its entries always do.
-use Rattle.std.proofs.Common.{◌≡◌, ◌+◌, ℕ, false, List, refl, sym, ◌∙◌, ap, subst}
+use Rattle.std.proofs.Common.{◌≡◌, ◌+◌, ℕ, false, List, sym, ◌∙◌, ap}
 use Rattle.std.proofs.Math.Path.{fun_ext}
 use Rattle.std.specs.Prelude.{◌%◌, ◌^◌, Option, Some, None}
 use Rattle.cx_plan.specs.Setups.{Setup, setup_of}
@@ -13,7 +13,7 @@ use Rattle.cx_wire.specs.Received.{counted}
 use Rattle.law_parts.specs.Work.{work, carried_count, total_sum}
 use Rattle.law_course.specs.Beginnings.{entries_from}
 use Rattle.law_course.specs.Courses.{checkpoint_of}
-use Rattle.cx_run_loop.specs.Drives.{Drive, HasWorked, HasWorkedByOne, IsFirstCut, ResumesFrom, again_in, cut_in}
+use Rattle.cx_run_loop.specs.Drives.{Drive, HasWorked, HasWorkedByOne, IsFirstCut, again_in, cut_in}
 use Rattle.cx_run_loop.specs.Sums.{IsOne, carried_in, sum_in, work_in}
 use Rattle.cx_run_loop.proofs.RecutLaws.{next_unbalanced}
 use Rattle.cx_run_loop.proofs.SumLaws.{sums_add}

@@ -1,13 +1,11 @@
 -- What is known of a run by one cut of its job, as known of the run of the job itself: settings that
 -- differ in the cut alone have one run.
-use Rattle.std.proofs.Common.{◌≡◌, ◌≤◌}
 use Rattle.cx_plan.specs.declared.job.Cuts.{Cuts}
-use Rattle.cx_plan.specs.Setups.{setup_of}
 use Rattle.cx_rule.specs.States.{State}
 use Rattle.cx_cut.specs.Cuts.{Parts}
 use Rattle.cx_core.specs.Steps.{Counts}
 use Rattle.cx_run_loop.specs.Going.{Setting, Place}
-use Rattle.cx_run_loop.specs.Segments.{CountsOver, GoesOver, HasTotalsBy, IsDoneBy, RunsBy, SegmentTo, Start}
+use Rattle.cx_run_loop.specs.Segments.{HasTotalsBy, RunsBy, SegmentTo, Start}
 use Rattle.cx_run_loop.proofs.CoreLaws.{recut}
 
 module _ (s : Setting) (cut : Cuts) (again : State → Parts) where

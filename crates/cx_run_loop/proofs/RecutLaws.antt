@@ -1,8 +1,8 @@
 -- A job that is cut anew is one that a run can go on with.
-use Rattle.std.proofs.Common.{◌≡◌, ◌≤◌, ◌<◌, ◌+◌, ◌-◌, ◌⊎◌, inl, inr, ℕ, ℤ, zero, suc, Bool, true, false, List, [], ◌∷◌, length, map, Option, Some, None, arith, refl, sym, ◌∙◌, ap, subst}
-use Rattle.std.proofs.lemmas.Bool.{both_ways, cases_lt, leb-true}
+use Rattle.std.proofs.Common.{◌≡◌, ◌≤◌, ◌<◌, ◌+◌, ◌-◌, ◌⊎◌, inl, inr, ℕ, ℤ, zero, suc, Bool, true, false, List, [], ◌∷◌, Option, Some, None, arith, refl, sym, ◌∙◌, ap, subst}
+use Rattle.std.proofs.lemmas.Bool.{cases_lt, leb-true}
 use Rattle.std.proofs.lemmas.List.Sums.{sum_by-cons}
-use Rattle.std.specs.Prelude.{◌&&◌, All, get_or, slice_get, nat_le, if◌then◌else◌}
+use Rattle.std.specs.Prelude.{◌&&◌, get_or, slice_get, nat_le, if◌then◌else◌}
 use Rattle.std.specs.List.{list_all, range_with_len, sum_by}
 use Rattle.cx_grid.specs.Boxes.{point_count}
 use Rattle.cx_plan.specs.declared.item.Item.{Item}
@@ -25,7 +25,7 @@ use Rattle.cx_balance.specs.Cutting.{HasAsManyParts, chosen_cut}
 use Rattle.cx_balance.specs.Weighing.{HoldsLevels, planes_by, point_weight}
 use Rattle.cx_core_buffers.specs.Checkpoints.{HoldsState, total}
 use Rattle.cx_core.specs.Starts.{IsReady}
-use Rattle.cx_run_loop.specs.Recuts.{all_sweep, cut_or, has_small_parts, next_cut, swept_cut, weighed_cut, with_cut}
+use Rattle.cx_run_loop.specs.Recuts.{all_sweep, has_small_parts, next_cut, swept_cut, weighed_cut, with_cut}
 
 -- ---- tests of all
 

@@ -1,29 +1,27 @@
 -- From one core to the next: what the disk has of the run that goes on from a checkpoint, it has of
 -- the run that came to it.
-use Rattle.std.proofs.Common.{◌≡◌, ◌<◌, ℕ, List, [], ◌∷◌, ◌++◌, length, map, refl, sym, ◌∙◌, ap, subst, append_assoc, append-nil}
+use Rattle.std.proofs.Common.{◌≡◌, ℕ, List, [], ◌∷◌, ◌++◌, length, map, refl, sym, ◌∙◌, ap, subst, append_assoc, append-nil}
 use Rattle.std.proofs.Math.Path.{fun_ext}
 use Rattle.std.proofs.lemmas.List.{append_cancel_left, append_cancel_right}
-use Rattle.std.specs.Prelude.{Option, Some, None, slice_index_or}
+use Rattle.std.specs.Prelude.{Option, Some, slice_index_or}
 use Rattle.cx_plan.specs.declared.variable.VarId.{VarId}
-use Rattle.cx_plan.specs.Setups.{Setup, setup_of}
-use Rattle.cx_rule.specs.States.{State}
-use Rattle.cx_model.specs.Runs.{Lengths, lengths_behind, output, output_of, text_to}
+use Rattle.cx_plan.specs.Setups.{setup_of}
+use Rattle.cx_model.specs.Runs.{Lengths, output, output_of, text_to}
 use Rattle.cx_model.specs.Traces.{Entry, Turned, Overflowed, Exchanged, Tested, Rotated, Wrote, Saved, Trace}
 use Rattle.cx_model.proofs.SaveLaws.{output-both}
 use Rattle.cx_disk.specs.Disk.{Files, View}
 use Rattle.cx_chk.specs.declared.checkpoint.Checkpoint.{Checkpoint}
 use Rattle.cx_keep.specs.Beginning.{newest_left}
-use Rattle.cx_keep.specs.Trails.{AreWithin, IsTrailOf, NewestIs, Stands, file_of_output}
+use Rattle.cx_keep.specs.Trails.{IsTrailOf, Stands}
 use Rattle.law_parts.specs.Beginnings.{Beginning}
 use Rattle.law_parts.specs.Totals.{undivided_from}
 use Rattle.law_reached.specs.Works.{works_of}
 use Rattle.law_reached.proofs.SilentWorks.{works_both}
 use Rattle.law_course.specs.Beginnings.{GoesOn, IsFound, run_from}
 use Rattle.law_course.specs.Courses.{checkpoint_of}
-use Rattle.law_course.specs.Works.{KeptRun, HasDone, WorksFollow, course_by, first_of, kept_run, lengths_done, newest_after, newest_of, next_of, output_done, output_found, text_done, works_by}
+use Rattle.law_course.specs.Works.{KeptRun, HasDone, course_by, first_of, lengths_done, newest_after, newest_of, next_of, output_done, output_found, text_done, works_by}
 use Rattle.law_course.specs.Courses as courses
 use Rattle.law_course.proofs.BeginLaws.{newest_both}
-use Rattle.cx_run_loop.specs.Advances.{HasSaved}
 use Rattle.cx_run_loop.specs.Going.{Setting, IsDriven, IsImageOf, kept_in, run_in, trace_in}
 use Rattle.cx_run_loop.specs.Laws.{DriveLaws}
 use Rattle.cx_run_loop.specs.Segments.{ComesAfter, run_after}

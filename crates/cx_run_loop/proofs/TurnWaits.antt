@@ -1,5 +1,5 @@
 -- One turn of a run whose parts wait: they stay together, and a checkpoint finds them gathered.
-use Rattle.std.proofs.Common.{◌≡◌, ◌≢◌, ◌≤◌, ◌<◌, ◌+◌, ℕ, suc, false, List, [], ◌∷◌, ◌++◌, length, Option, Some, None, arith, refl, sym, ◌∙◌, ap, subst, append_assoc}
+use Rattle.std.proofs.Common.{◌≡◌, ◌≢◌, ◌≤◌, ◌<◌, ℕ, false, List, [], ◌∷◌, ◌++◌, length, Option, Some, None, arith, refl, sym, ◌∙◌, ap, subst, append_assoc}
 use Rattle.std.specs.Prelude.{IfSome}
 use Rattle.cx_plan.specs.declared.job.Job.{Job}
 use Rattle.cx_plan.specs.Setups.{Setup, setup_of}
@@ -7,13 +7,13 @@ use Rattle.cx_rule.specs.Routine.{Rule}
 use Rattle.cx_rule.specs.States.{State}
 use Rattle.cx_model.specs.Checkpoints.{Continues}
 use Rattle.cx_model.specs.Runs.{Lengths, lengths_behind}
-use Rattle.cx_model.specs.Traces.{Entry, Wrote, Saved as SavedState, Trace, Goes, after}
+use Rattle.cx_model.specs.Traces.{Entry, Wrote, Saved as SavedState, Trace, after}
 use Rattle.cx_outputs.specs.Names.{lengths_in, lengths_by}
 use Rattle.cx_disk.specs.Disk.{View}
 use Rattle.cx_keep.specs.Keeping.{Keeper}
 use Rattle.cx_chk.specs.declared.checkpoint.Checkpoint.{Checkpoint}
 use Rattle.cx_core_buffers.specs.Checkpoints.{HoldsState}
-use Rattle.law_parts.specs.Beginnings.{Beginning, Afresh, From, IsBeginning, run_of}
+use Rattle.law_parts.specs.Beginnings.{Beginning, Afresh, From, run_of}
 use Rattle.law_parts.specs.Runs.{Run}
 use Rattle.law_parts.specs.Totals.{undivided_from}
 use Rattle.law_reached.specs.Works.{works_of, works_left}

@@ -1,12 +1,10 @@
 -- Turn after turn of a run whose parts wait.
-use Rattle.std.proofs.Common.{◌≡◌, ◌≢◌, ◌≤◌, ◌<◌, ◌+◌, ℕ, Bool, true, false, List, arith, refl, sym, ◌∙◌, ap}
-use Rattle.std.specs.Prelude.{not, filter, length, slice_get, Option, Some, Result, Ok, Err, IfOk}
-use Rattle.std.specs.List.{range_with_len}
+use Rattle.std.proofs.Common.{◌≡◌, ◌≢◌, ℕ, Bool, true, false, List, refl}
+use Rattle.std.specs.Prelude.{not, slice_get, Option}
 use Rattle.cx_plan.specs.declared.job.Job.{Job}
 use Rattle.cx_plan.specs.Setups.{setup_of}
 use Rattle.cx_rule.specs.Routine.{Rule}
 use Rattle.cx_rule.specs.States.{State}
-use Rattle.cx_model.specs.Traces.{Goes}
 use Rattle.cx_cut.specs.Cuts.{Parts}
 use Rattle.cx_cut.specs.Faults.{parts_of}
 use Rattle.cx_chk.specs.declared.checkpoint.Checkpoint.{Checkpoint}
@@ -21,9 +19,9 @@ use Rattle.cx_core.specs.Starts.{begins_in}
 use Rattle.cx_core.specs.Steps.{Counts, RisesWithin, Standing, event_costs}
 use Rattle.cx_core_events.specs.Events.{events}
 use Rattle.cx_run_loop.specs.CoresWait.{CoresWait, StepsBelow}
-use Rattle.cx_run_loop.specs.Going.{Setting, Place, IsDriving, MovesOn}
+use Rattle.cx_run_loop.specs.Going.{Setting, Place, IsDriving}
 use Rattle.cx_run_loop.specs.Sums.{carried_in, work_in}
-use Rattle.cx_run_loop.specs.Turning.{Picks, waiting}
+use Rattle.cx_run_loop.specs.Turning.{Picks}
 use Rattle.cx_run_loop.specs.Waiting.{IsWaiting, StaysBelow, Waits, WaitsOn}
 use Rattle.cx_run_loop.specs.declared.turn.Advance.{Advance}
 use Rattle.cx_run_loop.specs.declared.turn.Advance.TheVariants.{More, Saved}

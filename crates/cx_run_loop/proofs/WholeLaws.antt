@@ -1,8 +1,7 @@
 -- A whole run: from what its start found to what its end leaves.
-use Rattle.std.proofs.Common.{◌≡◌, ◌≢◌, ℕ, ◌+◌, ◌≤◌, ◌<◌, List, [], ◌++◌, length, take, refl, sym, ◌∙◌, ap, subst, arith, inl, inr, append-nil}
+use Rattle.std.proofs.Common.{◌≡◌, ◌≢◌, ℕ, ◌+◌, ◌≤◌, ◌<◌, List, [], length, take, refl, sym, ◌∙◌, ap, subst, arith, inl, inr, append-nil}
 use Rattle.std.proofs.lemmas.List.{get_or-replicate}
-use Rattle.std.specs.Prelude.{Option, Some, None, IfSome, ◌⊎◌, Ok, Err, true, slice_index, ◌%◌, ◌^◌}
-use Rattle.cx_plan.specs.declared.job.Job.{Job}
+use Rattle.std.specs.Prelude.{Option, Some, None, IfSome, ◌⊎◌, Ok, Err, slice_index, ◌%◌, ◌^◌}
 use Rattle.cx_plan.specs.declared.job.Recover.TheVariants.{No}
 use Rattle.cx_plan.specs.Setups.{setup_of}
 use Rattle.cx_outputs.specs.Names.{output_count}
@@ -29,7 +28,7 @@ use Rattle.law_course.proofs.PlaceLaws.{has_places}
 use Rattle.law_course.specs.Beginnings.{GoesOn, IsFound, entries_from, run_from}
 use Rattle.law_course.specs.Courses.{checkpoint_of}
 use Rattle.law_course.specs.Starts.{BeginsOn}
-use Rattle.law_course.specs.Works.{KeptRun, HasDone, IsAllDone, IsAtLeast, WorksFollow, course_by, works_by, newest_of, next_of}
+use Rattle.law_course.specs.Works.{KeptRun, IsAllDone, IsAtLeast, WorksFollow, course_by, works_by, newest_of, next_of}
 use Rattle.cx_core.specs.Cores.{Cores}
 use Rattle.cx_core.specs.Hands.{ended_as}
 use Rattle.cx_core.specs.declared.answers.Outcome.TheVariants.{Done}

@@ -1,6 +1,5 @@
 -- A run of a job by one core after another.
-use Rattle.std.specs.Prelude.{ℕ, ◌+◌, ◌≤◌, ◌<◌, ◌≡◌, ◌≢◌, ◌⊎◌, nat_le, Bool, true, false, ◌&&◌, IsTrue, List, Option, Some, None}
-use Rattle.cx_plan.specs.declared.job.Cuts.{Cuts}
+use Rattle.std.specs.Prelude.{ℕ, ◌+◌, ◌≤◌, ◌≡◌, ◌≢◌, ◌⊎◌, nat_le, Bool, true, false, ◌&&◌, IsTrue, List, Option, Some, None}
 use Rattle.cx_plan.specs.declared.job.Job.{Job}
 use Rattle.cx_plan.specs.Setups.{setup_of}
 use Rattle.cx_outputs.specs.Names.{output_count}
@@ -27,7 +26,7 @@ use Rattle.cx_run_loop.specs.Lent.{Wired, wired}
 use Rattle.cx_run_loop.specs.Recuts.{cut_from, first_cut, with_cut}
 use Rattle.cx_run_loop.specs.Segments.{RunsBy, Start}
 use Rattle.cx_run_loop.specs.Sums.{AreUnsaved, CountsBelow}
-use Rattle.cx_run_loop.specs.Turning.{CoresLead, CoresStop, Turning, TurnsLead, turning}
+use Rattle.cx_run_loop.specs.Turning.{CoresLead, CoresStop, TurnsLead, turning}
 use Rattle.cx_run_loop.specs.UnderWay.{BeginsAnew, Runs}
 use Rattle.cx_run_loop.specs.Waiting.{HasGathered, HoldsCheckpoint, IsWaiting}
 use Rattle.cx_run_loop.specs.declared.turn.Advance.{Advance}

@@ -1,11 +1,11 @@
 -- The law of cores of which no event is done that lies ahead: their parts wait for each other at
 -- each checkpoint.
-use Rattle.std.specs.Prelude.{ℕ, ◌+◌, ◌≤◌, ◌≡◌, false, List, [], ◌∷◌, ◌++◌, slice_get}
+use Rattle.std.specs.Prelude.{ℕ, ◌+◌, ◌≤◌, ◌≡◌, false, List, ◌∷◌, ◌++◌, slice_get}
 use Rattle.cx_plan.specs.declared.job.Job.{Job}
 use Rattle.cx_plan.specs.Setups.{setup_of}
 use Rattle.cx_rule.specs.Routine.{Rule}
 use Rattle.cx_rule.specs.States.{State}
-use Rattle.cx_model.specs.Traces.{Entry, Saved, Trace, Goes}
+use Rattle.cx_model.specs.Traces.{Entry, Saved, Goes}
 use Rattle.cx_cut.specs.Cuts.{Parts}
 use Rattle.cx_cut.specs.Faults.{parts_of}
 use Rattle.law_network.specs.Together.{AreTogether}

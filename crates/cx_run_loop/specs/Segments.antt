@@ -4,7 +4,7 @@ use Rattle.std.specs.Prelude.{ℕ, ◌+◌, ◌%◌, ◌^◌, ◌<◌, ◌≡◌
 use Rattle.cx_plan.specs.declared.job.Cuts.{Cuts}
 use Rattle.cx_plan.specs.declared.variable.VarId.{VarId}
 use Rattle.cx_plan.specs.Lookups.{is_scalar, levels_of}
-use Rattle.cx_plan.specs.Setups.{Setup, setup_of}
+use Rattle.cx_plan.specs.Setups.{setup_of}
 use Rattle.cx_outputs.specs.Names.{output_count}
 use Rattle.cx_rule.specs.Meter.{raised}
 use Rattle.cx_rule.specs.States.{State, scalar_of}

@@ -1,5 +1,5 @@
 -- Parts that wait for each other at each checkpoint, and what a run is when one is saved.
-use Rattle.std.specs.Prelude.{ℕ, ◌+◌, ◌%◌, ◌^◌, ◌<◌, ◌≤◌, ◌≡◌, ◌≢◌, List, [], ◌∷◌, ◌++◌, length, Option, Some, IfSome}
+use Rattle.std.specs.Prelude.{◌+◌, ◌%◌, ◌^◌, ◌<◌, ◌≤◌, ◌≡◌, ◌≢◌, List, [], ◌∷◌, ◌++◌, length, Option, Some, IfSome}
 use Rattle.cx_plan.specs.Setups.{Setup, setup_of}
 use Rattle.cx_outputs.specs.Names.{output_count}
 use Rattle.cx_rule.specs.Meter.{raised}

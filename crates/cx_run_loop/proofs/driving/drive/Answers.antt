@@ -1,8 +1,7 @@
-use Rattle.std.proofs.Common.{List, map, ap, refl, arith, inl}
+use Rattle.std.proofs.Common.{ap, refl, arith, inl}
 use Rattle.std.proofs.lemmas.Result.{err_from_is_err_and}
 use Rattle.cx_disk.specs.Disk.{Folders}
 use Rattle.cx_plan.specs.Setups.{setup_of}
-use Rattle.cx_rule.specs.Routine.{Rule}
 use Rattle.cx_run_loop.specs.Drives.{driven_by}
 use Rattle.cx_run_loop.proofs.BegunLaws.{begun_at, can_go, drives_on, lends_on, stops_on, turns_on}
 use Rattle.cx_run_loop.proofs.CoresOver.{some_begins}

@@ -1,4 +1,4 @@
-use Rattle.std.proofs.Common.{◌≡◌, ◌≤◌, ◌<◌, ◌+◌, ◌-◌, ℕ, true, false, List, map, arith, inl, refl, sym, ◌∙◌, ap, subst}
+use Rattle.std.proofs.Common.{◌≤◌, ◌<◌, ◌+◌, ◌-◌, ℕ, List, map, arith, inl, refl, sym, ◌∙◌, ap, subst}
 use Rattle.std.proofs.lemmas.Result.{err_from_is_err_and}
 use Rattle.std.specs.Prelude.{Bool, Err}
 use Rattle.cx_plan.specs.declared.job.Job.{Job}
@@ -6,7 +6,7 @@ use Rattle.cx_plan.specs.Setups.{setup_of}
 use Rattle.cx_rule.specs.Routine.{Rule}
 use Rattle.cx_rule.specs.declared.spec.Spec.{Spec}
 use Rattle.cx_chk.specs.declared.checkpoint.Checkpoint.{Checkpoint}
-use Rattle.cx_run_loop.specs.Advances.{place_of, run_state}
+use Rattle.cx_run_loop.specs.Advances.{run_state}
 use Rattle.cx_run_loop.specs.Cores.{StopsAt, run_by}
 use Rattle.cx_run_loop.specs.Recuts.{with_cut}
 use Rattle.cx_run_loop.specs.Sums.{SumsAdd}

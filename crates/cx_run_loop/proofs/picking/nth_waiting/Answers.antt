@@ -1,4 +1,4 @@
-use Rattle.std.proofs.Common.{◌≡◌, ◌<◌, ◌≤◌, ◌+◌, ℕ, Bool, true, false, not, refl, sym, ap, ◌∙◌, subst}
+use Rattle.std.proofs.Common.{◌<◌, ◌≤◌, ◌+◌, ℕ, Bool, not, sym, ap, ◌∙◌, subst}
 use Rattle.cx_core.specs.Cores.{ahead_in, enabled_in}
 use Rattle.cx_run_loop.proofs.PickLaws.{IsLeft, left_all, left_end, left_here, left_no, left_yes}
 use Rattle.cx_run_loop.proofs.picking.nth_waiting.Goals as goal

@@ -1,4 +1,4 @@
-use Rattle.std.proofs.Common.{◌≡◌, ◌<◌, ◌≤◌, ◌+◌, ℕ, Bool, true, false, not, sym, ap, ◌∙◌, subst}
+use Rattle.std.proofs.Common.{◌<◌, ◌≤◌, ◌+◌, ℕ, Bool, not, sym, ap, ◌∙◌, subst}
 use Rattle.cx_core.specs.Cores.{ahead_in, enabled_in}
 use Rattle.cx_run_loop.proofs.PickLaws.{HasCounted, counted_all, counted_no, counted_none, counted_yes}
 use Rattle.cx_run_loop.proofs.picking.waiting.Goals as goal

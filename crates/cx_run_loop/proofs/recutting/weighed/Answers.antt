@@ -1,4 +1,4 @@
-use Rattle.std.proofs.Common.{◌≡◌, refl, sym, ◌∙◌}
+use Rattle.std.proofs.Common.{sym, ◌∙◌}
 use Rattle.cx_run_loop.proofs.RecutLaws.{fits_with, holds_levels, next_too_large, next_unbalanced, next_weighed, parts_with, ready_with}
 use Rattle.cx_run_loop.proofs.recutting.weighed.Goals as goal
 
