@@ -93,7 +93,8 @@ split_works (Tested v path t ∷ es) a b c s u e =
 split_works (Rotated t ∷ es) a b c s u e =
     skipped (Rotated t) es a b c s (split_works es a b c s u e) refl (λ l. refl)
 
--- ---- a run writes to the job's outputs alone, and no end that it meets is that of the last iteration
+-- ---- a run writes to the job's outputs alone, and no end that it meets is that of the last
+-- iteration
 
 abbrev pub IsStop : End → Type 0
 IsStop ends.Done = ⊥

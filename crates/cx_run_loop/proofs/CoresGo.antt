@@ -128,7 +128,8 @@ module _ {D W T : Type 0} (d : DiskGhosts D) (w : WireGhosts W) (t : TurnsGhosts
 
   -- from one to the next
   module _ (cut : Cuts) (next : ℕ) (was mid : RunState D W) (turns_was turns_mid : T)
-      (b : AreBetween cut next was turns_was) (laws : DriveLaws (IsTrue w.tells) (job_by cut) f.rules)
+      (b : AreBetween cut next was turns_was) (laws : DriveLaws (IsTrue w.tells) (job_by cut)
+      f.rules)
       (sums : SumsAdd (setup_of f.job)) (balance : f.job.balance ≡ true)
       (runs : RunsCore d w t (job_by cut) f.rules next was mid turns_was turns_mid true)
       (keeps : Keeps d w (job_by cut) f.rules was mid.disk mid.wire mid.meter) where
@@ -269,7 +270,8 @@ module _ {D W T : Type 0} (d : DiskGhosts D) (w : WireGhosts W) (t : TurnsGhosts
       → CoresWait (IsTrue w.tells) new f.rules b)
       → AreBetween new.cut (mid.run.core.buffers.state.iteration + 1)
       (run_state run mid.disk mid.wire mid.meter) turns_mid
-  between_on own cut next was mid turns_was turns_mid b own_is now now_is laws sums anew is_anew runs
+  between_on own cut next was mid turns_was turns_mid b own_is now now_is laws sums anew is_anew
+      runs
       keeps new run new_is begins fits wait =
       let c : Checkpoint = mid.run.core.buffers.state in
       let base : with_cut now own ≡ f.job =

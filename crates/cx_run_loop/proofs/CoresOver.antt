@@ -75,9 +75,11 @@ some_begins setup (Some c) can = can
 -- it holds a checkpoint in which another core can begin
 pub begins_anew : (job : Job) (next : ℕ) (core : Cores) → CanCutAnew job next core
     → CanBegin (setup_of job) (Some core.buffers.state)
-begins_anew job next core can =
-    (can.most, can.holds.state,
-    ap (λ (l : List ℕ). length l) can.holds.lengths ∙ can.holds.count)
+begins_anew job next core can = (
+  can.most,
+  can.holds.state,
+  ap (λ (l : List ℕ). length l) can.holds.lengths ∙ can.holds.count,
+)
 
 -- so the least iteration of a later checkpoint comes nearer to the last one
 pub nearer_last : (next n last : ℕ) → next ≤ n → n ≤ last → last + 1 - (n + 1) < last + 1 - next

@@ -147,10 +147,11 @@ module _ (r : Run) where
           → (rest : List Note) × (noted r (suc n) ≡ noted r m ++ rest)
       go more (inl l) = ([], ap (noted r) (same l) ∙ sym (append-nil (noted r m)))
       go more (inr l) =
-          let p = more l in
-          (p.0 ++ notes_of r n,
-          ap (λ (ns : List Note). ns ++ notes_of r n) p.1
-          ∙ append_assoc (noted r m) p.0 (notes_of r n))
+          let p = more l in (
+            p.0 ++ notes_of r n,
+            ap (λ (ns : List Note). ns ++ notes_of r n) p.1
+                ∙ append_assoc (noted r m) p.0 (notes_of r n),
+          )
 
   pub entries_more : (m n : ℕ) → m ≤ n
       → (rest : List Entry) × (entries_of (noted r n) ≡ entries_of (noted r m) ++ rest)

@@ -36,14 +36,20 @@ module _ {T : Type 0} (t : TurnsGhosts T) (tells : Type 0) (specs : List Spec) (
       (a, b, lead, same, anew, leads_on (next_cut specs job c) cs b mid is rest two)
 
   -- another one begins
-  pub leads_anew : (cut : Cuts) (cs : List Checkpoint) (c : Checkpoint) (was mid is : Turning tells T)
+  pub leads_anew : (cut : Cuts) (cs : List Checkpoint) (c : Checkpoint) (was mid is : Turning tells
+      T)
       → CoresLead t tells specs job rules cut cs was mid → mid.is.core.buffers.state ≡ c
       → IsCutAnew tells (with_cut job (next_cut specs job c)) rules mid is
       → CoresLead t tells specs job rules cut (cs ++ c ∷ []) was is
   leads_anew cut [] c was mid is lead same anew = (mid, is, lead, same, anew, ([], refl))
-  leads_anew cut (e ∷ cs) c was mid is (a, b, lead, here, one, rest) same anew =
-      (a, b, lead, here, one,
-      leads_anew (next_cut specs job e) cs c b mid is rest same anew)
+  leads_anew cut (e ∷ cs) c was mid is (a, b, lead, here, one, rest) same anew = (
+    a,
+    b,
+    lead,
+    here,
+    one,
+    leads_anew (next_cut specs job e) cs c b mid is rest same anew,
+  )
 
   pub last_anew : (cut : Cuts) (cs : List Checkpoint) (c : Checkpoint)
       → last_cut specs job cut (cs ++ c ∷ []) ≡ next_cut specs job c

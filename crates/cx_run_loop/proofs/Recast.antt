@@ -1,4 +1,5 @@
--- What is known of a run by one cut of its job, as known of the run of the job itself: settings that
+-- What is known of a run by one cut of its job, as known of the run of the job itself: settings
+-- that
 -- differ in the cut alone have one run.
 use Rattle.cx_plan.specs.declared.job.Cuts.{Cuts}
 use Rattle.cx_rule.specs.States.{State}

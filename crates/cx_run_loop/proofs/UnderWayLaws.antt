@@ -103,7 +103,8 @@ at_metered s r first n p at = record {
   items = at.items;
 }
 
-abbrev come_metered : (s : Setting) (found : Option Checkpoint) (first : Counts) (old : View) (n : ℕ)
+abbrev come_metered : (s : Setting) (found : Option Checkpoint) (first : Counts) (old : View) (n :
+    ℕ)
     (p : Place s) → HasCome s found first old p
     → HasCome s found (with_points n first) old (metered n p)
 come_metered s found first old n p x = record {

@@ -39,7 +39,8 @@ use Rattle.cx_run_loop.proofs.GatherCounts.{First, entries_more, first_save, non
 use Rattle.cx_run_loop.proofs.SumLaws.{count_later, work_later}
 use Rattle.cx_run_loop.proofs.WithinLaws.{no_stop, sum_le, sum_le_more, sum_longer}
 
--- what the parts have counted, with what one more event costs, is within what entries count, however
+-- what the parts have counted, with what one more event costs, is within what entries count,
+-- however
 -- the grid is cut anew
 pub record SpendsWithAll (r : Run) (trace : Trace) (meter : ℕ → ℕ) (p : Paces) (k : ℕ)
     : Type 0 where
@@ -73,7 +74,8 @@ module _ (tells : Type 0) (r : Run) (run : IsRun r) (trace : Trace)
     where
       go : (m < w.wrote) ⊎ (w.wrote ≤ m) → w.wrote ≤ m
       go (inl l) =
-          absurd (saved_there r m w.wrote l e (works_unsaved (entries_of (noted r w.wrote)) unsaved))
+          absurd (saved_there r m w.wrote l e (works_unsaved (entries_of (noted r w.wrote))
+          unsaved))
       go (inr l) = l
 
   is_next : m < runs.count → op_of r m ≡ Save → IsNextMark (saves r o) w.wrote m

@@ -52,7 +52,8 @@ is_cut_anew job next came core =
 
 -- A run's first core: the one that it began with, where that is in the first cut, or another one in
 -- the cut after what was found.
-abbrev pub BeginsCores : Job → List Spec → (own : Job) → Option Checkpoint → (was is : Runs) → Type 0
+abbrev pub BeginsCores : Job → List Spec → (own : Job) → Option Checkpoint → (was is : Runs) → Type
+    0
 BeginsCores job specs own found was is =
     ((is ≡ was) × (job.cut ≡ own.cut))
     ⊎ ((c : Checkpoint) × (found ≡ Some c) × BeginsAnew job specs own c was.keeper is)

@@ -50,7 +50,8 @@ Picks t true core turns k turns_after =
     (i : ℕ) × t.picks turns (length (waiting core)) i turns_after
     × (slice_get (waiting core) i ≡ Some k)
 
--- One turn: the source picks the k-th event, and that one is done, whatever the run began from. What
+-- One turn: the source picks the k-th event, and that one is done, whatever the run began from.
+-- What
 -- was counted rises by at most what that event costs. Parts of a balanced job wait.
 pub record IsTurn {T : Type 0} (t : TurnsGhosts T) (tells : Type 0) (job : Job) (rules : List Rule)
     (was is : Turning tells T) (event : Event) : Type 0 where

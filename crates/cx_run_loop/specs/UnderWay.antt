@@ -116,4 +116,8 @@ points_of u = u.come.there.at.world.meter 0
 -- the same place, with so much more on the meter
 abbrev pub metered : {s : Setting} → ℕ → Place s → Place s
 metered points p =
-    record p { is = record p.is { now = record p.is.now { points = raised p.is.now.points points } } }
+    record p {
+      is = record p.is {
+        now = record p.is.now { points = raised p.is.now.points points };
+      };
+    }

@@ -126,7 +126,9 @@ fn run_to_end<D: Disk, W: Wire, T: Turns>(
         (record { old = W.faults wire.old; new = W.faults wire.new }) result }
 {
     let own = copy_cuts(alloc, &job.cut)?;
-    let came = run_cores(alloc, job, &own, routines, run, found, disk, wire, turns, meter);
+    let came = run_cores(
+        alloc, job, &own, routines, run, found, disk, wire, turns, meter,
+    );
     job.cut = own;
     came
 }
@@ -180,7 +182,9 @@ fn run_cores<D: Disk, W: Wire, T: Turns>(
     let mut next = next_after(&found);
     let mut run = begin_cores(alloc, job, own, routines, run, found)?;
     cores_wait(job);
-    'cores: while run_core(alloc, next, job, routines, &mut run, disk, wire, turns, meter)? {
+    'cores: while run_core(
+        alloc, next, job, routines, &mut run, disk, wire, turns, meter,
+    )? {
         drive_laws(job);
         next = run.saved().iteration + 1;
         run = run.cut_anew(alloc, job, own, routines)?;

@@ -291,7 +291,8 @@ returns-clause-begun g c =
 
 pub returns-in_err-run_core-clause-stops : goal.returns-in_err-run_core-clause-stops
 returns-in_err-run_core-clause-stops g c =
-    let p = err_from_is_err_and c.from_residual-in_err-run_core.result c.from_residual-in_err-run_core.ensures.1 in
+    let p = err_from_is_err_and c.from_residual-in_err-run_core.result
+    c.from_residual-in_err-run_core.ensures.1 in
     let a : ℕ = g.D.Disk.faults c.args.disk.now in
     let b : ℕ = g.D.Disk.faults c.cores.disk in
     let d : ℕ = g.D.Disk.faults c.run_core.new.disk in
@@ -308,7 +309,8 @@ returns-in_err-run_core-clause-stops g c =
 
 pub returns-in_err-run-2-clause-stops : goal.returns-in_err-run-2-clause-stops
 returns-in_err-run-2-clause-stops g c =
-    let p = err_from_is_err_and c.from_residual-in_err-run-2.result c.from_residual-in_err-run-2.ensures.1 in
+    let p = err_from_is_err_and c.from_residual-in_err-run-2.result
+    c.from_residual-in_err-run-2.ensures.1 in
     let a : ℕ = g.D.Disk.faults c.args.disk.now in
     let b : ℕ = g.D.Disk.faults c.cores.disk in
     let d : ℕ = g.D.Disk.faults c.run_core.new.disk in

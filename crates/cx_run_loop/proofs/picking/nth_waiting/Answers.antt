@@ -18,7 +18,8 @@ events-preserved c =
           subst (λ (m : ℕ). IsLeft test (enabled_in c.args.core.now) c.args.i (c.events.k + 1) m)
           (sym w.left-is)
           (left_yes test (enabled_in c.args.core.now) c.args.i c.events.k c.events.left below
-          (ap not (sym c.ahead.ensures ∙ w.if-not-ahead.true)) w.if-left-eq0.false c.events.invariant)
+          (ap not (sym c.ahead.ensures ∙ w.if-not-ahead.true)) w.if-left-eq0.false
+          c.events.invariant)
       | else-not-ahead w ↦
           subst (λ (m : ℕ). IsLeft test (enabled_in c.args.core.now) c.args.i (c.events.k + 1) m)
           (sym w.left-is)

@@ -17,22 +17,22 @@ turns-init g c =
     (g.W.Wire.received c.args.wire.now) (g.W.Wire.sum c.args.wire.now))
     c.core_stands.ensures c.requires.able.going.running c.requires.outcome in
     record {
-  gone = gone_none g.D.Disk g.W.Wire c.args.job.now _ g.T.Turns
-      (c.drive_laws.ensures g.W.Wire.tells _)
-      (run_state (runs c.args.keep.now c.args.core.now) c.args.disk.now c.args.wire.now
-      c.args.meter.now) c.args.turns.now c.requires.able c.requires.outcome
-      (driven_below _
-      (place_of g.D.Disk g.W.Wire c.args.job.now _
-      (run_state (runs c.args.keep.now c.args.core.now) c.args.disk.now c.args.wire.now
-      c.args.meter.now)) _
-      (below_there (IsTrue g.W.Wire.tells) c.args.job.now _
-      (c.cores_wait.ensures g.W.Wire.tells _) (stands_at c.args.core.now
-      (g.W.Wire.queue c.args.wire.now) c.args.meter.now (g.W.Wire.received c.args.wire.now)
-      (g.W.Wire.sum c.args.wire.now)) before.0 before.2));
-  begun = refl;
-  disk_later = omega arith;
-  wire_later = omega arith;
-}
+      gone = gone_none g.D.Disk g.W.Wire c.args.job.now _ g.T.Turns
+          (c.drive_laws.ensures g.W.Wire.tells _)
+          (run_state (runs c.args.keep.now c.args.core.now) c.args.disk.now c.args.wire.now
+          c.args.meter.now) c.args.turns.now c.requires.able c.requires.outcome
+          (driven_below _
+          (place_of g.D.Disk g.W.Wire c.args.job.now _
+          (run_state (runs c.args.keep.now c.args.core.now) c.args.disk.now c.args.wire.now
+          c.args.meter.now)) _
+          (below_there (IsTrue g.W.Wire.tells) c.args.job.now _
+          (c.cores_wait.ensures g.W.Wire.tells _) (stands_at c.args.core.now
+          (g.W.Wire.queue c.args.wire.now) c.args.meter.now (g.W.Wire.received c.args.wire.now)
+          (g.W.Wire.sum c.args.wire.now)) before.0 before.2));
+      begun = refl;
+      disk_later = omega arith;
+      wire_later = omega arith;
+    }
 
 pub turns-preserved : goal.turns-preserved
 turns-preserved g c =
