@@ -1,6 +1,7 @@
 mod RecordSamples
 pub mod WordLaws
 pub mod NumberLaws
+mod ShortLaws
 pub mod RowLaws
 pub mod HeadLaws
 pub mod GridLaws

@@ -40,11 +40,11 @@ pub decimal_digits : (n : ℕ) → n < 2 ^ 64 → (0 < length (decimal n)) × Ar
 decimal_digits n small = let d = (decimal_is_IsNumeral n small).0 in
     (d.0, model.from (decimal n) d.1)
 
-digits_are : (ds : List ℕ) → 0 < length ds → AreDigits ds → is_digits ds ≡ true
+pub digits_are : (ds : List ℕ) → 0 < length ds → AreDigits ds → is_digits ds ≡ true
 digits_are [] some all = absurd (omega arith)
 digits_are (d ∷ ds) some all = all
 
-are_digits : (ds : List ℕ) → is_digits ds ≡ true → (0 < length ds) × AreDigits ds
+pub are_digits : (ds : List ℕ) → is_digits ds ≡ true → (0 < length ds) × AreDigits ds
 are_digits [] e = absurd cc
 are_digits (d ∷ ds) e = (omega arith, e)
 
@@ -64,7 +64,7 @@ decimal_lead n small = elim (cases_lt n 10) as (λ _. has_leading_zero (decimal 
   | inr more ↦ no_lead (decimal n) (first_decimal n (omega arith) small)
 ]
 
-plain_digit : (c : ℕ) → is_ascii_digit c ≡ true → not (is_end c) ≡ true
+pub plain_digit : (c : ℕ) → is_ascii_digit c ≡ true → not (is_end c) ≡ true
 plain_digit c e =
     let m = and_parts (leb 48 c) (leb c 57) e in
     let low = leb-true 48 c m.0 in
@@ -158,7 +158,7 @@ value_takes : (text : List ℕ) (v : ℤ) → value_of text ≡ Some v
 value_takes [] v h = absurd cc
 value_takes (b ∷ bs) v h = value_takes_by b bs v (eqb b 45) refl h
 
-value_of_digits : (ds : List ℕ) → 0 < length ds → AreDigits ds
+pub value_of_digits : (ds : List ℕ) → 0 < length ds → AreDigits ds
     → value_of ds ≡ (number_of (2 ^ 63 - 1) ds >>= λ n. Some (pos n))
 value_of_digits [] some all = absurd (omega arith)
 value_of_digits (d ∷ ds) some all =

@@ -25,6 +25,7 @@ fn sizes_at(alloc: Global, bytes: &[u8]) -> Result<(List<u32>, &[u8]), Stop>
 }
 
 /// Adds the values of a row at the end: `more` of them with a blank after each, and the last of the line.
+#[inline(never)]
 fn push_row<'a>(values: &mut Vec<i64>, more: u32, bytes: &'a [u8]) -> Result<&'a [u8], Stop>
     ensures { Gives (λ rest. (values.new.items, rest.now)) result
         (with_front values.old.items (row_at more bytes.now)) }

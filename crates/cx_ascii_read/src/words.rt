@@ -1,10 +1,12 @@
 //! Words and numbers of files in the output's form, and what stands behind them.
 
-ghost use Rattle.std.specs.Prelude.{◌≡◌, ◌≤◌, length, IfOk, option_copied};
+ghost use Rattle.std.specs.Prelude.{◌≡◌, ◌≤◌, ◌<◌, ◌^◌, ◌∷◌, ℕ, Some, true, false, IsTrue, length, take, IfOk, IfSome, option_copied};
 ghost use Rattle.std.specs.List.{list_all, position};
+ghost use Rattle.std.specs.Char.{is_ascii_digit};
 ghost use Rattle.cx_text.specs.Bytes.{is_printable};
+ghost use Rattle.cx_text.specs.Lexemes.{decimal_from};
 ghost use Rattle.cx_ascii_read.specs.Records.{is_name};
-ghost use Rattle.cx_ascii_read.specs.Reading.{Gives, is_end, word_len, word, behind, skip, skip_text, has_leading_zero, number_of, negative_of, size_of, value_of, name_at, number_at, value_at, size_end, size_at};
+ghost use Rattle.cx_ascii_read.specs.Reading.{Gives, field_at, is_end, word_len, word, behind, skip, skip_text, has_leading_zero, number_of, negative_of, size_of, value_of, name_at, number_at, value_at, size_end, size_at};
 
 use cx_text::{Memory, natural_in, negative};
 use std::alloc::{AllocError, AllocFailed};
@@ -194,13 +196,143 @@ fn is_name(text: &[u8]) -> bool
     }
 }
 
-/// A value and a byte behind it.
-pub fn value_at(byte: u8, bytes: &[u8]) -> Result<(i64, &[u8]), Stop>
+/// The number that the digits before the first other byte make, and how many digits these are. None where no other byte comes
+/// within 18 digits.
+fn digits_at(bytes: &[u8]) -> Option<(u64, usize)>
+    ensures digits { IfSome result (λ x. list_all is_ascii_digit (take x.1 bytes.now) ≡ true) }
+    ensures number { IfSome result (λ x. decimal_from 0 (take x.1 bytes.now) ≡ x.0) }
+    ensures short { IfSome result (λ x. x.0 < 10 ^ 18) }
+    ensures within { IfSome result (λ x. x.1 ≤ length bytes.now) }
+{
+    let mut number: u64 = 0;
+    'digits: for (index, byte) in bytes.iter().enumerate() {
+        if !byte.is_ascii_digit() {
+            return Some((number, index));
+        }
+        if number >= 100_000_000_000_000_000 {
+            return None;
+        }
+        number = number * 10 + u64::from(*byte - b'0');
+    }
+    None
+}
+
+/// Whether a text isn't empty, and doesn't begin with 0 before further bytes.
+fn begins_number(text: &[u8]) -> bool
+    ensures { IsTrue result → (1 ≤ length text.now) × (has_leading_zero text.now ≡ false) }
+{
+    match text {
+        [] => false,
+        [_, ..] => !has_leading_zero(text),
+    }
+}
+
+/// What stands behind a byte in front, if that byte ends a word.
+#[inline(always)]
+fn skip_end(byte: u8, bytes: &[u8]) -> Option<&[u8]>
+    ensures { IfSome result (λ rest. (is_end byte ≡ true) × (bytes.now ≡ byte ∷ rest.now)) }
+{
+    match bytes {
+        [end, rest @ ..] if *end == byte && is_end(byte) => Some(rest),
+        _ => None,
+    }
+}
+
+/// A number of one digit, and what stands behind the byte that ends it.
+#[inline(always)]
+fn digit_at(byte: u8, bytes: &[u8]) -> Option<(u64, &[u8])>
+    ensures number { IfSome result (λ x. (high : ℕ) → 10 ^ 18 ≤ high
+        → field_at (number_of high) byte bytes.now ≡ Some (x.0, x.1.now)) }
+    ensures short { IfSome result (λ x. x.0 < 10 ^ 18) }
+{
+    match bytes {
+        [digit, rest @ ..] if digit.is_ascii_digit() => {
+            let rest = skip_end(byte, rest)?;
+            Some((u64::from(*digit - b'0'), rest))
+        }
+        _ => None,
+    }
+}
+
+/// A number of one to 18 digits, and what stands behind the byte that ends it.
+fn some_digits_at(byte: u8, bytes: &[u8]) -> Option<(u64, &[u8])>
+    ensures number { IfSome result (λ x. (high : ℕ) → 10 ^ 18 ≤ high
+        → field_at (number_of high) byte bytes.now ≡ Some (x.0, x.1.now)) }
+    ensures short { IfSome result (λ x. x.0 < 10 ^ 18) }
+{
+    let (number, len) = digits_at(bytes)?;
+    let (digits, rest) = bytes.split_at(len);
+    if !begins_number(digits) {
+        return None;
+    }
+    let rest = skip_end(byte, rest)?;
+    Some((number, rest))
+}
+
+/// A number of at most 18 digits, and what stands behind the byte that ends it.
+#[inline(always)]
+fn short_number_at(byte: u8, bytes: &[u8]) -> Option<(u64, &[u8])>
+    ensures number { IfSome result (λ x. (high : ℕ) → 10 ^ 18 ≤ high
+        → field_at (number_of high) byte bytes.now ≡ Some (x.0, x.1.now)) }
+    ensures short { IfSome result (λ x. x.0 < 10 ^ 18) }
+{
+    match digit_at(byte, bytes) {
+        Some(found) => Some(found),
+        None => some_digits_at(byte, bytes),
+    }
+}
+
+/// A value of at most 18 digits and without a sign, and what stands behind the byte that ends it.
+#[inline(always)]
+fn short_positive_at(byte: u8, bytes: &[u8]) -> Option<(i64, &[u8])>
+    ensures { IfSome result (λ x. value_at byte bytes.now ≡ Some (x.0, x.1.now)) }
+{
+    let (number, rest) = short_number_at(byte, bytes)?;
+    Some((number as i64, rest))
+}
+
+/// A value of at most 18 digits below 0, given from behind its sign on, and what stands behind the byte that ends it.
+fn short_negative_at(byte: u8, digits: &[u8]) -> Option<(i64, &[u8])>
+    ensures { IfSome result (λ x. value_at byte (45 ∷ digits.now) ≡ Some (x.0, x.1.now)) }
+{
+    let (size, rest) = short_number_at(byte, digits)?;
+    if size == 0 {
+        return None;
+    }
+    Some((negative(size), rest))
+}
+
+/// A value of at most 18 digits, and what stands behind the byte that ends it.
+#[inline(always)]
+fn short_value_at(byte: u8, bytes: &[u8]) -> Option<(i64, &[u8])>
+    ensures { IfSome result (λ x. value_at byte bytes.now ≡ Some (x.0, x.1.now)) }
+{
+    match bytes {
+        [b'-', digits @ ..] => short_negative_at(byte, digits),
+        _ => short_positive_at(byte, bytes),
+    }
+}
+
+/// Any value and a byte behind it.
+#[cold]
+#[inline(never)]
+fn long_value_at(byte: u8, bytes: &[u8]) -> Result<(i64, &[u8]), Stop>
     ensures { Gives (λ x. (x.0, x.1.now)) result (value_at byte bytes.now) }
 {
     let (text, rest) = split_word(bytes);
     let value = value_of(text)?;
     Ok((value, skip(byte, rest)?))
+}
+
+/// A value and a byte behind it. One of at most 18 digits is read in one pass.
+#[inline(always)]
+pub fn value_at(byte: u8, bytes: &[u8]) -> Result<(i64, &[u8]), Stop>
+    ensures { Gives (λ x. (x.0, x.1.now)) result (value_at byte bytes.now) }
+{
+    match short_value_at(byte, bytes) {
+        Some(found) => Ok(found),
+        None => long_value_at(byte, bytes),
+    }
 }
 
 /// A number that isn't above `high`, and what comes after the blank that ends it.

@@ -1,6 +1,6 @@
 //! Whole numbers in little memory.
 
-ghost use Rattle.std.specs.Prelude.{◌≡◌, ◌++◌, ◌∷◌, [], pos, slice_index_or, take, drop, IfOk, IfSome, OnOk};
+ghost use Rattle.std.specs.Prelude.{◌≡◌, ◌≤◌, ◌++◌, pos, length, slice_index_or, take, drop, IfOk, IfSome, OnOk};
 
 use crate::rows::{run, value_at};
 use cx_text::Memory;
@@ -23,38 +23,16 @@ impl Model for Values {
 }
 
 impl Values {
-    /// No numbers yet, with memory for so many of 32 bits.
-    fn with_capacity(alloc: Global, count: usize) -> Result<Self, Memory>
-        ensures { IfOk result (λ values. values ≡ []) }
-    {
-        let mut narrow = Vec::new(alloc);
-        narrow.reserve_exact(count)?;
-        Ok(Values {
-            narrow,
-            wide: Vec::new(alloc),
-        })
-    }
-
     /// These numbers.
     pub fn new(alloc: Global, numbers: &[i64]) -> Result<Self, Memory>
         ensures { IfOk result (λ values. values ≡ numbers.now) }
     {
-        let mut values = Values::with_capacity(alloc, numbers.len())?;
-        'numbers: for number in numbers {
-            values.push(*number)?;
-        }
-        Ok(values)
-    }
-
-    /// Adds a number.
-    fn push(&mut self, number: i64) -> Result<(), Memory>
-        ensures { OnOk result (self.new ≡ self.old ++ number ∷ []) }
-    {
-        match narrowed(&self.wide, number) {
-            Some(narrow) => self.narrow.push(narrow)?,
-            None => self.wide.push(number)?,
-        }
-        Ok(())
+        let mut narrow = Vec::new(alloc);
+        narrow.reserve_exact(numbers.len())?;
+        let count = push_narrow(&mut narrow, numbers)?;
+        let mut wide = Vec::new(alloc);
+        wide.extend_from_slice(&numbers[count..])?;
+        Ok(Values { narrow, wide })
     }
 
     /// The first number, and 0 where there is none.
@@ -84,15 +62,26 @@ impl Values {
     }
 }
 
-/// A number in 32 bits, if these hold it and no number before it takes 64.
-fn narrowed(wide: &[i64], number: i64) -> Option<i32>
-    ensures { IfSome result (λ narrow. (narrow ≡ number) × (wide.now ≡ [])) }
+/// A number in 32 bits, if these hold it.
+fn narrowed(number: i64) -> Option<i32>
+    ensures { IfSome result (λ narrow. narrow ≡ number) }
 {
-    if wide.is_empty() {
-        i32::try_from(number).ok()
-    } else {
-        None
+    i32::try_from(number).ok()
+}
+
+/// Adds the numbers before the first one that 32 bits don't hold, and says how many these are.
+#[inline(never)]
+fn push_narrow(row: &mut Vec<i32>, numbers: &[i64]) -> Result<usize, Memory>
+    ensures row { IfOk result (λ count. row.new.items ≡ row.old.items ++ take count numbers.now) }
+    ensures within { IfOk result (λ count. count ≤ length numbers.now) }
+{
+    'numbers: for (place, number) in numbers.iter().enumerate() {
+        match narrowed(*number) {
+            Some(narrow) => row.push(narrow)?,
+            None => return Ok(place),
+        }
     }
+    Ok(numbers.len())
 }
 
 /// Adds numbers of 32 bits, in 64 bits each.
