@@ -1,3 +1,4 @@
 mod Samples
 mod MoreRows
 mod LengthLaws
+mod EightLaws

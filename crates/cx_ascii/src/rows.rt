@@ -7,7 +7,7 @@ ghost use Rattle.cx_grid.specs.Boxes.{along, extent};
 ghost use Rattle.cx_grid.specs.Grid.{IsShape, whole};
 ghost use Rattle.cx_ascii.specs.Output.{size_of, sizes_text, row_of, row_in, rows_in, rows_text, values_of};
 
-use crate::numbers::{push_count, push_next, push_value};
+use crate::numbers::{push_count, push_others, push_value};
 use cx_grid::Shape;
 use cx_text::{Memory, Text};
 
@@ -57,10 +57,7 @@ fn push_values(text: &mut Text, values: &[i64]) -> Result<(), Memory>
         return Ok(());
     };
     push_value(text, *first)?;
-    'values: for value in others {
-        push_next(text, *value)?;
-    }
-    Ok(())
+    push_others(text, others)
 }
 
 /// Adds `count` rows of `width` values each at the end, from the first value on. A row that the values don't fill ends with
