@@ -1,6 +1,5 @@
 //! Each call of each device fails once, and what the next call over the same devices comes to.
 
-use crate::boxes::{FIELDS, SUMS};
 use crate::devices::{failing_disk, failing_shelf};
 use crate::stops::{BOX_FILE, BOX_THORNS, RUN};
 use cx_disk::{Disk, MemoryDisk};
@@ -9,7 +8,7 @@ use cx_run::{MemorySink, Shelf};
 use cx_text::List;
 use cx_turns::SeededTurns;
 use sample_files::File;
-use sample_runs::samples::{CA, CA_OUTPUT, EACH};
+use sample_runs::samples::{BOX_FIELDS, BOX_SUMS, CA, CA_OUTPUT, EACH};
 use sample_runs::{
     FIRST_OUTPUT, SECOND_OUTPUT, answer_to, failing, shelf_with, sink, status_over, wire,
 };
@@ -210,8 +209,8 @@ const BOX_JOB: &Job = &Job {
     shelf: 1,
     status: 0,
     printed: b"done: iteration 40\n",
-    first: FIELDS,
-    second: SUMS,
+    first: BOX_FIELDS,
+    second: BOX_SUMS,
 };
 
 /// A device of a call.

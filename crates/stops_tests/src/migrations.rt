@@ -2,11 +2,12 @@
 //! it. The third one comes to the end, and computes nothing: after the checkpoint of iteration 40 only reductions and
 //! output are left.
 
-use crate::boxes::{BOX, FIELDS, FORMER, SUMS};
+use crate::boxes::{BOX, FORMER};
 use crate::former::{Older, former_disk};
 use cx_disk::{Disk, FuseDisk, MemoryDisk};
 use cx_run::MemoryShelf;
 use cx_text::{List, Memory, Text};
+use sample_runs::samples::{BOX_FIELDS, BOX_SUMS};
 use sample_runs::{Outcome, answer_over, shelf_with};
 use std::alloc::Global;
 use std::test::Fail;
@@ -61,7 +62,12 @@ fn ends(
     same(
         &case,
         &found,
-        &(0, 0, b"done: iteration 40\n", (FIELDS, SUMS, FORMER)),
+        &(
+            0,
+            0,
+            b"done: iteration 40\n",
+            (BOX_FIELDS, BOX_SUMS, FORMER),
+        ),
     )
 }
 

@@ -1,12 +1,11 @@
 //! Checkpoints: runs that stop anywhere and are started again, and starts that are refused.
 
-use crate::boxes::{FIELDS, SUMS};
 use crate::devices::LongDisk;
 use crate::former::former_slot;
 use cx_disk::{FuseDisk, MemoryDisk};
 use cx_text::{List, Text};
 use sample_files::File;
-use sample_runs::samples::{CA, CA_OUTPUT, EACH};
+use sample_runs::samples::{BOX_FIELDS, BOX_SUMS, CA, CA_OUTPUT, EACH};
 use sample_runs::{
     FIRST_OUTPUT, Outcome, SECOND_OUTPUT, answer_on, answer_over, answer_to, shelf_with,
 };
@@ -136,7 +135,11 @@ fn box_with_checkpoints(rt: HostRuntime) -> Result<(), Fail> {
     let came = run_on(&rt, BOX_FILE, "", BOX_THORNS, &mut disk)?;
     let outputs = (came.first.as_slice(), came.second.as_slice());
     let found = (came.status, came.printed.as_slice(), outputs);
-    let want = (0, b"done: iteration 40\n".as_slice(), (FIELDS, SUMS));
+    let want = (
+        0,
+        b"done: iteration 40\n".as_slice(),
+        (BOX_FIELDS, BOX_SUMS),
+    );
     same(&"the run", &found, &want)?;
     let lengths = (came.first.len(), came.second.len());
     let found = (came.points, came.received, lengths);
@@ -177,7 +180,7 @@ const STARTS: &[Start] = &[
             parameter wave::amount = \"5\"\n\
             parameter wave::amount = \"6\"\n",
         points: 0,
-        first: FIELDS,
+        first: BOX_FIELDS,
     },
     Start {
         name: "a damaged slot",
@@ -186,7 +189,7 @@ const STARTS: &[Start] = &[
         status: 6,
         printed: b"recovery: Damaged 1\n",
         points: 0,
-        first: FIELDS,
+        first: BOX_FIELDS,
     },
     Start {
         name: "a short output",
@@ -205,7 +208,7 @@ const STARTS: &[Start] = &[
         status: 0,
         printed: b"done: iteration 40\n",
         points: 0,
-        first: FIELDS,
+        first: BOX_FIELDS,
     },
     Start {
         name: "without recovery",
@@ -214,7 +217,7 @@ const STARTS: &[Start] = &[
         status: 0,
         printed: b"done: iteration 40\n",
         points: 4944,
-        first: FIELDS,
+        first: BOX_FIELDS,
     },
 ];
 
@@ -232,7 +235,7 @@ fn starts_from_the_box(rt: HostRuntime) -> Result<(), Fail> {
         let want = (
             start.status,
             start.printed,
-            (start.first, SUMS),
+            (start.first, BOX_SUMS),
             start.points,
         );
         same(&start.name, &found, &want)?;
@@ -295,7 +298,7 @@ fn box_that_stops_twice(rt: HostRuntime) -> Result<(), Fail> {
         for stop in STOPS {
             let came = third_run(&rt, three, four, *stop)?;
             let found = (came.status, came.first.as_slice(), came.second.as_slice());
-            let want = (0, FIELDS, SUMS);
+            let want = (0, BOX_FIELDS, BOX_SUMS);
             same(&(four, stop), &found, &want)?;
             let found = (came.points, came.received);
             same(&(four, stop), &found, &(2400, 360))?;
