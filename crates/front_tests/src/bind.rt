@@ -1,12 +1,13 @@
 //! Thorns by their files, selected and bound, and the faults of thorns that don't fit each other.
 
-use crate::common::{Files, text, thorns};
-use cx_bind::{BindFault, bind, select};
-use cx_conf::read_thornlist;
+use crate::common::{Files, bound, text, thorns};
+use cx_bind::{BindFault, Bound, Param, bind, select};
+use cx_conf::{ThornList, read_thornlist};
 use cx_text::{List, Style, Text, tokens};
 use sample_files::{control, diffint, elemca, life2d, waveint};
 use std::alloc::Global;
 use std::test::Fail;
+use test_cases::same;
 
 const ELEMCA: Files = (b"ElemCA", elemca::INTERFACE, elemca::PARAM, b"");
 
@@ -179,32 +180,57 @@ fn bound_words(alloc: Global, all: &[Files]) -> Result<Text, Fail> {
     }
 }
 
+/// Tests a row of `BINDINGS`.
+fn fits(alloc: Global, place: usize, all: &[Files], want: &str) -> Result<(), Fail> {
+    let told = bound_words(alloc, all)?;
+    same(&(place, want), &told.as_slice(), &want.as_bytes())
+}
+
 #[test]
 fn thorns_fit_or_have_their_first_fault(rt: HostRuntime) -> Result<(), Fail> {
     for (place, (all, want)) in BINDINGS.iter().enumerate() {
-        let told = bound_words(rt.alloc(), all)?;
-        assert_eq!(rt; told.as_slice(), want.as_bytes(), "row {place}: {want}");
+        fits(rt.alloc(), place, all, want)?;
     }
     Ok(())
 }
 
-fn selected(alloc: Global, active: &[&[u8]]) -> Result<Text, Fail> {
+/// A list with two thorns of one name.
+fn thorn_list(alloc: Global) -> Result<ThornList, Fail> {
     let lines = b"Integer/ElemCA\nCactusPUGH/PUGH\nA/Twice\nB/Twice\n";
-    let list = read_thornlist(alloc, &tokens(alloc, lines, Style::Thorns)?)?;
-    let mut names = List::empty(alloc);
-    for name in active {
-        names.push(text(alloc, name)?)?;
+    let tokens = tokens(alloc, lines, Style::Thorns)?;
+    Ok(read_thornlist(alloc, &tokens)?)
+}
+
+fn texts(alloc: Global, words: &[&[u8]]) -> Result<List<Text>, Fail> {
+    let mut texts = List::empty(alloc);
+    for word in words {
+        texts.push(text(alloc, word)?)?;
     }
-    let places = match select(alloc, &list, &names) {
-        Ok(places) => places,
-        Err(fault) => return words(alloc, &fault),
-    };
+    Ok(texts)
+}
+
+fn place_words(alloc: Global, places: &List<(Text, Text)>) -> Result<Text, Fail> {
     let mut all = text(alloc, b"")?;
     for (arrangement, thorn) in places.as_slice() {
         push(&mut all, arrangement)?;
         push(&mut all, thorn)?;
     }
     Ok(all)
+}
+
+fn selected(alloc: Global, active: &[&[u8]]) -> Result<Text, Fail> {
+    let list = thorn_list(alloc)?;
+    let names = texts(alloc, active)?;
+    match select(alloc, &list, &names) {
+        Ok(places) => place_words(alloc, &places),
+        Err(fault) => words(alloc, &fault),
+    }
+}
+
+/// Tests which places thorns are selected from.
+fn are_selected(alloc: Global, active: &[&[u8]], want: &str) -> Result<(), Fail> {
+    let told = selected(alloc, active)?;
+    same(&want, &told.as_slice(), &want.as_bytes())
 }
 
 #[test]
@@ -217,8 +243,7 @@ fn active_thorns_have_one_place_each(rt: HostRuntime) -> Result<(), Fail> {
         (&[b"driver"], "UnknownThorn driver"),
     ];
     for (active, want) in cases {
-        let told = selected(alloc, active)?;
-        assert_eq!(rt; told.as_slice(), want.as_bytes(), "{want}");
+        are_selected(alloc, active, want)?;
     }
     Ok(())
 }
@@ -230,37 +255,49 @@ const PARAMETERS: &[(usize, &str, u32)] = &[
     (53, "E::own", 4),
 ];
 
-#[test]
-fn sample_thorns_have_their_variables_and_parameters(rt: HostRuntime) -> Result<(), Fail> {
-    let alloc = rt.alloc();
-    let extension: Files = (
-        b"E",
-        b"implements: e\n",
-        b"shares: ca\nEXTENDS INT rule { 300 }\nprivate:\nBOOLEAN own { } \"yes\"\n",
-        b"",
-    );
-    let bound = bind(
-        alloc,
-        thorns(alloc, &[ELEMCA, WAVE, HEAT, CONTROL, extension])?,
-    )?;
+const EXTENSION: Files = (
+    b"E",
+    b"implements: e\n",
+    b"shares: ca\nEXTENDS INT rule { 300 }\nprivate:\nBOOLEAN own { } \"yes\"\n",
+    b"",
+);
+
+/// The variables' names.
+fn variable_names(alloc: Global, bound: &Bound) -> Result<Text, Fail> {
     let mut names = text(alloc, b"")?;
     for info in bound.variables().as_slice() {
         push(&mut names, &info.full)?;
     }
-    let want: &[u8] =
-        b" ca::cell ca::live wave::phi wave::total diff::u diff::total control::count";
-    assert_eq!(rt; names.as_slice(), want, "variables");
-    let parameters = bound.parameters().as_slice();
-    assert_eq!(rt; parameters.len(), 54, "how many parameters");
-    assert_eq!(rt; parameters[34].ranges.len(), 2, "ranges of ca::rule");
+    Ok(names)
+}
+
+const VARIABLES: &[u8] =
+    b" ca::cell ca::live wave::phi wave::total diff::u diff::total control::count";
+
+/// Tests the name and the thorn of the parameter at a place.
+fn has_parameter(parameters: &[Param], place: usize, full: &str, thorn: u32) -> Result<(), Fail> {
+    let found = parameters
+        .get(place)
+        .map(|it| (it.full.as_slice(), it.thorn));
+    same(&place, &found, &Some((full.as_bytes(), thorn)))
+}
+
+/// Tests how many parameters there are, and how many ranges `ca::rule` has.
+fn has_ranges(parameters: &[Param]) -> Result<(), Fail> {
+    same(&"how many parameters", &parameters.len(), &54)?;
+    let ranges = parameters.get(34).map(|it| it.ranges.len());
+    same(&"ranges of ca::rule", &ranges, &Some(2))
+}
+
+#[test]
+fn sample_thorns_have_their_variables_and_parameters(rt: HostRuntime) -> Result<(), Fail> {
+    let alloc = rt.alloc();
+    let bound = bound(alloc, &[ELEMCA, WAVE, HEAT, CONTROL, EXTENSION])?;
+    let names = variable_names(alloc, &bound)?;
+    same(&"variables", &names.as_slice(), &VARIABLES)?;
+    has_ranges(bound.parameters().as_slice())?;
     for (place, full, thorn) in PARAMETERS {
-        match parameters.get(*place) {
-            Some(parameter) => {
-                let found = (parameter.full.as_slice(), parameter.thorn);
-                assert_eq!(rt; found, (full.as_bytes(), *thorn), "{full}");
-            }
-            None => panic!(rt; "no parameter {place}"),
-        }
+        has_parameter(bound.parameters().as_slice(), *place, full, *thorn)?;
     }
     Ok(())
 }

@@ -1,9 +1,10 @@
 //! Thorns by their files, and the words of faults.
 
 use cx_bind::{Bound, Thorn, bind};
-use cx_conf::read_configuration;
-use cx_iface::read_interface;
-use cx_param::read_params;
+use cx_conf::{Configuration, read_configuration};
+use cx_iface::{Interface, read_interface};
+use cx_param::{ParamDecl, read_params};
+use cx_parfile::{Settings, read_parfile};
 use cx_scope::ScopeFault;
 use cx_text::{List, Style, Text, tokens};
 use std::alloc::Global;
@@ -16,14 +17,29 @@ pub(crate) fn text(alloc: Global, bytes: &[u8]) -> Result<Text, Fail> {
     Ok(Text::from_slice(alloc, bytes)?)
 }
 
+fn interface_of(alloc: Global, bytes: &[u8]) -> Result<Interface, Fail> {
+    let tokens = tokens(alloc, bytes, Style::Ccl)?;
+    Ok(read_interface(alloc, &tokens)?)
+}
+
+fn params_of(alloc: Global, bytes: &[u8]) -> Result<List<ParamDecl>, Fail> {
+    let tokens = tokens(alloc, bytes, Style::Ccl)?;
+    Ok(read_params(alloc, &tokens)?)
+}
+
+fn configuration_of(alloc: Global, bytes: &[u8]) -> Result<Configuration, Fail> {
+    let tokens = tokens(alloc, bytes, Style::Ccl)?;
+    Ok(read_configuration(alloc, &tokens)?)
+}
+
 /// The thorn of these files.
 pub(crate) fn thorn(alloc: Global, files: Files) -> Result<Thorn, Fail> {
     Ok(Thorn {
         arrangement: text(alloc, b"Integer")?,
         name: text(alloc, files.0)?,
-        interface: read_interface(alloc, &tokens(alloc, files.1, Style::Ccl)?)?,
-        params: read_params(alloc, &tokens(alloc, files.2, Style::Ccl)?)?,
-        conf: read_configuration(alloc, &tokens(alloc, files.3, Style::Ccl)?)?,
+        interface: interface_of(alloc, files.1)?,
+        params: params_of(alloc, files.2)?,
+        conf: configuration_of(alloc, files.3)?,
     })
 }
 
@@ -35,9 +51,17 @@ pub(crate) fn thorns(alloc: Global, all: &[Files]) -> Result<List<Thorn>, Fail> 
     Ok(thorns)
 }
 
+/// The settings of a parameter file.
+pub(crate) fn settings_of(alloc: Global, file: &str) -> Result<Settings, Fail> {
+    let base = text(alloc, b"box")?;
+    let tokens = tokens(alloc, file.as_bytes(), Style::Par)?;
+    Ok(read_parfile(alloc, &tokens, &base)?)
+}
+
 /// The thorns of these files, which fit each other.
 pub(crate) fn bound(alloc: Global, all: &[Files]) -> Result<Bound, Fail> {
-    Ok(bind(alloc, thorns(alloc, all)?)?)
+    let thorns = thorns(alloc, all)?;
+    Ok(bind(alloc, thorns)?)
 }
 
 /// A word and a name.

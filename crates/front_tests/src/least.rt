@@ -4,6 +4,7 @@ use cx_order_least::{Sorted, least_order};
 use cx_text::List;
 use std::alloc::Global;
 use std::test::Fail;
+use test_cases::same;
 
 /// How many numbers there are, pairs of them, and the least order.
 const ORDERS: &[(usize, &[(usize, usize)], &[usize])] = &[
@@ -38,13 +39,27 @@ fn sorted(
     }
 }
 
+/// Tests a row of `ORDERS` or of `CYCLES`.
+fn is_sorted(
+    alloc: Global,
+    is_order: bool,
+    count: usize,
+    pairs: &[(usize, usize)],
+    want: &[usize],
+) -> Result<(), Fail> {
+    let (found, numbers) = sorted(alloc, count, pairs)?;
+    same(
+        &(count, pairs),
+        &(found, numbers.as_slice()),
+        &(is_order, want),
+    )
+}
+
 #[test]
 fn orders_are_the_least_and_cycles_begin_with_the_least(rt: HostRuntime) -> Result<(), Fail> {
     for (is_order, table) in [(true, ORDERS), (false, CYCLES)] {
         for (count, pairs, want) in table {
-            let (found, numbers) = sorted(rt.alloc(), *count, pairs)?;
-            let found = (found, numbers.as_slice());
-            assert_eq!(rt; found, (is_order, *want), "{count} numbers, {pairs:?}");
+            is_sorted(rt.alloc(), is_order, *count, pairs, want)?;
         }
     }
     Ok(())

@@ -1,45 +1,40 @@
 //! Schedules of bound thorns, and what ordering says of them.
 
-use cx_bind::{Bound, Thorn, bind};
-use cx_conf::Configuration;
+use crate::common;
+use crate::common::{of_one, scope_words, settings_of, text, thorn};
+use cx_bind::{Bound, bind};
 use cx_expr::ExprFault;
-use cx_iface::read_interface;
 use cx_order::{OrderFault, Ordered, order};
-use cx_param::read_params;
-use cx_parfile::read_parfile;
 use cx_sched::{ScheduleFile, read_schedule};
-use cx_scope::ScopeFault;
 use cx_text::{List, Style, Text, tokens};
 use cx_values::assign;
 use sample_files::elemca;
 use std::alloc::Global;
-use std::process::Abort;
 use std::test::Fail;
+use test_cases::same;
 
-/// A thorn's name, and its interface, param and schedule files.
+/// A thorn's files, and its schedule file.
 #[derive(Clone, Copy)]
 struct Files<'a> {
-    name: &'a [u8],
-    interface: &'a [u8],
-    params: &'a [u8],
+    thorn: common::Files,
     schedule: &'a [u8],
 }
 
 /// A thorn with the private parameter `on`, which is 1.
-fn with_parameter<'a>(name: &'a [u8], interface: &'a [u8], schedule: &'a [u8]) -> Files<'a> {
+fn with_parameter<'a>(
+    name: &'static [u8],
+    interface: &'static [u8],
+    schedule: &'a [u8],
+) -> Files<'a> {
     Files {
-        name,
-        interface,
-        params: b"private:\nINT on { 0:9 } 1\n",
+        thorn: (name, interface, b"private:\nINT on { 0:9 } 1\n", b""),
         schedule,
     }
 }
 
 /// The automaton.
 const AUTOMATON: Files<'static> = Files {
-    name: b"ElemCA",
-    interface: elemca::INTERFACE,
-    params: elemca::PARAM,
+    thorn: (b"ElemCA", elemca::INTERFACE, elemca::PARAM, b""),
     schedule: elemca::SCHEDULE,
 };
 
@@ -66,61 +61,37 @@ bin RECOVER_VARIABLES not run
 bin POST_RECOVER_VARIABLES not run
 ";
 
-fn text(alloc: Global, bytes: &[u8]) -> Result<Text, Fail> {
-    Ok(Text::from_slice(alloc, bytes)?)
-}
-
-fn thorn(alloc: Global, files: Files<'_>) -> Result<Thorn, Fail> {
-    Ok(Thorn {
-        arrangement: text(alloc, b"Integer")?,
-        name: text(alloc, files.name)?,
-        interface: read_interface(alloc, &tokens(alloc, files.interface, Style::Ccl)?)?,
-        params: read_params(alloc, &tokens(alloc, files.params, Style::Ccl)?)?,
-        conf: Configuration {
-            provides: List::empty(alloc),
-            requires_: List::empty(alloc),
-            thorns: List::empty(alloc),
-            optional: List::empty(alloc),
-        },
-    })
-}
-
-fn bound(alloc: Global, all: &[Files<'_>]) -> Result<Bound, Fail> {
+fn bound_of(alloc: Global, all: &[Files<'_>]) -> Result<Bound, Fail> {
     let mut thorns = List::empty(alloc);
     for files in all {
-        thorns.push(thorn(alloc, *files)?)?;
+        thorns.push(thorn(alloc, files.thorn)?)?;
     }
     Ok(bind(alloc, thorns)?)
+}
+
+fn schedule_of(alloc: Global, bytes: &[u8]) -> Result<ScheduleFile, Fail> {
+    let tokens = tokens(alloc, bytes, Style::Ccl)?;
+    Ok(read_schedule(alloc, &tokens)?)
 }
 
 fn schedules(alloc: Global, all: &[Files<'_>]) -> Result<List<ScheduleFile>, Fail> {
     let mut schedules = List::empty(alloc);
     for files in all {
-        schedules.push(read_schedule(alloc, &tokens(alloc, files.schedule, Style::Ccl)?)?)?;
+        schedules.push(schedule_of(alloc, files.schedule)?)?;
     }
     Ok(schedules)
 }
 
 /// What ordering says of thorns whose parameters have their defaults.
 fn ordered(alloc: Global, all: &[Files<'_>]) -> Result<Option<Result<Ordered, OrderFault>>, Fail> {
-    let bound = bound(alloc, all)?;
+    let bound = bound_of(alloc, all)?;
     let schedules = schedules(alloc, all)?;
-    let settings = read_parfile(
-        alloc,
-        &tokens(alloc, b"ActiveThorns = \"A\"\n", Style::Par)?,
-        &text(alloc, b"box")?,
-    )?;
+    let settings = settings_of(alloc, "ActiveThorns = \"A\"\n")?;
     let values = assign(alloc, &bound, &settings)?;
     if schedules.len() != bound.thorns().len() {
         return Ok(None);
     }
     Ok(Some(order(alloc, &bound, &schedules, &values)))
-}
-
-fn of_one(alloc: Global, word: &[u8], name: &Text) -> Result<Text, Fail> {
-    let mut words = text(alloc, word)?;
-    words.push_slice(name.as_slice())?;
-    Ok(words)
 }
 
 fn of_two(alloc: Global, word: &[u8], first: &Text, second: &Text) -> Result<Text, Fail> {
@@ -145,18 +116,6 @@ fn expr_words(alloc: Global, fault: &ExprFault) -> Result<Text, Fail> {
         ExprFault::NotNumber(name) => of_one(alloc, b"NotNumber ", name),
         ExprFault::NotText(name) => of_one(alloc, b"NotText ", name),
         ExprFault::Range(sign) => of_one(alloc, b"Range ", sign),
-    }
-}
-
-fn scope_words(alloc: Global, fault: &ScopeFault) -> Result<Text, Fail> {
-    match fault {
-        ScopeFault::NotFound(name) => of_one(alloc, b"NotFound ", name),
-        ScopeFault::Hidden(name) => of_one(alloc, b"Hidden ", name),
-        ScopeFault::NoStorage(name) => of_one(alloc, b"NoStorage ", name),
-        ScopeFault::NoLevel(name) => of_one(alloc, b"NoLevel ", name),
-        ScopeFault::NotScalar(name) => of_one(alloc, b"NotScalar ", name),
-        ScopeFault::NotGrid(name) => of_one(alloc, b"NotGrid ", name),
-        ScopeFault::Memory => text(alloc, b"Memory"),
     }
 }
 
@@ -309,21 +268,21 @@ const FAULTS: &[(&str, &str)] = &[
     ),
 ];
 
+/// Tests the automaton's schedule, its stored levels, and how many items it has.
+fn is_automaton(ordered: &Ordered) -> Result<(), Fail> {
+    let schedule = ordered.text.as_slice();
+    same(&"the schedule", &schedule, &AUTOMATON_TEXT.as_bytes())?;
+    let storage = ordered.storage.as_slice();
+    same(&"stored levels", &storage, &[1u8, 1].as_slice())?;
+    same(&"how many items", &ordered.items.len(), &4)
+}
+
 #[test]
 fn the_automaton(rt: HostRuntime) -> Result<(), Fail> {
-    let alloc = rt.alloc();
-    match ordered(alloc, &[AUTOMATON])? {
-        Some(Ok(ordered)) => {
-            let schedule = ordered.text.as_slice();
-            assert_eq!(rt; schedule, AUTOMATON_TEXT.as_bytes(), "the schedule");
-            let levels = [1u8, 1];
-            let storage = ordered.storage.as_slice();
-            assert_eq!(rt; storage, levels.as_slice(), "stored levels");
-            assert_eq!(rt; ordered.items.len(), 4, "how many items");
-        }
-        _ => panic!(rt; "the automaton has no order"),
+    match ordered(rt.alloc(), &[AUTOMATON])? {
+        Some(Ok(ordered)) => is_automaton(&ordered),
+        _ => Err(Fail::new("the automaton has no order")),
     }
-    Ok(())
 }
 
 const FIELD: &[u8] =
@@ -353,16 +312,31 @@ const PAIRS: &[(&str, &str, &str)] = &[
     ),
 ];
 
-fn assert_told(
-    rt: &impl Abort,
-    alloc: Global,
-    thorns: &[Files<'_>],
-    name: &str,
-    want: &str,
-) -> Result<(), Fail> {
+/// Tests what EVOL does, or the fault.
+fn is_told(alloc: Global, thorns: &[Files<'_>], name: &str, want: &str) -> Result<(), Fail> {
     let told = told(alloc, thorns)?;
-    assert_eq!(rt; told.as_slice(), want.as_bytes(), "{name}");
-    Ok(())
+    same(&name, &told.as_slice(), &want.as_bytes())
+}
+
+/// The same of a thorn T alone.
+fn is_told_of_one(alloc: Global, schedule: &str, want: &str) -> Result<(), Fail> {
+    let thorn = with_parameter(b"T", b"implements: t\n", schedule.as_bytes());
+    is_told(alloc, &[thorn], schedule, want)
+}
+
+/// The same of a thorn with fields.
+fn is_told_of_fields(alloc: Global, schedule: &str, want: &str) -> Result<(), Fail> {
+    let thorn = with_parameter(b"W", FIELD, schedule.as_bytes());
+    is_told(alloc, &[thorn], schedule, want)
+}
+
+/// The same of two thorns.
+fn is_told_of_two(alloc: Global, first: &str, second: &str, want: &str) -> Result<(), Fail> {
+    let thorns = [
+        with_parameter(b"One", b"implements: one\n", first.as_bytes()),
+        with_parameter(b"Two", b"implements: two\n", second.as_bytes()),
+    ];
+    is_told(alloc, &thorns, first, want)
 }
 
 #[test]
@@ -370,13 +344,11 @@ fn least_orders_and_faults_of_a_thorn(rt: HostRuntime) -> Result<(), Fail> {
     let alloc = rt.alloc();
     for table in [ORDERS, FAULTS] {
         for (schedule, want) in table {
-            let thorn = with_parameter(b"T", b"implements: t\n", schedule.as_bytes());
-            assert_told(&rt, alloc, &[thorn], schedule, want)?;
+            is_told_of_one(alloc, schedule, want)?;
         }
     }
     for (schedule, want) in FIELDS {
-        let thorn = with_parameter(b"W", FIELD, schedule.as_bytes());
-        assert_told(&rt, alloc, &[thorn], schedule, want)?;
+        is_told_of_fields(alloc, schedule, want)?;
     }
     Ok(())
 }
@@ -384,12 +356,21 @@ fn least_orders_and_faults_of_a_thorn(rt: HostRuntime) -> Result<(), Fail> {
 #[test]
 fn two_thorns_in_one_bin(rt: HostRuntime) -> Result<(), Fail> {
     for (first, second, want) in PAIRS {
-        let thorns = [
-            with_parameter(b"One", b"implements: one\n", first.as_bytes()),
-            with_parameter(b"Two", b"implements: two\n", second.as_bytes()),
-        ];
-        assert_told(&rt, rt.alloc(), &thorns, first, want)?;
+        is_told_of_two(rt.alloc(), first, second, want)?;
     }
+    Ok(())
+}
+
+/// Adds a group in another one.
+fn push_group(
+    alloc: Global,
+    schedule: &mut Text,
+    level: u32,
+    outer: u32,
+    copy: u32,
+) -> Result<(), Fail> {
+    let line = format!(in alloc; "schedule GROUP G{level} IN G{outer} AS c{copy} {{ }}\n")?;
+    schedule.push_slice(line.as_bytes())?;
     Ok(())
 }
 
@@ -399,8 +380,7 @@ fn nested_groups(alloc: Global, levels: u32, copies: u32) -> Result<Text, Fail> 
     for level in 1..levels {
         let outer = level.saturating_sub(1);
         for copy in 0..copies {
-            let line = format!(in alloc; "schedule GROUP G{level} IN G{outer} AS c{copy} {{ }}\n")?;
-            schedule.push_slice(line.as_bytes())?;
+            push_group(alloc, &mut schedule, level, outer, copy)?;
         }
     }
     Ok(schedule)
@@ -414,34 +394,51 @@ const NESTED: &[(u32, u32, &str)] = &[
     (31, 5, "Limit nodes 18446744073709551615"),
 ];
 
+/// Adds an entry that must run before the four that are numbered below it.
+fn push_entry(alloc: Global, schedule: &mut Text, entry: u32) -> Result<(), Fail> {
+    let (a, b) = (entry.saturating_sub(1), entry.saturating_sub(2));
+    let (c, d) = (entry.saturating_sub(3), entry.saturating_sub(4));
+    let line = format!(in alloc; "schedule e{entry} AT EVOL BEFORE (e{a} e{b} e{c} e{d}) {{ }}\n")?;
+    schedule.push_slice(line.as_bytes())?;
+    Ok(())
+}
+
 /// Entries with the numbers below an end from 4 on, each of which must run before the four that are numbered below it.
 fn backward(alloc: Global, end: u32) -> Result<Text, Fail> {
     let mut schedule = text(alloc, b"")?;
     for entry in 4..end {
-        let (a, b) = (entry.saturating_sub(1), entry.saturating_sub(2));
-        let (c, d) = (entry.saturating_sub(3), entry.saturating_sub(4));
-        let line = format!(in alloc;
-            "schedule e{entry} AT EVOL BEFORE (e{a} e{b} e{c} e{d}) {{ }}\n"
-        )?;
-        schedule.push_slice(line.as_bytes())?;
+        push_entry(alloc, &mut schedule, entry)?;
     }
     Ok(schedule)
+}
+
+/// Tests the limit that nested groups pass.
+fn is_limited(alloc: Global, levels: u32, copies: u32, want: &str) -> Result<(), Fail> {
+    let schedule = nested_groups(alloc, levels, copies)?;
+    let thorn = with_parameter(b"T", b"implements: t\n", schedule.as_slice());
+    is_told(alloc, &[thorn], want, want)
+}
+
+/// What EVOL does of many entries.
+fn told_of_large(alloc: Global) -> Result<Text, Fail> {
+    let schedule = backward(alloc, 4083)?;
+    let thorn = with_parameter(b"T", b"implements: t\n", schedule.as_slice());
+    told(alloc, &[thorn])
 }
 
 #[test]
 fn nested_groups_and_a_large_bin(rt: HostRuntime) -> Result<(), Fail> {
     let alloc = rt.alloc();
     for (levels, copies, want) in NESTED {
-        let schedule = nested_groups(alloc, *levels, *copies)?;
-        let thorn = with_parameter(b"T", b"implements: t\n", schedule.as_slice());
-        assert_told(&rt, alloc, &[thorn], want, want)?;
+        is_limited(alloc, *levels, *copies, want)?;
     }
-    let schedule = backward(alloc, 4083)?;
-    let thorn = with_parameter(b"T", b"implements: t\n", schedule.as_slice());
-    let told = told(alloc, &[thorn])?;
+    let told = told_of_large(alloc)?;
     let first: &[u8] = b"  call T::e4082\n  call T::e4081\n";
-    assert!(rt; told.as_slice().starts_with(first), "a large bin");
+    same(&"a large bin", &told.as_slice().starts_with(first), &true)?;
     let last: &[u8] = b"  call T::e5\n  call T::e4\n";
-    assert!(rt; told.as_slice().ends_with(last), "a large bin's end");
-    Ok(())
+    same(
+        &"a large bin's end",
+        &told.as_slice().ends_with(last),
+        &true,
+    )
 }

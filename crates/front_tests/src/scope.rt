@@ -8,6 +8,7 @@ use cx_scope::{group_of, resolve};
 use cx_text::{List, Text};
 use std::alloc::Global;
 use std::test::Fail;
+use test_cases::same;
 
 /// A name: what stands before `::`, the name, and the number in brackets.
 type Name = (Option<&'static str>, &'static str, Option<u32>);
@@ -171,18 +172,41 @@ const TWIN_NAMES: &[Case] = &[
     (1, (None, "v", Some(0)), "Hidden v[0]"),
 ];
 
+/// Tests what a name means to a thorn.
+fn means(
+    alloc: Global,
+    bound: &Bound,
+    storage: &List<u8>,
+    thorn: u32,
+    name: Name,
+    want: &str,
+) -> Result<(), Fail> {
+    let told = resolved(alloc, bound, storage, thorn, name)?;
+    same(&(thorn, name), &told.as_slice(), &want.as_bytes())
+}
+
+/// Tests which group a name means to a thorn.
+fn means_group(
+    alloc: Global,
+    bound: &Bound,
+    thorn: u32,
+    name: Name,
+    want: &str,
+) -> Result<(), Fail> {
+    let told = grouped(alloc, bound, thorn, name)?;
+    same(&(thorn, name), &told.as_slice(), &want.as_bytes())
+}
+
 #[test]
 fn names_through_ancestors_and_friends(rt: HostRuntime) -> Result<(), Fail> {
     let alloc = rt.alloc();
     let bound = bound(alloc, FAMILY)?;
     let storage = stored(alloc, &[1, 1, 0, 1])?;
     for (thorn, name, want) in FAMILY_NAMES {
-        let told = resolved(alloc, &bound, &storage, *thorn, *name)?;
-        assert_eq!(rt; told.as_slice(), want.as_bytes(), "{thorn} {name:?}");
+        means(alloc, &bound, &storage, *thorn, *name, want)?;
     }
     for (thorn, name, want) in FAMILY_GROUPS {
-        let told = grouped(alloc, &bound, *thorn, *name)?;
-        assert_eq!(rt; told.as_slice(), want.as_bytes(), "{thorn} {name:?}");
+        means_group(alloc, &bound, *thorn, *name, want)?;
     }
     Ok(())
 }
@@ -193,8 +217,7 @@ fn equal_names_copies_and_past_levels(rt: HostRuntime) -> Result<(), Fail> {
     let bound = bound(alloc, TWINS)?;
     let storage = stored(alloc, &[3, 1, 2, 1, 1, 1, 2, 2, 1, 1, 2])?;
     for (thorn, name, want) in TWIN_NAMES {
-        let told = resolved(alloc, &bound, &storage, *thorn, *name)?;
-        assert_eq!(rt; told.as_slice(), want.as_bytes(), "{thorn} {name:?}");
+        means(alloc, &bound, &storage, *thorn, *name, want)?;
     }
     Ok(())
 }

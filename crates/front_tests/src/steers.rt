@@ -1,12 +1,13 @@
 //! Steps of parameters by the lines of steer files, and the faults of lines.
 
-use crate::common::{Files, bound, text};
+use crate::common::{Files, bound, settings_of};
 use crate::values::{named, words};
-use cx_parfile::{read_parfile, read_steer};
+use cx_parfile::{SteerLine, read_steer};
 use cx_text::{List, Style, tokens};
 use cx_values::{SteerStep, ValueFault, assign, steer};
 use std::alloc::Global;
 use std::test::Fail;
+use test_cases::same;
 
 const WAVE: Files = (
     b"WaveInt",
@@ -25,6 +26,12 @@ const WIDER: Files = (
     b"",
 );
 
+/// The lines of a steer file.
+fn steer_lines(alloc: Global, lines: &str) -> Result<List<SteerLine>, Fail> {
+    let tokens = tokens(alloc, lines.as_bytes(), Style::Par)?;
+    Ok(read_steer(alloc, &tokens)?)
+}
+
 /// The answer for a parameter file and a steer file.
 fn steered(
     alloc: Global,
@@ -32,10 +39,9 @@ fn steered(
     lines: &str,
 ) -> Result<Result<List<SteerStep>, ValueFault>, Fail> {
     let bound = bound(alloc, &[WAVE, WIDER])?;
-    let base = text(alloc, b"box")?;
-    let settings = read_parfile(alloc, &tokens(alloc, file.as_bytes(), Style::Par)?, &base)?;
+    let settings = settings_of(alloc, file)?;
     let values = assign(alloc, &bound, &settings)?;
-    let lines = read_steer(alloc, &tokens(alloc, lines.as_bytes(), Style::Par)?)?;
+    let lines = steer_lines(alloc, lines)?;
     Ok(steer(alloc, &bound, &values, &lines))
 }
 
@@ -109,20 +115,34 @@ const STEPS: &[Step] = &[
     (4, 37, None, "uniform"),
 ];
 
+/// Tests a row of `FAULTS`.
+fn has_fault(alloc: Global, row: &(&str, &str, &str, u32)) -> Result<(), Fail> {
+    let (file, lines, want, line) = *row;
+    let answer = steered(alloc, file, lines)?;
+    same(&(lines, file), &fault_of(&answer), &(want, line))
+}
+
+/// Tests a step.
+fn is_step(alloc: Global, step: &SteerStep, want: &Step) -> Result<(), Fail> {
+    let value = words(alloc, &step.value)?;
+    let found = (step.at, step.param, step.index, value.as_slice());
+    same(want, &found, &(want.0, want.1, want.2, want.3.as_bytes()))
+}
+
 #[test]
-fn lines_give_steps_or_have_their_first_fault(rt: HostRuntime) -> Result<(), Fail> {
-    let alloc = rt.alloc();
-    for (file, lines, want, line) in FAULTS {
-        let fault = fault_of(&steered(alloc, file, lines)?);
-        assert_eq!(rt; fault, (*want, *line), "{lines:?} with {file:?}");
+fn lines_have_their_first_fault(rt: HostRuntime) -> Result<(), Fail> {
+    for row in FAULTS {
+        has_fault(rt.alloc(), row)?;
     }
-    let steps = steered(alloc, PLAIN, LINES)??;
-    assert_eq!(rt; steps.len(), STEPS.len(), "how many steps");
+    Ok(())
+}
+
+#[test]
+fn lines_give_steps(rt: HostRuntime) -> Result<(), Fail> {
+    let steps = steered(rt.alloc(), PLAIN, LINES)??;
+    same(&"how many steps", &steps.len(), &STEPS.len())?;
     for (step, want) in steps.as_slice().iter().zip(STEPS) {
-        let found = (step.at, step.param, step.index);
-        assert_eq!(rt; found, (want.0, want.1, want.2), "{want:?}");
-        let value = words(alloc, &step.value)?;
-        assert_eq!(rt; value.as_slice(), want.3.as_bytes(), "{want:?}");
+        is_step(rt.alloc(), step, want)?;
     }
     Ok(())
 }

@@ -1,13 +1,13 @@
 //! Values that parameter files give the parameters of some thorns, and the faults of settings.
 
-use crate::common::{Files, bound, text};
+use crate::common::{Files, bound, settings_of, text};
 use cx_expr::{ExprFault, eval, read_expr};
 use cx_param::Value;
-use cx_parfile::read_parfile;
 use cx_text::{Style, Text, tokens};
 use cx_values::{ValueFault, Values, assign};
 use std::alloc::Global;
 use std::test::Fail;
+use test_cases::same;
 
 const ELEMCA: Files = (
     b"ElemCA",
@@ -49,8 +49,7 @@ const ALL: &[Files] = &[ELEMCA, RANGES, WAVE, NAMES, MORE];
 
 fn values(alloc: Global, all: &[Files], file: &str) -> Result<Result<Values, ValueFault>, Fail> {
     let bound = bound(alloc, all)?;
-    let base = text(alloc, b"box")?;
-    let settings = read_parfile(alloc, &tokens(alloc, file.as_bytes(), Style::Par)?, &base)?;
+    let settings = settings_of(alloc, file)?;
     Ok(assign(alloc, &bound, &settings))
 }
 
@@ -122,16 +121,23 @@ const BAD: Files = (
     b"",
 );
 
+/// Tests a row of `FAULTS`.
+fn has_fault(alloc: Global, file: &str, want: &str, line: u32) -> Result<(), Fail> {
+    let answer = values(alloc, ALL, file)?;
+    same(&file, &fault_of(&answer), &(want, line))
+}
+
 #[test]
 fn settings_and_defaults_have_their_first_fault(rt: HostRuntime) -> Result<(), Fail> {
     for (file, want, line) in FAULTS {
-        let fault = fault_of(&values(rt.alloc(), ALL, file)?);
-        assert_eq!(rt; fault, (*want, *line), "{file:?}");
+        has_fault(rt.alloc(), file, want, *line)?;
     }
     let answer = values(rt.alloc(), &[BAD], "")?;
-    let want = b"bad::n".as_slice();
-    assert_eq!(rt; bad_default(&answer), want, "a bad default");
-    Ok(())
+    same(
+        &"a bad default",
+        &bad_default(&answer),
+        &b"bad::n".as_slice(),
+    )
 }
 
 /// A parameter file; a parameter, an index of it, its value in words and its number.
@@ -226,14 +232,19 @@ fn is_told(alloc: Global, values: &Values, told: &Told) -> Result<bool, Fail> {
     }
 }
 
+/// Tests a row of `VALUES`.
+fn gives(alloc: Global, told: &Told) -> Result<(), Fail> {
+    let is_told = match values(alloc, ALL, told.0)? {
+        Ok(values) => is_told(alloc, &values, told)?,
+        Err(_) => false,
+    };
+    same(told, &is_told, &true)
+}
+
 #[test]
 fn settings_give_values_by_each_form_of_name(rt: HostRuntime) -> Result<(), Fail> {
-    let alloc = rt.alloc();
     for told in VALUES {
-        match values(alloc, ALL, told.0)? {
-            Ok(values) => assert!(rt; is_told(alloc, &values, told)?, "{told:?}"),
-            Err(fault) => panic!(rt; "{fault:?} of {told:?}"),
-        }
+        gives(rt.alloc(), told)?;
     }
     Ok(())
 }
@@ -276,16 +287,26 @@ const DEFAULTS: &[(&str, &str)] = &[
     ("IO::steer_file", ""),
 ];
 
+/// The value of a parameter in words.
+fn value_words(alloc: Global, values: &Values, full: &str) -> Result<Text, Fail> {
+    let name = text(alloc, full.as_bytes())?;
+    match values.get(&name, None) {
+        Some(value) => words(alloc, value),
+        None => text(alloc, b"no parameter"),
+    }
+}
+
+/// Tests the value of a parameter.
+fn has_value(alloc: Global, values: &Values, full: &str, want: &str) -> Result<(), Fail> {
+    let told = value_words(alloc, values, full)?;
+    same(&full, &told.as_slice(), &want.as_bytes())
+}
+
 #[test]
 fn built_in_parameters_have_their_defaults(rt: HostRuntime) -> Result<(), Fail> {
-    let alloc = rt.alloc();
-    let values = values(alloc, &[], "")??;
+    let values = values(rt.alloc(), &[], "")??;
     for (full, want) in DEFAULTS {
-        let told = match values.get(&text(alloc, full.as_bytes())?, None) {
-            Some(value) => words(alloc, value)?,
-            None => text(alloc, b"no parameter")?,
-        };
-        assert_eq!(rt; told.as_slice(), want.as_bytes(), "{full}");
+        has_value(rt.alloc(), &values, full, want)?;
     }
     Ok(())
 }
@@ -321,20 +342,31 @@ fn evaluated(
     thorn: u32,
     source: &str,
 ) -> Result<Result<i64, &'static str>, Fail> {
-    let (expr, _) = read_expr(alloc, &tokens(alloc, source.as_bytes(), Style::Ccl)?, 0)?;
+    let tokens = tokens(alloc, source.as_bytes(), Style::Ccl)?;
+    let (expr, _) = read_expr(alloc, &tokens, 0)?;
     match eval(&expr, &values.lookup(thorn)) {
         Ok(n) => Ok(Ok(n)),
         Err(fault) => Ok(Err(word(fault))),
     }
 }
 
+/// Tests what an expression comes to in a thorn.
+fn comes_to(
+    alloc: Global,
+    values: &Values,
+    thorn: u32,
+    source: &str,
+    want: Result<i64, &str>,
+) -> Result<(), Fail> {
+    let found = evaluated(alloc, values, thorn, source)?;
+    same(&(source, thorn), &found, &want)
+}
+
 #[test]
 fn expressions_see_a_thorns_parameters(rt: HostRuntime) -> Result<(), Fail> {
-    let alloc = rt.alloc();
-    let values = values(alloc, ALL, "")??;
+    let values = values(rt.alloc(), ALL, "")??;
     for (thorn, source, want) in EXPRESSIONS {
-        let found = evaluated(alloc, &values, *thorn, source)?;
-        assert_eq!(rt; found, *want, "{source} in thorn {thorn}");
+        comes_to(rt.alloc(), &values, *thorn, source, *want)?;
     }
     Ok(())
 }

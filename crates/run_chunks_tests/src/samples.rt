@@ -163,9 +163,9 @@ pub(crate) fn job(alloc: Global) -> Result<Job, Memory>
 
 /// The bytes of a file.
 fn bytes_of(texts: &[&'static [u8]], file: u32) -> &'static [u8] {
-    for (place, given) in FILES.iter().enumerate() {
-        if *given == file && place < texts.len() {
-            return texts[place];
+    for (given, bytes) in FILES.iter().zip(texts) {
+        if *given == file {
+            return bytes;
         }
     }
     b""

@@ -3,7 +3,7 @@
 use crate::commands::{has_outputs, words};
 use crate::samples::{CELLS, FIRST, LIVE, SECOND, disk};
 use cx_disk::{FailingDisk, FuseDisk, MemoryDisk};
-use cx_text::List;
+use cx_text::{List, Memory};
 use std::alloc::Global;
 use std::test::Fail;
 use test_cases::same;
@@ -24,11 +24,15 @@ fn keeps_image(alloc: Global, cuts: bool, calls: u64, choice: u64) -> Result<boo
     Ok(has_outputs(&image, &TEXTS))
 }
 
+/// A disk of which one call fails.
+fn failing_disk(alloc: Global, call: u64) -> Result<FailingDisk, Memory> {
+    let calls = Vec::from_array(alloc, [call])?;
+    Ok(FailingDisk::new(disk(alloc, &TEXTS)?, List::new(calls)))
+}
+
 /// The disk after a command of which one call fails.
 fn after_failure(alloc: Global, cuts: bool, call: u64) -> Result<MemoryDisk, Fail> {
-    let mut fail = List::empty(alloc);
-    fail.push(call)?;
-    let mut disk = FailingDisk::new(disk(alloc, &TEXTS)?, fail);
+    let mut disk = failing_disk(alloc, call)?;
     let _words = words(alloc, &mut disk, cuts)?;
     Ok(disk.into_inner())
 }

@@ -7,7 +7,7 @@ use crate::schedules;
 use cx_run::{FolderShelf, MemoryShelf, Shelf};
 use cx_text::{List, Memory, Text};
 use sample_files::{FILES, File};
-use sample_runs::samples::{BOX, CA, CA_OUTPUT, CONTROL, GLIDER, HEAT, LIFE, WAVE};
+use sample_runs::samples::{BOX, CA, CA_OUTPUT, CONTROL, GLIDER, HEAT, LIFE, USAGE, WAVE};
 use sample_runs::{answer_to, shelf, shelf_with};
 use std::alloc::Global;
 use std::fs;
@@ -60,16 +60,6 @@ const PARAMETER_FILES: &[File] = &[
         bytes: b"a[1023] = 1\na[1024] = 1\n",
     },
 ];
-
-const USAGE: &str = "usage: cactus run FILE [--turns SEED]\n\
-        \x20      cactus check FILE\n\
-        \x20      cactus schedule FILE\n\
-        \x20      cactus describe FILE\n\
-        \x20      cactus parts FILE\n\
-        \x20      cactus make SEED SIZE\n\
-        \x20      cactus chunk FILE\n\
-        \x20      cactus recombine FILE\n\
-        \x20      cactus batch FILE FILE [FILE ...]\n";
 
 /// What `describe` prints before the schedule text.
 const KEY_BEGINS: &[u8] = b"thorn Integer/ElemCA ca\n\

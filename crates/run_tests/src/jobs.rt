@@ -1,6 +1,8 @@
 //! Jobs that run, and what comes of them.
 use sample_files::File;
-use sample_runs::samples::{BOX, CA, CA_OUTPUT, CONTROL, GLIDER, HEAT, LIFE, WAVE};
+use sample_runs::samples::{
+    BOX, CA, CA_OUTPUT, CONTROL, GLIDER, HEAT, LEAVES, LIFE, SHORT_HEAT, WAVE,
+};
 
 /// A job that runs, and what comes of it.
 pub struct Run {
@@ -445,22 +447,11 @@ pub const RUNS: &[Run] = &[
     // Numbers that leave 16 bits, and 64 bits.
     Run {
         name: "heat that leaves 16 bits",
-        file: b"ActiveThorns = \"DiffInt\"\n\
-            Cactus::cctk_itlast = 20\n\
-            driver::global_nx = 16\n\
-            driver::periodic = yes\n\
-            driver::parts_x = 4\n\
-            diff::factor = 256\n\
-            diff::amount = 100\n\
-            diff::start = 2\n\
-            IO::out_vars = \"diff::u\"\n",
+        file: LEAVES,
         more: "",
         others: &[File {
             name: "arrangements/Integer/DiffInt/interface.ccl",
-            bytes: b"implements: diff\n\
-                public:\n\
-                CCTK_INT2 evolved TYPE=GF DIM=1 { u } \"field\"\n\
-                CCTK_INT sums TYPE=SCALAR { total } \"sum\"\n",
+            bytes: SHORT_HEAT,
         }],
         status: 3,
         printed: b"ended: Overflow 7 EVOL/diff_step\n",

@@ -5,7 +5,7 @@ use cx_disk::MemoryDisk;
 use cx_run::MemoryShelf;
 use cx_text::List;
 use sample_files::File;
-use sample_runs::samples::{CA, CA_OUTPUT};
+use sample_runs::samples::{CA, CA_OUTPUT, LEAVES, SHORT_HEAT};
 use sample_runs::{Outcome, answer_on, answer_to, shelf_with};
 use std::test::Fail;
 use test_cases::same;
@@ -179,27 +179,13 @@ pub(crate) const THORN_JOBS: &[Thorn] = &[
     },
 ];
 
-/// Numbers that leave 16 bits in iteration 7, in four parts.
-const LEAVES: &[u8] = b"ActiveThorns = \"DiffInt\"\n\
-    Cactus::cctk_itlast = 20\n\
-    driver::global_nx = 16\n\
-    driver::periodic = yes\n\
-    driver::parts_x = 4\n\
-    diff::factor = 256\n\
-    diff::amount = 100\n\
-    diff::start = 2\n\
-    IO::out_vars = \"diff::u\"\n";
-
-/// The field of `LEAVES` in 16 bits.
+/// DiffInt's interface, with the field of `LEAVES` in 16 bits.
 const SHORT_FIELD: &[File] = &[File {
     name: "arrangements/Integer/DiffInt/interface.ccl",
-    bytes: b"implements: diff\n\
-        public:\n\
-        CCTK_INT2 evolved TYPE=GF DIM=1 { u } \"field\"\n\
-        CCTK_INT sums TYPE=SCALAR { total } \"sum\"\n",
+    bytes: SHORT_HEAT,
 }];
 
-/// Its output up to iteration 6.
+/// The output of `LEAVES` up to iteration 6.
 const LEFT: &[u8] = b"# diff::u iteration 0 size 16\n\
     0 0 100 0 0 0 0 0 0 0 0 0 0 0 0 0\n\
     \n\

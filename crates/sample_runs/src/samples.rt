@@ -1,4 +1,4 @@
-//! Parameter files of examples/.
+//! Parameter files of examples/ and of several crates of tests, and what they write.
 
 pub const CA: &[u8] = b"ActiveThorns = \"ElemCA\"\n\
         Cactus::cctk_itlast = 2\n\
@@ -91,3 +91,46 @@ pub const BOX: &[u8] = b"!DESC \"a wave, heat, cells and a count, together in on
 
 /// A checkpoint in each iteration, and a start from the newest one.
 pub const EACH: &str = "IO::checkpoint_every = 1\nIO::recover = \"autoprobe\"\n";
+
+/// Waves in a box of forty points, written in iterations 0, 20 and 40: their fields and their sums, of 341 and 110 bytes.
+pub const BOX_FIELDS: &[u8] = b"# wave::phi iteration 0 size 40\n\
+    5 5 5 5 5 5 5 5 5 5 5 5 5 5 5 5 5 5 5 5 5 5 5 5 5 5 5 5 5 5 5 5 5 5 5 5 5 5 5 5\n\
+    \n\
+    # wave::phi iteration 20 size 40\n\
+    5 5 5 5 5 5 5 5 5 5 5 5 5 5 5 5 5 5 5 5 5 5 5 5 5 5 5 5 5 5 5 5 5 5 5 5 5 5 5 5\n\
+    \n\
+    # wave::phi iteration 40 size 40\n\
+    5 5 5 5 5 5 5 5 5 5 5 5 5 5 5 5 5 5 5 5 5 5 5 5 5 5 5 5 5 5 5 5 5 5 5 5 5 5 5 5\n\
+    \n";
+
+pub const BOX_SUMS: &[u8] = b"# wave::total iteration 0 value 200\n\
+    # wave::total iteration 20 value 200\n\
+    # wave::total iteration 40 value 200\n";
+
+/// Numbers that leave 16 bits in iteration 7, in four parts.
+pub const LEAVES: &[u8] = b"ActiveThorns = \"DiffInt\"\n\
+    Cactus::cctk_itlast = 20\n\
+    driver::global_nx = 16\n\
+    driver::periodic = yes\n\
+    driver::parts_x = 4\n\
+    diff::factor = 256\n\
+    diff::amount = 100\n\
+    diff::start = 2\n\
+    IO::out_vars = \"diff::u\"\n";
+
+/// DiffInt's interface, with its field in 16 bits.
+pub const SHORT_HEAT: &[u8] = b"implements: diff\n\
+    public:\n\
+    CCTK_INT2 evolved TYPE=GF DIM=1 { u } \"field\"\n\
+    CCTK_INT sums TYPE=SCALAR { total } \"sum\"\n";
+
+/// What is printed of words that aren't a command.
+pub const USAGE: &str = "usage: cactus run FILE [--turns SEED]\n\
+        \x20      cactus check FILE\n\
+        \x20      cactus schedule FILE\n\
+        \x20      cactus describe FILE\n\
+        \x20      cactus parts FILE\n\
+        \x20      cactus make SEED SIZE\n\
+        \x20      cactus chunk FILE\n\
+        \x20      cactus recombine FILE\n\
+        \x20      cactus batch FILE FILE [FILE ...]\n";

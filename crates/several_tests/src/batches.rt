@@ -2,22 +2,11 @@
 
 use crate::calls::{call, holds, is_told};
 use crate::devices::{disks, new_list, noting, wires};
-use crate::files::{FIELDS, SUMS};
 use cx_disk::MemoryDisk;
 use cx_wire::MemoryWire;
-use sample_runs::samples::CA_OUTPUT;
+use sample_runs::samples::{BOX_FIELDS, BOX_SUMS, CA_OUTPUT, USAGE};
 use std::test::Fail;
 use test_cases::same;
-
-const USAGE: &str = "usage: cactus run FILE [--turns SEED]\n\
-        \x20      cactus check FILE\n\
-        \x20      cactus schedule FILE\n\
-        \x20      cactus describe FILE\n\
-        \x20      cactus parts FILE\n\
-        \x20      cactus make SEED SIZE\n\
-        \x20      cactus chunk FILE\n\
-        \x20      cactus recombine FILE\n\
-        \x20      cactus batch FILE FILE [FILE ...]\n";
 
 /// What is left of a call: how many points were computed, and the devices.
 #[derive(Drop)]
@@ -33,7 +22,7 @@ fn row(rt: &HostRuntime, words: &[&str], status: u8, printed: &str) -> Result<Le
     let mut disks = disks(alloc)?;
     let mut wires = wires(alloc)?;
     let came = call(rt, words, &mut disks, &mut wires)?;
-    is_told(words, &came, status, printed)?;
+    is_told(&words, &came, status, printed)?;
     Ok(Left {
         points: came.points,
         disks,
@@ -115,8 +104,8 @@ fn automaton_and_box(rt: HostRuntime) -> Result<(), Fail> {
     let left = row(&rt, &["batch", "ca.par", "box.par"], 0, lines)?;
     same(&lines, &left.points, &4970)?;
     holds(&left.disks, 0, 9, CA_OUTPUT)?;
-    holds(&left.disks, 1, 9, FIELDS)?;
-    holds(&left.disks, 1, 10, SUMS)?;
+    holds(&left.disks, 1, 9, BOX_FIELDS)?;
+    holds(&left.disks, 1, 10, BOX_SUMS)?;
     holds(&left.disks, 2, 9, b"")?;
     gave(&left.wires, 0, 4)?;
     gave(&left.wires, 1, 480)?;
@@ -153,7 +142,7 @@ fn eight_files(rt: HostRuntime) -> Result<(), Fail> {
 fn heat_that_leaves_its_type(rt: HostRuntime) -> Result<(), Fail> {
     let lines = "d.par: ended: Overflow 7 EVOL/diff_step\nbox.par: done: iteration 40\n";
     let left = row(&rt, &["batch", "d.par", "box.par"], 3, lines)?;
-    holds(&left.disks, 1, 9, FIELDS)
+    holds(&left.disks, 1, 9, BOX_FIELDS)
 }
 
 /// Whether a call of the first job comes between two of the second one, and another after them. So neither waits for the other's end.

@@ -10,6 +10,7 @@ use cx_rule::Meter;
 use cx_turns::SeededTurns;
 use cx_wire::Wire;
 use sample_runs::{shelf, sink, texts};
+use std::fmt::Debug;
 use std::test::Fail;
 use test_cases::same;
 
@@ -52,9 +53,14 @@ pub(crate) fn call<D: Disk, W: Wire>(
 }
 
 /// Tests what a call came to.
-pub(crate) fn is_told(words: &[&str], came: &Came, status: u8, printed: &str) -> Result<(), Fail> {
-    same(&words, &came.status, &status)?;
-    same(&words, &came.printed.as_slice(), &printed.as_bytes())
+pub(crate) fn is_told<C: Debug>(
+    case: &C,
+    came: &Came,
+    status: u8,
+    printed: &str,
+) -> Result<(), Fail> {
+    same(case, &came.status, &status)?;
+    same(case, &came.printed.as_slice(), &printed.as_bytes())
 }
 
 /// Tests what a disk holds of a file.

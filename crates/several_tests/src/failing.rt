@@ -2,9 +2,8 @@
 
 use crate::calls::{Came, call, holds, is_told};
 use crate::devices::{cut_wires, disks, fuses, wires};
-use crate::files::{FIELDS, SUMS};
 use cx_disk::{FuseDisk, MemoryDisk};
-use sample_runs::samples::CA_OUTPUT;
+use sample_runs::samples::{BOX_FIELDS, BOX_SUMS, CA_OUTPUT};
 use std::alloc::Global;
 use std::test::Fail;
 use test_cases::same;
@@ -45,8 +44,8 @@ fn stopped(rt: &HostRuntime, words: &[&str], calls: u64) -> Result<(Came, Vec<Me
 fn disk_fails(rt: &HostRuntime, calls: u64) -> Result<(), Fail> {
     let (came, left) = stopped(rt, BOX_FIRST, calls)?;
     let lines = "box.par: done: iteration 40\nca.par: device: disk\n";
-    is_told(BOX_FIRST, &came, 4, lines)?;
-    holds(&left, 0, 9, FIELDS)
+    is_told(&calls, &came, 4, lines)?;
+    holds(&left, 0, 9, BOX_FIELDS)
 }
 
 #[test]
@@ -58,29 +57,31 @@ fn each_call_of_a_disk_fails(rt: HostRuntime) -> Result<(), Fail> {
     same(&"with all calls", &came.status, &0)
 }
 
-/// The status where a call of the automaton's wire fails, after a test that the box ends as ever.
-fn wire_fails(rt: &HostRuntime, call_that_fails: u64) -> Result<u8, Fail> {
+/// Tests that the box ends as ever, and what is told of the automaton, whose wire fails in this call.
+fn wire_fails(rt: &HostRuntime, call_that_fails: u64, status: u8, lines: &str) -> Result<(), Fail> {
     let alloc = rt.alloc();
     let mut disks = disks(alloc)?;
     let mut wires = cut_wires(alloc, call_that_fails)?;
     let came = call(rt, BOX_FIRST, &mut disks, &mut wires)?;
-    holds(&disks, 0, 9, FIELDS)?;
-    Ok(came.status)
+    is_told(&call_that_fails, &came, status, lines)?;
+    holds(&disks, 0, 9, BOX_FIELDS)
 }
 
 #[test]
 fn each_call_of_a_wire_fails(rt: HostRuntime) -> Result<(), Fail> {
+    let lines = "box.par: done: iteration 40\nca.par: device: wire\n";
     for calls in 0..WIRE_CALLS {
-        same(&calls, &wire_fails(&rt, calls)?, &4)?;
+        wire_fails(&rt, calls, 4, lines)?;
     }
-    same(&"with all calls", &wire_fails(&rt, WIRE_CALLS)?, &0)
+    let lines = "box.par: done: iteration 40\nca.par: done: iteration 2\n";
+    wire_fails(&rt, WIRE_CALLS, 0, lines)
 }
 
 #[test]
 fn stopped_and_started_again(rt: HostRuntime) -> Result<(), Fail> {
     let (came, mut left) = stopped(&rt, BOX_LAST, 30)?;
     is_told(
-        BOX_LAST,
+        &BOX_LAST,
         &came,
         4,
         "ca.par: done: iteration 2\nbox.par: device: disk\n",
@@ -89,6 +90,6 @@ fn stopped_and_started_again(rt: HostRuntime) -> Result<(), Fail> {
     let mut wires = wires(rt.alloc())?;
     let again = call(&rt, BOX_LAST, &mut left, &mut wires)?;
     same(&"again", &again.status, &0)?;
-    holds(&left, 1, 9, FIELDS)?;
-    holds(&left, 1, 10, SUMS)
+    holds(&left, 1, 9, BOX_FIELDS)?;
+    holds(&left, 1, 10, BOX_SUMS)
 }

@@ -1,7 +1,7 @@
 //! The parameter files that take turns.
 
 use sample_files::File;
-use sample_runs::samples::CA;
+use sample_runs::samples::{CA, LEAVES, SHORT_HEAT};
 
 /// The automaton in a folder of the file's own name.
 const OWN: &[u8] = b"ActiveThorns = \"ElemCA\"\n\
@@ -32,25 +32,6 @@ const BOX: &[u8] = b"ActiveThorns = \"WaveInt DiffInt ElemCA Control\"\n\
     IO::checkpoint_every = 20\n\
     IO::recover = \"autoprobe\"\n";
 
-/// Heat that leaves 16 bits in iteration 7.
-const HEAT: &[u8] = b"ActiveThorns = \"DiffInt\"\n\
-    Cactus::cctk_itlast = 20\n\
-    driver::global_nx = 16\n\
-    driver::periodic = yes\n\
-    driver::parts_x = 4\n\
-    diff::factor = 256\n\
-    diff::amount = 100\n\
-    diff::start = 2\n\
-    IO::out_vars = \"diff::u\"\n\
-    IO::out_dir = \"d\"\n\
-    IO::checkpoint_dir = \"d\"\n";
-
-/// DiffInt's interface, with heat in 16 bits.
-const SMALL_HEAT: &[u8] = b"implements: diff\n\
-    public:\n\
-    CCTK_INT2 evolved TYPE=GF DIM=1 { u } \"field\"\n\
-    CCTK_INT sums TYPE=SCALAR { total } \"sum\"\n";
-
 /// Heat on as many points as a grid may have.
 const MANY: &[u8] = b"ActiveThorns = \"DiffInt\"\n\
     driver::global_nx = 16777216\n\
@@ -71,8 +52,8 @@ macro_rules! file {
 pub(crate) const FILES: &[File] = &[
     file!("ca.par", OWN),
     file!("box.par", BOX),
-    file!("d.par", HEAT),
-    file!("arrangements/Integer/DiffInt/interface.ccl", SMALL_HEAT),
+    file!("d.par", LEAVES),
+    file!("arrangements/Integer/DiffInt/interface.ccl", SHORT_HEAT),
     file!("a.par", CA),
     file!("b.par", CA),
     file!("apart.par", APART),
@@ -91,18 +72,3 @@ pub(crate) const FILES: &[File] = &[
     file!("7.par", OWN),
     file!("8.par", OWN),
 ];
-
-/// The field of the box and its sum.
-pub(crate) const FIELDS: &[u8] = b"# wave::phi iteration 0 size 40\n\
-    5 5 5 5 5 5 5 5 5 5 5 5 5 5 5 5 5 5 5 5 5 5 5 5 5 5 5 5 5 5 5 5 5 5 5 5 5 5 5 5\n\
-    \n\
-    # wave::phi iteration 20 size 40\n\
-    5 5 5 5 5 5 5 5 5 5 5 5 5 5 5 5 5 5 5 5 5 5 5 5 5 5 5 5 5 5 5 5 5 5 5 5 5 5 5 5\n\
-    \n\
-    # wave::phi iteration 40 size 40\n\
-    5 5 5 5 5 5 5 5 5 5 5 5 5 5 5 5 5 5 5 5 5 5 5 5 5 5 5 5 5 5 5 5 5 5 5 5 5 5 5 5\n\
-    \n";
-
-pub(crate) const SUMS: &[u8] = b"# wave::total iteration 0 value 200\n\
-    # wave::total iteration 20 value 200\n\
-    # wave::total iteration 40 value 200\n";

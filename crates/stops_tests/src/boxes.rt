@@ -1,4 +1,4 @@
-//! Waves in a box of forty points with two checkpoints, and what its undivided run writes.
+//! Waves in a box of forty points with two checkpoints, and what a former version wrote of them.
 
 /// The box in three parts.
 pub(crate) const BOX: &[u8] = b"ActiveThorns = \"PUGH IOUtil\"\n\
@@ -19,22 +19,7 @@ pub(crate) const BOX: &[u8] = b"ActiveThorns = \"PUGH IOUtil\"\n\
     IO::checkpoint_keep = 2\n\
     IO::recover = \"autoprobe\"\n";
 
-/// Its fields and its sums, of 341 and 110 bytes.
-pub(crate) const FIELDS: &[u8] = b"# wave::phi iteration 0 size 40\n\
-    5 5 5 5 5 5 5 5 5 5 5 5 5 5 5 5 5 5 5 5 5 5 5 5 5 5 5 5 5 5 5 5 5 5 5 5 5 5 5 5\n\
-    \n\
-    # wave::phi iteration 20 size 40\n\
-    5 5 5 5 5 5 5 5 5 5 5 5 5 5 5 5 5 5 5 5 5 5 5 5 5 5 5 5 5 5 5 5 5 5 5 5 5 5 5 5\n\
-    \n\
-    # wave::phi iteration 40 size 40\n\
-    5 5 5 5 5 5 5 5 5 5 5 5 5 5 5 5 5 5 5 5 5 5 5 5 5 5 5 5 5 5 5 5 5 5 5 5 5 5 5 5\n\
-    \n";
-
-pub(crate) const SUMS: &[u8] = b"# wave::total iteration 0 value 200\n\
-    # wave::total iteration 20 value 200\n\
-    # wave::total iteration 40 value 200\n";
-
-/// All of them in one file, as a former version wrote them, up to the checkpoint of iteration 40: 300 bytes.
+/// Its fields and sums in one file, as a former version wrote them up to the checkpoint of iteration 40: 300 bytes.
 pub(crate) const FORMER: &[u8] = b"# wave::phi iteration 0 size 40\n\
     5 5 5 5 5 5 5 5 5 5 5 5 5 5 5 5 5 5 5 5 5 5 5 5 5 5 5 5 5 5 5 5 5 5 5 5 5 5 5 5\n\
     \n\

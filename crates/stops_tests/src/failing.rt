@@ -1,6 +1,5 @@
 //! Each call of each device fails once, and what the next call over the same devices comes to.
 
-use crate::boxes::{FIELDS, SUMS};
 use crate::devices::{failing_disk, failing_shelf};
 use crate::stops::{BOX_FILE, BOX_THORNS, RUN};
 use cx_disk::{Disk, MemoryDisk};
@@ -9,7 +8,7 @@ use cx_run::{MemorySink, Shelf};
 use cx_text::List;
 use cx_turns::SeededTurns;
 use sample_files::File;
-use sample_runs::samples::{CA, CA_OUTPUT, EACH};
+use sample_runs::samples::{BOX_FIELDS, BOX_SUMS, CA, CA_OUTPUT, EACH};
 use sample_runs::{
     FIRST_OUTPUT, SECOND_OUTPUT, answer_to, failing, shelf_with, sink, status_over, wire,
 };
@@ -81,13 +80,18 @@ const JOBS: &[Job] = &[
     },
 ];
 
-/// What two calls over the same devices come to, of which one fails once: their statuses, what each prints, and the two output files.
+/// What a call comes to: its status, and what it prints.
+#[derive(Drop)]
+struct Said {
+    status: u8,
+    printed: Vec<u8>,
+}
+
+/// What two calls over the same devices come to, of which one fails once, and the two output files.
 #[derive(Drop)]
 struct Twice {
-    first: u8,
-    said: Vec<u8>,
-    second: u8,
-    printed: Vec<u8>,
+    first: Said,
+    second: Said,
     first_output: Vec<u8>,
     second_output: Vec<u8>,
 }
@@ -119,81 +123,134 @@ fn run_cut_off<H: Shelf, D: Disk>(
     status_over(rt, RUN, shelf, disk, &mut wire, &mut turns, out, &mut meter)
 }
 
-/// Both calls, by the first one's status and text.
-fn both_calls(
-    alloc: Global,
-    first: u8,
-    said: Vec<u8>,
-    second: u8,
-    out: &MemorySink,
-    disk: &MemoryDisk,
-) -> Result<Twice, Fail> {
-    let printed = out.bytes().get(said.len()..).unwrap_or(&[]).to_vec(alloc)?;
+/// What a call comes to of this status, with what was printed after so many bytes.
+fn said_after(alloc: Global, status: u8, out: &MemorySink, before: usize) -> Result<Said, Fail> {
+    let printed = out.bytes().get(before..).unwrap_or(&[]).to_vec(alloc)?;
+    Ok(Said { status, printed })
+}
+
+/// What a call over these devices comes to.
+fn called<H: Shelf, D: Disk>(
+    rt: &HostRuntime,
+    shelf: &mut H,
+    disk: &mut D,
+    out: &mut MemorySink,
+) -> Result<Said, Fail> {
+    let before = out.bytes().len();
+    let status = run_anew(rt, shelf, disk, out)?;
+    said_after(rt.alloc(), status, out, before)
+}
+
+/// What a call over them and a wire that fails in one call comes to.
+fn called_cut_off<H: Shelf, D: Disk>(
+    rt: &HostRuntime,
+    shelf: &mut H,
+    disk: &mut D,
+    out: &mut MemorySink,
+    fail: u64,
+) -> Result<Said, Fail> {
+    let before = out.bytes().len();
+    let status = run_cut_off(rt, shelf, disk, out, fail)?;
+    said_after(rt.alloc(), status, out, before)
+}
+
+/// What two calls come to, and the outputs on a disk.
+fn both_calls(alloc: Global, calls: (Said, Said), disk: &MemoryDisk) -> Result<Twice, Fail> {
+    let (first, second) = calls;
     Ok(Twice {
         first,
-        said,
         second,
-        printed,
         first_output: disk.bytes(FIRST_OUTPUT).to_vec(alloc)?,
         second_output: disk.bytes(SECOND_OUTPUT).to_vec(alloc)?,
     })
 }
 
+/// Two calls over these devices.
+fn call_twice<H: Shelf, D: Disk>(
+    rt: &HostRuntime,
+    shelf: &mut H,
+    disk: &mut D,
+    out: &mut MemorySink,
+) -> Result<(Said, Said), Fail> {
+    let first = called(rt, shelf, disk, out)?;
+    let second = called(rt, shelf, disk, out)?;
+    Ok((first, second))
+}
+
+/// Two calls over these devices and an empty disk.
+fn call_on_memory<H: Shelf>(
+    rt: &HostRuntime,
+    shelf: &mut H,
+    out: &mut MemorySink,
+) -> Result<Twice, Fail> {
+    let alloc = rt.alloc();
+    let mut disk = MemoryDisk::new(alloc, List::empty(alloc));
+    let calls = call_twice(rt, shelf, &mut disk, out)?;
+    both_calls(alloc, calls, &disk)
+}
+
+/// The same where the first call's wire fails in one call of its own.
+fn cut_off_on_memory<H: Shelf>(
+    rt: &HostRuntime,
+    shelf: &mut H,
+    out: &mut MemorySink,
+    fail: u64,
+) -> Result<Twice, Fail> {
+    let alloc = rt.alloc();
+    let mut disk = MemoryDisk::new(alloc, List::empty(alloc));
+    let first = called_cut_off(rt, shelf, &mut disk, out, fail)?;
+    let second = called(rt, shelf, &mut disk, out)?;
+    both_calls(alloc, (first, second), &disk)
+}
+
+/// Two calls over a disk that fails in one call.
+fn call_on_failing<H: Shelf>(
+    rt: &HostRuntime,
+    shelf: &mut H,
+    out: &mut MemorySink,
+    fail: u64,
+) -> Result<Twice, Fail> {
+    let alloc = rt.alloc();
+    let mut disk = failing_disk(alloc, fail)?;
+    let calls = call_twice(rt, shelf, &mut disk, out)?;
+    both_calls(alloc, calls, &disk.into_inner())
+}
+
 /// Over a disk that fails in one call.
 fn disk_fails(rt: &HostRuntime, job: &Job, fail: u64) -> Result<Twice, Fail> {
-    let alloc = rt.alloc();
-    let mut shelf = shelf_with(alloc, job.file, job.more, job.others)?;
-    let mut disk = failing_disk(alloc, fail)?;
-    let mut out = sink(alloc, &[])?;
-    let first = run_anew(rt, &mut shelf, &mut disk, &mut out)?;
-    let said = out.bytes().to_vec(alloc)?;
-    let second = run_anew(rt, &mut shelf, &mut disk, &mut out)?;
-    both_calls(alloc, first, said, second, &out, &disk.into_inner())
+    let mut shelf = shelf_with(rt.alloc(), job.file, job.more, job.others)?;
+    let mut out = sink(rt.alloc(), &[])?;
+    call_on_failing(rt, &mut shelf, &mut out, fail)
 }
 
 /// Over a wire that fails in one call, and then a new one.
 fn wire_fails(rt: &HostRuntime, job: &Job, fail: u64) -> Result<Twice, Fail> {
-    let alloc = rt.alloc();
-    let mut shelf = shelf_with(alloc, job.file, job.more, job.others)?;
-    let mut disk = MemoryDisk::new(alloc, List::empty(alloc));
-    let mut out = sink(alloc, &[])?;
-    let first = run_cut_off(rt, &mut shelf, &mut disk, &mut out, fail)?;
-    let said = out.bytes().to_vec(alloc)?;
-    let second = run_anew(rt, &mut shelf, &mut disk, &mut out)?;
-    both_calls(alloc, first, said, second, &out, &disk)
+    let mut shelf = shelf_with(rt.alloc(), job.file, job.more, job.others)?;
+    let mut out = sink(rt.alloc(), &[])?;
+    cut_off_on_memory(rt, &mut shelf, &mut out, fail)
 }
 
 /// Over a shelf that fails in one reading.
 fn shelf_fails(rt: &HostRuntime, job: &Job, fail: u64) -> Result<Twice, Fail> {
-    let alloc = rt.alloc();
-    let files = shelf_with(alloc, job.file, job.more, job.others)?;
-    let mut shelf = failing_shelf(alloc, files, fail)?;
-    let mut disk = MemoryDisk::new(alloc, List::empty(alloc));
-    let mut out = sink(alloc, &[])?;
-    let first = run_anew(rt, &mut shelf, &mut disk, &mut out)?;
-    let said = out.bytes().to_vec(alloc)?;
-    let second = run_anew(rt, &mut shelf, &mut disk, &mut out)?;
-    both_calls(alloc, first, said, second, &out, &disk)
+    let files = shelf_with(rt.alloc(), job.file, job.more, job.others)?;
+    let mut shelf = failing_shelf(rt.alloc(), files, fail)?;
+    let mut out = sink(rt.alloc(), &[])?;
+    call_on_memory(rt, &mut shelf, &mut out)
 }
 
 /// Over a sink that fails in one call.
 fn sink_fails(rt: &HostRuntime, job: &Job, fail: u64) -> Result<Twice, Fail> {
-    let alloc = rt.alloc();
-    let mut shelf = shelf_with(alloc, job.file, job.more, job.others)?;
-    let mut disk = MemoryDisk::new(alloc, List::empty(alloc));
-    let mut out = sink(alloc, &[fail])?;
-    let first = run_anew(rt, &mut shelf, &mut disk, &mut out)?;
-    let said = out.bytes().to_vec(alloc)?;
-    let second = run_anew(rt, &mut shelf, &mut disk, &mut out)?;
-    both_calls(alloc, first, said, second, &out, &disk)
+    let mut shelf = shelf_with(rt.alloc(), job.file, job.more, job.others)?;
+    let mut out = sink(rt.alloc(), &[fail])?;
+    call_on_memory(rt, &mut shelf, &mut out)
 }
 
 /// Whether the first call failed by the device of that text, or in silence, and the second one came to what the job's run comes to.
 fn is_whole(came: &Twice, said: &[u8], job: &Job) -> bool {
-    came.first == 4
-        && came.said.as_slice() == said
-        && came.second == job.status
-        && came.printed.as_slice() == job.printed
+    came.first.status == 4
+        && came.first.printed.as_slice() == said
+        && came.second.status == job.status
+        && came.second.printed.as_slice() == job.printed
         && came.first_output.as_slice() == job.first
         && came.second_output.as_slice() == job.second
 }
@@ -210,8 +267,8 @@ const BOX_JOB: &Job = &Job {
     shelf: 1,
     status: 0,
     printed: b"done: iteration 40\n",
-    first: FIELDS,
-    second: SUMS,
+    first: BOX_FIELDS,
+    second: BOX_SUMS,
 };
 
 /// A device of a call.
@@ -265,10 +322,14 @@ fn wrong_call(rt: &HostRuntime, device: Device, job: &Job) -> Result<Option<u64>
         }
     }
     let came = device_fails(rt, device, job, calls)?;
-    if came.first != job.status {
-        return Ok(Some(calls));
-    }
-    Ok(None)
+    Ok((came.first.status != job.status).then_some(calls))
+}
+
+/// Tests that the box comes to its end after a device of it has failed.
+fn box_ends(rt: &HostRuntime, device: Device) -> Result<(), Fail> {
+    let came = device_fails(rt, device, BOX_JOB, calls_of(device, BOX_JOB))?;
+    let is_whole = is_whole(&came, said(device), BOX_JOB);
+    same(&(device, "the box"), &is_whole, &true)
 }
 
 #[test]
@@ -280,9 +341,7 @@ fn devices_that_fail_once(rt: HostRuntime) -> Result<(), Fail> {
         }
     }
     for device in [Device::Disk, Device::Wire, Device::Shelf] {
-        let came = device_fails(&rt, device, BOX_JOB, calls_of(device, BOX_JOB))?;
-        let is_whole = is_whole(&came, said(device), BOX_JOB);
-        same(&(device, "the box"), &is_whole, &true)?;
+        box_ends(&rt, device)?;
     }
     Ok(())
 }

@@ -44,15 +44,32 @@ fn older_slot(alloc: Global, slot: &[u8], older: Older) -> Result<Text, Memory> 
     }
 }
 
-/// The disk as a former version left it after the checkpoint of iteration 40, with one output of 300 bytes.
-pub(crate) fn former_disk(rt: &HostRuntime, older: Older) -> Result<MemoryDisk, Fail> {
+/// The disk as the box leaves it.
+fn box_disk(rt: &HostRuntime) -> Result<MemoryDisk, Fail> {
     let alloc = rt.alloc();
     let mut left = MemoryDisk::new(alloc, List::empty(alloc));
     let mut shelf = shelf_with(alloc, BOX, "", &[])?;
     answer_over(rt, &["run", "t.par"], &mut shelf, &mut left)?;
-    let mut files = List::empty(alloc);
+    Ok(left)
+}
+
+/// Adds the two slots as a former version saved them.
+fn push_slots(
+    alloc: Global,
+    files: &mut List<Text>,
+    left: &MemoryDisk,
+    older: Older,
+) -> Result<(), Memory> {
     files.push(older_slot(alloc, left.bytes(0), older)?)?;
-    files.push(former_slot(alloc, left.bytes(1), b"\0\0\x01\x2c")?)?;
+    files.push(former_slot(alloc, left.bytes(1), b"\0\0\x01\x2c")?)
+}
+
+/// The disk as a former version left it after the checkpoint of iteration 40, with one output of 300 bytes.
+pub(crate) fn former_disk(rt: &HostRuntime, older: Older) -> Result<MemoryDisk, Fail> {
+    let alloc = rt.alloc();
+    let left = box_disk(rt)?;
+    let mut files = List::empty(alloc);
+    push_slots(alloc, &mut files, &left, older)?;
     for _ in 2..OLD_OUTPUT {
         files.push(Text::new(Vec::new(alloc)))?;
     }

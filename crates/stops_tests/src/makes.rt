@@ -1,6 +1,8 @@
 //! Runs that are made from a seed and a size.
 
 use crate::devices::{failing_disk, failing_shelf};
+use cx_disk::FailingDisk;
+use cx_job_files::FailingShelf;
 use cx_run::MemoryShelf;
 use cx_text::List;
 use sample_runs::{answer_over, answer_to};
@@ -69,18 +71,36 @@ const CELLS: &[u8] = b"# life::cell iteration 0 size 8 8\n\
     0 1 1 0 0 0 0 0\n\
     \n";
 
+/// Tests what comes of words.
+fn is_made(rt: &HostRuntime, shelf: &mut MemoryShelf, made: &Made) -> Result<(), Fail> {
+    let came = answer_to(rt, made.words, shelf)?;
+    let found = (came.status, came.printed.as_slice(), came.first.len());
+    let want = (0, made.printed.as_bytes(), made.length);
+    same(&made.words, &found, &want)?;
+    let output = made.output.unwrap_or(came.first.as_slice());
+    same(&made.words, &came.first.as_slice(), &output)
+}
+
 #[test]
 fn runs_that_are_made(rt: HostRuntime) -> Result<(), Fail> {
     let mut shelf = MemoryShelf::new(List::empty(rt.alloc()));
     for made in MADE {
-        let came = answer_to(&rt, made.words, &mut shelf)?;
-        let found = (came.status, came.printed.as_slice(), came.first.len());
-        let want = (0, made.printed.as_bytes(), made.length);
-        same(&made.words, &found, &want)?;
-        let output = made.output.unwrap_or(came.first.as_slice());
-        same(&made.words, &came.first.as_slice(), &output)?;
+        is_made(&rt, &mut shelf, made)?;
     }
     Ok(())
+}
+
+/// Tests a call over these devices.
+fn is_told(
+    rt: &HostRuntime,
+    shelf: &mut FailingShelf,
+    disk: &mut FailingDisk,
+    status: u8,
+    printed: &[u8],
+) -> Result<(), Fail> {
+    let came = answer_over(rt, &["make", "7", "8"], shelf, disk)?;
+    let found = (came.status, came.printed.as_slice());
+    same(&"make 7 8", &found, &(status, printed))
 }
 
 /// A shelf whose first reading fails isn't read; a disk that fails is reported.
@@ -89,13 +109,7 @@ fn devices_of_a_run_that_is_made(rt: HostRuntime) -> Result<(), Fail> {
     let alloc = rt.alloc();
     let mut shelf = failing_shelf(alloc, MemoryShelf::new(List::empty(alloc)), 0)?;
     let mut disk = failing_disk(alloc, 3)?;
-    let words: &[&str] = &["make", "7", "8"];
-    let first = answer_over(&rt, words, &mut shelf, &mut disk)?;
-    let found = (first.status, first.printed.as_slice());
-    let want = b"device: disk\n".as_slice();
-    same(&"the disk fails", &found, &(4, want))?;
-    let second = answer_over(&rt, words, &mut shelf, &mut disk)?;
-    let found = (second.status, second.printed.as_slice());
-    let want = b"done: iteration 20\nmade 7 8 points 64 parts 16 output 327 live 28\n".as_slice();
-    same(&"the next call", &found, &(0, want))
+    is_told(&rt, &mut shelf, &mut disk, 4, b"device: disk\n")?;
+    let done = b"done: iteration 20\nmade 7 8 points 64 parts 16 output 327 live 28\n";
+    is_told(&rt, &mut shelf, &mut disk, 0, done)
 }

@@ -2,11 +2,12 @@
 //! it. The third one comes to the end, and computes nothing: after the checkpoint of iteration 40 only reductions and
 //! output are left.
 
-use crate::boxes::{BOX, FIELDS, FORMER, SUMS};
+use crate::boxes::{BOX, FORMER};
 use crate::former::{Older, former_disk};
 use cx_disk::{Disk, FuseDisk, MemoryDisk};
 use cx_run::MemoryShelf;
 use cx_text::{List, Memory, Text};
+use sample_runs::samples::{BOX_FIELDS, BOX_SUMS};
 use sample_runs::{Outcome, answer_over, shelf_with};
 use std::alloc::Global;
 use std::test::Fail;
@@ -61,8 +62,25 @@ fn ends(
     same(
         &case,
         &found,
-        &(0, 0, b"done: iteration 40\n", (FIELDS, SUMS, FORMER)),
+        &(
+            0,
+            0,
+            b"done: iteration 40\n",
+            (BOX_FIELDS, BOX_SUMS, FORMER),
+        ),
     )
+}
+
+/// The status of a start that is stopped after so many calls. The next one comes to the end.
+fn stop_then_end(
+    case: Case,
+    rt: &HostRuntime,
+    shelf: &mut MemoryShelf,
+    left: &MemoryDisk,
+) -> Result<u8, Fail> {
+    let (status, disk) = stopped(rt, shelf, left, case.2)?;
+    ends(case, rt, shelf, disk)?;
+    Ok(status)
 }
 
 /// More calls than any of these starts makes.
@@ -78,8 +96,7 @@ fn stop_again(
     left: &MemoryDisk,
 ) -> Result<u8, Fail> {
     for second in 0..MANY_CALLS {
-        let (status, disk) = stopped(rt, shelf, left, second)?;
-        ends((name, first, second), rt, shelf, disk)?;
+        let status = stop_then_end((name, first, second), rt, shelf, left)?;
         if status != 4 {
             return Ok(status);
         }
@@ -87,14 +104,27 @@ fn stop_again(
     Ok(4)
 }
 
+/// The first start is stopped after so many calls, and the second one after each of its own. It fails unless these are
+/// the statuses of the first one and of the last one.
+fn stop_first(
+    rt: &HostRuntime,
+    shelf: &mut MemoryShelf,
+    name: &str,
+    left: &MemoryDisk,
+    first: u64,
+    want: (u8, u8),
+) -> Result<(), Fail> {
+    let (status, disk) = stopped(rt, shelf, left, first)?;
+    let second = stop_again(rt, shelf, name, first, &disk)?;
+    same(&(name, first), &(status, second), &want)
+}
+
 /// The first start is stopped after each of these numbers of calls, and so is the second one after each of its own.
 fn stop_twice(rt: &HostRuntime, name: &str, older: Older, from: u64, to: u64) -> Result<(), Fail> {
     let left = former_disk(rt, older)?;
     let mut shelf = shelf_with(rt.alloc(), BOX, "", &[])?;
     for first in from..to {
-        let (status, disk) = stopped(rt, &mut shelf, &left, first)?;
-        let second = stop_again(rt, &mut shelf, name, first, &disk)?;
-        same(&(name, first), &(status, second), &(4, 0))?;
+        stop_first(rt, &mut shelf, name, &left, first, (4, 0))?;
     }
     Ok(())
 }
@@ -103,9 +133,7 @@ fn stop_twice(rt: &HostRuntime, name: &str, older: Older, from: u64, to: u64) ->
 fn stop_after(rt: &HostRuntime, name: &str, older: Older, calls: u64) -> Result<(), Fail> {
     let left = former_disk(rt, older)?;
     let mut shelf = shelf_with(rt.alloc(), BOX, "", &[])?;
-    let (status, disk) = stopped(rt, &mut shelf, &left, calls)?;
-    let second = stop_again(rt, &mut shelf, name, calls, &disk)?;
-    same(&(name, calls), &(status, second), &(0, 0))
+    stop_first(rt, &mut shelf, name, &left, calls, (0, 0))
 }
 
 /// The calls of a start where both slots are of the former version: the mount, 14 looks at slots, 2 at the newest (17),

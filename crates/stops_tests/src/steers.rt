@@ -137,12 +137,18 @@ fn starts(rt: &HostRuntime, change: &Change, calls: u64, mut disk: MemoryDisk) -
 /// More calls than a run makes.
 const MANY_CALLS: u64 = 100;
 
+/// The status of a first run that stops after so many calls, and the iteration of the checkpoint that the next one finds.
+fn change_after(rt: &HostRuntime, change: &Change, calls: u64) -> Result<(u8, u8), Fail> {
+    let (status, disk) = stopped(rt, change.before, calls)?;
+    let newest = starts(rt, change, calls, disk)?;
+    Ok((status, newest))
+}
+
 /// A first run stops after each of its calls, and the next one has other lines. Each of the three checkpoints is met.
 fn change_lines(rt: &HostRuntime, change: &Change) -> Result<(), Fail> {
     let mut met = [false, false, false];
     for calls in 0..MANY_CALLS {
-        let (status, disk) = stopped(rt, change.before, calls)?;
-        let newest = starts(rt, change, calls, disk)?;
+        let (status, newest) = change_after(rt, change, calls)?;
         if let Some(it) = met.get_mut(newest as usize) {
             *it = true;
         }
@@ -177,19 +183,32 @@ fn line_that_is_taken_out(rt: HostRuntime) -> Result<(), Fail> {
     change_lines(&rt, &change)
 }
 
+/// Fails unless a start with a line of iteration 1 is refused.
+fn is_refused(rt: &HostRuntime, calls: u64, mut disk: MemoryDisk) -> Result<(), Fail> {
+    let came = start_with(rt, b"@1 wave::factor = 0\n", &mut disk)?;
+    let found = (came.status, came.printed.as_slice(), came.points);
+    let refused = b"recovery: OtherJob\n\nsteer 1 wave::factor = \"0\"\n".as_slice();
+    same(&calls, &found, &(6, refused, 0))
+}
+
+/// The status of a run that stops after so many calls, and whether its newest checkpoint is of iteration 1. If so, the next
+/// start is refused.
+fn refused_after(rt: &HostRuntime, calls: u64) -> Result<(u8, bool), Fail> {
+    let (status, disk) = stopped(rt, b"", calls)?;
+    if newest_on(&disk) != 1 {
+        return Ok((status, false));
+    }
+    is_refused(rt, calls, disk)?;
+    Ok((status, true))
+}
+
 /// The next start has a line of the iteration that the newest checkpoint is of.
 #[test]
 fn line_of_the_newest_checkpoint(rt: HostRuntime) -> Result<(), Fail> {
-    let refused = b"recovery: OtherJob\n\nsteer 1 wave::factor = \"0\"\n".as_slice();
     let mut met = false;
     for calls in 0..MANY_CALLS {
-        let (status, mut disk) = stopped(&rt, b"", calls)?;
-        if newest_on(&disk) == 1 {
-            met = true;
-            let came = start_with(&rt, b"@1 wave::factor = 0\n", &mut disk)?;
-            let found = (came.status, came.printed.as_slice(), came.points);
-            same(&calls, &found, &(6, refused, 0))?;
-        }
+        let (status, is_met) = refused_after(&rt, calls)?;
+        met = met || is_met;
         if status == 0 {
             break;
         }

@@ -1,12 +1,12 @@
 //! Checkpoints: runs that stop anywhere and are started again, and starts that are refused.
 
-use crate::boxes::{FIELDS, SUMS};
 use crate::devices::LongDisk;
 use crate::former::former_slot;
 use cx_disk::{FuseDisk, MemoryDisk};
-use cx_text::{List, Text};
+use cx_run::MemoryShelf;
+use cx_text::{List, Memory, Text};
 use sample_files::File;
-use sample_runs::samples::{CA, CA_OUTPUT, EACH};
+use sample_runs::samples::{BOX_FIELDS, BOX_SUMS, CA, CA_OUTPUT, EACH};
 use sample_runs::{
     FIRST_OUTPUT, Outcome, SECOND_OUTPUT, answer_on, answer_over, answer_to, shelf_with,
 };
@@ -130,13 +130,15 @@ const BOX_SLOTS: &[(usize, &[u8])] = &[
     (1, b"\x01CXCHKPT\x02\0\0\0\0\0\0\0\x28"),
 ];
 
-#[test]
-fn box_with_checkpoints(rt: HostRuntime) -> Result<(), Fail> {
-    let mut disk = empty_disk(rt.alloc());
-    let came = run_on(&rt, BOX_FILE, "", BOX_THORNS, &mut disk)?;
+/// Tests what the box comes to.
+fn is_box(came: &Outcome) -> Result<(), Fail> {
     let outputs = (came.first.as_slice(), came.second.as_slice());
     let found = (came.status, came.printed.as_slice(), outputs);
-    let want = (0, b"done: iteration 40\n".as_slice(), (FIELDS, SUMS));
+    let want = (
+        0,
+        b"done: iteration 40\n".as_slice(),
+        (BOX_FIELDS, BOX_SUMS),
+    );
     same(&"the run", &found, &want)?;
     let lengths = (came.first.len(), came.second.len());
     let found = (came.points, came.received, lengths);
@@ -144,13 +146,21 @@ fn box_with_checkpoints(rt: HostRuntime) -> Result<(), Fail> {
         &"points, values and bytes",
         &found,
         &(4944, 480, (341, 110)),
-    )?;
+    )
+}
+
+/// Tests that a slot has a checkpoint of an iteration.
+fn slot_begins(disk: &MemoryDisk, slot: usize, front: &[u8]) -> Result<(), Fail> {
+    same(&("slot", slot), &disk.bytes(slot).starts_with(front), &true)
+}
+
+#[test]
+fn box_with_checkpoints(rt: HostRuntime) -> Result<(), Fail> {
+    let mut disk = empty_disk(rt.alloc());
+    let came = run_on(&rt, BOX_FILE, "", BOX_THORNS, &mut disk)?;
+    is_box(&came)?;
     for (slot, front) in BOX_SLOTS {
-        same(
-            &("slot", slot),
-            &disk.bytes(*slot).starts_with(front),
-            &true,
-        )?;
+        slot_begins(&disk, *slot, front)?;
     }
     same(&"slot 2", &disk.bytes(2).len(), &0)
 }
@@ -177,7 +187,7 @@ const STARTS: &[Start] = &[
             parameter wave::amount = \"5\"\n\
             parameter wave::amount = \"6\"\n",
         points: 0,
-        first: FIELDS,
+        first: BOX_FIELDS,
     },
     Start {
         name: "a damaged slot",
@@ -186,7 +196,7 @@ const STARTS: &[Start] = &[
         status: 6,
         printed: b"recovery: Damaged 1\n",
         points: 0,
-        first: FIELDS,
+        first: BOX_FIELDS,
     },
     Start {
         name: "a short output",
@@ -205,7 +215,7 @@ const STARTS: &[Start] = &[
         status: 0,
         printed: b"done: iteration 40\n",
         points: 0,
-        first: FIELDS,
+        first: BOX_FIELDS,
     },
     Start {
         name: "without recovery",
@@ -214,44 +224,66 @@ const STARTS: &[Start] = &[
         status: 0,
         printed: b"done: iteration 40\n",
         points: 4944,
-        first: FIELDS,
+        first: BOX_FIELDS,
     },
 ];
 
+/// The disk that a start finds.
+fn start_disk(alloc: Global, left: &MemoryDisk, start: &Start) -> Result<MemoryDisk, Fail> {
+    let (file, less) = start.cut.unwrap_or((0, 0));
+    let length = left.bytes(file).len();
+    cut_disk(alloc, left, file, length.saturating_sub(less))
+}
+
+/// Tests what a start comes to.
+fn is_started(start: &Start, came: &Outcome) -> Result<(), Fail> {
+    let outputs = (came.first.as_slice(), came.second.as_slice());
+    let found = (came.status, came.printed.as_slice(), outputs, came.points);
+    let want = (
+        start.status,
+        start.printed,
+        (start.first, BOX_SUMS),
+        start.points,
+    );
+    same(&start.name, &found, &want)
+}
+
+/// Tests a start on what the box has left.
+fn starts(rt: &HostRuntime, left: &MemoryDisk, start: &Start) -> Result<(), Fail> {
+    let mut disk = start_disk(rt.alloc(), left, start)?;
+    let came = run_on(rt, BOX_REST, start.more, &[], &mut disk)?;
+    is_started(start, &came)
+}
+
 #[test]
 fn starts_from_the_box(rt: HostRuntime) -> Result<(), Fail> {
-    let alloc = rt.alloc();
     let left = box_disk(&rt)?;
     for start in STARTS {
-        let (file, less) = start.cut.unwrap_or((0, 0));
-        let length = left.bytes(file).len();
-        let mut disk = cut_disk(alloc, &left, file, length.saturating_sub(less))?;
-        let came = run_on(&rt, BOX_REST, start.more, &[], &mut disk)?;
-        let outputs = (came.first.as_slice(), came.second.as_slice());
-        let found = (came.status, came.printed.as_slice(), outputs, came.points);
-        let want = (
-            start.status,
-            start.printed,
-            (start.first, SUMS),
-            start.points,
-        );
-        same(&start.name, &found, &want)?;
+        starts(&rt, &left, start)?;
     }
     Ok(())
 }
 
+/// Tests a start of the automaton on an empty disk.
+fn starts_from_nothing(
+    rt: &HostRuntime,
+    more: &str,
+    status: u8,
+    printed: &[u8],
+    first: &[u8],
+) -> Result<(), Fail> {
+    let mut shelf = shelf_with(rt.alloc(), CA, more, &[])?;
+    let came = answer_to(rt, RUN, &mut shelf)?;
+    let found = (came.status, came.printed.as_slice(), came.first.as_slice());
+    same(&more, &found, &(status, printed, first))
+}
+
 #[test]
 fn start_from_nothing(rt: HostRuntime) -> Result<(), Fail> {
-    let alloc = rt.alloc();
-    let mut shelf = shelf_with(alloc, CA, "IO::recover = \"auto\"\n", &[])?;
-    let refused = answer_to(&rt, RUN, &mut shelf)?;
-    let found = (refused.status, refused.printed.as_slice(), refused.points);
-    let want = b"recovery: NoCheckpoint\n".as_slice();
-    same(&"auto", &found, &(6, want, 0))?;
-    let mut shelf = shelf_with(alloc, CA, "IO::recover = \"autoprobe\"\n", &[])?;
-    let came = answer_to(&rt, RUN, &mut shelf)?;
-    let found = (came.status, came.first.as_slice());
-    same(&"autoprobe", &found, &(0, CA_OUTPUT))
+    let auto = "IO::recover = \"auto\"\n";
+    starts_from_nothing(&rt, auto, 6, b"recovery: NoCheckpoint\n", b"")?;
+    let probe = "IO::recover = \"autoprobe\"\n";
+    starts_from_nothing(&rt, probe, 0, b"done: iteration 2\n", CA_OUTPUT)
 }
 
 /// The box in three parts and in four, at leads 0 and 3.
@@ -295,7 +327,7 @@ fn box_that_stops_twice(rt: HostRuntime) -> Result<(), Fail> {
         for stop in STOPS {
             let came = third_run(&rt, three, four, *stop)?;
             let found = (came.status, came.first.as_slice(), came.second.as_slice());
-            let want = (0, FIELDS, SUMS);
+            let want = (0, BOX_FIELDS, BOX_SUMS);
             same(&(four, stop), &found, &want)?;
             let found = (came.points, came.received);
             same(&(four, stop), &found, &(2400, 360))?;
@@ -311,18 +343,32 @@ const LONG: &[(&str, u8, &[u8])] = &[
     ("recombine", 7, b"chunks: TooLong 900000000 268435456\n"),
 ];
 
+/// A disk with a slot of the box, and with files of 300,000,000 bytes.
+fn long_disk(alloc: Global, slot: &[u8]) -> Result<LongDisk, Memory> {
+    let slot = former_slot(alloc, slot, b"\x11\xe1\xa3\x00")?;
+    Ok(LongDisk::new(alloc, slot, 300_000_000))
+}
+
+/// Tests what a command prints over such a disk.
+fn is_too_long(
+    rt: &HostRuntime,
+    shelf: &mut MemoryShelf,
+    slot: &[u8],
+    row: &(&str, u8, &[u8]),
+) -> Result<(), Fail> {
+    let (word, status, printed) = *row;
+    let mut disk = long_disk(rt.alloc(), slot)?;
+    let came = answer_over(rt, &[word, "t.par"], shelf, &mut disk)?;
+    let found = (came.status, came.printed.as_slice(), came.points);
+    same(&word, &found, &(status, printed, 0))
+}
+
 #[test]
 fn files_that_are_too_long(rt: HostRuntime) -> Result<(), Fail> {
-    let alloc = rt.alloc();
     let left = box_disk(&rt)?;
-    let mut shelf = shelf_with(alloc, BOX_FILE, "", BOX_THORNS)?;
-    for (word, status, printed) in LONG {
-        // 300,000,000 bytes
-        let slot = former_slot(alloc, left.bytes(1), b"\x11\xe1\xa3\x00")?;
-        let mut disk = LongDisk::new(alloc, slot, 300_000_000);
-        let came = answer_over(&rt, &[word, "t.par"], &mut shelf, &mut disk)?;
-        let found = (came.status, came.printed.as_slice(), came.points);
-        same(&word, &found, &(*status, *printed, 0))?;
+    let mut shelf = shelf_with(rt.alloc(), BOX_FILE, "", BOX_THORNS)?;
+    for row in LONG {
+        is_too_long(&rt, &mut shelf, left.bytes(1), row)?;
     }
     Ok(())
 }
@@ -438,25 +484,49 @@ const VALUES: &[u8] = b"\0\0\0\x01\0\0\0\x0cca::cell.asc\0\0\0\0\0\0\0\x5e\
 
 const TWO: &str = "IO::checkpoint_every = 2\ndriver::parts_x = 3\n";
 
+/// What stands before the key, with the iteration.
+const FRONT: &[u8] = b"\x01CXCHKPT\x02\0\0\0\0\0\0\0\x02\0\0";
+
+/// What `describe` prints after the key.
+const AFTER_KEY: &[u8] = b"parameter driver::parts_x = \"3\"\n";
+
+/// The disk that the automaton leaves with this checkpoint.
+fn automaton_disk(rt: &HostRuntime) -> Result<MemoryDisk, Fail> {
+    let mut disk = empty_disk(rt.alloc());
+    run_on(rt, CA, TWO, &[], &mut disk)?;
+    Ok(disk)
+}
+
+/// What `describe` prints of it.
+fn described(rt: &HostRuntime) -> Result<Outcome, Fail> {
+    let mut shelf = shelf_with(rt.alloc(), CA, TWO, &[])?;
+    answer_to(rt, &["describe", "t.par"], &mut shelf)
+}
+
+/// Tests that a text begins with another one.
+fn begins(what: &str, text: &[u8], front: &[u8]) -> Result<(), Fail> {
+    same(&what, &text.get(..front.len()), &Some(front))
+}
+
+/// The key of a slot of the automaton.
+fn key_of(slot: &[u8]) -> &[u8] {
+    let end = slot.len().saturating_sub(VALUES.len());
+    slot.get(21..end).unwrap_or(&[])
+}
+
+/// Tests a slot beside what `describe` prints.
+fn is_described(slot: &[u8], described: &[u8]) -> Result<(), Fail> {
+    let key = key_of(slot);
+    begins("the iteration before the key", slot, FRONT)?;
+    same(&"the values after the key", &slot.ends_with(VALUES), &true)?;
+    begins("the key", described, key)?;
+    let rest = described.get(key.len()..).unwrap_or(&[]);
+    begins("what comes after the key", rest, AFTER_KEY)
+}
+
 #[test]
 fn checkpoint_of_the_automaton(rt: HostRuntime) -> Result<(), Fail> {
-    let alloc = rt.alloc();
-    let mut disk = empty_disk(alloc);
-    run_on(&rt, CA, TWO, &[], &mut disk)?;
-    let mut shelf = shelf_with(alloc, CA, TWO, &[])?;
-    let described = answer_to(&rt, &["describe", "t.par"], &mut shelf)?;
-    let slot = disk.bytes(0);
-    let front = b"\x01CXCHKPT\x02\0\0\0\0\0\0\0\x02\0\0".as_slice();
-    same(
-        &"the iteration before the key",
-        &slot.starts_with(front),
-        &true,
-    )?;
-    same(&"the values after the key", &slot.ends_with(VALUES), &true)?;
-    let end = slot.len().saturating_sub(VALUES.len());
-    let key = slot.get(21..end).unwrap_or(&[]);
-    same(&"the key", &described.printed.starts_with(key), &true)?;
-    let rest = described.printed.get(key.len()..).unwrap_or(&[]);
-    let next = b"parameter driver::parts_x = \"3\"\n".as_slice();
-    same(&"what comes after the key", &rest.starts_with(next), &true)
+    let disk = automaton_disk(&rt)?;
+    let described = described(&rt)?;
+    is_described(disk.bytes(0), &described.printed)
 }

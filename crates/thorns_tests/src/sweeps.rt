@@ -1,8 +1,11 @@
 //! The sweeps of the thorns' Cell routines, worked out by hand, and beside what each gives at a point.
 
+ghost use Rattle.thorns_tests.specs.Fields.{IsTested};
+
 use crate::fields::{Grid, points, shape_of};
 use crate::trials::{Outcome, tried};
-use cx_rule::mix;
+use cx_rule::{Routine, mix};
+use cx_text::Memory;
 use cx_thorn_ca::{CaInit, CaStep, CaZero, LifeInit, LifeStep, LifeZero};
 use cx_thorn_pde::{
     DiffFlat, DiffInit, DiffScalar, DiffStep, WaveCopy, WaveFlat, WaveInit, WaveScalar, WaveStep,
@@ -83,6 +86,20 @@ const HEAT_SCALAR: Swept = Swept::Heat(Heat::Scalar);
 /// What came of a sweep, and the current numbers behind it.
 type Came = (Outcome, Vec<i64>);
 
+/// What comes of the sweep of a routine, if it could be made.
+fn made_came<R: Routine>(
+    rt: &HostRuntime,
+    made: Result<R, Memory>,
+    grid: Grid,
+    params: &[i64; 4],
+    numbers: &[i64],
+) -> Result<Came, Fail>
+    requires { (routine : R) → IsTested (R.spec_of routine) }
+{
+    let routine = made?;
+    tried(rt, &routine, grid, params, numbers)
+}
+
 fn automaton_came(
     rt: &HostRuntime,
     routine: Automaton,
@@ -92,12 +109,12 @@ fn automaton_came(
 ) -> Result<Came, Fail> {
     let alloc = rt.alloc();
     match routine {
-        Automaton::CaInit => tried(rt, &CaInit::new(alloc)?, grid, params, numbers),
-        Automaton::CaStep => tried(rt, &CaStep::new(alloc)?, grid, params, numbers),
-        Automaton::CaZero => tried(rt, &CaZero::new(alloc)?, grid, params, numbers),
-        Automaton::LifeInit => tried(rt, &LifeInit::new(alloc)?, grid, params, numbers),
-        Automaton::LifeStep => tried(rt, &LifeStep::new(alloc)?, grid, params, numbers),
-        Automaton::LifeZero => tried(rt, &LifeZero::new(alloc)?, grid, params, numbers),
+        Automaton::CaInit => made_came(rt, CaInit::new(alloc), grid, params, numbers),
+        Automaton::CaStep => made_came(rt, CaStep::new(alloc), grid, params, numbers),
+        Automaton::CaZero => made_came(rt, CaZero::new(alloc), grid, params, numbers),
+        Automaton::LifeInit => made_came(rt, LifeInit::new(alloc), grid, params, numbers),
+        Automaton::LifeStep => made_came(rt, LifeStep::new(alloc), grid, params, numbers),
+        Automaton::LifeZero => made_came(rt, LifeZero::new(alloc), grid, params, numbers),
     }
 }
 
@@ -110,11 +127,11 @@ fn wave_came(
 ) -> Result<Came, Fail> {
     let alloc = rt.alloc();
     match routine {
-        Wave::Init => tried(rt, &WaveInit::new(alloc)?, grid, params, numbers),
-        Wave::Step => tried(rt, &WaveStep::new(alloc)?, grid, params, numbers),
-        Wave::Flat => tried(rt, &WaveFlat::new(alloc)?, grid, params, numbers),
-        Wave::Copy => tried(rt, &WaveCopy::new(alloc)?, grid, params, numbers),
-        Wave::Scalar => tried(rt, &WaveScalar::new(alloc)?, grid, params, numbers),
+        Wave::Init => made_came(rt, WaveInit::new(alloc), grid, params, numbers),
+        Wave::Step => made_came(rt, WaveStep::new(alloc), grid, params, numbers),
+        Wave::Flat => made_came(rt, WaveFlat::new(alloc), grid, params, numbers),
+        Wave::Copy => made_came(rt, WaveCopy::new(alloc), grid, params, numbers),
+        Wave::Scalar => made_came(rt, WaveScalar::new(alloc), grid, params, numbers),
     }
 }
 
@@ -127,10 +144,10 @@ fn heat_came(
 ) -> Result<Came, Fail> {
     let alloc = rt.alloc();
     match routine {
-        Heat::Init => tried(rt, &DiffInit::new(alloc)?, grid, params, numbers),
-        Heat::Step => tried(rt, &DiffStep::new(alloc)?, grid, params, numbers),
-        Heat::Flat => tried(rt, &DiffFlat::new(alloc)?, grid, params, numbers),
-        Heat::Scalar => tried(rt, &DiffScalar::new(alloc)?, grid, params, numbers),
+        Heat::Init => made_came(rt, DiffInit::new(alloc), grid, params, numbers),
+        Heat::Step => made_came(rt, DiffStep::new(alloc), grid, params, numbers),
+        Heat::Flat => made_came(rt, DiffFlat::new(alloc), grid, params, numbers),
+        Heat::Scalar => made_came(rt, DiffScalar::new(alloc), grid, params, numbers),
     }
 }
 

@@ -424,6 +424,44 @@ pub(crate) fn shown(rt: &HostRuntime, patch: &Patch) -> Result<Vec<i64>, Fail>
     Ok(shown)
 }
 
+/// What comes of a sweep of an undivided field, and the field behind it.
+fn swept_whole<R: Routine>(
+    rt: &HostRuntime,
+    routine: &R,
+    field: &Field,
+) -> Result<(Outcome, Patch), Fail>
+    requires tested { IsTested (R.spec_of routine.now) }
+    requires field { IsFieldFor (R.spec_of routine.now)
+        field.now.shape field.now.cut field.now.items }
+    ensures { IfOk result (λ came. came.1.vars ≡ field_vars) }
+{
+    let item = first_item(&field.items);
+    let before = part_of(rt, routine, field, 0)?;
+    let mut after = part_of(rt, routine, field, 0)?;
+    let end = sweep(rt, routine, item, &mut after);
+    let came = outcome_of(rt, routine, item, &before, &after, end)?;
+    Ok((came, after))
+}
+
+/// What came of it, beside the same field in parts.
+fn came_in_parts<R: Routine>(
+    rt: &HostRuntime,
+    routine: &R,
+    parts: &Field,
+    whole: &Patch,
+    came: Outcome,
+) -> Result<Outcome, Fail>
+    requires tested { IsTested (R.spec_of routine.now) }
+    requires parts { IsFieldFor (R.spec_of routine.now)
+        parts.now.shape parts.now.cut parts.now.items }
+    requires vars { whole.now.vars ≡ field_vars }
+{
+    if came == Outcome::Agrees && !are_parts_alike(rt, routine, parts, whole)? {
+        return Ok(Outcome::Differs);
+    }
+    Ok(came)
+}
+
 /// What comes of a sweep of a field and of the same field in parts, and the current numbers behind it.
 fn swept<R: Routine>(
     rt: &HostRuntime,
@@ -437,14 +475,8 @@ fn swept<R: Routine>(
     requires parts { IsFieldFor (R.spec_of routine.now)
         parts.now.shape parts.now.cut parts.now.items }
 {
-    let item = first_item(&field.items);
-    let before = part_of(rt, routine, field, 0)?;
-    let mut after = part_of(rt, routine, field, 0)?;
-    let end = sweep(rt, routine, item, &mut after);
-    let mut came = outcome_of(rt, routine, item, &before, &after, end)?;
-    if came == Outcome::Agrees && !are_parts_alike(rt, routine, parts, &after)? {
-        came = Outcome::Differs;
-    }
+    let (came, after) = swept_whole(rt, routine, field)?;
+    let came = came_in_parts(rt, routine, parts, &after, came)?;
     Ok((came, shown(rt, &after)?))
 }
 
@@ -452,6 +484,23 @@ fn swept<R: Routine>(
 fn halves(points: i32) -> [u32; 2] {
     let all = points.unsigned_abs();
     [all / 2, all - all / 2]
+}
+
+/// The grid with a routine's item and these numbers, in two parts along x where it has two points.
+fn field_in_parts<R: Routine>(
+    rt: &HostRuntime,
+    routine: &R,
+    grid: Grid,
+    params: &[i64; 4],
+    numbers: &[i64],
+) -> Result<Field, Fail>
+    requires { IsTested (R.spec_of routine.now) }
+    ensures { IfOk result (λ field. IsFieldFor (R.spec_of routine.now)
+        field.shape field.cut field.items) }
+{
+    let widths = halves(shape_of(grid).n.x);
+    let cut: &[u32] = if widths[0] == 0 { &[] } else { &widths };
+    field_for(rt, routine, grid, cut, params, numbers)
 }
 
 /// What comes of a routine's sweep of a grid with these numbers, and the current numbers behind it.
@@ -465,8 +514,6 @@ pub(crate) fn tried<R: Routine>(
     requires { IsTested (R.spec_of routine.now) }
 {
     let field = field_for(rt, routine, grid, &[], params, numbers)?;
-    let widths = halves(field.shape.n.x);
-    let cut: &[u32] = if widths[0] == 0 { &[] } else { &widths };
-    let parts = field_for(rt, routine, grid, cut, params, numbers)?;
+    let parts = field_in_parts(rt, routine, grid, params, numbers)?;
     swept(rt, routine, &field, &parts)
 }

@@ -1,14 +1,14 @@
 use Rattle.thorns_tests.proofs.TestedSpecs.{diff_init, diff_step, diff_flat, diff_scalar}
 use Rattle.thorns_tests.proofs.sweeps.heat_came.Goals as goal
 
-pub tried-requires : goal.tried-requires
-tried-requires c = diff_init
+pub made_came-requires : goal.made_came-requires
+made_came-requires c = λ routine. diff_init
 
-pub tried-requires-in-Step : goal.tried-requires-in-Step
-tried-requires-in-Step c = diff_step
+pub made_came-requires-in-Step : goal.made_came-requires-in-Step
+made_came-requires-in-Step c = λ routine. diff_step
 
-pub tried-requires-in-Flat : goal.tried-requires-in-Flat
-tried-requires-in-Flat c = diff_flat
+pub made_came-requires-in-Flat : goal.made_came-requires-in-Flat
+made_came-requires-in-Flat c = λ routine. diff_flat
 
-pub tried-requires-in-Scalar : goal.tried-requires-in-Scalar
-tried-requires-in-Scalar c = diff_scalar
+pub made_came-requires-in-Scalar : goal.made_came-requires-in-Scalar
+made_came-requires-in-Scalar c = λ routine. diff_scalar

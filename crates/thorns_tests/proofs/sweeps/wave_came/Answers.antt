@@ -1,17 +1,17 @@
 use Rattle.thorns_tests.proofs.TestedSpecs.{wave_init, wave_step, wave_flat, wave_copy, wave_scalar}
 use Rattle.thorns_tests.proofs.sweeps.wave_came.Goals as goal
 
-pub tried-requires : goal.tried-requires
-tried-requires c = wave_init
+pub made_came-requires : goal.made_came-requires
+made_came-requires c = λ routine. wave_init
 
-pub tried-requires-in-Step : goal.tried-requires-in-Step
-tried-requires-in-Step c = wave_step
+pub made_came-requires-in-Step : goal.made_came-requires-in-Step
+made_came-requires-in-Step c = λ routine. wave_step
 
-pub tried-requires-in-Flat : goal.tried-requires-in-Flat
-tried-requires-in-Flat c = wave_flat
+pub made_came-requires-in-Flat : goal.made_came-requires-in-Flat
+made_came-requires-in-Flat c = λ routine. wave_flat
 
-pub tried-requires-in-Copy : goal.tried-requires-in-Copy
-tried-requires-in-Copy c = wave_copy
+pub made_came-requires-in-Copy : goal.made_came-requires-in-Copy
+made_came-requires-in-Copy c = λ routine. wave_copy
 
-pub tried-requires-in-Scalar : goal.tried-requires-in-Scalar
-tried-requires-in-Scalar c = wave_scalar
+pub made_came-requires-in-Scalar : goal.made_came-requires-in-Scalar
+made_came-requires-in-Scalar c = λ routine. wave_scalar
