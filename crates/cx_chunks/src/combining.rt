@@ -101,44 +101,47 @@ fn put_part(
     Ok(())
 }
 
-/// A level of zeros.
-fn zeros(alloc: Global, all: &Box3) -> Result<Vec<i64>, Memory>
+/// Gives a level a value for each point, whatever it is.
+fn set_size(level: &mut Vec<i64>, all: &Box3) -> Result<(), Memory>
     requires ordered { IsBox all.now }
     requires small { IsSmall all.now }
-    ensures { IfOk result (λ level. length level.items ≡ point_count all.now) }
+    ensures { OnOk result (length level.new.items ≡ point_count all.now) }
 {
-    Ok(vec![in alloc; 0; count(all)]?)
+    level.resize(count(all), 0)?;
+    Ok(())
 }
 
-/// A whole level, each point from the part that owns it.
-fn joined(
+/// Makes a whole level, each point from the part that owns it, in the room of the level before it.
+fn join(
     alloc: Global,
+    level: &mut Vec<i64>,
     shape: &Shape,
     cut: &Cut,
     chunks: &[List<Piece>],
     cursors: &mut Cursors,
     full: &Text,
     iteration: u64,
-) -> Result<Vec<i64>, Memory>
+) -> Result<(), Memory>
     requires whole { IsWhole cut.now }
     requires shape { shape.now ≡ cut.now.shape }
     requires single { first_of_chunks double_in 0 chunks.now ≡ None }
-    ensures { IfOk result (λ level. level.items
+    ensures { OnOk result (level.new.items
         ≡ joined cut.now (values_in chunks.now full.now iteration)) }
 {
     let all = whole(shape);
-    let mut level = zeros(alloc, &all)?;
+    set_size(level, &all)?;
     'parts: for part in 0..cut.count() {
         let own = cut.part(part);
         let piece = piece_in(chunks, cursors, full, iteration, part);
-        put_part(alloc, &mut level, &all, &own, piece)?;
+        put_part(alloc, level, &all, &own, piece)?;
     }
-    Ok(level)
+    Ok(())
 }
 
-/// A variable's text at an iteration: its line in chunk 0, or the section of the level of all parts.
+/// A variable's text at an iteration: its line in chunk 0, or the section of the level of all parts, which is made in `level`.
 fn text_at(
     alloc: Global,
+    level: &mut Vec<i64>,
     job: &Job,
     cut: &Cut,
     chunks: &[List<Piece>],
@@ -155,10 +158,10 @@ fn text_at(
         let value = value_of(piece_in(chunks, cursors, &info.full, iteration, 0));
         scalar_line(alloc, &info.full, iteration, value)
     } else {
-        let level = joined(
-            alloc, &job.shape, cut, chunks, cursors, &info.full, iteration,
+        join(
+            alloc, level, &job.shape, cut, chunks, cursors, &info.full, iteration,
         )?;
-        section(alloc, &info.full, iteration, &job.shape, &level)
+        section(alloc, &info.full, iteration, &job.shape, level)
     }
 }
 
@@ -177,9 +180,19 @@ fn whole_text(
 {
     let iterations = iterations(alloc, chunks, &info.full)?;
     let mut cursors = Cursors::new(alloc, chunks.len())?;
+    let mut level = Vec::new(alloc);
     let mut text = Text::new(Vec::new(alloc));
     'iterations: for iteration in &iterations {
-        let part = text_at(alloc, job, cut, chunks, &mut cursors, info, *iteration)?;
+        let part = text_at(
+            alloc,
+            &mut level,
+            job,
+            cut,
+            chunks,
+            &mut cursors,
+            info,
+            *iteration,
+        )?;
         text.push_slice(part.as_slice())?;
     }
     Ok(text)

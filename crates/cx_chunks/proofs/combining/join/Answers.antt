@@ -8,15 +8,15 @@ use Rattle.cx_cut.specs.Cuts.{part_count}
 use Rattle.cx_chunks.specs.Combining.{found_values, values_in}
 use Rattle.cx_chunks.proofs.OwnLaws.{own_is_box, own_small, own_inside}
 use Rattle.cx_chunks.proofs.JoinLaws.{none_are, one_more, all_are}
-use Rattle.cx_chunks.proofs.combining.joined.Goals as goal
+use Rattle.cx_chunks.proofs.combining.join.Goals as goal
 
 pub parts-init : goal.parts-init
 parts-init c =
     let all_is : c.whole-all.result ≡ whole c.args.cut.now.shape =
     c.whole-all.ensures.value ∙ ap (λ (s : Shape). whole s) c.requires.shape in
     none_are c.args.cut.now c.requires.whole
-    (values_in c.args.chunks.now c.args.full.now c.args.iteration) c.in_ok-level.level.items
-    (c.in_ok-level.ensures ∙ ap (λ (b : Box3). point_count b) all_is)
+    (values_in c.args.chunks.now c.args.full.now c.args.iteration) c.set_size.new.level.items
+    (c.in_ok-set_size.ensures ∙ ap (λ (b : Box3). point_count b) all_is)
 
 pub put_part-requires-clause-ordered : goal.put_part-requires-clause-ordered
 put_part-requires-clause-ordered c =
