@@ -82,7 +82,7 @@ const JOBS: &[Job] = &[
 
 /// What a call comes to: its status, and what it prints.
 #[derive(Drop)]
-struct Said {
+struct Reply {
     status: u8,
     printed: Vec<u8>,
 }
@@ -90,8 +90,8 @@ struct Said {
 /// What two calls over the same devices come to, of which one fails once, and the two output files.
 #[derive(Drop)]
 struct Twice {
-    first: Said,
-    second: Said,
+    first: Reply,
+    second: Reply,
     first_output: Vec<u8>,
     second_output: Vec<u8>,
 }
@@ -124,9 +124,9 @@ fn run_cut_off<H: Shelf, D: Disk>(
 }
 
 /// What a call comes to of this status, with what was printed after so many bytes.
-fn said_after(alloc: Global, status: u8, out: &MemorySink, before: usize) -> Result<Said, Fail> {
+fn reply_after(alloc: Global, status: u8, out: &MemorySink, before: usize) -> Result<Reply, Fail> {
     let printed = out.bytes().get(before..).unwrap_or(&[]).to_vec(alloc)?;
-    Ok(Said { status, printed })
+    Ok(Reply { status, printed })
 }
 
 /// What a call over these devices comes to.
@@ -135,10 +135,10 @@ fn called<H: Shelf, D: Disk>(
     shelf: &mut H,
     disk: &mut D,
     out: &mut MemorySink,
-) -> Result<Said, Fail> {
+) -> Result<Reply, Fail> {
     let before = out.bytes().len();
     let status = run_anew(rt, shelf, disk, out)?;
-    said_after(rt.alloc(), status, out, before)
+    reply_after(rt.alloc(), status, out, before)
 }
 
 /// What a call over them and a wire that fails in one call comes to.
@@ -148,14 +148,14 @@ fn called_cut_off<H: Shelf, D: Disk>(
     disk: &mut D,
     out: &mut MemorySink,
     fail: u64,
-) -> Result<Said, Fail> {
+) -> Result<Reply, Fail> {
     let before = out.bytes().len();
     let status = run_cut_off(rt, shelf, disk, out, fail)?;
-    said_after(rt.alloc(), status, out, before)
+    reply_after(rt.alloc(), status, out, before)
 }
 
 /// What two calls come to, and the outputs on a disk.
-fn both_calls(alloc: Global, calls: (Said, Said), disk: &MemoryDisk) -> Result<Twice, Fail> {
+fn both_calls(alloc: Global, calls: (Reply, Reply), disk: &MemoryDisk) -> Result<Twice, Fail> {
     let (first, second) = calls;
     Ok(Twice {
         first,
@@ -171,7 +171,7 @@ fn call_twice<H: Shelf, D: Disk>(
     shelf: &mut H,
     disk: &mut D,
     out: &mut MemorySink,
-) -> Result<(Said, Said), Fail> {
+) -> Result<(Reply, Reply), Fail> {
     let first = called(rt, shelf, disk, out)?;
     let second = called(rt, shelf, disk, out)?;
     Ok((first, second))
