@@ -27,7 +27,6 @@ const BOX: &[u8] = b"ActiveThorns = \"WaveInt DiffInt ElemCA Control\"\n\
     wave::amount = 5\n\
     wave::sum = yes\n\
     IO::out_dir = $parfile\n\
-    IO::checkpoint_dir = $parfile\n\
     IO::out_every = 20\n\
     IO::out_vars = \"wave::phi wave::total\"\n\
     IO::checkpoint_every = 20\n\
