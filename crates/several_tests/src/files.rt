@@ -1,7 +1,7 @@
 //! The parameter files that take turns.
 
 use sample_files::File;
-use sample_runs::samples::{CA, LEAVES, SHORT_HEAT};
+use sample_runs::samples::{CA, SHORT_HEAT};
 
 /// The automaton in a folder of the file's own name.
 const OWN: &[u8] = b"ActiveThorns = \"ElemCA\"\n\
@@ -32,6 +32,19 @@ const BOX: &[u8] = b"ActiveThorns = \"WaveInt DiffInt ElemCA Control\"\n\
     IO::checkpoint_every = 20\n\
     IO::recover = \"autoprobe\"\n";
 
+/// Heat that leaves 16 bits in iteration 7, in a folder of its own.
+const HEAT: &[u8] = b"ActiveThorns = \"DiffInt\"\n\
+    Cactus::cctk_itlast = 20\n\
+    driver::global_nx = 16\n\
+    driver::periodic = yes\n\
+    driver::parts_x = 4\n\
+    diff::factor = 256\n\
+    diff::amount = 100\n\
+    diff::start = 2\n\
+    IO::out_vars = \"diff::u\"\n\
+    IO::out_dir = \"d\"\n\
+    IO::checkpoint_dir = \"d\"\n";
+
 /// Heat on as many points as a grid may have.
 const MANY: &[u8] = b"ActiveThorns = \"DiffInt\"\n\
     driver::global_nx = 16777216\n\
@@ -52,7 +65,7 @@ macro_rules! file {
 pub(crate) const FILES: &[File] = &[
     file!("ca.par", OWN),
     file!("box.par", BOX),
-    file!("d.par", LEAVES),
+    file!("d.par", HEAT),
     file!("arrangements/Integer/DiffInt/interface.ccl", SHORT_HEAT),
     file!("a.par", CA),
     file!("b.par", CA),
