@@ -6,6 +6,8 @@ mod event;
 mod fault;
 mod laws;
 mod numbers;
+mod picking;
+mod recutting;
 mod steps;
 mod turn;
 mod turns;
