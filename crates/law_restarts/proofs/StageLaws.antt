@@ -172,6 +172,6 @@ pub made_rises : (job : Job) (c : Call) → IsRun c job → Rise job.out_vars
 made_rises job c run =
     let files = (shelf_for c.shelf run.request.command).old in
     let made = then_ok (Raised config_fault (Configures run.request.file files))
-    (MadeOf c.specs files) job run.makes in
-    pieces_rise c.specs files made.0.thorns made.0.schedules made.0.settings.list job
-    (pieces_of c.specs files job made.0 made.2)
+    (MadeOf c.work.specs files) job run.makes in
+    pieces_rise c.work.specs files made.0.thorns made.0.schedules made.0.settings.list job
+    (pieces_of c.work.specs files job made.0 made.2)
