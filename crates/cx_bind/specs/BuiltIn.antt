@@ -27,6 +27,7 @@ starred_of_driver =
     codes "driver::parts_x" ∷ codes "driver::parts_y" ∷ codes "driver::parts_z"
     ∷ codes "driver::widths_x" ∷ codes "driver::widths_y" ∷ codes "driver::widths_z"
     ∷ codes "driver::lead"
+    ∷ codes "driver::balance" ∷ codes "driver::weight" ∷ codes "driver::weight_factor"
     ∷ []
 
 abbrev pub starred_of_io : List (List ℕ)
@@ -133,6 +134,13 @@ turn_parameters n =
     ∷ int_parameter n (codes "driver") (codes "while_limit") (pos 1) (pos 1000000) (codes "1000")
     ∷ []
 
+abbrev pub balance_parameters : ℕ → List Param
+balance_parameters n =
+    flag_parameter n (codes "driver") (codes "balance") (codes "no")
+    ∷ text_parameter n (codes "driver") (codes "weight") []
+    ∷ int_parameter n (codes "driver") (codes "weight_factor") (pos 0) (pos 1048576) (codes "1")
+    ∷ []
+
 abbrev pub output_parameters : ℕ → List Param
 output_parameters n =
     text_parameter n (codes "IO") (codes "out_dir") (codes ".")
@@ -167,7 +175,7 @@ abbrev pub driver_parameters : ℕ → List Param
 driver_parameters n =
     grid_parameters n
     ++ (ghost_parameters n ++ (periodic_parameters n
-    ++ (part_parameters n ++ (width_parameters n ++ turn_parameters n))))
+    ++ (part_parameters n ++ (width_parameters n ++ (turn_parameters n ++ balance_parameters n)))))
 
 abbrev pub io_parameters : ℕ → List Param
 io_parameters n =

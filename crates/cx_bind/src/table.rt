@@ -3,7 +3,7 @@
 ghost use Rattle.std.specs.Prelude.{◌≡◌, ◌++◌, ◌∷◌, [], codes, IfOk, OnOk, None, Some};
 ghost use Rattle.cx_param.specs.declared.declarations.PType.TheVariants as ptypes;
 ghost use Rattle.cx_param.specs.declared.ranges.Range.TheVariants as kinds;
-ghost use Rattle.cx_bind.specs.BuiltIn.{from_to, parameter, int_parameter, unset_parameter, flag_parameter, text_parameter, terminate_parameter, cactus_parameters, grid_parameters, ghost_parameters, periodic_parameters, part_parameters, width_parameters, turn_parameters, output_parameters, checkpoint_parameters, recover_parameter, recover_parameters, steer_parameters, driver_parameters, io_parameters, table};
+ghost use Rattle.cx_bind.specs.BuiltIn.{from_to, parameter, int_parameter, unset_parameter, flag_parameter, text_parameter, terminate_parameter, cactus_parameters, grid_parameters, ghost_parameters, periodic_parameters, part_parameters, width_parameters, turn_parameters, balance_parameters, output_parameters, checkpoint_parameters, recover_parameter, recover_parameters, steer_parameters, driver_parameters, io_parameters, table};
 
 use crate::Param;
 use crate::copies::copy_ranges;
@@ -291,6 +291,20 @@ fn push_turns(alloc: Global, table: &mut List<Param>, n: u32) -> Result<(), Memo
     Ok(())
 }
 
+/// Adds whether a checkpoint cuts the grid anew, and what its points weigh.
+fn push_balance(alloc: Global, table: &mut List<Param>, n: u32) -> Result<(), Memory>
+    ensures { OnOk result (table.new ≡ table.old ++ balance_parameters n) }
+{
+    let owner = Owner {
+        number: n,
+        implementation: b"driver",
+    };
+    push_flag(alloc, table, &owner, b"balance", b"no")?;
+    push_text(alloc, table, &owner, b"weight", b"")?;
+    push_int(alloc, table, &owner, b"weight_factor", (0, 1_048_576), b"1")?;
+    Ok(())
+}
+
 /// Adds where, what and how often a run writes output.
 fn push_output(alloc: Global, table: &mut List<Param>, n: u32) -> Result<(), Memory>
     ensures { OnOk result (table.new ≡ table.old ++ output_parameters n) }
@@ -388,6 +402,7 @@ fn push_driver(alloc: Global, table: &mut List<Param>, n: u32) -> Result<(), Mem
     push_parts(alloc, table, n)?;
     push_widths(alloc, table, n)?;
     push_turns(alloc, table, n)?;
+    push_balance(alloc, table, n)?;
     Ok(())
 }
 
