@@ -25,6 +25,8 @@ pub record AreInRange (v : Values) : Type 0 where
       → IsBetween (pos 1) (pos 512) (number_at v (codes "driver::parts_" ++ letter d))
   pub lead : IsBetween (pos 0) (pos 64) (number_at v (codes "driver::lead"))
   pub while_limit : IsBetween (pos 1) (pos 1000000) (number_at v (codes "driver::while_limit"))
+  pub weight_factor : IsBetween (pos 0) (pos 1048576)
+      (number_at v (codes "driver::weight_factor"))
   pub out_every : IsBetween (negsuc 0) (pos 1000000) (number_at v (codes "IO::out_every"))
   pub checkpoint_every : IsBetween (negsuc 0) (pos 1000000)
       (number_at v (codes "IO::checkpoint_every"))

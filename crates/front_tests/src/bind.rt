@@ -226,8 +226,8 @@ fn active_thorns_have_one_place_each(rt: HostRuntime) -> Result<(), Fail> {
 /// Places of parameters, their names and their thorns; the built-in thorns come after the five of the test.
 const PARAMETERS: &[(usize, &str, u32)] = &[
     (0, "Cactus::cctk_itlast", 5),
-    (34, "ca::rule", 0),
-    (53, "E::own", 4),
+    (37, "ca::rule", 0),
+    (56, "E::own", 4),
 ];
 
 #[test]
@@ -251,8 +251,8 @@ fn sample_thorns_have_their_variables_and_parameters(rt: HostRuntime) -> Result<
         b" ca::cell ca::live wave::phi wave::total diff::u diff::total control::count";
     assert_eq!(rt; names.as_slice(), want, "variables");
     let parameters = bound.parameters().as_slice();
-    assert_eq!(rt; parameters.len(), 54, "how many parameters");
-    assert_eq!(rt; parameters[34].ranges.len(), 2, "ranges of ca::rule");
+    assert_eq!(rt; parameters.len(), 57, "how many parameters");
+    assert_eq!(rt; parameters[37].ranges.len(), 2, "ranges of ca::rule");
     for (place, full, thorn) in PARAMETERS {
         match parameters.get(*place) {
             Some(parameter) => {
