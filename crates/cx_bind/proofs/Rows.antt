@@ -1,5 +1,5 @@
 -- Worked rows: what the definitions say of some thorns.
-use Rattle.std.specs.Prelude.{◌≡◌, refl, ℕ, pos, List, [], ◌∷◌, codes, map, take, drop, length, Option, Some, None, Ok, Err}
+use Rattle.std.specs.Prelude.{◌≡◌, refl, ℕ, pos, List, [], ◌∷◌, codes, map, drop, length, Option, Some, None, Ok, Err}
 use Rattle.cx_text.specs.declared.ctype.CType.TheVariants.{Real}
 use Rattle.cx_iface.specs.declared.tree.Access.TheVariants.{Public, Private}
 use Rattle.cx_param.specs.declared.ranges.Range.TheVariants.{Word}
@@ -54,7 +54,7 @@ row_table : length (table 2) ≡ 37
 row_table = refl
 
 row_balance : map {B = List ℕ × Option (List ℕ)} (λ (p : Param). (p.full, p.decl.default))
-    (take 3 (drop 23 (table 2)))
+    (drop 34 (table 2))
     ≡ (codes "driver::balance", Some (codes "no")) ∷ (codes "driver::weight", Some [])
     ∷ (codes "driver::weight_factor", Some (codes "1")) ∷ []
 row_balance = refl

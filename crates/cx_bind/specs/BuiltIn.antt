@@ -134,13 +134,6 @@ turn_parameters n =
     ∷ int_parameter n (codes "driver") (codes "while_limit") (pos 1) (pos 1000000) (codes "1000")
     ∷ []
 
-abbrev pub balance_parameters : ℕ → List Param
-balance_parameters n =
-    flag_parameter n (codes "driver") (codes "balance") (codes "no")
-    ∷ text_parameter n (codes "driver") (codes "weight") []
-    ∷ int_parameter n (codes "driver") (codes "weight_factor") (pos 0) (pos 1048576) (codes "1")
-    ∷ []
-
 abbrev pub output_parameters : ℕ → List Param
 output_parameters n =
     text_parameter n (codes "IO") (codes "out_dir") (codes ".")
@@ -171,11 +164,18 @@ recover_parameters n =
 abbrev pub steer_parameters : ℕ → List Param
 steer_parameters n = text_parameter n (codes "IO") (codes "steer_file") [] ∷ []
 
+abbrev pub balance_parameters : ℕ → List Param
+balance_parameters n =
+    flag_parameter n (codes "driver") (codes "balance") (codes "no")
+    ∷ text_parameter n (codes "driver") (codes "weight") []
+    ∷ int_parameter n (codes "driver") (codes "weight_factor") (pos 0) (pos 1048576) (codes "1")
+    ∷ []
+
 abbrev pub driver_parameters : ℕ → List Param
 driver_parameters n =
     grid_parameters n
     ++ (ghost_parameters n ++ (periodic_parameters n
-    ++ (part_parameters n ++ (width_parameters n ++ (turn_parameters n ++ balance_parameters n)))))
+    ++ (part_parameters n ++ (width_parameters n ++ turn_parameters n))))
 
 abbrev pub io_parameters : ℕ → List Param
 io_parameters n =
@@ -184,4 +184,5 @@ io_parameters n =
 
 -- all built-in parameters, for so many thorns
 abbrev pub table : ℕ → List Param
-table n = cactus_parameters n ++ (driver_parameters n ++ io_parameters n)
+table n =
+    cactus_parameters n ++ (driver_parameters n ++ (io_parameters n ++ balance_parameters n))

@@ -291,20 +291,6 @@ fn push_turns(alloc: Global, table: &mut List<Param>, n: u32) -> Result<(), Memo
     Ok(())
 }
 
-/// Adds whether a checkpoint cuts the grid anew, and what its points weigh.
-fn push_balance(alloc: Global, table: &mut List<Param>, n: u32) -> Result<(), Memory>
-    ensures { OnOk result (table.new ≡ table.old ++ balance_parameters n) }
-{
-    let owner = Owner {
-        number: n,
-        implementation: b"driver",
-    };
-    push_flag(alloc, table, &owner, b"balance", b"no")?;
-    push_text(alloc, table, &owner, b"weight", b"")?;
-    push_int(alloc, table, &owner, b"weight_factor", (0, 1_048_576), b"1")?;
-    Ok(())
-}
-
 /// Adds where, what and how often a run writes output.
 fn push_output(alloc: Global, table: &mut List<Param>, n: u32) -> Result<(), Memory>
     ensures { OnOk result (table.new ≡ table.old ++ output_parameters n) }
@@ -392,6 +378,20 @@ fn push_steer(alloc: Global, table: &mut List<Param>, n: u32) -> Result<(), Memo
     push_text(alloc, table, &owner, b"steer_file", b"")
 }
 
+/// Adds whether a checkpoint cuts the grid anew, and what its points weigh.
+fn push_balance(alloc: Global, table: &mut List<Param>, n: u32) -> Result<(), Memory>
+    ensures { OnOk result (table.new ≡ table.old ++ balance_parameters n) }
+{
+    let owner = Owner {
+        number: n,
+        implementation: b"driver",
+    };
+    push_flag(alloc, table, &owner, b"balance", b"no")?;
+    push_text(alloc, table, &owner, b"weight", b"")?;
+    push_int(alloc, table, &owner, b"weight_factor", (0, 1_048_576), b"1")?;
+    Ok(())
+}
+
 /// Adds the parameters of the driver, in the order of their numbers.
 fn push_driver(alloc: Global, table: &mut List<Param>, n: u32) -> Result<(), Memory>
     ensures { OnOk result (table.new ≡ table.old ++ driver_parameters n) }
@@ -402,7 +402,6 @@ fn push_driver(alloc: Global, table: &mut List<Param>, n: u32) -> Result<(), Mem
     push_parts(alloc, table, n)?;
     push_widths(alloc, table, n)?;
     push_turns(alloc, table, n)?;
-    push_balance(alloc, table, n)?;
     Ok(())
 }
 
@@ -425,5 +424,6 @@ pub(crate) fn table(alloc: Global, n: u32) -> Result<List<Param>, Memory>
     push_cactus(alloc, &mut params, n)?;
     push_driver(alloc, &mut params, n)?;
     push_io(alloc, &mut params, n)?;
+    push_balance(alloc, &mut params, n)?;
     Ok(params)
 }

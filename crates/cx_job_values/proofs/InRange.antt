@@ -192,14 +192,14 @@ module _ (thorns : List Thorn) (settings : List Setting)
             (λ dir. refl) refl;
         while_limit = one (codes "driver") (codes "while_limit") (pos 1) (pos 1000000)
             (codes "1000") 22 refl (λ dir. refl) refl;
-        weight_factor = one (codes "driver") (codes "weight_factor") (pos 0) (pos 1048576)
-            (codes "1") 25 refl (λ dir. refl) refl;
         out_every = one (codes "IO") (codes "out_every") (negsuc 0) (pos 1000000) (codes "1")
-            28 refl (λ dir. refl) refl;
+            25 refl (λ dir. refl) refl;
         checkpoint_every = one (codes "IO") (codes "checkpoint_every") (negsuc 0) (pos 1000000)
-            (codes "-1") 29 refl (λ dir. refl) refl;
-        keep = one (codes "IO") (codes "checkpoint_keep") (pos 1) (pos 7) (codes "1") 30 refl
+            (codes "-1") 26 refl (λ dir. refl) refl;
+        keep = one (codes "IO") (codes "checkpoint_keep") (pos 1) (pos 7) (codes "1") 27 refl
             (λ dir. refl) refl;
+        weight_factor = one (codes "driver") (codes "weight_factor") (pos 0) (pos 1048576)
+            (codes "1") 36 refl (λ dir. refl) refl;
       }
 
 -- ---- so the numbers themselves are taken

@@ -267,9 +267,6 @@ const DEFAULTS: &[(&str, &str)] = &[
     ("driver::widths_z", ""),
     ("driver::lead", "0"),
     ("driver::while_limit", "1000"),
-    ("driver::balance", "no"),
-    ("driver::weight", ""),
-    ("driver::weight_factor", "1"),
     ("IO::out_dir", "."),
     ("IO::out_vars", ""),
     ("IO::out_every", "1"),
@@ -281,6 +278,9 @@ const DEFAULTS: &[(&str, &str)] = &[
     ("IO::recover", "no"),
     ("IO::checkpoint_ID", "no"),
     ("IO::steer_file", ""),
+    ("driver::balance", "no"),
+    ("driver::weight", ""),
+    ("driver::weight_factor", "1"),
 ];
 
 #[test]

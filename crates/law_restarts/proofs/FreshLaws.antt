@@ -123,14 +123,14 @@ module _ (n : ℕ) (p : Param) (none : list_any (clash (known_by p)) (map known_
         (either p.full (codes "driver::widths_y") _ (is_other 19 (omega arith))
         (either p.full (codes "driver::widths_z") _ (is_other 20 (omega arith))
         (either p.full (codes "driver::lead") _ (is_other 21 (omega arith))
-        (either p.full (codes "driver::balance") _ (is_other 23 (omega arith))
-        (either p.full (codes "driver::weight") _ (is_other 24 (omega arith))
-        (either p.full (codes "driver::weight_factor") _ (is_other 25 (omega arith))
-        (either p.full (codes "IO::out_dir") _ (is_other 26 (omega arith))
-        (either p.full (codes "IO::checkpoint_dir") _ (is_other 32 (omega arith))
-        (either p.full (codes "IO::recover_dir") _ (is_other 33 (omega arith))
-        (either p.full (codes "IO::recover") _ (is_other 34 (omega arith))
-        (either p.full (codes "IO::steer_file") _ (is_other 36 (omega arith)) refl)))))))))))))))
+        (either p.full (codes "driver::balance") _ (is_other 34 (omega arith))
+        (either p.full (codes "driver::weight") _ (is_other 35 (omega arith))
+        (either p.full (codes "driver::weight_factor") _ (is_other 36 (omega arith))
+        (either p.full (codes "IO::out_dir") _ (is_other 23 (omega arith))
+        (either p.full (codes "IO::checkpoint_dir") _ (is_other 29 (omega arith))
+        (either p.full (codes "IO::recover_dir") _ (is_other 30 (omega arith))
+        (either p.full (codes "IO::recover") _ (is_other 31 (omega arith))
+        (either p.full (codes "IO::steer_file") _ (is_other 33 (omega arith)) refl)))))))))))))))
 
 module _ (thorns : List Thorn) (none : bind_fault thorns ≡ None) where
   names_fit : names_fault (known thorns) (variable_infos thorns) thorns ≡ None
