@@ -60,47 +60,18 @@ module _ {X : Type 0} (same : X → X → Bool) where
 abbrev pub Fine : ℕ → Param → Type 0
 Fine n p = ((p.thorn ≡ n) × (is_global p.decl.scope ≡ false)) ⊎ (among starred p.full ≡ false)
 
+own_fine : (n : ℕ) (ps : List Param) → map (λ (p : Param). p.thorn) ps ≡ map (λ p. n) ps
+    → map (λ (p : Param). is_global p.decl.scope) ps ≡ map (λ p. false) ps → Each (Fine n) ps
+own_fine n [] owners plain = tt
+own_fine n (p ∷ ps) owners plain =
+    let owner : p.thorn ≡ n = cc in
+    let local : is_global p.decl.scope ≡ false = cc in
+    let others : map (λ (q : Param). q.thorn) ps ≡ map (λ q. n) ps = cc in
+    let rest : map (λ (q : Param). is_global q.decl.scope) ps ≡ map (λ q. false) ps = cc in
+    (inl (owner, local), own_fine n ps others rest)
+
 table_fine : (n : ℕ) → Each (Fine n) (table n)
-table_fine n = (
-  inl (refl, refl),
-  inl (refl, refl),
-  inl (refl, refl),
-  inl (refl, refl),
-  inl (refl, refl),
-  inl (refl, refl),
-  inl (refl, refl),
-  inl (refl, refl),
-  inl (refl, refl),
-  inl (refl, refl),
-  inl (refl, refl),
-  inl (refl, refl),
-  inl (refl, refl),
-  inl (refl, refl),
-  inl (refl, refl),
-  inl (refl, refl),
-  inl (refl, refl),
-  inl (refl, refl),
-  inl (refl, refl),
-  inl (refl, refl),
-  inl (refl, refl),
-  inl (refl, refl),
-  inl (refl, refl),
-  inl (refl, refl),
-  inl (refl, refl),
-  inl (refl, refl),
-  inl (refl, refl),
-  inl (refl, refl),
-  inl (refl, refl),
-  inl (refl, refl),
-  inl (refl, refl),
-  inl (refl, refl),
-  inl (refl, refl),
-  inl (refl, refl),
-  inl (refl, refl),
-  inl (refl, refl),
-  inl (refl, refl),
-  tt,
-)
+table_fine n = own_fine n (table n) refl refl
 
 either : (full name : List ℕ) (b : Bool) → same_name full name ≡ false → b ≡ false
     → (same_name full name || b) ≡ false
