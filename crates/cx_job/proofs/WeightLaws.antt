@@ -70,22 +70,23 @@ module _ (thorns : List Thorn) (storage : List ℕ) where
             ap (λ (v : VarInfo). v.scalar) info ∙ s,
           )
 
-  pub weighs_stored : (values : Values) → weight_fault thorns values storage ≡ None
-      → IfSome (weight_of thorns values) (IsStoredGridIn (stored_infos thorns storage))
-  weighs_stored values none = by (is_empty (weight_name values)) none
-    where
-      abbrev name : List ℕ
-      name = weight_name values
+  module _ (values : Values) where
+    abbrev name : List ℕ
+    name = weight_name values
 
-      at : (o : Option ℕ) → o ≡ variable_named vars name
-          → grid_fault vars storage name o ≡ None
-          → IfSome (option_map var_id o) (IsStoredGridIn (stored_infos thorns storage))
-      at None is none = some_none none
-      at (Some k) is none = stored_grid name k (named_within vars name (Some k) is) none
+    weighs_at : (o : Option ℕ) → o ≡ variable_named vars name
+        → grid_fault vars storage name o ≡ None
+        → IfSome (option_map var_id o) (IsStoredGridIn (stored_infos thorns storage))
+    weighs_at None is none = some_none none
+    weighs_at (Some k) is none = stored_grid name k (named_within vars name (Some k) is) none
 
-      by : (b : Bool)
-          → (if b then None else grid_fault vars storage name (variable_named vars name)) ≡ None
-          → IfSome (if b then None else option_map var_id (variable_named vars name))
-          (IsStoredGridIn (stored_infos thorns storage))
-      by true none = tt
-      by false none = at (variable_named vars name) refl none
+    pub weighs_stored : weight_fault thorns values storage ≡ None
+        → IfSome (weight_of thorns values) (IsStoredGridIn (stored_infos thorns storage))
+    weighs_stored none = by (is_empty name) none
+      where
+        by : (b : Bool)
+            → (if b then None else grid_fault vars storage name (variable_named vars name)) ≡ None
+            → IfSome (if b then None else option_map var_id (variable_named vars name))
+            (IsStoredGridIn (stored_infos thorns storage))
+        by true none = tt
+        by false none = weighs_at (variable_named vars name) refl none
