@@ -28,7 +28,8 @@ module _ (d : Drive) (one : d.job.balance ≡ false) where
   all_cuts : again_in d ≡ (λ state. cut_in d)
   all_cuts = fun_ext again_is
 
-  first_is : (start : Option ℕ) (cut : Parts) → IsFirstCut d start cut → cut ≡ cut_in d
+  first_is : (start : Option ℕ) (cut : Parts) → IsFirstCut d.job d.rules d.specs start cut
+      → cut ≡ cut_in d
   first_is None cut is = is
   first_is (Some c) cut is = is.3 ∙ again_is is.0
 

@@ -144,7 +144,8 @@ module _ (d : Drive) (laws : DriveLaws d.wire.tells d.job d.rules) where
 -- the first cut is that after the place of what was found
 cut_first : (d : Drive) → Continues (setup_of d.job) d.rules → (found : Option Checkpoint)
     → IsFound (setup_of d.job) d.job.key d.rules found
-    → IsFirstCut d (newest_left found) (parts_of d.job.shape (first_cut d.specs d.job found))
+    → IsFirstCut d.job d.rules d.specs (newest_left found)
+    (parts_of d.job.shape (first_cut d.specs d.job found))
 cut_first d continues None is = refl
 cut_first d continues (Some c) is =
     let place = (has_places (setup_of d.job) d.rules continues d.job.key).places c is in (

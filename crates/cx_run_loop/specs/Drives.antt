@@ -75,13 +75,13 @@ cut_in d = parts_of d.job.shape d.job.cut
 abbrev pub again_in : Drive → State → Parts
 again_in d state = cut_from d.specs d.job state
 
--- The cut that a run begins with: the job's own at its start, else that after the place that it
--- resumes from.
-abbrev pub IsFirstCut : Drive → Option ℕ → Parts → Type 0
-IsFirstCut d None cut = cut ≡ cut_in d
-IsFirstCut d (Some c) cut =
-    (state : State) × (so_far : Lengths) × Reaches (setup_of d.job) d.rules c state so_far
-    × (cut ≡ again_in d state)
+-- The cut that a run of a job begins with: the job's own at its start, else that after the place
+-- that it resumes from.
+abbrev pub IsFirstCut : Job → List Rule → List Spec → Option ℕ → Parts → Type 0
+IsFirstCut job rules specs None cut = cut ≡ parts_of job.shape job.cut
+IsFirstCut job rules specs (Some c) cut =
+    (state : State) × (so_far : Lengths) × Reaches (setup_of job) rules c state so_far
+    × (cut ≡ cut_from specs job state)
 
 -- the disk and the wire tell what they hold
 abbrev pub AreTold : Drive → Type 0
@@ -135,7 +135,7 @@ pub record HasWorked (d : Drive) : Type 0 where
   pub start : Option ℕ
   pub start_is : ResumesFrom d.job.recover d.disk.old.seen start
   pub cut : Parts
-  pub cut_is : IsFirstCut d start cut
+  pub cut_is : IsFirstCut d.job d.rules d.specs start cut
   pub done : HasWorkedOn d cut (entries_from (setup_of d.job) d.rules start)
 
 -- The same of a job that isn't balanced, whose run has one cut: by a law it is what HasWorked says.

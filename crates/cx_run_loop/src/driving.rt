@@ -195,8 +195,13 @@ fn run_cores<D: Disk, W: Wire, T: Turns>(
     run.finish(disk)
 }
 
-/// A run that begins: where it is balanced, and goes on from a checkpoint, it is cut anew.
-fn begin_cores(
+/// The first core of a run that has begun, which goes on from what was found. Where the job is balanced, and a checkpoint was found,
+/// that is another core, in a cut by the weights of its points, which the job gets. `own` is the job's own cut.
+///
+/// # Errors
+///
+/// `Memory`: there was no memory left.
+pub fn begin_cores(
     alloc: Global,
     job: &mut Job,
     own: &Cuts,
@@ -229,7 +234,7 @@ fn begin_cores(
 }
 
 /// The least iteration of a checkpoint that can come after this one, or after none.
-fn next_after(found: &Option<Checkpoint>) -> u64
+pub fn next_after(found: &Option<Checkpoint>) -> u64
     requires few { IfSome found.now (λ c. c.iteration < 2 ^ 63) }
     ensures { result ≡ next_after found.now }
 {
@@ -290,7 +295,7 @@ fn run_core<D: Disk, W: Wire, T: Turns>(
 /// Whether a run is to be cut anew: a checkpoint of a balanced job was just saved, later than those before.
 ///
 /// Where the wire tells what it carries, each checkpoint is.
-fn is_cut_anew(job: &Job, next: u64, came: Advance, run: &Run) -> bool
+pub fn is_cut_anew(job: &Job, next: u64, came: Advance, run: &Run) -> bool
     ensures { result ≡ is_cut_anew job.now next came run.now.core }
 {
     let c = run.saved();

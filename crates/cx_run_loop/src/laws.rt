@@ -20,7 +20,7 @@ use law_course::{
 use law_reached::works_in_order;
 
 /// What the laws say of the runs of a job. It does nothing that shows; its clause is the law.
-pub(crate) fn drive_laws(job: &Job)
+pub fn drive_laws(job: &Job)
     requires { IsReady job.now }
     ensures { (told : Bool) (rules : List Rule) → DriveLaws (IsTrue told) job.now rules }
 {
@@ -49,7 +49,7 @@ fn counts_stay(job: &Job)
 }
 
 /// A core whose parts wait for each other at each checkpoint. It does nothing that shows; its clause is the law.
-pub(crate) fn cores_wait(job: &Job)
+pub fn cores_wait(job: &Job)
     requires { IsReady job.now }
     ensures { (told : Bool) (rules : List Rule) (b : Beginning) → IsBeginning (setup_of job.now) b
         → CoresWait (IsTrue told) job.now rules b }

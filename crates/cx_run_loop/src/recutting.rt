@@ -170,7 +170,11 @@ fn product(x: u32, y: u32, z: u32) -> u128
 }
 
 /// The same widths once more.
-pub(crate) fn copy_cuts(alloc: Global, cuts: &Cuts) -> Result<Cuts, Memory>
+///
+/// # Errors
+///
+/// There was no memory left.
+pub fn copy_cuts(alloc: Global, cuts: &Cuts) -> Result<Cuts, Memory>
     ensures { IfOk result (λ copy. copy ≡ cuts.now) }
 {
     Ok(Cuts {
