@@ -4,13 +4,13 @@ use Rattle.std.proofs.lemmas.Bool.Decides.{eqb_tells, leb_tells}
 use Rattle.std.proofs.lemmas.List.Sums.{sum_by-cons}
 use Rattle.std.specs.List.{list_all}
 use Rattle.std.specs.Prelude.{nat_eq, nat_le, if◌then◌else◌}
-use Rattle.cx_cut.specs.Faults.{parts_of}
 use Rattle.cx_plan.specs.Setups.{setup_of}
 use Rattle.cx_plan.specs.declared.job.Job.{Job}
 use Rattle.cx_rule.specs.Meter.{raised}
 use Rattle.law_course.specs.Beginnings.{entries_from}
-use Rattle.law_parts.specs.Work.{work}
 use Rattle.cx_run_loop.specs.Drives.{HasWorked}
+use Rattle.cx_run_loop.specs.Recuts.{cut_from}
+use Rattle.cx_run_loop.specs.Sums.{work_in}
 use Rattle.cx_run.specs.Calls.{IsRun, driven}
 use Rattle.cx_run.specs.Words.{is_file, request}
 use Rattle.cx_run.specs.declared.words.Command.TheVariants.{Run}
@@ -87,16 +87,18 @@ module _ {D W : Type 0} (c : Batch D W) (told : AreTold c) where
       → HasRunAlone c file p s → AllMade c.specs c.shelf.old (file ∷ []) (job ∷ [])
       → GoesOn c job p.disk → s.status ≡ 0 → IsSpent job p.disk s.spent
   is_spent file p job s is_name x made goes done = record {
-    points = work (setup_of job) (parts_of job.shape job.cut)
-        (entries_from (setup_of job) c.rules worked.start);
-    left = record { start = worked.start; start_is = worked.start_is; points_are = refl };
-    no_more = no_more_of (2 ^ 128 - 1) x.meter.old x.meter.new s.spent
-        (work (setup_of job) (parts_of job.shape job.cut)
-        (entries_from (setup_of job) c.rules worked.start)) x.spent worked.done.points;
-    spent_are = λ below. spent_of (2 ^ 128 - 1) x.meter.old x.meter.new s.spent
-        (work (setup_of job) (parts_of job.shape job.cut)
-        (entries_from (setup_of job) c.rules worked.start))
-        x.spent worked.done.points (below_too x.meter.new c.meter.new (2 ^ 128 - 1) x.within below);
+    points = points;
+    left = record {
+      start = worked.start;
+      start_is = worked.start_is;
+      cut = worked.cut;
+      cut_is = worked.cut_is;
+      points_are = refl;
+    };
+    no_more = no_more_of (2 ^ 128 - 1) x.meter.old x.meter.new s.spent points x.spent
+        worked.done.points;
+    spent_are = λ below. spent_of (2 ^ 128 - 1) x.meter.old x.meter.new s.spent points x.spent
+        worked.done.points (below_too x.meter.new c.meter.new (2 ^ 128 - 1) x.within below);
   }
     where
       is_run : IsRun (alone c file p x.meter) job
@@ -110,6 +112,10 @@ module _ {D W : Type 0} (c : Batch D W) (told : AreTold c) where
 
       worked : HasWorked (driven (alone c file p x.meter).work job)
       worked = (x.obeys.run (told.disks, told.wires) job is_run goes).work done
+
+      abbrev points : ℕ
+      points = work_in (setup_of job) (cut_from c.specs job) worked.cut
+          (entries_from (setup_of job) c.rules worked.start)
 
   record AreSpent (jobs : List Job) (disks : List D) (ss : List Share) : Type 0 where
     pub points : List ℕ

@@ -6,7 +6,7 @@ pub round-requires : goal.round-requires
 round-requires g t c κs within =
     let served = next_served _ c.args.members.now c.in-Some.member.now c.in-Some.others.now
     c.in-Some.ensures.cases.0 c.requires.served in
-    let able = next_able g.D.Disk g.W.Wire _ c.args.members.now c.in-Some.member.now
+    let able = next_able g.D.Disk g.W.Wire _ _ c.args.members.now c.in-Some.member.now
     c.take_turn.new.member c.in-Some.others.now c.args.disks.now
     c.in-Some-split_first_mut.disk.now c.take_turn.new.disk
     c.in-Some-split_first_mut.more_disks.now c.args.wires.now
@@ -21,7 +21,7 @@ round-requires g t c κs within =
 pub returns-in-Some-split_first_mut-2-clause-turned :
     goal.returns-in-Some-split_first_mut-2-clause-turned
 returns-in-Some-split_first_mut-2-clause-turned g t c =
-    round_turned g.D.Disk g.W.Wire _ c.args.members.now c.in-Some.member.now c.take_turn.new.member
+    round_turned g.D.Disk g.W.Wire _ _ c.args.members.now c.in-Some.member.now c.take_turn.new.member
     c.in-Some.others.now c.round.new.members c.args.disks.now c.in-Some-split_first_mut.disk.now
     c.take_turn.new.disk c.in-Some-split_first_mut.more_disks.now c.round.new.disks
     c.args.wires.now c.in-Some-split_first_mut-2.wire.now c.take_turn.new.wire

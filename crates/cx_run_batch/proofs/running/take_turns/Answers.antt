@@ -4,7 +4,7 @@ use Rattle.cx_run_batch.proofs.running.take_turns.Goals as goal
 
 pub rounds-preserved : goal.rounds-preserved
 rounds-preserved g c = record {
-  turned = turned_twice g.D.Disk g.W.Wire _ c.args.members.now c.rounds.members
+  turned = turned_twice g.D.Disk g.W.Wire _ _ c.args.members.now c.rounds.members
       c.round.new.members c.args.disks.now c.rounds.disks c.round.new.disks c.args.wires.now
       c.rounds.wires c.round.new.wires c.args.meter.now c.rounds.meter c.round.new.meter
       c.rounds.invariant.turned c.round.ensures.turned;
