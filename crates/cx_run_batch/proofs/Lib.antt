@@ -7,3 +7,4 @@ pub mod StageLaws
 pub mod SaveLaws
 pub mod WaitLaws
 pub mod MemberLaws
+pub mod TurnLaws

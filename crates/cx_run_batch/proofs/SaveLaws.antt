@@ -167,6 +167,14 @@ module _ {D W : Type 0} (d : DiskGhosts D) (w : WireGhosts W) (rules : List Rule
       waits = λ same. waited_more s was is x.next (can.waits same) came same (waits same) stays;
     }
 
+    -- where it is to be cut anew no message is left
+    pub empty_after : came ≡ Saved → is_cut_anew now x.next Saved mid.core ≡ true
+        → AreEmpty (w.queue wire_after)
+    empty_after saved anew =
+        let balanced : now.balance ≡ true = (cut_is now x.next Saved mid.core anew).balance in
+        none_left s was is x.next (can.waits balanced)
+        (subst (λ (a : Advance). WaitsOn s was is a) saved (waits balanced))
+
     -- with another one
     module _ (saved : came ≡ Saved) (holds : HoldsCheckpoint (setup_of now) mid.core)
         (fits : IsTrue w.tells → w.sum wire_after < 2 ^ 64) (new : Job) (z : UnderWay)
@@ -177,12 +185,8 @@ module _ {D W : Type 0} (d : DiskGhosts D) (w : WireGhosts W) (rules : List Rule
       anew : BeginsAnew (with_cut job next) specs job c mid.keeper z.run
       anew = subst (λ (j : Job). BeginsAnew j specs job c mid.keeper z.run) new_is h.begins
 
-      balanced : now.balance ≡ true
-      balanced = (cut_is now x.next Saved mid.core h.anew).balance
-
       empty : AreEmpty (w.queue wire_after)
-      empty = none_left s was is x.next (can.waits balanced)
-          (subst (λ (a : Advance). WaitsOn s was is a) saved (waits balanced))
+      empty = empty_after saved h.anew
 
       wait : CoresWait (IsTrue w.tells) (with_cut job next) rules
           (begins_in (setup_of job) (Some c))

@@ -2,6 +2,7 @@
 ghost use Rattle.std.specs.Prelude.{◌≡◌, ◌<◌, ◌≤◌, ◌∷◌, [], false, map};
 ghost use Rattle.cx_run_batch.specs.Members.{CanTurn, HasStarted, Turned, waiting};
 ghost use Rattle.cx_run_batch.specs.Stages.{IsServed, is_over, own_job, turns_left};
+ghost use Rattle.cx_run_batch.specs.Turns.{TakesTurn};
 
 use crate::stage::{Stage, begin, go_on};
 use cx_disk::Disk;
@@ -76,6 +77,9 @@ pub(crate) fn take_turn<D: Disk, W: Wire, T: Turns>(
     ensures turned { Turned D.Disk W.Wire (map rule routines.now) (map spec_of routines.now)
         (member.old ∷ []) (member.new ∷ []) (disk.old ∷ []) (disk.new ∷ [])
         (wire.old ∷ []) (wire.new ∷ []) meter.old meter.new }
+    ensures turns { TakesTurn W.Wire T.Turns (map rule routines.now)
+        member.old.job member.new.job wire.old wire.new meter.old meter.new
+        turns.old turns.new member.old.stage member.new.stage }
     ensures less { is_over member.old.stage ≡ false
         → turns_left member.new.job member.new.stage
         < turns_left member.old.job member.old.stage }

@@ -3,6 +3,7 @@ ghost use Rattle.std.specs.Prelude.{◌≡◌, ◌<◌, ◌≤◌, ◌+◌, List
 ghost use Rattle.std.specs.List.{list_all};
 ghost use Rattle.cx_run_batch.specs.Members.{AreAble, AreOwnServed, AreServed, AreWaiting, HaveRun, HaveStarted, HaveWires, Turned, jobs_of, left_to, spent_by};
 ghost use Rattle.cx_run_batch.specs.Stages.{is_over};
+ghost use Rattle.cx_run_batch.specs.Turns.{AreTurns, TakeTurns, batch};
 
 use crate::member::{Member, start, take_turn};
 use cx_disk::Disk;
@@ -18,8 +19,9 @@ use std::alloc::Global;
 /// turns in order, again and again, until all are over. A member is over with its core where its run came to its end, and with a fault
 /// where a device failed, where there was no memory left, or where the files on its disk refuse the start. The others go on then.
 ///
-/// A member's result is that of its run alone, on a meter of its own that has counted as much as it has spent. Disks and wires
-/// without a member are as they were. It takes no memory beside that of the runs.
+/// A member's result is that of its run alone, on a meter of its own that has counted as much as it has spent. Each event is the one
+/// that `turns` picks: of all that can happen in the member's core, or, if its job is balanced, of those that don't lie ahead. Disks
+/// and wires without a member are as they were. It takes no memory beside that of the runs.
 pub fn run_all<D: Disk, W: Wire, T: Turns>(
     alloc: Global,
     members: &mut [Member],
@@ -36,6 +38,9 @@ pub fn run_all<D: Disk, W: Wire, T: Turns>(
     ensures jobs { jobs_of members.new ≡ jobs_of members.old }
     ensures ran { HaveRun D.Disk W.Wire (map rule routines.now) (map spec_of routines.now)
         members.new disks.old disks.new wires.old wires.new meter.new }
+    ensures turns { TakeTurns D.Disk W.Wire T.Turns (map rule routines.now)
+        (map spec_of routines.now) disks.old (batch members.old wires.old meter.old turns.old)
+        (batch members.new wires.new meter.new turns.new) }
     ensures meter { meter.new ≡ meter.old + spent_by members.new }
     ensures begun { T.begun turns.new ≡ T.begun turns.old }
 {
@@ -78,6 +83,9 @@ fn take_turns<D: Disk, W: Wire, T: Turns>(
         members.old disks.old wires.old meter.old }
     ensures turned { Turned D.Disk W.Wire (map rule routines.now) (map spec_of routines.now)
         members.old members.new disks.old disks.new wires.old wires.new meter.old meter.new }
+    ensures turns { AreTurns W.Wire T.Turns (map rule routines.now)
+        (batch members.old wires.old meter.old turns.old)
+        (batch members.new wires.new meter.new turns.new) }
     ensures over { list_all (λ m. is_over m.stage) members.new ≡ true }
     ensures begun { T.begun turns.new ≡ T.begun turns.old }
 {
@@ -94,7 +102,7 @@ fn all_over(members: &[Member]) -> bool
 }
 
 /// One turn of each member, in order.
-#[tactic(auto, using(crate::proofs::MemberLaws::unturned))]
+#[tactic(auto, using(crate::proofs::MemberLaws::unturned, crate::proofs::TurnLaws::no_turns))]
 fn round<D: Disk, W: Wire, T: Turns>(
     alloc: Global,
     members: &mut [Member],
@@ -109,6 +117,9 @@ fn round<D: Disk, W: Wire, T: Turns>(
         members.old disks.old wires.old meter.old }
     ensures turned { Turned D.Disk W.Wire (map rule routines.now) (map spec_of routines.now)
         members.old members.new disks.old disks.new wires.old wires.new meter.old meter.new }
+    ensures turns { AreTurns W.Wire T.Turns (map rule routines.now)
+        (batch members.old wires.old meter.old turns.old)
+        (batch members.new wires.new meter.new turns.new) }
     ensures less { list_all (λ m. is_over m.stage) members.old ≡ false
         → left_to members.new < left_to members.old }
     ensures left { left_to members.new ≤ left_to members.old }

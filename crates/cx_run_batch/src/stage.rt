@@ -7,6 +7,7 @@ ghost use Rattle.cx_plan.specs.Setups.{setup_of};
 ghost use Rattle.cx_rule.specs.Routine.{Rule};
 ghost use Rattle.cx_core.specs.Starts.{CanBegin, IsReady};
 ghost use Rattle.cx_run_batch.specs.Stages.{BeginsAs, CanGoOn, FirstCore, GoesOnAfter, IsAble, IsAt, IsOnWay, IsServed, is_over, lot, own_job, turns_left};
+ghost use Rattle.cx_run_batch.specs.Turns.{TakesTurn};
 ghost use Rattle.cx_run_loop.specs.Cores.{is_cut_anew};
 ghost use Rattle.cx_run_loop.specs.Faults.{Stops};
 ghost use Rattle.cx_run_loop.specs.Laws.{DriveLaws};
@@ -135,6 +136,8 @@ pub(crate) fn go_on<D: Disk, W: Wire, T: Turns>(
         (lot disk_lent disk.old wire_lent wire.old meter.old spent) stage
         → IsAt D.Disk W.Wire (map rule routines.now) (map spec_of routines.now) job.new
         (lot disk_lent disk.new wire_lent wire.new meter.new (spent + more)) result }
+    ensures turns { TakesTurn W.Wire T.Turns (map rule routines.now) job.old job.new
+        wire.old wire.new meter.old meter.new turns.old turns.new stage result }
     ensures able { IsAble D.Disk W.Wire (map rule routines.now) (map spec_of routines.now) job.new
         disk.new wire.new meter.new result }
     ensures less { is_over stage ≡ false
@@ -169,6 +172,8 @@ fn advance<D: Disk, W: Wire, T: Turns>(
         (lot disk_lent disk.old wire_lent wire.old meter.old spent) (Stage.Going x)
         → IsAt D.Disk W.Wire (map rule routines.now) (map spec_of routines.now) job.new
         (lot disk_lent disk.new wire_lent wire.new meter.new (spent + more)) result }
+    ensures turns { TakesTurn W.Wire T.Turns (map rule routines.now) job.old job.new
+        wire.old wire.new meter.old meter.new turns.old turns.new (Stage.Going x) result }
     ensures able { IsAble D.Disk W.Wire (map rule routines.now) (map spec_of routines.now) job.new
         disk.new wire.new meter.new result }
     ensures less { turns_left job.new result < turns_left job.old (Stage.Going x) }
@@ -177,10 +182,7 @@ fn advance<D: Disk, W: Wire, T: Turns>(
 {
     drive_laws(job);
     core_stands(job);
-    match x
-        .run
-        .advance(alloc, MOST_EVENTS, job, routines, disk, wire, turns, meter)
-    {
+    match x.run.advance(alloc, MOST_EVENTS, job, routines, disk, wire, turns, meter) {
         Ok(came) => match came {
             Advance::More => Stage::Going(x),
             Advance::Saved => after_save(alloc, job, routines, x),
@@ -194,12 +196,7 @@ fn advance<D: Disk, W: Wire, T: Turns>(
 }
 
 /// A run of which a checkpoint was just saved: with another core, if it is to be cut anew.
-fn after_save(
-    alloc: Global,
-    job: &mut Job,
-    routines: &[Box<dyn Routine>],
-    x: UnderWay,
-) -> Stage
+fn after_save(alloc: Global, job: &mut Job, routines: &[Box<dyn Routine>], x: UnderWay) -> Stage
     requires served { IsServed (map spec_of routines.now) (with_cut job.old x.own) }
     requires holds { HoldsCheckpoint (setup_of job.old) x.run.core }
     ensures goes { GoesOnAfter (map spec_of routines.now) job.old job.new x result }

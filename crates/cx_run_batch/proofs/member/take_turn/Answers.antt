@@ -1,5 +1,6 @@
 use Rattle.std.proofs.Common.{◌≡◌, ◌+◌, ◌-◌, ◌<◌, ◌≤◌, ◌^◌, map, subst, sym, arith}
 use Rattle.cx_run_batch.specs.Stages.{IsAt, lot, own_job, turns_left}
+use Rattle.cx_run_batch.specs.Turns.{TakesTurn}
 use Rattle.cx_run_batch.specs.declared.stage.Stage.{Stage}
 use Rattle.cx_run_batch.proofs.MemberLaws.{one_turned}
 use Rattle.cx_run_batch.proofs.WaitLaws.{rises_within}
@@ -40,3 +41,9 @@ returns-clause-left g c =
     subst (λ (stage : Stage). turns_left c.go_on.new.job c.go_on.result
     ≤ turns_left c.args.member.now.job stage) c.replace-stage.ensures.value
     c.go_on.ensures.left
+
+pub returns-clause-turns : goal.returns-clause-turns
+returns-clause-turns g c =
+    subst (λ (stage : Stage). TakesTurn g.W.Wire g.T.Turns _ c.args.member.now.job c.go_on.new.job
+    c.args.wire.now c.go_on.new.wire c.args.meter.now c.go_on.new.meter c.args.turns.now
+    c.go_on.new.turns stage c.go_on.result) c.replace-stage.ensures.value c.go_on.ensures.turns

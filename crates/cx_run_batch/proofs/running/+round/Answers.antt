@@ -1,5 +1,6 @@
 use Rattle.std.proofs.Common.{◌<◌, length, rules, arith}
 use Rattle.cx_run_batch.proofs.MemberLaws.{next_able, next_served, round_turned}
+use Rattle.cx_run_batch.proofs.TurnLaws.{turns_beside}
 use Rattle.cx_run_batch.proofs.running.+round.Goals as goal
 
 pub round-requires : goal.round-requires
@@ -29,3 +30,14 @@ returns-in-Some-split_first_mut-2-clause-turned g t c =
     c.take_turn.new.meter c.round.new.meter c.in-Some.ensures.cases.0
     c.in-Some-split_first_mut.ensures.cases.0 c.in-Some-split_first_mut-2.ensures.cases.0
     c.take_turn.ensures.turned c.round.ensures.turned
+
+pub returns-in-Some-split_first_mut-2-clause-turns :
+    goal.returns-in-Some-split_first_mut-2-clause-turns
+returns-in-Some-split_first_mut-2-clause-turns g t c =
+    turns_beside g.W.Wire g.T.Turns _ c.args.members.now c.in-Some.member.now
+    c.take_turn.new.member c.in-Some.others.now c.round.new.members c.args.wires.now
+    c.in-Some-split_first_mut-2.wire.now c.take_turn.new.wire
+    c.in-Some-split_first_mut-2.more_wires.now c.round.new.wires c.args.meter.now
+    c.take_turn.new.meter c.round.new.meter c.args.turns.now c.take_turn.new.turns
+    c.round.new.turns c.in-Some.ensures.cases.0 c.in-Some-split_first_mut-2.ensures.cases.0
+    c.take_turn.ensures.turns c.round.ensures.turns

@@ -39,3 +39,11 @@ returns-clause-meter g c =
     let all : c.take_turns.new.meter + spent_by c.start_all.new.members
     ≡ c.args.meter.now + spent_by c.take_turns.new.members = c.take_turns.ensures.turned.counts in
     omega (arith, none, all)
+
+pub returns-clause-turns : goal.returns-clause-turns
+returns-clause-turns g c = record {
+  begun = c.start_all.new.members;
+  disks_begun = c.start_all.new.disks;
+  starts = c.start_all.ensures;
+  turns = c.take_turns.ensures.turns;
+}

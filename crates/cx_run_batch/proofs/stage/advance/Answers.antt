@@ -11,8 +11,9 @@ use Rattle.cx_run_loop.specs.declared.turn.Advance.{Advance}
 use Rattle.cx_run_batch.specs.Stages.{IsOver, lot, most_steps}
 use Rattle.cx_run_batch.proofs.ComeLaws.{more_stays, over_stays}
 use Rattle.cx_run_batch.proofs.FreshLaws.{fewer_steps, some_left}
-use Rattle.cx_run_batch.proofs.SaveLaws.{able_after, able_same, at_after, at_same, comes_same, less_after, own_after}
+use Rattle.cx_run_batch.proofs.SaveLaws.{able_after, able_same, at_after, at_same, comes_same, empty_after, less_after, own_after}
 use Rattle.cx_run_batch.proofs.StageLaws.{finished, stopped}
+use Rattle.cx_run_batch.proofs.TurnLaws.{turn_after, turn_ends, turn_same}
 use Rattle.cx_run_batch.proofs.stage.advance.Goals as goal
 
 pub after_save-requires-clause-holds : goal.after_save-requires-clause-holds
@@ -142,3 +143,30 @@ returns-in-Err-clause-less g c =
     some_left ((c.args.job.now.itlast + 1 - c.args.x.next)
     * (1 + most_steps (with_cut c.args.job.now c.args.x.own)))
     (steps_left (setup_of c.args.job.now) c.args.x.run.core.pace)
+
+-- ---- its events
+
+pub returns-in-More-clause-turns : goal.returns-in-More-clause-turns
+returns-in-More-clause-turns g c =
+    turn_same g.W.Wire g.T.Turns _ c.args.job.now c.args.x c.advance.new.self c.args.wire.now
+    c.advance.new.wire c.args.meter.now c.advance.new.meter c.args.turns.now c.advance.new.turns
+    c.in-Ok.ensures.advances.events c.in-Ok.ensures.advances.steps
+
+pub returns-in-Saved-clause-turns : goal.returns-in-Saved-clause-turns
+returns-in-Saved-clause-turns g c =
+    turn_after g.W.Wire g.T.Turns _ c.args.job.now c.args.x c.advance.new.self c.args.wire.now
+    c.advance.new.wire c.args.meter.now c.advance.new.meter c.args.turns.now c.advance.new.turns
+    c.in-Ok.ensures.advances.events c.in-Ok.ensures.advances.steps _ c.after_save.new.job
+    c.after_save.result
+    (empty_after g.D.Disk g.W.Wire _ _ c.args.job.now c.args.x c.advance.new.self c.args.disk.now
+    c.advance.new.disk c.args.wire.now c.advance.new.wire c.args.meter.now c.advance.new.meter
+    c.in-Ok.ensures.keeps c.in-Ok.came c.in-Ok.ensures.advances.moves c.in-Ok.ensures.waits
+    c.in-Ok.ensures.advances.going c.requires.able c.in-Saved.is)
+    (g.met.W.Wire.sum_fits c.advance.new.wire) c.after_save.ensures.goes
+
+pub returns-in-Over-clause-turns : goal.returns-in-Over-clause-turns
+returns-in-Over-clause-turns g c =
+    turn_ends g.W.Wire g.T.Turns _ c.args.job.now c.args.x c.advance.new.self c.args.wire.now
+    c.advance.new.wire c.args.meter.now c.advance.new.meter c.args.turns.now c.advance.new.turns
+    c.in-Ok.ensures.advances.events c.in-Ok.ensures.advances.steps c.finish.new.job
+    c.finish.result c.finish.ensures.core

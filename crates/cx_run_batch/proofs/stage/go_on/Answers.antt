@@ -1,3 +1,4 @@
+use Rattle.std.proofs.Common.{refl}
 use Rattle.cx_run_batch.specs.declared.stage.Stage.TheVariants.{Over}
 use Rattle.cx_run_batch.proofs.WaitLaws.{stays}
 use Rattle.cx_run_batch.proofs.stage.go_on.Goals as goal
@@ -15,3 +16,9 @@ pub returns-in-Over-clause-at : goal.returns-in-Over-clause-at
 returns-in-Over-clause-at g c = rw c.in-Over.is (λ disk_lent wire_lent spent more none x.
     stays g.D.Disk g.W.Wire _ _ c.args.job.now disk_lent c.args.disk.now wire_lent c.args.wire.now
     c.args.meter.now spent more none (Over c.in-Over.came) x)
+
+pub returns-in-Going-clause-turns : goal.returns-in-Going-clause-turns
+returns-in-Going-clause-turns g c = rw c.in-Going.is c.advance.ensures.turns
+
+pub returns-in-Over-clause-turns : goal.returns-in-Over-clause-turns
+returns-in-Over-clause-turns g c = rw c.in-Over.is refl
