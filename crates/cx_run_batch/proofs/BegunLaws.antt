@@ -1,6 +1,6 @@
 -- The first turn of one run.
-use Rattle.std.proofs.Common.{◌≡◌, ◌≤◌, ◌<◌, ◌^◌, ℕ, inl, inr, false, refl, sym, ◌∙◌, ap, subst, arith}
-use Rattle.std.specs.Prelude.{IsTrue, Option, Some, Result, Ok, Err}
+use Rattle.std.proofs.Common.{◌≡◌, ◌≤◌, ◌<◌, ◌^◌, ℕ, List, inl, inr, refl, sym, ◌∙◌, ap, subst, arith}
+use Rattle.std.specs.Prelude.{IsTrue, Option, Result, Ok, Err}
 use Rattle.cx_cut.specs.Cuts.{part_count}
 use Rattle.cx_cut.specs.Faults.{parts_of}
 use Rattle.cx_plan.specs.declared.job.Cuts.{Cuts}
@@ -38,7 +38,7 @@ use Rattle.cx_run_loop.proofs.CoresGo.{kept_on, waits_at}
 use Rattle.cx_run_loop.proofs.DriveLaws.{refused}
 use Rattle.cx_run_loop.proofs.StopLaws.{count}
 use Rattle.cx_run_loop.proofs.UnderWayLaws.{come_at, going_at}
-use Rattle.cx_run_batch.specs.Stages.{AllWait, BeginsAs, CoreStart, FirstCore, HasBegunOn, IsAble, IsAt, IsOnWay, IsOver, StartsAs, begins_at, lot}
+use Rattle.cx_run_batch.specs.Stages.{AllWait, BeginsAs, CoreStart, FirstCore, HasBegunOn, HaveWaited, IsAble, IsAt, IsOnWay, IsOver, StartsAs, begins_at, lot}
 use Rattle.cx_run_batch.specs.declared.stage.Stage.{Stage}
 use Rattle.cx_run_batch.specs.declared.stage.Stage.TheVariants.{Going, Over}
 use Rattle.cx_run_batch.specs.declared.stage.UnderWay.{UnderWay}
@@ -192,13 +192,24 @@ module _ {D W : Type 0} (d : DiskGhosts D) (w : WireGhosts W) (rules : List Rule
       values = omega arith;
     }
 
+    waited_begun : HaveWaited (by now.cut) x.next (place_in now.cut x.run)
+    waited_begun = record {
+      found = b.found;
+      first = first;
+      next_is = b.core.next_is;
+      there = (come_at (by now.cut) b.found x.run.keeper (place_in now.cut x.run) first_is.begun
+          first_is.going).there;
+      waiting = waits_at (by now.cut) b.found x.run.keeper (place_in now.cut x.run)
+          first_is.begun first_is.going wait;
+    }
+
   pub at_begun : (now : Job) (stage : Stage) → BeginsAs d specs job now was is stage
       → IsAt d w rules specs now (lot was is wire wire meter 0) stage
   at_begun now (Going x) b =
       subst (λ (j : Job). IsOnWay d w rules specs j now.cut (lot was is wire wire meter 0) x)
       (sym (job_again job now x.own b.starts.core.own_is b.starts.core.job_is))
       (on_way_begun now x b.starts b.moments b.later)
-  at_begun now (Over (Ok core)) b = absurd b.starts
+  at_begun now (Over (Ok one)) b = absurd b.starts
   at_begun now (Over (Err fault)) b =
       subst (λ (j : Job).
       IsOver d w rules specs j (lot was is wire wire meter 0) (Err fault)) (sym b.starts.0)
@@ -235,6 +246,10 @@ module _ {D W : Type 0} (d : DiskGhosts D) (w : WireGhosts W) (rules : List Rule
             ≡ part_count (parts_of j.shape x.own)) (sym b.starts.core.job_is)
             (one.parts
             ∙ ap (λ (u : Cuts). part_count (parts_of job.shape u)) (sym b.starts.core.own_is));
+        waits = λ same.
+            subst (λ (j : Job). HaveWaited (setting d w j rules) x.next
+            (place_at d w x.run.core is wire meter)) (sym b.starts.core.job_is)
+            (waited_begun now x b.starts);
       }
-  able_begun enough now (Over (Ok core)) b = absurd b.starts
+  able_begun enough now (Over (Ok one)) b = absurd b.starts
   able_begun enough now (Over (Err fault)) b = tt

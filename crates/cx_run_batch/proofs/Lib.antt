@@ -4,6 +4,7 @@ pub mod ComeLaws
 pub mod BegunLaws
 pub mod AnewLaws
 pub mod StageLaws
+pub mod OverLaws
 pub mod SaveLaws
 pub mod WaitLaws
 pub mod MemberLaws

@@ -1,5 +1,5 @@
 -- Members of a batch: as they begin, from turn to turn, and at the end.
-use Rattle.std.proofs.Common.{◌≡◌, ℕ, ◌+◌, ◌≤◌, ◌<◌, ◌^◌, ◌-◌, Bool, true, false, List, [], ◌∷◌, map, sum, ap, arith, refl, subst, sym, ◌∙◌}
+use Rattle.std.proofs.Common.{◌≡◌, ◌⊎◌, inl, inr, ℕ, ◌+◌, ◌≤◌, ◌<◌, ◌^◌, ◌-◌, Bool, true, false, List, [], ◌∷◌, map, sum, ap, arith, refl, subst, sym, ◌∙◌}
 use Rattle.std.proofs.lemmas.List.Sums.{sum_by-cons}
 use Rattle.std.specs.List.{AllByRecursion, list_all}
 use Rattle.std.specs.Prelude.{IsTrue, ◌&&◌, Ok, Err}
@@ -119,6 +119,30 @@ none_spent d specs (m ∷ ms) (n ∷ ns) (a ∷ was) (b ∷ is) fresh h =
     let others : spent_by ns ≡ 0 = none_spent d specs ms ns was is fresh.1 h.1 in
     let all : spent_by (n ∷ ns) ≡ n.spent + spent_by ns = spent-cons n ns in
     omega (arith, one, others, all)
+
+-- ---- turns that are left
+
+one_of : (a b : Bool) → (a && b) ≡ false → (a ≡ false) ⊎ (b ≡ false)
+one_of true b e = inr e
+one_of false b e = inl refl
+
+pub fewer_left : (all : List Member) (m n : Member) (ms ns : List Member) → all ≡ m ∷ ms
+    → (is_over m.stage ≡ false → turns_left n.job n.stage < turns_left m.job m.stage)
+    → turns_left n.job n.stage ≤ turns_left m.job m.stage
+    → (list_all (λ (x : Member). is_over x.stage) ms ≡ false → left_to ns < left_to ms)
+    → left_to ns ≤ left_to ms → list_all (λ (x : Member). is_over x.stage) all ≡ false
+    → left_to (n ∷ ns) < left_to all
+fewer_left all m n ms ns e one one_more others others_more going =
+    subst (λ (l : List Member). left_to (n ∷ ns) < left_to l) (sym e)
+    (go (one_of (is_over m.stage) (list_all (λ (x : Member). is_over x.stage) ms)
+    (sym (ap (λ (l : List Member). list_all (λ (x : Member). is_over x.stage) l) e) ∙ going)))
+  where
+    go : (is_over m.stage ≡ false) ⊎ (list_all (λ (x : Member). is_over x.stage) ms ≡ false)
+        → left_to (n ∷ ns) < left_to (m ∷ ms)
+    go (inl first) =
+        let less = one first in omega (arith, less, others_more, left-cons n ns, left-cons m ms)
+    go (inr rest) =
+        let less = others rest in omega (arith, less, one_more, left-cons n ns, left-cons m ms)
 
 module _ {D W : Type 0} (d : DiskGhosts D) (w : WireGhosts W) (rules : List Rule)
     (specs : List Spec) where

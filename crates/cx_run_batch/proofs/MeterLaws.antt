@@ -20,7 +20,7 @@ use Rattle.cx_run_batch.specs.Stages.{ComesWaiting, HaveWaited}
 abbrev pub with_points : ℕ → Counts → Counts
 with_points n c = record c { points = raised c.points n }
 
-raised_either : (first n m : ℕ) → raised (raised first m) n ≡ raised (raised first n) m
+pub raised_either : (first n m : ℕ) → raised (raised first m) n ≡ raised (raised first n) m
 raised_either first n m = raised_twice first m n ∙ ap (λ (k : ℕ). raised first k) (omega arith)
     ∙ sym (raised_twice first n m)
 

@@ -51,6 +51,17 @@ can_begin job next core holds anew = (
   ap (λ (l : List ℕ). length l) holds.lengths ∙ holds.count,
 )
 
+-- of an iteration of the run
+pub few_iterations : (job : Job) (next : ℕ) (core : Cores) (c : Checkpoint)
+    → job.itlast ≤ 1000000 → is_cut_anew job next Saved core ≡ true → c ≡ core.buffers.state
+    → c.iteration ≤ 1000000
+few_iterations job next core c limit anew same =
+    few c.iteration core.buffers.state.iteration job.itlast
+    (ap (λ (k : Checkpoint). k.iteration) same) (cut_is job next Saved core anew).most limit
+  where
+    few : (n m last : ℕ) → n ≡ m → m ≤ last → last ≤ 1000000 → n ≤ 1000000
+    few n m last a b e = omega (arith, a, b, e)
+
 -- ---- its job
 
 -- in the cut after that checkpoint
@@ -151,6 +162,20 @@ module _ {D W : Type 0} (d : DiskGhosts D) (w : WireGhosts W) (rules : List Rule
   abbrev gone : UnderWay
   gone = record x { run = mid }
 
+  -- another core, in the cut after the checkpoint
+  module _ (new : Job) (z : UnderWay) (h : HasCutAnew specs now new gone z) where
+    new_is : new ≡ with_cut job next
+    new_is = job_next specs now new gone z h
+
+    begins_next : BeginsAnew (with_cut job next) specs job c mid.keeper z.run
+    begins_next = subst (λ (j : Job). BeginsAnew j specs job c mid.keeper z.run) new_is h.begins
+
+    waits_next : CoresWait (IsTrue w.tells) (with_cut job next) rules
+        (begins_in (setup_of job) (Some c))
+    waits_next =
+        let all : AllWait (with_cut job next) = subst AllWait new_is h.waits in
+        all w.tells rules (begins_in (setup_of job) (Some c)) begins_next.can
+
   -- ---- it can be moved on
 
   module _ (can : CanGoOn d w rules specs now disk wire meter x) where
@@ -179,48 +204,37 @@ module _ {D W : Type 0} (d : DiskGhosts D) (w : WireGhosts W) (rules : List Rule
     module _ (saved : came ≡ Saved) (holds : HoldsCheckpoint (setup_of now) mid.core)
         (fits : IsTrue w.tells → w.sum wire_after < 2 ^ 64) (new : Job) (z : UnderWay)
         (h : HasCutAnew specs now new gone z) where
-      new_is : new ≡ with_cut job next
-      new_is = job_next specs now new gone z h
-
-      anew : BeginsAnew (with_cut job next) specs job c mid.keeper z.run
-      anew = subst (λ (j : Job). BeginsAnew j specs job c mid.keeper z.run) new_is h.begins
-
       empty : AreEmpty (w.queue wire_after)
       empty = empty_after saved h.anew
 
-      wait : CoresWait (IsTrue w.tells) (with_cut job next) rules
-          (begins_in (setup_of job) (Some c))
-      wait =
-          let all : AllWait (with_cut job next) = subst AllWait new_is h.waits in
-          all w.tells rules (begins_in (setup_of job) (Some c)) anew.can
-
       able_next : CanGoOn d w rules specs (with_cut job next) after wire_after meter_after z
       able_next = record {
-        ready = anew.ready;
-        fit = anew.routines;
-        going = anew.going;
+        ready = (begins_next new z h).ready;
+        fit = (begins_next new z h).routines;
+        going = (begins_next new z h).going;
         able = record {
-          parts = subst (λ (n : ℕ). n ≤ w.parts wire_after) (can.parts ∙ sym anew.parts)
+          parts = subst (λ (n : ℕ). n ≤ w.parts wire_after)
+              (can.parts ∙ sym (begins_next new z h).parts)
               (subst (λ (n : ℕ). part_count (parts_of now.shape now.cut) ≤ n) (sym keeps.parts)
               can.able.parts);
           mounted = keeps.mounted;
           files = keeps.files;
           names = ap (λ (f : Folders). f.names) keeps.folders ∙ can.able.names;
           going = going_anew d w rules specs job now.cut after wire_after meter_after mid z.run
-              going.kept holds empty fits anew;
+              going.kept holds empty fits (begins_next new z h);
         };
-        parts = anew.parts
+        parts = (begins_next new z h).parts
             ∙ ap (λ (u : Cuts). part_count (parts_of now.shape u)) (sym h.own_is);
         waits = λ same.
             subst (λ (n : ℕ). HaveWaited (setting d w (with_cut job next) rules) n
             (place_at d w z.run.core after wire_after meter_after)) (sym h.next_is)
             (waited_anew d w rules specs job now.cut after wire_after meter_after mid z.run
-            going.kept holds empty fits anew wait);
+            going.kept holds empty fits (begins_next new z h) (waits_next new z h));
       }
 
       able_anew : CanGoOn d w rules specs new after wire_after meter_after z
       able_anew = subst (λ (j : Job). CanGoOn d w rules specs j after wire_after meter_after z)
-          (sym new_is) able_next
+          (sym (new_is new z h)) able_next
 
     pub able_after : came ≡ Saved → HoldsCheckpoint (setup_of now) mid.core
         → mid.core.outcome ≡ GoesOn → (IsTrue w.tells → w.sum wire_after < 2 ^ 64) → (new : Job)
@@ -267,12 +281,6 @@ module _ {D W : Type 0} (d : DiskGhosts D) (w : WireGhosts W) (rules : List Rule
         (holds : HoldsCheckpoint (setup_of now) mid.core)
         (fits : IsTrue w.tells → w.sum wire_after < 2 ^ 64) (new : Job) (z : UnderWay)
         (h : HasCutAnew specs now new gone z) where
-      new_is : new ≡ with_cut job next
-      new_is = job_next specs now new gone z h
-
-      anew : BeginsAnew (with_cut job next) specs job c mid.keeper z.run
-      anew = subst (λ (j : Job). BeginsAnew j specs job c mid.keeper z.run) new_is h.begins
-
       balanced : now.balance ≡ true
       balanced = (cut_is now x.next Saved mid.core h.anew).balance
 
@@ -281,24 +289,18 @@ module _ {D W : Type 0} (d : DiskGhosts D) (w : WireGhosts W) (rules : List Rule
           gathers s o.core.found o.core.counts (d.view o.core.disk) was is o.comes came moves
           waits keeps.moments saved balanced
 
-      wait : CoresWait (IsTrue w.tells) (with_cut job next) rules
-          (begins_in (setup_of job) (Some c))
-      wait =
-          let all : AllWait (with_cut job next) = subst AllWait new_is h.waits in
-          all w.tells rules (begins_in (setup_of job) (Some c)) anew.can
-
       at_next : IsOnWay d w rules specs job next lot_after z
       at_next =
           on_way_anew d w rules specs job now.cut disk_lent disk after wire_lent wire wire_after
           meter meter_after spent more metered_so x o keeps disk_later wire_later mid laws gathered
           balanced z h.next_is
           (comes_anew d w rules specs job now.cut after wire_after meter_after mid z.run going.kept
-          holds gathered.gathered.none_left fits anew wait)
+          holds gathered.gathered.none_left fits (begins_next new z h) (waits_next new z h))
 
       at_anew : IsOnWay d w rules specs (with_cut new z.own) new.cut lot_after z
       at_anew =
           subst (λ (j : Job). IsOnWay d w rules specs (with_cut j z.own) j.cut lot_after z)
-          (sym new_is)
+          (sym (new_is new z h))
           (subst (λ (u : Cuts). IsOnWay d w rules specs (with_cut job u) next lot_after z)
           (sym h.own_is) at_next)
 

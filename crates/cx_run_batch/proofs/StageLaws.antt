@@ -1,5 +1,5 @@
 -- From turn to turn of one run, beside others that count on the same meter.
-use Rattle.std.proofs.Common.{◌≡◌, ◌≢◌, ◌≤◌, ◌<◌, ◌+◌, ◌-◌, ◌^◌, ℕ, Bool, true, false, min, max, refl, sym, ◌∙◌, ap, subst, arith}
+use Rattle.std.proofs.Common.{◌≡◌, ◌≢◌, ◌≤◌, ◌<◌, ◌+◌, ◌^◌, ℕ, Bool, true, false, List, refl, sym, ◌∙◌, ap, subst, arith}
 use Rattle.std.specs.Prelude.{IsTrue, length, Option, Some, Result, Ok, Err, IfOk, OnOk}
 use Rattle.cx_cut.specs.Cuts.{Parts, part_count}
 use Rattle.cx_cut.specs.Faults.{parts_of}
@@ -331,80 +331,3 @@ module _ {D W : Type 0} (d : DiskGhosts D) (w : WireGhosts W) (rules : List Rule
           (runs_by s again start here (segment_back own cut again start here o.segment) refl is
           (ends s o.core.found o.core.counts (d.view o.core.disk) last_at come.come is end)
           counts_once)
-
-  -- ---- a run that is over, and is finished on its disk
-
-  module _ (disk_lent disk mid after : D) (wire_lent wire wire_after : W) (meter meter_after : ℕ)
-      (spent more : ℕ) (metered_so : meter_after ≡ meter + more) (x : UnderWay) (now : Runs)
-      (o : IsOnWay d w rules specs job cut (lot disk_lent disk wire_lent wire meter spent) x)
-      (now_laws : DriveLaws (IsTrue w.tells) (with_cut job cut) rules)
-      (able : CanAdvance d w (with_cut job cut) rules (run_state x.run disk wire meter))
-      (keeps : Keeps d w (with_cut job cut) rules (run_state x.run disk wire meter) mid wire_after
-      meter_after)
-      (moves : MovesOn s (at_place x.run.core disk wire meter)
-      (at_place now.core mid wire_after meter_after))
-      (going : IsGoing s now.keeper (at_place now.core mid wire_after meter_after))
-      (disk_later : d.faults disk ≤ d.faults mid)
-      (wire_later : w.faults wire ≤ w.faults wire_after)
-      (quiet : d.tells → IsQuiet (d.view mid) (d.view after)) (mounted : IsTrue (d.mounted after))
-      (files : d.file_count after ≡ d.file_count mid)
-      (folders : d.folders after ≡ d.folders mid) where
-    mid_able : CanAdvance d w (with_cut job cut) rules (run_state now mid wire_after meter_after)
-    mid_able = can_again d w (with_cut job cut) rules (run_state x.run disk wire meter)
-        (run_state now mid wire_after meter_after) able keeps going
-
-    all_keeps : Keeps d w (with_cut job cut) rules (run_state x.run disk wire meter) after
-        wire_after meter_after
-    all_keeps = keeps_more d w (with_cut job cut) rules (run_state x.run disk wire meter)
-        (run_state now mid wire_after meter_after) after wire_after meter_after moves keeps
-        (keeps_quiet d w (with_cut job cut) rules now_laws
-        (run_state now mid wire_after meter_after) mid_able after quiet mounted files folders)
-
-    module _ (over_so : now.core.outcome ≢ GoesOn)
-        (stands : (found : Option Checkpoint) (first : Counts)
-        (y : IsDriving s found first (at_place now.core mid wire_after meter_after))
-        → Stands s.wire (run_in s found) (trace_in s found) first
-        (at_place now.core mid wire_after meter_after).is y.at)
-        (come : ComesWaiting s o.core.found o.core.counts (d.view o.core.disk)
-        (at_place now.core mid wire_after meter_after)) where
-      runs : (r : Result Cores DriveFault)
-          → IfOk r (λ core. EndsAt s (at_place now.core mid wire_after meter_after)
-          (at_place core after wire_after meter_after))
-          → IfOk r (λ core. RunsBy own again
-          (start_of (run_by job rules specs o.found)
-          (counts o.others (w.received wire_lent) (w.sum wire_lent)) (d.view o.begun_on))
-          (place_at d w core after wire_after meter_after))
-      runs (Ok core) end =
-          runs_out disk_lent disk mid wire_lent wire wire_after meter meter_after spent more
-          metered_so x o keeps disk_later wire_later now.core over_so come
-          (at_place core after wire_after meter_after) end
-      runs (Err fault) end = tt
-
-      pub finished : DriveLaws (IsTrue w.tells) job rules
-          → (d.tells → (d.view disk_lent).images (d.view disk_lent).seen)
-          → (r : Result Cores DriveFault) → IfOk r (λ core. core ≡ now.core)
-          → (d.tells → OnOk r (OutputsSettled (length now.keeper.lengths) (d.view after)))
-          → ((n : ℕ) → Stops (count (d.faults mid) (d.faults after)) (count n n) r)
-          → (job.balance ≡ true
-          → StaysBelow s (at_place x.run.core disk wire meter)
-          (counts meter_after (w.received wire_after) (w.sum wire_after)))
-          → IsOver d w rules specs job
-          (lot disk_lent after wire_lent wire_after meter_after (spent + more)) r
-      finished laws reads r same settled stops waits =
-          let last : Stops (count (d.faults mid) (d.faults after))
-          (count (w.faults wire_after) (w.faults wire_after)) r = stops (w.faults wire_after) in
-          let later : d.faults mid ≤ d.faults after = last.disk_later in
-          let all : Stops (count (d.faults disk) (d.faults after))
-          (count (w.faults wire) (w.faults wire_after)) r =
-          stopped_after Cores (count (d.faults mid) (d.faults after))
-          (count (w.faults wire_after) (w.faults wire_after))
-          (count (d.faults disk) (d.faults after)) (count (w.faults wire) (w.faults wire_after)) r
-          disk_later (omega arith) wire_later (omega arith) last in
-          over disk_lent disk after wire_lent wire wire_after meter meter_after spent more
-          metered_so x o all_keeps (omega (arith, disk_later, later)) wire_later laws reads r
-          (runs r
-          (ends_with s (at_place now.core mid wire_after meter_after) now.core
-          (w.queue wire_after) (counts meter_after (w.received wire_after) (w.sum wire_after))
-          (d.view mid) (d.view after) now.keeper
-          (moves_none s (at_place now.core mid wire_after meter_after)) going over_so stands quiet
-          r same settled)) all waits

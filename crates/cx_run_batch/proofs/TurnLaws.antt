@@ -15,6 +15,7 @@ use Rattle.cx_run_loop.specs.Lent.{wired}
 use Rattle.cx_run_loop.specs.Turning.{StepsBy, Turning, TurnsLead, turning}
 use Rattle.cx_run_loop.specs.UnderWay.{Runs}
 use Rattle.cx_run_loop.specs.declared.fault.DriveFault.{DriveFault}
+use Rattle.cx_run_loop.specs.declared.fault.DriveFault.TheVariants as faults
 use Rattle.cx_run_loop.specs.declared.turn.Advance.TheVariants.{Saved}
 use Rattle.cx_run_batch.specs.Stages.{GoesOnAfter}
 use Rattle.cx_run_batch.specs.Turns.{AreTurns, Batch, IsOneTurn, TakesTurn, TurnsBy, batch}
@@ -22,6 +23,10 @@ use Rattle.cx_run_batch.specs.declared.member.Member.{Member}
 use Rattle.cx_run_batch.specs.declared.stage.Stage.{Stage}
 use Rattle.cx_run_batch.specs.declared.stage.Stage.TheVariants.{Going, Over}
 use Rattle.cx_run_batch.specs.declared.stage.UnderWay.{UnderWay}
+
+no_fault : (core : Cores) (fault : DriveFault)
+    → ◌≡◌ {A = Result Cores DriveFault} (Ok core) (Err fault) → ⊥
+no_fault core fault e = cc
 
 -- ---- one turn of one run
 
@@ -71,10 +76,8 @@ module _ {W T : Type 0} (w : WireGhosts W) (t : TurnsGhosts T) (rules : List Rul
     inl (ap (λ (v : UnderWay). turning v.run.core (wired w wire_after) meter_after turns_after)
         h.same),
   )
-  turn_after specs now (Over (Ok core)) empty fits h = absurd (none h.result_is)
-    where
-      none : Ok core ≡ Err _ → ⊥
-      none e = cc
+  turn_after specs now (Over (Ok core)) empty fits h =
+      absurd (no_fault core faults.Memory h.result_is)
   turn_after specs now (Over (Err fault)) empty fits h =
       record { last = last; lead = (events, steps); stop = inl refl }
 

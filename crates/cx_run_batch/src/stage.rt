@@ -8,7 +8,7 @@ ghost use Rattle.cx_rule.specs.Routine.{Rule};
 ghost use Rattle.cx_core.specs.Starts.{CanBegin, IsReady};
 ghost use Rattle.cx_run_batch.specs.Stages.{BeginsAs, CanGoOn, FirstCore, GoesOnAfter, IsAble, IsAt, IsOnWay, IsServed, is_over, lot, own_job, turns_left};
 ghost use Rattle.cx_run_batch.specs.Turns.{TakesTurn};
-ghost use Rattle.cx_run_loop.specs.Cores.{is_cut_anew};
+ghost use Rattle.cx_run_loop.specs.Cores.{is_cut_anew, next_after};
 ghost use Rattle.cx_run_loop.specs.Faults.{Stops};
 ghost use Rattle.cx_run_loop.specs.Laws.{DriveLaws};
 ghost use Rattle.cx_run_loop.specs.Recuts.{with_cut};

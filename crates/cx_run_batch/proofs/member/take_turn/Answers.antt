@@ -44,6 +44,8 @@ returns-clause-left g c =
 
 pub returns-clause-turns : goal.returns-clause-turns
 returns-clause-turns g c =
-    subst (λ (stage : Stage). TakesTurn g.W.Wire g.T.Turns _ c.args.member.now.job c.go_on.new.job
+    subst (λ (stage : Stage). TakesTurn g.W.Wire g.T.Turns
+    (map (λ r. (goal.Routine-dyn g (r.vtable, r.value)).rule r.value) c.args.routines.now)
+    c.args.member.now.job c.go_on.new.job
     c.args.wire.now c.go_on.new.wire c.args.meter.now c.go_on.new.meter c.args.turns.now
     c.go_on.new.turns stage c.go_on.result) c.replace-stage.ensures.value c.go_on.ensures.turns

@@ -1,5 +1,5 @@
 use Rattle.std.proofs.Common.{◌<◌, length, rules, arith}
-use Rattle.cx_run_batch.proofs.MemberLaws.{next_able, next_served, round_turned}
+use Rattle.cx_run_batch.proofs.MemberLaws.{fewer_left, next_able, next_served, round_turned}
 use Rattle.cx_run_batch.proofs.TurnLaws.{turns_beside}
 use Rattle.cx_run_batch.proofs.running.+round.Goals as goal
 
@@ -41,3 +41,10 @@ returns-in-Some-split_first_mut-2-clause-turns g t c =
     c.take_turn.new.meter c.round.new.meter c.args.turns.now c.take_turn.new.turns
     c.round.new.turns c.in-Some.ensures.cases.0 c.in-Some-split_first_mut-2.ensures.cases.0
     c.take_turn.ensures.turns c.round.ensures.turns
+
+pub returns-in-Some-split_first_mut-2-clause-less :
+    goal.returns-in-Some-split_first_mut-2-clause-less
+returns-in-Some-split_first_mut-2-clause-less g t c =
+    fewer_left c.args.members.now c.in-Some.member.now c.take_turn.new.member
+    c.in-Some.others.now c.round.new.members c.in-Some.ensures.cases.0 c.take_turn.ensures.less
+    c.take_turn.ensures.left c.round.ensures.less c.round.ensures.left

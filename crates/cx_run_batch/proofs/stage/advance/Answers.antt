@@ -1,18 +1,16 @@
 use Rattle.std.proofs.Common.{◌≡◌, ◌+◌, ◌-◌, ◌*◌, ◌∙◌, ap, sym, subst}
-use Rattle.cx_plan.specs.declared.job.Job.{Job}
 use Rattle.cx_plan.specs.Setups.{setup_of}
 use Rattle.cx_core.specs.Left.{steps_left}
 use Rattle.cx_core.specs.Starts.{begins_in}
 use Rattle.cx_run_loop.specs.Advances.{FitsOutcome}
 use Rattle.cx_run_loop.specs.Cores.{is_cut_anew}
-use Rattle.cx_run_loop.specs.Laws.{DriveLaws}
 use Rattle.cx_run_loop.specs.Recuts.{with_cut}
 use Rattle.cx_run_loop.specs.declared.turn.Advance.{Advance}
-use Rattle.cx_run_batch.specs.Stages.{IsOver, lot, most_steps}
+use Rattle.cx_run_batch.specs.Stages.{most_steps}
 use Rattle.cx_run_batch.proofs.ComeLaws.{more_stays, over_stays}
 use Rattle.cx_run_batch.proofs.FreshLaws.{fewer_steps, some_left}
+use Rattle.cx_run_batch.proofs.OverLaws.{finished_on, stopped_on}
 use Rattle.cx_run_batch.proofs.SaveLaws.{able_after, able_same, at_after, at_same, comes_same, empty_after, less_after, own_after}
-use Rattle.cx_run_batch.proofs.StageLaws.{finished, stopped}
 use Rattle.cx_run_batch.proofs.TurnLaws.{turn_after, turn_ends, turn_same}
 use Rattle.cx_run_batch.proofs.stage.advance.Goals as goal
 
@@ -91,14 +89,12 @@ returns-in-Saved-clause-less g c =
 
 pub returns-in-Over-clause-at : goal.returns-in-Over-clause-at
 returns-in-Over-clause-at g c = λ disk_lent wire_lent spent more metered o.
-    subst (λ (j : Job). IsOver g.D.Disk g.W.Wire _ _ j
-    (lot disk_lent c.finish.new.disk wire_lent c.advance.new.wire c.advance.new.meter
-    (spent + more)) c.finish.result) (sym c.finish.ensures.job)
-    (finished g.D.Disk g.W.Wire _ _ (with_cut c.args.job.now c.args.x.own) c.args.job.now.cut
-    disk_lent c.args.disk.now c.advance.new.disk c.finish.new.disk wire_lent c.args.wire.now
-    c.advance.new.wire c.args.meter.now c.advance.new.meter spent more metered c.args.x
-    c.advance.new.self o (c.drive_laws.ensures g.W.Wire.tells _) c.requires.able.able
-    c.in-Ok.ensures.keeps c.in-Ok.ensures.advances.moves c.in-Ok.ensures.advances.going
+    finished_on g.D.Disk g.W.Wire _ _ c.args.job.now c.args.x c.finish.new.job c.finish.ensures.job
+    (c.finish.ensures.laws g.W.Wire.tells _) disk_lent c.args.disk.now c.advance.new.disk
+    c.finish.new.disk wire_lent c.args.wire.now c.advance.new.wire c.args.meter.now
+    c.advance.new.meter spent more metered c.advance.new.self o
+    (c.drive_laws.ensures g.W.Wire.tells _) c.requires.able.able c.in-Ok.ensures.keeps
+    c.in-Ok.ensures.advances.moves c.in-Ok.ensures.advances.going
     c.in-Ok.ensures.stops.disk_later c.in-Ok.ensures.stops.wire_later c.finish.ensures.quiet
     c.finish.ensures.mounted c.finish.ensures.files c.finish.ensures.folders
     (subst (λ (a : Advance). FitsOutcome a c.advance.new.self.core.outcome) c.in-Over.is
@@ -113,10 +109,8 @@ returns-in-Over-clause-at g c = λ disk_lent wire_lent spent more metered o.
     (ap (λ (a : Advance).
     is_cut_anew c.args.job.now c.args.x.next a c.advance.new.self.core) c.in-Over.is
     ∙ over_stays c.args.job.now c.args.x.next c.advance.new.self.core))
-    (subst (λ (j : Job). DriveLaws _ j _) c.finish.ensures.job
-    (c.finish.ensures.laws g.W.Wire.tells _))
     (λ t. (g.met.D.Disk.sound disk_lent t).reads) c.finish.result c.finish.ensures.core
-    c.finish.ensures.settled c.finish.ensures.stops c.in-Ok.ensures.below)
+    c.finish.ensures.settled c.finish.ensures.stops c.in-Ok.ensures.below
 
 pub returns-in-Over-clause-less : goal.returns-in-Over-clause-less
 returns-in-Over-clause-less g c =
@@ -126,17 +120,12 @@ returns-in-Over-clause-less g c =
 
 pub returns-in-Err-clause-at : goal.returns-in-Err-clause-at
 returns-in-Err-clause-at g c = λ disk_lent wire_lent spent more metered o.
-    subst (λ (j : Job). IsOver g.D.Disk g.W.Wire _ _ j
-    (lot disk_lent c.advance.new.disk wire_lent c.advance.new.wire c.advance.new.meter
-    (spent + more)) _) (sym c.give_back.ensures.job)
-    (stopped g.D.Disk g.W.Wire _ _ (with_cut c.args.job.now c.args.x.own) c.args.job.now.cut
-    disk_lent c.args.disk.now c.advance.new.disk wire_lent c.args.wire.now c.advance.new.wire
-    c.args.meter.now c.advance.new.meter spent more metered c.args.x o c.in-Err.ensures.keeps
-    c.in-Err.ensures.stops.disk_later c.in-Err.ensures.stops.wire_later
-    (subst (λ (j : Job). DriveLaws _ j _) c.give_back.ensures.job
-    (c.give_back.ensures.laws g.W.Wire.tells _))
+    stopped_on g.D.Disk g.W.Wire _ _ c.args.job.now c.args.x c.give_back.new.job
+    c.give_back.ensures.job (c.give_back.ensures.laws g.W.Wire.tells _) disk_lent
+    c.args.disk.now c.advance.new.disk wire_lent c.args.wire.now c.advance.new.wire
+    c.args.meter.now c.advance.new.meter spent more metered o c.in-Err.ensures.keeps
     (λ t. (g.met.D.Disk.sound disk_lent t).reads) c.in-Err.fault c.in-Err.ensures.stops
-    c.in-Err.ensures.below)
+    c.in-Err.ensures.below
 
 pub returns-in-Err-clause-less : goal.returns-in-Err-clause-less
 returns-in-Err-clause-less g c =

@@ -5,7 +5,7 @@ use Rattle.cx_run_batch.proofs.stage.begin.Goals as goal
 pub returns-in-Ok : goal.returns-in-Ok
 returns-in-Ok g c = record {
   begins = begins_as g.D.Disk _ c.args.job.now c.first_core.new.job c.args.disk.now
-      c.begin.new.disk c.in-Ok.found c.in-Ok.run c.in-Ok.ensures.begins c.in-Ok.ensures.lengths
+      c.begin.new.disk c.in-Ok.found c.in-Ok.run' c.in-Ok.ensures.begins c.in-Ok.ensures.lengths
       c.in-Ok.ensures.mounted c.in-Ok.ensures.files c.in-Ok.ensures.folders c.first_core.result
       c.first_core.ensures.first c.in-Ok.ensures.moments c.in-Ok.ensures.later;
 }
