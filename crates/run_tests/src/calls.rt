@@ -1,8 +1,8 @@
 //! The top call over objects in memory.
 
-use crate::cuts::CUTS;
+use crate::cuts::{CUTS, Cut};
 use crate::faults::{FAULTS, PLAIN, SAMPLE_FAULTS};
-use crate::jobs::RUNS;
+use crate::jobs::{RUNS, Run};
 use crate::schedules;
 use cx_run::{FolderShelf, MemoryShelf, Shelf};
 use cx_text::{List, Memory, Text};
@@ -348,26 +348,35 @@ const GRIDS: &[&str] = &[
     "driver::ghost_size_x = 3\ndriver::periodic = yes\n",
 ];
 
+/// Tests a row of `ANSWERS`.
+fn is_answered(rt: &HostRuntime, shelf: &mut MemoryShelf, asked: &Asked) -> Result<(), Fail> {
+    let came = answer_to(rt, asked.words, shelf)?;
+    let found = (came.status, came.printed.as_slice());
+    let want = (asked.status, asked.printed.as_bytes());
+    same(&asked.words, &found, &want)
+}
+
 #[test]
 fn answers(rt: HostRuntime) -> Result<(), Fail> {
-    let alloc = rt.alloc();
-    let mut shelf = shelf(alloc, PARAMETER_FILES, FILES)?;
+    let mut shelf = shelf(rt.alloc(), PARAMETER_FILES, FILES)?;
     for asked in ANSWERS {
-        let came = answer_to(&rt, asked.words, &mut shelf)?;
-        let found = (came.status, came.printed.as_slice());
-        let want = (asked.status, asked.printed.as_bytes());
-        same(&asked.words, &found, &want)?;
+        is_answered(&rt, &mut shelf, asked)?;
     }
     Ok(())
 }
 
-#[test]
-fn description_of_eight_points(rt: HostRuntime) -> Result<(), Fail> {
-    let alloc = rt.alloc();
-    let mut shelf = shelf(alloc, PARAMETER_FILES, FILES)?;
+/// What `describe` prints of `ca.par`.
+fn description(alloc: Global) -> Result<Text, Memory> {
     let mut expected = Text::from_slice(alloc, KEY_BEGINS)?;
     expected.push_slice(schedules::CA.as_bytes())?;
     expected.push_slice(STARRED_AND_CUT)?;
+    Ok(expected)
+}
+
+#[test]
+fn description_of_eight_points(rt: HostRuntime) -> Result<(), Fail> {
+    let mut shelf = shelf(rt.alloc(), PARAMETER_FILES, FILES)?;
+    let expected = description(rt.alloc())?;
     let came = answer_to(&rt, &["describe", "ca.par"], &mut shelf)?;
     let found = (came.status, came.printed.as_slice());
     same(&"describe ca.par", &found, &(0, expected.as_slice()))
@@ -393,27 +402,51 @@ const SHOWN: &[(&str, &str, &str)] = &[
     ),
 ];
 
+/// Tests the schedule of a file.
+fn is_scheduled(
+    rt: &HostRuntime,
+    shelf: &mut MemoryShelf,
+    file: &str,
+    schedule: &str,
+) -> Result<(), Fail> {
+    let came = answer_to(rt, &["schedule", file], shelf)?;
+    let found = (came.status, came.printed.as_slice());
+    same(&("schedule", file), &found, &(0, schedule.as_bytes()))
+}
+
+/// Tests how the description of a file begins.
+fn is_described(
+    rt: &HostRuntime,
+    shelf: &mut MemoryShelf,
+    file: &str,
+    thorns: &str,
+) -> Result<(), Fail> {
+    let came = answer_to(rt, &["describe", file], shelf)?;
+    let found = (came.status, came.printed.starts_with(thorns.as_bytes()));
+    same(&("describe", file), &found, &(0, true))
+}
+
 #[test]
 fn sample_thorns_are_shown(rt: HostRuntime) -> Result<(), Fail> {
-    let alloc = rt.alloc();
-    let mut shelf = shelf(alloc, PARAMETER_FILES, FILES)?;
+    let mut shelf = shelf(rt.alloc(), PARAMETER_FILES, FILES)?;
     for (file, schedule, thorns) in SHOWN {
-        let came = answer_to(&rt, &["schedule", file], &mut shelf)?;
-        let found = (came.status, came.printed.as_slice());
-        same(&("schedule", file), &found, &(0, schedule.as_bytes()))?;
-        let came = answer_to(&rt, &["describe", file], &mut shelf)?;
-        let found = (came.status, came.printed.starts_with(thorns.as_bytes()));
-        same(&("describe", file), &found, &(0, true))?;
+        is_scheduled(&rt, &mut shelf, file, schedule)?;
+        is_described(&rt, &mut shelf, file, thorns)?;
     }
     Ok(())
+}
+
+/// Tests a row of `CUTS`.
+fn is_cut(rt: &HostRuntime, cut: &Cut) -> Result<(), Fail> {
+    let mut shelf = shelf_with(rt.alloc(), cut.file, "", cut.others)?;
+    let came = answer_to(rt, &[cut.word, "t.par"], &mut shelf)?;
+    same(&cut.name, &came.printed.as_slice(), &cut.printed)
 }
 
 #[test]
 fn grids_that_are_cut(rt: HostRuntime) -> Result<(), Fail> {
     for cut in CUTS {
-        let mut shelf = shelf_with(rt.alloc(), cut.file, "", cut.others)?;
-        let came = answer_to(&rt, &[cut.word, "t.par"], &mut shelf)?;
-        same(&cut.name, &came.printed.as_slice(), &cut.printed)?;
+        is_cut(&rt, cut)?;
     }
     Ok(())
 }
@@ -424,17 +457,19 @@ fn checked(rt: &HostRuntime, files: &[File], more: &[File]) -> Result<Vec<u8>, F
     Ok(answer_to(rt, &["check", "t.par"], &mut shelf)?.printed)
 }
 
+/// Tests what `check t.par` prints.
+fn is_checked(rt: &HostRuntime, files: &[File], more: &[File], want: &str) -> Result<(), Fail> {
+    let printed = checked(rt, files, more)?;
+    same(&want, &printed.as_slice(), &want.as_bytes())
+}
+
 #[test]
 fn faults_of_plain_and_sample_thorns(rt: HostRuntime) -> Result<(), Fail> {
     for fault in FAULTS {
-        let printed = checked(&rt, fault.files, PLAIN)?;
-        let want = fault.printed;
-        same(&want, &printed.as_slice(), &want.as_bytes())?;
+        is_checked(&rt, fault.files, PLAIN, fault.printed)?;
     }
     for fault in SAMPLE_FAULTS {
-        let printed = checked(&rt, fault.files, FILES)?;
-        let want = fault.printed;
-        same(&want, &printed.as_slice(), &want.as_bytes())?;
+        is_checked(&rt, fault.files, FILES, fault.printed)?;
     }
     Ok(())
 }
@@ -449,32 +484,40 @@ fn activation(alloc: Global, thorn: &str) -> Result<Text, Memory> {
     Ok(text)
 }
 
+/// Tests that a thorn's job on a grid is accepted.
+fn is_accepted(rt: &HostRuntime, thorn: &str, grid: &str) -> Result<(), Fail> {
+    let line = activation(rt.alloc(), thorn)?;
+    let mut shelf = shelf_with(rt.alloc(), line.as_slice(), grid, &[])?;
+    let came = answer_to(rt, &["check", "t.par"], &mut shelf)?;
+    let found = (came.status, came.printed.as_slice());
+    same(&(thorn, grid), &found, &(0, ACCEPTED))
+}
+
 #[test]
 fn sample_thorns_on_many_grids(rt: HostRuntime) -> Result<(), Fail> {
-    let alloc = rt.alloc();
     for thorn in THORNS {
         for grid in GRIDS {
-            let line = activation(alloc, thorn)?;
-            let mut shelf = shelf_with(alloc, line.as_slice(), grid, &[])?;
-            let came = answer_to(&rt, &["check", "t.par"], &mut shelf)?;
-            let found = (came.status, came.printed.as_slice());
-            same(&(thorn, grid), &found, &(0, ACCEPTED))?;
+            is_accepted(&rt, thorn, grid)?;
         }
     }
     Ok(())
 }
 
+/// Tests a row of `RUNS`.
+fn is_run(rt: &HostRuntime, run: &Run) -> Result<(), Fail> {
+    let mut shelf = shelf_with(rt.alloc(), run.file, run.more, run.others)?;
+    let came = answer_to(rt, &["run", "t.par"], &mut shelf)?;
+    let outputs = (came.first.as_slice(), came.second.as_slice());
+    let found = (came.status, came.printed.as_slice(), outputs, came.points);
+    let points = run.points.unwrap_or(came.points);
+    let want = (run.status, run.printed, (run.first, run.second), points);
+    same(&run.name, &found, &want)
+}
+
 #[test]
 fn runs_of_jobs(rt: HostRuntime) -> Result<(), Fail> {
-    let alloc = rt.alloc();
     for run in RUNS {
-        let mut shelf = shelf_with(alloc, run.file, run.more, run.others)?;
-        let came = answer_to(&rt, &["run", "t.par"], &mut shelf)?;
-        let outputs = (came.first.as_slice(), came.second.as_slice());
-        let found = (came.status, came.printed.as_slice(), outputs, came.points);
-        let points = run.points.unwrap_or(came.points);
-        let want = (run.status, run.printed, (run.first, run.second), points);
-        same(&run.name, &found, &want)?;
+        is_run(&rt, run)?;
     }
     same(
         &"the bytes of the automaton's output",

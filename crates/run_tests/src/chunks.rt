@@ -78,16 +78,21 @@ const SECOND_CHUNK: usize = 1025;
 
 const WHOLE: usize = 1536;
 
+/// Tests a row of `STEPS` on what the former ones have left.
+fn is_done(rt: &HostRuntime, step: &Step, disk: &mut MemoryDisk) -> Result<(), Fail> {
+    let mut shelf = shelf_with(rt.alloc(), CA, step.more, &[])?;
+    let came = answer_on(rt, &[step.word, "t.par"], &mut shelf, disk)?;
+    let found = (came.status, came.printed.as_slice());
+    let want = (step.status, step.printed.as_bytes());
+    same(&(step.word, step.more), &found, &want)
+}
+
 #[test]
 fn chunks_of_a_run(rt: HostRuntime) -> Result<(), Fail> {
     let alloc = rt.alloc();
     let mut disk = MemoryDisk::new(alloc, List::empty(alloc));
     for step in STEPS {
-        let mut shelf = shelf_with(alloc, CA, step.more, &[])?;
-        let came = answer_on(&rt, &[step.word, "t.par"], &mut shelf, &mut disk)?;
-        let found = (came.status, came.printed.as_slice());
-        let want = (step.status, step.printed.as_bytes());
-        same(&(step.word, step.more), &found, &want)?;
+        is_done(&rt, step, &mut disk)?;
     }
     same(
         &"put together again",
@@ -215,16 +220,20 @@ fn disk_before(alloc: Global, fault: &Fault) -> Result<MemoryDisk, Memory> {
     Ok(MemoryDisk::new(alloc, files))
 }
 
+/// Tests a row of `FAULTS`.
+fn is_refused(rt: &HostRuntime, shelf: &mut MemoryShelf, fault: &Fault) -> Result<(), Fail> {
+    let mut disk = disk_before(rt.alloc(), fault)?;
+    let came = answer_on(rt, &[fault.word, "t.par"], shelf, &mut disk)?;
+    let found = (came.status, came.printed.as_slice());
+    let want = (7, fault.printed.as_bytes());
+    same(&fault.printed, &found, &want)
+}
+
 #[test]
 fn faults_of_chunks(rt: HostRuntime) -> Result<(), Fail> {
-    let alloc = rt.alloc();
-    let mut shelf = shelf_with(alloc, CA, CUT, &[])?;
+    let mut shelf = shelf_with(rt.alloc(), CA, CUT, &[])?;
     for fault in FAULTS {
-        let mut disk = disk_before(alloc, fault)?;
-        let came = answer_on(&rt, &[fault.word, "t.par"], &mut shelf, &mut disk)?;
-        let found = (came.status, came.printed.as_slice());
-        let want = (7, fault.printed.as_bytes());
-        same(&fault.printed, &found, &want)?;
+        is_refused(&rt, &mut shelf, fault)?;
     }
     Ok(())
 }

@@ -114,13 +114,17 @@ fn operations_with(
     flatten(alloc, &job)
 }
 
+/// Tests a row of `FLATS`.
+fn is_flattened(alloc: Global, flat: &Flat) -> Result<(), Fail> {
+    let ops = operations(alloc, flat.file)?;
+    let words = words(alloc, ops.as_slice())?;
+    same(&flat.name, &words.as_str(), &flat.operations)
+}
+
 #[test]
 fn schedules_are_flattened(rt: HostRuntime) -> Result<(), Fail> {
-    let alloc = rt.alloc();
     for flat in FLATS {
-        let ops = operations(alloc, flat.file)?;
-        let words = words(alloc, ops.as_slice())?;
-        same(&flat.name, &words.as_str(), &flat.operations)?;
+        is_flattened(rt.alloc(), flat)?;
     }
     Ok(())
 }

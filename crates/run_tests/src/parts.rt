@@ -215,15 +215,20 @@ fn run_with(rt: &HostRuntime, shelf: &mut MemoryShelf, seed: &str) -> Result<Out
     answer_to(rt, &["run", "t.par", seed], shelf)
 }
 
+/// Tests a row of `WORKS`.
+fn is_work(rt: &HostRuntime, work: &Work) -> Result<(), Fail> {
+    let mut shelf = shelf_with(rt.alloc(), CA, work.more, &[])?;
+    let came = answer_to(rt, &["run", "t.par"], &mut shelf)?;
+    same(&work.more, &came.first.as_slice(), &CA_OUTPUT)?;
+    let found = (came.points, came.received, came.sum);
+    let want = (work.points, work.received, work.sum);
+    same(&work.more, &found, &want)
+}
+
 #[test]
 fn work_of_the_automaton(rt: HostRuntime) -> Result<(), Fail> {
     for work in WORKS {
-        let mut shelf = shelf_with(rt.alloc(), CA, work.more, &[])?;
-        let came = answer_to(&rt, &["run", "t.par"], &mut shelf)?;
-        same(&work.more, &came.first.as_slice(), &CA_OUTPUT)?;
-        let found = (came.points, came.received, came.sum);
-        let want = (work.points, work.received, work.sum);
-        same(&work.more, &found, &want)?;
+        is_work(&rt, work)?;
     }
     Ok(())
 }
@@ -249,6 +254,17 @@ fn whole_run(rt: &HostRuntime, thorn: &Thorn) -> Result<Outcome, Fail> {
     answer_to(rt, &["run", "t.par"], &mut shelf)
 }
 
+/// Tests a job's runs in a cut beside its run in one part.
+fn runs_are_alike(rt: &HostRuntime, thorn: &Thorn, cut: &str, one: &Outcome) -> Result<(), Fail> {
+    let runs = runs_by_seeds(rt, thorn.file, cut, thorn.others)?;
+    for (k, came) in runs.iter().enumerate() {
+        let found = (came.status, came.first.as_slice(), came.second.as_slice());
+        let want = (0, one.first.as_slice(), one.second.as_slice());
+        same(&(thorn.name, cut, "turns", k), &found, &want)?;
+    }
+    Ok(())
+}
+
 #[test]
 fn sample_thorns_in_parts(rt: HostRuntime) -> Result<(), Fail> {
     for thorn in THORN_JOBS {
@@ -256,26 +272,29 @@ fn sample_thorns_in_parts(rt: HostRuntime) -> Result<(), Fail> {
         let one = whole_run(&rt, thorn)?;
         same(&(name, "in one part"), &one.status, &0)?;
         for cut in thorn.cuts {
-            let runs = runs_by_seeds(&rt, thorn.file, cut, thorn.others)?;
-            for (k, came) in runs.iter().enumerate() {
-                let found = (came.status, came.first.as_slice(), came.second.as_slice());
-                let want = (0, one.first.as_slice(), one.second.as_slice());
-                same(&(name, cut, "turns", k), &found, &want)?;
-            }
+            runs_are_alike(&rt, thorn, cut, &one)?;
         }
+    }
+    Ok(())
+}
+
+/// What a run of `LEAVES` in 16 bits prints.
+const ENDED: &[u8] = b"ended: Overflow 7 EVOL/diff_step\n";
+
+/// Tests the runs of `LEAVES` in 16 bits with a lead.
+fn runs_overflow(rt: &HostRuntime, lead: &str) -> Result<(), Fail> {
+    let runs = runs_by_seeds(rt, LEAVES, lead, SHORT_FIELD)?;
+    for (k, came) in runs.iter().enumerate() {
+        let found = (came.status, came.printed.as_slice(), came.first.as_slice());
+        same(&(lead, "turns", k), &found, &(3, ENDED, LEFT))?;
     }
     Ok(())
 }
 
 #[test]
 fn overflow_wherever_other_parts_stand(rt: HostRuntime) -> Result<(), Fail> {
-    let ended = b"ended: Overflow 7 EVOL/diff_step\n".as_slice();
     for lead in LEADS {
-        let runs = runs_by_seeds(&rt, LEAVES, lead, SHORT_FIELD)?;
-        for (k, came) in runs.iter().enumerate() {
-            let found = (came.status, came.printed.as_slice(), came.first.as_slice());
-            same(&(lead, "turns", k), &found, &(3, ended, LEFT))?;
-        }
+        runs_overflow(&rt, lead)?;
     }
     Ok(())
 }
@@ -283,19 +302,25 @@ fn overflow_wherever_other_parts_stand(rt: HostRuntime) -> Result<(), Fail> {
 /// A checkpoint in each third iteration, and a start from the newest one.
 const THIRDS: &str = "IO::checkpoint_every = 3\nIO::recover = \"autoprobe\"\n";
 
+/// How many points a run over a disk computes, after a test of its end.
+fn overflows(
+    rt: &HostRuntime,
+    run: &str,
+    shelf: &mut MemoryShelf,
+    disk: &mut MemoryDisk,
+) -> Result<u128, Fail> {
+    let came = answer_on(rt, &["run", "t.par"], shelf, disk)?;
+    let found = (came.status, came.printed.as_slice(), came.first.as_slice());
+    same(&run, &found, &(3, ENDED, LEFT))?;
+    Ok(came.points)
+}
+
 #[test]
 fn overflow_twice(rt: HostRuntime) -> Result<(), Fail> {
     let alloc = rt.alloc();
-    let ended = b"ended: Overflow 7 EVOL/diff_step\n".as_slice();
     let mut shelf = shelf_with(alloc, LEAVES, THIRDS, SHORT_FIELD)?;
     let mut disk = MemoryDisk::new(alloc, List::empty(alloc));
-    for run in ["from nothing", "from iteration 6"] {
-        let came = answer_on(&rt, &["run", "t.par"], &mut shelf, &mut disk)?;
-        let found = (came.status, came.printed.as_slice(), came.first.as_slice());
-        same(&run, &found, &(3, ended, LEFT))?;
-        if run == "from iteration 6" {
-            same(&"points", &(came.points <= 16), &true)?;
-        }
-    }
-    Ok(())
+    overflows(&rt, "from nothing", &mut shelf, &mut disk)?;
+    let points = overflows(&rt, "from iteration 6", &mut shelf, &mut disk)?;
+    same(&"points", &(points <= 16), &true)
 }

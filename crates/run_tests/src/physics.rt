@@ -379,15 +379,20 @@ const CASES: &[Case] = &[
     },
 ];
 
+/// Tests a row of `CASES`.
+fn is_kept(rt: &HostRuntime, case: &Case) -> Result<(), Fail> {
+    let mut shelf = shelf_with(rt.alloc(), case.file, case.more, PHYSICS)?;
+    let came = answer_to(rt, &["run", "t.par"], &mut shelf)?;
+    let found = (came.status, came.printed.as_slice());
+    same(&case.name, &found, &(0, case.printed))?;
+    let found = (came.first.as_slice(), came.second.as_slice());
+    same(&case.name, &found, &(case.first, case.second))
+}
+
 #[test]
 fn heat_and_gas(rt: HostRuntime) -> Result<(), Fail> {
     for case in CASES {
-        let mut shelf = shelf_with(rt.alloc(), case.file, case.more, PHYSICS)?;
-        let came = answer_to(&rt, &["run", "t.par"], &mut shelf)?;
-        let found = (came.status, came.printed.as_slice());
-        same(&case.name, &found, &(0, case.printed))?;
-        let found = (came.first.as_slice(), came.second.as_slice());
-        same(&case.name, &found, &(case.first, case.second))?;
+        is_kept(&rt, case)?;
     }
     Ok(())
 }

@@ -2,6 +2,7 @@
 
 use crate::parts::runs_by_seeds;
 use sample_files::File;
+use sample_runs::Outcome;
 use std::test::Fail;
 use test_cases::same;
 
@@ -122,18 +123,29 @@ fn steer_file(lines: &'static [u8]) -> File {
     }
 }
 
+/// Tests one of a case's runs.
+fn is_steered(case: &Case, k: usize, came: &Outcome) -> Result<(), Fail> {
+    let (lines, more) = (case.lines, case.more);
+    let found = (came.status, came.printed.as_slice());
+    let want = (case.status, case.printed);
+    same(&(lines, more, "turns", k), &found, &want)?;
+    let values = came.first.ends_with(case.values);
+    same(&("values of", lines, more, "turns", k), &values, &true)
+}
+
+/// Tests a row of `CASES`.
+fn are_steered(rt: &HostRuntime, case: &Case) -> Result<(), Fail> {
+    let runs = runs_by_seeds(rt, WAVE, case.more, &[PARAM, steer_file(case.lines)])?;
+    for (k, came) in runs.iter().enumerate() {
+        is_steered(case, k, came)?;
+    }
+    Ok(())
+}
+
 #[test]
 fn waves_that_are_steered(rt: HostRuntime) -> Result<(), Fail> {
     for case in CASES {
-        let (lines, more) = (case.lines, case.more);
-        let runs = runs_by_seeds(&rt, WAVE, more, &[PARAM, steer_file(lines)])?;
-        for (k, came) in runs.iter().enumerate() {
-            let found = (came.status, came.printed.as_slice());
-            let want = (case.status, case.printed);
-            same(&(lines, more, "turns", k), &found, &want)?;
-            let values = came.first.ends_with(case.values);
-            same(&("values of", lines, more, "turns", k), &values, &true)?;
-        }
+        are_steered(&rt, case)?;
     }
     Ok(())
 }
