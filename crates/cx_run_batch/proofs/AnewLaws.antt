@@ -1,5 +1,5 @@
 -- A run that goes on with another core.
-use Rattle.std.proofs.Common.{◌≡◌, ◌<◌, ◌+◌, ◌^◌, ℕ, List, refl, sym, subst}
+use Rattle.std.proofs.Common.{◌<◌, ◌+◌, ◌^◌, ℕ, List, refl, sym, subst}
 use Rattle.std.specs.Prelude.{IsTrue, Some}
 use Rattle.cx_plan.specs.declared.job.Cuts.{Cuts}
 use Rattle.cx_plan.specs.declared.job.Job.{Job}

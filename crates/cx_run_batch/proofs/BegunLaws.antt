@@ -27,7 +27,7 @@ use Rattle.cx_run_loop.specs.Drives.{driven_by}
 use Rattle.cx_run_loop.specs.Faults.{Stops}
 use Rattle.cx_run_loop.specs.Going.{IsKept, Place, Setting, place_at, setting}
 use Rattle.cx_run_loop.specs.Laws.{DriveLaws}
-use Rattle.cx_run_loop.specs.Recuts.{cut_from, first_cut, with_cut}
+use Rattle.cx_run_loop.specs.Recuts.{cut_from, with_cut}
 use Rattle.cx_run_loop.specs.Segments.{SegmentTo}
 use Rattle.cx_run_loop.specs.UnderWay.{BeginsAnew, HasBegun, HasBegunAt, Runs}
 use Rattle.cx_run_loop.specs.declared.fault.DriveFault.{DriveFault}

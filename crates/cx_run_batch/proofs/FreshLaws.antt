@@ -8,7 +8,7 @@ use Rattle.cx_rule.specs.Routine.{Rule}
 use Rattle.cx_model.specs.Runs.{Lengths}
 use Rattle.cx_chk.specs.declared.checkpoint.Checkpoint.{Checkpoint}
 use Rattle.cx_wire.specs.Messages.{Sent}
-use Rattle.cx_flat.specs.Ways.{most_after, most_from, most_rest}
+use Rattle.cx_flat.specs.Ways.{most_after, most_rest}
 use Rattle.law_network.specs.Machine.{World, begun}
 use Rattle.law_parts.specs.Beginnings.{run_of}
 use Rattle.law_parts.specs.Holding.{Held}
@@ -18,7 +18,6 @@ use Rattle.law_parts.specs.Runs.{Run, parts_in}
 use Rattle.law_parts.specs.Truths.{truth}
 use Rattle.cx_core_events.specs.declared.standing.Standing.{Standing}
 use Rattle.cx_core_events.specs.declared.standing.Work.{Work}
-use Rattle.cx_core_events.specs.Paces.{Paces}
 use Rattle.cx_core_events.specs.Shows.{ShowsPace, StopsAt}
 use Rattle.cx_core.specs.Cores.{Cores}
 use Rattle.cx_core.specs.Left.{going_left, place_rank, places_left, rank_limit, steps_left, stop_left}

@@ -17,7 +17,7 @@ use Rattle.cx_core.specs.Cores.{Cores}
 use Rattle.cx_core.specs.Left.{rank_limit, steps_left}
 use Rattle.cx_core.specs.Starts.{AreEmpty, CanBegin, begins_in}
 use Rattle.cx_core.specs.Steps.{counts}
-use Rattle.cx_run_loop.specs.Advances.{CanAdvance, Keeps, run_state}
+use Rattle.cx_run_loop.specs.Advances.{Keeps, run_state}
 use Rattle.cx_run_loop.specs.Cores.{is_cut_anew}
 use Rattle.cx_run_loop.specs.CoresWait.{CoresWait}
 use Rattle.cx_run_loop.specs.Going.{IsGoing, MovesOn, Place, Setting, place_at, setting}

@@ -1,7 +1,7 @@
 -- From turn to turn of one run, beside others that count on the same meter.
-use Rattle.std.proofs.Common.{◌≡◌, ◌≢◌, ◌≤◌, ◌<◌, ◌+◌, ◌^◌, ℕ, Bool, true, false, List, refl, sym, ◌∙◌, ap, subst, arith}
-use Rattle.std.specs.Prelude.{IsTrue, length, Option, Some, Result, Ok, Err, IfOk, OnOk}
-use Rattle.cx_cut.specs.Cuts.{Parts, part_count}
+use Rattle.std.proofs.Common.{◌≡◌, ◌≢◌, ◌≤◌, ◌+◌, ℕ, Bool, true, false, List, refl, sym, ◌∙◌, ap, subst, arith}
+use Rattle.std.specs.Prelude.{IsTrue, Some, Result, Ok, Err, IfOk, OnOk}
+use Rattle.cx_cut.specs.Cuts.{Parts}
 use Rattle.cx_cut.specs.Faults.{parts_of}
 use Rattle.cx_plan.specs.declared.job.Cuts.{Cuts}
 use Rattle.cx_plan.specs.declared.job.Job.{Job}
@@ -12,45 +12,35 @@ use Rattle.cx_rule.specs.States.{State}
 use Rattle.cx_rule.specs.declared.spec.Spec.{Spec}
 use Rattle.cx_model.specs.Traces.{Goes}
 use Rattle.cx_model.proofs.CheckpointLaws.{run-continues}
-use Rattle.cx_disk.specs.Moments.{IsQuiet}
 use Rattle.cx_disk.specs.declared.disk.Disk.{Ghosts as DiskGhosts}
 use Rattle.cx_disk.proofs.Moments.{joins}
 use Rattle.cx_wire.specs.Received.{counted}
 use Rattle.cx_wire.specs.declared.wire.Wire.{Ghosts as WireGhosts}
 use Rattle.cx_chk.specs.declared.checkpoint.Checkpoint.{Checkpoint}
-use Rattle.cx_keep.specs.Keeping.{Keeper}
-use Rattle.cx_keep.specs.Trails.{OutputsSettled}
 use Rattle.cx_core.specs.declared.answers.Outcome.TheVariants.{Going as GoesOn}
 use Rattle.cx_core.specs.Cores.{Cores}
-use Rattle.cx_core.specs.Hands.{Stands}
-use Rattle.cx_core.specs.Starts.{begins_in}
 use Rattle.cx_core.specs.Steps.{Counts, counts}
-use Rattle.cx_run_loop.specs.Advances.{CanAdvance, Keeps, run_state}
+use Rattle.cx_run_loop.specs.Advances.{Keeps, run_state}
 use Rattle.cx_run_loop.specs.Cores.{run_by, start_of}
-use Rattle.cx_run_loop.specs.CoresWait.{CoresWait}
-use Rattle.cx_run_loop.specs.Drives.{Drive, LendsScalars, driven_by}
+use Rattle.cx_run_loop.specs.Drives.{Drive, driven_by}
 use Rattle.cx_run_loop.specs.Faults.{Stops}
-use Rattle.cx_run_loop.specs.Going.{EndsAt, IsDriving, IsGoing, IsImageOf, IsKept, MovesOn, Place, RunLeaves, RunsFrom, Setting, kept_in, place_at, run_in, setting, trace_in}
+use Rattle.cx_run_loop.specs.Going.{EndsAt, IsImageOf, Place, RunLeaves, Setting, kept_in, place_at, setting, trace_in}
 use Rattle.cx_run_loop.specs.Laws.{DriveLaws}
-use Rattle.cx_run_loop.specs.Recuts.{cut_from, first_cut, next_cut, with_cut}
+use Rattle.cx_run_loop.specs.Recuts.{cut_from, next_cut, with_cut}
 use Rattle.cx_run_loop.specs.Segments.{RunsBy, SegmentTo, Start, entries_at, parts_at}
 use Rattle.cx_run_loop.specs.Sums.{AreUnsaved, CountsBelow}
-use Rattle.cx_run_loop.specs.UnderWay.{BeginsAnew, HasBegunAt, Runs}
-use Rattle.cx_run_loop.specs.Waiting.{HoldsCheckpoint, StaysBelow}
+use Rattle.cx_run_loop.specs.UnderWay.{Runs}
+use Rattle.cx_run_loop.specs.Waiting.{StaysBelow}
 use Rattle.cx_run_loop.specs.declared.fault.DriveFault.{DriveFault}
 use Rattle.cx_run_loop.specs.declared.turn.Advance.{Advance}
-use Rattle.cx_run_loop.proofs.AdvanceLaws.{can_again, keeps_more, keeps_quiet}
 use Rattle.cx_run_loop.proofs.CoreLaws.{CountAsOne, one_cut, one_unsaved, runs_by, segment_more, segment_one}
 use Rattle.cx_run_loop.proofs.CoresEnd.{one_again}
-use Rattle.cx_run_loop.proofs.CoresGo.{kept_anew, waits_at}
 use Rattle.cx_run_loop.proofs.DriveLaws.{drives, lends_scalars}
 use Rattle.cx_run_loop.proofs.GatherCounts.{works_unsaved}
 use Rattle.cx_run_loop.proofs.Recast.{runs_cast, segment_back, segment_cast}
-use Rattle.cx_run_loop.proofs.StepLaws.{ends_with}
 use Rattle.cx_run_loop.proofs.StopLaws.{count, stopped_after, stopped_first}
 use Rattle.cx_run_loop.proofs.SumLaws.{sums_add}
-use Rattle.cx_run_loop.proofs.TurnLaws.{moves_none}
-use Rattle.cx_run_loop.proofs.UnderWayLaws.{come_at, ends, going_at, leaves_on}
+use Rattle.cx_run_loop.proofs.UnderWayLaws.{ends, leaves_on}
 use Rattle.cx_run_batch.specs.Stages.{ComesWaiting, IsOnWay, IsOver, begins_at, lot}
 use Rattle.cx_run_batch.specs.declared.stage.UnderWay.{UnderWay}
 use Rattle.cx_run_batch.proofs.ComeLaws.{IsGathered}

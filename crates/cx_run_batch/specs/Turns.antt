@@ -1,5 +1,5 @@
 -- The turns of a batch: which events they do, each the one that the source of turns picks.
-use Rattle.std.specs.Prelude.{ℕ, ◌≡◌, ◌⊎◌, IsTrue, List, [], ◌∷◌, Option, Some, Ok, Err, set, slice_get}
+use Rattle.std.specs.Prelude.{ℕ, ◌≡◌, ◌⊎◌, IsTrue, List, [], ◌∷◌, Some, Ok, Err, set, slice_get}
 use Rattle.cx_plan.specs.declared.job.Job.{Job}
 use Rattle.cx_rule.specs.Routine.{Rule}
 use Rattle.cx_rule.specs.declared.spec.Spec.{Spec}

@@ -1,4 +1,4 @@
-use Rattle.std.proofs.Common.{◌≡◌, ◌+◌, ◌-◌, ◌*◌, ◌∙◌, ap, sym, subst}
+use Rattle.std.proofs.Common.{◌+◌, ◌-◌, ◌*◌, ◌∙◌, ap, subst}
 use Rattle.cx_plan.specs.Setups.{setup_of}
 use Rattle.cx_core.specs.Left.{steps_left}
 use Rattle.cx_core.specs.Starts.{begins_in}
