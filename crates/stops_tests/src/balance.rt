@@ -1,11 +1,13 @@
 //! A run that is cut anew at its checkpoint, beside the same run in its own cut.
+ghost use Rattle.std.specs.Prelude.{◌≤◌};
+ghost use Rattle.cx_core.specs.Starts.{AreEmpty};
 
 use crate::stops::RUN;
 use cx_disk::MemoryDisk;
 use cx_rule::Meter;
 use cx_text::{List, Memory};
 use cx_turns::SeededTurns;
-use cx_wire::{Head, NotingWire};
+use cx_wire::{Head, NotingWire, Wire};
 use sample_runs::{FIRST_OUTPUT, noting, shelf_with, sink, status_over};
 use std::alloc::Global;
 use std::test::Fail;
@@ -56,8 +58,11 @@ fn are_as_high(notes: &[Note], heights: &[u32; 3]) -> bool {
     true
 }
 
-/// The output of the glider with more lines, after a test of its status, and what its wire notes.
-fn noted(rt: &HostRuntime, more: &str, wire: &mut NotingWire) -> Result<MemoryDisk, Fail> {
+/// The disk after a run of the glider with more lines over a wire.
+fn left_by<W: Wire>(rt: &HostRuntime, more: &str, wire: &mut W) -> Result<MemoryDisk, Fail>
+    requires parts { 512 ≤ W.parts wire.old }
+    requires empty { AreEmpty (W.queue wire.old) }
+{
     let alloc = rt.alloc();
     let mut shelf = shelf_with(alloc, GLIDER, more, &[])?;
     let mut disk = MemoryDisk::new(alloc, List::empty(alloc));
@@ -84,10 +89,10 @@ fn has_heights(alloc: Global, wire: &NotingWire, last: &[u32; 3]) -> Result<(), 
 fn a_glider_is_cut_anew(rt: HostRuntime) -> Result<(), Fail> {
     let alloc = rt.alloc();
     let mut plain = noting(alloc)?;
-    let own = noted(&rt, "", &mut plain)?;
+    let own = left_by(&rt, "", &mut plain)?;
     has_heights(alloc, &plain, &OWN)?;
     let mut balanced = noting(alloc)?;
-    let chosen = noted(&rt, BALANCED, &mut balanced)?;
+    let chosen = left_by(&rt, BALANCED, &mut balanced)?;
     has_heights(alloc, &balanced, &CHOSEN)?;
     same(
         &"the output",
