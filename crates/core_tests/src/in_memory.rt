@@ -1,8 +1,8 @@
 //! A job of eight cells: its parameter file is read, the job is made, run over devices in memory, and its output read back.
 
-ghost use Rattle.std.specs.Prelude.{◌≡◌, ◌≤◌, ◌^◌, length, map, IfOk};
+ghost use Rattle.std.specs.Prelude.{◌≡◌, ◌≤◌, ◌^◌, length, map, IfOk, None};
 ghost use Rattle.cx_cut.specs.Cuts.{part_count};
-ghost use Rattle.cx_cut.specs.Faults.{parts_of};
+ghost use Rattle.cx_cut.specs.Faults.{cut_fault, parts_of};
 ghost use Rattle.cx_rule.specs.Jobs.{FitJob};
 ghost use Rattle.cx_wire.specs.Memory.{told_queue};
 ghost use Rattle.cx_plan.specs.Setups.{setup_of};
@@ -67,6 +67,7 @@ fn job(alloc: Global, routines: &[Box<dyn Routine>]) -> Result<Job, Fail>
     requires few { length routines.now ≤ 2 ^ 32 }
     ensures ready { IfOk result (λ job. IsReady job) }
     ensures fit { IfOk result (λ job. FitJob (map spec_of routines.now) job) }
+    ensures cut { IfOk result (λ job. cut_fault (parts_of job.shape job.cut) ≡ None) }
     ensures names { IfOk result (λ job. HasShortNames (setup_of job)) }
 {
     let mut shelf = shelf(alloc)?;
@@ -88,10 +89,11 @@ fn wire(alloc: Global, job: &Job) -> Result<MemoryWire, Fail>
 }
 
 /// The bytes of the first variable's output after the run of a job on an empty disk.
-fn output(rt: &HostRuntime, job: &Job, routines: &[Box<dyn Routine>]) -> Result<Vec<u8>, Fail>
-    requires ready { IsReady job.now }
-    requires fit { FitJob (map spec_of routines.now) job.now }
-    requires names { HasShortNames (setup_of job.now) }
+fn output(rt: &HostRuntime, job: &mut Job, routines: &[Box<dyn Routine>]) -> Result<Vec<u8>, Fail>
+    requires ready { IsReady job.old }
+    requires fit { FitJob (map spec_of routines.now) job.old }
+    requires cut { cut_fault (parts_of job.old.shape job.old.cut) ≡ None }
+    requires names { HasShortNames (setup_of job.old) }
 {
     let alloc = rt.alloc();
     let mut disk = MemoryDisk::new(alloc, List::empty(alloc));
@@ -109,8 +111,8 @@ fn sections(rt: &HostRuntime, routines: &[Box<dyn Routine>]) -> Result<List<Reco
     requires few { length routines.now ≤ 2 ^ 32 }
 {
     let alloc = rt.alloc();
-    let job = job(alloc, routines)?;
-    let output = output(rt, &job, routines)?;
+    let mut job = job(alloc, routines)?;
+    let output = output(rt, &mut job, routines)?;
     match read_output(alloc, &output)? {
         Some(records) => Ok(records),
         None => Err(Fail::new("this is no output")),

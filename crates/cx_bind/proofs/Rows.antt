@@ -1,5 +1,5 @@
 -- Worked rows: what the definitions say of some thorns.
-use Rattle.std.specs.Prelude.{◌≡◌, refl, ℕ, pos, List, [], ◌∷◌, codes, map, drop, length, Some, None, Ok, Err}
+use Rattle.std.specs.Prelude.{◌≡◌, refl, ℕ, pos, List, [], ◌∷◌, codes, map, drop, length, Option, Some, None, Ok, Err}
 use Rattle.cx_text.specs.declared.ctype.CType.TheVariants.{Real}
 use Rattle.cx_iface.specs.declared.tree.Access.TheVariants.{Public, Private}
 use Rattle.cx_param.specs.declared.ranges.Range.TheVariants.{Word}
@@ -50,11 +50,17 @@ row_levels : map (λ (v : Variable). level_full v 2) (variables (elem_ca ∷ [])
     ≡ codes "ca::cell_p_p" ∷ codes "ca::live_p_p" ∷ []
 row_levels = refl
 
-row_table : length (table 2) ≡ 34
+row_table : length (table 2) ≡ 37
 row_table = refl
 
+row_balance : map {B = List ℕ × Option (List ℕ)} (λ (p : Param). (p.full, p.decl.default))
+    (drop 34 (table 2))
+    ≡ (codes "driver::balance", Some (codes "no")) ∷ (codes "driver::weight", Some [])
+    ∷ (codes "driver::weight_factor", Some (codes "1")) ∷ []
+row_balance = refl
+
 row_parameters : map {B = List ℕ × ℕ} (λ (p : Param). (p.full, p.thorn))
-    (drop 34 (parameters (elem_ca ∷ [])))
+    (drop 37 (parameters (elem_ca ∷ [])))
     ≡ (codes "ca::rule", 0) ∷ (codes "ca::start", 0) ∷ (codes "ca::seed", 0) ∷ []
 row_parameters = refl
 
@@ -63,7 +69,7 @@ extending = thorn (codes "E") (codes "e") [] []
     (decl (scopes.Extends (codes "CA")) Int (codes "Rule") (from_to (pos 300) (pos 300) ∷ []) ∷ [])
 
 -- an extension adds ranges behind the declared ones
-row_extended : map (λ (p : Param). p.ranges) (drop 34 (parameters (extending ∷ elem_ca ∷ [])))
+row_extended : map (λ (p : Param). p.ranges) (drop 37 (parameters (extending ∷ elem_ca ∷ [])))
     ≡ (from_to (pos 0) (pos 255) ∷ from_to (pos 300) (pos 300) ∷ [])
     ∷ map (λ d. d.ranges) (drop 1 elem_ca.params)
 row_extended = refl
@@ -109,6 +115,13 @@ row_starred : bind_fault
     ∷ []) ≡ Some (NoParameter (codes "E") (codes "IO") (codes "recover"))
 unfolding bind_fault
 row_starred = refl
+
+row_starred_of_driver : bind_fault
+    (thorn (codes "E") (codes "e") [] []
+    (decl (scopes.Uses (codes "driver")) Int (codes "weight_factor") [] ∷ []) ∷ [])
+    ≡ Some (NoParameter (codes "E") (codes "driver") (codes "weight_factor"))
+unfolding bind_fault
+row_starred_of_driver = refl
 
 row_type : bind_fault (elem_ca
     ∷ thorn (codes "E") (codes "e") [] []

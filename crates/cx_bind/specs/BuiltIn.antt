@@ -27,6 +27,7 @@ starred_of_driver =
     codes "driver::parts_x" ∷ codes "driver::parts_y" ∷ codes "driver::parts_z"
     ∷ codes "driver::widths_x" ∷ codes "driver::widths_y" ∷ codes "driver::widths_z"
     ∷ codes "driver::lead"
+    ∷ codes "driver::balance" ∷ codes "driver::weight" ∷ codes "driver::weight_factor"
     ∷ []
 
 abbrev pub starred_of_io : List (List ℕ)
@@ -163,6 +164,13 @@ recover_parameters n =
 abbrev pub steer_parameters : ℕ → List Param
 steer_parameters n = text_parameter n (codes "IO") (codes "steer_file") [] ∷ []
 
+abbrev pub balance_parameters : ℕ → List Param
+balance_parameters n =
+    flag_parameter n (codes "driver") (codes "balance") (codes "no")
+    ∷ text_parameter n (codes "driver") (codes "weight") []
+    ∷ int_parameter n (codes "driver") (codes "weight_factor") (pos 0) (pos 1048576) (codes "1")
+    ∷ []
+
 abbrev pub driver_parameters : ℕ → List Param
 driver_parameters n =
     grid_parameters n
@@ -176,4 +184,5 @@ io_parameters n =
 
 -- all built-in parameters, for so many thorns
 abbrev pub table : ℕ → List Param
-table n = cactus_parameters n ++ (driver_parameters n ++ io_parameters n)
+table n =
+    cactus_parameters n ++ (driver_parameters n ++ (io_parameters n ++ balance_parameters n))

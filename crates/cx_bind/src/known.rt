@@ -156,6 +156,9 @@ fn is_starred_of_driver(full: &[u8]) -> bool
         || same_name(full, b"driver::widths_y")
         || same_name(full, b"driver::widths_z")
         || same_name(full, b"driver::lead")
+        || same_name(full, b"driver::balance")
+        || same_name(full, b"driver::weight")
+        || same_name(full, b"driver::weight_factor")
 }
 
 /// Whether a parameter of `IO` says only where a run reads and writes, so no thorn can use it.

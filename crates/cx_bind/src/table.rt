@@ -3,7 +3,7 @@
 ghost use Rattle.std.specs.Prelude.{◌≡◌, ◌++◌, ◌∷◌, [], codes, IfOk, OnOk, None, Some};
 ghost use Rattle.cx_param.specs.declared.declarations.PType.TheVariants as ptypes;
 ghost use Rattle.cx_param.specs.declared.ranges.Range.TheVariants as kinds;
-ghost use Rattle.cx_bind.specs.BuiltIn.{from_to, parameter, int_parameter, unset_parameter, flag_parameter, text_parameter, terminate_parameter, cactus_parameters, grid_parameters, ghost_parameters, periodic_parameters, part_parameters, width_parameters, turn_parameters, output_parameters, checkpoint_parameters, recover_parameter, recover_parameters, steer_parameters, driver_parameters, io_parameters, table};
+ghost use Rattle.cx_bind.specs.BuiltIn.{from_to, parameter, int_parameter, unset_parameter, flag_parameter, text_parameter, terminate_parameter, cactus_parameters, grid_parameters, ghost_parameters, periodic_parameters, part_parameters, width_parameters, turn_parameters, balance_parameters, output_parameters, checkpoint_parameters, recover_parameter, recover_parameters, steer_parameters, driver_parameters, io_parameters, table};
 
 use crate::Param;
 use crate::copies::copy_ranges;
@@ -378,6 +378,20 @@ fn push_steer(alloc: Global, table: &mut List<Param>, n: u32) -> Result<(), Memo
     push_text(alloc, table, &owner, b"steer_file", b"")
 }
 
+/// Adds whether a checkpoint cuts the grid anew, and what its points weigh.
+fn push_balance(alloc: Global, table: &mut List<Param>, n: u32) -> Result<(), Memory>
+    ensures { OnOk result (table.new ≡ table.old ++ balance_parameters n) }
+{
+    let owner = Owner {
+        number: n,
+        implementation: b"driver",
+    };
+    push_flag(alloc, table, &owner, b"balance", b"no")?;
+    push_text(alloc, table, &owner, b"weight", b"")?;
+    push_int(alloc, table, &owner, b"weight_factor", (0, 1_048_576), b"1")?;
+    Ok(())
+}
+
 /// Adds the parameters of the driver, in the order of their numbers.
 fn push_driver(alloc: Global, table: &mut List<Param>, n: u32) -> Result<(), Memory>
     ensures { OnOk result (table.new ≡ table.old ++ driver_parameters n) }
@@ -410,5 +424,6 @@ pub(crate) fn table(alloc: Global, n: u32) -> Result<List<Param>, Memory>
     push_cactus(alloc, &mut params, n)?;
     push_driver(alloc, &mut params, n)?;
     push_io(alloc, &mut params, n)?;
+    push_balance(alloc, &mut params, n)?;
     Ok(params)
 }

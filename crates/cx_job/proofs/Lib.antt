@@ -7,6 +7,8 @@ pub mod OnlyJob
 pub mod OutputLaws
 mod OutputRows
 pub mod WrittenLaws
+pub mod WeightLaws
+mod WeightRows
 pub mod StoredLaws
 pub mod SupportedLaws
 pub mod PlanFacts

@@ -33,6 +33,8 @@ use Rattle.cx_job.specs.LocalCells.{local_cells, items_run}
 use Rattle.cx_job.specs.Caps.{greatest_part, too_large, cap_fault, caps_fault}
 use Rattle.cx_job.specs.Jobs.{job_of, steered_job}
 use Rattle.cx_job.specs.Outputs.{output_variables}
+use Rattle.cx_job.specs.Weights.{weight_fault}
+use Rattle.cx_scope.specs.declared.fault.ScopeFault.{ScopeFault}
 use Rattle.cx_job.specs.JobLimits.{over, writes_fault, reads_fault, parameters_fault, each_limit, item_limits, points_fault, cells_fault, grid_limits, key_limit, limit_fault, run_count}
 use Rattle.cx_job_files.specs.declared.fault.ConfigFault.{ConfigFault}
 use Rattle.cx_job_files.specs.declared.fault.ConfigFault.TheVariants as configs
@@ -45,7 +47,7 @@ use Rattle.cx_job.specs.Faults.{config_fault, match_fault}
 use Rattle.cx_text.specs.Telling.{Stage, Then, Tells}
 use Rattle.cx_job_files.specs.Stages.{Is, unless, or_fault, Raised}
 use Rattle.cx_job_files.specs.Configuring.{Configures}
-use Rattle.cx_job.specs.Making.{Orders, Matches, Accepts, CutAnd, part_limits, cut_limits, within_cut, LimitsAnd, ItemsAnd, OutputsAnd, PlanAnd, steered_steps, StepsAnd, SteersAnd, bound_thorns, assigned_values, MadeOf, Made, Reaches, Makes, Yields, output_ids, key_within, within_limits}
+use Rattle.cx_job.specs.Making.{Orders, Matches, Accepts, CutAnd, part_limits, cut_limits, within_cut, LimitsAnd, ItemsAnd, weight_limit, within_weight, WeightAnd, OutputsAnd, PlanAnd, steered_steps, StepsAnd, SteersAnd, bound_thorns, assigned_values, MadeOf, Made, Reaches, Makes, Yields, output_ids, key_within, within_limits}
 use Rattle.cx_job.proofs.OnlyJob.{Comes, only_job, only_fault}
 use Rattle.cx_text.specs.Numbers.{in_64_bits}
 
@@ -121,6 +123,11 @@ value_not (Some e) z = absurd cc
 steer_not : (name : List ℕ) (o : Option ValueFault) → NotShelf (option_map (faults.Steer name) o)
 steer_not name None z = absurd cc
 steer_not name (Some e) z = absurd cc
+
+weight_not : (o : Option ScopeFault)
+    → NotShelf (option_map (λ f. faults.Order (orders.Scope (codes "weight") f)) o)
+weight_not None z = absurd cc
+weight_not (Some f) z = absurd cc
 
 or_fault_not : {A F : Type 0} (as_job : F → JobFault) (r : Result A F)
     → ((f : F) → as_job f ≢ faults.Shelf) → err A faults.Shelf ≡ or_fault as_job r → ⊥
@@ -227,14 +234,24 @@ module _ (specs : List Spec) where
       (λ items. limits_and_not specs (run_count ordered.plan)
       (steered_job specs (parameters thorns) ss (job_of thorns values ordered items out_vars)))
 
+  weight_and_not : (ss : List SteerStep) (thorns : List Thorn) (values : Values)
+      (ordered : Ordered) (out_vars : List VarId)
+      → WeightAnd specs ss thorns values ordered out_vars (err Job faults.Shelf) → ⊥
+  weight_and_not ss thorns values ordered out_vars =
+      then_not (Is (within_weight thorns values ordered.storage out_vars))
+      (ItemsAnd specs ss thorns values ordered)
+      (unless_not (weight_limit thorns values ordered.storage) out_vars
+      (weight_not (weight_fault thorns values ordered.storage)))
+      (items_and_not ss thorns values ordered)
+
   outputs_not : (ss : List SteerStep) (thorns : List Thorn) (values : Values) (ordered : Ordered)
       → OutputsAnd specs ss thorns values ordered (err Job faults.Shelf) → ⊥
   outputs_not ss thorns values ordered =
       then_not (Is (output_ids thorns values ordered.storage))
-      (ItemsAnd specs ss thorns values ordered)
+      (WeightAnd specs ss thorns values ordered)
       (or_fault_not (λ f. faults.Order (orders.Scope (codes "output") f))
       (output_variables thorns values ordered.storage) (λ f z. absurd cc))
-      (items_and_not ss thorns values ordered)
+      (weight_and_not ss thorns values ordered)
 
   order_not : (input : Input) → Orders input (err Ordered faults.Shelf) → ⊥
   order_not input (fault, is, other, told) = absurd cc

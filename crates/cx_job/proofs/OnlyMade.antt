@@ -39,7 +39,7 @@ use Rattle.cx_job_files.proofs.OnlyFiles.{steers_settled}
 use Rattle.cx_job_values.specs.RunNumbers.{steer_file}
 use Rattle.cx_job_files.proofs.Settled.{Settled, same_fault, settled_is, then_settled, raised_settled}
 use Rattle.cx_job.specs.JobLimits.{run_count}
-use Rattle.cx_job.specs.Making.{Orders, Matches, Accepts, CutAnd, within_cut, LimitsAnd, ItemsAnd, OutputsAnd, PlanAnd, steered_steps, StepsAnd, SteersAnd, ValuesAnd, MadeOf, output_ids, within_limits, without_witness}
+use Rattle.cx_job.specs.Making.{Orders, Matches, Accepts, CutAnd, within_cut, LimitsAnd, ItemsAnd, within_weight, WeightAnd, OutputsAnd, PlanAnd, steered_steps, StepsAnd, SteersAnd, ValuesAnd, MadeOf, output_ids, within_limits, without_witness}
 
 matches_same : (thorns : List Thorn) (values : Values) (specs : List Spec) (ordered : Ordered)
     (r s : Result (List Item) JobFault) → Matches thorns values specs ordered r
@@ -119,14 +119,23 @@ module _ (specs : List Spec) where
       (steered_job specs (parameters thorns) steps
       (job_of thorns values ordered items out_vars)))
 
+  weight_settled : (steps : List SteerStep) (thorns : List Thorn) (values : Values)
+      (ordered : Ordered) (out_vars : List VarId)
+      → Settled without_witness (WeightAnd specs steps thorns values ordered out_vars)
+  weight_settled steps thorns values ordered out_vars =
+      let told : Result (List VarId) JobFault =
+      within_weight thorns values ordered.storage out_vars in
+      then_settled without_witness (Is told) (ItemsAnd specs steps thorns values ordered)
+      (settled_is without_witness told) (items_settled steps thorns values ordered)
+
   outputs_settled : (steps : List SteerStep) (thorns : List Thorn) (values : Values)
       (ordered : Ordered)
       → Settled without_witness (OutputsAnd specs steps thorns values ordered)
   outputs_settled steps thorns values ordered =
       then_settled without_witness (Is (output_ids thorns values ordered.storage))
-      (ItemsAnd specs steps thorns values ordered)
+      (WeightAnd specs steps thorns values ordered)
       (settled_is without_witness (output_ids thorns values ordered.storage))
-      (items_settled steps thorns values ordered)
+      (weight_settled steps thorns values ordered)
 
   plan_settled : (schedules : List ScheduleFile) (thorns : List Thorn) (values : Values)
       (steps : List SteerStep)

@@ -1,5 +1,5 @@
 -- What the stages from thorns to a job make sure of.
-use Rattle.std.proofs.Common.{◌≡◌, ◌∙◌, sym, ap, subst, refl, ◌<◌, ◌≤◌, ◌+◌, ◌^◌, inl, inr, ℕ, List, [], ◌∷◌, ◌++◌, map, length, take, get_or, codes, Option, Some, None, Result, Ok, Err, IfOk, arith}
+use Rattle.std.proofs.Common.{◌≡◌, ◌∙◌, sym, ap, subst, refl, ◌<◌, ◌≤◌, ◌+◌, ◌^◌, ◌⊎◌, inl, inr, ℕ, List, [], ◌∷◌, ◌++◌, map, length, take, get_or, codes, Option, Some, None, Result, Ok, Err, IfOk, arith}
 use Rattle.std.specs.Prelude.{option_map, All}
 use Rattle.std.proofs.lemmas.List.{map-append, take_more}
 use Rattle.cx_plan.specs.Setups.{setup_of}
@@ -23,7 +23,6 @@ use Rattle.cx_order.specs.Meanings.{World}
 use Rattle.cx_order.specs.declared.ordered.Ordered.{Ordered}
 use Rattle.cx_rule.specs.declared.spec.Spec.{Spec}
 use Rattle.cx_cut.specs.Faults.{parts_of, cut_fault}
-use Rattle.cx_cut.specs.declared.faults.CutFault.{CutFault}
 use Rattle.cx_job.specs.declared.fault.JobFault.{JobFault}
 use Rattle.cx_job.specs.declared.fault.JobFault.TheVariants as faults
 use Rattle.cx_plan.specs.Lists.{or_else, first_of_each}
@@ -33,14 +32,15 @@ use Rattle.cx_job.specs.Caps.{caps_fault}
 use Rattle.cx_job.specs.Keys.{step_lines}
 use Rattle.cx_job.specs.Jobs.{job_of, steered_job}
 use Rattle.cx_job.specs.Outputs.{output_variables}
+use Rattle.cx_job.specs.Weights.{weight_fault}
 use Rattle.cx_job_items.specs.Matching.{all_matched}
 use Rattle.cx_text.specs.Telling.{Answers}
 use Rattle.cx_job_items.specs.declared.fault.MatchFault.TheVariants as matches
 use Rattle.cx_job_files.specs.NamesAndLevels.{AreRead}
 use Rattle.cx_job_items.specs.declared.fault.MatchFault.{MatchFault}
 use Rattle.cx_job.specs.Faults.{match_fault}
-use Rattle.cx_job_files.specs.Stages.{Is, or_fault}
-use Rattle.cx_job.specs.Making.{Orders, Matches, CutAnd, part_limits, cut_limits, LimitsAnd, ItemsAnd, OutputsAnd, PlanAnd, steered_steps, StepsAnd, Yields, IsReady, IsPlanned, output_ids, within_limits}
+use Rattle.cx_job_files.specs.Stages.{Is, unless, or_fault}
+use Rattle.cx_job.specs.Making.{Orders, Matches, CutAnd, part_limits, cut_limits, LimitsAnd, ItemsAnd, weight_limit, within_weight, WeightAnd, OutputsAnd, PlanAnd, steered_steps, StepsAnd, Yields, IsReady, IsPlanned, output_ids, within_limits}
 use Rattle.cx_job.proofs.MakingLaws.{yields_halt, yields_pass, yields_ok, unless_ok}
 use Rattle.cx_job_values.specs.RunNumbers.{steer_file}
 use Rattle.cx_job.proofs.SteerLaws.{steps_later}
@@ -179,8 +179,9 @@ module _ (specs : List Spec) (steps : List SteerStep) (thorns : List Thorn) (val
           (unless_ok (limits run job_left) job_left job limited).0)
 
       pub whole_of : AreRead (variable_infos thorns)
-          → output_variables thorns values ordered.storage ≡ Ok out_vars → IsWhole job
-      whole_of read outputs =
+          → output_variables thorns values ordered.storage ≡ Ok out_vars
+          → weight_fault thorns values ordered.storage ≡ None → IsWhole job
+      whole_of read outputs weighs =
           subst IsWhole (sym the_job)
           (is_whole thorns planned.files values specs steps ordered items out_vars
           (record {
@@ -189,6 +190,7 @@ module _ (specs : List Spec) (steps : List SteerStep) (thorns : List Thorn) (val
             later = later;
             few = none_over;
             written = outputs;
+            weighs = weighs;
           }) read
           (yields_ok (Matches thorns values specs ordered) items matches))
 
@@ -203,9 +205,10 @@ module _ (specs : List Spec) (steps : List SteerStep) (thorns : List Thorn) (val
           (key_names (job_by items) (job_by items).shape thorns values ordered.text
           (step_lines (parameters thorns) steps) refl)
 
-pub unmapped : (o : Option CutFault) → option_map faults.Cut o ≡ None → o ≡ None
-unmapped None none = refl
-unmapped (Some e) none = absurd cc
+pub unmapped : {F : Type 0} (told : F → JobFault) (o : Option F) → option_map told o ≡ None
+    → o ≡ None
+unmapped told None none = refl
+unmapped told (Some e) none = absurd cc
 
 pub ready_of : (specs : List Spec) (job : Job) (r : Result Job JobFault) → IsWhole job
     → All (IsRunWith specs job) (run_items (setup_of job)) → KeyNames job
@@ -224,14 +227,14 @@ ready_of specs job (Ok other) whole run names (inr (inr (x, s, t))) =
       shapes = subst (λ j. HasShapes (setup_of j)) cut.1 t.1;
       sound = subst (λ j. Sound (setup_of j)) cut.1 t.2;
       fit = job_fits specs job run (second_none cells (caps_fault specs job) none);
-      cut = unmapped (cut_fault (parts_of job.shape job.cut))
+      cut = unmapped faults.Cut (cut_fault (parts_of job.shape job.cut))
           (first_none parts (part_limits specs job) cut.0);
       few_cells = not_over (codes "local cells") (local_cells job) (2 ^ 27)
           (first_none cells (caps_fault specs job) none);
       names = short_names job whole names;
     })
 
--- ---- the plan and the variables that are written
+-- ---- the plan, the variables that are written, and the one that weighs
 
 module _ (specs : List Spec) (schedules : List ScheduleFile) (thorns : List Thorn) (values : Values)
     (steps : List SteerStep) where
@@ -242,17 +245,46 @@ module _ (specs : List Spec) (schedules : List ScheduleFile) (thorns : List Thor
   unwritten ordered e plan told =
       yields_pass (Orders (input_of thorns schedules values)) (OutputsAnd specs steps thorns values)
       ordered (Err e) plan (yields_halt (Is (output_ids thorns values ordered.storage))
-      (ItemsAnd specs steps thorns values ordered) e told)
+      (WeightAnd specs steps thorns values ordered) e told)
+
+  -- behind the plan and the variables that are written
+  weight_made : (ordered : Ordered) (out_vars : List VarId) (r : Result Job JobFault)
+      → Yields (Orders (input_of thorns schedules values)) (Ok ordered)
+      → Yields (Is (output_ids thorns values ordered.storage)) (Ok out_vars)
+      → Yields (WeightAnd specs steps thorns values ordered out_vars) r
+      → Yields (PlanAnd specs schedules thorns values steps) r
+  weight_made ordered out_vars r plan told made =
+      yields_pass (Orders (input_of thorns schedules values)) (OutputsAnd specs steps thorns values)
+      ordered r plan (yields_pass (Is (output_ids thorns values ordered.storage))
+      (WeightAnd specs steps thorns values ordered) out_vars r told made)
+
+  weight_told : (ordered : Ordered) (out_vars : List VarId) (e : JobFault)
+      → (e ≡ faults.Memory) ⊎ (weight_limit thorns values ordered.storage ≡ Some e)
+      → Yields (Is (within_weight thorns values ordered.storage out_vars)) (err (List VarId) e)
+  weight_told ordered out_vars e (inl m) = inl (ap (err (List VarId)) m)
+  weight_told ordered out_vars e (inr some) = inr (ap (λ o. unless o out_vars) (sym some))
+
+  pub unweighed : (ordered : Ordered) (out_vars : List VarId) (e : JobFault)
+      → Yields (Orders (input_of thorns schedules values)) (Ok ordered)
+      → Yields (Is (output_ids thorns values ordered.storage)) (Ok out_vars)
+      → (e ≡ faults.Memory) ⊎ (weight_limit thorns values ordered.storage ≡ Some e)
+      → Yields (PlanAnd specs schedules thorns values steps) (err Job e)
+  unweighed ordered out_vars e plan told fault =
+      weight_made ordered out_vars (Err e) plan told
+      (yields_halt (Is (within_weight thorns values ordered.storage out_vars))
+      (ItemsAnd specs steps thorns values ordered) e (weight_told ordered out_vars e fault))
 
   pub plan_made : (ordered : Ordered) (out_vars : List VarId) (r : Result Job JobFault)
       → Yields (Orders (input_of thorns schedules values)) (Ok ordered)
       → Yields (Is (output_ids thorns values ordered.storage)) (Ok out_vars)
+      → weight_limit thorns values ordered.storage ≡ None
       → Yields (ItemsAnd specs steps thorns values ordered out_vars) r
       → Yields (PlanAnd specs schedules thorns values steps) r
-  plan_made ordered out_vars r plan told made =
-      yields_pass (Orders (input_of thorns schedules values)) (OutputsAnd specs steps thorns values)
-      ordered r plan (yields_pass (Is (output_ids thorns values ordered.storage))
-      (ItemsAnd specs steps thorns values ordered) out_vars r told made)
+  plan_made ordered out_vars r plan told none made =
+      weight_made ordered out_vars r plan told
+      (yields_pass (Is (within_weight thorns values ordered.storage out_vars))
+      (ItemsAnd specs steps thorns values ordered) out_vars r
+      (inr (ap (λ o. unless o out_vars) (sym none))) made)
 
 -- ---- the steps of the steer file
 

@@ -33,12 +33,14 @@ use Rattle.cx_job.specs.JobLimits.{over, writes_fault, reads_fault, parameters_f
 use Rattle.cx_job.specs.Jobs.{job_of, steered_job}
 use Rattle.cx_job_files.specs.NamesAndLevels.{AreRead}
 use Rattle.cx_job.specs.Outputs.{output_variables}
+use Rattle.cx_job.specs.Weights.{weight_fault}
 use Rattle.cx_job_values.specs.Stored.{stored_infos}
 use Rattle.cx_job_values.specs.Grids.{number_at}
 use Rattle.cx_job.specs.Making.{Matches}
 use Rattle.cx_job_values.proofs.NoneLaws.{some_none, first_none, second_none}
 use Rattle.cx_job_values.proofs.LimitLaws.{lies_within, natural_lies_within, has_shape}
 use Rattle.cx_job.proofs.WrittenLaws.{outputs_stored, outputs_rise}
+use Rattle.cx_job.proofs.WeightLaws.{weighs_stored}
 use Rattle.cx_job.proofs.StoredLaws.{as_many_stored, each_stored, names_kept, stored_differ}
 use Rattle.cx_job.proofs.SupportedLaws.{no_two_variables, one_level, few_variables as few_declared}
 use Rattle.cx_job.proofs.TreeLaws.{bins_whole}
@@ -73,6 +75,7 @@ pub record IsSound (specs : List Spec) (steps : List SteerStep) (thorns : List T
       (job_of thorns values ordered items out_vars) in
       limit_fault run job.items job.shape job.vars job.key) ≡ None
   pub written : output_variables thorns values ordered.storage ≡ Ok out_vars
+  pub weighs : weight_fault thorns values ordered.storage ≡ None
 
 at_most : (a b c : ℕ) → a ≤ b → b ≤ c → a ≤ c
 at_most a b c h i = omega arith
@@ -185,6 +188,8 @@ module _ (specs : List Spec) (steps : List SteerStep) (thorns : List Thorn)
       let turns = natural_lies_within values 1 1000000 (codes "driver::while_limit") (omega arith)
       in
       let ahead = natural_lies_within values 0 64 (codes "driver::lead") (omega arith) in
+      let factor = natural_lies_within values 0 1048576 (codes "driver::weight_factor")
+      (omega arith) in
       let slots = natural_lies_within values 1 7 (codes "IO::checkpoint_keep") (omega arith) in
       let outputs = lies_within (negsuc 0) (pos 1000000) (number_at values (codes "IO::out_every"))
       (omega (arith, ints)) in
@@ -205,8 +210,8 @@ module _ (specs : List Spec) (steps : List SteerStep) (thorns : List Thorn)
         outputs = written_stored;
         steers = each_steer (setup_of job) specs (parameters thorns)
             (run_count ordered.plan) steps sound.later;
-        weight = tt;
-        weight_factor = omega arith;
+        weight = weighs_stored thorns ordered.storage values sound.weighs;
+        weight_factor = factor.1;
         outputs_rise = written_rise;
         variables_limit = few_variables;
         itlast_limit = iterations.1;

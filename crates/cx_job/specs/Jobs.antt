@@ -1,6 +1,6 @@
 -- The job of bound thorns, by the values of their parameters, their plan, the items, the variables
 -- that are written, and the steps of parameters.
-use Rattle.std.specs.Prelude.{ℕ, false, List, [], ◌++◌, None}
+use Rattle.std.specs.Prelude.{ℕ, List, [], ◌++◌}
 use Rattle.cx_plan.specs.declared.variable.VarId.{VarId}
 use Rattle.cx_plan.specs.declared.item.Item.{Item}
 use Rattle.cx_plan.specs.declared.job.Job.{Job}
@@ -18,7 +18,8 @@ use Rattle.cx_rule.specs.declared.spec.Spec.{Spec}
 use Rattle.cx_job_items.specs.Steered.{steers_of}
 use Rattle.cx_job.specs.Keys.{key, starred_lines, step_lines}
 use Rattle.cx_job.specs.LocalCells.{items_run}
-use Rattle.cx_job_values.specs.RunNumbers.{itlast, while_limit, lead, out_every, checkpoint_every, keep, on_end, out_dir, checkpoint_dir, recover_of}
+use Rattle.cx_job.specs.Weights.{weight_of}
+use Rattle.cx_job_values.specs.RunNumbers.{itlast, while_limit, lead, balance, weight_factor, out_every, checkpoint_every, keep, on_end, out_dir, checkpoint_dir, recover_of}
 use Rattle.cx_job_values.specs.Stored.{stored_infos}
 
 -- the numbers, the flags and the texts of a run
@@ -28,6 +29,8 @@ run_of v =
       itlast = itlast v;
       while_limit = while_limit v;
       lead = lead v;
+      balance = balance v;
+      weight_factor = weight_factor v;
       out_every = out_every v;
       checkpoint_every = checkpoint_every v;
       keep = keep v;
@@ -37,13 +40,14 @@ run_of v =
       checkpoint_dir = checkpoint_dir v;
     }
 
--- the grid, how it is cut, and the variables with their stored levels
+-- the grid, how it is cut, the variables with their stored levels, and the one that weighs
 abbrev pub layout_of : List Thorn → Values → List ℕ → Layout
 layout_of thorns values storage =
     record {
       shape = shape_of thorns values;
       cut = cuts_of thorns values;
       vars = stored_infos thorns storage;
+      weight = weight_of thorns values;
     }
 
 abbrev pub texts_of : List Thorn → Values → Layout → List ℕ → Texts
@@ -74,9 +78,9 @@ job_with parts ordered items out_vars =
       itlast = parts.run.itlast;
       while_limit = parts.run.while_limit;
       lead = parts.run.lead;
-      balance = false;
-      weight = None;
-      weight_factor = 1;
+      balance = parts.run.balance;
+      weight = parts.layout.weight;
+      weight_factor = parts.run.weight_factor;
       out_every = parts.run.out_every;
       out_vars = out_vars;
       chk_every = parts.run.checkpoint_every;

@@ -1,5 +1,6 @@
 pub mod Keys
 pub mod Outputs
+pub mod Weights
 pub mod Jobs
 pub mod JobLimits
 pub mod LocalCells

@@ -55,6 +55,7 @@ use Rattle.cx_job.specs.LocalCells.{local_cells}
 use Rattle.cx_job.specs.Caps.{caps_fault}
 use Rattle.cx_job_items.specs.Matching.{all_matched}
 use Rattle.cx_job.specs.Outputs.{output_variables}
+use Rattle.cx_job.specs.Weights.{weight_fault}
 
 -- an answer is what the stage comes to, unless memory is wanting
 abbrev pub Yields : {A : Type 0} → Stage A JobFault → Result A JobFault → Type 0
@@ -68,17 +69,28 @@ Orders input (Ok ordered) = IsPlan input ordered
 Orders input (Err e) = (fault : OrderFault) × (e ≡ faults.Order fault) × (fault ≢ orders.Memory)
     × IsFault input fault
 
--- what the fault of a name of a variable that is to be written is to a job: it has the path
--- `output`
-abbrev pub IsOutputFault : ScopeFault → JobFault → Type 0
-IsOutputFault fault e = (e ≡ faults.Memory)
-    ⊎ ((fault ≢ scopes.Memory) × (e ≡ faults.Order (orders.Scope (codes "output") fault)))
+-- what the fault of a name that a parameter has is to a job: it has this path in place of an item's
+abbrev pub IsNameFault : List ℕ → ScopeFault → JobFault → Type 0
+IsNameFault path fault e = (e ≡ faults.Memory)
+    ⊎ ((fault ≢ scopes.Memory) × (e ≡ faults.Order (orders.Scope path fault)))
 
 -- the variables that are written; a name's fault has the path `output`
 abbrev pub output_ids : List Thorn → Values → List ℕ → Result (List VarId) JobFault
 output_ids thorns values storage =
     or_fault (λ f. faults.Order (orders.Scope (codes "output") f))
     (output_variables thorns values storage)
+
+-- the fault of the name of the variable that weighs, with the path `weight`
+abbrev pub weight_limit : List Thorn → Values → List ℕ → Option JobFault
+weight_limit thorns values storage =
+    option_map (λ f. faults.Order (orders.Scope (codes "weight") f))
+    (weight_fault thorns values storage)
+
+-- the variables that are written, where the name of the one that weighs has no fault
+abbrev pub within_weight : List Thorn → Values → List ℕ → List VarId
+    → Result (List VarId) JobFault
+within_weight thorns values storage out_vars =
+    unless (weight_limit thorns values storage) out_vars
 
 -- the items matched with the objects' Specs, by what the thorns see
 pub record Matches (thorns : List Thorn) (values : Values) (specs : List Spec) (ordered : Ordered)
@@ -123,8 +135,8 @@ Accepts job (Err e) = (fault : RegionFault) × (e ≡ faults.Region fault) × (f
     × IsRegionFault (setup_of job) fault
 
 -- Bound, with values, with the steps of the steer file, ordered, with the variables that are
--- written, matched, within the limits, cut, and accepted: a stage stands behind what it takes from
--- those before it.
+-- written, with the one that weighs, matched, within the limits, cut, and accepted: a stage stands
+-- behind what it takes from those before it.
 abbrev pub CutAnd : List Spec → Job → Stage Job JobFault
 CutAnd specs job = Then (Is (within_cut specs job)) Accepts
 
@@ -138,11 +150,17 @@ ItemsAnd specs steps thorns values ordered out_vars =
     (λ items. LimitsAnd specs (run_count ordered.plan)
     (steered_job specs (parameters thorns) steps (job_of thorns values ordered items out_vars)))
 
+abbrev pub WeightAnd : List Spec → List SteerStep → List Thorn → Values → Ordered → List VarId
+    → Stage Job JobFault
+WeightAnd specs steps thorns values ordered out_vars =
+    Then (Is (within_weight thorns values ordered.storage out_vars))
+    (ItemsAnd specs steps thorns values ordered)
+
 abbrev pub OutputsAnd : List Spec → List SteerStep → List Thorn → Values → Ordered
     → Stage Job JobFault
 OutputsAnd specs steps thorns values ordered =
     Then (Is (output_ids thorns values ordered.storage))
-    (ItemsAnd specs steps thorns values ordered)
+    (WeightAnd specs steps thorns values ordered)
 
 abbrev pub PlanAnd : List Spec → List ScheduleFile → List Thorn → Values → List SteerStep
     → Stage Job JobFault

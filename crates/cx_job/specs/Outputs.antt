@@ -76,6 +76,10 @@ is_name text = nat_lt 0 (length text)
 abbrev pub output_names : Values → List (List ℕ)
 output_names v = filter is_name (slice_split is_between (text_at v (codes "IO::out_vars")))
 
+-- the number of the variable that has this full name, in any case
+abbrev pub variable_named : List VarInfo → List ℕ → Option ℕ
+variable_named vars name = position_from (λ v. same_name name v.full) 0 vars
+
 -- a variable, or where none has the full name a group
 abbrev pub variable_or : Option ℕ → Option GroupPlace → Option Named
 variable_or (Some k) g = Some (Variable k)
@@ -84,7 +88,7 @@ variable_or None None = None
 
 abbrev pub named_by : List VarInfo → List FullGroup → List ℕ → Option Named
 named_by vars groups name =
-    variable_or (position_from (λ v. same_name name v.full) 0 vars)
+    variable_or (variable_named vars name)
     (option_map (λ g. g.at) (find (λ g. same_name name g.full) groups))
 
 -- ---- what names give

@@ -9,12 +9,13 @@ ghost use Rattle.cx_job.specs.JobLimits.{run_count};
 
 use crate::keys::{key, push_steps, starred_lines};
 use crate::limits::first_items;
+use crate::weights::weight_of;
 use cx_bind::{Bound, Param};
 use cx_grid::Shape;
 use cx_job_items::steers_of;
 use cx_job_values::{
-    checkpoint_dir, cuts_of, keep, lead, out_dir, out_every, recover_of, shape_of, stored_infos,
-    while_limit,
+    balance, checkpoint_dir, cuts_of, keep, lead, out_dir, out_every, recover_of, shape_of,
+    stored_infos, weight_factor, while_limit,
 };
 use cx_order::Ordered;
 use cx_plan::{Cuts, Item, Job, Recover, VarId, VarInfo};
@@ -29,6 +30,8 @@ pub(crate) struct Run {
     pub(crate) itlast: u64,
     pub(crate) while_limit: u64,
     pub(crate) lead: u64,
+    pub(crate) balance: bool,
+    pub(crate) weight_factor: u64,
     pub(crate) out_every: i64,
     pub(crate) checkpoint_every: i64,
     pub(crate) keep: u32,
@@ -38,7 +41,7 @@ pub(crate) struct Run {
     pub(crate) checkpoint_dir: Text,
 }
 
-/// What the parameters say of a run: its end, its passes, its output, its checkpoints and its recovery.
+/// What the parameters say of a run: its end, its passes, what its points weigh, its output, its checkpoints and its recovery.
 fn run_of(alloc: Global, values: &Values) -> Result<Run, Memory>
     ensures { IfOk result (λ run. run ≡ run_of values.now) }
 {
@@ -46,6 +49,8 @@ fn run_of(alloc: Global, values: &Values) -> Result<Run, Memory>
         itlast: itlast(alloc, values)?,
         while_limit: while_limit(alloc, values)?,
         lead: lead(alloc, values)?,
+        balance: balance(alloc, values)?,
+        weight_factor: weight_factor(alloc, values)?,
         out_every: out_every(alloc, values)?,
         checkpoint_every: checkpoint_every(alloc, values)?,
         keep: keep(alloc, values)?,
@@ -56,15 +61,16 @@ fn run_of(alloc: Global, values: &Values) -> Result<Run, Memory>
     })
 }
 
-/// The grid, how it is cut, and the variables.
+/// The grid, how it is cut, the variables, and the one that weighs.
 #[derive(Debug, Drop)]
 pub(crate) struct Layout {
     pub(crate) shape: Shape,
     pub(crate) cut: Cuts,
     pub(crate) vars: List<VarInfo>,
+    pub(crate) weight: Option<VarId>,
 }
 
-/// The grid, its cut and the stored variables.
+/// The grid, its cut, the stored variables, and the one that weighs.
 fn layout_of(
     alloc: Global,
     bound: &Bound,
@@ -77,6 +83,7 @@ fn layout_of(
         shape: shape_of(alloc, bound, values)?,
         cut: cuts_of(alloc, bound, values)?,
         vars: stored_infos(alloc, bound, storage)?,
+        weight: weight_of(alloc, bound, values)?,
     })
 }
 
@@ -153,9 +160,9 @@ fn job_with(
         itlast: run.itlast,
         while_limit: run.while_limit,
         lead: run.lead,
-        balance: false,
-        weight: None,
-        weight_factor: 1,
+        balance: run.balance,
+        weight: layout.weight,
+        weight_factor: run.weight_factor,
         out_every: run.out_every,
         out_vars,
         chk_every: run.checkpoint_every,

@@ -13,6 +13,7 @@ mod lines;
 mod making;
 mod outputs;
 mod stages;
+mod weights;
 
 pub use cells::local_cells;
 pub use cx_job_files::{FolderShelf, MemoryShelf, Shelf, ShelfFault};

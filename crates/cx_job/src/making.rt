@@ -13,6 +13,7 @@ ghost use Rattle.cx_rule.specs.Jobs.{FitJob};
 ghost use Rattle.cx_bind.specs.Binding.{bind_fault};
 ghost use Rattle.cx_bind.specs.Variables.{variable_infos};
 ghost use Rattle.cx_job.specs.Outputs.{output_variables};
+ghost use Rattle.cx_job.specs.Weights.{weight_fault};
 ghost use Rattle.cx_job_files.specs.NamesAndLevels.{AreRead};
 ghost use Rattle.cx_job.specs.Making.{Made, MakesFrom, MadeOf, SteersAnd, StepsAnd, PlanAnd, ItemsAnd, ReachesFrom, Yields, IsReady, IsPlanned};
 ghost use Rattle.cx_job_values.specs.RunNumbers.{steer_file};
@@ -20,8 +21,8 @@ ghost use Rattle.cx_job_values.specs.RunNumbers.{steer_file};
 use crate::counting::run_count;
 use crate::fault::JobFault;
 use crate::stages::{
-    Contents, assign_all, bind_all, cut_and, match_items, order_all, output_ids, steer_all,
-    within_limits,
+    Contents, assign_all, bind_all, check_weight_name, cut_and, match_items, order_all, output_ids,
+    steer_all, within_limits,
 };
 use cx_bind::Bound;
 use cx_job_files::{Configured, Shelf, configure, steer_lines};
@@ -67,6 +68,7 @@ fn items_and(
     requires read { AreRead (variable_infos bound.now) }
     requires planned { IsPlanned bound.now values.now ordered }
     requires written { output_variables bound.now values.now ordered.storage ≡ Ok out_vars }
+    requires weighs { weight_fault bound.now values.now ordered.storage ≡ None }
     requires later { All (λ step. 1 ≤ step.at) steps.now }
     ensures made { Yields
         (ItemsAnd (map (λ s. s.now) specs.now) steps.now bound.now values.now ordered out_vars)
@@ -81,7 +83,7 @@ fn items_and(
     cut_and(alloc, specs, job)
 }
 
-/// The plan and the variables that are written, and what follows them.
+/// The plan, the variables that are written, the test of the one that weighs, and what follows.
 fn plan_and(
     alloc: Global,
     specs: &[&Spec],
@@ -102,6 +104,7 @@ fn plan_and(
 {
     let ordered = order_all(alloc, bound, schedules, values)?;
     let out_vars = output_ids(alloc, bound, values, &ordered.storage)?;
+    check_weight_name(alloc, bound, values, &ordered.storage)?;
     items_and(alloc, specs, bound, values, steps, ordered, out_vars)
 }
 
@@ -185,12 +188,12 @@ fn made_of<H: Shelf>(
 /// per thorn `interface.ccl`, `param.ccl`, `schedule.ccl` and `configuration.ccl` under `arrangements/Arrangement/Thorn/`, of which the
 /// last one may be absent; binding; the parameters' values; the steer file, where
 /// `IO::steer_file` names one, and its lines; the plan; the variables that are written, sought by their full names; the
-/// items' routines, in the order of items; the limits but that of local cells; the cut of the grid; the limit of local cells; that
+/// variable that weighs, by its full name; the items' routines, in the order of items; the limits but that of local cells; the cut of the grid; the limit of local cells; that
 /// each object of an item that is run sweeps the largest part, in the order of items; and the check that no routine reads a point that
 /// nobody has filled.
 ///
 /// Shelf: the shelf failed. NoFile: a file isn't there. Text, Ccl: a file's text has no tokens, or its tokens spell nothing. Steer: a line
-/// of the steer file can't steer, with the file's name. Bind, Value, Order, Region: the fault of that stage; Order has the path `output` for a name in `IO::out_vars`. UnknownRoutine: no object has the
+/// of the steer file can't steer, with the file's name. Bind, Value, Order, Region: the fault of that stage; Order has the path `output` for a name in `IO::out_vars`, and `weight` for the one in `driver::weight`. UnknownRoutine: no object has the
 /// thorn and the name of an item of a bin that is run. RoutineMismatch: its Spec names other variables, levels or regions than
 /// READS and WRITES, a name that means no one level, or a parameter that no thorn can use or that has no number. Limit: an item has more than
 /// 16 `writes`, 32 `reads` or 32 `parameters`, the grid more than 2^24 `points`, or its stored levels together more than 2^26 `owned cells`, or the

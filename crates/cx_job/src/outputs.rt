@@ -1,11 +1,10 @@
 //! The variables that are written.
 
 ghost use Rattle.std.specs.Prelude.{◌≡◌, ◌<◌, ◌^◌, filter, map, length, IfOk};
-ghost use Rattle.std.specs.List.{enumerate_from, list_any, position_from, slice_split};
-ghost use Rattle.cx_text.specs.Lexemes.{same_name};
+ghost use Rattle.std.specs.List.{enumerate_from, list_any, slice_split};
 ghost use Rattle.cx_text.specs.Telling.{Answers};
 ghost use Rattle.cx_scope.specs.declared.fault.ScopeFault.TheVariants as faults;
-ghost use Rattle.cx_job.specs.Outputs.{is_between, is_name, output_names, named_by, is_same_group, is_of, is_stored, is_missing, lacks_storage, output_of, outputs, is_written, named_ids, ids_or_fault, output_variables};
+ghost use Rattle.cx_job.specs.Outputs.{is_between, is_name, output_names, variable_named, named_by, is_same_group, is_of, is_stored, is_missing, lacks_storage, output_of, outputs, is_written, named_ids, ids_or_fault, output_variables};
 
 use crate::groups::{FullGroups, GroupPlace, group_places};
 use cx_bind::Bound;
@@ -67,8 +66,8 @@ fn output_names(alloc: Global, values: &Values) -> Result<List<Text>, Memory>
 }
 
 /// The number of the variable that has this full name, in any case.
-fn variable_named(vars: &[VarInfo], name: &[u8]) -> Option<usize>
-    ensures { result ≡ position_from (λ v. same_name name.now v.full) 0 vars.now }
+pub(crate) fn variable_named(vars: &[VarInfo], name: &[u8]) -> Option<usize>
+    ensures { result ≡ variable_named vars.now name.now }
 {
     vars.iter()
         .position(|info| same_name(name, info.full.as_slice()))
@@ -105,7 +104,7 @@ fn is_of(number: usize, group: GroupPlace, named: Named) -> bool
 }
 
 /// Whether a variable has storage.
-fn is_stored(storage: &[u8], number: usize) -> bool
+pub(crate) fn is_stored(storage: &[u8], number: usize) -> bool
     ensures { result ≡ is_stored storage.now number }
 {
     stored_levels(storage, number) > 0

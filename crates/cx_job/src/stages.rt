@@ -17,7 +17,7 @@ ghost use Rattle.cx_job.specs.Caps.{caps_fault};
 ghost use Rattle.cx_job_values.specs.Grids.{shape_of};
 ghost use Rattle.cx_job_values.specs.Stored.{stored_infos};
 ghost use Rattle.cx_job_files.specs.Stages.{Is};
-ghost use Rattle.cx_job.specs.Making.{Yields, Orders, Matches, Accepts, CutAnd, IsOutputFault, IsSteerFault, assigned_values, bound_thorns, steered_steps, key_within, job_within, part_limits, cut_limits, within_cut, output_ids};
+ghost use Rattle.cx_job.specs.Making.{Yields, Orders, Matches, Accepts, CutAnd, IsNameFault, IsSteerFault, assigned_values, bound_thorns, steered_steps, key_within, job_within, part_limits, cut_limits, within_cut, output_ids, weight_limit};
 
 use crate::caps::{check_caps, greatest_part};
 use crate::cells::local_cells;
@@ -28,6 +28,7 @@ use crate::limits::{
     check_grid_limits, check_item_limits, check_key, check_local_cells, first_items,
 };
 use crate::outputs::output_variables;
+use crate::weights::check_weight;
 use cx_bind::{Bound, Thorn, bind};
 use cx_cut::{Cut, cut};
 use cx_job_items::Routines;
@@ -50,21 +51,14 @@ fn is_scope_memory(fault: &ScopeFault) -> bool
     matches!(fault, ScopeFault::Memory)
 }
 
-/// The path that faults of the output have in place of an item's.
-fn output_path(alloc: Global) -> Result<Text, Memory>
-    ensures { IfOk result (λ path. path ≡ codes "output") }
-{
-    Text::from_slice(alloc, b"output")
-}
-
-/// The fault of a name of a variable that is to be written, or want of memory.
-fn output_fault(alloc: Global, fault: ScopeFault) -> JobFault
-    ensures { IsOutputFault fault result }
+/// The fault of a name that a parameter has, with this path in place of an item's; or want of memory.
+fn name_fault(alloc: Global, path: &[u8], fault: ScopeFault) -> JobFault
+    ensures { IsNameFault path.now fault result }
 {
     if is_scope_memory(&fault) {
         return JobFault::Memory;
     }
-    match output_path(alloc) {
+    match Text::from_slice(alloc, path) {
         Ok(path) => JobFault::Order(OrderFault::Scope(path, fault)),
         Err(_) => JobFault::Memory,
     }
@@ -148,7 +142,22 @@ pub(crate) fn output_ids(
 {
     match output_variables(alloc, bound, values, storage) {
         Ok(out_vars) => Ok(out_vars),
-        Err(fault) => Err(output_fault(alloc, fault)),
+        Err(fault) => Err(name_fault(alloc, b"output", fault)),
+    }
+}
+
+/// Tests the name of the variable that weighs.
+pub(crate) fn check_weight_name(
+    alloc: Global,
+    bound: &Bound,
+    values: &Values,
+    storage: &List<u8>,
+) -> Result<(), JobFault>
+    ensures { Tells faults.Memory (weight_limit bound.now values.now storage.now) result }
+{
+    match check_weight(alloc, bound, values, storage) {
+        Ok(()) => Ok(()),
+        Err(fault) => Err(name_fault(alloc, b"weight", fault)),
     }
 }
 

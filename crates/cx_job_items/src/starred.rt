@@ -7,7 +7,7 @@ ghost use Rattle.cx_bind.specs.BuiltIn.{starred};
 
 use cx_text::same_name;
 
-const STARRED: [&[u8]; 12] = [
+const STARRED: [&[u8]; 15] = [
     b"driver::parts_x",
     b"driver::parts_y",
     b"driver::parts_z",
@@ -15,6 +15,9 @@ const STARRED: [&[u8]; 12] = [
     b"driver::widths_y",
     b"driver::widths_z",
     b"driver::lead",
+    b"driver::balance",
+    b"driver::weight",
+    b"driver::weight_factor",
     b"IO::out_dir",
     b"IO::checkpoint_dir",
     b"IO::recover_dir",

@@ -8,7 +8,7 @@ use Rattle.cx_bind.proofs.Samples.{elem_ca, thorn, grid_group}
 use Rattle.cx_values.specs.Naming.{names}
 use Rattle.cx_values.specs.Assigned.{assigned}
 use Rattle.cx_job_values.specs.Grids.{listed_widths, dims, shape_of, cuts_of}
-use Rattle.cx_job_values.specs.RunNumbers.{itlast, out_every, out_dir, recover_of}
+use Rattle.cx_job_values.specs.RunNumbers.{itlast, balance, weight_name, weight_factor, out_every, out_dir, recover_of}
 
 -- ---- listed widths
 
@@ -88,6 +88,24 @@ row_sheet_by_widths = refl
 row_default_end : itlast (assigned [] []) ≡ 10
 unfolding assigned names
 row_default_end = refl
+
+row_weightless : weight_factor (assigned [] []) ≡ 1
+unfolding assigned names
+row_weightless = refl
+
+row_heaviest : weight_factor
+    (assigned [] (set_driver (codes "weight_factor") (codes "1048576") ∷ [])) ≡ 1048576
+unfolding assigned names
+row_heaviest = refl
+
+row_balanced : balance (assigned [] (set_driver (codes "balance") (codes "yes") ∷ [])) ≡ true
+unfolding assigned names
+row_balanced = refl
+
+row_weighing : weight_name
+    (assigned [] (set (codes "PUGH") (codes "weight") (codes "ca::cell") ∷ [])) ≡ codes "ca::cell"
+unfolding assigned names
+row_weighing = refl
 
 row_no_output : out_every (assigned [] (set (codes "IO") (codes "out_every") (codes "-1") ∷ []))
     ≡ negsuc 0

@@ -198,6 +198,8 @@ module _ (thorns : List Thorn) (settings : List Setting)
             (codes "-1") 26 refl (λ dir. refl) refl;
         keep = one (codes "IO") (codes "checkpoint_keep") (pos 1) (pos 7) (codes "1") 27 refl
             (λ dir. refl) refl;
+        weight_factor = one (codes "driver") (codes "weight_factor") (pos 0) (pos 1048576)
+            (codes "1") 36 refl (λ dir. refl) refl;
       }
 
 -- ---- so the numbers themselves are taken

@@ -29,3 +29,5 @@ pub record AreInRange (v : Values) : Type 0 where
   pub checkpoint_every : IsBetween (negsuc 0) (pos 1000000)
       (number_at v (codes "IO::checkpoint_every"))
   pub keep : IsBetween (pos 1) (pos 7) (number_at v (codes "IO::checkpoint_keep"))
+  pub weight_factor : IsBetween (pos 0) (pos 1048576)
+      (number_at v (codes "driver::weight_factor"))

@@ -13,6 +13,7 @@ pub use cuts::cuts_of;
 pub use direction::Direction;
 pub use grids::shape_of;
 pub use run_numbers::{
-    checkpoint_dir, keep, lead, out_dir, out_every, recover_of, steer_file, while_limit,
+    balance, checkpoint_dir, keep, lead, out_dir, out_every, recover_of, steer_file, weight_factor,
+    weight_name, while_limit,
 };
 pub use stored::{grid_levels, owned_cells, point_count, stored_infos, stored_levels};

@@ -1,12 +1,12 @@
 //! The numbers and the texts of a run, by the values of parameters.
 
 ghost use Rattle.std.specs.Prelude.{◌≡◌, IfOk};
-ghost use Rattle.cx_job_values.specs.RunNumbers.{while_limit, lead, out_every, keep, out_dir, checkpoint_dir, steer_file, recover_by, recover_of};
+ghost use Rattle.cx_job_values.specs.RunNumbers.{while_limit, lead, balance, weight_name, weight_factor, out_every, keep, out_dir, checkpoint_dir, steer_file, recover_by, recover_of};
 
 use crate::built_in::text_copy;
 use cx_plan::Recover;
 use cx_text::{Memory, Text};
-use cx_values::{Values, natural_within, number_at, number_within};
+use cx_values::{Values, holds_at, natural_within, number_at, number_within};
 use std::alloc::Global;
 
 /// How many turns a WHILE takes at most.
@@ -22,6 +22,28 @@ pub fn lead(alloc: Global, values: &Values) -> Result<u64, Memory>
     ensures { IfOk result (λ n. n ≡ lead values.now) }
 {
     let n = natural_within(alloc, values, 0, 64, b"driver::lead")?;
+    Ok(u64::from(n))
+}
+
+/// Whether a checkpoint cuts the grid anew.
+pub fn balance(alloc: Global, values: &Values) -> Result<bool, Memory>
+    ensures { IfOk result (λ flag. flag ≡ balance values.now) }
+{
+    holds_at(alloc, values, b"driver::balance")
+}
+
+/// The name of the variable that weighs, empty where each point weighs 1.
+pub fn weight_name(alloc: Global, values: &Values) -> Result<Text, Memory>
+    ensures { IfOk result (λ name. name ≡ weight_name values.now) }
+{
+    text_copy(alloc, values, b"driver::weight")
+}
+
+/// By what the numbers of the variable that weighs are multiplied.
+pub fn weight_factor(alloc: Global, values: &Values) -> Result<u64, Memory>
+    ensures { IfOk result (λ n. n ≡ weight_factor values.now) }
+{
+    let n = natural_within(alloc, values, 0, 1_048_576, b"driver::weight_factor")?;
     Ok(u64::from(n))
 }
 

@@ -181,7 +181,7 @@ fault_of c answer (inr x) r fault asks told made =
 -- ---- from what the functions of a call ensure
 
 pub with_job : (c : Call) (r : Request) (job : Job) (answer : Answer) → asked c.words ≡ Some r
-    → SparesShelf c.shelf r.command → MakesAs c r (Ok job) → IsReady c.specs job
+    → SparesShelf c.shelf r.command → MakesAs c r (Ok job) → IsReady c.work.specs job
     → ComesTo c.work r.command job answer → TurnsBegin c r (Ok job) → Explains c answer
 with_job c r job answer asks spared makes ready comes turns =
     inr (record {

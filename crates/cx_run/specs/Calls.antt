@@ -29,9 +29,11 @@ pub record Lent (A : Type 0) : Type 1 where
   pub new : A
   pub faults : Count
 
--- What a command works on, with the folders that the disk has after it.
+-- What a command works on: routines of these rules, which say this of themselves, and what it was
+-- lent, with the folders that the disk has after it.
 pub record Work : Type 1 where
   pub rules : List Rule
+  pub specs : List Spec
   pub disk : LentDisk
   pub folders : Folders
   pub wire : LentWire
@@ -40,7 +42,6 @@ pub record Work : Type 1 where
 -- With the seed that the source of turns was begun from last, if it was, after the call.
 pub record Call : Type 1 where
   pub words : List (List ℕ)
-  pub specs : List Spec
   pub shelf : Lent Held
   pub work : Work
   pub begun : Option ℕ
@@ -66,11 +67,13 @@ lent_sink o old new = record {
   faults = record { old = o.faults old; new = o.faults new };
 }
 
--- with routines of these rules
+-- with routines of these rules, which say this of themselves
 abbrev pub work_on :
-    {D W : Type 0} → List Rule → DiskGhosts D → WireGhosts W → D → D → W → W → ℕ → ℕ → Work
-work_on rules d w disk disk_after wire wire_after meter meter_after = record {
+    {D W : Type 0} → List Rule → List Spec → DiskGhosts D → WireGhosts W
+    → D → D → W → W → ℕ → ℕ → Work
+work_on rules specs d w disk disk_after wire wire_after meter meter_after = record {
   rules = rules;
+  specs = specs;
   disk = lent_disk d disk disk_after;
   folders = d.folders disk_after;
   wire = lent_wire w wire wire_after;
@@ -84,9 +87,8 @@ abbrev pub called_with :
 called_with rules specs h d w words shelf shelf_after disk disk_after wire wire_after meter
     meter_after begun = record {
       words = words;
-      specs = specs;
       shelf = lent_shelf h shelf shelf_after;
-      work = work_on rules d w disk disk_after wire wire_after meter meter_after;
+      work = work_on rules specs d w disk disk_after wire wire_after meter meter_after;
       begun = begun;
     }
 
@@ -124,7 +126,7 @@ TellsFiles c r = (shelf_for c.shelf r.command).tells
 
 -- what the files under a name make, as the shelf held them
 abbrev pub Makes : Call → Request → Result Job JobFault → Type 0
-Makes c r made = Made r.file c.specs (shelf_for c.shelf r.command).old made
+Makes c r made = Made r.file c.work.specs (shelf_for c.shelf r.command).old made
 
 -- `make` leaves the shelf alone that was lent
 abbrev pub SparesShelf : Lent Held → Command → Type 0
@@ -153,7 +155,14 @@ pub record IsRun (c : Call) (job : Job) : Type 0 where
 
 -- a run of a job on what a call was lent
 abbrev pub driven : Work → Job → Drive
-driven w job = record { job = job; rules = w.rules; disk = w.disk; wire = w.wire; meter = w.meter }
+driven w job = record {
+  job = job;
+  rules = w.rules;
+  specs = w.specs;
+  disk = w.disk;
+  wire = w.wire;
+  meter = w.meter;
+}
 
 -- the disk and the wire tell what they hold
 abbrev pub AreTold : Call → Type 0

@@ -156,12 +156,12 @@ MakesOn s file specs found =
 
 -- on the shelf that a request reads
 abbrev pub MakesAs : Call → Request → Result Job JobFault → Type 0
-MakesAs c r found = MakesOn (shelf_for c.shelf r.command) r.file c.specs found
+MakesAs c r found = MakesOn (shelf_for c.shelf r.command) r.file c.work.specs found
 
 -- what follows for a job that was made
 pub record FollowsJob (c : Call) (command : Command) (job : Job) (answer : Answer) : Type 0 where
   pub whole : IsWhole job
-  pub fit : FitJob c.specs job
+  pub fit : FitJob c.work.specs job
   pub comes : ComesTo c.work command job answer
 
 -- and for a fault: it is the answer, and nothing but the shelf was touched

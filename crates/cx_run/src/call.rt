@@ -55,12 +55,13 @@ use std::alloc::Global;
 /// `made_files` of cx_run_made, which the shelf doesn't see: the shelf is left alone. It is done as `run made.par` does. Where the run is
 /// done it tells how many points there are, how long the outputs are together, and how many cells live in the last state.
 ///
-/// A run goes by `drive` of cx_run_loop: the grid is cut into parts, which exchange messages by the wire, in the order that `turns`
-/// picks; what is written of a variable goes into a file of its own, from `named_output(0)` of cx_disk on, and checkpoints go into the
-/// slots of the disk. By the job's `IO::recover` it begins afresh or resumes from the newest checkpoint; from one of version 1 the file
-/// `OLD_OUTPUT` is split into the variables' files. Where the shelf, the disk and the wire tell what they hold, and each image of the disk
-/// is a trail of the job at the start, or old checkpoints are given up, then at status 0 and 3 each output is that of the undivided run,
-/// also in what a crash may leave; and at any status each image at each moment of the call is a trail of the job.
+/// A run goes by `drive` of cx_run_loop: the grid is cut into parts, which exchange messages by the wire, in the order that `turns` picks;
+/// what is written of a variable goes into a file of its own, from `named_output(0)` of cx_disk on, and checkpoints go into the slots of
+/// the disk. By the job's `IO::recover` it begins afresh or resumes from the newest checkpoint; from one of version 1 the file `OLD_OUTPUT`
+/// is split into the variables' files. Where the job is balanced, the grid is cut anew at each checkpoint, by the weights of its points.
+/// Where the shelf, the disk and the wire tell what they hold, and each image of the disk is a trail of the job at the start, or old
+/// checkpoints are given up, then at status 0 and 3 each output is that of the undivided run, also in what a crash may leave; and at any
+/// status each image at each moment of the call is a trail of the job.
 ///
 /// The wire serves 512 parts, and its queues are empty. After status 3, 4 or 5 of a run they may hold messages.
 ///
@@ -76,12 +77,12 @@ use std::alloc::Global;
 /// | 7 | the files aren't such as `chunk` or `recombine` asks for | `chunks: ` and the words of the fault |
 ///
 /// Each text ends with a line feed. The ends are `Overflow`, `WhileLimit` and `OutputLimit` (`End` of cx_model), the faults of status 6
-/// `NoCheckpoint`, `Damaged`, `OtherJob`, `OutputShort` and `OldTooLong` (`BeginFault` of cx_keep). The faults of
-/// status 7 are those of `ChunkFault` of cx_chunks. `chunk` and `recombine` change no file of the disk below `FIRST_CHUNK`, so that each
-/// trail stays, and neither the wire nor the meter. The other commands but `run` and `make`
-/// touch neither the disk nor the wire nor the meter; at status 1, 2, 6 and 7 no byte of the disk is changed, and neither the wire nor the meter. At status 0 of a run
-/// from such a disk the meter has risen by the points that the parts compute after the newest checkpoint, and the wire has given out
-/// the values that they exchange there.
+/// `NoCheckpoint`, `Damaged`, `OtherJob`, `OutputShort` and `OldTooLong` (`BeginFault` of cx_keep). The faults of status 7 are those of
+/// `ChunkFault` of cx_chunks. `chunk` and `recombine` change no file of the disk below `FIRST_CHUNK`, so that each trail stays, and neither
+/// the wire nor the meter. The other commands but `run` and `make` touch neither the disk nor the wire nor the meter; at status 1, 2, 6 and
+/// 7 no byte of the disk is changed, and neither the wire nor the meter. At status 0 of a run from such a disk the meter has risen by the
+/// points that the parts compute after the newest checkpoint, and the wire has given out the values that they exchange there. Where the job
+/// is balanced, what follows each checkpoint is counted by the cut that it chooses.
 pub fn cactus<H: Shelf, D: Disk, W: Wire, T: Turns, O: Sink>(
     alloc: Global,
     words: &[Text],
@@ -143,8 +144,8 @@ fn answer_to<H: Shelf, D: Disk, W: Wire, T: Turns>(
         return Answer::Usage;
     };
     match job_for(alloc, command, file, shelf, routines) {
-        Ok(job) => done(
-            alloc, command, seed, &job, disk, wire, turns, routines, meter,
+        Ok(mut job) => done(
+            alloc, command, seed, &mut job, disk, wire, turns, routines, meter,
         ),
         Err(fault) => answer_of(fault),
     }
@@ -231,28 +232,30 @@ enum Way {
     Recombine,
 }
 
-/// Does a command with the job of its file.
+/// Does a command with the job of its file, which is as before after the call.
 fn done<D: Disk, W: Wire, T: Turns>(
     alloc: Global,
     command: Command,
     seed: u64,
-    job: &Job,
+    job: &mut Job,
     disk: &mut D,
     wire: &mut W,
     turns: &mut T,
     routines: &[Box<dyn Routine>],
     meter: &mut Meter,
 ) -> Answer
-    requires ready { IsReady (map spec_of routines.now) job.now }
-    requires interior { HasInterior job.now.shape }
+    requires ready { IsReady (map spec_of routines.now) job.old }
+    requires interior { HasInterior job.old.shape }
     requires parts { 512 ≤ W.parts wire.old }
     requires empty { AreEmpty (W.queue wire.old) }
-    ensures comes { ComesTo (work_on (map rule routines.now) D.Disk W.Wire
-        disk.old disk.new wire.old wire.new meter.old meter.new) command job.now result }
+    ensures job { job.new ≡ job.old }
+    ensures comes { ComesTo (work_on (map rule routines.now) (map spec_of routines.now)
+        D.Disk W.Wire disk.old disk.new wire.old wire.new meter.old meter.new) command job.old
+        result }
     ensures begun { Runs command → T.begun turns.new ≡ Some seed }
     ensures turned { Runs command → HasTurned T.Turns
-        (driven (work_on (map rule routines.now) D.Disk W.Wire
-        disk.old disk.new wire.old wire.new meter.old meter.new) job.now)
+        (driven (work_on (map rule routines.now) (map spec_of routines.now) D.Disk W.Wire
+        disk.old disk.new wire.old wire.new meter.old meter.new) job.old)
         seed turns.new (status_of result) }
     ensures spared { (Runs command → ⊥) → turns.new ≡ turns.old }
     ensures disk_count { D.faults disk.old ≤ D.faults disk.new }

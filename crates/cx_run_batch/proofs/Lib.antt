@@ -1,3 +1,11 @@
+pub mod FreshLaws
 pub mod MeterLaws
+pub mod ComeLaws
+pub mod BegunLaws
+pub mod AnewLaws
 pub mod StageLaws
+pub mod OverLaws
+pub mod SaveLaws
+pub mod WaitLaws
 pub mod MemberLaws
+pub mod TurnLaws

@@ -4,30 +4,26 @@ use Rattle.std.specs.List.{AllByRecursion}
 use Rattle.cx_cut.specs.Cuts.{part_count}
 use Rattle.cx_cut.specs.Faults.{parts_of}
 use Rattle.cx_plan.specs.declared.job.Job.{Job}
-use Rattle.cx_plan.specs.Setups.{setup_of}
-use Rattle.cx_outputs.specs.Names.{HasShortNames}
-use Rattle.cx_rule.specs.Jobs.{FitJob}
 use Rattle.cx_rule.specs.Meter.{raised}
 use Rattle.cx_rule.specs.Routine.{Rule}
 use Rattle.cx_rule.specs.declared.spec.Spec.{Spec}
 use Rattle.cx_disk.specs.declared.disk.Disk.{Ghosts as DiskGhosts}
 use Rattle.cx_wire.specs.declared.wire.Wire.{Ghosts as WireGhosts}
-use Rattle.cx_core.specs.Starts.{AreEmpty, IsReady}
+use Rattle.cx_core.specs.Starts.{AreEmpty}
 use Rattle.cx_run_loop.specs.Laws.{DriveLaws}
 use Rattle.cx_run_loop.specs.declared.fault.DriveFault.TheVariants as faults
-use Rattle.cx_run_batch.specs.Stages.{BeginsAs, IsAble, IsAt, IsOver, Lot, lot, turns_left}
+use Rattle.cx_run_batch.specs.Stages.{BeginsAs, IsAble, IsAt, IsOver, IsServed, Lot, lot, own_job, turns_left}
 use Rattle.cx_run_batch.specs.declared.stage.Stage.{Stage}
 use Rattle.cx_run_batch.specs.declared.stage.Stage.TheVariants.{Going, Over}
 use Rattle.cx_run_batch.specs.declared.member.Member.{Member}
 
--- a job that routines serve which say this of themselves
-pub record IsServed (specs : List Spec) (job : Job) : Type 0 where
-  pub ready : IsReady job
-  pub short : HasShortNames (setup_of job)
-  pub fit : FitJob specs job
-
+-- routines serve each member's job
 abbrev pub AreServed : List Spec → List Member → Type 0
 AreServed specs ms = AllByRecursion (λ (m : Member). IsServed specs m.job) ms
+
+-- in its own cut
+abbrev pub AreOwnServed : List Spec → List Member → Type 0
+AreOwnServed specs ms = AllByRecursion (λ (m : Member). IsServed specs (own_job m.job m.stage)) ms
 
 -- a meter has risen, or stands still at its type's end
 abbrev pub Rises : (old new : ℕ) → Type 0
@@ -59,46 +55,52 @@ HaveWires w (m ∷ ms) (wire ∷ wires) = IsWired w m wire × HaveWires w ms wir
 -- ---- the first turns
 
 -- a member whose run has begun on this disk, or is over since it couldn't
-pub record HasStarted {D : Type 0} (d : DiskGhosts D) (m n : Member) (was is : D) : Type 0 where
-  pub member : n ≡ record m { stage = n.stage }
-  pub begins : BeginsAs d m.job was is n.stage
+pub record HasStarted {D : Type 0} (d : DiskGhosts D) (specs : List Spec) (m n : Member)
+    (was is : D) : Type 0 where
+  pub spent : n.spent ≡ m.spent
+  pub begins : BeginsAs d specs m.job n.job was is n.stage
   pub laws : (told : Bool) (rules : List Rule) → DriveLaws (IsTrue told) m.job rules
 
 -- each member's run on the disk at its place; the other disks are as they were
-abbrev pub HaveStarted : {D : Type 0} → DiskGhosts D → (ms ns : List Member) → (was is : List D)
-    → Type 0
-HaveStarted d [] [] was is = is ≡ was
-HaveStarted d (m ∷ ms) (n ∷ ns) (a ∷ was) (b ∷ is) =
-    HasStarted d m n a b × HaveStarted d ms ns was is
-HaveStarted d ms ns was is = ⊥
+abbrev pub HaveStarted : {D : Type 0} → DiskGhosts D → List Spec → (ms ns : List Member)
+    → (was is : List D) → Type 0
+HaveStarted d specs [] [] was is = is ≡ was
+HaveStarted d specs (m ∷ ms) (n ∷ ns) (a ∷ was) (b ∷ is) =
+    HasStarted d specs m n a b × HaveStarted d specs ms ns was is
+HaveStarted d specs ms ns was is = ⊥
 
 -- ---- between two turns
 
 -- how far each member's run is, on the disk and the wire at its place; the others are as they were
 -- lent
-abbrev pub AreAt : {D W : Type 0} → DiskGhosts D → WireGhosts W → List Rule → List Member
-    → (disks_lent disks : List D) → (wires_lent wires : List W) → ℕ → Type 0
-AreAt d w rules [] was is vs us meter = (is ≡ was) × (us ≡ vs)
-AreAt d w rules (m ∷ ms) (a ∷ was) (b ∷ is) (v ∷ vs) (u ∷ us) meter =
-    IsAt d w rules m.job (lot a b v u meter m.spent) m.stage × AreAt d w rules ms was is vs us meter
-AreAt d w rules ms was is vs us meter = ⊥
+abbrev pub AreAt : {D W : Type 0} → DiskGhosts D → WireGhosts W → List Rule → List Spec
+    → List Member → (disks_lent disks : List D) → (wires_lent wires : List W) → ℕ → Type 0
+AreAt d w rules specs [] was is vs us meter = (is ≡ was) × (us ≡ vs)
+AreAt d w rules specs (m ∷ ms) (a ∷ was) (b ∷ is) (v ∷ vs) (u ∷ us) meter =
+    IsAt d w rules specs m.job (lot a b v u meter m.spent) m.stage
+    × AreAt d w rules specs ms was is vs us meter
+AreAt d w rules specs ms was is vs us meter = ⊥
 
 -- a member can take a turn: if it isn't over it can be moved on
 pub record CanTurn {D W : Type 0} (d : DiskGhosts D) (w : WireGhosts W) (rules : List Rule)
-    (m : Member) (disk : D) (wire : W) (meter : ℕ) : Type 0 where
-  pub able : IsAble d w rules m.job disk wire meter m.stage
+    (specs : List Spec) (m : Member) (disk : D) (wire : W) (meter : ℕ) : Type 0 where
+  pub able : IsAble d w rules specs m.job disk wire meter m.stage
   pub within : m.spent ≤ meter
 
 -- each member can
-abbrev pub AreAble : {D W : Type 0} → DiskGhosts D → WireGhosts W → List Rule → List Member
-    → List D → List W → ℕ → Type 0
-AreAble d w rules [] is us meter = Unit {0}
-AreAble d w rules (m ∷ ms) (b ∷ is) (u ∷ us) meter =
-    CanTurn d w rules m b u meter × AreAble d w rules ms is us meter
-AreAble d w rules ms is us meter = ⊥
+abbrev pub AreAble : {D W : Type 0} → DiskGhosts D → WireGhosts W → List Rule → List Spec
+    → List Member → List D → List W → ℕ → Type 0
+AreAble d w rules specs [] is us meter = Unit {0}
+AreAble d w rules specs (m ∷ ms) (b ∷ is) (u ∷ us) meter =
+    CanTurn d w rules specs m b u meter × AreAble d w rules specs ms is us meter
+AreAble d w rules specs ms is us meter = ⊥
 
 abbrev pub jobs_of : List Member → List Job
 jobs_of ms = map (λ (m : Member). m.job) ms
+
+-- the jobs in their own cuts
+abbrev pub own_jobs : List Member → List Job
+own_jobs ms = map (λ (m : Member). own_job m.job m.stage) ms
 
 -- what all have counted
 abbrev pub spent_by : List Member → ℕ
@@ -107,11 +109,12 @@ spent_by ms = sum (map (λ (m : Member). m.spent) ms)
 -- The members, their disks and wires, and the meter, before and after some turns. Each run is how
 -- far it is from what it was lent, if it was before. The meter has risen by what all have counted.
 pub record Turned {D W : Type 0} (d : DiskGhosts D) (w : WireGhosts W) (rules : List Rule)
-    (ms ns : List Member) (is js : List D) (us xs : List W) (old new : ℕ) : Type 0 where
-  pub jobs : jobs_of ns ≡ jobs_of ms
-  pub at : (was : List D) (vs : List W) → AreAt d w rules ms was is vs us old
-      → AreAt d w rules ns was js vs xs new
-  pub able : AreAble d w rules ns js xs new
+    (specs : List Spec) (ms ns : List Member) (is js : List D) (us xs : List W) (old new : ℕ)
+    : Type 0 where
+  pub jobs : own_jobs ns ≡ own_jobs ms
+  pub at : (was : List D) (vs : List W) → AreAt d w rules specs ms was is vs us old
+      → AreAt d w rules specs ns was js vs xs new
+  pub able : AreAble d w rules specs ns js xs new
   pub counts : new + spent_by ms ≡ old + spent_by ns
   pub rises : Rises old new
 
@@ -122,16 +125,16 @@ left_to ms = sum (map (λ (m : Member). turns_left m.job m.stage) ms)
 -- ---- at the end
 
 -- a run that is over
-abbrev pub HasRun : {D W : Type 0} → DiskGhosts D → WireGhosts W → List Rule → Job → Lot D W → Stage
-    → Type 0
-HasRun d w rules job lot (Going run) = ⊥
-HasRun d w rules job lot (Over result) = IsOver d w rules job lot result
+abbrev pub HasRun : {D W : Type 0} → DiskGhosts D → WireGhosts W → List Rule → List Spec → Job
+    → Lot D W → Stage → Type 0
+HasRun d w rules specs job lot (Going x) = ⊥
+HasRun d w rules specs job lot (Over result) = IsOver d w rules specs job lot result
 
 -- each job has run on the disk and the wire at its place; the others are as they were
-abbrev pub HaveRun : {D W : Type 0} → DiskGhosts D → WireGhosts W → List Rule → List Member
-    → (disks disks_now : List D) → (wires wires_now : List W) → ℕ → Type 0
-HaveRun d w rules [] was is vs us meter = (is ≡ was) × (us ≡ vs)
-HaveRun d w rules (m ∷ ms) (a ∷ was) (b ∷ is) (v ∷ vs) (u ∷ us) meter =
-    HasRun d w rules m.job (lot a b v u meter m.spent) m.stage
-    × HaveRun d w rules ms was is vs us meter
-HaveRun d w rules ms was is vs us meter = ⊥
+abbrev pub HaveRun : {D W : Type 0} → DiskGhosts D → WireGhosts W → List Rule → List Spec
+    → List Member → (disks disks_now : List D) → (wires wires_now : List W) → ℕ → Type 0
+HaveRun d w rules specs [] was is vs us meter = (is ≡ was) × (us ≡ vs)
+HaveRun d w rules specs (m ∷ ms) (a ∷ was) (b ∷ is) (v ∷ vs) (u ∷ us) meter =
+    HasRun d w rules specs m.job (lot a b v u meter m.spent) m.stage
+    × HaveRun d w rules specs ms was is vs us meter
+HaveRun d w rules specs ms was is vs us meter = ⊥

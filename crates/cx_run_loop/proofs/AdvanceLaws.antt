@@ -1,7 +1,7 @@
 -- One call after another that moves a run on.
 use Rattle.std.proofs.Common.{◌≡◌, ◌≢◌, ◌≤◌, ◌<◌, ◌+◌, ℕ, List, [], ◌∷◌, ◌++◌, length, length-append, append_assoc, refl, sym, ◌∙◌, ap, subst, arith, inl, inr}
 use Rattle.std.proofs.lemmas.List.Elements.{All-nil, All-cons, All-head, All-tail, All-append}
-use Rattle.std.specs.Prelude.{All, IsTrue}
+use Rattle.std.specs.Prelude.{All, IsTrue, true}
 use Rattle.cx_cut.specs.Cuts.{part_count}
 use Rattle.cx_cut.specs.Faults.{parts_of}
 use Rattle.cx_disk.specs.Disk.{Folders}
@@ -14,16 +14,17 @@ use Rattle.cx_plan.specs.Setups.{setup_of}
 use Rattle.cx_rule.specs.Routine.{Rule}
 use Rattle.cx_core.specs.declared.answers.Event.{Event}
 use Rattle.cx_core.specs.declared.answers.Outcome.TheVariants.{Going}
-use Rattle.cx_core.specs.Cores.{enabled_in}
 use Rattle.cx_core.specs.Left.{steps_left}
 use Rattle.cx_core.specs.Steps.{counts}
 use Rattle.cx_run_loop.specs.Advances.{Advances, AnswersBy, CanAdvance, Keeps, RunState, came_of, place_of, turning_of}
 use Rattle.cx_run_loop.specs.Going.{Place, EventMoments, IsGoing, IsKept, KeepsEvent, LeavesImages, MovesOn, setting}
 use Rattle.cx_run_loop.specs.Laws.{DriveLaws}
-use Rattle.cx_run_loop.specs.Turning.{IsTurn, StepsBy, Turning, TurnsLead, TurnsStop}
+use Rattle.cx_run_loop.specs.Turning.{IsTurn, Picks, StepsBy, Turning, TurnsLead, TurnsStop}
+use Rattle.cx_run_loop.specs.Waiting.{StaysBelow, WaitsOn}
 use Rattle.cx_run_loop.specs.Within.{StaysWithin}
 use Rattle.cx_run_loop.specs.declared.turn.Advance.{Advance}
 use Rattle.cx_run_loop.specs.declared.turn.Advance.TheVariants.{More, Saved}
+use Rattle.cx_run_loop.proofs.WaitMore.{below_more, waits_more, waits_none}
 use Rattle.cx_run_loop.proofs.WithinLaws.{driven_within, stays_more, stays_there}
 use Rattle.cx_run_loop.proofs.TurnLaws.{Steps, fits_outcome, going_on, images_more, images_none, leaves_quiet, less, moves_more, moves_none, saves_more, turn_images, turn_moves, turn_saves}
 
@@ -111,7 +112,7 @@ answers_last n most came first events count below all other a =
       all = λ same. absurd (other same);
     }
 
-steps_more : {T : Type 0} (t : TurnsGhosts T) (tells : Type 0) (job : Job) (rules : List Rule)
+pub steps_more : {T : Type 0} (t : TurnsGhosts T) (tells : Type 0) (job : Job) (rules : List Rule)
     (es fs : List Event) (was mid is : Turning tells T) → StepsBy t tells job rules es was mid
     → StepsBy t tells job rules fs mid is → StepsBy t tells job rules (es ++ fs) was is
 steps_more {T} t tells job rules [] fs was mid is one two =
@@ -250,10 +251,14 @@ module _ {D W : Type 0} (d : DiskGhosts D) (w : WireGhosts W) (job : Job) (rules
       pub outcome : is.run.core.outcome ≡ Going
       pub less : steps_left (setup_of job) is.run.core.pace + n
           ≤ steps_left (setup_of job) was.run.core.pace
+      pub waits : job.balance ≡ true → WaitsOn (setting d w job rules) (at was) (at is) More
+      pub below : job.balance ≡ true
+          → StaysBelow (setting d w job rules) (at was) (at is).is.now
 
     pub gone_none : DriveLaws (IsTrue w.tells) job rules → (x : RunState D W) (turns : T)
-        → CanAdvance d w job rules x → x.run.core.outcome ≡ Going → HasGone 0 x x turns turns
-    gone_none laws x turns able outcome = record {
+        → CanAdvance d w job rules x → x.run.core.outcome ≡ Going
+        → StaysBelow (setting d w job rules) (at x) (at x).is.now → HasGone 0 x x turns turns
+    gone_none laws x turns able outcome below = record {
       events = [];
       count = refl;
       go_on = All-nil GoesOn;
@@ -263,6 +268,8 @@ module _ {D W : Type 0} (d : DiskGhosts D) (w : WireGhosts W) (job : Job) (rules
       keeps = keeps_none laws x able;
       outcome = outcome;
       less = omega arith;
+      waits = λ same. waits_none (setting d w job rules) (at x);
+      below = λ same. below;
     }
 
     module _ (n : ℕ) (was mid is : RunState D W) (turns between turns_after : T)
@@ -270,8 +277,10 @@ module _ {D W : Type 0} (d : DiskGhosts D) (w : WireGhosts W) (job : Job) (rules
       pub gone_more : (m : ℕ) → m ≡ n + 1 → (came : Advance) → came ≡ More
           → Advances d w t job rules 1 mid is between turns_after came
           → Keeps d w job rules mid is.disk is.wire is.meter
+          → (job.balance ≡ true → WaitsOn (setting d w job rules) (at mid) (at is) came)
+          → (job.balance ≡ true → StaysBelow (setting d w job rules) (at mid) (at is).is.now)
           → HasGone m was is turns turns_after
-      gone_more m next came same one keeps =
+      gone_more m next came same one keeps waits below =
           let a : Advances d w t job rules 1 mid is between turns_after More =
           subst (λ (x : Advance). Advances d w t job rules 1 mid is between turns_after x) same
           one in
@@ -297,10 +306,16 @@ module _ {D W : Type 0} (d : DiskGhosts D) (w : WireGhosts W) (job : Job) (rules
             keeps = keeps_more was mid is.disk is.wire is.meter gone.moves gone.keeps keeps;
             outcome = a.over;
             less = omega (arith, next, left, fewer);
+            waits = λ is_balanced. waits_more (setting d w job rules) (at was) (at mid) (at is) More
+                (gone.waits is_balanced)
+                (subst (λ (y : Advance). WaitsOn (setting d w job rules) (at mid) (at is) y) same
+                (waits is_balanced));
+            below = λ is_balanced. below_more (setting d w job rules) (at was) (at mid)
+                (at is).is.now (gone.waits is_balanced) (below is_balanced);
           }
 
       -- a fault stops the turn that follows
-      pub gone_stop : (k : ℕ) → t.picks between (enabled_in mid.run.core) k turns_after
+      pub gone_stop : (k : ℕ) → Picks t job.balance mid.run.core between k turns_after
           → TurnsStop t (IsTrue w.tells) job rules (turning_of w was turns) turns_after
       gone_stop k picked = record {
         last = turning_of w mid between;

@@ -7,8 +7,10 @@ use Rattle.cx_keep.specs.Beginning.{HasLengths, IsStarted, StartMoments}
 use Rattle.cx_keep.specs.Tests.{begun}
 use Rattle.cx_plan.specs.Setups.{setup_of}
 use Rattle.cx_outputs.specs.Names.{output_count}
+use Rattle.cx_cut.specs.Faults.{parts_of}
 use Rattle.cx_rule.specs.Meter.{raised}
 use Rattle.cx_rule.specs.States.{State}
+use Rattle.cx_model.specs.Checkpoints.{Continues}
 use Rattle.cx_model.specs.Traces.{Trace, Goes}
 use Rattle.cx_wire.specs.Received.{counted}
 use Rattle.cx_keep.specs.declared.fault.BeginFault.{BeginFault}
@@ -18,14 +20,16 @@ use Rattle.law_course.specs.Beginnings.{run_from}
 use Rattle.cx_core.specs.Cores.{Cores}
 use Rattle.cx_run_loop.specs.declared.fault.DriveFault.{DriveFault}
 use Rattle.cx_run_loop.specs.declared.fault.DriveFault.TheVariants as faults
-use Rattle.cx_run_loop.specs.Drives.{Drive, Drives, AreTold, Comes, HasEnded, LendsScalars, StartsWell, counts_new, counts_old, cut_in}
+use Rattle.cx_run_loop.specs.Drives.{Drive, Drives, AreTold, Comes, HasEnded, LendsScalars, StartsWell, again_in, counts_new, counts_old}
 use Rattle.cx_run_loop.specs.Faults.{Stops, StopsStart, Why}
-use Rattle.cx_run_loop.specs.Going.{RunLeaves, RunsFrom, trace_in}
-use Rattle.cx_run_loop.specs.Within.{CountsWithin}
+use Rattle.cx_run_loop.specs.Going.{RunLeaves, trace_in}
+use Rattle.cx_run_loop.specs.Recuts.{first_cut}
+use Rattle.cx_run_loop.specs.Segments.{RunsBy}
+use Rattle.cx_run_loop.specs.Sums.{CountsBelow}
 use Rattle.cx_run_loop.specs.Laws.{DriveLaws}
 use Rattle.cx_run_loop.proofs.StopLaws.{stopped_after}
 use Rattle.cx_run_loop.proofs.TurnLaws.{same_beginning}
-use Rattle.cx_run_loop.proofs.WholeLaws.{setting, counts_before, place_behind, has_run, has_ended, leaves_trails, lends, start_trails}
+use Rattle.cx_run_loop.proofs.WholeLaws.{setting, place_behind, has_run, has_ended, leaves_trails, lends, start_at, start_trails}
 
 no_points : (old new more : ℕ) → new ≡ old → new ≤ raised old more
 no_points old new more same = omega (arith, same)
@@ -78,10 +82,12 @@ module _ (d : Drive) (laws : DriveLaws d.wire.tells d.job d.rules) (mid : View)
     (found : Option Checkpoint)
     (reads : d.disk.tells → d.disk.old.images d.disk.old.seen)
     (is_begun : d.disk.tells → begun d.job d.disk.old.seen ≡ Ok found)
+    (continues : Continues (setup_of d.job) d.rules)
     (lengths : HasLengths (output_count (setup_of d.job)) found)
     (started : d.disk.tells → IsStarted d.job d.job.recover found d.disk.old mid) where
   comes_run : (r : Result Cores DriveFault)
-      → IfOk r (λ core. RunsFrom (setting d) found (counts_before d) mid (place_behind d core))
+      → IfOk r (λ core. RunsBy (setting d) (again_in d) (start_at d found mid)
+      (place_behind d core))
       → Why d.disk.faults d.wire.faults r → Comes d r
   comes_run (Ok core) runs why = has_run d laws mid found reads is_begun core runs
   comes_run (Err (faults.Recovery fault)) runs why = absurd why
@@ -90,21 +96,24 @@ module _ (d : Drive) (laws : DriveLaws d.wire.tells d.job d.rules) (mid : View)
   comes_run (Err faults.Memory) runs why = why
 
   ended_run : (r : Result Cores DriveFault)
-      → IfOk r (λ core. RunsFrom (setting d) found (counts_before d) mid (place_behind d core))
+      → IfOk r (λ core. RunsBy (setting d) (again_in d) (start_at d found mid)
+      (place_behind d core))
       → AreTold d → StartsWell d → IfOk r (HasEnded d)
   ended_run (Ok core) runs told well =
-      has_ended d laws mid found reads is_begun core runs lengths started told well
+      has_ended d laws mid found reads is_begun core runs continues lengths started told well
   ended_run (Err fault) runs told well = tt
 
   pub drives : (r : Result Cores DriveFault)
-      → IfOk r (λ core. RunsFrom (setting d) found (counts_before d) mid (place_behind d core))
+      → IfOk r (λ core. RunsBy (setting d) (again_in d) (start_at d found mid)
+      (place_behind d core))
       → (d.disk.tells → StartMoments d.job d.job.recover d.disk.old mid)
       → RunLeaves (setting d) found mid d.disk.new → (begun_at : ℕ)
       → d.disk.faults.old ≤ begun_at
       → Stops (record { old = begun_at; new = d.disk.faults.new }) d.wire.faults r
       → d.meter.old ≤ d.meter.new → d.wire.old.received ≤ d.wire.new.received
       → (d.wire.tells → (state : State) → (trace_in (setting d) found).outcome ≡ Goes state
-      → CountsWithin (setup_of d.job) (cut_in d) (trace_in (setting d) found).entries
+      → CountsBelow (setup_of d.job) (again_in d)
+      (parts_of d.job.shape (first_cut d.specs d.job found)) (trace_in (setting d) found).entries
       (counts_old d) (counts_new d)) → Drives d r
   drives r runs moments leaves begun_at later stops points values within =
       let all : Stops d.disk.faults d.wire.faults r =
@@ -120,18 +129,25 @@ module _ (d : Drive) (laws : DriveLaws d.wire.tells d.job d.rules) (mid : View)
         points = points;
         values = values;
         within = λ told other is state goes.
+            let one : found ≡ other =
+            same_found found other (begun d.job d.disk.old.seen) (is_begun told.0) is in
             let same : trace_in (setting d) found ≡ run_from (setup_of d.job) d.rules other =
             ap (λ (b : Beginning). undivided_from (setup_of d.job) d.rules b)
             (same_beginning (setup_of d.job) found)
             ∙ ap (λ (f : Option Checkpoint). run_from (setup_of d.job) d.rules f)
-            (same_found found other (begun d.job d.disk.old.seen) (is_begun told.0) is) in
-            subst (λ (u : Trace). CountsWithin (setup_of d.job) (cut_in d) u.entries (counts_old d)
+            one in
+            subst (λ (f : Option Checkpoint). CountsBelow (setup_of d.job) (again_in d)
+            (parts_of d.job.shape (first_cut d.specs d.job f))
+            (run_from (setup_of d.job) d.rules other).entries (counts_old d) (counts_new d)) one
+            (subst (λ (u : Trace). CountsBelow (setup_of d.job) (again_in d)
+            (parts_of d.job.shape (first_cut d.specs d.job found)) u.entries (counts_old d)
             (counts_new d)) same
-            (within told.1 state (ap (λ (u : Trace). u.outcome) same ∙ goes));
+            (within told.1 state (ap (λ (u : Trace). u.outcome) same ∙ goes)));
       }
 
   pub lends_scalars : (r : Result Cores DriveFault)
-      → IfOk r (λ core. RunsFrom (setting d) found (counts_before d) mid (place_behind d core))
+      → IfOk r (λ core. RunsBy (setting d) (again_in d) (start_at d found mid)
+      (place_behind d core))
       → IfOk r (LendsScalars d.job)
   lends_scalars (Ok core) runs = lends d laws mid found reads is_begun core runs
   lends_scalars (Err fault) runs = tt

@@ -1,5 +1,5 @@
 -- Where a run begins.
-use Rattle.std.proofs.Common.{◌≡◌, ◌<◌, Bool, true, List}
+use Rattle.std.proofs.Common.{◌≡◌, ◌<◌, ℕ, Bool, true, false, List}
 use Rattle.std.specs.Prelude.{Option, Some, None, IfSome, IsTrue}
 use Rattle.cx_plan.specs.Setups.{setup_of}
 use Rattle.cx_plan.specs.declared.job.Job.{Job}
@@ -11,7 +11,7 @@ use Rattle.cx_outputs.specs.Names.{output_count}
 use Rattle.cx_keep.specs.Beginning.{HasLengths}
 use Rattle.cx_keep.specs.Fits.{fits_job}
 use Rattle.cx_core.specs.declared.answers.Outcome.TheVariants.{Going}
-use Rattle.cx_core.specs.Cores.{enabled_in}
+use Rattle.cx_core.specs.Cores.{ahead_in, enabled_in}
 use Rattle.cx_core.specs.Hands.{Stands}
 use Rattle.cx_core.specs.Starts.{CanBegin, begins_in}
 use Rattle.cx_core.specs.Steps.{Counts, Standing, IsAt, IsRunning}
@@ -31,13 +31,14 @@ pub is_beginning : (job : Job) → FittingCanBegin job → (found : Option Check
 is_beginning job can None fits = tt
 is_beginning job can (Some c) fits = (can c fits).begins
 
--- an event can happen while the run goes on
-pub some_event : (told : Bool) (job : Job) (rules : List Rule) (is : Standing (IsTrue told))
+-- an event can happen that doesn't lie ahead, while the run goes on
+pub some_before : (told : Bool) (job : Job) (rules : List Rule) (is : Standing (IsTrue told))
     → ((told : Bool) (rules : List Rule) (b : Beginning) → IsBeginning (setup_of job) b
     → (first : Counts) (is : Standing (IsTrue told))
     (at : IsAt (IsTrue told) (run_of job rules b) first is.core is.queue is.now)
     → Stands (IsTrue told) (run_of job rules b) (undivided_from (setup_of job) rules b)
     first is at)
-    → IsRunning (IsTrue told) job rules is → is.core.outcome ≡ Going → 0 < enabled_in is.core
-some_event told job rules is law running going =
-    (law told rules running.beginning running.begins running.first is running.at).some_event going
+    → IsRunning (IsTrue told) job rules is → is.core.outcome ≡ Going
+    → (k : ℕ) × (k < enabled_in is.core) × (ahead_in is.core k ≡ false)
+some_before told job rules is law running going =
+    (law told rules running.beginning running.begins running.first is running.at).some_before going

@@ -66,10 +66,10 @@ so_far_is job rules (Some c) = refl
 -- ---- one event
 
 -- a checkpoint's
-abbrev IsSave : Event → Type 0
+abbrev pub IsSave : Event → Type 0
 IsSave event = (iteration : ℕ) × (event ≡ Save iteration)
 
-is_save : (event : Event) → came_of event ≡ answer.Saved → IsSave event
+pub is_save : (event : Event) → came_of event ≡ answer.Saved → IsSave event
 is_save (Part k) same = absurd cc
 is_save (Section v iteration) same = absurd cc
 is_save (Save iteration) same = (iteration, refl)
@@ -105,7 +105,7 @@ lengths_are (Rotated state ∷ es) so_far v = lengths_are es so_far v
 lengths_are (Saved i state ∷ es) so_far v = lengths_are es so_far v
 
 -- a core counts the outputs as they are
-counted_as : (r : KeptRun) → GoesOn r.setup r.rules r.found → (so_far : Lengths)
+pub counted_as : (r : KeptRun) → GoesOn r.setup r.rules r.found → (so_far : Lengths)
     → so_far ≡ lengths_found r.setup r.found → (done : List Entry)
     → lengths_behind so_far done ≡ lengths_done r done
 counted_as r goes so_far is done = fun_ext (λ v.
@@ -119,7 +119,7 @@ counted_as r goes so_far is done = fun_ext (λ v.
     ∙ sym (length-append (output_found r var) (output_of var done)))
 
 -- the newest checkpoint after one that was just saved
-newest_last : (newest : Option ℕ) (es : List Entry) (i : ℕ) (state : State)
+pub newest_last : (newest : Option ℕ) (es : List Entry) (i : ℕ) (state : State)
     → newest_after newest (es ++ Saved i state ∷ []) ≡ Some i
 newest_last newest [] i state = refl
 newest_last newest (Wrote w j text other ∷ es) i state = newest_last newest es i state

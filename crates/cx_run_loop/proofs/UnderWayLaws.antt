@@ -35,7 +35,7 @@ going_at s found k p b = record {
   kept = b.kept;
 }
 
-pub come_at : (s : Setting) (found : Option Checkpoint) (k : Keeper) (p : Place s)
+unfoldable pub come_at : (s : Setting) (found : Option Checkpoint) (k : Keeper) (p : Place s)
     → HasBegunAt s found k p → p.is.core.outcome ≡ Going → HasCome s found p.is.now p.view p
 come_at s found k p b going =
     let nothing_handed : handed_out (run_in s found) b.begun.at.world ≡ [] =
@@ -103,7 +103,8 @@ at_metered s r first n p at = record {
   items = at.items;
 }
 
-abbrev come_metered : (s : Setting) (found : Option Checkpoint) (first : Counts) (old : View) (n : ℕ)
+abbrev come_metered : (s : Setting) (found : Option Checkpoint) (first : Counts) (old : View) (n :
+    ℕ)
     (p : Place s) → HasCome s found first old p
     → HasCome s found (with_points n first) old (metered n p)
 come_metered s found first old n p x = record {

@@ -1,26 +1,21 @@
 -- A whole run: from what its start found to what its end leaves.
-use Rattle.std.proofs.Common.{◌≡◌, ◌≢◌, ℕ, ◌+◌, ◌≤◌, ◌<◌, List, [], ◌++◌, length, take, refl, sym, ◌∙◌, ap, subst, arith, inl, inr, append-nil}
-use Rattle.std.proofs.lemmas.List.{append_cancel_left, get_or-replicate}
-use Rattle.std.specs.Prelude.{Option, Some, None, IfSome, ◌⊎◌, Ok, Err, true, slice_index, ◌%◌, ◌^◌}
-use Rattle.cx_plan.specs.declared.job.Job.{Job}
+use Rattle.std.proofs.Common.{◌≡◌, ◌≢◌, ℕ, ◌+◌, ◌≤◌, ◌<◌, List, [], length, take, refl, sym, ◌∙◌, ap, subst, arith, inl, inr, append-nil}
+use Rattle.std.proofs.lemmas.List.{get_or-replicate}
+use Rattle.std.specs.Prelude.{Option, Some, None, IfSome, ◌⊎◌, Ok, Err, slice_index, ◌%◌, ◌^◌}
 use Rattle.cx_plan.specs.declared.job.Recover.TheVariants.{No}
-use Rattle.cx_plan.specs.Lookups.{is_scalar, levels_of}
-use Rattle.cx_plan.specs.Setups.{Setup, setup_of}
+use Rattle.cx_plan.specs.Setups.{setup_of}
 use Rattle.cx_outputs.specs.Names.{output_count}
 use Rattle.cx_rule.specs.Meter.{raised}
-use Rattle.cx_rule.specs.Routine.{Rule}
-use Rattle.cx_model.specs.Runs.{undivided_run}
+use Rattle.cx_model.specs.Checkpoints.{Continues}
+use Rattle.cx_model.specs.Runs.{no_lengths, undivided_run}
 use Rattle.cx_model.specs.Traces.{Entry, Trace}
 use Rattle.cx_cut.specs.Cuts.{Parts}
 use Rattle.cx_cut.specs.Faults.{parts_of}
 use Rattle.cx_disk.specs.Disk.{Files, View, LeavesOnly}
 use Rattle.cx_disk.proofs.Moments.{joins, weaker}
 use Rattle.cx_wire.specs.Received.{counted}
-use Rattle.law_parts.specs.Beginnings.{Beginning, Afresh, From, run_of}
-use Rattle.law_parts.specs.Runs.{cut_of}
+use Rattle.law_parts.specs.Beginnings.{Beginning}
 use Rattle.law_parts.specs.Totals.{undivided_from}
-use Rattle.law_parts.specs.Work.{work, carried_count, total_sum}
-use Rattle.law_reached.specs.Works.{works_of}
 use Rattle.cx_chk.specs.declared.checkpoint.Checkpoint.{Checkpoint}
 use Rattle.cx_chk.specs.Slots.{newest_below}
 use Rattle.cx_keep.specs.Beginning.{CanStart, HasLengths, IsOfNewest, IsStarted, IsWithinStart, StartMoments, length_left, lengths_left, newest_left}
@@ -29,28 +24,27 @@ use Rattle.cx_keep.specs.Tests.{begun, greatest_former}
 use Rattle.cx_keep.specs.Trails.{AreWithin, Has, NewestIs, Stands, former_length, length_in, text_of, file_of_output}
 use Rattle.cx_keep.specs.declared.fault.BeginFault.TheVariants as begin_faults
 use Rattle.cx_keep.proofs.Stays.{newest_same}
+use Rattle.law_course.proofs.PlaceLaws.{has_places}
 use Rattle.law_course.specs.Beginnings.{GoesOn, IsFound, entries_from, run_from}
+use Rattle.law_course.specs.Courses.{checkpoint_of}
 use Rattle.law_course.specs.Starts.{BeginsOn}
-use Rattle.law_course.specs.Works.{KeptRun, HasDone, IsAllDone, IsAtLeast, WorksFollow, course_by, works_by, newest_of, next_of}
+use Rattle.law_course.specs.Works.{KeptRun, IsAllDone, IsAtLeast, WorksFollow, course_by, works_by, newest_of, next_of}
 use Rattle.cx_core.specs.Cores.{Cores}
-use Rattle.cx_core.specs.Hands.{IsDone as IsCoreDone, ended_as}
+use Rattle.cx_core.specs.Hands.{ended_as}
 use Rattle.cx_core.specs.declared.answers.Outcome.TheVariants.{Done}
-use Rattle.cx_core.specs.Starts.{begins_in}
 use Rattle.cx_core.specs.Steps.{Counts, counts, stands_at}
-use Rattle.cx_run_loop.specs.Drives.{Drive, AreTold, FitsOld, StartsWell, HasEnded, HasRun, HasScalarsOf, HasWorked, ResumesFrom, KeepsTrail, LeavesTrails, LendsScalars, IsNotBelow, cut_in, course}
-use Rattle.cx_run_loop.specs.Going.{Setting, Place, IsDriven, IsImageOf, RunsFrom, RunLeaves, run_in, trace_in, kept_in, handed}
+use Rattle.cx_run_loop.specs.Drives.{Drive, AreTold, FitsOld, StartsWell, HasEnded, HasRun, HasScalarsOf, HasWorked, IsFirstCut, ResumesFrom, KeepsTrail, LeavesTrails, LendsScalars, IsNotBelow, again_in, course}
+use Rattle.cx_run_loop.specs.Going.{Setting, Place, IsDriven, IsImageOf, RunLeaves, trace_in, kept_in}
 use Rattle.cx_run_loop.specs.Laws.{DriveLaws}
+use Rattle.cx_run_loop.specs.Recuts.{first_cut}
+use Rattle.cx_run_loop.specs.Segments.{IsDoneBy, RunsBy, Start}
+use Rattle.cx_run_loop.specs.Sums.{carried_in, sum_in, work_in}
 use Rattle.cx_run_loop.proofs.FoundLaws.{found_is, found_none, only_newest, not_below_same, resumes_from_newest, resumes_from_none}
-use Rattle.cx_run_loop.proofs.FromLaws.{length_count}
-use Rattle.cx_run_loop.proofs.TurnLaws.{same_beginning, setup_is}
+use Rattle.cx_run_loop.proofs.RecutLaws.{next_same}
+use Rattle.cx_run_loop.proofs.TurnLaws.{same_beginning}
 use Rattle.cx_disk.specs.Files.{slot_count}
 use Rattle.cx_disk.specs.MemoryLaws.{cases_le}
 use Rattle.cx_run_loop.proofs.Works.{output_count_is}
-
-cut_is : (job : Job) (rules : List Rule) (b : Beginning)
-    → cut_of (run_of job rules b) ≡ parts_of job.shape job.cut
-cut_is job rules Afresh = refl
-cut_is job rules (From c state so_far) = refl
 
 -- the length that a start leaves of an output
 left_at : (count : ℕ) (found : Option Checkpoint) (j : ℕ) → j < count
@@ -74,6 +68,15 @@ abbrev pub place_behind : (d : Drive) → Cores → Place (setting d)
 place_behind d core = record {
   is = stands_at core d.wire.new.queue d.meter.new d.wire.new.received d.wire.new.sum;
   view = d.disk.new;
+}
+
+-- where it began, from what was found on a disk that was seen so
+abbrev pub start_at : Drive → Option Checkpoint → View → Start
+start_at d found mid = record {
+  cut = first_cut d.specs d.job found;
+  found = found;
+  counts = counts_before d;
+  view = mid;
 }
 
 module _ (d : Drive) (laws : DriveLaws d.wire.tells d.job d.rules) where
@@ -137,6 +140,23 @@ module _ (d : Drive) (laws : DriveLaws d.wire.tells d.job d.rules) where
       → d.disk.tells → AreTrails (course d) d.disk.old → LeavesOnly d.disk.old new (KeepsTrail d)
   start_trails new moments t trails =
       weaker (KeepsTrail d) (moments t (course d) (can_start (λ not. trails)) trails) within_start
+
+-- the first cut is that after the place of what was found
+cut_first : (d : Drive) → Continues (setup_of d.job) d.rules → (found : Option Checkpoint)
+    → IsFound (setup_of d.job) d.job.key d.rules found
+    → IsFirstCut d.job d.rules d.specs (newest_left found)
+    (parts_of d.job.shape (first_cut d.specs d.job found))
+cut_first d continues None is = refl
+cut_first d continues (Some c) is =
+    let place = (has_places (setup_of d.job) d.rules continues d.job.key).places c is in (
+      place.state,
+      place.so_far,
+      place.reached,
+      ap (parts_of d.job.shape)
+          (next_same d.specs d.job c
+          (checkpoint_of (setup_of d.job) d.job.key 0 place.state no_lengths)
+          (ap (λ (k : Checkpoint). k.levels) place.packed)),
+    )
 
 module _ (d : Drive) (laws : DriveLaws d.wire.tells d.job d.rules) (mid : View)
     (found : Option Checkpoint)
@@ -275,30 +295,16 @@ module _ (d : Drive) (laws : DriveLaws d.wire.tells d.job d.rules) (mid : View)
   trace_is = ap (λ (b : Beginning). undivided_from (setup_of d.job) d.rules b)
       (same_beginning (setup_of d.job) found)
 
-  module _ (core : Cores) (runs : RunsFrom (setting d) found (counts_before d) mid
+  module _ (core : Cores) (runs : RunsBy (setting d) (again_in d) (start_at d found mid)
       (place_behind d core)) where
     ended_by : d.wire.tells
         → core.outcome ≡ ended_as (run_from (setup_of d.job) d.rules found).outcome
-    ended_by t = (runs.stands.told t).ended runs.over
-        ∙ ap (λ (u : Trace). ended_as u.outcome) trace_is
-
-    -- by setup
-    run_setup : (run_in (setting d) found).setup ≡ setup_of d.job
-    run_setup = setup_is d.job d.rules (begins_in (setup_of d.job) found)
+    ended_by t = runs.ended t ∙ ap (λ (u : Trace). ended_as u.outcome) trace_is
 
     has_scalars : d.wire.tells → core.outcome ≡ Done → (run : Trace)
         → (trace_in (setting d) found).outcome ≡ run.outcome → HasScalarsOf run d core
     has_scalars t is run same state v goes scalar =
-        ((runs.stands.told t).done is).last state v (same ∙ goes)
-        (subst (λ (u : Setup). is_scalar u v ≡ true) (sym run_setup) scalar)
-
-    count_is : length core.lengths ≡ output_count (setup_of d.job)
-    count_is = length_count (setting d) (place_behind d core) (record {
-      beginning = begins_in (setup_of d.job) found;
-      begins = runs.there.begins;
-      first = counts_before d;
-      at = runs.there.at;
-    })
+        (runs.done t is).last state v (same ∙ goes) scalar
 
     pub has_run : HasRun d core
     has_run = record {
@@ -309,24 +315,15 @@ module _ (d : Drive) (laws : DriveLaws d.wire.tells d.job d.rules) (mid : View)
       scalars = λ told is. has_scalars told.1 is (run_from (setup_of d.job) d.rules found)
           (ap (λ (u : Trace). u.outcome) trace_is);
       length_is = λ t. record {
-        count = count_is;
-        each = λ j lt. runs.counts t j (subst (λ (n : ℕ). j < n) (sym count_is) lt);
+        count = runs.lengths;
+        each = λ j lt. runs.counts t j (subst (λ (n : ℕ). j < n) (sym runs.lengths) lt);
       };
     }
 
     -- nothing is left of the works
-    none_left : (done left : List Entry) → works_by r ≡ done ++ left → works_by r ≡ done → left ≡ []
-    none_left done left first second =
-        append_cancel_left done left [] (sym first ∙ second ∙ sym (append-nil done))
-
-    all_done : Finds → IsDriven r (handed runs.there) d.disk.new → d.wire.tells
-        → IsAllDone r (handed runs.there)
-    all_done fs driven t =
-        let works : works_by r ≡ handed runs.there =
-        ap (λ (u : Trace). works_of u.entries) (sym trace_is) ∙ runs.there.over t runs.over in
-        (laws.follow found (of_run fs)).all_done (handed runs.there)
-        (subst (λ (l : List Entry). HasDone r (handed runs.there) l)
-        (none_left (handed runs.there) driven.left driven.has works) driven.has)
+    all_done : Finds → IsAllDone r (works_by r)
+    all_done fs =
+        (laws.follow found (of_run fs)).all_done (works_by r) (sym (append-nil (works_by r)))
 
     goes_on : Finds → GoesOn (setup_of d.job) d.rules found
     goes_on fs = laws.goes_on found (of_run fs)
@@ -341,44 +338,44 @@ module _ (d : Drive) (laws : DriveLaws d.wire.tells d.job d.rules) (mid : View)
         ≡ (undivided_run (setup_of d.job) d.rules).outcome
     outcome fs = ap (λ (u : Trace). u.outcome) trace_is ∙ (goes_on fs).outcome
 
-    -- by cut and entries
-    run_cut : cut_of (run_in (setting d) found) ≡ cut_in d
-    run_cut = cut_is d.job d.rules (begins_in (setup_of d.job) found)
+    abbrev cut : Parts
+    cut = parts_of d.job.shape (first_cut d.specs d.job found)
 
-    same_work : (fs : Finds) (f : Setup → Parts → List Entry → ℕ)
-        → f (run_in (setting d) found).setup (cut_of (run_in (setting d) found))
-        (trace_in (setting d) found).entries ≡ f (setup_of d.job) (cut_in d) entries_left
-    same_work fs f =
-        ap (λ (u : Setup). f u (cut_of (run_in (setting d) found))
-        (trace_in (setting d) found).entries) run_setup
-        ∙ ap (λ (q : Parts). f (setup_of d.job) q (trace_in (setting d) found).entries) run_cut
-        ∙ ap (λ (es : List Entry). f (setup_of d.job) (cut_in d) es) (entries fs)
+    same_work : (fs : Finds) (f : List Entry → ℕ)
+        → f (trace_in (setting d) found).entries ≡ f entries_left
+    same_work fs f = ap f (entries fs)
 
     has_worked : (fs : Finds)
-        → IsCoreDone d.wire.tells (run_in (setting d) found) (trace_in (setting d) found)
-        (counts_before d) (place_behind d core).is → HasWorked d
-    has_worked fs done = record {
+        → IsDoneBy (setting d) (again_in d) (start_at d found mid) (place_behind d core)
+        → Continues (setup_of d.job) d.rules → HasWorked d
+    has_worked fs done continues = record {
       start = newest_left found;
       start_is = start_found fs;
+      cut = cut;
+      cut_is = cut_first d continues found (of_run fs);
       done = record {
         points = done.totals.points
-            ∙ ap (λ (n : ℕ). raised d.meter.old n) (same_work fs work);
+            ∙ ap (λ (n : ℕ). raised d.meter.old n)
+            (same_work fs (work_in (setup_of d.job) (again_in d) cut));
         values = done.totals.values
-            ∙ ap (λ (n : ℕ). counted d.wire.old.received n) (same_work fs carried_count);
+            ∙ ap (λ (n : ℕ). counted d.wire.old.received n)
+            (same_work fs (carried_in (setup_of d.job) (again_in d) cut));
         sum = done.totals.sum
-            ∙ ap (λ (n : ℕ). (d.wire.old.sum + n) % 2 ^ 64) (same_work fs total_sum);
+            ∙ ap (λ (n : ℕ). (d.wire.old.sum + n) % 2 ^ 64)
+            (same_work fs (sum_in (setup_of d.job) (again_in d) cut));
         none_left = done.none_left;
       };
     }
 
-    pub has_ended : HasLengths (output_count (setup_of d.job)) found
+    pub has_ended : Continues (setup_of d.job) d.rules
+        → HasLengths (output_count (setup_of d.job)) found
         → (d.disk.tells → IsStarted d.job d.job.recover found d.disk.old mid)
         → AreTold d → StartsWell d → HasEnded d core
-    has_ended lengths started told well =
+    has_ended continues lengths started told well =
         let fs : Finds = finds well told.0 in
-        let driven : IsDriven r (handed runs.there) d.disk.new =
+        let driven : IsDriven r (works_by r) d.disk.new =
         runs.driven told.0 told.1 (begins_driven lengths started well told.0) in
-        let all : IsAllDone r (handed runs.there) = all_done fs driven told.1 in
+        let all : IsAllDone r (works_by r) = all_done fs in
         record {
           output = λ j lt.
               let file_is : d.disk.new.seen (file_of_output j) ≡ text_of (course d) j =
@@ -387,20 +384,17 @@ module _ (d : Drive) (laws : DriveLaws d.wire.tells d.job d.rules) (mid : View)
                 reads = file_is;
                 images = λ image now. runs.settled told.0 j lt image now ∙ file_is;
               };
-          end = (runs.stands.told told.1).ended runs.over ∙ ap ended_as (outcome fs);
-          work = λ is. has_worked fs ((runs.stands.told told.1).done is);
+          end = runs.ended told.1 ∙ ap ended_as (outcome fs);
+          work = λ is. has_worked fs (runs.done told.1 is) continues;
           scalars = λ is. has_scalars told.1 is (undivided_run (setup_of d.job) d.rules)
               (outcome fs);
           last = λ image now. (
-            newest_of r (handed runs.there),
+            newest_of r (works_by r),
             newest_same d.disk.new.seen image (λ s lt. driven.stands.slots s lt image now)
-                (newest_of r (handed runs.there)) driven.stands.newest_is,
+                (newest_of r (works_by r)) driven.stands.newest_is,
             all.newest,
           );
         }
 
     pub lends : LendsScalars d.job core
-    lends v var level scalar =
-        runs.stands.scalars v (subst (λ (u : Setup). v.0 < length u.vars) (sym run_setup) var)
-        (subst (λ (u : Setup). 0 < levels_of u v) (sym run_setup) level)
-        (subst (λ (u : Setup). is_scalar u v ≡ true) (sym run_setup) scalar)
+    lends v var level scalar = runs.scalars v var level scalar

@@ -52,7 +52,7 @@ use Rattle.cx_run_loop.specs.Within.{CountsStay, SpendsWithin, StaysWithin, Step
 
 -- ---- sums
 
-sum_le : (n : ℕ) (f g : ℕ → ℕ) → ((j : ℕ) → j < n → f j ≤ g j) → sum_below n f ≤ sum_below n g
+pub sum_le : (n : ℕ) (f g : ℕ → ℕ) → ((j : ℕ) → j < n → f j ≤ g j) → sum_below n f ≤ sum_below n g
 sum_le zero f g all = omega arith
 sum_le (suc n) f g all =
     let a : sum_below n f ≤ sum_below n g = sum_le n f g (λ j l. all j (omega (arith, l))) in
@@ -60,7 +60,7 @@ sum_le (suc n) f g all =
     omega (arith, a, b)
 
 -- with so much more at one place
-sum_le_more : (n k c : ℕ) (f g : ℕ → ℕ) → k < n → f k + c ≤ g k
+pub sum_le_more : (n k c : ℕ) (f g : ℕ → ℕ) → k < n → f k + c ≤ g k
     → ((j : ℕ) → j < n → f j ≤ g j) → sum_below n f + c ≤ sum_below n g
 sum_le_more zero k c f g l here all = absurd (omega (arith, l))
 sum_le_more (suc n) k c f g l here all =
@@ -81,7 +81,7 @@ sum_le_more (suc n) k c f g l here all =
         let b : f n + c ≤ g n = subst (λ (x : ℕ). f x + c ≤ g x) same here in
         omega (arith, a, b)
 
-sum_longer : (m n : ℕ) (f : ℕ → ℕ) → n ≤ m → sum_below n f ≤ sum_below m f
+pub sum_longer : (m n : ℕ) (f : ℕ → ℕ) → n ≤ m → sum_below n f ≤ sum_below m f
 sum_longer zero zero f le = omega arith
 sum_longer zero (suc n) f le = absurd (omega (arith, le))
 sum_longer (suc m) n f le = go (sum_longer m n f) (cases_lt m n)
@@ -166,7 +166,7 @@ module _ (tells : Type 0) (r : Run) (run : IsRun r) (trace : Trace)
       (all_noted r trace runs state goes).0)))
       (omega arith) (omega (arith, part))
 
-  no_stop : w.stop ≡ r.most
+  pub no_stop : w.stop ≡ r.most
   no_stop = go st.woven.stopped (st.ended t).cause
     where
       go : (w.stop ≡ r.most)
@@ -288,19 +288,19 @@ counts_stay tells job rules b run runs pace t o w p st shown state goes k =
 
 -- ---- a step, and none
 
-step_points : (first m c most before after : ℕ) → before ≡ raised first m
+pub step_points : (first m c most before after : ℕ) → before ≡ raised first m
     → after ≤ raised before c → m + c ≤ most → after ≤ raised first most
 step_points first m c most before after is rose le = omega (arith, is, rose, le)
 
-step_values : (first m c most before after : ℕ) → before ≡ counted first m
+pub step_values : (first m c most before after : ℕ) → before ≡ counted first m
     → after ≤ counted before c → m + c ≤ most → after ≤ counted first most
 step_values first m c most before after is rose le = omega (arith, is, rose, le)
 
-stay_points : (first m c most now : ℕ) → now ≡ raised first m → m + c ≤ most
+pub stay_points : (first m c most now : ℕ) → now ≡ raised first m → m + c ≤ most
     → now ≤ raised first most
 stay_points first m c most now is le = omega (arith, is, le)
 
-stay_values : (first m c most now : ℕ) → now ≡ counted first m → m + c ≤ most
+pub stay_values : (first m c most now : ℕ) → now ≡ counted first m → m + c ≤ most
     → now ≤ counted first most
 stay_values first m c most now is le = omega (arith, is, le)
 

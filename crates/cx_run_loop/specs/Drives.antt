@@ -9,8 +9,9 @@ use Rattle.cx_plan.specs.Setups.{Setup, setup_of}
 use Rattle.cx_outputs.specs.Names.{output_count}
 use Rattle.cx_rule.specs.Meter.{raised}
 use Rattle.cx_rule.specs.Routine.{Rule}
+use Rattle.cx_rule.specs.declared.spec.Spec.{Spec}
 use Rattle.cx_rule.specs.States.{State, scalar_of}
-use Rattle.cx_model.specs.Runs.{undivided_run}
+use Rattle.cx_model.specs.Runs.{Lengths, Reaches, undivided_run}
 use Rattle.cx_model.specs.Traces.{Entry, Trace, Goes}
 use Rattle.cx_cut.specs.Cuts.{Parts}
 use Rattle.cx_cut.specs.Faults.{parts_of}
@@ -33,16 +34,18 @@ use Rattle.cx_core.specs.Hands.{HasScalar, ended_as, last_number}
 use Rattle.cx_core.specs.Steps.{Counts, counts}
 use Rattle.cx_core.specs.declared.answers.Outcome.TheVariants.{Going, Done}
 use Rattle.cx_run_loop.specs.Lent.{Count, HasRisen, LentDisk, LentWire, lent_disk, lent_wire}
-use Rattle.cx_run_loop.specs.Within.{CountsWithin}
+use Rattle.cx_run_loop.specs.Recuts.{cut_from, first_cut}
+use Rattle.cx_run_loop.specs.Sums.{CountsBelow, carried_in, sum_in, work_in}
 use Rattle.cx_keep.specs.declared.fault.BeginFault.{BeginFault}
 use Rattle.cx_keep.specs.declared.fault.BeginFault.TheVariants as begin_faults
 use Rattle.cx_run_loop.specs.declared.fault.DriveFault.{DriveFault}
 use Rattle.cx_run_loop.specs.declared.fault.DriveFault.TheVariants as faults
 
--- a run of a job by these rules, and what it was lent
+-- a run of a job by routines with these rules, which say this of themselves, and what it was lent
 pub record Drive : Type 1 where
   pub job : Job
   pub rules : List Rule
+  pub specs : List Spec
   pub disk : LentDisk
   pub wire : LentWire
   pub meter : Count
@@ -50,10 +53,12 @@ pub record Drive : Type 1 where
 -- over a disk and a wire of types with these ghost members, each before and after the run, as the
 -- meter is
 abbrev pub driven_by :
-    {D W : Type 0} → Job → List Rule → DiskGhosts D → WireGhosts W → D → D → W → W → ℕ → ℕ → Drive
-driven_by job rules d w disk disk_after wire wire_after meter meter_after = record {
+    {D W : Type 0} → Job → List Rule → List Spec → DiskGhosts D → WireGhosts W
+    → D → D → W → W → ℕ → ℕ → Drive
+driven_by job rules specs d w disk disk_after wire wire_after meter meter_after = record {
   job = job;
   rules = rules;
+  specs = specs;
   disk = lent_disk d disk disk_after;
   wire = lent_wire w wire wire_after;
   meter = record { old = meter; new = meter_after };
@@ -65,6 +70,18 @@ course d = course_in d.job d.rules
 
 abbrev pub cut_in : Drive → Parts
 cut_in d = parts_of d.job.shape d.job.cut
+
+-- the cut after the checkpoint place of a state
+abbrev pub again_in : Drive → State → Parts
+again_in d state = cut_from d.specs d.job state
+
+-- The cut that a run of a job begins with: the job's own at its start, else that after the place
+-- that it resumes from.
+abbrev pub IsFirstCut : Job → List Rule → List Spec → Option ℕ → Parts → Type 0
+IsFirstCut job rules specs None cut = cut ≡ parts_of job.shape job.cut
+IsFirstCut job rules specs (Some c) cut =
+    (state : State) × (so_far : Lengths) × Reaches (setup_of job) rules c state so_far
+    × (cut ≡ cut_from specs job state)
 
 -- the disk and the wire tell what they hold
 abbrev pub AreTold : Drive → Type 0
@@ -104,20 +121,31 @@ ResumesFrom Auto files n = NewestIs files n
 ResumesFrom Autoprobe files n = NewestIs files n
 
 -- the points that were computed, the values that were exchanged and their sum are those of these
--- entries, and no message between the parts is left
-pub record HasWorkedOn (d : Drive) (es : List Entry) : Type 0 where
-  pub points : d.meter.new ≡ raised d.meter.old (work (setup_of d.job) (cut_in d) es)
+-- entries, the first of them by this cut, and no message between the parts is left
+pub record HasWorkedOn (d : Drive) (cut : Parts) (es : List Entry) : Type 0 where
+  pub points : d.meter.new ≡ raised d.meter.old (work_in (setup_of d.job) (again_in d) cut es)
   pub values : d.wire.new.received
-      ≡ counted d.wire.old.received (carried_count (setup_of d.job) (cut_in d) es)
+      ≡ counted d.wire.old.received (carried_in (setup_of d.job) (again_in d) cut es)
   pub sum : d.wire.new.sum
-      ≡ (d.wire.old.sum + total_sum (setup_of d.job) (cut_in d) es) % 2 ^ 64
+      ≡ (d.wire.old.sum + sum_in (setup_of d.job) (again_in d) cut es) % 2 ^ 64
   pub none_left : (a b : ℕ) → d.wire.new.queue a b ≡ []
 
 -- they are those of what the undivided run does after the iteration that this run resumes from
 pub record HasWorked (d : Drive) : Type 0 where
   pub start : Option ℕ
   pub start_is : ResumesFrom d.job.recover d.disk.old.seen start
-  pub done : HasWorkedOn d (entries_from (setup_of d.job) d.rules start)
+  pub cut : Parts
+  pub cut_is : IsFirstCut d.job d.rules d.specs start cut
+  pub done : HasWorkedOn d cut (entries_from (setup_of d.job) d.rules start)
+
+-- The same of a job that isn't balanced, whose run has one cut: by a law it is what HasWorked says.
+pub record HasWorkedByOne (d : Drive) (es : List Entry) : Type 0 where
+  pub points : d.meter.new ≡ raised d.meter.old (work (setup_of d.job) (cut_in d) es)
+  pub values : d.wire.new.received
+      ≡ counted d.wire.old.received (carried_count (setup_of d.job) (cut_in d) es)
+  pub sum : d.wire.new.sum
+      ≡ (d.wire.old.sum + total_sum (setup_of d.job) (cut_in d) es) % 2 ^ 64
+  pub none_left : (a b : ℕ) → d.wire.new.queue a b ≡ []
 
 -- each scalar has the number of the last state of a run that is done
 abbrev pub HasScalarsOf : Trace → Drive → Cores → Type 0
@@ -224,8 +252,9 @@ abbrev pub CountsNoMore : Drive → Type 0
 CountsNoMore d =
     (found : Option Checkpoint) → begun d.job d.disk.old.seen ≡ Ok found → (state : State)
     → (run_from (setup_of d.job) d.rules found).outcome ≡ Goes state
-    → CountsWithin (setup_of d.job) (cut_in d) (run_from (setup_of d.job) d.rules found).entries
-    (counts_old d) (counts_new d)
+    → CountsBelow (setup_of d.job) (again_in d)
+    (parts_of d.job.shape (first_cut d.specs d.job found))
+    (run_from (setup_of d.job) d.rules found).entries (counts_old d) (counts_new d)
 
 -- ---- all of it
 

@@ -4,7 +4,13 @@ pub mod Faults
 pub mod Numbers
 pub mod Going
 pub mod Laws
+pub mod Recuts
+pub mod Segments
+pub mod Sums
 pub mod Turning
 pub mod Advances
+pub mod Cores
+pub mod CoresWait
 pub mod UnderWay
+pub mod Waiting
 pub mod Within

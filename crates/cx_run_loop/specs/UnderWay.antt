@@ -1,22 +1,27 @@
 -- A run between its beginning and its end.
-use Rattle.std.specs.Prelude.{ℕ, ◌^◌, ◌≡◌, ◌<◌, Bool, IsTrue, List, [], Option, Ok}
+use Rattle.std.specs.Prelude.{ℕ, ◌^◌, ◌≡◌, ◌<◌, Bool, IsTrue, List, [], Option, Some, Ok}
 use Rattle.cx_plan.specs.declared.job.Job.{Job}
 use Rattle.cx_plan.specs.Setups.{setup_of}
+use Rattle.cx_cut.specs.Cuts.{part_count}
+use Rattle.cx_cut.specs.Faults.{parts_of}
 use Rattle.cx_outputs.specs.Names.{output_count}
+use Rattle.cx_rule.specs.Jobs.{FitJob}
 use Rattle.cx_rule.specs.Meter.{raised}
 use Rattle.cx_rule.specs.Routine.{Rule}
+use Rattle.cx_rule.specs.declared.spec.Spec.{Spec}
 use Rattle.cx_disk.specs.Disk.{View}
 use Rattle.cx_wire.specs.Messages.{Sent}
 use Rattle.cx_chk.specs.declared.checkpoint.Checkpoint.{Checkpoint}
 use Rattle.cx_keep.specs.Beginning.{HasLengths, IsStarted}
 use Rattle.cx_keep.specs.Keeping.{Keeper}
 use Rattle.cx_keep.specs.Tests.{begun}
-use Rattle.law_parts.specs.Beginnings.{IsBeginning}
+use Rattle.law_parts.specs.Beginnings.{IsBeginning, run_of}
 use Rattle.cx_core.specs.declared.answers.Outcome.TheVariants.{Going}
 use Rattle.cx_core.specs.Cores.{Cores}
-use Rattle.cx_core.specs.Starts.{AreEmpty, begins_in}
+use Rattle.cx_core.specs.Starts.{AreEmpty, IsReady, begins_in}
 use Rattle.cx_core.specs.Steps.{Begins, Counts}
 use Rattle.cx_run_loop.specs.Going.{Setting, Place, IsDriving, IsDriven, IsKept, RunLeaves, handed, kept_in, run_in}
+use Rattle.cx_run_loop.specs.Recuts.{next_cut}
 
 -- what contracts see of it: what its keeper has written, and its core
 pub record Runs : Type 0 where
@@ -63,6 +68,27 @@ pub record HasBegun (job : Job) (tells : Type 0) (found : Option Checkpoint) (r 
       → HasBegunAt (begun_setting job tells told rules) found r.keeper
       (begun_place told r.core queue first new)
 
+-- ---- as it is cut anew
+
+-- A run that goes on with another core, which begins in a checkpoint, in the cut that the run of a
+-- job with this own cut goes on with after it. So it can by any rules, over any wire without
+-- messages, whatever wire and meter have counted.
+pub record BeginsAnew (job : Job) (specs : List Spec) (own : Job) (c : Checkpoint) (k : Keeper)
+    (r : Runs) : Type 0 where
+  pub cut : job.cut ≡ next_cut specs own c
+  pub ready : IsReady job
+  pub routines : FitJob specs job
+  pub parts : part_count (parts_of job.shape job.cut) ≡ part_count (parts_of own.shape own.cut)
+  pub keeper : r.keeper ≡ k
+  pub going : r.core.outcome ≡ Going
+  pub key : r.core.buffers.state.key ≡ job.key
+  pub lengths : r.core.lengths ≡ c.lengths
+  pub can : IsBeginning (setup_of job) (begins_in (setup_of job) (Some c))
+  pub begins : (told : Bool) (rules : List Rule) (queue : ℕ → ℕ → List (Sent (IsTrue told)))
+      (first : Counts) → AreEmpty queue → (IsTrue told → first.sum < 2 ^ 64)
+      → Begins (IsTrue told) (run_of job rules (begins_in (setup_of job) (Some c))) first r.core
+      queue
+
 -- ---- on its way
 
 -- A run that began from what was found, where wire and meter had counted so much, on a disk that
@@ -90,4 +116,8 @@ points_of u = u.come.there.at.world.meter 0
 -- the same place, with so much more on the meter
 abbrev pub metered : {s : Setting} → ℕ → Place s → Place s
 metered points p =
-    record p { is = record p.is { now = record p.is.now { points = raised p.is.now.points points } } }
+    record p {
+      is = record p.is {
+        now = record p.is.now { points = raised p.is.now.points points };
+      };
+    }

@@ -4,9 +4,12 @@ ghost use Rattle.cx_plan.specs.Setups.{setup_of};
 ghost use Rattle.cx_rule.specs.Routine.{Rule};
 ghost use Rattle.law_parts.specs.Beginnings.{Beginning, IsBeginning};
 ghost use Rattle.cx_core.specs.Starts.{IsReady};
+ghost use Rattle.cx_run_loop.specs.CoresWait.{CoresWait};
 ghost use Rattle.cx_run_loop.specs.Laws.{DriveLaws};
+ghost use Rattle.cx_run_loop.specs.Sums.{SumsAdd};
 ghost use Rattle.cx_run_loop.specs.Within.{CountsStay};
 
+use cx_core::{core_stands, cores_gather};
 use cx_core_events::pace_tells;
 use cx_flat::{all_ways, flat_is_run, operation_needs_met};
 use cx_plan::Job;
@@ -17,7 +20,7 @@ use law_course::{
 use law_reached::works_in_order;
 
 /// What the laws say of the runs of a job. It does nothing that shows; its clause is the law.
-pub(crate) fn drive_laws(job: &Job)
+pub fn drive_laws(job: &Job)
     requires { IsReady job.now }
     ensures { (told : Bool) (rules : List Rule) → DriveLaws (IsTrue told) job.now rules }
 {
@@ -44,3 +47,23 @@ fn counts_stay(job: &Job)
     operation_needs_met(job);
     pace_tells(job);
 }
+
+/// A core whose parts wait for each other at each checkpoint. It does nothing that shows; its clause is the law.
+pub fn cores_wait(job: &Job)
+    requires { IsReady job.now }
+    ensures { (told : Bool) (rules : List Rule) (b : Beginning) → IsBeginning (setup_of job.now) b
+        → CoresWait (IsTrue told) job.now rules b }
+{
+    flat_is_run(job);
+    all_ways(job);
+    operation_needs_met(job);
+    pace_tells(job);
+    cores_gather(job);
+    core_stands(job);
+}
+
+/// What a run counts that is cut anew at its checkpoints, from one to the next; and that with one cut it counts what its entries
+/// always do. It does nothing that shows; its clause is the law.
+pub(crate) fn sums_add(job: &Job)
+    ensures { SumsAdd (setup_of job.now) }
+{}

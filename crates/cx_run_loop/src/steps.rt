@@ -1,5 +1,6 @@
 //! A run in steps: it begins, is moved on by so many events at a time, and is finished.
-ghost use Rattle.std.specs.Prelude.{◌≡◌, ◌<◌, ◌≤◌, ◌^◌, ◌↔◌, ℕ, Bool, IsTrue, List, length, map, IfErr, IfOk, IfSome, OnErr, OnOk, true};
+ghost use Rattle.std.specs.Prelude.{◌≡◌, ◌<◌, ◌≤◌, ◌^◌, ◌↔◌, ℕ, Bool, IsTrue, List, length, map, IfErr, IfOk, IfSome, None, OnErr, OnOk, Some, true};
+ghost use Rattle.cx_cut.specs.Faults.{cut_fault, parts_of};
 ghost use Rattle.cx_disk.specs.Disk.{IsNamed};
 ghost use Rattle.cx_disk.specs.Files.{count_with};
 ghost use Rattle.cx_disk.specs.Moments.{IsQuiet};
@@ -12,24 +13,29 @@ ghost use Rattle.law_parts.specs.Beginnings.{IsBeginning, run_of};
 ghost use Rattle.cx_keep.specs.Beginning.{HasLengths, StartMoments};
 ghost use Rattle.cx_keep.specs.Fits.{fits_job};
 ghost use Rattle.cx_keep.specs.Trails.{OutputsSettled};
-ghost use Rattle.cx_core.specs.Starts.{AreEmpty, IsReady, begins_in, lengths_first};
-ghost use Rattle.cx_core.specs.Steps.{Begins, Counts};
+ghost use Rattle.cx_core.specs.Starts.{AreEmpty, CanBegin, IsReady, begins_in, lengths_first};
+ghost use Rattle.cx_core.specs.Steps.{Begins, Counts, counts};
 ghost use Rattle.cx_core.specs.declared.answers.Outcome.TheVariants as outcomes;
 ghost use Rattle.cx_run_loop.specs.Advances.{Advances, CanAdvance, Keeps, run_state};
 ghost use Rattle.cx_run_loop.specs.Faults.{Stops, StopsStart};
+ghost use Rattle.cx_run_loop.specs.Going.{place_at, setting};
 ghost use Rattle.cx_run_loop.specs.Lent.{wired};
+ghost use Rattle.cx_run_loop.specs.Recuts.{with_cut};
 ghost use Rattle.cx_run_loop.specs.Turning.{TurnsStop, turning};
-ghost use Rattle.cx_run_loop.specs.UnderWay.{HasBegun};
+ghost use Rattle.cx_run_loop.specs.UnderWay.{BeginsAnew, HasBegun};
+ghost use Rattle.cx_run_loop.specs.Waiting.{HoldsCheckpoint, StaysBelow, WaitsOn};
+ghost use Rattle.cx_run_loop.specs.declared.turn.Advance.TheVariants as advances;
 
 use crate::fault::DriveFault;
 use crate::laws::drive_laws;
+use crate::recutting::recut;
 use crate::turn::Advance;
 use crate::turns::take_turns;
 use cx_chk::Checkpoint;
 use cx_core::{Core, Outcome};
 use cx_disk::Disk;
 use cx_keep::Keep;
-use cx_plan::Job;
+use cx_plan::{Cuts, Job};
 use cx_rule::{Meter, Routine};
 use cx_turns::Turns;
 use cx_wire::Wire;
@@ -70,6 +76,9 @@ impl Run {
         requires ready { IsReady job.now }
         ensures begins { IfOk result
             (λ r. HasBegun job.now D.tells r.1 r.0 (D.view disk.old) (D.view disk.new)) }
+        ensures can { IfOk result (λ r. CanBegin (setup_of job.now) r.1) }
+        ensures lengths { IfOk result
+            (λ r. r.0.core.lengths ≡ lengths_first (setup_of job.now) r.1) }
         ensures stops { IfErr result (StopsStart job.now D.tells (D.view disk.old) (D.view disk.new)
             (record { old = D.faults disk.old; new = D.faults disk.new })) }
         ensures moments { D.tells →
@@ -125,6 +134,16 @@ impl Run {
             (Advances D.Disk W.Wire T.Turns job.now (map rule routines.now) most
             (run_state self.old disk.old wire.old meter.old)
             (run_state self.new disk.new wire.new meter.new) turns.old turns.new) }
+        ensures waits { job.now.balance ≡ true → IfOk result
+            (WaitsOn (setting D.Disk W.Wire job.now (map rule routines.now))
+            (place_at D.Disk W.Wire self.old.core disk.old wire.old meter.old)
+            (place_at D.Disk W.Wire self.new.core disk.new wire.new meter.new)) }
+        ensures below { job.now.balance ≡ true → StaysBelow
+            (setting D.Disk W.Wire job.now (map rule routines.now))
+            (place_at D.Disk W.Wire self.old.core disk.old wire.old meter.old)
+            (counts meter.new (W.received wire.new) (W.sum wire.new)) }
+        ensures holds { IfOk result (λ came. came ≡ advances.Saved
+            → HoldsCheckpoint (setup_of job.now) self.new.core) }
         ensures keeps { Keeps D.Disk W.Wire job.now (map rule routines.now)
             (run_state self.old disk.old wire.old meter.old) disk.new wire.new meter.new }
         ensures picked { OnErr result (TurnsStop T.Turns (IsTrue W.tells)
@@ -147,6 +166,76 @@ impl Run {
             turns,
             meter,
         )
+    }
+
+    /// Goes on with another core, from the checkpoint that was saved last, in a cut by the weights of its points, which the job gets.
+    /// `own` is the cut that the job was made with. It counts where the job isn't balanced, or where a part would have more points than
+    /// some routine sweeps. The keeper stays. The former core's numbers are given up before the next core takes memory for its own.
+    ///
+    /// # Errors
+    ///
+    /// `Memory`: there was no memory left.
+    pub fn cut_anew(
+        self,
+        alloc: Global,
+        job: &mut Job,
+        own: &Cuts,
+        routines: &[Box<dyn Routine>],
+    ) -> Result<Run, DriveFault>
+        requires ready { IsReady (with_cut job.old own.now) }
+        requires routines { FitJob (map spec_of routines.now) (with_cut job.old own.now) }
+        requires cut { cut_fault (parts_of job.old.shape own.now) ≡ None }
+        requires state { CanBegin (setup_of job.old) (Some self.core.buffers.state) }
+        ensures job { job.new ≡ with_cut job.old job.new.cut }
+        ensures begins { IfOk result (BeginsAnew job.new (map spec_of routines.now)
+            (with_cut job.old own.now) self.core.buffers.state self.keeper) }
+        ensures stops { (m n : ℕ) → Stops
+            (record { old = m; new = m }) (record { old = n; new = n }) result }
+    {
+        let Run { keep, core } = self;
+        let found = core.into_state();
+        begin_at(alloc, job, own, routines, keep, found)
+    }
+
+    /// Goes on with another core, from this checkpoint, as `cut_anew` does from the one that was saved last.
+    ///
+    /// # Errors
+    ///
+    /// `Memory`: there was no memory left.
+    pub fn cut_at(
+        self,
+        alloc: Global,
+        job: &mut Job,
+        own: &Cuts,
+        routines: &[Box<dyn Routine>],
+        found: Checkpoint,
+    ) -> Result<Run, DriveFault>
+        requires ready { IsReady (with_cut job.old own.now) }
+        requires routines { FitJob (map spec_of routines.now) (with_cut job.old own.now) }
+        requires cut { cut_fault (parts_of job.old.shape own.now) ≡ None }
+        requires state { CanBegin (setup_of job.old) (Some found) }
+        ensures job { job.new ≡ with_cut job.old job.new.cut }
+        ensures begins { IfOk result (BeginsAnew job.new (map spec_of routines.now)
+            (with_cut job.old own.now) found self.keeper) }
+        ensures stops { (m n : ℕ) → Stops
+            (record { old = m; new = m }) (record { old = n; new = n }) result }
+    {
+        let keep = self.into_keep();
+        begin_at(alloc, job, own, routines, keep, found)
+    }
+
+    /// The keeper; the core is given up.
+    fn into_keep(self) -> Keep
+        ensures { result ≡ self.keeper }
+    {
+        self.keep
+    }
+
+    /// The checkpoint that was saved last.
+    pub fn saved(&self) -> &Checkpoint
+        ensures { result.now ≡ self.now.core.buffers.state }
+    {
+        self.core.state()
     }
 
     /// Finishes a run that is over: the outputs are synced, and its core tells how it has ended, and the scalars of its last state.
@@ -184,6 +273,7 @@ fn start(alloc: Global, job: &Job, found: &Option<Checkpoint>) -> Result<Core, D
         → IfOk result (λ core. Begins (IsTrue told)
         (run_of job.now rules (begins_in (setup_of job.now) found.now)) first core queue) }
     ensures can { IsBeginning (setup_of job.now) (begins_in (setup_of job.now) found.now) }
+    ensures state { CanBegin (setup_of job.now) found.now }
     ensures key { IfOk result (λ core. core.buffers.state.key ≡ job.now.key) }
     ensures lengths { IfOk result
         (λ core. core.lengths ≡ lengths_first (setup_of job.now) found.now) }
@@ -193,4 +283,28 @@ fn start(alloc: Global, job: &Job, found: &Option<Checkpoint>) -> Result<Core, D
 {
     drive_laws(job);
     Ok(Core::start(alloc, job, found.as_ref())?)
+}
+
+/// A keeper, and a core that begins in a checkpoint, in the cut after it.
+fn begin_at(
+    alloc: Global,
+    job: &mut Job,
+    own: &Cuts,
+    routines: &[Box<dyn Routine>],
+    keep: Keep,
+    found: Checkpoint,
+) -> Result<Run, DriveFault>
+    requires ready { IsReady (with_cut job.old own.now) }
+    requires routines { FitJob (map spec_of routines.now) (with_cut job.old own.now) }
+    requires cut { cut_fault (parts_of job.old.shape own.now) ≡ None }
+    requires state { CanBegin (setup_of job.old) (Some found) }
+    ensures job { job.new ≡ with_cut job.old job.new.cut }
+    ensures begins { IfOk result (BeginsAnew job.new (map spec_of routines.now)
+        (with_cut job.old own.now) found keep) }
+    ensures stops { (m n : ℕ) → Stops
+        (record { old = m; new = m }) (record { old = n; new = n }) result }
+{
+    recut(alloc, job, own, routines, &found)?;
+    let core = Core::start(alloc, job, Some(&found))?;
+    Ok(Run { keep, core })
 }

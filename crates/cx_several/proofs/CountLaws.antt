@@ -3,14 +3,15 @@ use Rattle.std.proofs.Common.{◌≡◌, ◌≢◌, ◌⊎◌, ◌∙◌, ℕ, �
 use Rattle.std.proofs.lemmas.Bool.Decides.{eqb_tells, leb_tells}
 use Rattle.std.proofs.lemmas.List.Sums.{sum_by-cons}
 use Rattle.std.specs.List.{list_all}
-use Rattle.std.specs.Prelude.{nat_eq, nat_le, if◌then◌else◌}
-use Rattle.cx_cut.specs.Faults.{parts_of}
+use Rattle.std.specs.Prelude.{nat_eq, nat_le, if◌then◌else◌, Option}
+use Rattle.cx_cut.specs.Cuts.{Parts}
 use Rattle.cx_plan.specs.Setups.{setup_of}
 use Rattle.cx_plan.specs.declared.job.Job.{Job}
 use Rattle.cx_rule.specs.Meter.{raised}
 use Rattle.law_course.specs.Beginnings.{entries_from}
-use Rattle.law_parts.specs.Work.{work}
 use Rattle.cx_run_loop.specs.Drives.{HasWorked}
+use Rattle.cx_run_loop.specs.Recuts.{cut_from}
+use Rattle.cx_run_loop.specs.Sums.{work_in}
 use Rattle.cx_run.specs.Calls.{IsRun, driven}
 use Rattle.cx_run.specs.Words.{is_file, request}
 use Rattle.cx_run.specs.declared.words.Command.TheVariants.{Run}
@@ -76,6 +77,11 @@ sum_cons : (n : ℕ) (ns : List ℕ) → sum (n ∷ ns) ≡ n + sum ns
 sum_cons n ns = sum_by-cons (λ x. x) n ns
 
 module _ {D W : Type 0} (c : Batch D W) (told : AreTold c) where
+  -- what a job computes from where it resumes, the first of it by this cut
+  abbrev points_from : Job → Parts → Option ℕ → ℕ
+  points_from job cut start = work_in (setup_of job) (cut_from c.specs job) cut
+      (entries_from (setup_of job) c.rules start)
+
   -- what was left of a job that is done
   record IsSpent (job : Job) (a : D) (spent : ℕ) : Type 0 where
     pub points : ℕ
@@ -87,16 +93,19 @@ module _ {D W : Type 0} (c : Batch D W) (told : AreTold c) where
       → HasRunAlone c file p s → AllMade c.specs c.shelf.old (file ∷ []) (job ∷ [])
       → GoesOn c job p.disk → s.status ≡ 0 → IsSpent job p.disk s.spent
   is_spent file p job s is_name x made goes done = record {
-    points = work (setup_of job) (parts_of job.shape job.cut)
-        (entries_from (setup_of job) c.rules worked.start);
-    left = record { start = worked.start; start_is = worked.start_is; points_are = refl };
+    points = points_from job worked.cut worked.start;
+    left = record {
+      start = worked.start;
+      start_is = worked.start_is;
+      cut = worked.cut;
+      cut_is = worked.cut_is;
+      points_are = refl;
+    };
     no_more = no_more_of (2 ^ 128 - 1) x.meter.old x.meter.new s.spent
-        (work (setup_of job) (parts_of job.shape job.cut)
-        (entries_from (setup_of job) c.rules worked.start)) x.spent worked.done.points;
+        (points_from job worked.cut worked.start) x.spent worked.done.points;
     spent_are = λ below. spent_of (2 ^ 128 - 1) x.meter.old x.meter.new s.spent
-        (work (setup_of job) (parts_of job.shape job.cut)
-        (entries_from (setup_of job) c.rules worked.start))
-        x.spent worked.done.points (below_too x.meter.new c.meter.new (2 ^ 128 - 1) x.within below);
+        (points_from job worked.cut worked.start) x.spent worked.done.points
+        (below_too x.meter.new c.meter.new (2 ^ 128 - 1) x.within below);
   }
     where
       is_run : IsRun (alone c file p x.meter) job

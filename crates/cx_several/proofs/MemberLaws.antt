@@ -143,7 +143,7 @@ module _ {D W : Type 0} (c : Batch D W) (begun : c.begun ≡ Some 0) (kept : IsS
   over_alone : (file : List ℕ) (p : Place D W) (job : Job) (spent : ℕ)
       (came : Result Cores DriveFault) (x : Answer) → is_file file ≡ true
       → MakesOn c.shelf file c.specs (Ok job) → IsServable c.specs job
-      → IsOver c.disk c.wire c.rules job
+      → IsOver c.disk c.wire c.rules c.specs job
       (lot p.disk p.disk_after p.wire p.wire_after c.meter.new spent) came
       → AnswersRun commands.Run job came x → HasRunAlone c file p (share x spent)
   over_alone file p job spent came x is_name makes servable over answers = record {
@@ -175,12 +175,12 @@ module _ {D W : Type 0} (c : Batch D W) (begun : c.begun ≡ Some 0) (kept : IsS
 
   member_alone : (file : List ℕ) (p : Place D W) (m : Member) (x : Answer) → is_file file ≡ true
       → MakesOn c.shelf file c.specs (Ok m.job) → IsServable c.specs m.job
-      → HasRun c.disk c.wire c.rules m.job
+      → HasRun c.disk c.wire c.rules c.specs m.job
       (lot p.disk p.disk_after p.wire p.wire_after c.meter.new m.spent) m.stage
       → AnswersStage m.job m.stage x → HasRunAlone c file p (share x m.spent)
   member_alone file p m x is_name makes servable ran answers = by m.stage ran answers
     where
-      by : (stage : Stage) → HasRun c.disk c.wire c.rules m.job
+      by : (stage : Stage) → HasRun c.disk c.wire c.rules c.specs m.job
           (lot p.disk p.disk_after p.wire p.wire_after c.meter.new m.spent) stage
           → AnswersStage m.job stage x → HasRunAlone c file p (share x m.spent)
       by (Going run) r ans = absurd r
@@ -191,7 +191,7 @@ module _ {D W : Type 0} (c : Batch D W) (begun : c.begun ≡ Some 0) (kept : IsS
   all_alone : (files : List (List ℕ)) (jobs : List Job) (ms : List Member) (xs : List Answer)
       (was is : List D) (vs us : List W) → list_all is_file files ≡ true
       → AreMade c.shelf c.specs files jobs → AreServable c.specs jobs → jobs_of ms ≡ jobs
-      → HaveRun c.disk c.wire c.rules ms was is vs us c.meter.new → AnswersAll ms xs
+      → HaveRun c.disk c.wire c.rules c.specs ms was is vs us c.meter.new → AnswersAll ms xs
       → HaveRunAlone c files (shares ms xs) was is vs us
   all_alone [] [] [] xs was is vs us names made servable e ran answers = ran
   all_alone [] [] (m ∷ ms) xs was is vs us names made servable e ran answers = absurd cc
@@ -225,7 +225,8 @@ module _ {D W : Type 0} (c : Batch D W) (begun : c.begun ≡ Some 0) (kept : IsS
   turned_with : (files : List (List ℕ)) (jobs : List Job) (ms : List Member) (xs : List Answer)
       (reply : Result Reply Memory) → list_all is_file files ≡ true
       → AreJobs c.shelf c.specs files jobs → jobs_of ms ≡ jobs
-      → HaveRun c.disk c.wire c.rules ms c.disks.old c.disks.new c.wires.old c.wires.new c.meter.new
+      → HaveRun c.disk c.wire c.rules c.specs ms c.disks.old c.disks.new c.wires.old c.wires.new
+      c.meter.new
       → c.meter.new ≡ c.meter.old + spent_by ms → AnswersAll ms xs
       → IfOk reply (λ r. (r.text ≡ lines files (answer_texts xs))
       × (r.status ≡ status_in (answer_statuses xs)))
@@ -255,7 +256,7 @@ module _ {D W : Type 0} (c : Batch D W) (begun : c.begun ≡ Some 0) (kept : IsS
   pub turned : (files : List (List ℕ)) (jobs : List Job) (first : List Member)
       (reply : Result Reply Memory) → list_all is_file files ≡ true
       → AreJobs c.shelf c.specs files jobs → jobs_of first ≡ jobs
-      → HaveEnded c.disk c.wire c.rules files first c.disks c.wires c.meter reply
+      → HaveEnded c.disk c.wire c.rules c.specs files first c.disks c.wires c.meter reply
       → HaveTurned c files reply
   turned files jobs first (Ok r) names are e ended =
       turned_with files jobs ended.members ended.reply_is.answers (Ok r) names are

@@ -21,6 +21,7 @@ all_served specs (m ∷ ms) x =
         ready = ready specs m.job s.ready s.interior;
         short = s.ready.names;
         fit = s.ready.fit;
+        cut = s.ready.cut;
       },
       all_served specs ms x.1,
     )

@@ -60,9 +60,9 @@ place disk disk_after wire wire_after =
 abbrev pub alone : {D W : Type 0} → Batch D W → List ℕ → Place D W → Count → Call
 alone c file p meter = record {
   words = codes "run" ∷ file ∷ [];
-  specs = c.specs;
   shelf = c.shelf;
-  work = work_on c.rules c.disk c.wire p.disk p.disk_after p.wire p.wire_after meter.old meter.new;
+  work = work_on c.rules c.specs c.disk c.wire p.disk p.disk_after p.wire p.wire_after
+      meter.old meter.new;
   begun = c.begun;
 }
 

@@ -7,13 +7,15 @@ use Rattle.cx_text.specs.declared.memory.Memory.{Memory}
 use Rattle.cx_disk.specs.declared.disk.Disk.{Ghosts as DiskGhosts}
 use Rattle.cx_wire.specs.declared.wire.Wire.{Ghosts as WireGhosts}
 use Rattle.cx_rule.specs.Routine.{Rule}
-use Rattle.cx_cut.specs.Faults.{parts_of}
+use Rattle.cx_rule.specs.declared.spec.Spec.{Spec}
+use Rattle.cx_cut.specs.Cuts.{Parts}
 use Rattle.cx_keep.specs.Resuming.{AreTrails}
 use Rattle.law_course.specs.Beginnings.{entries_from}
 use Rattle.law_course.specs.Starts.{course_in}
-use Rattle.law_parts.specs.Work.{work}
 use Rattle.cx_run_loop.specs.Lent.{Count}
-use Rattle.cx_run_loop.specs.Drives.{ResumesFrom}
+use Rattle.cx_run_loop.specs.Drives.{IsFirstCut, ResumesFrom}
+use Rattle.cx_run_loop.specs.Recuts.{cut_from}
+use Rattle.cx_run_loop.specs.Sums.{work_in}
 use Rattle.cx_run_batch.specs.Members.{HaveRun, jobs_of, spent_by}
 use Rattle.cx_run_batch.specs.declared.member.Member.{Member}
 use Rattle.cx_run_batch.specs.declared.stage.Stage.{Stage}
@@ -81,12 +83,15 @@ abbrev pub GoesOn : {D W : Type 0} → Batch D W → Job → D → Type 0
 GoesOn c job disk =
     AreTrails (course_in job c.rules) (c.disk.view disk) ⊎ (job.recover ≡ No)
 
--- so many points are left to compute of a job, from where it resumes on a disk
+-- So many points are left to compute of a job, from where it resumes on a disk. Where it is
+-- balanced, what follows each checkpoint is counted by the cut after it.
 pub record IsLeft {D W : Type 0} (c : Batch D W) (job : Job) (disk : D) (points : ℕ) : Type 0 where
   pub start : Option ℕ
   pub start_is : ResumesFrom job.recover (c.disk.view disk).seen start
+  pub cut : Parts
+  pub cut_is : IsFirstCut job c.rules c.specs start cut
   pub points_are : points
-      ≡ work (setup_of job) (parts_of job.shape job.cut)
+      ≡ work_in (setup_of job) (cut_from c.specs job) cut
       (entries_from (setup_of job) c.rules start)
 
 abbrev pub AllGoOn : {D W : Type 0} → Batch D W → List Job → List D → Type 0
@@ -147,11 +152,11 @@ RepliesTo files ms reply = AddsLines files ms reply.text reply.status
 -- The runs of these members are over, each on the disk and the wire at its place. The meter has
 -- counted what all have spent, and the reply has a line of each.
 pub record HaveEnded {D W : Type 0} (d : DiskGhosts D) (w : WireGhosts W) (rules : List Rule)
-    (files : List (List ℕ)) (ms : List Member) (disks : Both D) (wires : Both W) (meter : Count)
-    (reply : Result Reply Memory) : Type 0 where
+    (specs : List Spec) (files : List (List ℕ)) (ms : List Member) (disks : Both D)
+    (wires : Both W) (meter : Count) (reply : Result Reply Memory) : Type 0 where
   pub members : List Member
   pub jobs : jobs_of members ≡ jobs_of ms
-  pub ran : HaveRun d w rules members disks.old disks.new wires.old wires.new meter.new
+  pub ran : HaveRun d w rules specs members disks.old disks.new wires.old wires.new meter.new
   pub counts : meter.new ≡ meter.old + spent_by members
   pub reply_is : IfOk reply (RepliesTo files members)
 

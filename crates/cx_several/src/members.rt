@@ -33,7 +33,8 @@ pub(crate) fn run_members<D: Disk, W: Wire, T: Turns>(
     requires wires { length members.items ≤ length wires.old }
     requires empty { AllByRecursion
         (λ wire. (512 ≤ W.parts wire) × AreEmpty (W.queue wire)) wires.old }
-    ensures ended { HaveEnded D.Disk W.Wire (map rule routines.now) files.now members.items
+    ensures ended { HaveEnded D.Disk W.Wire (map rule routines.now) (map spec_of routines.now)
+        files.now members.items
         (record { old = disks.old; new = disks.new }) (record { old = wires.old; new = wires.new })
         (record { old = meter.old; new = meter.new }) result }
     ensures begun { T.begun turns.new ≡ Some 0 }

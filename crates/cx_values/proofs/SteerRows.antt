@@ -118,7 +118,7 @@ row_steps : map {B = ℕ × ℕ × Value} (λ (s : SteerStep). (s.at, s.param, s
     (steps waves
     (factor 2 (codes "1") 1 ∷ factor 2 (codes "1") 2
     ∷ line 3 (codes "WAVEINT") (codes "Pattern") (codes "UNIFORM") 3 ∷ []))
-    ≡ (2, 34, values.Number (pos 1)) ∷ (2, 34, values.Number (pos 1))
-    ∷ (3, 36, values.Text (codes "uniform")) ∷ []
+    ≡ (2, 37, values.Number (pos 1)) ∷ (2, 37, values.Number (pos 1))
+    ∷ (3, 39, values.Text (codes "uniform")) ∷ []
 unfolding steps names
 row_steps = refl

@@ -251,8 +251,8 @@ fn active_thorns_have_one_place_each(rt: HostRuntime) -> Result<(), Fail> {
 /// Places of parameters, their names and their thorns; the built-in thorns come after the five of the test.
 const PARAMETERS: &[(usize, &str, u32)] = &[
     (0, "Cactus::cctk_itlast", 5),
-    (34, "ca::rule", 0),
-    (53, "E::own", 4),
+    (37, "ca::rule", 0),
+    (56, "E::own", 4),
 ];
 
 const EXTENSION: Files = (
@@ -284,8 +284,8 @@ fn has_parameter(parameters: &[Param], place: usize, full: &str, thorn: u32) -> 
 
 /// Tests how many parameters there are, and how many ranges `ca::rule` has.
 fn has_ranges(parameters: &[Param]) -> Result<(), Fail> {
-    same(&"how many parameters", &parameters.len(), &54)?;
-    let ranges = parameters.get(34).map(|it| it.ranges.len());
+    same(&"how many parameters", &parameters.len(), &57)?;
+    let ranges = parameters.get(37).map(|it| it.ranges.len());
     same(&"ranges of ca::rule", &ranges, &Some(2))
 }
 

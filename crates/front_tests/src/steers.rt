@@ -109,10 +109,10 @@ const LINES: &str =
 
 /// The steps of these lines. Of two for one iteration both stand, and a keyword is spelled as it is declared.
 const STEPS: &[Step] = &[
-    (1, 34, None, "7"),
-    (1, 34, None, "7"),
-    (2, 38, Some(1), "3"),
-    (4, 37, None, "uniform"),
+    (1, 37, None, "7"),
+    (1, 37, None, "7"),
+    (2, 41, Some(1), "3"),
+    (4, 40, None, "uniform"),
 ];
 
 /// Tests a row of `FAULTS`.

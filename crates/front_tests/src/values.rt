@@ -73,6 +73,10 @@ const FAULTS: &[(&str, &str, u32)] = &[
     ("kinds::all = 1\nNames::all = 1\n", "Twice", 2),
     ("wave::pattern = comb\n", "OutOfRange", 1),
     ("driver::lead = 65\n", "OutOfRange", 1),
+    ("driver::balance = 2\n", "BadSpelling", 1),
+    ("driver::weight_factor = 1048576\n", "", 0),
+    ("PUGH::weight_factor = 1048577\n", "OutOfRange", 1),
+    ("driver::weight_factor = -1\n", "OutOfRange", 1),
     ("driver::widths_x = \"4 16777217\"\n", "BadSpelling", 1),
     ("IO::recover_dir = a\nIO::checkpoint_dir = a\n", "", 0),
     (
@@ -285,6 +289,9 @@ const DEFAULTS: &[(&str, &str)] = &[
     ("IO::recover", "no"),
     ("IO::checkpoint_ID", "no"),
     ("IO::steer_file", ""),
+    ("driver::balance", "no"),
+    ("driver::weight", ""),
+    ("driver::weight_factor", "1"),
 ];
 
 /// The value of a parameter in words.

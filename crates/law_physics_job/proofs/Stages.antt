@@ -27,7 +27,7 @@ use Rattle.cx_job.specs.declared.fault.JobFault.TheVariants as faults
 use Rattle.cx_job.specs.Faults.{config_fault}
 use Rattle.cx_job.specs.Jobs.{job_of, steered_job}
 use Rattle.cx_job.specs.JobLimits.{limit_fault, run_count}
-use Rattle.cx_job.specs.Making.{Orders, Matches, Accepts, CutAnd, cut_limits, within_cut, within_limits, LimitsAnd, ItemsAnd, OutputsAnd, PlanAnd, StepsAnd, SteersAnd, ValuesAnd, MadeOf, output_ids, bound_thorns, assigned_values, steered_steps}
+use Rattle.cx_job.specs.Making.{Orders, Matches, Accepts, CutAnd, cut_limits, within_cut, within_limits, LimitsAnd, ItemsAnd, within_weight, WeightAnd, OutputsAnd, PlanAnd, StepsAnd, SteersAnd, ValuesAnd, MadeOf, output_ids, bound_thorns, assigned_values, steered_steps}
 use Rattle.law_physics_job.proofs.Thorn.{then_ok}
 
 -- a value without a fault
@@ -72,21 +72,23 @@ module _ (specs : List Spec) (files : Held) (job : Job) where
         let ordered = then_ok (Orders (input_of thorns schedules values))
         (OutputsAnd specs taken thorns values) job done in
         let written = then_ok (Is (output_ids thorns values ordered.0.storage))
-        (ItemsAnd specs taken thorns values ordered.0) job ordered.2 in
+        (WeightAnd specs taken thorns values ordered.0) job ordered.2 in
+        let weighed = then_ok (Is (within_weight thorns values ordered.0.storage written.0))
+        (ItemsAnd specs taken thorns values ordered.0) job written.2 in
         let matched = then_ok (Matches thorns values specs ordered.0)
         (λ items. LimitsAnd specs (run_count ordered.0.plan)
         (steered_job specs (parameters thorns) taken
-        (job_of thorns values ordered.0 items written.0))) job written.2 in
+        (job_of thorns values ordered.0 items weighed.0))) job weighed.2 in
         record {
           lines = lines;
           steers = steers;
           ordered = ordered.0;
           plan = ordered.1;
-          out_vars = written.0;
+          out_vars = weighed.0;
           items = matched.0;
           matches = matched.1;
           is = accepted (steered_job specs (parameters thorns) taken
-              (job_of thorns values ordered.0 matched.0 written.0)) matched.2;
+              (job_of thorns values ordered.0 matched.0 weighed.0)) matched.2;
         }
 
     steered : SteersAnd specs files schedules thorns values (Ok job)

@@ -60,104 +60,18 @@ module _ {X : Type 0} (same : X → X → Bool) where
 abbrev pub Fine : ℕ → Param → Type 0
 Fine n p = ((p.thorn ≡ n) × (is_global p.decl.scope ≡ false)) ⊎ (among starred p.full ≡ false)
 
+own_fine : (n : ℕ) (ps : List Param) → map (λ (p : Param). p.thorn) ps ≡ map (λ p. n) ps
+    → map (λ (p : Param). is_global p.decl.scope) ps ≡ map (λ p. false) ps → Each (Fine n) ps
+own_fine n [] owners plain = tt
+own_fine n (p ∷ ps) owners plain =
+    let owner : p.thorn ≡ n = cc in
+    let local : is_global p.decl.scope ≡ false = cc in
+    let others : map (λ (q : Param). q.thorn) ps ≡ map (λ q. n) ps = cc in
+    let rest : map (λ (q : Param). is_global q.decl.scope) ps ≡ map (λ q. false) ps = cc in
+    (inl (owner, local), own_fine n ps others rest)
+
 table_fine : (n : ℕ) → Each (Fine n) (table n)
-table_fine n = (
-  inl (refl, refl),
-  (
-    inl (refl, refl),
-    (
-      inl (refl, refl),
-      (
-        inl (refl, refl),
-        (
-          inl (refl, refl),
-          (
-            inl (refl, refl),
-            (
-              inl (refl, refl),
-              (
-                inl (refl, refl),
-                (
-                  inl (refl, refl),
-                  (
-                    inl (refl, refl),
-                    (
-                      inl (refl, refl),
-                      (
-                        inl (refl, refl),
-                        (
-                          inl (refl, refl),
-                          (
-                            inl (refl, refl),
-                            (
-                              inl (refl, refl),
-                              (
-                                inl (refl, refl),
-                                (
-                                  inl (refl, refl),
-                                  (
-                                    inl (refl, refl),
-                                    (
-                                      inl (refl, refl),
-                                      (
-                                        inl (refl, refl),
-                                        (
-                                          inl (refl, refl),
-                                          (
-                                            inl (refl, refl),
-                                            (
-                                              inl (refl, refl),
-                                              (
-                                                inl (refl, refl),
-                                                (
-                                                  inl (refl, refl),
-                                                  (
-                                                    inl (refl, refl),
-                                                    (
-                                                      inl (refl, refl),
-                                                      (
-                                                        inl (refl, refl),
-                                                        (
-                                                          inl (refl, refl),
-                                                          (
-                                                            inl (refl, refl),
-                                                            (
-                                                              inl (refl, refl),
-                                                              (
-                                                                inl (refl, refl),
-                                                                (inl (refl, refl), (inl (refl, refl), tt)),
-                                                              ),
-                                                            ),
-                                                          ),
-                                                        ),
-                                                      ),
-                                                    ),
-                                                  ),
-                                                ),
-                                              ),
-                                            ),
-                                          ),
-                                        ),
-                                      ),
-                                    ),
-                                  ),
-                                ),
-                              ),
-                            ),
-                          ),
-                        ),
-                      ),
-                    ),
-                  ),
-                ),
-              ),
-            ),
-          ),
-        ),
-      ),
-    ),
-  ),
-)
+table_fine n = own_fine n (table n) refl refl
 
 either : (full name : List ℕ) (b : Bool) → same_name full name ≡ false → b ≡ false
     → (same_name full name || b) ≡ false
@@ -165,7 +79,7 @@ either full name b e h = both_false (same_name full name) b e h
 
 module _ (n : ℕ) (p : Param) (none : list_any (clash (known_by p)) (map known_by (table n)) ≡ false)
   where
-    is_other : (j : ℕ) → j < 34
+    is_other : (j : ℕ) → j < 37
         → same_name p.full (get_or (map known_by (table n)) j (known_by p)).full ≡ false
     is_other j within =
         first_false (same_name p.full (get_or (map known_by (table n)) j (known_by p)).full) _
@@ -180,11 +94,14 @@ module _ (n : ℕ) (p : Param) (none : list_any (clash (known_by p)) (map known_
         (either p.full (codes "driver::widths_y") _ (is_other 19 (omega arith))
         (either p.full (codes "driver::widths_z") _ (is_other 20 (omega arith))
         (either p.full (codes "driver::lead") _ (is_other 21 (omega arith))
+        (either p.full (codes "driver::balance") _ (is_other 34 (omega arith))
+        (either p.full (codes "driver::weight") _ (is_other 35 (omega arith))
+        (either p.full (codes "driver::weight_factor") _ (is_other 36 (omega arith))
         (either p.full (codes "IO::out_dir") _ (is_other 23 (omega arith))
         (either p.full (codes "IO::checkpoint_dir") _ (is_other 29 (omega arith))
         (either p.full (codes "IO::recover_dir") _ (is_other 30 (omega arith))
         (either p.full (codes "IO::recover") _ (is_other 31 (omega arith))
-        (either p.full (codes "IO::steer_file") _ (is_other 33 (omega arith)) refl))))))))))))
+        (either p.full (codes "IO::steer_file") _ (is_other 33 (omega arith)) refl)))))))))))))))
 
 module _ (thorns : List Thorn) (none : bind_fault thorns ≡ None) where
   names_fit : names_fault (known thorns) (variable_infos thorns) thorns ≡ None

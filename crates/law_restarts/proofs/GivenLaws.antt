@@ -96,7 +96,7 @@ module _ (ps : List Param) (nm : Names) (n : ℕ) (plain : is_starred (slice_get
 
 not_folder : (full : List ℕ) → among starred full ≡ false
     → same_name full (codes "IO::recover_dir") ≡ false
-not_folder full none = none_of (same_name full) starred 9 [] none (omega arith)
+not_folder full none = none_of (same_name full) starred 12 [] none (omega arith)
 
 default_same : (a b text : List ℕ) (t : Bool) → t ≡ false
     → (if t then a else text) ≡ (if t then b else text)

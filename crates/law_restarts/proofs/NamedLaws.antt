@@ -29,7 +29,7 @@ use Rattle.cx_plan.specs.Names.{with_owner}
 -- ---- the table has all starred names
 
 module _ (n : ℕ) (full : List ℕ) (none : list_any (has_name full) (table n) ≡ false) where
-  is_other : (p : Param) (j : ℕ) → j < 34 → same_name full (get_or (table n) j p).full ≡ false
+  is_other : (p : Param) (j : ℕ) → j < 37 → same_name full (get_or (table n) j p).full ≡ false
   is_other p j within = name_same.turn full (get_or (table n) j p).full
       ∙ none_of (has_name full) (table n) j p none within
 
@@ -46,11 +46,14 @@ module _ (n : ℕ) (full : List ℕ) (none : list_any (has_name full) (table n) 
       (either (codes "driver::widths_y") _ (is_other p 19 (omega arith))
       (either (codes "driver::widths_z") _ (is_other p 20 (omega arith))
       (either (codes "driver::lead") _ (is_other p 21 (omega arith))
+      (either (codes "driver::balance") _ (is_other p 34 (omega arith))
+      (either (codes "driver::weight") _ (is_other p 35 (omega arith))
+      (either (codes "driver::weight_factor") _ (is_other p 36 (omega arith))
       (either (codes "IO::out_dir") _ (is_other p 23 (omega arith))
       (either (codes "IO::checkpoint_dir") _ (is_other p 29 (omega arith))
       (either (codes "IO::recover_dir") _ (is_other p 30 (omega arith))
       (either (codes "IO::recover") _ (is_other p 31 (omega arith))
-      (either (codes "IO::steer_file") _ (is_other p 33 (omega arith)) refl))))))))))))
+      (either (codes "IO::steer_file") _ (is_other p 33 (omega arith)) refl)))))))))))))))
 
 module _ (full : List ℕ) (star : among starred full ≡ true) (thorns : List Thorn) where
   abbrev ps : List Param

@@ -11,6 +11,9 @@ line owner name value number =
 abbrev lead : ℕ → Setting
 lead n = line (codes "driver") (codes "lead") (codes "3") n
 
+abbrev weight : ℕ → Setting
+weight n = line (codes "driver") (codes "weight") (codes "diff::u") n
+
 abbrev parts : ℕ → Setting
 parts n = line (codes "PUGH") (codes "Parts_X") (codes "4") n
 
@@ -20,6 +23,10 @@ every n = line (codes "IO") (codes "out_every") (codes "2") n
 a-lead : sets_starred [] (lead 1) ≡ true
 unfolding names
 a-lead = refl
+
+a-weight : sets_starred [] (weight 1) ≡ true
+unfolding names
+a-weight = refl
 
 by-thorn : sets_starred [] (parts 1) ≡ true
 unfolding names
@@ -35,6 +42,7 @@ an-output : sets_starred [] (every 1) ≡ false
 unfolding names
 an-output = refl
 
-left : other_settings [] (lead 1 ∷ every 2 ∷ parts 3 ∷ []) ≡ other_settings [] (every 7 ∷ [])
+left : other_settings [] (lead 1 ∷ every 2 ∷ parts 3 ∷ weight 4 ∷ [])
+    ≡ other_settings [] (every 7 ∷ [])
 unfolding names
 left = refl

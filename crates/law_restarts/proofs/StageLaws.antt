@@ -34,7 +34,7 @@ use Rattle.cx_job.specs.Outputs.{output_variables}
 use Rattle.cx_job.proofs.WrittenLaws.{outputs_rise}
 use Rattle.cx_job.specs.Jobs.{job_of, steered_job}
 use Rattle.cx_job.specs.JobLimits.{limit_fault, run_count}
-use Rattle.cx_job.specs.Making.{Orders, Matches, Accepts, CutAnd, cut_limits, within_cut, within_limits, LimitsAnd, ItemsAnd, OutputsAnd, PlanAnd, StepsAnd, SteersAnd, ValuesAnd, MadeOf, output_ids, bound_thorns, assigned_values, steered_steps}
+use Rattle.cx_job.specs.Making.{Orders, Matches, Accepts, CutAnd, cut_limits, within_cut, within_limits, LimitsAnd, ItemsAnd, weight_limit, within_weight, WeightAnd, OutputsAnd, PlanAnd, StepsAnd, SteersAnd, ValuesAnd, MadeOf, output_ids, bound_thorns, assigned_values, steered_steps}
 use Rattle.cx_run.specs.Calls.{Call, IsRun, shelf_for}
 use Rattle.law_course.proofs.OutputLaws.{Rise, rise_from}
 use Rattle.law_restarts.proofs.ListLaws.{none_told}
@@ -95,23 +95,27 @@ module _ (specs : List Spec) (files : Held) (job : Job) where
         let ordered = then_ok (Orders (input_of thorns schedules values))
         (OutputsAnd specs taken thorns values) job done in
         let written = then_ok (Is (output_ids thorns values ordered.0.storage))
-        (ItemsAnd specs taken thorns values ordered.0) job ordered.2 in
+        (WeightAnd specs taken thorns values ordered.0) job ordered.2 in
+        let weighed = then_ok (Is (within_weight thorns values ordered.0.storage written.0))
+        (ItemsAnd specs taken thorns values ordered.0) job written.2 in
+        let named = unless_ok (weight_limit thorns values ordered.0.storage) written.0 weighed.0
+        weighed.1 in
         let matched = then_ok (Matches thorns values specs ordered.0)
         (λ items. LimitsAnd specs (run_count ordered.0.plan)
         (steered_job specs (parameters thorns) taken
-        (job_of thorns values ordered.0 items written.0))) job written.2 in
+        (job_of thorns values ordered.0 items weighed.0))) job weighed.2 in
         record {
           fit = fit;
           lines = lines;
           says = says;
           ordered = ordered.0;
           plan = ordered.1;
-          out_vars = written.0;
-          outputs = written.1;
+          out_vars = weighed.0;
+          outputs = ap jobs_ok named.1 ∙ written.1;
           items = matched.0;
           matches = matched.1;
           is = accepted (steered_job specs (parameters thorns) taken
-              (job_of thorns values ordered.0 matched.0 written.0)) matched.2;
+              (job_of thorns values ordered.0 matched.0 weighed.0)) matched.2;
         }
 
     steered : SteersAnd specs files schedules thorns values (Ok job)
@@ -172,6 +176,6 @@ pub made_rises : (job : Job) (c : Call) → IsRun c job → Rise job.out_vars
 made_rises job c run =
     let files = (shelf_for c.shelf run.request.command).old in
     let made = then_ok (Raised config_fault (Configures run.request.file files))
-    (MadeOf c.specs files) job run.makes in
-    pieces_rise c.specs files made.0.thorns made.0.schedules made.0.settings.list job
-    (pieces_of c.specs files job made.0 made.2)
+    (MadeOf c.work.specs files) job run.makes in
+    pieces_rise c.work.specs files made.0.thorns made.0.schedules made.0.settings.list job
+    (pieces_of c.work.specs files job made.0 made.2)

@@ -107,10 +107,10 @@ abbrev pub call_over : Routines → List (List ℕ) → Stage → Stage → Lent
     → Call
 call_over routines words before after disk folders wire = record {
   words = words;
-  specs = routines.specs;
   shelf = memory_shelf before.files after.files;
   work = record {
     rules = routines.rules;
+    specs = routines.specs;
     disk = disk;
     folders = folders;
     wire = wire;

@@ -105,6 +105,9 @@ const STARRED_AND_CUT: &[u8] = b"parameter driver::parts_x = \"1\"\n\
         parameter IO::recover_dir = \".\"\n\
         parameter IO::recover = \"no\" 0\n\
         parameter IO::steer_file = \"\"\n\
+        parameter driver::balance = \"no\"\n\
+        parameter driver::weight = \"\"\n\
+        parameter driver::weight_factor = \"1\"\n\
         cut x 8\n";
 
 /// Words, the status that they give and the text that is printed.

@@ -461,6 +461,146 @@ pub const FAULTS: &[Fault] = &[
         printed: "refused: output NotFound t::none\n",
     },
     Fault {
+        files: &[
+            File {
+                name: "arrangements/A/T/interface.ccl",
+                bytes: b"implements: t\n\
+                public:\n\
+                INT g TYPE=GF DIM=1 TIMELEVELS=2 { v }\n\
+                INT s TYPE=SCALAR\n",
+            },
+            File {
+                name: "arrangements/A/T/schedule.ccl",
+                bytes: b"STORAGE: g[1]\n",
+            },
+            File {
+                name: "t.par",
+                bytes: b"ActiveThorns = \"T U\"\ndriver::weight = \"T::V\"\n",
+            },
+        ],
+        printed: "accepted\n",
+    },
+    Fault {
+        files: &[
+            File {
+                name: "arrangements/A/T/interface.ccl",
+                bytes: b"implements: t\n\
+                public:\n\
+                INT g TYPE=GF DIM=1 TIMELEVELS=2 { v }\n\
+                INT s TYPE=SCALAR\n",
+            },
+            File {
+                name: "arrangements/A/T/schedule.ccl",
+                bytes: b"STORAGE: g\n",
+            },
+            File {
+                name: "t.par",
+                bytes: b"ActiveThorns = \"T U\"\ndriver::weight = \" t::v\"\n",
+            },
+        ],
+        printed: "refused: weight NotFound  t::v\n",
+    },
+    Fault {
+        files: &[
+            File {
+                name: "arrangements/A/T/interface.ccl",
+                bytes: b"implements: t\n\
+                public:\n\
+                INT g TYPE=GF DIM=1 TIMELEVELS=2 { v }\n\
+                INT s TYPE=SCALAR\n",
+            },
+            File {
+                name: "arrangements/A/T/schedule.ccl",
+                bytes: b"STORAGE: g\n",
+            },
+            File {
+                name: "t.par",
+                bytes: b"ActiveThorns = \"T U\"\ndriver::weight = \"t::g\"\n",
+            },
+        ],
+        printed: "refused: weight NotFound t::g\n",
+    },
+    Fault {
+        files: &[
+            File {
+                name: "arrangements/A/T/interface.ccl",
+                bytes: b"implements: t\n\
+                public:\n\
+                INT g TYPE=GF DIM=1 TIMELEVELS=2 { v }\n\
+                INT s TYPE=SCALAR\n",
+            },
+            File {
+                name: "arrangements/A/T/schedule.ccl",
+                bytes: b"STORAGE: g\n",
+            },
+            File {
+                name: "t.par",
+                bytes: b"ActiveThorns = \"T U\"\ndriver::weight = \"t::v_p\"\n",
+            },
+        ],
+        printed: "refused: weight NotFound t::v_p\n",
+    },
+    Fault {
+        files: &[
+            File {
+                name: "arrangements/A/T/interface.ccl",
+                bytes: b"implements: t\n\
+                public:\n\
+                INT g TYPE=GF DIM=1 TIMELEVELS=2 { v }\n\
+                INT s TYPE=SCALAR\n",
+            },
+            File {
+                name: "arrangements/A/T/schedule.ccl",
+                bytes: b"STORAGE: s\n",
+            },
+            File {
+                name: "t.par",
+                bytes: b"ActiveThorns = \"T U\"\ndriver::weight = \"t::s\"\n",
+            },
+        ],
+        printed: "refused: weight NotGrid t::s\n",
+    },
+    Fault {
+        files: &[
+            File {
+                name: "arrangements/A/T/interface.ccl",
+                bytes: b"implements: t\n\
+                public:\n\
+                INT g TYPE=GF DIM=1 TIMELEVELS=2 { v }\n\
+                INT s TYPE=SCALAR\n",
+            },
+            File {
+                name: "arrangements/A/T/schedule.ccl",
+                bytes: b"STORAGE: s\n",
+            },
+            File {
+                name: "t.par",
+                bytes: b"ActiveThorns = \"T U\"\ndriver::weight = \"t::v\"\n",
+            },
+        ],
+        printed: "refused: weight NoStorage t::v\n",
+    },
+    Fault {
+        files: &[
+            File {
+                name: "arrangements/A/T/interface.ccl",
+                bytes: b"implements: t\n\
+                public:\n\
+                INT g TYPE=GF DIM=1 TIMELEVELS=2 { v }\n\
+                INT s TYPE=SCALAR\n",
+            },
+            File {
+                name: "arrangements/A/T/schedule.ccl",
+                bytes: b"STORAGE: s\n",
+            },
+            File {
+                name: "t.par",
+                bytes: b"ActiveThorns = \"T U\"\ndriver::weight = \"t::none\"\nIO::out_vars = \"t::v\"\n",
+            },
+        ],
+        printed: "refused: output NoStorage t::v\n",
+    },
+    Fault {
         files: &[File {
             name: "arrangements/A/T/schedule.ccl",
             bytes: b"schedule a AT EVOL { }\n",

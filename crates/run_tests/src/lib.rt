@@ -22,3 +22,5 @@ mod physics;
 mod schedules;
 #[cfg(test)]
 mod steers;
+#[cfg(test)]
+mod weights;

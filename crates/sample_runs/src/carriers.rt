@@ -4,7 +4,7 @@ ghost use Rattle.cx_core.specs.Starts.{AreEmpty};
 ghost use Rattle.cx_wire.specs.Memory.{bare_queue, told_queue};
 
 use cx_text::{List, Memory};
-use cx_wire::{AlteringWire, FailingWire, MemoryWire};
+use cx_wire::{AlteringWire, FailingWire, MemoryWire, NotingWire};
 use std::alloc::Global;
 
 /// A wire in memory.
@@ -36,4 +36,14 @@ pub fn failing(alloc: Global, fail: u64) -> Result<FailingWire, Memory>
     let calls = List::new(Vec::from_array(alloc, [fail])?);
     let failing = FailingWire::new(carried, calls);
     Ok(failing)
+}
+
+/// The same wire, but it notes what is sent.
+pub fn noting(alloc: Global) -> Result<NotingWire, Memory>
+    ensures parts { IfOk result (λ wire. wire.wire.parts ≡ 512) }
+    ensures told { IfOk result (λ wire. AreEmpty (told_queue wire.wire)) }
+{
+    let carried = wire(alloc)?;
+    let noting = NotingWire::new(alloc, carried);
+    Ok(noting)
 }

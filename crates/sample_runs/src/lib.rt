@@ -10,4 +10,4 @@ pub use calls::{
     FIRST_OUTPUT, Outcome, SECOND_OUTPUT, answer_on, answer_over, answer_to, push_files, shelf,
     shelf_with, sink, status_over, texts,
 };
-pub use carriers::{altering, failing, wire};
+pub use carriers::{altering, failing, noting, wire};

@@ -3,6 +3,8 @@
 #![tactic(auto)]
 
 #[cfg(test)]
+mod balance;
+#[cfg(test)]
 mod boxes;
 #[cfg(test)]
 mod chains;

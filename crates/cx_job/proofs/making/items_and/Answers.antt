@@ -43,7 +43,7 @@ cut_and-requires c =
     c.match_items.new.ordered c.run_count-run.result c.in_ok-items.items
     c.in_ok-items.ensures.others c.run_count-run.ensures
     c.in_ok-job.job c.in_ok-items.ensures.items c.in_ok-job.ensures c.requires.planned
-    c.requires.later c.requires.read c.requires.written
+    c.requires.later c.requires.read c.requires.written c.requires.weighs
 
 pub returns-clause-made : goal.returns-clause-made
 returns-clause-made c =
@@ -64,7 +64,7 @@ returns-clause-ready c =
     c.match_items.new.ordered c.run_count-run.result c.in_ok-items.items
     c.in_ok-items.ensures.others c.run_count-run.ensures
     c.in_ok-job.job c.in_ok-items.ensures.items c.in_ok-job.ensures c.requires.planned
-    c.requires.later c.requires.read c.requires.written)
+    c.requires.later c.requires.read c.requires.written c.requires.weighs)
     (run_of specs c.args.steps.now c.args.bound.now c.args.values.now c.args.ordered c.args.out_vars
     c.match_items.new.ordered c.run_count-run.result c.in_ok-items.items
     c.in_ok-items.ensures.others c.run_count-run.ensures

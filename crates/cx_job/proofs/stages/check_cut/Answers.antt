@@ -19,7 +19,7 @@ check_parts-requires-clause-whole c =
     let job = c.args.job.now in
     subst IsWhole (sym c.in_ok-cut.ensures.value)
     (is_whole (parts_of job.shape job.cut) c.requires.shape
-    (unmapped (cut_fault (parts_of job.shape job.cut)) c.in_ok-cut.ensures.told))
+    (unmapped faults.Cut (cut_fault (parts_of job.shape job.cut)) c.in_ok-cut.ensures.told))
 
 pub returns : goal.returns
 returns c =

@@ -1,5 +1,8 @@
-use Rattle.std.proofs.Common.{refl, ◌∙◌, inl, arith}
+use Rattle.std.proofs.Common.{refl, ◌∙◌, inl, arith, subst, sym}
 use Rattle.cx_disk.proofs.Moments.{quiet_at_start}
+use Rattle.cx_plan.specs.Whole.{IsWhole}
+use Rattle.cx_plan.specs.declared.job.Job.{Job}
+use Rattle.cx_run.specs.Answers.{AnswersRun}
 use Rattle.cx_run.proofs.ChunkLaws as chunks
 use Rattle.cx_run.proofs.Running as running
 use Rattle.cx_run.proofs.TurnLaws as turned
@@ -17,12 +20,24 @@ drive-came-requires-clause-parts g c =
 pub drive-came-requires-clause-short : goal.drive-came-requires-clause-short
 drive-came-requires-clause-short g c = c.requires.ready.names
 
+pub drive-came-requires-clause-cut : goal.drive-came-requires-clause-cut
+drive-came-requires-clause-cut g c = c.requires.ready.cut
+
+pub answer_to_run-requires-clause-whole : goal.answer_to_run-requires-clause-whole
+answer_to_run-requires-clause-whole g c =
+    subst IsWhole (sym c.drive-came.ensures.job) c.requires.ready.whole
+
 pub returns-in-Run-clause-comes : goal.returns-in-Run-clause-comes
 returns-in-Run-clause-comes g c =
     running.ran _ c.args.command c.args.job.now c.in-Run.ensures c.drive-came.result
     c.drive-came.ensures.drives c.drive-came.ensures.folders
     (c.trails_begin.ensures _) (g.met.D.Disk.sound c.args.disk.now)
-    c.answer_to_run.result c.answer_to_run.ensures
+    c.answer_to_run.result
+    (subst (λ (j : Job). AnswersRun c.args.command j c.drive-came.result c.answer_to_run.result)
+    c.drive-came.ensures.job c.answer_to_run.ensures)
+
+pub returns-in-Run-clause-job : goal.returns-in-Run-clause-job
+returns-in-Run-clause-job g c = c.drive-came.ensures.job
 
 pub returns-in-Told-clause-comes : goal.returns-in-Told-clause-comes
 returns-in-Told-clause-comes g c =
@@ -87,9 +102,8 @@ returns-in-Recombine-clause-begun g c = λ runs.
 pub returns-in-Run-clause-turned : goal.returns-in-Run-clause-turned
 returns-in-Run-clause-turned g c = λ runs.
     turned.has_turned g.T.Turns _ _ _ _ c.start.ensures.begun c.drive-came.result
-    c.drive-came.ensures.turns c.drive-came.ensures.picked c.args.command c.args.job.now
-    c.answer_to_run.result
-    c.answer_to_run.ensures
+    c.drive-came.ensures.turns c.drive-came.ensures.picked c.args.command c.drive-came.new.job
+    c.answer_to_run.result c.answer_to_run.ensures
 
 pub returns-in-Run-clause-spared : goal.returns-in-Run-clause-spared
 returns-in-Run-clause-spared g c = λ none. absurd (none c.in-Run.ensures)

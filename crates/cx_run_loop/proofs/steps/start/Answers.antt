@@ -25,6 +25,16 @@ returns-in_err-start-clause-can c =
     is_beginning c.args.job.now
     (c.drive_laws.ensures true []).can_begin c.args.found.now c.requires.fits
 
+pub returns-in_err-start-clause-state : goal.returns-in_err-start-clause-state
+returns-in_err-start-clause-state c =
+    can_start c.args.job.now (c.drive_laws.ensures true []).can_begin c.args.found.now
+    c.requires.fits c.requires.lengths
+
+pub returns-clause-state : goal.returns-clause-state
+returns-clause-state c =
+    can_start c.args.job.now (c.drive_laws.ensures true []).can_begin c.args.found.now
+    c.requires.fits c.requires.lengths
+
 pub returns-clause-can : goal.returns-clause-can
 returns-clause-can c = is_beginning c.args.job.now
     (c.drive_laws.ensures true []).can_begin c.args.found.now c.requires.fits

@@ -36,3 +36,9 @@ returns-in_err-core-clause-stops g c =
     (g.D.Disk.view c.begin.new.disk)
     (count (g.D.Disk.faults c.args.disk.now) (g.D.Disk.faults c.begin.new.disk))
     c.in_err-core.field-0.0 (c.in_err-core.ensures.stops 0 0))
+
+pub returns-clause-can : goal.returns-clause-can
+returns-clause-can g c = c.in_ok-core.ensures.state
+
+pub returns-clause-lengths : goal.returns-clause-lengths
+returns-clause-lengths g c = c.in_ok-core.ensures.lengths

@@ -1,11 +1,13 @@
 -- what was driven is driven here, and each moment so far is of the run
-use Rattle.std.proofs.Common.{◌≡◌, ◌≤◌, map, IsTrue}
+use Rattle.std.proofs.Common.{◌≡◌, ◌≤◌, true, map, IsTrue}
 use Rattle.cx_plan.specs.Setups.{setup_of}
 use Rattle.cx_core.specs.Left.{steps_left}
 use Rattle.cx_run_loop.specs.Advances.{CanAdvance, Keeps, place_of, run_state, turning_of}
+use Rattle.cx_run_loop.specs.Cores.{StaysBelowFrom}
 use Rattle.cx_run_loop.specs.Going.{MovesOn, setting}
 use Rattle.cx_run_loop.specs.Turning.{TurnsLead}
-use Rattle.cx_run_loop.proofs.driving.run_to_end.Given as goal
+use Rattle.cx_run_loop.proofs.CoreTurns.{StillOn}
+use Rattle.cx_run_loop.proofs.driving.run_core.Given as goal
 
 abbrev pub invariant-turns : goal.invariant-turns
 invariant-turns g l =
@@ -19,6 +21,11 @@ invariant-turns g l =
           (turning_of g.W.Wire was l.initial.turns) (turning_of g.W.Wire is l.turns);
       able : CanAdvance g.D.Disk g.W.Wire l.job rules is;
       keeps : Keeps g.D.Disk g.W.Wire l.job rules was l.disk l.wire l.meter;
+      still : l.job.balance ≡ true → StillOn l.next (setting g.D.Disk g.W.Wire l.job rules)
+          (place_of g.D.Disk g.W.Wire l.job rules was) (place_of g.D.Disk g.W.Wire l.job rules is);
+      below : l.job.balance ≡ true → StaysBelowFrom l.next (setting g.D.Disk g.W.Wire l.job rules)
+          (place_of g.D.Disk g.W.Wire l.job rules was)
+          (place_of g.D.Disk g.W.Wire l.job rules is).is.now;
       begun : g.T.Turns.begun l.turns ≡ g.T.Turns.begun l.initial.turns;
       disk_later : g.D.Disk.faults l.initial.disk ≤ g.D.Disk.faults l.disk;
       wire_later : g.W.Wire.faults l.initial.wire ≤ g.W.Wire.faults l.wire;
