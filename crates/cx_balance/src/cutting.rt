@@ -42,7 +42,7 @@ pub fn cut_by_weight(alloc: Global, job: &Job, state: &Checkpoint) -> Result<Cut
 
 /// The widths of the parts of a direction.
 ///
-/// Where the job's own cut has one part, it has all points of the direction, and nothing is weighed.
+/// Where the job's own cut has one part, that has all points of the direction: nothing is weighed.
 fn widths(alloc: Global, job: &Job, state: &Checkpoint, dir: u8) -> Result<List<u32>, Memory>
     requires whole { IsWhole job.now }
     requires cut { cut_fault (parts_of job.now.shape job.now.cut) ≡ None }
