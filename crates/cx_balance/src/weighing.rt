@@ -19,7 +19,7 @@ use std::alloc::Global;
 ///
 /// A point weighs 1. Where the job names a variable that weighs, it weighs `weight_factor` times
 /// the distance of its number from 0 more; a distance above 2^20 counts as 2^20. The number is that
-/// of the variable's current level in the checkpoint, whose points stand x fastest, then y. So a
+/// of the variable's current level in the checkpoint, whose points go x fastest, then y. So a
 /// point weighs at most 2^40 + 1, and a plane less than 2^65.
 ///
 /// # Errors
@@ -72,7 +72,7 @@ fn weighed_planes(
     Ok(List::new(weights))
 }
 
-/// How many neighbours of a plane of a direction stand one after another in a level.
+/// How many points of a plane of a direction follow one another in a level.
 fn stretch(shape: &Shape, dir: u8) -> usize
     requires shape { IsShape shape.now }
     ensures { result ≡ (if dir == 0 then 1 else (if dir == 1 then unsigned_abs shape.now.n.x
@@ -89,7 +89,7 @@ fn stretch(shape: &Shape, dir: u8) -> usize
 
 /// Adds to the weight of each plane what its points weigh by the numbers of a level.
 ///
-/// The level is a row of blocks, and in each block stands one stretch of each plane after another.
+/// The level is a row of blocks. Each block has a stretch of each plane, one after another.
 fn add_level(weights: &mut [u128], level: &[i64], stretch: usize, factor: u64)
     requires some { 1 ≤ length weights.old * stretch }
     requires few { length weights.old * stretch ≤ 2 ^ 24 }
