@@ -286,7 +286,8 @@ fn start_from_nothing(rt: HostRuntime) -> Result<(), Fail> {
     starts_from_nothing(&rt, probe, 0, b"done: iteration 2\n", CA_OUTPUT)
 }
 
-/// The box in three parts and in four, at leads 0 and 3.
+/// The box in three parts and in four: at leads 0 and 3, cut anew in the last run alone, and cut anew in each run at lead 8. By weight
+/// the four parts are equal, since all points weigh the same.
 const BOX_LEADS: &[(&str, &str)] = &[
     (
         "driver::parts_x = 3\nwave::amount = 5\nIO::recover = \"autoprobe\"\n",
@@ -295,6 +296,16 @@ const BOX_LEADS: &[(&str, &str)] = &[
     (
         "driver::parts_x = 3\nwave::amount = 5\nIO::recover = \"autoprobe\"\ndriver::lead = 3\n",
         "driver::parts_x = 4\nwave::amount = 5\nIO::recover = \"autoprobe\"\ndriver::lead = 3\n",
+    ),
+    (
+        "driver::parts_x = 3\nwave::amount = 5\nIO::recover = \"autoprobe\"\n",
+        "driver::parts_x = 4\nwave::amount = 5\nIO::recover = \"autoprobe\"\ndriver::balance = yes\n",
+    ),
+    (
+        "driver::widths_x = \"5 30 5\"\nwave::amount = 5\nIO::recover = \"autoprobe\"\ndriver::lead = 8\n\
+            driver::balance = yes\ndriver::weight = \"wave::phi\"\n",
+        "driver::widths_x = \"4 29 4 3\"\nwave::amount = 5\nIO::recover = \"autoprobe\"\ndriver::lead = 8\n\
+            driver::balance = yes\ndriver::weight = \"wave::phi\"\n",
     ),
 ];
 
