@@ -149,7 +149,7 @@ const IN_TURNS: &[[&str; 4]] = &[
     [AS_IT_WAS, ANEW, AS_IT_WAS, ANEW],
 ];
 
-/// A run of the automaton that stops behind so many calls of the disk: its status, and what is left.
+/// A run of the automaton that stops after so many calls of the disk: its status, and what is left.
 fn stopped(
     rt: &HostRuntime,
     more: &str,
@@ -159,7 +159,7 @@ fn stopped(
     run_stopped(rt, CA, more, disk, calls, calls)
 }
 
-/// What starts one after another leave, each of which stops behind so many calls.
+/// What starts one after another leave, each of which stops after so many calls.
 fn left_in_turns(rt: &HostRuntime, starts: &[&str; 4], calls: u64) -> Result<MemoryDisk, Fail> {
     let mut disk = empty_disk(rt.alloc());
     for more in starts {
@@ -170,7 +170,7 @@ fn left_in_turns(rt: &HostRuntime, starts: &[&str; 4], calls: u64) -> Result<Mem
     Ok(disk)
 }
 
-/// Whether a run comes to its end after starts in turns that stop behind so many calls.
+/// Whether a run comes to its end after starts in turns that stop after so many calls.
 fn ends_after(rt: &HostRuntime, starts: &[&str; 4], calls: u64) -> Result<bool, Fail> {
     let mut disk = left_in_turns(rt, starts, calls)?;
     let came = run_on(rt, CA, starts[0], &[], &mut disk)?;
@@ -186,8 +186,8 @@ fn ends_wherever_stopped(rt: &HostRuntime, starts: &[&str; 4]) -> Result<(), Fai
     Ok(())
 }
 
-/// The status of a run on an empty disk that stops behind so many calls.
-fn status_behind(rt: &HostRuntime, more: &str, calls: u64) -> Result<u8, Fail> {
+/// The status of a run on an empty disk that stops after so many calls.
+fn status_after(rt: &HostRuntime, more: &str, calls: u64) -> Result<u8, Fail> {
     let (status, _) = stopped(rt, more, empty_disk(rt.alloc()), calls)?;
     Ok(status)
 }
@@ -196,8 +196,8 @@ fn status_behind(rt: &HostRuntime, more: &str, calls: u64) -> Result<u8, Fail> {
 fn automaton_that_is_cut_anew_and_stops(rt: HostRuntime) -> Result<(), Fail> {
     for starts in IN_TURNS {
         ends_wherever_stopped(&rt, starts)?;
-        let stops = status_behind(&rt, starts[0], AUTOMATON_CALLS - 1)?;
-        let ends = status_behind(&rt, starts[0], AUTOMATON_CALLS)?;
+        let stops = status_after(&rt, starts[0], AUTOMATON_CALLS - 1)?;
+        let ends = status_after(&rt, starts[0], AUTOMATON_CALLS)?;
         same(&starts[0], &(stops, ends), &(4, 0))?;
     }
     Ok(())
