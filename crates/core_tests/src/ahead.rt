@@ -5,6 +5,7 @@ ghost use Rattle.cx_rule.specs.Jobs.{FitJob};
 ghost use Rattle.cx_core.specs.Starts.{IsReady};
 
 use crate::jobs::{job, wire};
+use crate::routines::start;
 use crate::runs::run;
 use crate::samples::{NO_EXCHANGE, TWO_SAVES};
 use crate::turns::Listed;
@@ -12,7 +13,6 @@ use cx_plan::Job;
 use cx_rule::{Meter, Routine};
 use cx_text::Text;
 use cx_thorn_ca::CaInit;
-use std::alloc::Global;
 use std::test::Fail;
 use test_cases::same;
 
@@ -66,13 +66,6 @@ fn seen(
     Ok(turns.into_seen())
 }
 
-/// The one routine.
-fn routines(alloc: Global) -> Result<Vec<Box<dyn Routine>>, Fail> {
-    let mut routines: Vec<Box<dyn Routine>> = Vec::new(alloc);
-    routines.push(Box::new(alloc, CaInit::new(alloc)?)?)?;
-    Ok(routines)
-}
-
 /// What is seen with these lines and picks.
 fn seen_with(
     rt: &HostRuntime,
@@ -90,11 +83,17 @@ fn sees(rt: &HostRuntime, routines: &[Box<dyn Routine>], row: &Row) -> Result<()
     same(&row.name, &seen.as_slice(), &row.ahead)
 }
 
-#[test]
-fn events_behind_the_next_checkpoint(rt: HostRuntime) -> Result<(), Fail> {
-    let routines = routines(rt.alloc())?;
+/// The same of each row, with this one routine.
+fn all_see(rt: &HostRuntime, init: Box<CaInit>) -> Result<(), Fail> {
+    let routines: [Box<dyn Routine>; 1] = [init];
     for row in ROWS {
-        sees(&rt, &routines, row)?;
+        sees(rt, &routines, row)?;
     }
     Ok(())
+}
+
+#[test]
+fn events_behind_the_next_checkpoint(rt: HostRuntime) -> Result<(), Fail> {
+    let init = start(rt.alloc())?;
+    all_see(&rt, init)
 }

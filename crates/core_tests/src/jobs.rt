@@ -1,10 +1,12 @@
 //! Jobs from files.
 
-ghost use Rattle.std.specs.Prelude.{◌≡◌, map, IfOk};
+ghost use Rattle.std.specs.Prelude.{◌≡◌, map, IfOk, None};
 ghost use Rattle.cx_cut.specs.Cuts.{part_count};
-ghost use Rattle.cx_cut.specs.Faults.{parts_of};
+ghost use Rattle.cx_cut.specs.Faults.{cut_fault, parts_of};
 ghost use Rattle.cx_rule.specs.Jobs.{FitJob};
 ghost use Rattle.cx_wire.specs.Memory.{told_queue, bare_queue};
+ghost use Rattle.cx_plan.specs.Setups.{setup_of};
+ghost use Rattle.cx_outputs.specs.Names.{HasShortNames};
 ghost use Rattle.cx_core.specs.Starts.{AreEmpty, IsReady};
 
 use cx_cut::cut;
@@ -17,22 +19,31 @@ use sample_files::{FILES, File};
 use std::alloc::Global;
 use std::test::Fail;
 
+/// A file of two pieces.
+fn file_of(alloc: Global, name: &[u8], bytes: &[u8], more: &[u8]) -> Result<(Text, Text), Memory> {
+    let name = Text::from_slice(alloc, name)?;
+    let mut text = Text::from_slice(alloc, bytes)?;
+    text.push_slice(more)?;
+    Ok((name, text))
+}
+
+fn push_file(alloc: Global, list: &mut Vec<(Text, Text)>, file: &File) -> Result<(), Memory> {
+    let file = file_of(alloc, file.name.as_bytes(), file.bytes, b"")?;
+    list.push(file)?;
+    Ok(())
+}
+
 fn push_files(alloc: Global, list: &mut Vec<(Text, Text)>, files: &[File]) -> Result<(), Memory> {
     for file in files {
-        list.push((
-            Text::from_slice(alloc, file.name.as_bytes())?,
-            Text::from_slice(alloc, file.bytes)?,
-        ))?;
+        push_file(alloc, list, file)?;
     }
     Ok(())
 }
 
 /// A shelf with the parameter file `t.par`, which has more lines behind those of a file, and with other files before the samples'.
 fn shelf(alloc: Global, file: &[u8], more: &[u8], others: &[File]) -> Result<MemoryShelf, Memory> {
-    let mut text = Text::from_slice(alloc, file)?;
-    text.push_slice(more)?;
-    let mut list = Vec::new(alloc);
-    list.push((Text::from_slice(alloc, b"t.par")?, text))?;
+    let first = file_of(alloc, b"t.par", file, more)?;
+    let mut list = vec![in alloc; first]?;
     push_files(alloc, &mut list, others)?;
     push_files(alloc, &mut list, FILES)?;
     Ok(MemoryShelf::new(List::new(list)))
@@ -51,6 +62,8 @@ pub(crate) fn job(
 ) -> Result<Job, Fail>
     ensures ready { IfOk result (λ job. IsReady job) }
     ensures fit { IfOk result (λ job. FitJob (map spec_of routines.now) job) }
+    ensures cut { IfOk result (λ job. cut_fault (parts_of job.shape job.cut) ≡ None) }
+    ensures names { IfOk result (λ job. HasShortNames (setup_of job)) }
 {
     if routines.len() > MOST_ROUTINES {
         return Err(Fail::new("there are more routines"));

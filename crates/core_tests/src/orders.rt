@@ -5,6 +5,7 @@ ghost use Rattle.cx_rule.specs.Jobs.{FitJob};
 ghost use Rattle.cx_core.specs.Starts.{IsReady};
 
 use crate::jobs::{job, parts, wire};
+use crate::routines::start;
 use crate::runs::{Came, is_empty, run};
 use crate::samples::{NO_EXCHANGE, ONE_EXCHANGE, TWO_CELLS, TWO_CELLS_OUTPUT};
 use crate::turns::EachOrder;
@@ -19,7 +20,7 @@ use test_cases::same;
 const MOST: u64 = 20_000;
 
 /// How many orders there are, and whether each ended with the same output, the same that was counted, and empty queues.
-#[derive(Drop)]
+#[derive(Clone, Copy)]
 struct Orders {
     count: u64,
     same: bool,
@@ -46,7 +47,8 @@ fn ends_so(
     let came = run(alloc, job, routines, &mut wire, turns, &mut meter)?;
     let counted = (meter.count(), wire.received(), wire.received_sum());
     let empty = is_empty(&wire, parts);
-    Ok(is_right(&came, counted == want) && empty && !turns.is_too_long())
+    let right = is_right(&came, counted == want);
+    Ok(right & empty & !turns.is_too_long())
 }
 
 /// Whether the output is the right one, and what was counted too.
@@ -78,14 +80,6 @@ fn each_order(
     Err(Fail::new("there are more orders"))
 }
 
-/// The same with the routine of the start.
-fn orders_of_two_cells(rt: &HostRuntime, others: &[File], want: Counted) -> Result<Orders, Fail> {
-    let alloc = rt.alloc();
-    let mut routines: Vec<Box<dyn Routine>> = Vec::new(alloc);
-    routines.push(Box::new(alloc, CaInit::new(alloc)?)?)?;
-    each_order(rt, others, want, &routines)
-}
-
 /// Files in place of the samples', what is counted in each order, and how many orders there are.
 struct Case {
     name: &'static str,
@@ -113,8 +107,8 @@ const CASES: &[Case] = &[
 ];
 
 /// All orders of a case end with the same, and there are as many as it says.
-fn orders_are(rt: &HostRuntime, case: &Case) -> Result<(), Fail> {
-    let orders = orders_of_two_cells(rt, case.others, case.counted)?;
+fn orders_are(rt: &HostRuntime, routines: &[Box<dyn Routine>], case: &Case) -> Result<(), Fail> {
+    let orders = each_order(rt, case.others, case.counted, routines)?;
     same(
         &case.name,
         &(orders.count, orders.same),
@@ -122,10 +116,17 @@ fn orders_are(rt: &HostRuntime, case: &Case) -> Result<(), Fail> {
     )
 }
 
-#[test]
-fn each_order_of_two_parts(rt: HostRuntime) -> Result<(), Fail> {
+/// So it is with all cases and this one routine.
+fn all_are(rt: &HostRuntime, init: Box<CaInit>) -> Result<(), Fail> {
+    let routines: [Box<dyn Routine>; 1] = [init];
     for case in CASES {
-        orders_are(&rt, case)?;
+        orders_are(rt, &routines, case)?;
     }
     Ok(())
+}
+
+#[test]
+fn each_order_of_two_parts(rt: HostRuntime) -> Result<(), Fail> {
+    let init = start(rt.alloc())?;
+    all_are(&rt, init)
 }

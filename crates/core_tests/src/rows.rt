@@ -5,7 +5,7 @@ ghost use Rattle.cx_rule.specs.Jobs.{FitJob};
 ghost use Rattle.cx_core.specs.Starts.{IsReady};
 
 use crate::jobs::{job, parts, wire};
-use crate::routines::{push_automaton, push_heat};
+use crate::routines::{Automaton, Heat};
 use crate::runs::{Came, is_empty, run};
 use crate::samples::{BOTH, BOTH_OUTPUTS, CA, CA_OUTPUT, ENDS, HEAT, HEAT_OUTPUT, SHORT_HEAT, SUM};
 use cx_plan::Job;
@@ -219,31 +219,8 @@ fn run_by_seed(
     })
 }
 
-/// The runs of a row's job, in the orders of ten seeds.
-fn ten_runs_with(
-    rt: &HostRuntime,
-    row: &Row,
-    routines: &[Box<dyn Routine>],
-) -> Result<Vec<Told>, Fail> {
-    let job = job(rt.alloc(), row.file, row.more, row.others, routines)?;
-    let mut all = Vec::new(rt.alloc());
-    'seeds: for seed in 0..10_u64 {
-        all.push(run_by_seed(rt, &job, routines, seed)?)?;
-    }
-    Ok(all)
-}
-
-/// The same with the routines of the automaton and of the heat.
-fn ten_runs(rt: &HostRuntime, row: &Row) -> Result<Vec<Told>, Fail> {
-    let alloc = rt.alloc();
-    let mut routines: Vec<Box<dyn Routine>> = Vec::new(alloc);
-    push_automaton(alloc, &mut routines)?;
-    push_heat(alloc, &mut routines)?;
-    ten_runs_with(rt, row, &routines)
-}
-
 /// What was counted is what a row says, and no message is left; where its run isn't done nothing is said.
-fn counts(row: &Row, seed: usize, told: &Told) -> Result<(), Fail> {
+fn counts(row: &Row, seed: u64, told: &Told) -> Result<(), Fail> {
     if row.counted.is_none() {
         return Ok(());
     }
@@ -252,7 +229,7 @@ fn counts(row: &Row, seed: usize, told: &Told) -> Result<(), Fail> {
 }
 
 /// A run came to what its row says.
-fn comes(row: &Row, seed: usize, told: &Told) -> Result<(), Fail> {
+fn comes(row: &Row, seed: u64, told: &Told) -> Result<(), Fail> {
     let case = (row.name, "seed", seed);
     let came = (told.came.ended.as_slice(), told.came.output.as_slice());
     same(&case, &came, &(row.ended, row.output))?;
@@ -261,21 +238,56 @@ fn comes(row: &Row, seed: usize, told: &Told) -> Result<(), Fail> {
     counts(row, seed, told)
 }
 
-/// The job of a row comes to what the row says, in the orders of ten seeds.
-fn all_come(rt: &HostRuntime, row: &Row) -> Result<(), Fail> {
-    for (seed, told) in ten_runs(rt, row)?.iter().enumerate() {
-        comes(row, seed, told)?;
+/// The job of a row comes to what the row says, in the order of a seed.
+fn run_comes(
+    rt: &HostRuntime,
+    row: &Row,
+    job: &Job,
+    routines: &[Box<dyn Routine>],
+    seed: u64,
+) -> Result<(), Fail>
+    requires ready { IsReady job.now }
+    requires fit { FitJob (map spec_of routines.now) job.now }
+{
+    let told = run_by_seed(rt, job, routines, seed)?;
+    comes(row, seed, &told)
+}
+
+/// So it is in the orders of ten seeds.
+fn ten_come(rt: &HostRuntime, routines: &[Box<dyn Routine>], row: &Row) -> Result<(), Fail> {
+    let job = job(rt.alloc(), row.file, row.more, row.others, routines)?;
+    'seeds: for seed in 0..10_u64 {
+        run_comes(rt, row, &job, routines, seed)?;
+    }
+    Ok(())
+}
+
+/// So it is with all rows, and with the routines of the automaton and of the heat.
+fn all_come(rt: &HostRuntime, cells: Automaton, heat: Heat) -> Result<(), Fail> {
+    let routines: [Box<dyn Routine>; 9] = [
+        cells.init,
+        cells.step,
+        cells.zero,
+        cells.count,
+        heat.init,
+        heat.ends,
+        heat.step,
+        heat.flat,
+        heat.sum,
+    ];
+    for rows in [CELLS, HEATS, SUMS] {
+        for row in rows {
+            ten_come(rt, &routines, row)?;
+        }
     }
     Ok(())
 }
 
 #[test]
 fn jobs_in_the_orders_of_ten_seeds(rt: HostRuntime) -> Result<(), Fail> {
-    for rows in [CELLS, HEATS, SUMS] {
-        for row in rows {
-            all_come(&rt, row)?;
-        }
-    }
+    let cells = Automaton::new(rt.alloc())?;
+    let heat = Heat::new(rt.alloc())?;
+    all_come(&rt, cells, heat)?;
     same(
         &"the bytes of the automaton's output",
         &CA_OUTPUT.len(),

@@ -5,7 +5,7 @@ ghost use Rattle.cx_rule.specs.Jobs.{FitJob};
 ghost use Rattle.cx_core.specs.Starts.{IsReady};
 
 use crate::jobs::{altering, job, noting};
-use crate::routines::push_automaton;
+use crate::routines::Automaton;
 use crate::runs::{Came, run};
 use crate::samples::{ALTERED_OUTPUT, CA, CA_OUTPUT};
 use crate::turns::{FirstTurns, LastTurns, Watch};
@@ -72,85 +72,98 @@ fn noted_run<T: Turns + Watch>(
     Ok(Noted { sender, came })
 }
 
-/// What comes of an altered value, in the orders of ten seeds.
-fn ten_altered(
+/// A run with an altered value writes the altered output.
+fn is_altered(
     rt: &HostRuntime,
-    more: &[u8],
+    more: &str,
+    job: &Job,
     routines: &[Box<dyn Routine>],
-) -> Result<Vec<Came>, Fail> {
-    let job = job(rt.alloc(), CA, more, &[], routines)?;
-    let mut all = Vec::new(rt.alloc());
+    seed: u64,
+) -> Result<(), Fail>
+    requires ready { IsReady job.now }
+    requires fit { FitJob (map spec_of routines.now) job.now }
+{
+    let came = altered(rt, job, routines, seed)?;
+    same(
+        &("seed", seed, more),
+        &came.output.as_slice(),
+        &ALTERED_OUTPUT,
+    )
+}
+
+/// So it is in the orders of ten seeds.
+fn are_altered(
+    rt: &HostRuntime,
+    more: &str,
+    job: &Job,
+    routines: &[Box<dyn Routine>],
+) -> Result<(), Fail>
+    requires ready { IsReady job.now }
+    requires fit { FitJob (map spec_of routines.now) job.now }
+{
     'seeds: for seed in 0..10_u64 {
-        all.push(altered(rt, &job, routines, seed)?)?;
-    }
-    Ok(all)
-}
-
-/// Which part sends first and what comes of it, where the first of the events that can happen always comes next, and where the last one
-/// does.
-fn two_noted(
-    rt: &HostRuntime,
-    more: &[u8],
-    routines: &[Box<dyn Routine>],
-) -> Result<Vec<Noted>, Fail> {
-    let job = job(rt.alloc(), CA, more, &[], routines)?;
-    let mut both = Vec::new(rt.alloc());
-    both.push(noted_run(rt, &job, routines, &mut FirstTurns(None))?)?;
-    both.push(noted_run(rt, &job, routines, &mut LastTurns(None))?)?;
-    Ok(both)
-}
-
-/// All runs of a file with these lines.
-#[derive(Drop)]
-struct Runs {
-    altered: Vec<Came>,
-    noted: Vec<Noted>,
-}
-
-/// They, with the automaton's routines.
-fn all_runs(rt: &HostRuntime, more: &[u8]) -> Result<Runs, Fail> {
-    let alloc = rt.alloc();
-    let mut routines: Vec<Box<dyn Routine>> = Vec::new(alloc);
-    push_automaton(alloc, &mut routines)?;
-    Ok(Runs {
-        altered: ten_altered(rt, more, &routines)?,
-        noted: two_noted(rt, more, &routines)?,
-    })
-}
-
-/// Each run with an altered value writes the altered output.
-fn are_altered(more: &str, all: &[Came]) -> Result<(), Fail> {
-    for (seed, came) in all.iter().enumerate() {
-        let output = came.output.as_slice();
-        same(&("seed", seed, more), &output, &ALTERED_OUTPUT)?;
+        is_altered(rt, more, job, routines, seed)?;
     }
     Ok(())
 }
 
-/// The runs by turns of a file with these lines write the output, and part k sends first in run k.
-fn are_noted(more: &str, all: &[Noted]) -> Result<(), Fail> {
-    for (turns, noted) in all.iter().enumerate() {
-        let found = (noted.came.output.as_slice(), noted.sender);
-        same(
-            &("turns", turns, more),
-            &found,
-            &(CA_OUTPUT, u32::try_from(turns).ok()),
-        )?;
-    }
-    same(&("runs", more), &all.len(), &2)
+/// A run by these turns writes the output, and this part sends first.
+fn is_noted<T: Turns + Watch>(
+    rt: &HostRuntime,
+    more: &str,
+    job: &Job,
+    routines: &[Box<dyn Routine>],
+    turns: &mut T,
+    sender: u32,
+) -> Result<(), Fail>
+    requires ready { IsReady job.now }
+    requires fit { FitJob (map spec_of routines.now) job.now }
+{
+    let noted = noted_run(rt, job, routines, turns)?;
+    let found = (noted.came.output.as_slice(), noted.sender);
+    same(
+        &("the first sender", sender, more),
+        &found,
+        &(CA_OUTPUT, Some(sender)),
+    )
+}
+
+/// The first part sends first where the first of the events that can happen always comes next, and the second one where the last event does.
+fn are_noted(
+    rt: &HostRuntime,
+    more: &str,
+    job: &Job,
+    routines: &[Box<dyn Routine>],
+) -> Result<(), Fail>
+    requires ready { IsReady job.now }
+    requires fit { FitJob (map spec_of routines.now) job.now }
+{
+    is_noted(rt, more, job, routines, &mut FirstTurns(None), 0)?;
+    is_noted(rt, more, job, routines, &mut LastTurns(None), 1)
 }
 
 /// The runs of a file with these lines come to what they should.
-fn values_are_exchanged(rt: &HostRuntime, more: &str) -> Result<(), Fail> {
-    let runs = all_runs(rt, more.as_bytes())?;
-    are_altered(more, &runs.altered)?;
-    are_noted(more, &runs.noted)
+fn values_are_exchanged(
+    rt: &HostRuntime,
+    routines: &[Box<dyn Routine>],
+    more: &str,
+) -> Result<(), Fail> {
+    let job = job(rt.alloc(), CA, more.as_bytes(), &[], routines)?;
+    are_altered(rt, more, &job, routines)?;
+    are_noted(rt, more, &job, routines)
+}
+
+/// So it is with each lead, and with the automaton's routines.
+fn all_are_exchanged(rt: &HostRuntime, cells: Automaton) -> Result<(), Fail> {
+    let routines: [Box<dyn Routine>; 4] = [cells.init, cells.step, cells.zero, cells.count];
+    for more in TWO_PARTS {
+        values_are_exchanged(rt, &routines, more)?;
+    }
+    Ok(())
 }
 
 #[test]
 fn parts_exchange_values_as_turns_say(rt: HostRuntime) -> Result<(), Fail> {
-    for more in TWO_PARTS {
-        values_are_exchanged(&rt, more)?;
-    }
-    Ok(())
+    let cells = Automaton::new(rt.alloc())?;
+    all_are_exchanged(&rt, cells)
 }

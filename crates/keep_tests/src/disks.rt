@@ -11,19 +11,34 @@ use cx_disk::{Disk, DiskFault, FuseDisk, MemoryDisk, SLOTS};
 use cx_text::{List, Text};
 use std::alloc::{AllocError, Global};
 
-/// Slot 0 has iteration 20, slot 1 iteration 10, slot 2 a torn front, slot 3 a shut gate, slot 4 iteration 5 in version 2;
-/// the output has six bytes.
+fn push_file(files: &mut Vec<Text>, bytes: Vec<u8>) -> Result<(), AllocError> {
+    files.push(Text::new(bytes))?;
+    Ok(())
+}
+
+/// Slot 0 has iteration 20, slot 1 iteration 10, slot 2 a torn front, slot 3 a shut gate, slot 4 iteration 5 in version 2.
+fn push_slots(alloc: Global, files: &mut Vec<Text>) -> Result<(), AllocError> {
+    push_file(files, slot(alloc, 20)?)?;
+    push_file(files, slot(alloc, 10)?)?;
+    push_file(files, b"\x01CXC".to_vec(alloc)?)?;
+    push_file(files, shut_slot(alloc)?)?;
+    push_file(files, named_slot(alloc, 5)?)
+}
+
+/// The other slots are empty.
+fn push_others(alloc: Global, files: &mut Vec<Text>) -> Result<(), AllocError> {
+    for _ in 5..SLOTS {
+        push_file(files, Vec::new(alloc))?;
+    }
+    Ok(())
+}
+
+/// All slots, and an output of six bytes.
 fn files(alloc: Global) -> Result<Vec<Text>, AllocError> {
     let mut files = Vec::new(alloc);
-    files.push(Text::new(slot(alloc, 20)?))?;
-    files.push(Text::new(slot(alloc, 10)?))?;
-    files.push(Text::new(b"\x01CXC".to_vec(alloc)?))?;
-    files.push(Text::new(shut_slot(alloc)?))?;
-    files.push(Text::new(named_slot(alloc, 5)?))?;
-    for _ in 5..SLOTS {
-        files.push(Text::new(Vec::new(alloc)))?;
-    }
-    files.push(Text::new(b"output".to_vec(alloc)?))?;
+    push_slots(alloc, &mut files)?;
+    push_others(alloc, &mut files)?;
+    push_file(&mut files, b"output".to_vec(alloc)?)?;
     Ok(files)
 }
 

@@ -4,7 +4,7 @@ use crate::disks::newest_in;
 use crate::slots::{named_slot, slot};
 use cx_disk::MemoryDisk;
 use cx_text::{List, Memory, Text};
-use std::alloc::Global;
+use std::alloc::{AllocError, Global};
 use std::test::Fail;
 use test_cases::same;
 
@@ -20,20 +20,23 @@ const ROWS: &[Row] = &[
     ("version 2 is older", (2, 10), (1, 20), 1),
 ];
 
-fn slot_of(alloc: Global, (version, iteration): (u8, u8)) -> Result<Text, Memory> {
-    let bytes = if version == 1 {
-        slot(alloc, iteration)?
+fn bytes_of(alloc: Global, (version, iteration): (u8, u8)) -> Result<Vec<u8>, AllocError> {
+    if version == 1 {
+        slot(alloc, iteration)
     } else {
-        named_slot(alloc, iteration)?
-    };
-    Ok(Text::new(bytes))
+        named_slot(alloc, iteration)
+    }
+}
+
+fn slot_of(alloc: Global, slot: (u8, u8)) -> Result<Text, AllocError> {
+    Ok(Text::new(bytes_of(alloc, slot)?))
 }
 
 /// A disk of these two slots.
 fn disk_of(alloc: Global, first: (u8, u8), second: (u8, u8)) -> Result<MemoryDisk, Memory> {
-    let mut files = List::empty(alloc);
-    files.push(slot_of(alloc, first)?)?;
-    files.push(slot_of(alloc, second)?)?;
+    let first = slot_of(alloc, first)?;
+    let second = slot_of(alloc, second)?;
+    let files = List::new(Vec::from_array(alloc, [first, second])?);
     Ok(MemoryDisk::new(alloc, files))
 }
 

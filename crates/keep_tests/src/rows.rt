@@ -3,9 +3,9 @@
 use crate::starts::{
     BARE_KEY, BOTH, CUT_OFF, EARLY_KEY, LATE_KEY, NO_SCALAR, NONE, OLD, OLD_3, OLD_BYTES,
     OLD_EMPTY, OLD_HUGE, OLD_TOO_LONG, OLD_TWO, ONE, ONE_POINT, OTHER, OTHER_KEY, PHI, STRANGE,
-    Slot, TOO_GREAT, TOTAL, VALUES, WHOLE, disk, has_outputs, slot_bytes, start_words,
+    Slot, TOO_GREAT, TOTAL, VALUES, WHOLE, disk, has_outputs, push_slots, start_words,
 };
-use cx_disk::{MemoryDisk, SLOTS};
+use cx_disk::MemoryDisk;
 use cx_plan::Recover;
 use cx_text::{List, Text};
 use std::alloc::Global;
@@ -310,14 +310,22 @@ fn starts_that_are_refused(rt: HostRuntime) -> Result<(), Fail> {
     Ok(())
 }
 
-/// A disk whose old output is longer than what is split.
+/// Adds an output that is longer than what is split.
+fn push_long(alloc: Global, files: &mut List<Text>) -> Result<(), Fail> {
+    let long = vec![in alloc; 0u8; 268_435_457]?;
+    files.push(Text::new(long))?;
+    Ok(())
+}
+
+/// A disk whose old output is that.
 fn long_disk(alloc: Global) -> Result<MemoryDisk, Fail> {
     let mut files = List::empty(alloc);
-    files.push(slot_bytes(alloc, &(0, 1, 20, EARLY_KEY, OLD_TOO_LONG, VALUES))?)?;
-    for _ in 1..SLOTS {
-        files.push(Text::new(Vec::new(alloc)))?;
-    }
-    files.push(Text::new(vec![in alloc; 0u8; 268_435_457]?))?;
+    push_slots(
+        alloc,
+        &mut files,
+        &[(0, 1, 20, EARLY_KEY, OLD_TOO_LONG, VALUES)],
+    )?;
+    push_long(alloc, &mut files)?;
     Ok(MemoryDisk::new(alloc, files))
 }
 

@@ -88,18 +88,24 @@ fn run_on(alloc: Global, calls: u64) -> Result<(bool, FuseDisk), Fail> {
     Ok((stopped, disk))
 }
 
+/// Whether a run stops that has so many calls of the disk, and an image of it then.
+fn image_on(alloc: Global, calls: u64, choice: u64) -> Result<(bool, MemoryDisk), Fail> {
+    let (stopped, disk) = run_on(alloc, calls)?;
+    Ok((stopped, disk.into_image(choice)?))
+}
+
+/// Tests the first slot of a disk.
+fn has_slot(alloc: Global, left: &MemoryDisk, slot: &Slot) -> Result<(), Fail> {
+    let saved = slot_bytes(alloc, slot)?;
+    same(&"slot 0", &left.bytes(0), &saved.as_slice())
+}
+
 #[test]
 fn a_run_saves_a_checkpoint(rt: HostRuntime) -> Result<(), Fail> {
-    let (stopped, disk) = run_on(rt.alloc(), 100)?;
-    let left = disk.into_image(0)?;
-    let saved = slot_bytes(rt.alloc(), &(0, 2, 20, OWN_KEY, BOTH, VALUES))?;
-    same(&"slot 0", &left.bytes(0), &saved.as_slice())?;
-    let outputs = has_outputs(&left, &[b"", b"abc", b"xy"]);
-    same(
-        &"it stops, its outputs",
-        &(stopped, outputs),
-        &(false, true),
-    )
+    let (stopped, left) = image_on(rt.alloc(), 100, 0)?;
+    let found = (stopped, has_outputs(&left, &[b"", b"abc", b"xy"]));
+    same(&"it stops, its outputs", &found, &(false, true))?;
+    has_slot(rt.alloc(), &left, &(0, 2, 20, OWN_KEY, BOTH, VALUES))
 }
 
 // The calls of the run are: the mount, 8 looks at slots, 8 syncs of slots, a cut and a sync of each output, a look at the old one
@@ -134,12 +140,17 @@ const STOPS: &[Stop] = &[
     ),
 ];
 
+/// What a start comes to behind a run that stops after so many calls, or not, with its outputs.
+fn behind_run(alloc: Global, calls: u64, choice: u64) -> Result<(bool, String, MemoryDisk), Fail> {
+    let (stopped, mut image) = image_on(alloc, calls, choice)?;
+    let shown = start_words(alloc, &mut image, true, Recover::Autoprobe)?;
+    Ok((stopped, shown, image))
+}
+
 /// A run that stops after so many calls comes to what its row says.
 fn run_stops(alloc: Global, stop: &Stop, calls: u64) -> Result<(), Fail> {
     let (_, _, choice, words, outputs) = *stop;
-    let (stopped, disk) = run_on(alloc, calls)?;
-    let mut image = disk.into_image(choice)?;
-    let shown = start_words(alloc, &mut image, true, Recover::Autoprobe)?;
+    let (stopped, shown, image) = behind_run(alloc, calls, choice)?;
     let begins = shown.starts_with(words);
     let found = (stopped, begins, has_outputs(&image, outputs));
     let want = (calls < 38, true, true);

@@ -9,7 +9,7 @@ use cx_disk::{Disk, MemoryDisk, OLD_OUTPUT, SLOTS};
 use cx_grid::{Point, Shape};
 use cx_keep::{BeginFault, Keep};
 use cx_plan::{Cuts, Job, Recover, Schedule, Tree, VarId, VarInfo};
-use cx_text::{CType, List, Text};
+use cx_text::{CType, List, Memory, Text};
 use std::alloc::Global;
 use std::test::Fail;
 
@@ -220,20 +220,33 @@ pub(crate) fn job(alloc: Global, outputs: bool, recover: Recover) -> Result<Job,
     })
 }
 
+/// Adds a byte behind some bytes.
+fn push_byte(text: &mut Text, before: &[u8], byte: u8) -> Result<(), Memory> {
+    text.push_slice(before)?;
+    text.push_slice(&[byte])
+}
+
+fn push_pieces(text: &mut Text, pieces: &[&[u8]]) -> Result<(), Memory> {
+    for piece in pieces {
+        text.push_slice(piece)?;
+    }
+    Ok(())
+}
+
+/// Adds the bytes of an open slot.
+fn push_slot(text: &mut Text, slot: &Slot) -> Result<(), Memory> {
+    let (_, version, iteration, key, outputs, values) = *slot;
+    push_byte(text, b"\x01CXCHKPT", version)?;
+    push_byte(text, b"\0\0\0\0\0\0\0", iteration)?;
+    push_byte(text, b"\0\0\0", u8::try_from(key.len()).unwrap_or(0))?;
+    push_pieces(text, &[key, outputs, values])
+}
+
 /// The bytes of an open slot.
 pub(crate) fn slot_bytes(alloc: Global, slot: &Slot) -> Result<Text, Fail> {
-    let (_, version, iteration, key, outputs, values) = slot;
-    let mut bytes = Vec::new(alloc);
-    bytes.extend_from_slice(b"\x01CXCHKPT")?;
-    bytes.push(*version)?;
-    bytes.extend_from_slice(b"\0\0\0\0\0\0\0")?;
-    bytes.push(*iteration)?;
-    bytes.extend_from_slice(b"\0\0\0")?;
-    bytes.push(u8::try_from(key.len()).unwrap_or(0))?;
-    bytes.extend_from_slice(key)?;
-    bytes.extend_from_slice(outputs)?;
-    bytes.extend_from_slice(values)?;
-    Ok(Text::new(bytes))
+    let mut bytes = Text::new(Vec::new(alloc));
+    push_slot(&mut bytes, slot)?;
+    Ok(bytes)
 }
 
 /// The bytes of the slot with this number, which may be empty.
@@ -246,14 +259,42 @@ fn slot_at(alloc: Global, slots: &[Slot], number: usize) -> Result<Text, Fail> {
     text(alloc, b"")
 }
 
+/// Adds the slot with this number.
+fn push_numbered(
+    alloc: Global,
+    files: &mut List<Text>,
+    slots: &[Slot],
+    number: usize,
+) -> Result<(), Fail> {
+    let bytes = slot_at(alloc, slots, number)?;
+    files.push(bytes)?;
+    Ok(())
+}
+
+/// Adds all slots.
+pub(crate) fn push_slots(
+    alloc: Global,
+    files: &mut List<Text>,
+    slots: &[Slot],
+) -> Result<(), Fail> {
+    for number in 0..SLOTS {
+        push_numbered(alloc, files, slots, number as usize)?;
+    }
+    Ok(())
+}
+
+fn push_output(alloc: Global, files: &mut List<Text>, bytes: &[u8]) -> Result<(), Fail> {
+    let output = text(alloc, bytes)?;
+    files.push(output)?;
+    Ok(())
+}
+
 /// A disk with these slots, and these bytes of the old output and of both outputs.
 pub(crate) fn disk(alloc: Global, slots: &[Slot], outputs: &[&[u8]]) -> Result<MemoryDisk, Fail> {
     let mut files = List::empty(alloc);
-    for number in 0..SLOTS {
-        files.push(slot_at(alloc, slots, number as usize)?)?;
-    }
+    push_slots(alloc, &mut files, slots)?;
     for bytes in outputs {
-        files.push(text(alloc, bytes)?)?;
+        push_output(alloc, &mut files, bytes)?;
     }
     Ok(MemoryDisk::new(alloc, files))
 }
@@ -315,15 +356,25 @@ fn gates(disk: &MemoryDisk) -> (u8, u8) {
     (first.copied().unwrap_or(9), second.copied().unwrap_or(9))
 }
 
-/// What a start comes to, with the gates behind it.
-pub(crate) fn start_words(
+/// What a start comes to.
+fn come_words(
     alloc: Global,
     disk: &mut MemoryDisk,
     outputs: bool,
     recover: Recover,
 ) -> Result<String, Fail> {
     let job = job(alloc, outputs, recover)?;
-    let words = begin_words(alloc, disk, &job)?;
+    begin_words(alloc, disk, &job)
+}
+
+/// The same with the gates behind it.
+pub(crate) fn start_words(
+    alloc: Global,
+    disk: &mut MemoryDisk,
+    outputs: bool,
+    recover: Recover,
+) -> Result<String, Fail> {
+    let words = come_words(alloc, disk, outputs, recover)?;
     let (first, second) = gates(disk);
     Ok(format!(in alloc; "{words}, gates {first} {second}")?)
 }

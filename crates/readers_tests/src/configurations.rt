@@ -6,8 +6,8 @@ ghost use Rattle.cx_text.specs.Printing.{HasSpelling};
 ghost use Rattle.cx_conf.specs.Conf.{configuration};
 
 use crate::common::words;
-use cx_conf::{Configuration, print_configuration, read_configuration, read_thornlist};
-use cx_text::{CclFault, Style, tokens};
+use cx_conf::{Configuration, ThornList, print_configuration, read_configuration, read_thornlist};
+use cx_text::{CclFault, List, Style, Text, tokens};
 use std::alloc::Global;
 use std::test::Fail;
 use test_cases::same;
@@ -60,8 +60,20 @@ const PLACES: [(&str, &str); 6] = [
     ("Integer", "Control"),
 ];
 
+/// Tests one list of a file.
+fn is_list(
+    alloc: Global,
+    file: &str,
+    list: &str,
+    names: &List<Text>,
+    want: &str,
+) -> Result<(), Fail> {
+    let told = words(alloc, names)?;
+    same(&(list, "of", file), &told.as_slice(), &want.as_bytes())
+}
+
 /// The four lists are those of the file, as it was or as it is printed.
-fn assert_lists(alloc: Global, file: &str, tree: &Configuration) -> Result<(), Fail> {
+fn are_lists(alloc: Global, file: &str, tree: &Configuration) -> Result<(), Fail> {
     let lists = [
         &tree.provides,
         &tree.requires_,
@@ -69,8 +81,7 @@ fn assert_lists(alloc: Global, file: &str, tree: &Configuration) -> Result<(), F
         &tree.optional,
     ];
     for (names, (list, want)) in lists.iter().zip(LISTS) {
-        let told = words(alloc, names)?;
-        same(&(list, "of", file), &told.as_slice(), &want.as_bytes())?;
+        is_list(alloc, file, list, names, want)?;
     }
     Ok(())
 }
@@ -84,27 +95,49 @@ fn configuration(alloc: Global, bytes: &[u8]) -> Result<Configuration, Fail>
     Ok(tree)
 }
 
+/// A file has the four lists.
+fn has_lists(alloc: Global, file: &str, bytes: &[u8]) -> Result<(), Fail> {
+    let tree = configuration(alloc, bytes)?;
+    are_lists(alloc, file, &tree)
+}
+
+/// What is printed of the file.
+fn printed(alloc: Global) -> Result<Text, Fail> {
+    let tree = configuration(alloc, FILE)?;
+    Ok(print_configuration(alloc, &tree)?)
+}
+
 #[test]
 fn a_configuration_is_read_and_printed(rt: HostRuntime) -> Result<(), Fail> {
-    let alloc = rt.alloc();
-    let tree = configuration(alloc, FILE)?;
-    assert_lists(alloc, "the file", &tree)?;
-    let text = print_configuration(alloc, &tree)?;
+    has_lists(rt.alloc(), "the file", FILE)?;
+    let text = printed(rt.alloc())?;
     same(&"the printed file", &text.as_slice(), &PRINTED)?;
-    let again = configuration(alloc, text.as_slice())?;
-    assert_lists(alloc, "the printed file", &again)
+    has_lists(rt.alloc(), "the printed file", text.as_slice())
+}
+
+/// The thorn list of the box.
+fn thorn_list(alloc: Global) -> Result<ThornList, Fail> {
+    let list = tokens(alloc, BOX, Style::Thorns)?;
+    Ok(read_thornlist(alloc, &list)?)
+}
+
+/// Tests one place.
+fn is_place(place: &(Text, Text), arrangement: &str, thorn: &str) -> Result<(), Fail> {
+    let found = (place.0.as_slice(), place.1.as_slice());
+    let want = (arrangement.as_bytes(), thorn.as_bytes());
+    same(&(arrangement, thorn), &found, &want)
+}
+
+/// Tests all places.
+fn are_places(places: &[(Text, Text)]) -> Result<(), Fail> {
+    for (place, (arrangement, thorn)) in places.iter().zip(PLACES) {
+        is_place(place, arrangement, thorn)?;
+    }
+    same(&"how many places", &places.len(), &PLACES.len())
 }
 
 #[test]
 fn a_thorn_list_is_read(rt: HostRuntime) -> Result<(), Fail> {
-    let alloc = rt.alloc();
-    let list = tokens(alloc, BOX, Style::Thorns)?;
-    let thorns = read_thornlist(alloc, &list)?;
-    same(&"how many places", &thorns.places.len(), &PLACES.len())?;
-    for (place, (arrangement, thorn)) in thorns.places.as_slice().iter().zip(PLACES) {
-        let found = (place.0.as_slice(), place.1.as_slice());
-        let want = (arrangement.as_bytes(), thorn.as_bytes());
-        same(&(arrangement, thorn), &found, &want)?;
-    }
-    Ok(())
+    let thorns = thorn_list(rt.alloc())?;
+    are_places(thorns.places.as_slice())
 }

@@ -45,27 +45,77 @@ fn may_begin(rules: Rules, body: &[u8], next: Option<&u8>) -> bool {
     }
 }
 
+/// Adds the form in which the next symbol is replaced.
+fn push_replaced(work: &mut Vec<Form>, form: &Form, body: &[u8]) -> Result<(), Memory> {
+    let replaced = replace_next(form, body)?;
+    work.push(replaced)?;
+    Ok(())
+}
+
+/// Adds one form for each rule that may apply.
+fn push_bodies(
+    work: &mut Vec<Form>,
+    form: &Form,
+    rules: Rules,
+    bodies: &[&[u8]],
+    next: Option<&u8>,
+) -> Result<(), Memory> {
+    for body in bodies {
+        if may_begin(rules, body, next) {
+            push_replaced(work, form, body)?;
+        }
+    }
+    Ok(())
+}
+
+/// Adds the form behind a token, if this is the next one.
+fn push_behind(work: &mut Vec<Form>, form: Form, symbol: u8, letters: &[u8]) -> Result<(), Memory> {
+    if letters.get(form.at) == Some(&symbol) {
+        let at = form.at.saturating_add(1);
+        work.push(Form {
+            next: form.next,
+            at,
+        })?;
+    }
+    Ok(())
+}
+
 /// What becomes of a form whose next symbol is this: one form for each rule, or the form behind a token.
 fn push_next(
     work: &mut Vec<Form>,
-    mut form: Form,
+    form: Form,
     rules: Rules,
     symbol: u8,
     letters: &[u8],
 ) -> Result<(), Memory> {
-    let Some(bodies) = bodies_of(rules, symbol) else {
-        if form.at < letters.len() && letters[form.at] == symbol {
-            form.at += 1;
-            work.push(form)?;
-        }
-        return Ok(());
-    };
-    for body in bodies {
-        if may_begin(rules, body, letters.get(form.at)) {
-            work.push(replace_next(&form, body)?)?;
+    match bodies_of(rules, symbol) {
+        Some(bodies) => push_bodies(work, &form, rules, bodies, letters.get(form.at)),
+        None => push_behind(work, form, symbol, letters),
+    }
+}
+
+/// Takes one step with a form.
+fn go_on(
+    work: &mut Vec<Form>,
+    mut form: Form,
+    rules: Rules,
+    letters: &[u8],
+    reach: &mut Reach,
+) -> Result<(), Memory> {
+    reach.begun = reach.begun.max(form.at);
+    match form.next.pop() {
+        Some(symbol) => push_next(work, form, rules, symbol, letters),
+        None => {
+            reach.whole = reach.whole || form.at == letters.len();
+            Ok(())
         }
     }
-    Ok(())
+}
+
+/// The first form.
+fn first_of(alloc: Global, start: u8) -> Result<Form, Memory> {
+    let next = vec![in alloc; start]?;
+    Ok(Form { next, at: 0 })
 }
 
 /// What is derived of these tokens, by trying every rule at every place. Each symbol that isn't a token derives some
@@ -76,20 +126,13 @@ fn reach_of(alloc: Global, rules: Rules, start: u8, letters: &[u8]) -> Result<Re
         whole: false,
         begun: 0,
     };
-    let first = Form {
-        next: vec![in alloc; start]?,
-        at: 0,
-    };
+    let first = first_of(alloc, start)?;
     let mut work = vec![in alloc; first]?;
     for _ in 0..1_000_000 {
-        let Some(mut form) = work.pop() else {
-            break;
+        let Some(form) = work.pop() else {
+            return Ok(reach);
         };
-        reach.begun = reach.begun.max(form.at);
-        match form.next.pop() {
-            Some(symbol) => push_next(&mut work, form, rules, symbol, letters)?,
-            None => reach.whole = reach.whole || form.at == letters.len(),
-        }
+        go_on(&mut work, form, rules, letters, &mut reach)?;
     }
     Ok(reach)
 }

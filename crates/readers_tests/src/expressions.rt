@@ -214,19 +214,28 @@ fn place_behind(alloc: Global, text: &str, at: usize) -> Result<Result<usize, Cc
     }
 }
 
+/// Tests what an expression comes to.
+fn comes(alloc: Global, text: &str, names: Names, want: &str) -> Result<(), Fail> {
+    let told = told(alloc, text, names)?;
+    same(&(text, "with", names), &told.as_str(), &want)
+}
+
+/// Tests a row of `PLACES`.
+fn ends(alloc: Global, text: &str, at: usize, want: &Result<usize, CclFault>) -> Result<(), Fail> {
+    let found = place_behind(alloc, text, at)?;
+    same(&(text, "from", at), &found, want)
+}
+
 #[test]
 fn expressions_have_values_faults_and_ends(rt: HostRuntime) -> Result<(), Fail> {
     for (text, want) in VALUES {
-        let told = told(rt.alloc(), text, Names::Fives)?;
-        same(&text, &told.as_str(), want)?;
+        comes(rt.alloc(), text, Names::Fives, want)?;
     }
     for (text, names, want) in NAMES {
-        let told = told(rt.alloc(), text, *names)?;
-        same(&(text, "with", names), &told.as_str(), want)?;
+        comes(rt.alloc(), text, *names, want)?;
     }
     for (text, at, want) in PLACES {
-        let found = place_behind(rt.alloc(), text, *at)?;
-        same(&(text, "from", at), &found, want)?;
+        ends(rt.alloc(), text, *at, want)?;
     }
     Ok(())
 }
@@ -256,28 +265,34 @@ fn value<L: Lookup>(alloc: Global, text: &str, names: &L) -> Result<Option<i64>,
     Ok(eval(&e, names).ok())
 }
 
+/// Tests how an expression is printed.
+fn is_printed(alloc: Global, text: &str, line: &str) -> Result<(), Fail> {
+    let again = printed(alloc, text)?;
+    same(&text, &again.as_slice(), &line.as_bytes())
+}
+
+/// Tests the value of an expression.
+fn has_value<L: Lookup>(alloc: Global, text: &str, want: i64, names: &L) -> Result<(), Fail> {
+    let value = value(alloc, text, names)?;
+    same(&text, &value, &Some(want))
+}
+
 /// An expression is printed so, and what is printed says the same.
-fn assert_printed<L: Lookup>(
-    alloc: Global,
-    row: &(&str, i64, &str),
-    names: &L,
-) -> Result<(), Fail> {
-    let (text, want, line) = row;
-    for spelled in [*text, *line] {
-        let again = printed(alloc, spelled)?;
-        same(&spelled, &again.as_slice(), &line.as_bytes())?;
-        same(&spelled, &value(alloc, spelled, names)?, &Some(*want))?;
-    }
-    Ok(())
+fn says<L: Lookup>(alloc: Global, row: &(&str, i64, &str), names: &L) -> Result<(), Fail> {
+    let (text, want, line) = *row;
+    is_printed(alloc, text, line)?;
+    is_printed(alloc, line, line)?;
+    has_value(alloc, text, want, names)?;
+    has_value(alloc, line, want, names)
 }
 
 #[test]
 fn expressions_are_printed_and_read_again(rt: HostRuntime) -> Result<(), Fail> {
     for row in PRINTED {
-        assert_printed(rt.alloc(), row, &Five)?;
+        says(rt.alloc(), row, &Five)?;
     }
     for row in TEXTS {
-        assert_printed(rt.alloc(), row, &Point)?;
+        says(rt.alloc(), row, &Point)?;
     }
     Ok(())
 }

@@ -42,33 +42,43 @@ pub fn style_of(kind: Kind) -> Style {
     }
 }
 
+/// The first fault of a parameter file.
+fn parfile_fault(alloc: Global, list: &List<Token>) -> Result<Option<CclFault>, Memory> {
+    let base = Text::from_slice(alloc, b"box")?;
+    Ok(read_parfile(alloc, list, &base).err())
+}
+
 /// The first fault of a list of tokens.
 pub fn fault_in(alloc: Global, kind: Kind, list: &List<Token>) -> Result<Option<CclFault>, Memory> {
-    let base = Text::from_slice(alloc, b"box")?;
     Ok(match kind {
         Kind::Interface => read_interface(alloc, list).err(),
         Kind::Params => read_params(alloc, list).err(),
         Kind::Schedule => read_schedule(alloc, list).err(),
         Kind::Configuration => read_configuration(alloc, list).err(),
         Kind::ThornList => read_thornlist(alloc, list).err(),
-        Kind::ParameterFile => read_parfile(alloc, list, &base).err(),
+        Kind::ParameterFile => parfile_fault(alloc, list)?,
         Kind::SteerFile => read_steer(alloc, list).err(),
     })
 }
 
-fn assert_faults(alloc: Global, kind: Kind, faults: &[(&str, CclFault)]) -> Result<(), Fail> {
-    for (text, want) in faults {
-        let list = tokens(alloc, text.as_bytes(), style_of(kind))?;
-        let fault = fault_in(alloc, kind, &list)?;
-        same(&(text, "as", kind), &fault, &Some(*want))?;
-    }
-    Ok(())
+/// The first fault of a text.
+fn fault_of(alloc: Global, kind: Kind, text: &str) -> Result<Option<CclFault>, Fail> {
+    let list = tokens(alloc, text.as_bytes(), style_of(kind))?;
+    Ok(fault_in(alloc, kind, &list)?)
+}
+
+/// Tests the first fault of a text.
+fn has_fault(alloc: Global, kind: Kind, text: &str, want: CclFault) -> Result<(), Fail> {
+    let fault = fault_of(alloc, kind, text)?;
+    same(&(text, "as", kind), &fault, &Some(want))
 }
 
 #[test]
 fn faults_stand_on_these_lines(rt: HostRuntime) -> Result<(), Fail> {
     for (kind, faults) in FAULTS {
-        assert_faults(rt.alloc(), *kind, faults)?;
+        for (text, want) in *faults {
+            has_fault(rt.alloc(), *kind, text, *want)?;
+        }
     }
     Ok(())
 }

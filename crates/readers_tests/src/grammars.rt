@@ -90,6 +90,18 @@ fn token(alloc: Global, grammar: &Grammar, letter: u8, line: u32) -> Result<Toke
     })
 }
 
+/// Adds a token of this letter.
+fn push_token(
+    alloc: Global,
+    list: &mut List<Token>,
+    grammar: &Grammar,
+    letter: u8,
+    line: u32,
+) -> Result<(), Memory> {
+    let token = token(alloc, grammar, letter, line)?;
+    list.push(token)
+}
+
 /// The list of these tokens, each on a line of its own.
 fn list_of(
     alloc: Global,
@@ -101,7 +113,7 @@ fn list_of(
     let mut line: u32 = 0;
     for letter in beginning.iter().chain(pair.iter()) {
         line = line.saturating_add(2);
-        list.push(token(alloc, grammar, *letter, line)?)?;
+        push_token(alloc, &mut list, grammar, *letter, line)?;
     }
     Ok(list)
 }
@@ -124,28 +136,61 @@ fn assert_derived(
     same(&(grammar.file, letters), &found, &want)
 }
 
+/// A list is read as its letters are derived, unless they are those before and the grammar tries them once.
+fn assert_list(
+    alloc: Global,
+    grammar: &Grammar,
+    list: &List<Token>,
+    before: &[u8],
+) -> Result<Vec<u8>, Fail> {
+    let letters = letters(alloc, grammar, list.as_slice())?;
+    if !grammar.once || letters.as_slice() != before {
+        assert_derived(alloc, grammar, &letters, list)?;
+    }
+    Ok(letters)
+}
+
+fn assert_pair(
+    alloc: Global,
+    grammar: &Grammar,
+    beginning: &[u8],
+    pair: [u8; 2],
+) -> Result<(), Fail> {
+    let list = list_of(alloc, grammar, beginning, pair)?;
+    let letters = letters(alloc, grammar, list.as_slice())?;
+    assert_derived(alloc, grammar, &letters, &list)
+}
+
 fn assert_pairs(alloc: Global, grammar: &Grammar, beginning: &[u8]) -> Result<(), Fail> {
     for first in grammar.tried {
         for second in grammar.tried {
-            let list = list_of(alloc, grammar, beginning, [*first, *second])?;
-            let letters = letters(alloc, grammar, list.as_slice())?;
-            assert_derived(alloc, grammar, &letters, &list)?;
+            assert_pair(alloc, grammar, beginning, [*first, *second])?;
         }
     }
     Ok(())
 }
 
-/// Each beginning of a file is read as it is derived. One that is cut in a quoted text has no tokens.
+/// The beginning of a file is read as it is derived. One that is cut in a quoted text has no tokens.
+fn assert_beginning(
+    alloc: Global,
+    grammar: &Grammar,
+    bytes: &[u8],
+    before: &mut Vec<u8>,
+) -> Result<(), Fail> {
+    match tokens(alloc, bytes, style_of(grammar.file)) {
+        Ok(list) => {
+            *before = assert_list(alloc, grammar, &list, before)?;
+            Ok(())
+        }
+        Err(_) => Ok(()),
+    }
+}
+
+/// Each beginning of a file is read as it is derived.
 fn assert_cut(alloc: Global, grammar: &Grammar, text: &[u8]) -> Result<(), Fail> {
     let mut before = Vec::new(alloc);
     for end in 0..=text.len() {
-        if let Ok(list) = tokens(alloc, &text[..end], style_of(grammar.file)) {
-            let letters = letters(alloc, grammar, list.as_slice())?;
-            if !grammar.once || letters.as_slice() != before.as_slice() {
-                assert_derived(alloc, grammar, &letters, &list)?;
-                before = letters;
-            }
-        }
+        assert_beginning(alloc, grammar, &text[..end], &mut before)?;
     }
     Ok(())
 }

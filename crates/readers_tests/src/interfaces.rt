@@ -7,7 +7,7 @@ ghost use Rattle.cx_iface.specs.File.{interface};
 
 use crate::common::words;
 use cx_iface::{Access, GType, Group, Interface, print_interface, read_interface};
-use cx_text::{CType, CclFault, Style, tokens};
+use cx_text::{CType, CclFault, Style, Text, tokens};
 use sample_files::{control, diffint, elemca, life2d, waveint};
 use std::alloc::Global;
 use std::test::Fail;
@@ -135,11 +135,8 @@ fn interface(alloc: Global, text: &[u8]) -> Result<Interface, Fail>
     Ok(tree)
 }
 
-fn assert_group(alloc: Global, group: &Group, want: &Form) -> Result<(), Fail> {
-    let declared = (group.access, group.ctype, group.copies);
-    same(&("group", want.name), &declared, &want.declared)?;
-    let kind = (group.gtype, group.dim, group.levels, group.rest.len());
-    same(&("group", want.name), &kind, &want.kind)?;
+/// Tests the name, the variables and the text of a group.
+fn has_texts(alloc: Global, group: &Group, want: &Form) -> Result<(), Fail> {
     let variables = words(alloc, &group.variables)?;
     let texts = (
         group.name.as_slice(),
@@ -151,41 +148,76 @@ fn assert_group(alloc: Global, group: &Group, want: &Form) -> Result<(), Fail> {
     same(&("group", name), &texts, &wanted)
 }
 
+/// Tests a row of `GROUPS`.
+fn has_form(alloc: Global, group: &Group, want: &Form) -> Result<(), Fail> {
+    let declared = (group.access, group.ctype, group.copies);
+    same(&("group", want.name), &declared, &want.declared)?;
+    let kind = (group.gtype, group.dim, group.levels, group.rest.len());
+    same(&("group", want.name), &kind, &want.kind)?;
+    has_texts(alloc, group, want)
+}
+
+/// Tests the groups of the file with every form.
+fn has_forms(alloc: Global, groups: &[Group]) -> Result<(), Fail> {
+    for (group, want) in groups.iter().zip(GROUPS) {
+        has_form(alloc, group, want)?;
+    }
+    same(&"how many groups", &groups.len(), &GROUPS.len())
+}
+
+/// Tests what that file has beside them.
+fn has_headers(tree: &Interface) -> Result<(), Fail> {
+    let headers = (
+        tree.implements.as_slice(),
+        tree.inherits.len(),
+        tree.friends.len(),
+        tree.others.len(),
+    );
+    let want = (b"all".as_slice(), 3, 1, 4);
+    same(
+        &"implements, inherits, friends, other lines",
+        &headers,
+        &want,
+    )
+}
+
 #[test]
 fn each_form_is_read(rt: HostRuntime) -> Result<(), Fail> {
     let tree = interface(rt.alloc(), FORMS)?;
-    same(
-        &"implements",
-        &tree.implements.as_slice(),
-        &b"all".as_slice(),
-    )?;
-    let counts = (tree.inherits.len(), tree.friends.len(), tree.others.len());
-    same(&"inherits, friends, other lines", &counts, &(3, 1, 4))?;
-    same(&"how many groups", &tree.groups.len(), &GROUPS.len())?;
-    for (group, want) in tree.groups.as_slice().iter().zip(GROUPS) {
-        assert_group(rt.alloc(), group, want)?;
-    }
-    Ok(())
+    has_headers(&tree)?;
+    has_forms(rt.alloc(), tree.groups.as_slice())
+}
+
+/// What is printed of a file.
+fn printed(alloc: Global, text: &[u8]) -> Result<Text, Fail> {
+    let tree = interface(alloc, text)?;
+    Ok(print_interface(alloc, &tree)?)
+}
+
+/// All that a file says, in words.
+fn said(alloc: Global, text: &[u8]) -> Result<String, Fail> {
+    let tree = interface(alloc, text)?;
+    Ok(format!(in alloc; "{tree:?}")?)
+}
+
+/// A file and what is printed of it say the same.
+fn says(alloc: Global, name: &str, text: &[u8], line: &[u8]) -> Result<(), Fail> {
+    let first = said(alloc, text)?;
+    let again = said(alloc, line)?;
+    same(&name, &first, &again)
 }
 
 /// A file is printed as a text that says the same.
-fn assert_again(alloc: Global, name: &str, text: &[u8]) -> Result<(), Fail> {
-    let tree = interface(alloc, text)?;
-    let printed = print_interface(alloc, &tree)?;
-    let again = interface(alloc, printed.as_slice())?;
-    let (one, other) = (
-        format!(in alloc; "{tree:?}")?,
-        format!(in alloc; "{again:?}")?,
-    );
-    same(&name, &one, &other)
+fn is_said_again(alloc: Global, name: &str, text: &[u8]) -> Result<(), Fail> {
+    let printed = printed(alloc, text)?;
+    says(alloc, name, text, printed.as_slice())
 }
 
 #[test]
 fn files_are_printed_and_read_again(rt: HostRuntime) -> Result<(), Fail> {
     for (name, text) in FILES {
-        assert_again(rt.alloc(), name, text)?;
+        is_said_again(rt.alloc(), name, text)?;
     }
-    let tree = interface(rt.alloc(), PLAIN)?;
-    let printed = print_interface(rt.alloc(), &tree)?;
+    let printed = printed(rt.alloc(), PLAIN)?;
     same(&"the plain file", &printed.as_slice(), &PRINTED)
 }

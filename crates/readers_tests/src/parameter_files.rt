@@ -1,6 +1,6 @@
 //! Texts of parameter files.
 
-use cx_parfile::{Settings, base_of, print_parfile, read_parfile};
+use cx_parfile::{Setting, Settings, base_of, print_parfile, read_parfile};
 use cx_text::{CclFault, Style, Text, tokens};
 use std::alloc::Global;
 use std::test::Fail;
@@ -61,41 +61,60 @@ fn owner_of(owner: &Option<Text>) -> &[u8] {
     }
 }
 
-fn assert_active(settings: &Settings) -> Result<(), Fail> {
-    same(&"how many thorns", &settings.active.len(), &ACTIVE.len())?;
-    for (thorn, want) in settings.active.as_slice().iter().zip(ACTIVE) {
+fn are_active(active: &[Text]) -> Result<(), Fail> {
+    for (thorn, want) in active.iter().zip(ACTIVE) {
         same(&("thorn", want), &thorn.as_slice(), &want.as_bytes())?;
     }
-    Ok(())
+    same(&"how many thorns", &active.len(), &ACTIVE.len())
 }
 
-fn assert_settings(settings: &Settings) -> Result<(), Fail> {
-    same(&"how many settings", &settings.list.len(), &SETTINGS.len())?;
-    for (setting, want) in settings.list.as_slice().iter().zip(SETTINGS) {
-        let (owner, name, index, value, line) = *want;
-        let texts = (
-            owner_of(&setting.owner),
-            setting.name.as_slice(),
-            setting.value.as_slice(),
-        );
-        let wanted = (owner.as_bytes(), name.as_bytes(), value.as_bytes());
-        same(&("setting", name), &texts, &wanted)?;
-        let place = (setting.index, setting.line);
-        same(&("setting", name), &place, &(index, line))?;
+/// Tests a row of `SETTINGS`.
+fn is_setting(setting: &Setting, want: &Line) -> Result<(), Fail> {
+    let (owner, name, index, value, line) = *want;
+    let texts = (
+        owner_of(&setting.owner),
+        setting.name.as_slice(),
+        setting.value.as_slice(),
+    );
+    let wanted = (owner.as_bytes(), name.as_bytes(), value.as_bytes());
+    same(&("setting", name), &texts, &wanted)?;
+    let place = (setting.index, setting.line);
+    same(&("setting", name), &place, &(index, line))
+}
+
+fn are_settings(settings: &[Setting]) -> Result<(), Fail> {
+    for (setting, want) in settings.iter().zip(SETTINGS) {
+        is_setting(setting, want)?;
     }
-    Ok(())
+    same(&"how many settings", &settings.len(), &SETTINGS.len())
+}
+
+/// What a parameter file with the base name `box` says.
+fn settings(alloc: Global, file: &[u8]) -> Result<Settings, Fail> {
+    let base = text(alloc, b"box")?;
+    let list = tokens(alloc, file, Style::Par)?;
+    Ok(read_parfile(alloc, &list, &base)?)
+}
+
+/// Tests a row of `BASES`.
+fn has_base(alloc: Global, file: &str, want: &str) -> Result<(), Fail> {
+    let name = text(alloc, file.as_bytes())?;
+    let base = base_of(alloc, &name)?;
+    same(&file, &base.as_slice(), &want.as_bytes())
+}
+
+/// Tests what the box's file says.
+fn is_box(alloc: Global) -> Result<(), Fail> {
+    let settings = settings(alloc, BOX)?;
+    are_active(settings.active.as_slice())?;
+    are_settings(settings.list.as_slice())
 }
 
 #[test]
 fn a_parameter_file_is_read_and_has_its_base_name(rt: HostRuntime) -> Result<(), Fail> {
-    let alloc = rt.alloc();
-    let list = tokens(alloc, BOX, Style::Par)?;
-    let settings = read_parfile(alloc, &list, &text(alloc, b"box")?)?;
-    assert_active(&settings)?;
-    assert_settings(&settings)?;
+    is_box(rt.alloc())?;
     for (file, want) in BASES {
-        let base = base_of(alloc, &text(alloc, file.as_bytes())?)?;
-        same(&file, &base.as_slice(), &want.as_bytes())?;
+        has_base(rt.alloc(), file, want)?;
     }
     Ok(())
 }
@@ -114,20 +133,17 @@ const PRINTED: &[(&str, &[u8], &[u8])] = &[
     ),
 ];
 
-fn assert_printed(alloc: Global, name: &str, file: &[u8], want: &[u8]) -> Result<(), Fail> {
-    let base = text(alloc, b"box")?;
-    let list = tokens(alloc, file, Style::Par)?;
-    let settings = read_parfile(alloc, &list, &base)?;
+fn is_printed(alloc: Global, name: &str, file: &[u8], want: &[u8]) -> Result<(), Fail> {
+    let settings = settings(alloc, file)?;
     let printed = print_parfile(alloc, &settings)?;
     same(&name, &printed.as_slice(), &want)
 }
 
 #[test]
 fn what_is_printed_is_read_and_printed_again(rt: HostRuntime) -> Result<(), Fail> {
-    let alloc = rt.alloc();
     for (name, file, want) in PRINTED {
-        assert_printed(alloc, name, file, want)?;
-        assert_printed(alloc, name, want, want)?;
+        is_printed(rt.alloc(), name, file, want)?;
+        is_printed(rt.alloc(), name, want, want)?;
     }
     Ok(())
 }

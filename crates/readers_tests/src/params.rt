@@ -6,7 +6,7 @@ ghost use Rattle.cx_text.specs.Printing.{HasSpelling};
 ghost use Rattle.cx_param.specs.Params.{params};
 
 use cx_param::{ParamDecl, Steer, Value, allows, print_params, read_params};
-use cx_text::{CclFault, List, Style, Text, tokens};
+use cx_text::{CclFault, List, Memory, Style, Text, tokens};
 use sample_files::{control, elemca, life2d, waveint};
 use std::alloc::Global;
 use std::test::Fail;
@@ -165,68 +165,98 @@ fn declarations(alloc: Global, bytes: &[u8]) -> Result<List<ParamDecl>, Fail>
     Ok(decls)
 }
 
-/// How many declarations a file has, and whether what is printed of it is printed again of what it is read as.
-fn printed_again(alloc: Global, bytes: &[u8]) -> Result<(usize, bool), Fail> {
+/// What is printed of a file.
+fn printed(alloc: Global, bytes: &[u8]) -> Result<Text, Fail> {
     let decls = declarations(alloc, bytes)?;
-    let text = print_params(alloc, &decls)?;
-    let again = declarations(alloc, text.as_slice())?;
-    let same = print_params(alloc, &again)?;
-    Ok((decls.len(), text.as_slice() == same.as_slice()))
+    Ok(print_params(alloc, &decls)?)
 }
 
-fn last_default(alloc: Global, bytes: &[u8], want: &[u8]) -> Result<bool, Fail> {
-    let decls = declarations(alloc, bytes)?;
-    match decls.as_slice() {
+/// Tests what is printed of a file.
+fn is_printed(alloc: Global, name: &str, bytes: &[u8], want: &[u8]) -> Result<(), Fail> {
+    let text = printed(alloc, bytes)?;
+    same(&(name, "as it is printed"), &text.as_slice(), &want)
+}
+
+/// What is printed of a file is printed again of what it is read as.
+fn is_printed_again(alloc: Global, name: &str, bytes: &[u8]) -> Result<(), Fail> {
+    let text = printed(alloc, bytes)?;
+    is_printed(alloc, name, text.as_slice(), text.as_slice())
+}
+
+/// The text of the last declaration's default.
+fn last_default(decls: &[ParamDecl]) -> Option<&[u8]> {
+    match decls {
         [
             ..,
             ParamDecl {
                 default: Some(text),
                 ..
             },
-        ] => Ok(text.as_slice() == want),
-        _ => Ok(false),
+        ] => Some(text.as_slice()),
+        _ => None,
+    }
+}
+
+/// Tests how many declarations a file has, and the last one's default.
+fn has_declarations(
+    alloc: Global,
+    name: &str,
+    bytes: &[u8],
+    count: usize,
+    default: &[u8],
+) -> Result<(), Fail> {
+    let decls = declarations(alloc, bytes)?;
+    let found = (decls.len(), last_default(decls.as_slice()));
+    same(&name, &found, &(count, Some(default)))
+}
+
+/// The file of a parameter with this block.
+fn file_of(alloc: Global, ptype: &str, block: &str) -> Result<Text, Memory> {
+    let mut text = Text::from_slice(alloc, ptype.as_bytes())?;
+    text.push_slice(b" a {")?;
+    text.push_slice(block.as_bytes())?;
+    text.push_slice(b"} 0\n")?;
+    Ok(text)
+}
+
+/// Whether the one parameter may have this value.
+fn allow(decls: &[ParamDecl], value: &Value) -> bool {
+    match decls {
+        [decl] => decl.steer == Steer::Never && allows(&decl.ranges, value),
+        _ => false,
     }
 }
 
 /// Whether a parameter with this block may have this value.
 fn allowed(alloc: Global, ptype: &str, block: &str, value: &Value) -> Result<bool, Fail> {
-    let mut text = Text::from_slice(alloc, ptype.as_bytes())?;
-    text.push_slice(b" a {")?;
-    text.push_slice(block.as_bytes())?;
-    text.push_slice(b"} 0\n")?;
+    let text = file_of(alloc, ptype, block)?;
     let decls = declarations(alloc, text.as_slice())?;
-    match decls.as_slice() {
-        [decl] => Ok(decl.steer == Steer::Never && allows(&decl.ranges, value)),
-        _ => Ok(false),
-    }
+    Ok(allow(decls.as_slice(), value))
 }
 
 #[test]
 fn files_are_read_and_printed(rt: HostRuntime) -> Result<(), Fail> {
     for (name, bytes, count, default) in FILES {
-        let found = printed_again(rt.alloc(), bytes)?;
-        same(&name, &found, &(*count, true))?;
-        same(&name, &last_default(rt.alloc(), bytes, default)?, &true)?;
+        is_printed_again(rt.alloc(), name, bytes)?;
+        has_declarations(rt.alloc(), name, bytes, *count, default)?;
     }
-    let decls = declarations(rt.alloc(), elemca::PARAM)?;
-    let text = print_params(rt.alloc(), &decls)?;
-    same(&"ElemCA as it is printed", &text.as_slice(), &PRINTED)
+    is_printed(rt.alloc(), "ElemCA", elemca::PARAM, PRINTED)
 }
 
-fn assert_allowed(alloc: Global, block: &str, n: i64, want: bool) -> Result<(), Fail> {
+fn is_number_allowed(alloc: Global, block: &str, n: i64, want: bool) -> Result<(), Fail> {
     let found = allowed(alloc, "INT", block, &Value::Number(n))?;
     same(&(n, "in", block), &found, &want)
 }
 
 /// A block allows both ends and nothing beyond them.
-fn assert_ends(alloc: Global, block: &str, low: i64, high: i64) -> Result<(), Fail> {
+fn are_ends(alloc: Global, block: &str, low: i64, high: i64) -> Result<(), Fail> {
     for (n, want) in [
         (low.saturating_sub(1), false),
         (low, true),
         (high, true),
         (high.saturating_add(1), false),
     ] {
-        assert_allowed(alloc, block, n, want)?;
+        is_number_allowed(alloc, block, n, want)?;
     }
     Ok(())
 }
@@ -248,20 +278,29 @@ const TEXTS: &[(&str, &str, &str, bool)] = &[
     ("CCTK_STRING", "", "", true),
 ];
 
+fn is_text_allowed(
+    alloc: Global,
+    ptype: &str,
+    block: &str,
+    text: &str,
+    want: bool,
+) -> Result<(), Fail> {
+    let value = Value::Text(Text::from_slice(alloc, text.as_bytes())?);
+    let found = allowed(alloc, ptype, block, &value)?;
+    same(&(text, "in", ptype, block), &found, &want)
+}
+
 #[test]
 fn numbers_up_to_both_ends_and_texts_are_allowed(rt: HostRuntime) -> Result<(), Fail> {
-    let alloc = rt.alloc();
     for (block, n, want) in NUMBERS {
-        assert_allowed(alloc, block, *n, *want)?;
+        is_number_allowed(rt.alloc(), block, *n, *want)?;
     }
     for (block, low, high) in ENDS {
-        assert_ends(alloc, block, *low, *high)?;
+        are_ends(rt.alloc(), block, *low, *high)?;
     }
     for (ptype, block, text, want) in TEXTS {
-        let value = Value::Text(Text::from_slice(alloc, text.as_bytes())?);
-        let found = allowed(alloc, ptype, block, &value)?;
-        same(&(text, "in", ptype, block), &found, want)?;
+        is_text_allowed(rt.alloc(), ptype, block, text, *want)?;
     }
-    let found = allowed(alloc, "bool", "", &Value::Flag(true))?;
+    let found = allowed(rt.alloc(), "bool", "", &Value::Flag(true))?;
     same(&"yes in bool { }", &found, &true)
 }

@@ -1,6 +1,6 @@
 //! Files of thorns and runs, read and printed.
 
-use cx_text::{Style, print_tokens, tokens};
+use cx_text::{Style, Text, Token, print_tokens, tokens};
 use sample_files::{THORN_LIST, control, diffint, elemca, life2d, waveint};
 use std::alloc::Global;
 use std::test::Fail;
@@ -51,27 +51,53 @@ IO::checkpoint_keep  = 2
 IO::recover          = "autoprobe"
 "#;
 
-/// How many tokens a file in style Ccl has, and whether its printed text has the same.
-fn printed_again(alloc: Global, bytes: &[u8]) -> Result<(usize, bool), Fail> {
+/// What is printed of a file in style Ccl.
+fn printed(alloc: Global, bytes: &[u8]) -> Result<Text, Fail> {
     let list = tokens(alloc, bytes, Style::Ccl)?;
-    let text = print_tokens(alloc, &list)?;
-    let again = tokens(alloc, text.as_slice(), Style::Ccl)?;
-    let pairs = list.as_slice().iter().zip(again.as_slice());
+    Ok(print_tokens(alloc, &list)?)
+}
+
+/// Whether these are the same tokens, but for their lines.
+fn are_same(list: &[Token], again: &[Token]) -> bool {
     let mut same = list.len() == again.len();
-    for (token, other) in pairs {
+    for (token, other) in list.iter().zip(again) {
         same = same && token.kind == other.kind && token.text.as_slice() == other.text.as_slice();
     }
-    Ok((list.len(), same))
+    same
+}
+
+/// How many tokens a file in style Ccl has, and whether this text has the same.
+fn spelled_by(alloc: Global, bytes: &[u8], text: &[u8]) -> Result<(usize, bool), Fail> {
+    let list = tokens(alloc, bytes, Style::Ccl)?;
+    let again = tokens(alloc, text, Style::Ccl)?;
+    Ok((list.len(), are_same(list.as_slice(), again.as_slice())))
+}
+
+/// Tests how many tokens a file has, and whether its printed text has the same.
+fn has_tokens(alloc: Global, name: &str, bytes: &[u8], count: usize) -> Result<(), Fail> {
+    let text = printed(alloc, bytes)?;
+    let found = spelled_by(alloc, bytes, text.as_slice())?;
+    same(&name, &found, &(count, true))
+}
+
+/// Tests how many tokens a file in another style has.
+fn has_so_many(
+    alloc: Global,
+    name: &str,
+    bytes: &[u8],
+    style: Style,
+    count: usize,
+) -> Result<(), Fail> {
+    let list = tokens(alloc, bytes, style)?;
+    same(&name, &list.len(), &count)
 }
 
 #[test]
 fn files_are_read_and_printed(rt: HostRuntime) -> Result<(), Fail> {
+    let alloc = rt.alloc();
     for (name, bytes, count) in CCL_FILES {
-        let found = printed_again(rt.alloc(), bytes)?;
-        same(&name, &found, &(*count, true))?;
+        has_tokens(alloc, name, bytes, *count)?;
     }
-    let settings = tokens(rt.alloc(), PARAMETER_FILE, Style::Par)?;
-    same(&"the parameter file", &settings.len(), &(4 * 17))?;
-    let thorns = tokens(rt.alloc(), THORN_LIST, Style::Thorns)?;
-    same(&"the list of seven thorns", &thorns.len(), &(2 * 7))
+    has_so_many(alloc, "settings", PARAMETER_FILE, Style::Par, 4 * 17)?;
+    has_so_many(alloc, "seven thorns", THORN_LIST, Style::Thorns, 2 * 7)
 }

@@ -7,7 +7,7 @@ ghost use Rattle.cx_sched.specs.Nodes.{schedule};
 
 use cx_plan::Region;
 use cx_sched::{Block, Node, Ref, ScheduleFile, Spot, print_schedule, read_schedule};
-use cx_text::{CclFault, List, Style, Text, tokens};
+use cx_text::{CclFault, List, Style, Text, Token, tokens};
 use sample_files::{control, diffint, elemca, life2d, waveint};
 use std::alloc::Global;
 use std::test::Fail;
@@ -158,13 +158,22 @@ fn file_of(alloc: Global, text: &[u8]) -> Result<ScheduleFile, Fail>
     Ok(file)
 }
 
-/// Whether what is printed of a file is printed again of what it is read as.
-fn is_printed_again(alloc: Global, text: &[u8]) -> Result<bool, Fail> {
+/// What is printed of a file.
+fn printed(alloc: Global, text: &[u8]) -> Result<Text, Fail> {
     let file = file_of(alloc, text)?;
-    let first = print_schedule(alloc, &file)?;
-    let again = file_of(alloc, first.as_slice())?;
-    let second = print_schedule(alloc, &again)?;
-    Ok(first.as_slice() == second.as_slice())
+    Ok(print_schedule(alloc, &file)?)
+}
+
+/// Tests what is printed of a file.
+fn is_printed(alloc: Global, name: &str, text: &[u8], want: &[u8]) -> Result<(), Fail> {
+    let printed = printed(alloc, text)?;
+    same(&(name, "as it is printed"), &printed.as_slice(), &want)
+}
+
+/// What is printed of a file is printed again of what it is read as.
+fn is_printed_again(alloc: Global, name: &str, text: &[u8]) -> Result<(), Fail> {
+    let first = printed(alloc, text)?;
+    is_printed(alloc, name, first.as_slice(), first.as_slice())
 }
 
 fn push(out: &mut Vec<u8>, text: &[u8]) -> Result<(), Fail> {
@@ -174,26 +183,42 @@ fn push(out: &mut Vec<u8>, text: &[u8]) -> Result<(), Fail> {
     Ok(())
 }
 
+/// Adds two pieces.
+fn push_both(out: &mut Vec<u8>, first: &[u8], second: &[u8]) -> Result<(), Fail> {
+    push(out, first)?;
+    push(out, second)
+}
+
+fn push_owner(out: &mut Vec<u8>, owner: &Option<Text>) -> Result<(), Fail> {
+    match owner {
+        Some(owner) => push_both(out, owner.as_slice(), b"::"),
+        None => Ok(()),
+    }
+}
+
+fn push_number(alloc: Global, out: &mut Vec<u8>, number: Option<u32>) -> Result<(), Fail> {
+    match number {
+        Some(number) => push(out, format!(in alloc; "[{number}]")?.as_bytes()),
+        None => Ok(()),
+    }
+}
+
 fn push_ref(alloc: Global, out: &mut Vec<u8>, name: &Ref, number: Option<u32>) -> Result<(), Fail> {
     push(out, b" ")?;
-    if let Some(owner) = &name.owner {
-        push(out, owner.as_slice())?;
-        push(out, b"::")?;
-    }
+    push_owner(out, &name.owner)?;
     push(out, name.name.as_slice())?;
-    if let Some(number) = number {
-        push(out, format!(in alloc; "[{number}]")?.as_bytes())?;
-    }
-    Ok(())
+    push_number(alloc, out, number)
+}
+
+/// Adds a word unless nothing follows it.
+fn push_word(out: &mut Vec<u8>, word: &[u8], is_last: bool) -> Result<(), Fail> {
+    if is_last { Ok(()) } else { push(out, word) }
 }
 
 fn push_names(out: &mut Vec<u8>, word: &[u8], names: &[Text]) -> Result<(), Fail> {
-    if !names.is_empty() {
-        push(out, word)?;
-    }
+    push_word(out, word, names.is_empty())?;
     for name in names {
-        push(out, b" ")?;
-        push(out, name.as_slice())?;
+        push_both(out, b" ", name.as_slice())?;
     }
     Ok(())
 }
@@ -204,11 +229,24 @@ fn push_scalar(
     word: &[u8],
     name: &Option<Ref>,
 ) -> Result<(), Fail> {
-    if let Some(name) = name {
-        push(out, word)?;
-        push_ref(alloc, out, name, name.copy)?;
+    let Some(name) = name else {
+        return Ok(());
+    };
+    push(out, word)?;
+    push_ref(alloc, out, name, name.copy)
+}
+
+fn region_word(region: Region) -> &'static [u8] {
+    match region {
+        Region::Interior => b"(interior)",
+        Region::Boundary => b"(boundary)",
+        Region::Everywhere => b"(everywhere)",
     }
-    Ok(())
+}
+
+fn push_touch(alloc: Global, out: &mut Vec<u8>, name: &Ref, region: Region) -> Result<(), Fail> {
+    push_ref(alloc, out, name, name.copy)?;
+    push(out, region_word(region))
 }
 
 fn push_access(
@@ -217,120 +255,151 @@ fn push_access(
     word: &[u8],
     access: &[(Ref, Region)],
 ) -> Result<(), Fail> {
-    if !access.is_empty() {
-        push(out, word)?;
-    }
+    push_word(out, word, access.is_empty())?;
     for (name, region) in access {
-        push_ref(alloc, out, name, name.copy)?;
-        let region: &[u8] = match region {
-            Region::Interior => b"(interior)",
-            Region::Boundary => b"(boundary)",
-            Region::Everywhere => b"(everywhere)",
-        };
-        push(out, region)?;
+        push_touch(alloc, out, name, *region)?;
     }
     Ok(())
 }
 
-/// What a block says before its lines.
-fn push_head(alloc: Global, out: &mut Vec<u8>, block: &Block) -> Result<(), Fail> {
-    if block.group {
-        push(out, b"group ")?;
+fn push_spot(out: &mut Vec<u8>, spot: &Spot) -> Result<(), Fail> {
+    match spot {
+        Spot::At(bin) => push_both(out, b" at ", bin.as_slice()),
+        Spot::Inside(group) => push_both(out, b" in ", group.as_slice()),
     }
+}
+
+fn push_alias(out: &mut Vec<u8>, alias: &Option<Text>) -> Result<(), Fail> {
+    match alias {
+        Some(alias) => push_both(out, b" as ", alias.as_slice()),
+        None => Ok(()),
+    }
+}
+
+/// What a block says before its clauses.
+fn push_head(out: &mut Vec<u8>, block: &Block) -> Result<(), Fail> {
+    push_word(out, b"group ", !block.group)?;
     push(out, block.name.as_slice())?;
-    match &block.spot {
-        Spot::At(bin) => {
-            push(out, b" at ")?;
-            push(out, bin.as_slice())?;
-        }
-        Spot::Inside(group) => {
-            push(out, b" in ")?;
-            push(out, group.as_slice())?;
-        }
-    }
-    if let Some(alias) = &block.alias {
-        push(out, b" as ")?;
-        push(out, alias.as_slice())?;
-    }
+    push_spot(out, &block.spot)?;
+    push_alias(out, &block.alias)
+}
+
+/// What it says in its clauses.
+fn push_clauses(alloc: Global, out: &mut Vec<u8>, block: &Block) -> Result<(), Fail> {
     push_scalar(alloc, out, b" if", &block.test)?;
     push_scalar(alloc, out, b" while", &block.turn)?;
     push_names(out, b" before", block.before.as_slice())?;
     push_names(out, b" after", block.after.as_slice())
 }
 
-/// What a block says in its lines.
-fn push_lines(alloc: Global, out: &mut Vec<u8>, block: &Block) -> Result<(), Fail> {
-    if !block.storage.is_empty() {
-        push(out, b" storage")?;
-    }
-    for (name, levels) in block.storage.as_slice() {
+fn push_groups(
+    alloc: Global,
+    out: &mut Vec<u8>,
+    word: &[u8],
+    groups: &[(Ref, Option<u32>)],
+) -> Result<(), Fail> {
+    push_word(out, word, groups.is_empty())?;
+    for (name, levels) in groups {
         push_ref(alloc, out, name, *levels)?;
-    }
-    if !block.sync.is_empty() {
-        push(out, b" sync")?;
-    }
-    for name in block.sync.as_slice() {
-        push_ref(alloc, out, name, name.copy)?;
-    }
-    push_access(alloc, out, b" reads", block.reads.as_slice())?;
-    push_access(alloc, out, b" writes", block.writes.as_slice())?;
-    if !block.rest.is_empty() {
-        push(out, b" rest")?;
-    }
-    for token in block.rest.as_slice() {
-        push(out, b" ")?;
-        push(out, token.text.as_slice())?;
-    }
-    if !block.text.is_empty() {
-        push(out, b" text ")?;
-        push(out, block.text.as_slice())?;
     }
     Ok(())
 }
 
-fn assert_block(alloc: Global, block: &Block, want: &[u8]) -> Result<(), Fail> {
+fn push_refs(alloc: Global, out: &mut Vec<u8>, word: &[u8], names: &[Ref]) -> Result<(), Fail> {
+    push_word(out, word, names.is_empty())?;
+    for name in names {
+        push_ref(alloc, out, name, name.copy)?;
+    }
+    Ok(())
+}
+
+fn push_tokens(out: &mut Vec<u8>, word: &[u8], tokens: &[Token]) -> Result<(), Fail> {
+    push_word(out, word, tokens.is_empty())?;
+    for token in tokens {
+        push_both(out, b" ", token.text.as_slice())?;
+    }
+    Ok(())
+}
+
+/// What a block says in its lines.
+fn push_lines(alloc: Global, out: &mut Vec<u8>, block: &Block) -> Result<(), Fail> {
+    push_groups(alloc, out, b" storage", block.storage.as_slice())?;
+    push_refs(alloc, out, b" sync", block.sync.as_slice())?;
+    push_access(alloc, out, b" reads", block.reads.as_slice())?;
+    push_access(alloc, out, b" writes", block.writes.as_slice())?;
+    push_tokens(out, b" rest", block.rest.as_slice())
+}
+
+fn push_text(out: &mut Vec<u8>, text: &Text) -> Result<(), Fail> {
+    if text.is_empty() {
+        return Ok(());
+    }
+    push_both(out, b" text ", text.as_slice())
+}
+
+fn push_block(alloc: Global, out: &mut Vec<u8>, block: &Block) -> Result<(), Fail> {
+    push_head(out, block)?;
+    push_clauses(alloc, out, block)?;
+    push_lines(alloc, out, block)?;
+    push_text(out, &block.text)
+}
+
+/// Tests what a block says.
+fn is_block(alloc: Global, block: &Block, want: &[u8]) -> Result<(), Fail> {
     let mut shown = Vec::new(alloc);
-    push_head(alloc, &mut shown, block)?;
-    push_lines(alloc, &mut shown, block)?;
+    push_block(alloc, &mut shown, block)?;
     same(&("block", &block.name), &shown.as_slice(), &want)
 }
 
-fn assert_storage(
+/// Tests what a line of groups with storage says.
+fn is_storage(
     alloc: Global,
     place: &str,
     groups: &List<(Ref, Option<u32>)>,
     want: &[u8],
 ) -> Result<(), Fail> {
     let mut shown = Vec::new(alloc);
-    for (name, levels) in groups.as_slice() {
-        push_ref(alloc, &mut shown, name, *levels)?;
-    }
+    push_groups(alloc, &mut shown, b"", groups.as_slice())?;
     same(&("STORAGE", place), &shown.as_slice(), &want)
 }
 
-#[test]
-fn each_form_is_read(rt: HostRuntime) -> Result<(), Fail> {
-    let alloc = rt.alloc();
-    let file = file_of(alloc, FORMS)?;
+/// Tests both bodies of the inner IF.
+fn are_inner(alloc: Global, yes: &[Node], no: &[Node]) -> Result<(), Fail> {
+    let ([Node::Storage(groups)], [Node::Block(step)]) = (yes, no) else {
+        return Err(Fail::new("other bodies of the inner IF"));
+    };
+    is_storage(alloc, "in the inner IF", groups, b" evens[2]")?;
+    is_block(alloc, step, STEP)
+}
+
+/// Tests both bodies of the outer IF.
+fn are_outer(alloc: Global, yes: &[Node], no: &[Node]) -> Result<(), Fail> {
+    let [Node::Cond { yes, no: other, .. }] = yes else {
+        return Err(Fail::new("another body of the outer IF"));
+    };
+    same(&"the outer IF has no ELSE", &no.is_empty(), &true)?;
+    are_inner(alloc, yes.as_slice(), other.as_slice())
+}
+
+/// Tests the nodes of the file with every form.
+fn are_forms(alloc: Global, nodes: &[Node]) -> Result<(), Fail> {
     let [
         Node::Storage(groups),
         Node::Block(steps),
         Node::Cond { yes, no, .. },
-    ] = file.items.as_slice()
+    ] = nodes
     else {
         return Err(Fail::new("other nodes at the top"));
     };
-    assert_storage(alloc, "at the top", groups, b" ca::cells[1] counts")?;
-    assert_block(alloc, steps, STEPS)?;
-    same(&"the outer IF has no ELSE", &no.is_empty(), &true)?;
-    let [Node::Cond { yes, no, .. }] = yes.as_slice() else {
-        return Err(Fail::new("another body of the outer IF"));
-    };
-    let ([Node::Storage(groups)], [Node::Block(step)]) = (yes.as_slice(), no.as_slice()) else {
-        return Err(Fail::new("other bodies of the inner IF"));
-    };
-    assert_storage(alloc, "in the inner IF", groups, b" evens[2]")?;
-    assert_block(alloc, step, STEP)
+    is_storage(alloc, "at the top", groups, b" ca::cells[1] counts")?;
+    is_block(alloc, steps, STEPS)?;
+    are_outer(alloc, yes.as_slice(), no.as_slice())
+}
+
+#[test]
+fn each_form_is_read(rt: HostRuntime) -> Result<(), Fail> {
+    let file = file_of(rt.alloc(), FORMS)?;
+    are_forms(rt.alloc(), file.items.as_slice())
 }
 
 /// How many nodes a file has at its top, and how many of them are blocks.
@@ -344,17 +413,20 @@ fn counts(file: &ScheduleFile) -> (usize, usize) {
     (file.items.len(), blocks)
 }
 
+/// Tests how many nodes and blocks a file has at its top.
+fn has_counts(alloc: Global, name: &str, text: &[u8], want: (usize, usize)) -> Result<(), Fail> {
+    let file = file_of(alloc, text)?;
+    same(&name, &counts(&file), &want)
+}
+
 #[test]
 fn files_are_printed_and_read_again(rt: HostRuntime) -> Result<(), Fail> {
     for (name, text, want) in PRINTED {
-        let file = file_of(rt.alloc(), text)?;
-        let printed = print_schedule(rt.alloc(), &file)?;
-        same(&name, &printed.as_slice(), want)?;
+        is_printed(rt.alloc(), name, text, want)?;
     }
     for (name, text, nodes, blocks) in SAMPLES {
-        same(&name, &is_printed_again(rt.alloc(), text)?, &true)?;
-        let file = file_of(rt.alloc(), text)?;
-        same(&name, &counts(&file), &(*nodes, *blocks))?;
+        is_printed_again(rt.alloc(), name, text)?;
+        has_counts(rt.alloc(), name, text, (*nodes, *blocks))?;
     }
     Ok(())
 }
@@ -388,14 +460,24 @@ fn fault_of(alloc: Global, line: &str, times: usize, last: &str) -> Result<Optio
     Ok(read_schedule(alloc, &list).err())
 }
 
+/// Tests the fault of a line so many times.
+fn is_fault(
+    alloc: Global,
+    line: &str,
+    times: usize,
+    last: &str,
+    want: Option<CclFault>,
+) -> Result<(), Fail> {
+    let found = fault_of(alloc, line, times, last)?;
+    same(&(times, "times", line), &found, &want)
+}
+
 #[test]
 fn limits_hold(rt: HostRuntime) -> Result<(), Fail> {
     let alloc = rt.alloc();
     for (line, times, last, fault) in LIMITS {
-        let most = fault_of(alloc, line, *times, last)?;
-        let more = fault_of(alloc, line, times.saturating_add(1), last)?;
-        let want = (None, Some(*fault));
-        same(&(times, "times", line), &(most, more), &want)?;
+        is_fault(alloc, line, *times, last, None)?;
+        is_fault(alloc, line, times.saturating_add(1), last, Some(*fault))?;
     }
     Ok(())
 }

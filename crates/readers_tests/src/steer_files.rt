@@ -1,7 +1,8 @@
 //! Texts of steer files.
 
-use cx_parfile::read_steer;
-use cx_text::{CclFault, Style, Text, tokens};
+use cx_parfile::{Setting, SteerLine, read_steer};
+use cx_text::{CclFault, List, Style, Text, tokens};
+use std::alloc::Global;
 use std::test::Fail;
 use test_cases::same;
 
@@ -55,23 +56,39 @@ fn owner_of(owner: &Option<Text>) -> &[u8] {
     }
 }
 
+/// Owner, name and value.
+fn texts_of(setting: &Setting) -> (&[u8], &[u8], &[u8]) {
+    (
+        owner_of(&setting.owner),
+        setting.name.as_slice(),
+        setting.value.as_slice(),
+    )
+}
+
+/// Tests a row of `LINES`.
+fn is_line(line: &SteerLine, want: &Line) -> Result<(), Fail> {
+    let (at, owner, name, index, value, number) = *want;
+    let wanted = (owner.as_bytes(), name.as_bytes(), value.as_bytes());
+    same(&("line", number), &texts_of(&line.setting), &wanted)?;
+    let place = (line.at, line.setting.index, line.setting.line);
+    same(&("line", number), &place, &(at, index, number))
+}
+
+fn are_lines(lines: &[SteerLine]) -> Result<(), Fail> {
+    for (line, want) in lines.iter().zip(LINES) {
+        is_line(line, want)?;
+    }
+    same(&"how many lines", &lines.len(), &LINES.len())
+}
+
+/// The lines of the file.
+fn lines(alloc: Global) -> Result<List<SteerLine>, Fail> {
+    let list = tokens(alloc, FILE, Style::Par)?;
+    Ok(read_steer(alloc, &list)?)
+}
+
 #[test]
 fn a_steer_file_is_read(rt: HostRuntime) -> Result<(), Fail> {
-    let alloc = rt.alloc();
-    let lines = read_steer(alloc, &tokens(alloc, FILE, Style::Par)?)?;
-    same(&"how many lines", &lines.len(), &LINES.len())?;
-    for (line, want) in lines.as_slice().iter().zip(LINES) {
-        let (at, owner, name, index, value, number) = *want;
-        let setting = &line.setting;
-        let texts = (
-            owner_of(&setting.owner),
-            setting.name.as_slice(),
-            setting.value.as_slice(),
-        );
-        let wanted = (owner.as_bytes(), name.as_bytes(), value.as_bytes());
-        same(&("line", number), &texts, &wanted)?;
-        let place = (line.at, setting.index, setting.line);
-        same(&("line", number), &place, &(at, index, number))?;
-    }
-    Ok(())
+    let lines = lines(rt.alloc())?;
+    are_lines(lines.as_slice())
 }

@@ -1,6 +1,7 @@
 //! Texts and their tokens.
 
 use cx_text::{Kind, Style, TextFault, Token, tokens};
+use std::alloc::Global;
 use std::test::Fail;
 use test_cases::same;
 
@@ -92,26 +93,51 @@ const FAULTS: &[(Style, &str, TextFault)] = &[
     (Style::Thorns, "\n\n\x0b", TextFault::BadByte(3)),
 ];
 
-fn assert_spelled(list: &[Token], want: &[Spelling], name: &str) -> Result<(), Fail> {
-    same(&("how many tokens", name), &list.len(), &want.len())?;
-    for (place, (token, (kind, text, line))) in list.iter().zip(want).enumerate() {
-        let found = (token.kind, token.text.as_slice(), token.line);
-        same(&("token", place, name), &found, &(*kind, *text, *line))?;
+/// Tests one token.
+fn is_token(name: &str, place: usize, token: &Token, want: &Spelling) -> Result<(), Fail> {
+    let found = (token.kind, token.text.as_slice(), token.line);
+    same(&("token", place, name), &found, want)
+}
+
+fn are_tokens(name: &str, list: &[Token], want: &[Spelling]) -> Result<(), Fail> {
+    for (place, (token, spelling)) in list.iter().zip(want).enumerate() {
+        is_token(name, place, token, spelling)?;
     }
-    Ok(())
+    same(&("how many tokens", name), &list.len(), &want.len())
+}
+
+/// Tests a row of `TEXTS`.
+fn has_tokens(
+    alloc: Global,
+    name: &str,
+    style: Style,
+    text: &[u8],
+    want: &[Spelling],
+) -> Result<(), Fail> {
+    let list = tokens(alloc, text, style)?;
+    are_tokens(name, list.as_slice(), want)
+}
+
+/// Tests a row of `FAULTS`.
+fn has_fault(alloc: Global, style: Style, text: &str, want: TextFault) -> Result<(), Fail> {
+    let fault = tokens(alloc, text.as_bytes(), style).err();
+    same(&(text, "as", style), &fault, &Some(want))
+}
+
+/// Blanks that are more bytes than a text may have.
+fn is_too_long(alloc: Global) -> Result<(), Fail> {
+    let long = vec![in alloc; b' '; 1_048_577]?;
+    let fault = tokens(alloc, &long, Style::Par).err();
+    same(&"1,048,577 blanks", &fault, &Some(TextFault::TooLong))
 }
 
 #[test]
 fn texts_have_these_tokens_or_faults(rt: HostRuntime) -> Result<(), Fail> {
     for (name, style, text, want) in TEXTS {
-        let list = tokens(rt.alloc(), text, *style)?;
-        assert_spelled(list.as_slice(), want, name)?;
+        has_tokens(rt.alloc(), name, *style, text, want)?;
     }
     for (style, text, want) in FAULTS {
-        let fault = tokens(rt.alloc(), text.as_bytes(), *style).err();
-        same(&(text, "as", style), &fault, &Some(*want))?;
+        has_fault(rt.alloc(), *style, text, *want)?;
     }
-    let long = vec![in rt.alloc(); b' '; 1_048_577]?;
-    let fault = tokens(rt.alloc(), &long, Style::Par).err();
-    same(&"1,048,577 blanks", &fault, &Some(TextFault::TooLong))
+    is_too_long(rt.alloc())
 }

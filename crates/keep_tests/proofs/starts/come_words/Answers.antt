@@ -1,7 +1,7 @@
 use Rattle.std.proofs.Common.{sym, subst}
 use Rattle.cx_plan.specs.Whole.{IsWhole}
 use Rattle.keep_tests.proofs.SampleLaws.{sample-whole}
-use Rattle.keep_tests.proofs.starts.start_words.Goals as goal
+use Rattle.keep_tests.proofs.starts.come_words.Goals as goal
 
 pub begin_words-requires : goal.begin_words-requires
 begin_words-requires c =
