@@ -53,6 +53,14 @@ const CASES: &[Case] = &[
         words: b"# ca::live iteration 4 value -1\n",
     },
     Case {
+        case: "values of 8, 32 and 64 bits",
+        chunks: [
+            b"# ca::cell iteration 1 part 0 of 2 from 0 size 3\n127 128 2147483648\n\n",
+            b"# ca::cell iteration 1 part 1 of 2 from 3 size 5\n-128 -129 5 -2147483649 6\n\n",
+        ],
+        words: b"# ca::cell iteration 1 size 8\n127 128 2147483648 -128 -129 5 -2147483649 6\n\n",
+    },
+    Case {
         case: "lines in another order",
         chunks: [
             b"# ca::live iteration 12 value 7\n# ca::live iteration 3 value 6\n",

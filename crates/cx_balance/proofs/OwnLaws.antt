@@ -1,8 +1,8 @@
 -- A job's own cut, and the one that the weights of a checkpoint choose in its place.
-use Rattle.std.proofs.Common.{◌≡◌, ℕ, zero, suc, ◌-◌, ◌*◌, ◌<◌, ◌≤◌, Bool, true, false, ltb, cond, refl, sym, ap, subst, ◌∙◌, arith, List, [], ◌∷◌, length, Option, Some, None, Result, Ok, Err}
+use Rattle.std.proofs.Common.{◌≡◌, ℕ, zero, suc, ◌-◌, ◌*◌, ◌<◌, ◌≤◌, Bool, true, false, ltb, cond, refl, sym, ap, subst, ◌∙◌, arith, List, [], ◌∷◌, length, Option, Some, None, Result, Ok, Err, ◌⊎◌, inl, inr}
 use Rattle.std.specs.Prelude.{max, unsigned_abs, IfOk}
 use Rattle.std.proofs.Math.Nat.{mul-le-mul, mul-le-mul_left}
-use Rattle.std.proofs.lemmas.Bool.{ltb-false}
+use Rattle.std.proofs.lemmas.Bool.{cases_lt, ltb-false}
 use Rattle.cx_grid.specs.declared.shapes.Shape.{Shape}
 use Rattle.cx_grid.specs.Boxes.{along}
 use Rattle.cx_grid.specs.Grid.{IsShape, is_periodic}
@@ -177,10 +177,23 @@ can_choose_by job state d weights own least whole none e f g =
 
 -- ---- the widths of a direction
 
-one_chosen : (planes : List ℕ) (parts least : ℕ) → length planes ≡ 1 → parts ≡ 1
-    → chosen planes parts least ≡ 1 ∷ []
-one_chosen planes parts least e f =
-    ap (λ n. chosen planes n least) f ∙ ap (λ n. (n - 0) ∷ []) e
+one_chosen : (ws : List ℕ) (parts least n : ℕ) → length ws ≡ n → parts ≡ 1
+    → chosen ws parts least ≡ n ∷ []
+one_chosen ws parts least n e f =
+    let all : n - 0 ≡ n = omega arith in
+    ap (λ m. chosen ws m least) f ∙ ap (λ m. (m - 0) ∷ []) e ∙ ap (λ m. m ∷ []) all
+
+-- of a direction that the own cut leaves whole
+pub whole_widths : {E : Type 0} (job : Job) (state : Checkpoint) (d : ℕ) (own : List ℕ) (n : ℕ)
+    (r : Result (List ℕ) E) → own ≡ widths (parts_of job.shape job.cut) d → length own ≡ 1
+    → n ≡ unsigned_abs (along job.shape.n d) → IfOk r (λ ws. ws ≡ n ∷ [])
+    → IfOk r (λ ws. ws ≡ chosen (planes job state d)
+    (parts_along (parts_of job.shape job.cut) d) (least_width (parts_of job.shape job.cut) d))
+whole_widths job state d own n (Err e) same one points is = tt
+whole_widths job state d own n (Ok ws) same one points is =
+    is ∙ sym (one_chosen (planes job state d) (length (widths (parts_of job.shape job.cut) d))
+    (least_width (parts_of job.shape job.cut) d) n (planes_count job state d ∙ sym points)
+    (sym (ap length same) ∙ one))
 
 one_point : (s : Shape) → IsShape s → (d : ℕ) → d < 3 → s.dims ≤ d
     → unsigned_abs (along s.n d) ≡ 1
@@ -189,32 +202,35 @@ one_point s is (suc zero) low past = ap unsigned_abs (is.no_y (omega (arith, pas
 one_point s is (suc (suc zero)) low past = ap unsigned_abs (is.no_z (omega (arith, past))).one
 one_point s is (suc (suc (suc d))) low past = absurd (omega (arith, low))
 
--- of a direction that the grid doesn't have
-pub absent_widths : {E : Type 0} (job : Job) (state : Checkpoint) (d : ℕ) (r : Result (List ℕ) E)
-    → IsWhole job → cut_fault (parts_of job.shape job.cut) ≡ None → d < 3 → job.shape.dims ≤ d
-    → IfOk r (λ ws. ws ≡ 1 ∷ [])
-    → IfOk r (λ ws. ws ≡ chosen (planes job state d)
-    (parts_along (parts_of job.shape job.cut) d) (least_width (parts_of job.shape job.cut) d))
-absent_widths job state d (Err e) whole none low past is = tt
-absent_widths job state d (Ok ws) whole none low past is =
-    is ∙ sym (one_chosen (planes job state d) (length (widths (parts_of job.shape job.cut) d))
-    (least_width (parts_of job.shape job.cut) d) (planes_count job state d ∙ one)
-    (one_part (length (widths (parts_of job.shape job.cut) d))
+-- a direction that the grid doesn't have is left whole
+absent_one : (job : Job) (d : ℕ) → IsWhole job → cut_fault (parts_of job.shape job.cut) ≡ None
+    → d < 3 → job.shape.dims ≤ d → length (widths (parts_of job.shape job.cut) d) ≡ 1
+absent_one job d whole none low past =
+    one_part (length (widths (parts_of job.shape job.cut) d))
     (ghosts (parts_of job.shape job.cut) d) own.some
     (subst (λ n. length (widths (parts_of job.shape job.cut) d)
-    * least_width (parts_of job.shape job.cut) d ≤ n) one own.room)))
+    * least_width (parts_of job.shape job.cut) d ≤ n)
+    (one_point job.shape whole.shape d low past) own.room)
   where
     own : IsOwn (points (parts_of job.shape job.cut) d) (least_width (parts_of job.shape job.cut) d)
         (widths (parts_of job.shape job.cut) d)
     own = is_own job.shape job.cut whole.shape none d
 
-    one : unsigned_abs (along job.shape.n d) ≡ 1
-    one = one_point job.shape whole.shape d low past
-
     one_part : (parts g : ℕ) → 1 ≤ parts → parts * max g 1 ≤ 1 → parts ≡ 1
     one_part parts g some room =
         let l : parts * 1 ≤ parts * max g 1 = mul-le-mul_left parts (omega arith) in
         omega (arith, l, some, room)
+
+-- so the grid has each direction that the own cut cuts
+pub cut_there : (job : Job) (d : ℕ) (own : List ℕ) → IsWhole job
+    → cut_fault (parts_of job.shape job.cut) ≡ None → d < 3
+    → own ≡ widths (parts_of job.shape job.cut) d → (length own ≡ 1 → ⊥) → d < job.shape.dims
+cut_there job d own whole none low same more = go (cases_lt d job.shape.dims)
+  where
+    go : (d < job.shape.dims) ⊎ (job.shape.dims ≤ d) → d < job.shape.dims
+    go (inl l) = l
+    go (inr past) =
+        absurd (more (ap length same ∙ absent_one job d whole none low past))
 
 -- ---- the chosen cut
 

@@ -1,13 +1,13 @@
 -- The planes of a grid as boxes.
-use Rattle.std.proofs.Common.{ℕ, zero, suc, ◌+◌, ◌^◌, ◌<◌, ◌≤◌, Bool, true, false, eqb, arith, ℤ, pos, negsuc, ◌≤ℤ◌}
+use Rattle.std.proofs.Common.{ℕ, zero, suc, ◌+◌, ◌^◌, ◌≤◌, Bool, true, false, eqb, arith, ℤ, pos, negsuc, ◌≤ℤ◌}
 use Rattle.std.specs.Prelude.{unsigned_abs, if◌then◌else◌}
 use Rattle.std.specs.Int.{int_gap}
 use Rattle.std.proofs.Math.Nat.{mul-le-mul}
 use Rattle.std.proofs.lemmas.Int.{ints}
 use Rattle.cx_grid.specs.declared.shapes.Shape.{Shape}
-use Rattle.cx_grid.specs.Boxes.{along, point_count, IsBox, IsOn}
+use Rattle.cx_grid.specs.Boxes.{along, point_count}
 use Rattle.cx_grid.specs.Grid.{IsAxis, IsShape, whole}
-use Rattle.cx_balance.specs.Weighing.{plane, LiesOn}
+use Rattle.cx_balance.specs.Weighing.{plane}
 
 -- ---- one direction, which a plane lies across or not
 
@@ -24,19 +24,6 @@ gap_within true k (pos m) some = omega (arith, ints, some)
 gap_within true k (negsuc m) some = absurd (omega (arith, ints, some))
 gap_within false k n some = omega arith
 
-ends_rise : (across : Bool) (k : ℕ) (n : ℤ) → pos 1 ≤ℤ n
-    → (if across then pos k else pos 0) ≤ℤ (if across then pos (k + 1) else n)
-ends_rise true k n some = omega (arith, ints)
-ends_rise false k n some = omega (arith, ints, some)
-
-on_plane : (k : ℕ) (n c : ℤ) → k < unsigned_abs n → pos 1 ≤ℤ n → IsOn (pos k) (pos (k + 1)) c
-    → IsOn (pos 0) n c
-on_plane k (pos m) c l some on =
-    let from = on.from in
-    let below = on.below in
-    record { from = omega (arith, ints, from); below = omega (arith, ints, l, below) }
-on_plane k (negsuc m) c l some on = absurd (omega (arith, ints, some))
-
 -- ---- a plane
 
 module _ (s : Shape) (is : IsShape s) (d k : ℕ) where
@@ -48,14 +35,6 @@ module _ (s : Shape) (is : IsShape s) (d k : ℕ) where
 
   z : pos 1 ≤ℤ s.n.z
   z = is.z.some
-
-  pub plane_ordered : IsBox (plane s d k)
-  plane_ordered =
-      record {
-        x = ends_rise (eqb d 0) k s.n.x x;
-        y = ends_rise (eqb d 1) k s.n.y y;
-        z = ends_rise (eqb d 2) k s.n.z z;
-      }
 
   pub plane_some : 1 ≤ point_count (plane s d k)
   plane_some =
@@ -69,16 +48,6 @@ module _ (s : Shape) (is : IsShape s) (d k : ℕ) where
       (gap_within (eqb d 2) k s.n.z z) in
       let few = is.few in
       omega (arith, l, few)
-
-pub plane_lies : (s : Shape) → IsShape s → (d k : ℕ) → d < 3 → k < unsigned_abs (along s.n d)
-    → LiesOn s (plane s d k)
-plane_lies s is zero k low l p on =
-    record { x = on_plane k s.n.x p.x l is.x.some on.x; y = on.y; z = on.z }
-plane_lies s is (suc zero) k low l p on =
-    record { x = on.x; y = on_plane k s.n.y p.y l is.y.some on.y; z = on.z }
-plane_lies s is (suc (suc zero)) k low l p on =
-    record { x = on.x; y = on.y; z = on_plane k s.n.z p.z l is.z.some on.z }
-plane_lies s is (suc (suc (suc d))) k low l p on = absurd (omega (arith, low))
 
 -- ---- how many planes
 

@@ -1,5 +1,5 @@
 -- What points and planes weigh.
-use Rattle.std.proofs.Common.{◌≡◌, ℕ, ◌+◌, ◌*◌, ◌^◌, ◌<◌, ◌≤◌, refl, sym, ap, subst, ◌∙◌, arith, ℤ, List, [], ◌∷◌, ◌++◌, length, length-append, map, get_or, Option, Some, None, Result, Ok, Err, ◌⊎◌, inl, inr, false, cond}
+use Rattle.std.proofs.Common.{◌≡◌, ℕ, ◌+◌, ◌*◌, ◌^◌, ◌<◌, ◌≤◌, refl, sym, ap, subst, ◌∙◌, arith, ℤ, List, [], ◌∷◌, length, get_or, Option, Some, None, Result, Ok, Err, ◌⊎◌, inl, inr, false, cond}
 use Rattle.std.specs.Prelude.{min, unsigned_abs, IfOk, IfSome}
 use Rattle.std.specs.List.{range_with_len, sum_by}
 use Rattle.std.proofs.Math.Nat.{mul-le-mul}
@@ -7,10 +7,10 @@ use Rattle.std.proofs.lemmas.Bool.{cases_lt}
 use Rattle.std.proofs.lemmas.List.{get_or_past}
 use Rattle.std.proofs.lemmas.List.Sums.{sum_by-cons, sum_by-le, sum_by-take-le, sum_by_more}
 use Rattle.std.proofs.lemmas.List.Elements.{All-map}
-use Rattle.std.proofs.lemmas.List.FromFn.{get_or-map-range_with_len, length-map-range_with_len, map-range_with_len_more, sum_by-map-range_with_len_more}
+use Rattle.std.proofs.lemmas.List.FromFn.{length-map-range_with_len}
 use Rattle.cx_grid.specs.declared.boxes.Point.{Point}
 use Rattle.cx_grid.specs.declared.boxes.Box3.{Box3}
-use Rattle.cx_grid.specs.Boxes.{along, point_count, point_in, points_in, IsIn}
+use Rattle.cx_grid.specs.Boxes.{along, point_count, point_in, points_in}
 use Rattle.cx_grid.specs.Grid.{whole}
 use Rattle.cx_plan.specs.declared.variable.VarId.{VarId}
 use Rattle.cx_plan.specs.declared.job.Job.{Job}
@@ -20,7 +20,6 @@ use Rattle.cx_plan.specs.Whole.{level_count, IsStoredGrid, IsWhole}
 use Rattle.cx_chk.specs.declared.checkpoint.Checkpoint.{Checkpoint}
 use Rattle.cx_balance.specs.Choosing.{AreWeights}
 use Rattle.cx_balance.specs.Weighing.{plane, planes, levels_before, current_level, number_weight, number_at, point_weight, HasWeight, HoldsLevels}
-use Rattle.cx_grid.proofs.Places.{point_inside}
 use Rattle.cx_balance.proofs.PlaneLaws.{plane_some, plane_few, points_along, whole_some}
 
 -- ---- sums over lists
@@ -48,53 +47,6 @@ at_least f some (x ∷ xs) =
     let e = sum_by-cons f x xs in
     omega (arith, l, one, e)
 
--- ---- one plane after another
-
-pub plane_pushed : (f : ℕ → ℕ) (k weighs : ℕ) (weights more : List ℕ)
-    → weights ≡ map f (range_with_len 0 k) → weighs ≡ f k → more ≡ weights ++ weighs ∷ []
-    → more ≡ map f (range_with_len 0 (k + 1))
-plane_pushed f k weighs weights more is same e =
-    e ∙ ap (λ ws. ws ++ weighs ∷ []) is ∙ ap (λ w. map f (range_with_len 0 k) ++ w ∷ []) same
-    ∙ sym (map-range_with_len_more f 0 k k (omega arith))
-
-pub all_planes : (f : ℕ → ℕ) (k n : ℕ) (weights : List ℕ) → weights ≡ map f (range_with_len 0 k)
-    → k ≡ n → weights ≡ map f (range_with_len 0 n)
-all_planes f k n weights is e = is ∙ ap (λ m. map f (range_with_len 0 m)) e
-
--- ---- one point after another
-
--- a point that stands at a place of a box
-pub record IsPointOf (b : Box3) (k : ℕ) (p : Point) : Type 0 where
-  pub below : k < point_count b
-  pub place : p ≡ point_in b k
-  pub inside : IsIn b p
-
-pub point_of : (b : Box3) (k : ℕ) (p : Point) → k < length (points_in b)
-    → p ≡ get_or (points_in b) k p → IsPointOf b k p
-point_of b k p l e =
-    record {
-      below = below;
-      place = place;
-      inside = subst (IsIn b) (sym place) (point_inside b k below);
-    }
-  where
-    below : k < point_count b
-    below = let count = points_count b in omega (arith, l, count)
-
-    place : p ≡ point_in b k
-    place = e ∙ get_or-map-range_with_len (point_in b) 0 (point_count b) k k p below (omega arith)
-
-pub one_longer : {X : Type 0} (xs : List X) (x : X) → length (xs ++ x ∷ []) ≡ length xs + 1
-one_longer xs x = length-append xs (x ∷ [])
-
-pub point_added : (f : Point → ℕ) (b : Box3) (i weighs more weight : ℕ)
-    → weight ≡ sum_by f (map (point_in b) (range_with_len 0 i)) → weighs ≡ f (point_in b i)
-    → more ≡ weight + weighs → more ≡ sum_by f (map (point_in b) (range_with_len 0 (i + 1)))
-point_added f b i weighs more weight is same e =
-    e ∙ ap (λ n. n + weighs) is
-    ∙ ap (λ n. sum_by f (map (point_in b) (range_with_len 0 i)) + n) same
-    ∙ sym (sum_by-map-range_with_len_more f (point_in b) 0 i i (omega arith))
-
 -- ---- what a point weighs
 
 number_some : (factor : ℕ) (n : ℤ) → 1 ≤ number_weight factor n
@@ -103,7 +55,7 @@ number_some factor n = go (factor * min (unsigned_abs n) (2 ^ 20))
     go : (m : ℕ) → 1 ≤ 1 + m
     go m = omega arith
 
-number_most : (factor : ℕ) (n : ℤ) → factor ≤ 2 ^ 20 → number_weight factor n ≤ 1 + 2 ^ 40
+pub number_most : (factor : ℕ) (n : ℤ) → factor ≤ 2 ^ 20 → number_weight factor n ≤ 1 + 2 ^ 40
 number_most factor n small = go (factor * min (unsigned_abs n) (2 ^ 20))
     (mul-le-mul small (least (unsigned_abs n)))
   where

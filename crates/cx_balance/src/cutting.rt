@@ -41,6 +41,8 @@ pub fn cut_by_weight(alloc: Global, job: &Job, state: &Checkpoint) -> Result<Cut
 }
 
 /// The widths of the parts of a direction.
+///
+/// Where the job's own cut has one part, that has all points of the direction: nothing is weighed.
 fn widths(alloc: Global, job: &Job, state: &Checkpoint, dir: u8) -> Result<List<u32>, Memory>
     requires whole { IsWhole job.now }
     requires cut { cut_fault (parts_of job.now.shape job.now.cut) ≡ None }
@@ -50,20 +52,25 @@ fn widths(alloc: Global, job: &Job, state: &Checkpoint, dir: u8) -> Result<List<
         (parts_along (parts_of job.now.shape job.now.cut) dir)
         (least_width (parts_of job.now.shape job.now.cut) dir)) }
 {
-    if dir >= job.shape.dims {
-        return one_part(alloc);
+    let parts = own_widths(job, dir).len();
+    if parts == 1 {
+        return one_part(alloc, along(job.shape.n, dir));
     }
     let weights = planes(alloc, job, state, dir)?;
-    let parts = own_widths(job, dir).len() as u32;
-    choose(alloc, &weights, parts, along(job.shape.ghost_, dir).max(1))
+    choose(
+        alloc,
+        &weights,
+        parts as u32,
+        along(job.shape.ghost_, dir).max(1),
+    )
 }
 
-/// The widths of a direction that the grid doesn't have.
-fn one_part(alloc: Global) -> Result<List<u32>, Memory>
-    ensures { IfOk result (λ widths. widths ≡ 1 ∷ []) }
+/// The one width of a direction of so many points that is left whole.
+fn one_part(alloc: Global, points: u32) -> Result<List<u32>, Memory>
+    ensures { IfOk result (λ widths. widths ≡ points ∷ []) }
 {
     let mut widths = List::empty(alloc);
-    widths.push(1)?;
+    widths.push(points)?;
     Ok(widths)
 }
 

@@ -1,14 +1,15 @@
 //! What the planes of a direction weigh.
-ghost use Rattle.std.specs.Prelude.{◌≡◌, ◌<◌, ◌≤◌, ◌+◌, ◌*◌, ◌^◌, suc, pos, length, unsigned_abs, IfOk, if◌then◌else◌};
-ghost use Rattle.std.specs.List.{sum_by};
-ghost use Rattle.cx_grid.specs.Boxes.{along, points_in, point_count, IsBox};
+ghost use Rattle.std.specs.Prelude.{ℕ, ◌≡◌, ◌<◌, ◌≤◌, ◌+◌, ◌*◌, ◌/◌, ◌^◌, ◌==◌, pos, length, slice_index_or, unsigned_abs, IfOk, if◌then◌else◌};
+ghost use Rattle.std.specs.Fork.{slice_chunk};
+ghost use Rattle.std.specs.List.{range_with_len, sum_by};
+ghost use Rattle.cx_grid.specs.Boxes.{along, point_count};
 ghost use Rattle.cx_grid.specs.Grid.{IsShape, whole};
 ghost use Rattle.cx_plan.specs.Whole.{IsWhole, IsVariable, level_count};
 ghost use Rattle.cx_balance.specs.Choosing.{AreWeights};
-ghost use Rattle.cx_balance.specs.Weighing.{plane, planes, planes_by, levels_before, current_level, number_weight, weight_at, HasWeight, LiesOn};
+ghost use Rattle.cx_balance.specs.Weighing.{planes, planes_by, levels_before, current_level, number_weight, weight_at, HasWeight};
 
 use cx_chk::Checkpoint;
-use cx_grid::{Box3, Point, Shape, count, index_of, rows, whole};
+use cx_grid::{Point, Shape, count, whole};
 use cx_plan::{Job, VarId, VarInfo};
 use cx_text::{List, Memory};
 use std::alloc::Global;
@@ -18,7 +19,7 @@ use std::alloc::Global;
 ///
 /// A point weighs 1. Where the job names a variable that weighs, it weighs `weight_factor` times
 /// the distance of its number from 0 more; a distance above 2^20 counts as 2^20. The number is that
-/// of the variable's current level in the checkpoint, whose points stand x fastest, then y. So a
+/// of the variable's current level in the checkpoint, whose points go x fastest, then y. So a
 /// point weighs at most 2^40 + 1, and a plane less than 2^65.
 ///
 /// # Errors
@@ -46,14 +47,12 @@ fn counted_planes(alloc: Global, shape: &Shape, dir: u8) -> Result<List<u128>, M
     requires direction { dir < 3 }
     ensures { IfOk result (λ weights. weights ≡ planes_by shape.now (λ p. 1) dir) }
 {
-    let mut weights = List::empty(alloc);
-    'planes: for k in 0..along(shape.n, dir) {
-        weights.push(count(&plane(shape, dir, k)) as u128)?;
-    }
-    Ok(weights)
+    let n = along(shape.n, dir) as usize;
+    let each = count(&whole(shape)) / n;
+    Ok(List::new(vec![in alloc; each as u128; n]?))
 }
 
-/// What each plane of a direction weighs by the numbers of a level.
+/// What each plane of a direction weighs by the numbers of a level, in one pass over them.
 fn weighed_planes(
     alloc: Global,
     shape: &Shape,
@@ -68,27 +67,106 @@ fn weighed_planes(
     ensures { IfOk result (λ weights.
         weights ≡ planes_by shape.now (weight_at shape.now factor level.now) dir) }
 {
-    let mut weights = List::empty(alloc);
-    'planes: for k in 0..along(shape.n, dir) {
-        weights.push(plane_weight(shape, &plane(shape, dir, k), level, factor))?;
-    }
-    Ok(weights)
+    let mut weights = vec![in alloc; 0; along(shape.n, dir) as usize]?;
+    add_level(&mut weights, level, stretch(shape, dir), factor);
+    Ok(List::new(weights))
 }
 
-/// What the points of a box of the grid weigh together, by the numbers of a level.
-fn plane_weight(shape: &Shape, plane: &Box3, level: &[i64], factor: u64) -> u128
+/// How many points of a plane of a direction follow one another in a level.
+fn stretch(shape: &Shape, dir: u8) -> usize
     requires shape { IsShape shape.now }
-    requires ordered { IsBox plane.now }
-    requires few { point_count plane.now ≤ 2 ^ 24 }
-    requires inside { LiesOn shape.now plane.now }
-    requires points { length level.now ≡ point_count (whole shape.now) }
-    requires factor { factor ≤ 2 ^ 20 }
-    ensures { result ≡ sum_by (weight_at shape.now factor level.now) (points_in plane.now) }
+    ensures { result ≡ (if dir == 0 then 1 else (if dir == 1 then unsigned_abs shape.now.n.x
+        else unsigned_abs shape.now.n.x * unsigned_abs shape.now.n.y)) }
 {
-    let grid = whole(shape);
+    let x = shape.n.x.unsigned_abs() as usize;
+    let y = shape.n.y.unsigned_abs() as usize;
+    match dir {
+        0 => 1,
+        1 => x,
+        _ => x * y,
+    }
+}
+
+/// Adds to the weight of each plane what its points weigh by the numbers of a level.
+///
+/// The level is a row of blocks. Each block has a stretch of each plane, one after another.
+fn add_level(weights: &mut [u128], level: &[i64], stretch: usize, factor: u64)
+    requires some { 1 ≤ length weights.old * stretch }
+    requires few { length weights.old * stretch ≤ 2 ^ 24 }
+    requires points { length level.now ≤ 2 ^ 24 }
+    requires factor { factor ≤ 2 ^ 20 }
+    requires none { (k : ℕ) → k < length weights.old → slice_index_or weights.old k 0 ≡ 0 }
+    ensures { (k : ℕ) → k < length weights.old → slice_index_or weights.new k 0
+        ≡ sum_by (λ b. sum_by (number_weight factor)
+        (slice_chunk level.now stretch (b * length weights.old + k)))
+        (range_with_len 0 (length level.now / (length weights.old * stretch))) }
+{
+    let size = weights.len() * stretch;
+    let count = level.len() / size;
+    'rounds: for b in 0..count {
+        add_block(weights, &level[b * size..(b + 1) * size], stretch, factor);
+    }
+}
+
+/// Adds to the weight of each plane what its stretch of a block weighs.
+fn add_block(weights: &mut [u128], block: &[i64], stretch: usize, factor: u64)
+    requires room { length block.now ≡ length weights.old * stretch }
+    requires few { length block.now ≤ 2 ^ 24 }
+    requires factor { factor ≤ 2 ^ 20 }
+    requires light { (k : ℕ) → k < length weights.old
+        → slice_index_or weights.old k 0 ≤ 2 ^ 100 }
+    ensures { (k : ℕ) → k < length weights.old → slice_index_or weights.new k 0
+        ≡ slice_index_or weights.old k 0
+        + sum_by (number_weight factor) (slice_chunk block.now stretch k) }
+{
+    if stretch == 1 {
+        add_points(weights, block, factor);
+    } else {
+        add_stretches(weights, block, stretch, factor);
+    }
+}
+
+/// Adds to the weight of each plane what its point of a row weighs.
+fn add_points(weights: &mut [u128], row: &[i64], factor: u64)
+    requires room { length row.now ≡ length weights.old }
+    requires factor { factor ≤ 2 ^ 20 }
+    requires light { (k : ℕ) → k < length weights.old
+        → slice_index_or weights.old k 0 ≤ 2 ^ 100 }
+    ensures { (k : ℕ) → k < length weights.old → slice_index_or weights.new k 0
+        ≡ slice_index_or weights.old k 0
+        + number_weight factor (slice_index_or row.now k (pos 0)) }
+{
+    'points: for k in 0..weights.len() {
+        weights[k] += number_weight(row[k], factor);
+    }
+}
+
+/// Adds to the weight of each plane what its stretch of a block weighs, where it has several points.
+fn add_stretches(weights: &mut [u128], block: &[i64], stretch: usize, factor: u64)
+    requires room { length block.now ≡ length weights.old * stretch }
+    requires few { length block.now ≤ 2 ^ 24 }
+    requires factor { factor ≤ 2 ^ 20 }
+    requires light { (k : ℕ) → k < length weights.old
+        → slice_index_or weights.old k 0 ≤ 2 ^ 100 }
+    ensures { (k : ℕ) → k < length weights.old → slice_index_or weights.new k 0
+        ≡ slice_index_or weights.old k 0
+        + sum_by (number_weight factor) (slice_chunk block.now stretch k) }
+{
+    'planes: for k in 0..weights.len() {
+        weights[k] += stretch_weight(&block[k * stretch..(k + 1) * stretch], factor);
+    }
+}
+
+/// What points with these numbers weigh together.
+fn stretch_weight(numbers: &[i64], factor: u64) -> u128
+    requires few { length numbers.now ≤ 2 ^ 24 }
+    requires factor { factor ≤ 2 ^ 20 }
+    ensures value { result ≡ sum_by (number_weight factor) numbers.now }
+    ensures most { result ≤ 2 ^ 24 * (1 + 2 ^ 40) }
+{
     let mut weight = 0;
-    'points: for p in rows(plane) {
-        weight += number_weight(level[index_of(&grid, p)], factor);
+    'points: for number in numbers {
+        weight += number_weight(*number, factor);
     }
     weight
 }
@@ -142,45 +220,4 @@ pub(crate) fn along(p: Point, dir: u8) -> u32
         1 => p.y.unsigned_abs(),
         _ => p.z.unsigned_abs(),
     }
-}
-
-/// The points of the grid whose coordinate in a direction is `k`.
-fn plane(shape: &Shape, dir: u8, k: u32) -> Box3
-    requires shape { IsShape shape.now }
-    requires direction { dir < 3 }
-    requires there { k < unsigned_abs (along shape.now.n dir) }
-    ensures value { result ≡ plane shape.now dir k }
-    ensures ordered { IsBox result }
-    ensures few { point_count result ≤ 2 ^ 24 }
-    ensures inside { LiesOn shape.now result }
-{
-    Box3 {
-        low: Point {
-            x: first(dir == 0, k),
-            y: first(dir == 1, k),
-            z: first(dir == 2, k),
-        },
-        high: Point {
-            x: end(dir == 0, k, shape.n.x),
-            y: end(dir == 1, k, shape.n.y),
-            z: end(dir == 2, k, shape.n.z),
-        },
-    }
-}
-
-/// The first coordinate of a plane in the direction that it lies across, or in another one.
-fn first(across: bool, k: u32) -> i32
-    requires { k < 16777216 }
-    ensures { result ≡ (if across then pos k else pos 0) }
-{
-    if across { k as i32 } else { 0 }
-}
-
-/// The end of a plane's coordinates in the direction that it lies across, or in another one of `n`
-/// points.
-fn end(across: bool, k: u32, n: i32) -> i32
-    requires { k < 16777216 }
-    ensures { result ≡ (if across then pos (k + 1) else n) }
-{
-    if across { k as i32 + 1 } else { n }
 }

@@ -6,6 +6,7 @@ mod combining;
 mod cutting;
 mod fault;
 mod finding;
+mod larger;
 mod laws;
 mod own_box;
 mod piece;
@@ -14,6 +15,7 @@ mod reading;
 mod rising;
 mod rows;
 mod section;
+mod small;
 mod values;
 
 pub use combining::combine;

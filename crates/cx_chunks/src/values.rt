@@ -1,17 +1,20 @@
 //! Whole numbers in little memory.
 
-ghost use Rattle.std.specs.Prelude.{◌≡◌, ◌≤◌, ◌++◌, pos, length, slice_index_or, take, drop, IfOk, IfSome, OnOk};
+ghost use Rattle.std.specs.Prelude.{◌≡◌, ◌++◌, pos, slice_index_or, take, drop, IfOk, OnOk};
 
-use crate::rows::{run, value_at};
+use crate::larger::Larger;
+use crate::rows::run;
+use crate::small::{push_small, push_widened};
 use cx_text::Memory;
 use std::alloc::Global;
 use std::marker::Model;
 
-/// Whole numbers. Those before the first one that 32 bits don't hold take 32 bits each, the others 64. Contracts see the list of all.
+/// Whole numbers. Those before the first one that 8 bits don't hold take 8 bits each, and of the others those before the first
+/// one that 32 bits don't hold 32. The rest take 64. Contracts see the list of all.
 #[derive(Debug, Drop)]
 pub struct Values {
-    narrow: Vec<i32>,
-    wide: Vec<i64>,
+    small: Vec<i8>,
+    larger: Larger,
 }
 
 impl Model for Values {
@@ -19,7 +22,7 @@ impl Model for Values {
 
     ghost Value = { List ℤ };
 
-    ghost view = { λ values. values.narrow.items ++ values.wide.items };
+    ghost view = { λ values. values.small.items ++ values.larger };
 }
 
 impl Values {
@@ -27,21 +30,21 @@ impl Values {
     pub fn new(alloc: Global, numbers: &[i64]) -> Result<Self, Memory>
         ensures { IfOk result (λ values. values ≡ numbers.now) }
     {
-        let mut narrow = Vec::new(alloc);
-        narrow.reserve_exact(numbers.len())?;
-        let count = push_narrow(&mut narrow, numbers)?;
-        let mut wide = Vec::new(alloc);
-        wide.extend_from_slice(&numbers[count..])?;
-        Ok(Values { narrow, wide })
+        let mut small = Vec::new(alloc);
+        small.reserve_exact(numbers.len())?;
+        let count = push_small(&mut small, numbers)?;
+        small.shrink_to_fit();
+        let larger = Larger::new(alloc, &numbers[count..])?;
+        Ok(Values { small, larger })
     }
 
     /// The first number, and 0 where there is none.
     pub(crate) fn first(&self) -> i64
         ensures { result ≡ slice_index_or self.now 0 (pos 0) }
     {
-        match self.narrow.first() {
+        match self.small.first() {
             Some(number) => i64::from(*number),
-            None => value_at(&self.wide, 0),
+            None => self.larger.first(),
         }
     }
 
@@ -54,42 +57,9 @@ impl Values {
     pub fn push_run(&self, row: &mut Vec<i64>, from: usize, count: usize) -> Result<(), Memory>
         ensures { OnOk result (row.new.items ≡ row.old.items ++ take count (drop from self.now)) }
     {
-        let narrow = run(&self.narrow, from, count);
-        push_widened(row, narrow)?;
-        let after = from.saturating_sub(self.narrow.len());
-        row.extend_from_slice(run(&self.wide, after, count - narrow.len()))?;
-        Ok(())
+        let small = run(&self.small, from, count);
+        push_widened(row, small)?;
+        let after = from.saturating_sub(self.small.len());
+        self.larger.push_run(row, after, count - small.len())
     }
-}
-
-/// A number in 32 bits, if these hold it.
-fn narrowed(number: i64) -> Option<i32>
-    ensures { IfSome result (λ narrow. narrow ≡ number) }
-{
-    i32::try_from(number).ok()
-}
-
-/// Adds the numbers before the first one that 32 bits don't hold, and says how many these are.
-#[inline(never)]
-fn push_narrow(row: &mut Vec<i32>, numbers: &[i64]) -> Result<usize, Memory>
-    ensures row { IfOk result (λ count. row.new.items ≡ row.old.items ++ take count numbers.now) }
-    ensures within { IfOk result (λ count. count ≤ length numbers.now) }
-{
-    'numbers: for (place, number) in numbers.iter().enumerate() {
-        match narrowed(*number) {
-            Some(narrow) => row.push(narrow)?,
-            None => return Ok(place),
-        }
-    }
-    Ok(numbers.len())
-}
-
-/// Adds numbers of 32 bits, in 64 bits each.
-fn push_widened(row: &mut Vec<i64>, narrow: &[i32]) -> Result<(), Memory>
-    ensures { OnOk result (row.new.items ≡ row.old.items ++ narrow.now) }
-{
-    'numbers: for number in narrow {
-        row.push(i64::from(*number))?;
-    }
-    Ok(())
 }

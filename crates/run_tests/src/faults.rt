@@ -43,6 +43,25 @@ pub const PLAIN: &[File] = &[
     },
 ];
 
+/// A grid function of two timelevels and a scalar of the first thorn.
+const VARIABLES: File = File {
+    name: "arrangements/A/T/interface.ccl",
+    bytes: b"implements: t\n\
+    public:\n\
+    INT g TYPE=GF DIM=1 TIMELEVELS=2 { v }\n\
+    INT s TYPE=SCALAR\n",
+};
+
+const STORED_GRID: File = File {
+    name: "arrangements/A/T/schedule.ccl",
+    bytes: b"STORAGE: g\n",
+};
+
+const STORED_SCALAR: File = File {
+    name: "arrangements/A/T/schedule.ccl",
+    bytes: b"STORAGE: s\n",
+};
+
 /// What stands in place of the plain files or beside them, and what `check t.par` prints.
 pub const FAULTS: &[Fault] = &[
     Fault {
@@ -353,13 +372,7 @@ pub const FAULTS: &[Fault] = &[
     },
     Fault {
         files: &[
-            File {
-                name: "arrangements/A/T/interface.ccl",
-                bytes: b"implements: t\n\
-                public:\n\
-                INT g TYPE=GF DIM=1 TIMELEVELS=2 { v }\n\
-                INT s TYPE=SCALAR\n",
-            },
+            VARIABLES,
             File {
                 name: "arrangements/A/T/schedule.ccl",
                 bytes: b"schedule a AT EVOL { READS: v }\n",
@@ -369,13 +382,7 @@ pub const FAULTS: &[Fault] = &[
     },
     Fault {
         files: &[
-            File {
-                name: "arrangements/A/T/interface.ccl",
-                bytes: b"implements: t\n\
-                public:\n\
-                INT g TYPE=GF DIM=1 TIMELEVELS=2 { v }\n\
-                INT s TYPE=SCALAR\n",
-            },
+            VARIABLES,
             File {
                 name: "arrangements/A/T/schedule.ccl",
                 bytes: b"STORAGE: g[1]\nschedule a AT EVOL { READS: v_p }\n",
@@ -385,13 +392,7 @@ pub const FAULTS: &[Fault] = &[
     },
     Fault {
         files: &[
-            File {
-                name: "arrangements/A/T/interface.ccl",
-                bytes: b"implements: t\n\
-                public:\n\
-                INT g TYPE=GF DIM=1 TIMELEVELS=2 { v }\n\
-                INT s TYPE=SCALAR\n",
-            },
+            VARIABLES,
             File {
                 name: "arrangements/A/T/schedule.ccl",
                 bytes: b"STORAGE: g\nschedule a AT EVOL IF v { }\n",
@@ -401,13 +402,7 @@ pub const FAULTS: &[Fault] = &[
     },
     Fault {
         files: &[
-            File {
-                name: "arrangements/A/T/interface.ccl",
-                bytes: b"implements: t\n\
-                public:\n\
-                INT g TYPE=GF DIM=1 TIMELEVELS=2 { v }\n\
-                INT s TYPE=SCALAR\n",
-            },
+            VARIABLES,
             File {
                 name: "arrangements/A/T/schedule.ccl",
                 bytes: b"STORAGE: s\nschedule a AT EVOL { SYNC: s }\n",
@@ -462,13 +457,7 @@ pub const FAULTS: &[Fault] = &[
     },
     Fault {
         files: &[
-            File {
-                name: "arrangements/A/T/interface.ccl",
-                bytes: b"implements: t\n\
-                public:\n\
-                INT g TYPE=GF DIM=1 TIMELEVELS=2 { v }\n\
-                INT s TYPE=SCALAR\n",
-            },
+            VARIABLES,
             File {
                 name: "arrangements/A/T/schedule.ccl",
                 bytes: b"STORAGE: g[1]\n",
@@ -482,17 +471,8 @@ pub const FAULTS: &[Fault] = &[
     },
     Fault {
         files: &[
-            File {
-                name: "arrangements/A/T/interface.ccl",
-                bytes: b"implements: t\n\
-                public:\n\
-                INT g TYPE=GF DIM=1 TIMELEVELS=2 { v }\n\
-                INT s TYPE=SCALAR\n",
-            },
-            File {
-                name: "arrangements/A/T/schedule.ccl",
-                bytes: b"STORAGE: g\n",
-            },
+            VARIABLES,
+            STORED_GRID,
             File {
                 name: "t.par",
                 bytes: b"ActiveThorns = \"T U\"\ndriver::weight = \" t::v\"\n",
@@ -502,17 +482,8 @@ pub const FAULTS: &[Fault] = &[
     },
     Fault {
         files: &[
-            File {
-                name: "arrangements/A/T/interface.ccl",
-                bytes: b"implements: t\n\
-                public:\n\
-                INT g TYPE=GF DIM=1 TIMELEVELS=2 { v }\n\
-                INT s TYPE=SCALAR\n",
-            },
-            File {
-                name: "arrangements/A/T/schedule.ccl",
-                bytes: b"STORAGE: g\n",
-            },
+            VARIABLES,
+            STORED_GRID,
             File {
                 name: "t.par",
                 bytes: b"ActiveThorns = \"T U\"\ndriver::weight = \"t::g\"\n",
@@ -522,17 +493,8 @@ pub const FAULTS: &[Fault] = &[
     },
     Fault {
         files: &[
-            File {
-                name: "arrangements/A/T/interface.ccl",
-                bytes: b"implements: t\n\
-                public:\n\
-                INT g TYPE=GF DIM=1 TIMELEVELS=2 { v }\n\
-                INT s TYPE=SCALAR\n",
-            },
-            File {
-                name: "arrangements/A/T/schedule.ccl",
-                bytes: b"STORAGE: g\n",
-            },
+            VARIABLES,
+            STORED_GRID,
             File {
                 name: "t.par",
                 bytes: b"ActiveThorns = \"T U\"\ndriver::weight = \"t::v_p\"\n",
@@ -542,17 +504,8 @@ pub const FAULTS: &[Fault] = &[
     },
     Fault {
         files: &[
-            File {
-                name: "arrangements/A/T/interface.ccl",
-                bytes: b"implements: t\n\
-                public:\n\
-                INT g TYPE=GF DIM=1 TIMELEVELS=2 { v }\n\
-                INT s TYPE=SCALAR\n",
-            },
-            File {
-                name: "arrangements/A/T/schedule.ccl",
-                bytes: b"STORAGE: s\n",
-            },
+            VARIABLES,
+            STORED_SCALAR,
             File {
                 name: "t.par",
                 bytes: b"ActiveThorns = \"T U\"\ndriver::weight = \"t::s\"\n",
@@ -562,17 +515,8 @@ pub const FAULTS: &[Fault] = &[
     },
     Fault {
         files: &[
-            File {
-                name: "arrangements/A/T/interface.ccl",
-                bytes: b"implements: t\n\
-                public:\n\
-                INT g TYPE=GF DIM=1 TIMELEVELS=2 { v }\n\
-                INT s TYPE=SCALAR\n",
-            },
-            File {
-                name: "arrangements/A/T/schedule.ccl",
-                bytes: b"STORAGE: s\n",
-            },
+            VARIABLES,
+            STORED_SCALAR,
             File {
                 name: "t.par",
                 bytes: b"ActiveThorns = \"T U\"\ndriver::weight = \"t::v\"\n",
@@ -582,17 +526,8 @@ pub const FAULTS: &[Fault] = &[
     },
     Fault {
         files: &[
-            File {
-                name: "arrangements/A/T/interface.ccl",
-                bytes: b"implements: t\n\
-                public:\n\
-                INT g TYPE=GF DIM=1 TIMELEVELS=2 { v }\n\
-                INT s TYPE=SCALAR\n",
-            },
-            File {
-                name: "arrangements/A/T/schedule.ccl",
-                bytes: b"STORAGE: s\n",
-            },
+            VARIABLES,
+            STORED_SCALAR,
             File {
                 name: "t.par",
                 bytes: b"ActiveThorns = \"T U\"\ndriver::weight = \"t::none\"\nIO::out_vars = \"t::v\"\n",

@@ -134,6 +134,18 @@ const STEP_IF: &[u8] = b"STORAGE: evolved[1] sums[1]\n\
     \x20 { LANG: C READS: diff::u(everywhere) WRITES: diff::total } \"sum\"\n\
     }\n";
 
+/// Heat that stays where it is, cut anew in each iteration by the greatest factor.
+const STILL: &[u8] = b"ActiveThorns = \"DiffInt\"\n\
+    Cactus::cctk_itlast = 2\n\
+    driver::periodic = yes\n\
+    driver::balance = yes\n\
+    driver::weight = \"diff::u\"\n\
+    driver::weight_factor = 1048576\n\
+    diff::factor = 0\n\
+    IO::checkpoint_every = 1\n\
+    IO::out_every = 2\n\
+    IO::out_vars = \"diff::u\"\n";
+
 /// The examples, and jobs that differ from them.
 pub const RUNS: &[Run] = &[
     // The automaton, whatever the cut.
@@ -443,6 +455,44 @@ pub const RUNS: &[Run] = &[
             \n",
         second: b"# wave::total iteration 0 value 9223372036854775807\n",
         points: Some(7),
+    },
+    // Numbers at both ends of 64 bits that weigh their points.
+    Run {
+        name: "the greatest numbers weigh",
+        file: STILL,
+        more: "driver::global_nx = 4\n\
+            driver::widths_x = \"1 3\"\n\
+            diff::pattern = \"alternate\"\n\
+            diff::amount = 9223372036854775807\n",
+        others: &[],
+        status: 0,
+        printed: b"done: iteration 2\n",
+        first: b"# diff::u iteration 0 size 4\n\
+            9223372036854775807 -9223372036854775807 9223372036854775807 -9223372036854775807\n\
+            \n\
+            # diff::u iteration 2 size 4\n\
+            9223372036854775807 -9223372036854775807 9223372036854775807 -9223372036854775807\n\
+            \n",
+        second: b"",
+        points: Some(16),
+    },
+    Run {
+        name: "the least number weighs",
+        file: STILL,
+        more: "driver::global_nx = 8\n\
+            driver::parts_x = 3\n\
+            diff::amount = -9223372036854775808\n",
+        others: &[],
+        status: 0,
+        printed: b"done: iteration 2\n",
+        first: b"# diff::u iteration 0 size 8\n\
+            -9223372036854775808 0 0 0 0 0 0 0\n\
+            \n\
+            # diff::u iteration 2 size 8\n\
+            -9223372036854775808 0 0 0 0 0 0 0\n\
+            \n",
+        second: b"",
+        points: Some(30),
     },
     // Numbers that leave 16 bits, and 64 bits.
     Run {

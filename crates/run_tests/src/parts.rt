@@ -66,7 +66,7 @@ const SEEDS: &[&str] = &[
     "--turns=18446744073709551615",
 ];
 
-/// A job of a sample thorn, with files in place of its own, and cuts of its grid into 1, 2, 3 and 16 parts.
+/// A job of a sample thorn, with files in place of its own, and cuts of its grid into 1, 2, 3 and 16 parts, or anew at each checkpoint.
 pub(crate) struct Thorn {
     pub(crate) name: &'static str,
     pub(crate) file: &'static [u8],
@@ -80,6 +80,7 @@ const LINES: &[&str] = &[
     "driver::parts_x = 3\ndriver::lead = 1\n",
     "driver::widths_x = \"1 2 1 5 1 1 5\"\ndriver::lead = 2\n",
     "driver::parts_x = 16\n",
+    "driver::widths_x = \"1 2 1 5 1 1 5\"\ndriver::lead = 8\ndriver::balance = yes\nIO::checkpoint_every = 1\n",
 ];
 
 const SHEETS: &[&str] = &[
@@ -88,6 +89,8 @@ const SHEETS: &[&str] = &[
     "driver::parts_x = 3\ndriver::lead = 3\n",
     "driver::widths_x = \"1 1 2 1 1 1 1\"\n",
     "driver::parts_x = 4\ndriver::parts_y = 4\ndriver::lead = 1\n",
+    "driver::widths_y = \"1 1 3\"\ndriver::balance = yes\ndriver::weight = \"life::cell\"\n\
+        driver::weight_factor = 1048576\nIO::checkpoint_every = 1\n",
 ];
 
 const SOLIDS: &[&str] = &[
@@ -95,6 +98,8 @@ const SOLIDS: &[&str] = &[
     "driver::parts_z = 2\n",
     "driver::parts_x = 3\ndriver::lead = 2\n",
     "driver::parts_x = 4\ndriver::parts_y = 2\ndriver::parts_z = 2\ndriver::lead = 1\n",
+    "driver::widths_x = \"1 1 2\"\ndriver::widths_y = \"3 1\"\ndriver::widths_z = \"1 2\"\ndriver::lead = 8\n\
+        driver::balance = yes\ndriver::weight = \"diff::u\"\nIO::checkpoint_every = 1\n",
 ];
 
 pub(crate) const THORN_JOBS: &[Thorn] = &[

@@ -112,6 +112,25 @@ fn automaton_and_box(rt: HostRuntime) -> Result<(), Fail> {
     gave(&left.wires, 2, 0)
 }
 
+/// Tests the sum of the values that a wire has given out.
+fn gave_sum(wires: &[MemoryWire], job: usize, sum: u64) -> Result<(), Fail> {
+    match wires.get(job) {
+        Some(wire) => same(&(job, "sum"), &wire.received_sum(), &sum),
+        None => Err(Fail::new("there is no such wire")),
+    }
+}
+
+#[test]
+fn a_glider_that_is_cut_anew(rt: HostRuntime) -> Result<(), Fail> {
+    let lines = "glider.par: done: iteration 5\nca.par: done: iteration 2\n";
+    let left = row(&rt, &["batch", "glider.par", "ca.par"], 0, lines)?;
+    same(&lines, &left.points, &486)?;
+    gave(&left.wires, 0, 380)?;
+    gave(&left.wires, 1, 4)?;
+    // in its own cut to the end it would be 22
+    gave_sum(&left.wires, 0, 25)
+}
+
 #[test]
 fn other_words(rt: HostRuntime) -> Result<(), Fail> {
     let left = row(&rt, &["run", "ca.par"], 0, "done: iteration 2\n")?;

@@ -32,6 +32,20 @@ const BOX: &[u8] = b"ActiveThorns = \"WaveInt DiffInt ElemCA Control\"\n\
     IO::checkpoint_every = 20\n\
     IO::recover = \"autoprobe\"\n";
 
+/// A glider in three parts, cut anew after iteration 4.
+const GLIDER: &[u8] = b"ActiveThorns = \"Life2D\"\n\
+    Cactus::cctk_itlast = 5\n\
+    driver::global_nsize = 8\n\
+    driver::periodic = yes\n\
+    driver::parts_y = 3\n\
+    driver::balance = yes\n\
+    driver::weight = \"life::cell\"\n\
+    driver::weight_factor = 100\n\
+    life::pattern = \"glider\"\n\
+    IO::checkpoint_every = 4\n\
+    IO::checkpoint_dir = $parfile\n\
+    IO::out_dir = $parfile\n";
+
 /// Heat that leaves 16 bits in iteration 7, in a folder of its own.
 const HEAT: &[u8] = b"ActiveThorns = \"DiffInt\"\n\
     Cactus::cctk_itlast = 20\n\
@@ -65,6 +79,7 @@ macro_rules! file {
 pub(crate) const FILES: &[File] = &[
     file!("ca.par", OWN),
     file!("box.par", BOX),
+    file!("glider.par", GLIDER),
     file!("d.par", HEAT),
     file!("arrangements/Integer/DiffInt/interface.ccl", SHORT_HEAT),
     file!("a.par", CA),

@@ -67,6 +67,63 @@ sheet-shape =
       few = omega arith;
     }
 
+two : IsAxis (pos 8) (pos 2)
+two = axis 8 2 (omega arith) (omega arith) (omega arith)
+
+pub x-shape : IsShape (record {
+  dims = 3;
+  n = record { x = pos 8; y = pos 1; z = pos 1 };
+  ghost_ = record { x = pos 2; y = pos 0; z = pos 0 };
+  periodic = true ∷ true ∷ true ∷ [];
+})
+x-shape =
+    record {
+      some = omega arith;
+      most = omega arith;
+      x = two;
+      y = one;
+      z = one;
+      no_y = λ h. absurd (omega (arith, h));
+      no_z = λ h. absurd (omega (arith, h));
+      few = omega arith;
+    }
+
+pub y-shape : IsShape (record {
+  dims = 3;
+  n = record { x = pos 1; y = pos 8; z = pos 1 };
+  ghost_ = record { x = pos 0; y = pos 2; z = pos 0 };
+  periodic = true ∷ true ∷ true ∷ [];
+})
+y-shape =
+    record {
+      some = omega arith;
+      most = omega arith;
+      x = one;
+      y = two;
+      z = one;
+      no_y = λ h. absurd (omega (arith, h));
+      no_z = λ h. absurd (omega (arith, h));
+      few = omega arith;
+    }
+
+pub z-shape : IsShape (record {
+  dims = 3;
+  n = record { x = pos 1; y = pos 1; z = pos 8 };
+  ghost_ = record { x = pos 0; y = pos 0; z = pos 2 };
+  periodic = true ∷ true ∷ true ∷ [];
+})
+z-shape =
+    record {
+      some = omega arith;
+      most = omega arith;
+      x = one;
+      y = one;
+      z = two;
+      no_y = λ h. absurd (omega (arith, h));
+      no_z = λ h. absurd (omega (arith, h));
+      few = omega arith;
+    }
+
 -- ---- the job
 
 no_item-small : IsSmall no_item

@@ -27,26 +27,31 @@ enum Grid {
     Ten,
     /// Eight by eight points, periodic in both directions.
     Sheet,
+    /// Eight points along x, y or z, with ghost zones of two points, and one in both other directions.
+    AlongX,
+    AlongY,
+    AlongZ,
 }
 
 /// A grid and its own cut, the numbers that weigh the points, if some do, and what is wanted.
 #[derive(Debug)]
 struct Row {
     grid: Grid,
-    /// The widths of its parts along x and y.
-    x: &'static [u32],
-    y: &'static [u32],
+    /// The widths of its parts along x, y and z.
+    own: [&'static [u32]; 3],
     weighed: bool,
     factor: u64,
     numbers: &'static [i64],
-    /// What the planes of x weigh, and, if the grid has y, those of y.
+    /// What the planes of each direction weigh.
     planes: &'static [&'static [u128]],
-    /// The chosen widths along x and y.
-    chosen_x: &'static [u32],
-    chosen_y: &'static [u32],
+    /// The chosen widths along x, y and z.
+    chosen: [&'static [u32]; 3],
 }
 
 const SEVENS: &[i64] = &[0, 0, 0, 0, 7, 7, 0, 0];
+
+/// The first share ends after one point, and the second one with the last point.
+const ENDS: &[i64] = &[29, 0, 0, 0, 0, 0, 0, 29];
 
 /// The cells (2, 1), (3, 2), (1, 3), (2, 3) and (3, 3).
 const GLIDER: &[i64] = &[
@@ -63,53 +68,53 @@ const GLIDER: &[i64] = &[
 const ROWS: &[Row] = &[
     Row {
         grid: Grid::Eight,
-        x: &[4, 4],
-        y: &[1],
+        own: [&[4, 4], &[1], &[1]],
         weighed: true,
         factor: 1,
         numbers: SEVENS,
         planes: &[&[1, 1, 1, 1, 8, 8, 1, 1]],
-        chosen_x: &[5, 3],
-        chosen_y: &[1],
+        chosen: [&[5, 3], &[1], &[1]],
     },
     Row {
         grid: Grid::Eight,
-        x: &[3, 3, 2],
-        y: &[1],
+        own: [&[3, 3, 2], &[1], &[1]],
         weighed: true,
         factor: 1,
         numbers: SEVENS,
         planes: &[&[1, 1, 1, 1, 8, 8, 1, 1]],
-        chosen_x: &[5, 1, 2],
-        chosen_y: &[1],
+        chosen: [&[5, 1, 2], &[1], &[1]],
     },
-    // a number counts by its distance from 0, at most 2^20
+    // the greatest factor; a number counts by its distance from 0, at most 2^20
     Row {
         grid: Grid::Eight,
-        x: &[4, 4],
-        y: &[1],
+        own: [&[4, 4], &[1], &[1]],
         weighed: true,
-        factor: 2,
+        factor: 1048576,
         numbers: &[-3, 0, 0, i64::MIN, i64::MAX, -1048576, 1048577, 0],
-        planes: &[&[7, 1, 1, 2097153, 2097153, 2097153, 2097153, 1]],
-        chosen_x: &[5, 3],
-        chosen_y: &[1],
+        planes: &[&[
+            3145729,
+            1,
+            1,
+            1099511627777,
+            1099511627777,
+            1099511627777,
+            1099511627777,
+            1,
+        ]],
+        chosen: [&[5, 3], &[1], &[1]],
     },
     Row {
         grid: Grid::Ten,
-        x: &[2, 2, 6],
-        y: &[1],
+        own: [&[2, 2, 6], &[1], &[1]],
         weighed: false,
         factor: 1,
         numbers: &[9, 9, 9, 9, 9, 0, 0, 0, 0, 0],
         planes: &[&[1, 1, 1, 1, 1, 1, 1, 1, 1, 1]],
-        chosen_x: &[4, 3, 3],
-        chosen_y: &[1],
+        chosen: [&[4, 3, 3], &[1], &[1]],
     },
     Row {
         grid: Grid::Sheet,
-        x: &[8],
-        y: &[3, 3, 2],
+        own: [&[8], &[3, 3, 2], &[1]],
         weighed: true,
         factor: 100,
         numbers: GLIDER,
@@ -117,8 +122,35 @@ const ROWS: &[Row] = &[
             &[8, 108, 208, 208, 8, 8, 8, 8],
             &[8, 108, 108, 308, 8, 8, 8, 8],
         ],
-        chosen_x: &[8],
-        chosen_y: &[3, 1, 4],
+        chosen: [&[8], &[3, 1, 4], &[1]],
+    },
+    // the first part is to have two points, and so is the last one
+    Row {
+        grid: Grid::AlongX,
+        own: [&[3, 3, 2], &[1], &[1]],
+        weighed: true,
+        factor: 1,
+        numbers: ENDS,
+        planes: &[&[30, 1, 1, 1, 1, 1, 1, 30], &[66], &[66]],
+        chosen: [&[2, 4, 2], &[1], &[1]],
+    },
+    Row {
+        grid: Grid::AlongY,
+        own: [&[1], &[3, 3, 2], &[1]],
+        weighed: true,
+        factor: 1,
+        numbers: ENDS,
+        planes: &[&[66], &[30, 1, 1, 1, 1, 1, 1, 30], &[66]],
+        chosen: [&[1], &[2, 4, 2], &[1]],
+    },
+    Row {
+        grid: Grid::AlongZ,
+        own: [&[1], &[1], &[3, 3, 2]],
+        weighed: true,
+        factor: 1,
+        numbers: ENDS,
+        planes: &[&[66], &[66], &[30, 1, 1, 1, 1, 1, 1, 30]],
+        chosen: [&[1], &[1], &[2, 4, 2]],
     },
 ];
 
@@ -144,6 +176,24 @@ fn shape_of(grid: Grid) -> Shape
             n: Point { x: 8, y: 8, z: 1 },
             ghost_: Point { x: 1, y: 1, z: 0 },
             periodic: [true, true, false],
+        },
+        Grid::AlongX => Shape {
+            dims: 3,
+            n: Point { x: 8, y: 1, z: 1 },
+            ghost_: Point { x: 2, y: 0, z: 0 },
+            periodic: [true, true, true],
+        },
+        Grid::AlongY => Shape {
+            dims: 3,
+            n: Point { x: 1, y: 8, z: 1 },
+            ghost_: Point { x: 0, y: 2, z: 0 },
+            periodic: [true, true, true],
+        },
+        Grid::AlongZ => Shape {
+            dims: 3,
+            n: Point { x: 1, y: 1, z: 8 },
+            ghost_: Point { x: 0, y: 0, z: 2 },
+            periodic: [true, true, true],
         },
     }
 }
@@ -173,11 +223,11 @@ fn variables(alloc: Global) -> Result<List<VarInfo>, Memory>
 }
 
 /// The cut of these widths.
-fn own_cut(alloc: Global, x: &[u32], y: &[u32]) -> Result<Cuts, Memory> {
+fn own_cut(alloc: Global, widths: &[&[u32]; 3]) -> Result<Cuts, Memory> {
     Ok(Cuts {
-        x: List::new(x.to_vec(alloc)?),
-        y: List::new(y.to_vec(alloc)?),
-        z: List::new(Vec::from_array(alloc, [1])?),
+        x: List::new(widths[0].to_vec(alloc)?),
+        y: List::new(widths[1].to_vec(alloc)?),
+        z: List::new(widths[2].to_vec(alloc)?),
     })
 }
 
@@ -297,13 +347,13 @@ fn chooses(alloc: Global, row: &Row, job: &Job, state: &Checkpoint) -> Result<()
         }
     }
     let cuts = cut_by_weight(alloc, job, state)?;
-    same(row, &cuts.x.as_slice(), &row.chosen_x)?;
-    same(row, &cuts.y.as_slice(), &row.chosen_y)
+    let found = [cuts.x.as_slice(), cuts.y.as_slice(), cuts.z.as_slice()];
+    same(row, &found, &row.chosen)
 }
 
 fn tries(alloc: Global, row: &Row) -> Result<(), Fail> {
     let shape = shape_of(row.grid);
-    let own = own_cut(alloc, row.x, row.y)?;
+    let own = own_cut(alloc, &row.own)?;
     let fit = are_numbers(&shape, row.factor, row.numbers);
     let job = job(alloc, shape, own, row.weighed, row.factor)?;
     let state = state(alloc, row.numbers)?;

@@ -72,7 +72,7 @@ pub(crate) const BOX_THORNS: &[File] = &[File {
 pub(crate) const RUN: &[&str] = &["run", "t.par"];
 
 /// What a run of a job over a disk comes to.
-fn run_on(
+pub(crate) fn run_on(
     rt: &HostRuntime,
     file: &[u8],
     more: &str,
@@ -84,7 +84,7 @@ fn run_on(
 }
 
 /// What a run over a disk that stops behind so many calls comes to, and what is left of the disk.
-fn run_stopped(
+pub(crate) fn run_stopped(
     rt: &HostRuntime,
     file: &[u8],
     more: &str,
@@ -98,7 +98,7 @@ fn run_stopped(
     Ok((came.status, fuse.into_image(choice)?))
 }
 
-fn empty_disk(alloc: Global) -> MemoryDisk {
+pub(crate) fn empty_disk(alloc: Global) -> MemoryDisk {
     MemoryDisk::new(alloc, List::empty(alloc))
 }
 
@@ -286,7 +286,8 @@ fn start_from_nothing(rt: HostRuntime) -> Result<(), Fail> {
     starts_from_nothing(&rt, probe, 0, b"done: iteration 2\n", CA_OUTPUT)
 }
 
-/// The box in three parts and in four, at leads 0 and 3.
+/// The box in three parts and in four: at leads 0 and 3, cut anew in the last run alone, and cut anew in each run at lead 8. By weight
+/// the four parts are equal, since all points weigh the same.
 const BOX_LEADS: &[(&str, &str)] = &[
     (
         "driver::parts_x = 3\nwave::amount = 5\nIO::recover = \"autoprobe\"\n",
@@ -295,6 +296,16 @@ const BOX_LEADS: &[(&str, &str)] = &[
     (
         "driver::parts_x = 3\nwave::amount = 5\nIO::recover = \"autoprobe\"\ndriver::lead = 3\n",
         "driver::parts_x = 4\nwave::amount = 5\nIO::recover = \"autoprobe\"\ndriver::lead = 3\n",
+    ),
+    (
+        "driver::parts_x = 3\nwave::amount = 5\nIO::recover = \"autoprobe\"\n",
+        "driver::parts_x = 4\nwave::amount = 5\nIO::recover = \"autoprobe\"\ndriver::balance = yes\n",
+    ),
+    (
+        "driver::widths_x = \"5 30 5\"\nwave::amount = 5\nIO::recover = \"autoprobe\"\ndriver::lead = 8\n\
+            driver::balance = yes\ndriver::weight = \"wave::phi\"\n",
+        "driver::widths_x = \"4 29 4 3\"\nwave::amount = 5\nIO::recover = \"autoprobe\"\ndriver::lead = 8\n\
+            driver::balance = yes\ndriver::weight = \"wave::phi\"\n",
     ),
 ];
 
@@ -375,7 +386,7 @@ fn files_that_are_too_long(rt: HostRuntime) -> Result<(), Fail> {
 
 /// How many calls a run of the automaton makes on an empty disk, with a checkpoint in each iteration: 20 up to the first piece, three
 /// pieces, 11 for the first checkpoint, 14 for the second one, and the output's sync.
-const AUTOMATON_CALLS: u64 = 49;
+pub(crate) const AUTOMATON_CALLS: u64 = 49;
 
 /// More calls than any run of it makes.
 const MANY_CALLS: u64 = 100;
@@ -403,7 +414,7 @@ fn started_again(rt: &HostRuntime, left: &MemoryDisk, calls: u64) -> Result<(u8,
 }
 
 /// Whether a run of the automaton has come to its end, with its whole output.
-fn is_whole(came: &Outcome) -> bool {
+pub(crate) fn is_whole(came: &Outcome) -> bool {
     came.status == 0
         && came.printed.as_slice() == b"done: iteration 2\n".as_slice()
         && came.first.as_slice() == CA_OUTPUT

@@ -1,15 +1,11 @@
-use Rattle.std.proofs.Common.{◌∙◌, ap, sym}
-use Rattle.std.specs.List.{sum_by}
-use Rattle.cx_grid.specs.declared.boxes.Point.{Point}
-use Rattle.cx_grid.specs.Boxes.{points_in, point_count}
-use Rattle.cx_balance.specs.Weighing.{plane}
-use Rattle.cx_balance.proofs.WeightLaws.{counted, plane_pushed}
+use Rattle.std.proofs.Common.{◌∙◌, ◌/◌, ap}
+use Rattle.cx_grid.specs.Boxes.{point_count}
+use Rattle.cx_balance.proofs.PlaneSums.{counts_are}
 use Rattle.cx_balance.proofs.weighing.counted_planes.Goals as goal
 
-pub planes-preserved : goal.planes-preserved
-planes-preserved c =
-    let s = c.args.shape.now in
-    plane_pushed (λ k. sum_by (λ (p : Point). 1) (points_in (plane s c.args.dir k))) c.planes.k
-    c.count.result c.planes.weights c.push.new.self c.planes.invariant
-    (c.count.ensures ∙ ap point_count c.plane.ensures.value
-    ∙ sym (counted (plane s c.args.dir c.planes.k))) c.in_ok-push.ensures.ok
+pub returns : goal.returns
+returns c =
+    counts_are c.args.shape.now c.requires.shape c.args.dir c.along-n.result
+    (c.count.result / c.along-n.result) c.new.result c.requires.direction c.along-n.ensures
+    (ap (λ n. n / c.along-n.result) (c.count.ensures ∙ ap point_count c.whole.ensures.value))
+    (c.new.ensures ∙ c.in_ok-vec.ensures.items_if_clones_equal (λ y same. same))

@@ -1,16 +1,38 @@
-use Rattle.std.proofs.Common.{◌∙◌, ap}
-use Rattle.std.specs.List.{sum_by}
-use Rattle.cx_grid.specs.declared.boxes.Box3.{Box3}
-use Rattle.cx_grid.specs.Boxes.{points_in}
-use Rattle.cx_balance.specs.Weighing.{plane, weight_at}
-use Rattle.cx_balance.proofs.WeightLaws.{plane_pushed}
+use Rattle.std.proofs.Common.{◌≡◌, ◌∙◌, ap, arith, sym, length}
+use Rattle.std.proofs.lemmas.List.{length-replicate, take_at}
+use Rattle.cx_balance.proofs.PlaneSums.{blocks_by, weights_are}
 use Rattle.cx_balance.proofs.weighing.weighed_planes.Goals as goal
 
-pub planes-preserved : goal.planes-preserved
-planes-preserved c =
-    let s = c.args.shape.now in
-    let weight = weight_at s c.args.factor c.args.level.now in
-    plane_pushed (λ k. sum_by weight (points_in (plane s c.args.dir k))) c.planes.k
-    c.plane_weight.result c.planes.weights c.push.new.self c.planes.invariant
-    (c.plane_weight.ensures
-    ∙ ap (λ (b : Box3). sum_by weight (points_in b)) c.plane.ensures.value) c.in_ok-push.ensures.ok
+pub add_level-requires-clause-some : goal.add_level-requires-clause-some
+add_level-requires-clause-some c =
+    let size : length c.deref_mut.result.now ≡ c.along.result =
+    ap length c.deref_mut.ensures.value
+    ∙ ap length (c.in_ok-weights.ensures.items_if_clones_equal (λ y same. same))
+    ∙ length-replicate c.along.result 0 in
+    (blocks_by c.args.shape.now c.requires.shape c.args.dir (length c.deref_mut.result.now)
+    c.stretch.result c.requires.direction (size ∙ c.along.ensures) c.stretch.ensures).0
+
+pub add_level-requires-clause-few : goal.add_level-requires-clause-few
+add_level-requires-clause-few c =
+    let size : length c.deref_mut.result.now ≡ c.along.result =
+    ap length c.deref_mut.ensures.value
+    ∙ ap length (c.in_ok-weights.ensures.items_if_clones_equal (λ y same. same))
+    ∙ length-replicate c.along.result 0 in
+    (blocks_by c.args.shape.now c.requires.shape c.args.dir (length c.deref_mut.result.now)
+    c.stretch.result c.requires.direction (size ∙ c.along.ensures) c.stretch.ensures).1
+
+pub returns : goal.returns
+returns c =
+    let size : length c.deref_mut.result.now ≡ c.along.result =
+    ap length c.deref_mut.ensures.value
+    ∙ ap length (c.in_ok-weights.ensures.items_if_clones_equal (λ y same. same))
+    ∙ length-replicate c.along.result 0 in
+    let kept : length c.add_level.new.weights ≡ length c.deref_mut.result.now =
+    c.add_level.auto.weights in
+    c.new.ensures
+    ∙ take_at c.add_level.new.weights _ c.in_ok-weights.weights.len
+    (kept ∙ size ∙ sym c.in_ok-weights.ensures.len)
+    ∙ weights_are c.args.shape.now c.requires.shape c.args.factor c.args.level.now
+    c.requires.points c.args.dir (length c.deref_mut.result.now) c.stretch.result
+    c.add_level.new.weights c.requires.direction (size ∙ c.along.ensures) c.stretch.ensures kept
+    c.add_level.ensures

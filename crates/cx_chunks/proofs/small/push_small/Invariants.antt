@@ -1,5 +1,5 @@
 use Rattle.std.proofs.Common.{◌≡◌, ◌++◌, take}
-use Rattle.cx_chunks.proofs.values.push_narrow.Given as goal
+use Rattle.cx_chunks.proofs.small.push_small.Given as goal
 
 abbrev pub invariant-numbers : goal.invariant-numbers
 invariant-numbers l = l.row.items ≡ l.initial.row.items ++ take l.place l.numbers

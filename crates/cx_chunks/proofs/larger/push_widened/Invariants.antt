@@ -1,5 +1,5 @@
 use Rattle.std.proofs.Common.{◌≡◌, ◌++◌, take}
-use Rattle.cx_chunks.proofs.values.push_widened.Given as goal
+use Rattle.cx_chunks.proofs.larger.push_widened.Given as goal
 
 abbrev pub invariant-numbers : goal.invariant-numbers
 invariant-numbers l = l.row.items ≡ l.initial.row.items ++ take l.number-index l.narrow
