@@ -1,7 +1,7 @@
 //! The top call over objects in memory.
 
 use crate::cuts::{CUTS, Cut};
-use crate::faults::{FAULTS, Fault, PLAIN, SAMPLE_FAULTS};
+use crate::faults::{FAULTS, PLAIN, SAMPLE_FAULTS, WEIGHT_FAULTS};
 use crate::jobs::{RUNS, Run};
 use crate::schedules;
 use cx_run::{FolderShelf, MemoryShelf, Shelf};
@@ -463,22 +463,23 @@ fn is_checked(rt: &HostRuntime, files: &[File], more: &[File], want: &str) -> Re
     same(&want, &printed.as_slice(), &want.as_bytes())
 }
 
-/// Tests rows of faults, with other files beside theirs.
-fn are_checked(rt: &HostRuntime, faults: &[Fault], more: &[File]) -> Result<(), Fail> {
-    for fault in faults {
-        is_checked(rt, fault.files, more, fault.printed)?;
+#[test]
+fn faults_of_plain_and_sample_thorns(rt: HostRuntime) -> Result<(), Fail> {
+    for fault in FAULTS {
+        is_checked(&rt, fault.files, PLAIN, fault.printed)?;
+    }
+    for fault in SAMPLE_FAULTS {
+        is_checked(&rt, fault.files, FILES, fault.printed)?;
     }
     Ok(())
 }
 
 #[test]
-fn faults_of_plain_thorns(rt: HostRuntime) -> Result<(), Fail> {
-    are_checked(&rt, FAULTS, PLAIN)
-}
-
-#[test]
-fn faults_of_sample_thorns(rt: HostRuntime) -> Result<(), Fail> {
-    are_checked(&rt, SAMPLE_FAULTS, FILES)
+fn faults_of_the_variable_that_weighs(rt: HostRuntime) -> Result<(), Fail> {
+    for fault in WEIGHT_FAULTS {
+        is_checked(&rt, fault.files, PLAIN, fault.printed)?;
+    }
+    Ok(())
 }
 
 const ACCEPTED: &[u8] = b"accepted\n";

@@ -43,25 +43,6 @@ pub const PLAIN: &[File] = &[
     },
 ];
 
-/// A grid function of two timelevels and a scalar of the first thorn.
-const VARIABLES: File = File {
-    name: "arrangements/A/T/interface.ccl",
-    bytes: b"implements: t\n\
-    public:\n\
-    INT g TYPE=GF DIM=1 TIMELEVELS=2 { v }\n\
-    INT s TYPE=SCALAR\n",
-};
-
-const STORED_GRID: File = File {
-    name: "arrangements/A/T/schedule.ccl",
-    bytes: b"STORAGE: g\n",
-};
-
-const STORED_SCALAR: File = File {
-    name: "arrangements/A/T/schedule.ccl",
-    bytes: b"STORAGE: s\n",
-};
-
 /// What stands in place of the plain files or beside them, and what `check t.par` prints.
 pub const FAULTS: &[Fault] = &[
     Fault {
@@ -372,7 +353,13 @@ pub const FAULTS: &[Fault] = &[
     },
     Fault {
         files: &[
-            VARIABLES,
+            File {
+                name: "arrangements/A/T/interface.ccl",
+                bytes: b"implements: t\n\
+                public:\n\
+                INT g TYPE=GF DIM=1 TIMELEVELS=2 { v }\n\
+                INT s TYPE=SCALAR\n",
+            },
             File {
                 name: "arrangements/A/T/schedule.ccl",
                 bytes: b"schedule a AT EVOL { READS: v }\n",
@@ -382,7 +369,13 @@ pub const FAULTS: &[Fault] = &[
     },
     Fault {
         files: &[
-            VARIABLES,
+            File {
+                name: "arrangements/A/T/interface.ccl",
+                bytes: b"implements: t\n\
+                public:\n\
+                INT g TYPE=GF DIM=1 TIMELEVELS=2 { v }\n\
+                INT s TYPE=SCALAR\n",
+            },
             File {
                 name: "arrangements/A/T/schedule.ccl",
                 bytes: b"STORAGE: g[1]\nschedule a AT EVOL { READS: v_p }\n",
@@ -392,7 +385,13 @@ pub const FAULTS: &[Fault] = &[
     },
     Fault {
         files: &[
-            VARIABLES,
+            File {
+                name: "arrangements/A/T/interface.ccl",
+                bytes: b"implements: t\n\
+                public:\n\
+                INT g TYPE=GF DIM=1 TIMELEVELS=2 { v }\n\
+                INT s TYPE=SCALAR\n",
+            },
             File {
                 name: "arrangements/A/T/schedule.ccl",
                 bytes: b"STORAGE: g\nschedule a AT EVOL IF v { }\n",
@@ -402,7 +401,13 @@ pub const FAULTS: &[Fault] = &[
     },
     Fault {
         files: &[
-            VARIABLES,
+            File {
+                name: "arrangements/A/T/interface.ccl",
+                bytes: b"implements: t\n\
+                public:\n\
+                INT g TYPE=GF DIM=1 TIMELEVELS=2 { v }\n\
+                INT s TYPE=SCALAR\n",
+            },
             File {
                 name: "arrangements/A/T/schedule.ccl",
                 bytes: b"STORAGE: s\nschedule a AT EVOL { SYNC: s }\n",
@@ -455,6 +460,36 @@ pub const FAULTS: &[Fault] = &[
         }],
         printed: "refused: output NotFound t::none\n",
     },
+    Fault {
+        files: &[File {
+            name: "arrangements/A/T/schedule.ccl",
+            bytes: b"schedule a AT EVOL { }\n",
+        }],
+        printed: "refused: UnknownRoutine EVOL/a\n",
+    },
+];
+
+/// A grid function of two timelevels and a scalar of the first thorn.
+const VARIABLES: File = File {
+    name: "arrangements/A/T/interface.ccl",
+    bytes: b"implements: t\n\
+    public:\n\
+    INT g TYPE=GF DIM=1 TIMELEVELS=2 { v }\n\
+    INT s TYPE=SCALAR\n",
+};
+
+const STORED_GRID: File = File {
+    name: "arrangements/A/T/schedule.ccl",
+    bytes: b"STORAGE: g\n",
+};
+
+const STORED_SCALAR: File = File {
+    name: "arrangements/A/T/schedule.ccl",
+    bytes: b"STORAGE: s\n",
+};
+
+/// The same of the variable that weighs.
+pub const WEIGHT_FAULTS: &[Fault] = &[
     Fault {
         files: &[
             VARIABLES,
@@ -534,13 +569,6 @@ pub const FAULTS: &[Fault] = &[
             },
         ],
         printed: "refused: output NoStorage t::v\n",
-    },
-    Fault {
-        files: &[File {
-            name: "arrangements/A/T/schedule.ccl",
-            bytes: b"schedule a AT EVOL { }\n",
-        }],
-        printed: "refused: UnknownRoutine EVOL/a\n",
     },
 ];
 
