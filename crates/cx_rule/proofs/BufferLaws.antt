@@ -72,7 +72,7 @@ buffer_sizes_kept staged k at n =
     map-set_same length staged k (slice_set (slice_index_or staged k []) at n) []
     (length-set (slice_index_or staged k []) at n)
 
-put_from_size : (buffer values : List ℤ) (at : ℕ) → at + length values ≤ length buffer
+pub put_from_size : (buffer values : List ℤ) (at : ℕ) → at + length values ≤ length buffer
     → length (put_from at buffer values) ≡ length buffer
 put_from_size buffer values at h =
     let a : length (take at buffer) ≡ at = length-take-le at buffer (omega (arith, h)) in

@@ -1,5 +1,5 @@
 -- The levels of a part: how many there are, how many numbers each has, and what a write leaves.
-use Rattle.std.proofs.Common.{◌≡◌, ℕ, ◌-◌, ◌<◌, ◌⊎◌, inl, inr, arith, refl, sym, ap, ◌∙◌, ℤ, List, [], ◌∷◌, ◌++◌, length, map, take, drop, replicate, length-set}
+use Rattle.std.proofs.Common.{◌≡◌, ℕ, ◌+◌, ◌-◌, ◌<◌, ◌≤◌, ◌⊎◌, inl, inr, arith, refl, sym, ap, ◌∙◌, ℤ, List, [], ◌∷◌, ◌++◌, length, map, take, drop, replicate, length-set}
 use Rattle.std.specs.Prelude.{slice_index_or, slice_set}
 use Rattle.std.proofs.Math.Seq.{map-set_same}
 use Rattle.std.proofs.lemmas.List.{get_or-set_same, get_or-set_other, get_or-map, get_or-replicate, length-replicate, length-map, map-append, take-map, drop-map, take-replicate, drop-replicate, replicate-append-replicate}
@@ -10,6 +10,8 @@ use Rattle.cx_plan.specs.declared.variable.VarInfo.{VarInfo}
 use Rattle.cx_plan.specs.Lookups.{variable, levels_of, no_variable}
 use Rattle.cx_rule.specs.States.{State, level_of, with_level, rotated_levels, rotate}
 use Rattle.cx_rule.specs.Patches.{PatchValue, IsPatch, IsStored, IsGridLevel, IsScalar, setup_in, number_count, with_numbers}
+use Rattle.cx_rule.specs.Staging.{put_from}
+use Rattle.cx_rule.proofs.BufferLaws.{put_from_size}
 
 -- ---- sizes
 
@@ -92,6 +94,14 @@ pub written_patch : (p : PatchValue) (v : VarId) (level at : ℕ) (n : ℤ) → 
 written_patch p v level at n s =
     patch_by_sizes p _ s (same_sizes p.numbers v level (slice_set (level_of p.numbers v level) at n)
     (length-set (level_of p.numbers v level) at n))
+
+pub written_row : (p : PatchValue) (v : VarId) (level at : ℕ) (ns : List ℤ) → IsPatch p
+    → at + length ns ≤ length (level_of p.numbers v level)
+    → IsPatch (with_numbers p
+    (with_level p.numbers v level (put_from at (level_of p.numbers v level) ns)))
+written_row p v level at ns s h =
+    patch_by_sizes p _ s (same_sizes p.numbers v level (put_from at (level_of p.numbers v level) ns)
+    (put_from_size (level_of p.numbers v level) ns at h))
 
 module _ (state : State) (v : VarId) (level : ℕ) (ns : List ℤ) (var : v.0 < length state) where
   at_var : slice_index_or (with_level state v level ns) v.0 []

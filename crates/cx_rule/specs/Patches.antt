@@ -1,5 +1,5 @@
 -- A part's numbers: a state over the box of the points that the part holds.
-use Rattle.std.specs.Prelude.{ℕ, ◌+◌, ◌-◌, ◌<◌, ◌≡◌, ◌^◌, min, max, true, false, ℤ, pos, neg_ℤ, ◌+ℤ◌, ◌<ℤ◌, ◌≤ℤ◌, List, [], ◌∷◌, map, length, replicate, slice_index_or, slice_set, if◌then◌else◌}
+use Rattle.std.specs.Prelude.{ℕ, ◌+◌, ◌-◌, ◌<◌, ◌≡◌, ◌^◌, min, true, false, ℤ, pos, neg_ℤ, ◌+ℤ◌, ◌<ℤ◌, ◌≤ℤ◌, List, [], map, length, replicate, slice_index_or, slice_set, if◌then◌else◌}
 use Rattle.std.specs.List.{range_with_len}
 use Rattle.cx_grid.specs.declared.boxes.Point.{Point}
 use Rattle.cx_grid.specs.declared.boxes.Box3.{Box3}

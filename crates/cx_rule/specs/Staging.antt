@@ -5,6 +5,7 @@ use Rattle.cx_grid.specs.declared.boxes.Box3.{Box3}
 use Rattle.cx_grid.specs.Boxes.{IsIn, point_count, index_in, shifted}
 use Rattle.cx_grid.specs.Windows.{reach_box}
 use Rattle.cx_plan.specs.declared.item.Touch.{Touch}
+use Rattle.cx_plan.specs.declared.variable.VarId.{VarId}
 use Rattle.cx_plan.specs.declared.item.Item.{Item}
 use Rattle.cx_plan.specs.declared.item.ItemKind.{ItemKind}
 use Rattle.cx_plan.specs.declared.item.ItemKind.TheVariants.{Cell, Scalar, Sum, Least, Greatest, Count}
@@ -14,7 +15,7 @@ use Rattle.cx_plan.specs.Regions.{are_distinct}
 use Rattle.cx_rule.specs.Jobs.{IsRoutineOf}
 use Rattle.cx_rule.specs.Routine.{Rule}
 use Rattle.cx_rule.specs.Seen.{Shown}
-use Rattle.cx_rule.specs.States.{State}
+use Rattle.cx_rule.specs.States.{State, level_of, with_level}
 use Rattle.cx_rule.specs.Sweeps.{seen_at, place_at, if_fit, all_fit, first_point, sweep, levels_after, scalar_turn}
 use Rattle.cx_rule.specs.declared.routine.Overflow.{Overflow}
 use Rattle.cx_rule.specs.declared.spec.Spec.{Spec}
@@ -64,6 +65,12 @@ with_one_staged p k y n =
 -- numbers put into a buffer from a place on
 abbrev pub put_from : ℕ → List ℤ → List ℤ → List ℤ
 put_from at buffer values = take at buffer ++ (values ++ drop (at + length values) buffer)
+
+-- the patch with other numbers of a level along x, from a local point on
+abbrev pub with_row : PatchValue → VarId → ℕ → Point → List ℤ → PatchValue
+with_row p v level low values =
+    with_numbers p (with_level p.numbers v level
+    (put_from (index_in p.local low) (level_of p.numbers v level) values))
 
 abbrev pub with_row_staged : PatchValue → ℕ → Point → List ℤ → PatchValue
 with_row_staged p k low values =

@@ -236,6 +236,17 @@ impl Levels {
         numbers.set(at, value);
     }
 
+    /// Sets numbers of a level from a place on.
+    pub(crate) fn put_row(&mut self, level: usize, at: usize, values: &[i64])
+        requires level { level < length self.old }
+        requires at { at + length values.now ≤ length (slice_index_or self.old level []) }
+        ensures { self.new ≡ slice_set self.old level
+            (put_from at (slice_index_or self.old level []) values.now) }
+    {
+        let numbers = &mut self.levels[level];
+        numbers.put_row(at, values);
+    }
+
     /// Each level becomes the next older one, and the oldest the current one.
     pub(crate) fn rotate(&mut self)
         ensures { self.new ≡ rotated_levels self.old }

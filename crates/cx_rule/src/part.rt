@@ -4,6 +4,7 @@ ghost use Rattle.cx_grid.specs.Boxes.{IsIn, IsBox, IsSmall};
 ghost use Rattle.cx_rule.specs.States.{level_of, scalar_of, with_level, with_scalar, rotate};
 ghost use Rattle.cx_plan.specs.Lookups.{variable, is_scalar};
 ghost use Rattle.cx_rule.specs.Patches.{bare, zeros, number_count, IsPart, IsPatch, IsStored, IsGridLevel, IsScalar, number_at, numbers_along, with_number, with_numbers, setup_in};
+ghost use Rattle.cx_rule.specs.Staging.{put_from, with_row};
 
 use crate::levels::Levels;
 use cx_grid::{Box3, Point, Shape, count, index_of};
@@ -116,6 +117,17 @@ impl Part {
         set_number(&mut self.numbers, v.0 as usize, level as usize, at, value);
     }
 
+    /// Sets the numbers from a place of a stored level on.
+    fn put_at(&mut self, v: VarId, level: u8, at: usize, values: &[i64])
+        requires level { IsStored self.old v level }
+        requires at { at + length values.now
+            ≤ number_count self.old.local (variable (setup_in self.old) v) }
+        ensures { self.new ≡ with_numbers self.old (with_level self.old.numbers v level
+            (put_from at (level_of self.old.numbers v level) values.now)) }
+    {
+        put_numbers(&mut self.numbers, v.0 as usize, level as usize, at, values);
+    }
+
     /// The number of a level of a grid variable at a local point.
     pub(crate) fn get(&self, v: VarId, level: u8, p: Point) -> i64
         requires level { IsGridLevel self.now v level }
@@ -134,6 +146,17 @@ impl Part {
     {
         let at = index_of(self.local(), p);
         self.set_at(v, level, at, value);
+    }
+
+    /// Sets the numbers of a level along x, from a local point on.
+    pub(crate) fn put_row(&mut self, v: VarId, level: u8, low: Point, values: &[i64])
+        requires level { IsGridLevel self.old v level }
+        requires low { IsIn self.old.local low }
+        requires high { (low.x +ℤ pos (length values.now)) ≤ℤ self.old.local.high.x }
+        ensures { self.new ≡ with_row self.old v level low values.now }
+    {
+        let at = index_of(self.local(), low);
+        self.put_at(v, level, at, values);
     }
 
     /// The number of a scalar.
@@ -194,6 +217,20 @@ fn set_number(all: &mut Vec<Levels>, v: usize, level: usize, at: usize, value: i
 {
     let levels = &mut all[v];
     levels.set(level, at, value);
+}
+
+/// Sets numbers of a level of a variable from a place on.
+fn put_numbers(all: &mut Vec<Levels>, v: usize, level: usize, at: usize, values: &[i64])
+    requires var { v < length all.old.items }
+    requires level { level < length (slice_index_or all.old.items v []) }
+    requires at { at + length values.now
+        ≤ length (slice_index_or (slice_index_or all.old.items v []) level []) }
+    ensures { all.new.items
+        ≡ slice_set all.old.items v (slice_set (slice_index_or all.old.items v []) level
+        (put_from at (slice_index_or (slice_index_or all.old.items v []) level []) values.now)) }
+{
+    let levels = &mut all[v];
+    levels.put_row(level, at, values);
 }
 
 /// Makes each level of each variable the next older one.

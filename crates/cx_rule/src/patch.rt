@@ -6,7 +6,7 @@ ghost use Rattle.cx_rule.specs.Seen.{volumes};
 ghost use Rattle.cx_rule.specs.States.{scalar_of, with_scalar, rotate};
 ghost use Rattle.cx_rule.specs.Sweeps.{seen_at, reach_of};
 ghost use Rattle.cx_rule.specs.Patches.{new_patch, IsPart, IsPatch, IsGridLevel, IsScalar, number_at, numbers_along, with_number, with_numbers, value_count, setup_in, values_in, capped, write_count};
-ghost use Rattle.cx_rule.specs.Staging.{CanSee};
+ghost use Rattle.cx_rule.specs.Staging.{CanSee, with_row};
 ghost use Rattle.cx_rule.specs.Zones.{zone_of};
 ghost use Rattle.cx_plan.specs.Lists.{greatest};
 
@@ -107,6 +107,16 @@ impl Patch {
         ensures { self.new ≡ with_number self.old v level p value }
     {
         self.part.set(v, level, p, value);
+    }
+
+    /// Sets the numbers of a level along x, from a local point on, all at local points.
+    pub fn put_row(&mut self, v: VarId, level: u8, low: Point, values: &[i64])
+        requires level { IsGridLevel self.old v level }
+        requires low { IsIn self.old.local low }
+        requires high { (low.x +ℤ pos (length values.now)) ≤ℤ self.old.local.high.x }
+        ensures { self.new ≡ with_row self.old v level low values.now }
+    {
+        self.part.put_row(v, level, low, values);
     }
 
     /// The number of a scalar.
