@@ -1,6 +1,7 @@
 //! The core, and what it lends.
-ghost use Rattle.std.specs.Prelude.{◌≡◌, ◌<◌, length};
+ghost use Rattle.std.specs.Prelude.{◌≡◌, ◌<◌, ℕ, false, length};
 ghost use Rattle.cx_core_buffers.specs.Gathering.{piece_of};
+ghost use Rattle.cx_core_events.specs.Events.{is_saving};
 ghost use Rattle.cx_core.specs.Cores.{ahead_in, enabled_in};
 ghost use Rattle.cx_core.specs.Hands.{last_number, HasScalar};
 
@@ -69,6 +70,14 @@ impl Core {
         ensures { result ≡ ahead_in self.now k }
     {
         self.pace.ahead(k)
+    }
+
+    /// Whether a checkpoint was handed in that isn't saved yet. Unless one was, no event lies ahead.
+    pub fn is_saving(&self) -> bool
+        ensures value { result ≡ is_saving self.now.pace }
+        ensures none { result ≡ false → (k : ℕ) → ahead_in self.now k ≡ false }
+    {
+        self.pace.is_saving()
     }
 
     /// The numbers of the variable whose text came last: its whole current level, x fastest, or a scalar's number.

@@ -1,6 +1,6 @@
 -- Which parts stand behind the writer's next checkpoint, and that an event which isn't of such a
 -- part can happen.
-use Rattle.std.proofs.Common.{◌≡◌, ℕ, zero, suc, ◌+◌, ◌-◌, ◌<◌, ◌≤◌, ◌⊎◌, inl, inr, Bool, true, false, length, Option, Some, None, refl, sym, ap, ◌∙◌, arith}
+use Rattle.std.proofs.Common.{◌≡◌, ℕ, zero, suc, ◌+◌, ◌-◌, ◌<◌, ◌≤◌, ◌⊎◌, ◌||◌, inl, inr, Bool, true, false, List, [], ◌∷◌, length, take, Option, Some, None, refl, sym, ap, ◌∙◌, arith}
 use Rattle.std.specs.List.{list_any}
 use Rattle.std.proofs.lemmas.Bool.{cases_eq, cases_Bool, both_ways, ltb-true}
 use Rattle.cx_flat.specs.declared.op.Op.{Op}
@@ -21,8 +21,8 @@ use Rattle.law_parts.proofs.WholeRun.{IsRun}
 use Rattle.cx_core_events.specs.declared.standing.Next.{Next}
 use Rattle.cx_core_events.specs.declared.standing.Next.TheVariants as next
 use Rattle.cx_core_events.specs.declared.standing.Work.{Work}
-use Rattle.cx_core_events.specs.Paces.{Paces}
-use Rattle.cx_core_events.specs.Events.{work_of, same_buffer, all_in, all_stand, writer_by, writer_going, has_saved, lies_ahead}
+use Rattle.cx_core_events.specs.Paces.{Paces, part_of}
+use Rattle.cx_core_events.specs.Events.{work_of, same_buffer, all_in, all_stand, writer_by, writer_going, has_saved, is_saving, lies_ahead}
 use Rattle.cx_core_events.specs.Shows.{State, ShowsPace, CanHappen, IsBehindSave, work_there}
 use Rattle.cx_core_events.proofs.EventLaws.{over_is, in_true, write_true, true_write, end_true, true_end}
 use Rattle.cx_core_events.proofs.MoveLaws.{cond_some, inside}
@@ -71,6 +71,27 @@ first_true f (suc d) m n e h = go (f m) refl (first_true f d (suc m) n (omega (a
         by : (j : ℕ) → m ≤ j → j < later.place → f j ≡ true → (j ≡ m) ⊎ (j ≡ m → ⊥) → ⊥
         by j a b t (inl s) = both_ways (f m) q (ap f (sym s) ∙ t)
         by j a b t (inr s) = later.none j (omega (arith, a, s)) b t
+
+-- ---- where no checkpoint was handed in, no event lies ahead
+
+none_of_both : (a b : Bool) → a || b ≡ false → (a ≡ false) × (b ≡ false)
+none_of_both true b e = absurd cc
+none_of_both false b e = (refl, e)
+
+none_taken : (f : Work → Bool) (n : ℕ) (ws : List Work) → list_any f ws ≡ false
+    → list_any f (take n ws) ≡ false
+none_taken f zero ws e = refl
+none_taken f (suc n) [] e = refl
+none_taken f (suc n) (w ∷ ws) e =
+    let both = none_of_both (f w) (list_any f ws) e in
+    rw both.0 (none_taken f n ws both.1)
+
+pub none_ahead : (p : Paces) (o : Option Next) → is_saving p ≡ false → lies_ahead p o ≡ false
+none_ahead p (Some (next.Part k)) e =
+    none_taken (λ (w : Work). same_buffer w.var None) (part_of p k).handed p.works e
+none_ahead p (Some next.Write) e = refl
+none_ahead p (Some next.End) e = refl
+none_ahead p None e = refl
 
 -- ---- operations that hand in pieces of a checkpoint
 

@@ -120,6 +120,10 @@ events p = map Part (parts_going p) ++ option_to_list (writer_going p)
 abbrev pub has_saved : Paces → ℕ → Bool
 has_saved p k = list_any (λ (w : Work). same_buffer w.var None) (take (part_of p k).handed p.works)
 
+-- a checkpoint was handed in that isn't done
+abbrev pub is_saving : Paces → Bool
+is_saving p = list_any (λ (w : Work). same_buffer w.var None) p.works
+
 -- an event is the operation of such a part
 abbrev pub lies_ahead : Paces → Option Next → Bool
 lies_ahead p (Some (Part k)) = has_saved p k

@@ -1,5 +1,5 @@
 //! Where the parts of a run stand, and which events can happen.
-ghost use Rattle.std.specs.Prelude.{◌≡◌, ◌<◌, ℤ, true, length, Some, IfOk, OnOk, OnErr, slice_get};
+ghost use Rattle.std.specs.Prelude.{◌≡◌, ◌<◌, ℕ, ℤ, true, false, length, Some, IfOk, OnOk, OnErr, slice_get};
 ghost use Rattle.cx_plan.specs.declared.variable.VarId.{VarId};
 ghost use Rattle.cx_plan.specs.Setups.{setup_of};
 ghost use Rattle.cx_plan.specs.Whole.{IsWhole};
@@ -8,7 +8,7 @@ ghost use Rattle.cx_flat.specs.Code.{code};
 ghost use Rattle.cx_core_place.specs.Steps.{IsReached, IsTested};
 ghost use Rattle.cx_core_events.specs.Paces.{part_of, op_of, iteration_of};
 ghost use Rattle.cx_core_events.specs.declared.standing.Next.TheVariants as next;
-ghost use Rattle.cx_core_events.specs.Events.{can_go, events, lies_ahead, writer_going};
+ghost use Rattle.cx_core_events.specs.Events.{can_go, events, is_saving, lies_ahead, writer_going};
 ghost use Rattle.cx_core_events.specs.Steps.{first_place, all_at, moved_on, met_by, wrote_one, over_now};
 
 use crate::flags::Flags;
@@ -94,6 +94,15 @@ impl Pace {
             Next::Write => false,
             Next::End => false,
         }
+    }
+
+    /// Whether a checkpoint was handed in that isn't done. Unless one was, no event lies ahead.
+    pub fn is_saving(&self) -> bool
+        ensures value { result ≡ is_saving self.now }
+        ensures none { result ≡ false → (k : ℕ)
+            → lies_ahead self.now (slice_get (events self.now) k) ≡ false }
+    {
+        self.standings.is_saving()
     }
 
     /// The number of parts.

@@ -14,13 +14,14 @@ ghost use Rattle.cx_flat.specs.Flats.{is_halt, control_after};
 ghost use Rattle.cx_core_place.specs.Steps.{IsReached, IsTested};
 ghost use Rattle.cx_core_events.specs.Paces.{part_of, op_of, iteration_of, other_hind};
 ghost use Rattle.cx_core_events.specs.Flags.{IsAlone};
-ghost use Rattle.cx_core_events.specs.Events.{is_ahead, goes_on, is_near, partner_at, waits_for, is_ready, work_of, has_room, can_go, all_in, all_stand, writer_going, has_saved};
+ghost use Rattle.cx_core_events.specs.Events.{is_ahead, goes_on, is_near, partner_at, waits_for, is_ready, work_of, has_room, can_go, all_in, all_stand, writer_going, has_saved, is_saving};
 ghost use Rattle.cx_core_events.specs.Steps.{standing_at, first_place, all_at, gone_on, with_hind, moved_on, met_by, wrote_one, over_now};
 
 use crate::order::{hindmost, is_before, twin};
 use crate::standing::{Next, Standing, Work};
 use crate::works::{
-    all_handed, hand_in, has_buffer, is_halt, is_room, is_some_work, one_less, take_first, work_of,
+    all_handed, hand_in, has_buffer, is_halt, is_room, is_some_work, one_less, some_checkpoint,
+    take_first, work_of,
 };
 use cx_core_place::{Place, places_fit};
 use cx_cut::Cut;
@@ -256,6 +257,13 @@ impl Standings {
             None => false,
             Some(part) => has_buffer(self.works.as_slice(), part.handed, None),
         }
+    }
+
+    /// Whether a checkpoint was handed in that isn't done.
+    pub(crate) fn is_saving(&self) -> bool
+        ensures { result ≡ is_saving self.now }
+    {
+        some_checkpoint(self.works.as_slice())
     }
 
     /// Whether a part can do its next operation.

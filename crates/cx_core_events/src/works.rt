@@ -1,5 +1,5 @@
 //! Works that were handed in and aren't done.
-ghost use Rattle.std.specs.Prelude.{◌≡◌, ◌++◌, ◌∷◌, ◌<◌, [], length, take, drop, map, nat_lt, IfOk, OnOk, OnErr};
+ghost use Rattle.std.specs.Prelude.{◌≡◌, ◌++◌, ◌∷◌, ◌<◌, [], length, take, drop, map, nat_lt, None, IfOk, OnOk, OnErr};
 ghost use Rattle.std.specs.List.{list_all, list_any};
 ghost use Rattle.cx_flat.specs.Flats.{is_halt};
 ghost use Rattle.cx_core_events.specs.Events.{work_of, same_buffer, is_room, is_some_work};
@@ -61,6 +61,13 @@ pub(crate) fn has_buffer(works: &[Work], count: usize, buffer: Option<VarId>) ->
         .iter()
         .take(count)
         .any(|work| same_buffer(work.var, buffer))
+}
+
+/// Whether one of the works is a checkpoint.
+pub(crate) fn some_checkpoint(works: &[Work]) -> bool
+    ensures { result ≡ list_any (λ w. same_buffer w.var None) works.now }
+{
+    works.iter().any(|work| same_buffer(work.var, None))
 }
 
 /// Whether none of the first works has the buffer of a work.

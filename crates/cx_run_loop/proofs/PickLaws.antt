@@ -156,6 +156,46 @@ pub some_passes : (test : ℕ → Bool) (n k : ℕ) → k < n → test k ≡ tru
     → 0 < length (passing test n)
 some_passes test n k l passes = some_from test 0 n k (omega arith) (omega (arith, l)) passes
 
+-- ---- where all pass
+
+all_from : (test : ℕ → Bool) → ((k : ℕ) → test k ≡ true) → (from count : ℕ)
+    → filter test (range_with_len from count) ≡ range_with_len from count
+all_from test all from zero = refl
+all_from test all from (suc count) =
+    first_passes test from count (all from)
+    ∙ ap (λ (ks : List ℕ). from ∷ ks) (all_from test all (from + 1) count)
+
+pub all_pass : (test : ℕ → Bool) (n : ℕ) → ((k : ℕ) → test k ≡ true)
+    → passing test n ≡ range_with_len 0 n
+all_pass test n all = all_from test all 0 n
+
+counted_from : (from count : ℕ) → length (range_with_len from count) ≡ count
+counted_from from zero = refl
+counted_from from (suc count) = ap suc (counted_from (from + 1) count)
+
+pub all_counted : (test : ℕ → Bool) (n : ℕ) → ((k : ℕ) → test k ≡ true)
+    → length (passing test n) ≡ n
+all_counted test n all =
+    ap (λ (ks : List ℕ). length ks) (all_pass test n all) ∙ counted_from 0 n
+
+there_from : (from count i : ℕ) → i < count
+    → slice_get (range_with_len from count) i ≡ Some (from + i)
+there_from from zero i l = absurd (omega (arith, l))
+there_from from (suc count) zero l =
+    let same : from ≡ from + 0 = omega arith in
+    ap (λ (k : ℕ). Some k) same
+there_from from (suc count) (suc i) l =
+    let same : from + 1 + i ≡ from + suc i = omega arith in
+    there_from (from + 1) count i (omega (arith, l)) ∙ ap (λ (k : ℕ). Some k) same
+
+-- each has its own place
+pub each_there : (test : ℕ → Bool) (n i : ℕ) → ((k : ℕ) → test k ≡ true) → i < n
+    → slice_get (passing test n) i ≡ Some i
+each_there test n i all l =
+    let same : 0 + i ≡ i = omega arith in
+    ap (λ (ks : List ℕ). slice_get ks i) (all_pass test n all) ∙ there_from 0 n i l
+    ∙ ap (λ (k : ℕ). Some k) same
+
 -- ---- each of them passes
 
 passes_from : (test : ℕ → Bool) (from count i k : ℕ)

@@ -23,7 +23,7 @@ pub(crate) fn pick<T: Turns>(job: &Job, core: &Core, turns: &mut T) -> u64
     }
 }
 
-/// The number of the event that the source picks among those that don't lie ahead.
+/// The number of the event that the source picks among those that don't lie ahead. Most of the time none does, and none is sought.
 fn pick_waiting<T: Turns>(core: &Core, turns: &mut T) -> u64
     requires some { (k : ℕ) × (k < enabled_in core.now) × (ahead_in core.now k ≡ false) }
     ensures below { result < enabled_in core.now }
@@ -31,8 +31,12 @@ fn pick_waiting<T: Turns>(core: &Core, turns: &mut T) -> u64
     ensures picks { Picks T.Turns true core.now turns.old result turns.new }
     ensures begun { T.begun turns.new ≡ T.begun turns.old }
 {
-    let i = turns.pick(waiting(core));
-    nth_waiting(core, i)
+    if core.is_saving() {
+        let i = turns.pick(waiting(core));
+        nth_waiting(core, i)
+    } else {
+        turns.pick(core.enabled())
+    }
 }
 
 /// How many events can happen that don't lie ahead.
