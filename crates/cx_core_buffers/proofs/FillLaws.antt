@@ -1,28 +1,33 @@
 -- What each step of filling a part from a checkpoint leaves, and of a checkpoint from a part.
-use Rattle.std.proofs.Common.{◌≡◌, ℕ, zero, suc, ◌+◌, ◌<◌, ◌≤◌, Bool, true, false, arith, refl, sym, ap, ◌∙◌, subst, ℤ, pos, List, [], ◌∷◌, length, map, take, drop, replicate}
+use Rattle.std.proofs.Common.{◌≡◌, ℕ, zero, suc, ◌+◌, ◌-◌, ◌<◌, ◌≤◌, ◌⊎◌, inl, inr, Bool, true, false, arith, refl, sym, ap, ◌∙◌, subst, ℤ, pos, ◌+ℤ◌, ◌≤ℤ◌, List, [], ◌∷◌, length, map, take, drop, replicate}
 use Rattle.std.specs.Prelude.{slice_index_or, slice_set, if◌then◌else◌, All}
 use Rattle.std.specs.List.{range_with_len}
+use Rattle.std.proofs.lemmas.Bool.{cases_lt}
 use Rattle.std.proofs.lemmas.List.{get_or-set_same, get_or-map, get_or-take, get_or-drop, length-map, length-replicate, length-take-le, length-drop}
 use Rattle.std.proofs.lemmas.List.FromFn.{fill_by_all, length-map-range_with_len, get_or-map-range_with_len}
 use Rattle.cx_grid.specs.declared.boxes.Point.{Point}
-use Rattle.cx_grid.specs.Boxes.{point_count, index_in, point_in, numbers_in}
+use Rattle.cx_grid.specs.Boxes.{IsIn, point_count, index_in, point_in, numbers_in}
 use Rattle.cx_grid.specs.Grid.{at}
-use Rattle.cx_grid.proofs.Places.{index_at_point}
+use Rattle.cx_grid.proofs.Places.{point_at_index}
 use Rattle.cx_plan.specs.declared.variable.VarId.{VarId}
 use Rattle.cx_plan.specs.declared.variable.VarInfo.{VarInfo}
 use Rattle.cx_plan.specs.Lookups.{no_variable}
 use Rattle.cx_plan.specs.Setups.{Setup}
 use Rattle.cx_rule.specs.States.{State, level_of, scalar_of, with_level}
 use Rattle.cx_model.specs.Turns.{values_of}
-use Rattle.cx_field.specs.Patches.{PatchValue, IsPatch, IsGridLevel, IsScalar, number_count, with_number, with_numbers}
+use Rattle.cx_field.specs.Patches.{PatchValue, IsPatch, IsGridLevel, IsScalar, number_count, beside, with_numbers}
+use Rattle.cx_rule.specs.Staging.{put_from, with_row}
 use Rattle.cx_field.proofs.NumberLaws.{var_count, level_same, grid_size, scalar_size}
+use Rattle.cx_field.proofs.FaceLaws.{row_index, row_inside, row_end}
+use Rattle.cx_rule.proofs.BufferLaws.{put_from_size}
+use Rattle.cx_rule.proofs.RowSweeps.{put_before, put_within, put_behind}
 use Rattle.cx_chk.specs.declared.checkpoint.Checkpoint.{Checkpoint}
 use Rattle.law_parts.proofs.ListLaws.{numbers_length, number_in, numbers_same}
 use Rattle.law_parts.proofs.StateIn.{var, vars_in, scalar_in, grid_in}
 use Rattle.cx_core_buffers.specs.Checkpoints.{HoldsState, before, state_of}
 use Rattle.cx_core_buffers.specs.Gathering.{scattered}
-use Rattle.cx_core_buffers.specs.Filling.{local_level, levels_filled, scalar_filled}
-use Rattle.law_parts.proofs.FilledLaws.{filled, filled_length, filled_later, filled_step, filled_all, set_none, set_again}
+use Rattle.cx_core_buffers.specs.Filling.{local_level, levels_filled, scalar_filled, numbers_from}
+use Rattle.law_parts.proofs.FilledLaws.{filled, filled_length, filled_later, filled_step, filled_all, set_none, set_again, same_list}
 use Rattle.cx_core_buffers.proofs.CheckpointLaws.{info, HasLevels, HasScalars, before_none, before_next, before_room, total_few, scalars_few, levels_few, from_length, from_grid, from_scalar}
 use Rattle.cx_plan.specs.Whole.{scalar_count, level_count}
 
@@ -113,10 +118,68 @@ grid_there vars q e v n l a k m = go (info vars v).scalar refl
           grid = ap (λ vs. (info vs v).scalar) e ∙ s;
         }
 
--- ---- a part's levels by points
+-- ---- a list by runs
 
-module _ (p cur : PatchValue) (v : VarId) (l i : ℕ) (whole_level : List ℤ) (n : ℤ) (s : IsPatch p)
-    (g : IsGridLevel p v l) (h : i < point_count p.local) where
+filled_before : (n i : ℕ) (whole old : List ℤ) → length whole ≡ length old → i < length old → i < n
+    → slice_index_or (filled n whole old) i (pos 0) ≡ slice_index_or whole i (pos 0)
+filled_before zero i whole old e l h = absurd (omega (arith, h))
+filled_before (suc n) i [] old e l h = absurd (omega (arith, e, l))
+filled_before (suc n) i (x ∷ whole) [] e l h = absurd (omega (arith, e))
+filled_before (suc n) zero (x ∷ whole) (y ∷ old) e l h = refl
+filled_before (suc n) (suc i) (x ∷ whole) (y ∷ old) e l h =
+    filled_before n i whole old (omega (arith, e)) (omega (arith, l)) (omega (arith, h))
+
+-- a run of the whole's numbers behind the first ones
+module _ (k : ℕ) (whole old run : List ℤ) (size : length whole ≡ length old)
+    (room : k + length run ≤ length old)
+    (numbers : (i : ℕ) → i < length run
+    → slice_index_or run i (pos 0) ≡ slice_index_or whole (k + i) (pos 0)) where
+  abbrev so_far : List ℤ
+  so_far = filled k whole old
+
+  run_fits : k + length run ≤ length so_far
+  run_fits = let e = filled_length k whole old in omega (arith, room, e)
+
+  run_length : length (put_from k so_far run) ≡ length old
+  run_length = put_from_size so_far run k run_fits ∙ filled_length k whole old
+
+  run_number : (i : ℕ) → i < length old
+      → slice_index_or (put_from k so_far run) i (pos 0)
+      ≡ slice_index_or (filled (k + length run) whole old) i (pos 0)
+  run_number i l = go (cases_lt i k) (cases_lt i (k + length run))
+    where
+      go : (i < k) ⊎ (k ≤ i) → (i < k + length run) ⊎ (k + length run ≤ i)
+          → slice_index_or (put_from k so_far run) i (pos 0)
+          ≡ slice_index_or (filled (k + length run) whole old) i (pos 0)
+      go (inl h) m =
+          put_before k so_far run run_fits i h
+          ∙ filled_before k i whole old size l h
+          ∙ sym (filled_before (k + length run) i whole old size l (omega (arith, h)))
+      go (inr h) (inl m) =
+          let e : i ≡ k + (i - k) = omega (arith, h) in
+          let j : i - k < length run = omega (arith, h, m) in
+          ap (λ n. slice_index_or (put_from k so_far run) n (pos 0)) e
+          ∙ put_within k so_far run run_fits (i - k) j
+          ∙ numbers (i - k) j
+          ∙ ap (λ n. slice_index_or whole n (pos 0)) (sym e)
+          ∙ sym (filled_before (k + length run) i whole old size l m)
+      go (inr h) (inr m) =
+          put_behind k so_far run run_fits i m
+          ∙ filled_later k i whole old (pos 0) h
+          ∙ sym (filled_later (k + length run) i whole old (pos 0) m)
+
+  filled_run : put_from k so_far run ≡ filled (k + length run) whole old
+  filled_run =
+      same_list (put_from k so_far run) (filled (k + length run) whole old) (pos 0)
+      (run_length ∙ sym (filled_length (k + length run) whole old))
+      (λ i l. run_number i (let e = run_length in omega (arith, l, e)))
+
+-- ---- a part's levels by runs
+
+module _ (p cur : PatchValue) (v : VarId) (l k : ℕ) (whole_level : List ℤ) (low : Point)
+    (run : List ℤ) (s : IsPatch p) (g : IsGridLevel p v l) (inside : IsIn p.local low)
+    (place : index_in p.local low ≡ k)
+    (high : (low.x +ℤ pos (length run)) ≤ℤ p.local.high.x) where
   abbrev target_level : List ℤ
   target_level = local_level p whole_level
 
@@ -124,7 +187,7 @@ module _ (p cur : PatchValue) (v : VarId) (l i : ℕ) (whole_level : List ℤ) (
   old_level = level_of p.numbers v l
 
   abbrev some_level : List ℤ
-  some_level = filled i target_level old_level
+  some_level = filled k target_level old_level
 
   abbrev some_numbers : State
   some_numbers = with_level p.numbers v l some_level
@@ -145,26 +208,44 @@ module _ (p cur : PatchValue) (v : VarId) (l i : ℕ) (whole_level : List ℤ) (
   some_is : level_of some_numbers v l ≡ some_level
   some_is = level_same p.numbers v l some_level var_there level_there
 
-  -- one more number of a level
-  pub fill_more : cur ≡ with_numbers p some_numbers
-      → n ≡ at p.shape whole_level (point_in p.local i)
-      → with_number cur v l (point_in p.local i) n
-      ≡ with_numbers p (with_level p.numbers v l (filled (i + 1) target_level old_level))
-  fill_more e number =
-      let next : suc i ≡ i + 1 = omega arith in
-      ap (λ (q : PatchValue). with_number q v l (point_in p.local i) n) e
+  fill_room : k + length run ≤ point_count p.local
+  fill_room = let e = row_end p.local low (length run) inside high in omega (arith, e, place)
+
+  -- the points of the run, by their places
+  run_point : (i : ℕ) → i < length run → point_in p.local (k + i) ≡ beside low i
+  run_point i m =
+      let e : index_in p.local (beside low i) ≡ k + i =
+      row_index p.local low i inside.x.from ∙ ap (λ n. n + i) place in
+      ap (point_in p.local) (sym e)
+      ∙ point_at_index p.local (beside low i)
+      (row_inside p.local low (length run) i inside high m)
+
+  -- one more run of a level
+  pub fill_run : run ≡ numbers_from p.shape whole_level low (length run)
+      → cur ≡ with_numbers p some_numbers
+      → with_row cur v l low run
+      ≡ with_numbers p
+      (with_level p.numbers v l (filled (k + length run) target_level old_level))
+  fill_run numbers e =
+      ap (λ (q : PatchValue). with_row q v l low run) e
       ∙ ap (with_numbers p)
-      (ap (λ (ns : List ℤ). with_level some_numbers v l
-      (slice_set ns (index_in p.local (point_in p.local i)) n)) some_is
-      ∙ ap (λ k. with_level some_numbers v l (slice_set some_level k n))
-      (index_at_point p.local i h)
-      ∙ ap (λ m. with_level some_numbers v l (slice_set some_level i m))
-      (number ∙ sym (number_in p.local (at p.shape whole_level) i h))
+      (ap (λ ns. with_level some_numbers v l (put_from (index_in p.local low) ns run)) some_is
+      ∙ ap (λ n. with_level some_numbers v l (put_from n some_level run)) place
       ∙ ap (with_level some_numbers v l)
-      (filled_step i target_level old_level (pos 0) (omega (arith, target_size, h))
-      (omega (arith, old_size, h)))
-      ∙ level_again p.numbers v l some_level (filled (suc i) target_level old_level) var_there
-      ∙ ap (λ k. with_level p.numbers v l (filled k target_level old_level)) next)
+      (filled_run k target_level old_level run (target_size ∙ sym old_size)
+      (let r = fill_room in omega (arith, r, old_size)) each_number)
+      ∙ level_again p.numbers v l some_level (filled (k + length run) target_level old_level)
+      var_there)
+    where
+      each_number : (i : ℕ) → i < length run
+          → slice_index_or run i (pos 0) ≡ slice_index_or target_level (k + i) (pos 0)
+      each_number i m =
+          ap (λ ns. slice_index_or ns i (pos 0)) numbers
+          ∙ get_or-map-range_with_len (λ j. at p.shape whole_level (beside low j)) 0 (length run)
+          i i (pos 0) m (omega arith)
+          ∙ ap (at p.shape whole_level) (sym (run_point i m))
+          ∙ sym (number_in p.local (at p.shape whole_level) (k + i)
+          (let r = fill_room in omega (arith, r, m)))
 
 pub fill_none : (p : PatchValue) (v : VarId) (l : ℕ) (whole_level : List ℤ)
     → p ≡ with_numbers p (with_level p.numbers v l

@@ -1,5 +1,6 @@
 pub mod CheckpointLaws
 pub mod RowLaws
+pub mod RunLaws
 pub mod FillLaws
 pub mod PutLaws
 pub mod PieceLaws

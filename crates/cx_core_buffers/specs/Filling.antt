@@ -1,10 +1,13 @@
 -- What filling buffers and parts comes to, place by place.
-use Rattle.std.specs.Prelude.{ℕ, zero, suc, ◌+◌, Bool, true, false, ℤ, pos, List, [], slice_index_or, slice_set}
+use Rattle.std.specs.Prelude.{ℕ, zero, suc, ◌+◌, Bool, true, false, ℤ, pos, List, [], map, slice_index_or, slice_set}
+use Rattle.std.specs.List.{range_with_len}
+use Rattle.cx_grid.specs.declared.boxes.Point.{Point}
+use Rattle.cx_grid.specs.declared.shapes.Shape.{Shape}
 use Rattle.cx_grid.specs.Boxes.{numbers_in}
 use Rattle.cx_grid.specs.Grid.{at}
 use Rattle.cx_plan.specs.declared.variable.VarId.{VarId}
 use Rattle.cx_rule.specs.States.{State, scalar_of, with_level, with_scalar}
-use Rattle.cx_field.specs.Patches.{PatchValue, IsGridLevel, IsScalar}
+use Rattle.cx_field.specs.Patches.{PatchValue, IsGridLevel, IsScalar, beside}
 
 -- a scalar, or the current level of a grid variable
 abbrev pub IsCurrentOf : PatchValue → VarId → Bool → Type 0
@@ -24,6 +27,10 @@ scalar_filled v at (suc n) scalars state = with_scalar state v (slice_index_or s
 -- a level over a part's local points by a whole level
 abbrev pub local_level : PatchValue → List ℤ → List ℤ
 local_level p level = numbers_in p.local (at p.shape level)
+
+-- the numbers of a whole level at so many points along x
+abbrev pub numbers_from : Shape → List ℤ → Point → ℕ → List ℤ
+numbers_from s level low n = map (λ i. at s level (beside low i)) (range_with_len 0 n)
 
 -- a state with the whole levels from a place on as a variable's first levels
 abbrev pub levels_filled : PatchValue → VarId → ℕ → ℕ → List (List ℤ) → State → State

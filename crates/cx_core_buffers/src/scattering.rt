@@ -1,19 +1,19 @@
 //! A part filled from a checkpoint.
-ghost use Rattle.std.specs.Prelude.{◌≡◌, ◌<◌, ◌≤◌, ◌+◌, ℕ, ℤ, List as ListOf, [], length, slice_index_or, All};
+ghost use Rattle.std.specs.Prelude.{◌≡◌, ◌<◌, ◌≤◌, ◌+◌, ◌+ℤ◌, ◌≤ℤ◌, ℕ, ℤ, pos, List as ListOf, [], length, slice_index_or, All};
 ghost use Rattle.cx_grid.specs.Boxes.{IsIn, point_count};
-ghost use Rattle.cx_grid.specs.Grid.{IsShape, at, whole, wrap};
+ghost use Rattle.cx_grid.specs.Grid.{IsShape, whole, wrap};
 ghost use Rattle.cx_plan.specs.Setups.{setup_of};
 ghost use Rattle.cx_plan.specs.Whole.{IsWhole};
 ghost use Rattle.cx_rule.specs.States.{with_level};
 ghost use Rattle.cx_field.specs.Patches.{IsGridLevel, IsScalar, with_numbers};
 ghost use Rattle.cx_core_buffers.specs.Checkpoints.{HoldsState};
 ghost use Rattle.cx_core_buffers.specs.Gathering.{IsPatchOf, scattered};
-ghost use Rattle.cx_core_buffers.specs.Filling.{scalar_filled, levels_filled, local_level};
+ghost use Rattle.cx_core_buffers.specs.Filling.{scalar_filled, levels_filled, local_level, numbers_from};
 
 use crate::sizes::{level_count, scalar_count};
 use cx_chk::Checkpoint;
 use cx_field::Patch;
-use cx_grid::{Point, Shape, count, index_of, point_at, whole, wrap};
+use cx_grid::{Box3, Point, Shape, count, index_of, point_at, whole, wrap};
 use cx_plan::{Job, VarId};
 use cx_text::List;
 
@@ -66,7 +66,7 @@ fn fill_levels(patch: &mut Patch, v: VarId, levels: u8, all: &[List<i64>], from:
     }
 }
 
-/// Fills a level from a whole one.
+/// Fills a level from a whole one, run by run.
 fn fill_level(patch: &mut Patch, v: VarId, level: u8, numbers: &[i64])
     requires stored { IsGridLevel patch.old v level }
     requires points { length numbers.now ≡ point_count (whole patch.old.shape) }
@@ -74,18 +74,47 @@ fn fill_level(patch: &mut Patch, v: VarId, level: u8, numbers: &[i64])
         (with_level patch.old.numbers v level (local_level patch.old numbers.now)) }
 {
     let (shape, local) = (*patch.shape(), *patch.local());
-    'points: for i in 0..count(&local) {
-        let p = point_at(&local, i);
-        patch.set(v, level, p, number_at(&shape, numbers, p));
+    let end = count(&local);
+    let mut at = 0;
+    'runs: while at < end {
+        let low = point_at(&local, at);
+        let run = run_from(&shape, &local, numbers, low);
+        patch.put_row(v, level, low, run);
+        at += run.len();
     }
 }
 
-/// The number of a whole level at a point, which may lie beside the grid in periodic directions.
-fn number_at(shape: &Shape, numbers: &[i64], p: Point) -> i64
+/// The numbers of a whole level from a point on, as far as both the row of the box and that of the grid go.
+fn run_from<'a>(shape: &Shape, local: &Box3, numbers: &'a [i64], low: Point) -> &'a [i64]
     requires shape { IsShape shape.now }
     requires points { length numbers.now ≡ point_count (whole shape.now) }
-    requires near { IsIn (whole shape.now) (wrap shape.now p) }
-    ensures { result ≡ at shape.now numbers.now p }
+    requires low { IsIn local.now low }
+    requires near { IsIn (whole shape.now) (wrap shape.now low) }
+    ensures some { 0 < length result.now }
+    ensures within { (low.x +ℤ pos (length result.now)) ≤ℤ local.now.high.x }
+    ensures numbers { result.now ≡ numbers_from shape.now numbers.now low (length result.now) }
 {
-    numbers[index_of(&whole(shape), wrap(shape, p))]
+    let first = wrap(shape, low);
+    let at = index_of(&whole(shape), first);
+    let end = at + run_length(shape, local, low, first);
+    &numbers[at..end]
+}
+
+/// How many points there are along x from one of a box and from one of the grid on, whichever are fewer.
+fn run_length(shape: &Shape, local: &Box3, low: Point, first: Point) -> usize
+    requires low { IsIn local.now low }
+    requires first { IsIn (whole shape.now) first }
+    ensures some { 0 < result }
+    ensures local { (low.x +ℤ pos result) ≤ℤ local.now.high.x }
+    ensures grid { (first.x +ℤ pos result) ≤ℤ shape.now.n.x }
+{
+    gap(low.x, local.high.x).min(gap(first.x, shape.n.x))
+}
+
+/// How far the second number is above the first.
+fn gap(low: i32, high: i32) -> usize
+    requires { low ≤ℤ high }
+    ensures { (low +ℤ pos result) ≡ high }
+{
+    (high as i64 - low as i64) as usize
 }

@@ -1,34 +1,42 @@
-use Rattle.std.proofs.Common.{◌≡◌, ◌∙◌, ◌<◌, ◌≤◌, arith, rules}
-use Rattle.cx_grid.specs.Boxes.{point_count}
-use Rattle.cx_field.specs.Patches.{with_number}
+use Rattle.std.proofs.Common.{◌∙◌, ◌<◌, ◌≤◌, ap, arith}
+use Rattle.cx_grid.specs.Boxes.{point_count, index_in}
+use Rattle.cx_grid.proofs.Places.{index_at_point}
+use Rattle.cx_field.specs.Patches.{PatchValue}
 use Rattle.cx_field.proofs.PartPoints.{names_grid}
-use Rattle.cx_core_buffers.proofs.FillLaws.{fill_more, fill_all}
+use Rattle.cx_core_buffers.proofs.FillLaws.{fill_run, fill_all}
 use Rattle.cx_core_buffers.proofs.scattering.fill_level.Goals as goal
 
-pub number_at-requires-clause-near : goal.number_at-requires-clause-near
-number_at-requires-clause-near c =
+pub run_from-run-requires-clause-near : goal.run_from-run-requires-clause-near
+run_from-run-requires-clause-near c =
     let p = c.args.patch.now in
-    let inside = rw c.local.ensures.value at c.point_at-p.ensures.inside in
+    let inside = rw c.local.ensures.value at c.point_at-low.ensures.inside in
     rw c.shape.ensures.value
-    (names_grid p.shape p.owned p.local c.shape.ensures.patch.part c.point_at-p.result inside)
+    (names_grid p.shape p.owned p.local c.shape.ensures.patch.part c.point_at-low.result inside)
 
-pub points-preserved : goal.points-preserved
-points-preserved c =
+pub put_row-requires-clause-high : goal.put_row-requires-clause-high
+put_row-requires-clause-high c =
+    let e = ap (λ (q : PatchValue). q.local) c.runs.invariant in
+    rw e (rw c.local.ensures.value at c.run_from-run.ensures.within)
+
+pub runs-preserved : goal.runs-preserved
+runs-preserved c =
     let p = c.args.patch.now in
-    let n = rw c.local.ensures.value at c.count-i-end.ensures in
-    let l : c.points.i < point_count p.local = omega (arith, n, c.points-test.true) in
-    let q = rw c.local.ensures.value at c.point_at-p.ensures.value in
-    let e : c.set.new.self ≡ with_number c.points.patch c.args.v c.args.level c.point_at-p.result
-    c.number_at.result = search rules in
-    let m = rw (c.shape.ensures.value, q) at c.number_at.ensures in
-    let f = rw q at e in
-    f ∙ fill_more p c.points.patch c.args.v c.args.level c.points.i c.args.numbers.now
-    c.number_at.result c.shape.ensures.patch c.requires.stored l c.points.invariant m
+    let n = rw c.local.ensures.value at c.count-end.ensures in
+    let l : c.runs.at < point_count p.local = omega (arith, n, c.runs-test.true) in
+    let inside = rw c.local.ensures.value at c.point_at-low.ensures.inside in
+    let value = rw c.local.ensures.value at c.point_at-low.ensures.value in
+    let place = ap (index_in p.local) value ∙ index_at_point p.local c.runs.at l in
+    let within = rw c.local.ensures.value at c.run_from-run.ensures.within in
+    let numbers = rw c.shape.ensures.value at c.run_from-run.ensures.numbers in
+    c.put_row.ensures
+    ∙ fill_run p c.runs.patch c.args.v c.args.level c.runs.at c.args.numbers.now
+    c.point_at-low.result c.run_from-run.result.now c.shape.ensures.patch c.requires.stored inside
+    place within numbers c.runs.invariant
 
 pub returns : goal.returns
 returns c =
     let p = c.args.patch.now in
-    let n = rw c.local.ensures.value at c.count-i-end.ensures in
-    let l : point_count p.local ≤ c.points.i = omega (arith, n, c.points-test.false) in
-    c.points.invariant ∙ fill_all p c.args.v c.args.level c.points.i c.args.numbers.now
+    let n = rw c.local.ensures.value at c.count-end.ensures in
+    let l : point_count p.local ≤ c.runs.at = omega (arith, n, c.runs-test.false) in
+    c.runs.invariant ∙ fill_all p c.args.v c.args.level c.runs.at c.args.numbers.now
     c.shape.ensures.patch c.requires.stored l
