@@ -14,3 +14,4 @@ pub mod FindLaws
 pub mod TurnLaws
 pub mod RowTexts
 pub mod RunLaws
+pub mod SetLaws

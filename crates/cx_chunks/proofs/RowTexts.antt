@@ -1,5 +1,5 @@
 -- The text of the rows of a part's box, one row after another.
-use Rattle.std.proofs.Common.{◌≡◌, ℕ, zero, suc, ◌+◌, ◌*◌, ◌/◌, ◌<◌, ◌≤◌, arith, sym, ap, ◌∙◌, ℤ, pos, List, [], ◌∷◌, ◌++◌, append_assoc, length, get_or, take, drop}
+use Rattle.std.proofs.Common.{◌≡◌, ℕ, zero, suc, add-one, ◌+◌, ◌*◌, ◌/◌, ◌<◌, ◌≤◌, arith, sym, ap, ◌∙◌, ℤ, pos, List, [], ◌∷◌, ◌++◌, append_assoc, length, get_or, take, drop}
 use Rattle.std.specs.Prelude.{codes, slice_index_or}
 use Rattle.std.specs.List.{flat_map, range_with_len}
 use Rattle.std.proofs.lemmas.Nat.{div-add-mod', div-mul-add}
@@ -35,6 +35,17 @@ next_row : (f : ℕ → List ℕ) (start : List ℕ) (k : ℕ)
 next_row f start k =
     flat_map_more f start (range_with_len 0 k) k
     ∙ ap (λ ks. start ++ flat_map f ks) (sym (range_more 0 k k (omega arith)))
+
+range_next : (k : ℕ) → range_with_len 0 (k + 1) ≡ range_with_len 0 k ++ k ∷ []
+range_next k = rw add-one (range_more 0 k k (omega arith))
+
+-- one size more of a section's head
+pub grown : (f : ℕ → List ℕ) (start old new : List ℕ) (k : ℕ)
+    → old ≡ start ++ flat_map f (range_with_len 0 k) → new ≡ old ++ f k
+    → new ≡ start ++ flat_map f (range_with_len 0 (k + 1))
+grown f start old new k before now =
+    now ∙ ap (λ (t : List ℕ). t ++ f k) before ∙ flat_map_more f start (range_with_len 0 k) k
+    ∙ ap (λ ks. start ++ flat_map f ks) (sym (range_next k))
 
 -- one row alone
 one_row : (w : ℕ) (row : List ℤ) → length row ≡ w → rows_in w row 1 ≡ values_of row ++ 10 ∷ []

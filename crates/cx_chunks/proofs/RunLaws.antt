@@ -1,10 +1,6 @@
 -- A run of one list after another.
-use Rattle.std.proofs.Common.{◌≡◌, ℕ, zero, suc, ◌+◌, ◌-◌, arith, refl, ap, ◌∙◌, ℤ, pos, List, [], ◌∷◌, ◌++◌, length, take, drop}
-use Rattle.std.specs.Prelude.{slice_index_or}
-use Rattle.std.proofs.lemmas.List.{take_all, drop_all, get_or-take, get_or-drop}
-use Rattle.std.proofs.lemmas.List.FromFn.{fill_by_all}
-use Rattle.cx_chunks.specs.Rows.{values_from}
-use Rattle.cx_chunks.proofs.RowPlaces.{values_count, value_is}
+use Rattle.std.proofs.Common.{◌≡◌, ℕ, zero, suc, ◌-◌, arith, refl, ap, ◌∙◌, ℤ, List, [], ◌∷◌, ◌++◌, length, take, drop}
+use Rattle.std.proofs.lemmas.List.{take_all, drop_all}
 
 front : (xs ys : List ℤ) (count : ℕ)
     → take count xs ++ take (count - length (take count xs)) ys ≡ take count (xs ++ ys)
@@ -37,15 +33,3 @@ run_joined (x ∷ xs) ys (suc from) count =
     ap (λ n. take count (drop from xs)
     ++ take (count - length (take count (drop from xs))) (drop n ys)) less
     ∙ run_joined xs ys from count
-
--- what is taken out of a list, and zeros, are the values from its place on
-pub run_values : (values : List ℤ) (from n : ℕ)
-    → values_from (take n (drop from values)) 0 n ≡ values_from values from n
-run_values values from n =
-    fill_by_all (λ i. slice_index_or values (from + i) (pos 0))
-    (values_from (take n (drop from values)) 0 n) n (pos 0)
-    (values_count (take n (drop from values)) 0 n)
-    (λ j l. value_is (take n (drop from values)) 0 n j l
-    ∙ ap (λ k. slice_index_or (take n (drop from values)) k (pos 0))
-    (let none : 0 + j ≡ j = omega arith in none)
-    ∙ get_or-take n (drop from values) j (pos 0) l ∙ get_or-drop from values j (pos 0))

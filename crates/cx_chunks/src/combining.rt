@@ -1,6 +1,6 @@
 //! The whole output from chunks.
 
-ghost use Rattle.std.specs.Prelude.{◌≡◌, ◌++◌, length, pos, slice_index_or, take, drop, None, All, IfOk, OnOk, option_copied};
+ghost use Rattle.std.specs.Prelude.{◌≡◌, ◌+◌, ◌≤◌, ◌++◌, length, pos, slice_index_or, None, All, IfOk, OnOk, option_copied};
 ghost use Rattle.cx_text.specs.Telling.{Answers, Tells};
 ghost use Rattle.cx_grid.specs.declared.boxes.Point.{Point};
 ghost use Rattle.cx_grid.specs.Boxes.{IsBox, IsIn, IsSmall, index_in, point_count};
@@ -10,6 +10,7 @@ ghost use Rattle.cx_cut.specs.Cuts.{IsWhole, part_count};
 ghost use Rattle.cx_chunks.specs.declared.fault.ChunkFault.TheVariants as faults;
 ghost use Rattle.cx_chunks.specs.Combining.{double_in, first_of_chunks, found_values, values_in, joined, text_at, whole_text, whole_texts, chunk_fault, combined};
 ghost use Rattle.cx_chunks.specs.Laws.{IsCutOf};
+ghost use Rattle.cx_chunks.specs.Rows.{values_from, with_row};
 
 use crate::checks::{check_doubles, check_missing, check_strangers, chunk, info_of};
 use crate::fault::ChunkFault;
@@ -17,8 +18,7 @@ use crate::finding::{Cursors, find_piece};
 use crate::own_box::points_along;
 use crate::piece::Piece;
 use crate::rising::iterations;
-use crate::rows::put_row;
-use cx_ascii::{scalar_line, section};
+use crate::section::{push_line, push_section};
 use cx_cut::Cut;
 use cx_grid::{Box3, Shape, count, index_of, point_at, whole};
 use cx_plan::{Job, VarInfo};
@@ -50,55 +50,56 @@ fn value_of(piece: Option<&Piece>) -> i64
     }
 }
 
-/// Adds at most so many values of a piece from a place on, and none where there is no piece.
-fn push_run(
-    row: &mut Vec<i64>,
-    piece: Option<&Piece>,
-    from: usize,
-    count: usize,
-) -> Result<(), Memory>
-    ensures { OnOk result (row.new.items ≡ row.old.items
-        ++ take count (drop from (found_values (option_copied piece.entry)))) }
+/// Sets a row to the values of a piece from a place on; one that isn't there counts as 0.
+fn set_run(row: &mut [i64], piece: Option<&Piece>, from: usize)
+    ensures { row.new
+        ≡ values_from (found_values (option_copied piece.entry)) from (length row.old) }
 {
     match piece {
-        Some(piece) => piece.push_run(row, from, count),
-        None => Ok(()),
+        Some(piece) => piece.set_run(row, from),
+        None => row.fill(0),
     }
 }
 
+/// Sets so many numbers from a place of a level on to the values of a piece from a place on; one that isn't there counts as 0.
+fn put_run(level: &mut Vec<i64>, at: usize, count: usize, piece: Option<&Piece>, from: usize)
+    requires { at + count ≤ length level.old.items }
+    ensures { level.new.items ≡ with_row level.old.items at count
+        (values_from (found_values (option_copied piece.entry)) from count) }
+{
+    let end = at + count;
+    set_run(&mut level[at..end], piece, from);
+}
+
 /// Puts the values of a piece at the places of its box in a level, row by row; values that it lacks count as 0.
-fn put_part(
-    alloc: Global,
-    level: &mut Vec<i64>,
-    all: &Box3,
-    own: &Box3,
-    piece: Option<&Piece>,
-) -> Result<(), Memory>
+fn put_part(level: &mut Vec<i64>, all: &Box3, own: &Box3, piece: Option<&Piece>)
     requires all { IsSmall all.now }
     requires ordered { IsBox own.now }
     requires own { IsSmall own.now }
     requires inside { (p : Point) → IsIn own.now p → IsIn all.now p }
     requires level { length level.old.items ≡ point_count all.now }
-    ensures length { OnOk result (length level.new.items ≡ point_count all.now) }
-    ensures own { OnOk result ((p : Point) → IsIn own.now p
+    ensures length { length level.new.items ≡ point_count all.now }
+    ensures own { (p : Point) → IsIn own.now p
         → slice_index_or level.new.items (index_in all.now p) (pos 0)
         ≡ slice_index_or (found_values (option_copied piece.entry)) (index_in own.now p)
-        (pos 0)) }
-    ensures others { OnOk result ((p : Point) → IsIn all.now p → (IsIn own.now p → ⊥)
+        (pos 0) }
+    ensures others { (p : Point) → IsIn all.now p → (IsIn own.now p → ⊥)
         → slice_index_or level.new.items (index_in all.now p) (pos 0)
-        ≡ slice_index_or level.old.items (index_in all.now p) (pos 0)) }
+        ≡ slice_index_or level.old.items (index_in all.now p) (pos 0) }
 {
     let width = points_along(own, 0) as usize;
     let end = count(own);
-    let mut row = Vec::new(alloc);
     let mut from = 0;
     'rows: while from < end {
-        row.clear();
-        push_run(&mut row, piece, from, width)?;
-        put_row(level, index_of(all, point_at(own, from)), width, &row);
+        put_run(
+            level,
+            index_of(all, point_at(own, from)),
+            width,
+            piece,
+            from,
+        );
         from += width;
     }
-    Ok(())
 }
 
 /// Gives a level a value for each point, whatever it is.
@@ -113,7 +114,6 @@ fn set_size(level: &mut Vec<i64>, all: &Box3) -> Result<(), Memory>
 
 /// Makes a whole level, each point from the part that owns it, in the room of the level before it.
 fn join(
-    alloc: Global,
     level: &mut Vec<i64>,
     shape: &Shape,
     cut: &Cut,
@@ -133,14 +133,15 @@ fn join(
     'parts: for part in 0..cut.count() {
         let own = cut.part(part);
         let piece = piece_in(chunks, cursors, full, iteration, part);
-        put_part(alloc, level, &all, &own, piece)?;
+        put_part(level, &all, &own, piece);
     }
     Ok(())
 }
 
-/// A variable's text at an iteration: its line in chunk 0, or the section of the level of all parts, which is made in `level`.
-fn text_at(
+/// Adds a variable's text at an iteration: its line in chunk 0, or the section of the level of all parts, which is made in `level`.
+fn push_text_at(
     alloc: Global,
+    text: &mut Text,
     level: &mut Vec<i64>,
     job: &Job,
     cut: &Cut,
@@ -148,20 +149,20 @@ fn text_at(
     cursors: &mut Cursors,
     info: &VarInfo,
     iteration: u64,
-) -> Result<Text, Memory>
+) -> Result<(), Memory>
     requires cut { IsCutOf job.now cut.now }
     requires single { first_of_chunks double_in 0 chunks.now ≡ None }
-    ensures { IfOk result (λ text. text
-        ≡ text_at (setup_of job.now) cut.now chunks.now info.now iteration) }
+    ensures { OnOk result (text.new ≡ text.old
+        ++ text_at (setup_of job.now) cut.now chunks.now info.now iteration) }
 {
     if info.scalar {
         let value = value_of(piece_in(chunks, cursors, &info.full, iteration, 0));
-        scalar_line(alloc, &info.full, iteration, value)
+        push_line(alloc, text, &info.full, iteration, value)
     } else {
         join(
-            alloc, level, &job.shape, cut, chunks, cursors, &info.full, iteration,
+            level, &job.shape, cut, chunks, cursors, &info.full, iteration,
         )?;
-        section(alloc, &info.full, iteration, &job.shape, level)
+        push_section(alloc, text, &info.full, iteration, &job.shape, level)
     }
 }
 
@@ -183,8 +184,9 @@ fn whole_text(
     let mut level = Vec::new(alloc);
     let mut text = Text::new(Vec::new(alloc));
     'iterations: for iteration in &iterations {
-        let part = text_at(
+        push_text_at(
             alloc,
+            &mut text,
             &mut level,
             job,
             cut,
@@ -193,7 +195,6 @@ fn whole_text(
             info,
             *iteration,
         )?;
-        text.push_slice(part.as_slice())?;
     }
     Ok(text)
 }

@@ -1,8 +1,9 @@
 //! Whole numbers in 32 bits each, as far as these hold them.
 
 ghost use Rattle.std.specs.Prelude.{◌≡◌, ◌≤◌, ◌++◌, pos, length, slice_index_or, take, drop, IfOk, IfSome, OnOk};
+ghost use Rattle.cx_chunks.specs.Rows.{values_from};
 
-use crate::rows::{run, value_at};
+use crate::rows::{run, set_row, value_at};
 use cx_text::Memory;
 use std::alloc::Global;
 use std::marker::Model;
@@ -60,6 +61,17 @@ impl Larger {
         row.extend_from_slice(run(&self.wide, after, count - narrow.len()))?;
         Ok(())
     }
+
+    /// Sets a row to the numbers from a place on; one that isn't there counts as 0.
+    pub(crate) fn set_run(&self, row: &mut [i64], from: usize)
+        ensures { row.new ≡ values_from self.now from (length row.old) }
+    {
+        let narrow = run(&self.narrow, from, row.len());
+        let (first, others) = row.split_at_mut(narrow.len());
+        set_widened(first, narrow);
+        let after = from.saturating_sub(self.narrow.len());
+        set_row(others, &self.wide, after);
+    }
 }
 
 /// A number in 32 bits, if these hold it.
@@ -92,4 +104,14 @@ fn push_widened(row: &mut Vec<i64>, narrow: &[i32]) -> Result<(), Memory>
         row.push(i64::from(*number))?;
     }
     Ok(())
+}
+
+/// Sets each number of a row to one of 32 bits.
+fn set_widened(row: &mut [i64], narrow: &[i32])
+    requires { length row.old ≡ length narrow.now }
+    ensures { row.new ≡ narrow.now }
+{
+    'numbers: for place in 0..narrow.len() {
+        row[place] = i64::from(narrow[place]);
+    }
 }

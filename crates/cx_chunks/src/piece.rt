@@ -1,12 +1,13 @@
 //! What a chunk file holds.
 
-ghost use Rattle.std.specs.Prelude.{◌≡◌, ◌++◌, pos, slice_index_or, take, drop, OnOk};
+ghost use Rattle.std.specs.Prelude.{◌≡◌, pos, length, slice_index_or};
 ghost use Rattle.cx_chunks.specs.Combining.{full_of, iteration_of, values_of};
+ghost use Rattle.cx_chunks.specs.Rows.{values_from};
 
-use crate::rows::{run, value_at};
+use crate::rows::{set_row, value_at};
 use crate::values::Values;
 use cx_ascii_read::Record;
-use cx_text::{List, Memory, Text};
+use cx_text::{List, Text};
 
 /// A scalar's value, or a part's own values of a grid variable.
 #[derive(Debug, Drop)]
@@ -62,27 +63,13 @@ impl Piece {
         }
     }
 
-    /// Adds at most so many of its values from a place on.
-    pub(crate) fn push_run(
-        &self,
-        row: &mut Vec<i64>,
-        from: usize,
-        count: usize,
-    ) -> Result<(), Memory>
-        ensures { OnOk result
-            (row.new.items ≡ row.old.items ++ take count (drop from (values_of self.now))) }
+    /// Sets a row to its values from a place on; one that isn't there counts as 0.
+    pub(crate) fn set_run(&self, row: &mut [i64], from: usize)
+        ensures { row.new ≡ values_from (values_of self.now) from (length row.old) }
     {
         match self {
-            Piece::Line(record) => push_slice(row, run(record.values.as_slice(), from, count)),
-            Piece::Box { values, .. } => values.push_run(row, from, count),
+            Piece::Line(record) => set_row(row, record.values.as_slice(), from),
+            Piece::Box { values, .. } => values.set_run(row, from),
         }
     }
-}
-
-/// Adds numbers.
-fn push_slice(row: &mut Vec<i64>, numbers: &[i64]) -> Result<(), Memory>
-    ensures { OnOk result (row.new.items ≡ row.old.items ++ numbers.now) }
-{
-    row.extend_from_slice(numbers)?;
-    Ok(())
 }

@@ -1,7 +1,7 @@
 //! Rows of a box: values that stand side by side both in the box and in the grid.
 
-ghost use Rattle.std.specs.Prelude.{◌≡◌, ◌≤◌, ◌+◌, ◌++◌, pos, length, slice_index_or, take, drop, replicate, OnOk};
-ghost use Rattle.cx_chunks.specs.Rows.{values_from, with_row};
+ghost use Rattle.std.specs.Prelude.{◌≡◌, ◌≤◌, ◌++◌, pos, length, slice_index_or, take, drop, replicate, OnOk};
+ghost use Rattle.cx_chunks.specs.Rows.{values_from};
 
 use cx_text::Memory;
 
@@ -48,21 +48,11 @@ pub(crate) fn push_row(
     push_zeros(row, count - there.len())
 }
 
-/// Sets a row to the first values; one that isn't there counts as 0.
-fn set_row(row: &mut [i64], values: &[i64])
-    ensures { row.new ≡ values_from values.now 0 (length row.old) }
+/// Sets a row to the values from a place on; one that isn't there counts as 0.
+pub(crate) fn set_row(row: &mut [i64], values: &[i64], from: usize)
+    ensures { row.new ≡ values_from values.now from (length row.old) }
 {
-    let there = run(values, 0, row.len());
+    let there = run(values, from, row.len());
     row[..there.len()].copy_from_slice(there);
     row[there.len()..].fill(0);
-}
-
-/// Sets so many numbers from a place of a level on to the first values; one that isn't there counts as 0.
-pub(crate) fn put_row(level: &mut Vec<i64>, at: usize, count: usize, values: &[i64])
-    requires { at + count ≤ length level.old.items }
-    ensures { level.new.items
-        ≡ with_row level.old.items at count (values_from values.now 0 count) }
-{
-    let end = at + count;
-    set_row(&mut level[at..end], values);
 }

@@ -35,3 +35,13 @@ pub(crate) fn push_widened(row: &mut Vec<i64>, small: &[i8]) -> Result<(), Memor
     }
     Ok(())
 }
+
+/// Sets each number of a row to one of 8 bits.
+pub(crate) fn set_widened(row: &mut [i64], small: &[i8])
+    requires { length row.old ≡ length small.now }
+    ensures { row.new ≡ small.now }
+{
+    'numbers: for place in 0..small.len() {
+        row[place] = i64::from(small[place]);
+    }
+}

@@ -1,10 +1,11 @@
 //! Whole numbers in little memory.
 
-ghost use Rattle.std.specs.Prelude.{◌≡◌, ◌++◌, pos, slice_index_or, take, drop, IfOk, OnOk};
+ghost use Rattle.std.specs.Prelude.{◌≡◌, ◌++◌, pos, length, slice_index_or, take, drop, IfOk, OnOk};
+ghost use Rattle.cx_chunks.specs.Rows.{values_from};
 
 use crate::larger::Larger;
 use crate::rows::run;
-use crate::small::{push_small, push_widened};
+use crate::small::{push_small, push_widened, set_widened};
 use cx_text::Memory;
 use std::alloc::Global;
 use std::marker::Model;
@@ -61,5 +62,16 @@ impl Values {
         push_widened(row, small)?;
         let after = from.saturating_sub(self.small.len());
         self.larger.push_run(row, after, count - small.len())
+    }
+
+    /// Sets a row to the numbers from a place on; one that isn't there counts as 0.
+    pub(crate) fn set_run(&self, row: &mut [i64], from: usize)
+        ensures { row.new ≡ values_from self.now from (length row.old) }
+    {
+        let small = run(&self.small, from, row.len());
+        let (first, others) = row.split_at_mut(small.len());
+        set_widened(first, small);
+        let after = from.saturating_sub(self.small.len());
+        self.larger.set_run(others, after);
     }
 }

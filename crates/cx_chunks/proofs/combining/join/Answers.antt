@@ -52,8 +52,8 @@ parts-preserved c =
     (values_in c.args.chunks.now c.args.full.now c.args.iteration) c.parts.part there
     c.whole-all.result c.part-own.result (found_values (option_copied c.piece_in-piece.result))
     c.parts.level.items c.put_part.new.level.items all_is c.part-own.ensures.value
-    c.piece_in-piece.ensures c.in_ok-put_part.ensures.length c.in_ok-put_part.ensures.own
-    c.in_ok-put_part.ensures.others c.parts.invariant
+    c.piece_in-piece.ensures c.put_part.ensures.length c.put_part.ensures.own
+    c.put_part.ensures.others c.parts.invariant
 
 pub returns : goal.returns
 returns c =

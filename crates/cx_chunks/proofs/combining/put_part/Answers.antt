@@ -1,15 +1,13 @@
-use Rattle.std.proofs.Common.{rules, ◌≡◌, ◌∙◌, ◌+◌, ◌-◌, ◌<◌, ◌≤◌, arith, ap, ℤ, List, take, drop}
+use Rattle.std.proofs.Common.{◌≡◌, ◌∙◌, ◌+◌, ◌-◌, ◌<◌, ◌≤◌, arith, ap}
 use Rattle.std.specs.Prelude.{option_copied}
 use Rattle.cx_grid.specs.Boxes.{point_count, index_in, point_in}
-use Rattle.cx_chunks.specs.Rows.{values_from, with_row}
 use Rattle.cx_chunks.specs.Combining.{found_values}
 use Rattle.cx_chunks.proofs.JoinLaws.{all_put, rest_kept}
 use Rattle.cx_chunks.proofs.RowPlaces.{row_is, row_start, row_room, put_more}
-use Rattle.cx_chunks.proofs.RunLaws.{run_values}
 use Rattle.cx_chunks.proofs.combining.put_part.Goals as goal
 
-pub put_row-requires : goal.put_row-requires
-put_row-requires c =
+pub put_run-requires : goal.put_run-requires
+put_run-requires c =
     let all = c.args.all.now in
     let own = c.args.own.now in
     let below : c.rows.from < point_count own =
@@ -42,16 +40,11 @@ rows-preserved c =
     omega (arith, c.count-end.ensures, c.rows-test.true) in
     let place : c.index_of.result ≡ index_in all (point_in own c.rows.from) =
     c.index_of.ensures.value ∙ ap (index_in all) c.point_at.ensures.value in
-    let run : c.deref.result.now ≡ take width (drop c.rows.from values) = search rules in
-    let row : values_from c.deref.result.now 0 width ≡ values_from values c.rows.from width =
-    ap (λ (l : List ℤ). values_from l 0 width) run ∙ run_values values c.rows.from width in
     record {
       put = put_more all own values c.args.level.now.items c.rows.level.items
-          c.put_row.new.level.items c.requires.inside c.rows.from width
+          c.put_run.new.level.items c.requires.inside c.rows.from width
           c.index_of.result c.rows.invariant.start below c.rows.invariant.put
-          c.points_along-width.ensures place
-          (c.put_row.ensures
-          ∙ ap (with_row c.rows.level.items c.index_of.result width) row);
+          c.points_along-width.ensures place c.put_run.ensures;
       start = row_start own c.rows.from width c.points_along-width.ensures
           c.rows.invariant.start below;
     }
