@@ -29,12 +29,23 @@ use cx_outputs::output_names;
 use cx_plan::Job;
 use cx_text::{List, Memory, Text};
 use std::alloc::Global;
+use std::mem;
 
-/// Texts one after another.
-fn joined(alloc: Global, texts: &[Text]) -> Result<Text, Memory>
-    ensures { IfOk result (λ whole. whole ≡ concat texts.now) }
+/// Texts one after another. The first one is taken over, so that a job of one output variable has its text once.
+fn joined(alloc: Global, mut texts: Vec<Text>) -> Result<Text, Memory>
+    ensures { IfOk result (λ whole. whole ≡ concat texts.items) }
 {
-    let mut whole = Text::new(Vec::new(alloc));
+    let none = Text::new(Vec::new(alloc));
+    match texts.split_first_mut() {
+        Some((first, others)) => followed(mem::replace(first, none), others),
+        None => Ok(none),
+    }
+}
+
+/// A text, and others after it.
+fn followed(mut whole: Text, texts: &[Text]) -> Result<Text, Memory>
+    ensures { IfOk result (λ all. all ≡ whole ++ concat texts.now) }
+{
     'texts: for text in texts {
         whole.push_slice(text.as_slice())?;
     }
@@ -86,7 +97,7 @@ fn whole_output<D: Disk>(
     ensures kept { Keeps D.Disk ChunksFault.Disk disk.old disk.new result }
 {
     let (records, texts) = combine_chunks(alloc, disk, job, cut)?;
-    let whole = joined(alloc, texts.as_slice())?;
+    let whole = joined(alloc, texts.into_vec())?;
     let summary = Recombined {
         records,
         bytes: whole.len() as u64,

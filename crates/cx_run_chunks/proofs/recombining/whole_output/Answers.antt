@@ -20,9 +20,9 @@ returns-clause-value g c = λ tells.
     recombined_is c.args.job.now (g.D.Disk.view c.args.disk.now).seen
     c.in_ok-records.records c.len.result c.in_ok-whole.whole
     (c.in_ok-records.ensures.records tells)
-    (c.in_ok-whole.ensures ∙ ap concat c.as_slice.ensures ∙ c.in_ok-records.ensures.texts tells)
+    (c.in_ok-whole.ensures ∙ ap concat c.into_vec.ensures ∙ c.in_ok-records.ensures.texts tells)
     c.len.ensures
 
 pub returns-clause-text : goal.returns-clause-text
 returns-clause-text g c = λ tells.
-    c.in_ok-whole.ensures ∙ ap concat c.as_slice.ensures ∙ c.in_ok-records.ensures.texts tells
+    c.in_ok-whole.ensures ∙ ap concat c.into_vec.ensures ∙ c.in_ok-records.ensures.texts tells

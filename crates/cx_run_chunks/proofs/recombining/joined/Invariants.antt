@@ -1,6 +1,0 @@
-use Rattle.std.proofs.Common.{◌≡◌, ◌++◌, drop}
-use Rattle.std.specs.List.{concat}
-use Rattle.cx_run_chunks.proofs.recombining.joined.Given as goal
-
-abbrev pub invariant-texts : goal.invariant-texts
-invariant-texts l = l.whole ++ concat (drop l.text-index l.texts) ≡ concat l.texts
